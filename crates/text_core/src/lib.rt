@@ -1,0 +1,15 @@
+//! Texts, lists, and the tests for a name, a right's name, a subject and a text.
+//!
+//! Every crate of the desk stands on this one, so that a text is the list of its bytes in each contract.
+#![tactic(auto)]
+
+mod form;
+mod sequence;
+mod text;
+
+pub use form::{is_name, is_right_name, is_subject, is_text};
+pub use sequence::{Sequence, Texts};
+pub use text::Text;
+
+#[cfg(test)]
+mod tests;
