@@ -71,3 +71,9 @@ impl<T: PartialEq> PartialEq for Sequence<T> {
         self.as_slice() == other.as_slice()
     }
 }
+
+impl<T: Eq> Eq for Sequence<T> {
+    ghost use Rattle.std.specs.Cmp.Lexicographic.{lists_equiv};
+
+    ghost laws = { lists_equiv T.Eq.laws };
+}
