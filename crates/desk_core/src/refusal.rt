@@ -1,0 +1,102 @@
+ghost use Rattle.std.specs.Prelude.{◌≡◌};
+ghost use Rattle.desk_core.specs.Refusals.{number_of, name_of};
+ghost use Rattle.desk_core.specs.declared.refusal.Refusal.TheVariants.{Unavailable};
+
+use std::alloc::AllocError;
+
+use text_core::Text;
+
+/// Why a command is refused. The desk is then as it was.
+#[derive(Clone, Debug, PartialEq, Eq, Drop)]
+pub enum Refusal {
+    /// The caller is no person of the settings.
+    UnknownCaller,
+    /// The moment is before the year 2000 or after 2099.
+    BadMoment,
+    /// A new queue's name, a subject or a text isn't of its form.
+    BadText,
+    /// The queue or the request isn't there, or is hidden from the caller.
+    NotFound,
+    /// A lifecycle, a level, a person or a status isn't known.
+    UnknownName,
+    /// The caller lacks this right.
+    Denied(Text),
+    /// The desk is already so.
+    NoChange,
+    /// The lifecycle has no such move or creation.
+    NoTransition,
+    /// The new status is inactive, and a request that this one depends on isn't.
+    OpenDependency,
+    /// Another person owns the request.
+    Owned,
+    /// Nobody owns the request.
+    NotOwned,
+    /// Another person than the caller owns the request.
+    NotOwner,
+    /// A queue of that name is there.
+    Exists,
+    /// Both ends of the link are one request.
+    SelfLink,
+    /// There is no room for another queue, request or entry.
+    Full,
+    /// Memory is wanting, or a store refused. It may come in place of any answer, and nothing is changed.
+    Unavailable,
+}
+
+impl Refusal {
+    /// The refusal's number, from 1 to 16.
+    pub fn number(&self) -> u8
+        ensures { result ≡ number_of self.now }
+    {
+        match self {
+            Refusal::UnknownCaller => 1,
+            Refusal::BadMoment => 2,
+            Refusal::BadText => 3,
+            Refusal::NotFound => 4,
+            Refusal::UnknownName => 5,
+            Refusal::Denied(_) => 6,
+            Refusal::NoChange => 7,
+            Refusal::NoTransition => 8,
+            Refusal::OpenDependency => 9,
+            Refusal::Owned => 10,
+            Refusal::NotOwned => 11,
+            Refusal::NotOwner => 12,
+            Refusal::Exists => 13,
+            Refusal::SelfLink => 14,
+            Refusal::Full => 15,
+            Refusal::Unavailable => 16,
+        }
+    }
+
+    /// The refusal's name, without the right of `Denied`.
+    pub fn name(&self) -> &'static str
+        ensures { result.now ≡ name_of self.now }
+    {
+        match self {
+            Refusal::UnknownCaller => "UnknownCaller",
+            Refusal::BadMoment => "BadMoment",
+            Refusal::BadText => "BadText",
+            Refusal::NotFound => "NotFound",
+            Refusal::UnknownName => "UnknownName",
+            Refusal::Denied(_) => "Denied",
+            Refusal::NoChange => "NoChange",
+            Refusal::NoTransition => "NoTransition",
+            Refusal::OpenDependency => "OpenDependency",
+            Refusal::Owned => "Owned",
+            Refusal::NotOwned => "NotOwned",
+            Refusal::NotOwner => "NotOwner",
+            Refusal::Exists => "Exists",
+            Refusal::SelfLink => "SelfLink",
+            Refusal::Full => "Full",
+            Refusal::Unavailable => "Unavailable",
+        }
+    }
+}
+
+impl From<AllocError> for Refusal {
+    ghost from_gives = { λ _ r. r ≡ Unavailable };
+
+    fn from(_error: AllocError) -> Refusal {
+        Refusal::Unavailable
+    }
+}

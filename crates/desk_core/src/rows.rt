@@ -1,0 +1,74 @@
+use hours_core::Minute;
+use text_core::Text;
+
+/// A queue, under its name.
+#[derive(Clone, Debug, PartialEq, Eq, Drop)]
+pub struct QueueRow {
+    pub name: Text,
+    /// The lifecycle that its requests follow.
+    pub lifecycle: Text,
+    /// The level that its requests start with.
+    pub level: Option<Text>,
+}
+
+/// Whose answer is awaited.
+#[derive(Clone, Copy, Debug, PartialEq, Eq)]
+pub enum Turn {
+    Desk,
+    Requestor,
+}
+
+/// A request, under its number.
+#[derive(Clone, Debug, PartialEq, Eq, Drop)]
+pub struct RequestRow {
+    pub id: u32,
+    pub queue: Text,
+    pub subject: Text,
+    pub status: Text,
+    /// Nobody owns it where this is absent.
+    pub owner: Option<Text>,
+    pub level: Option<Text>,
+    pub created: Minute,
+    /// When it was created or last left the inactive statuses.
+    pub opened: Minute,
+    pub turn: Turn,
+    /// Since when it is that turn, or since it was last opened.
+    pub since: Minute,
+}
+
+/// What a person is to a request besides its owner.
+#[derive(Clone, Copy, Debug, PartialEq, Eq)]
+pub enum WatchRole {
+    Requestor,
+    Cc,
+    AdminCc,
+}
+
+/// A person in a role on a request.
+#[derive(Clone, Debug, PartialEq, Eq, Drop)]
+pub struct Watcher {
+    pub id: u32,
+    pub role: WatchRole,
+    pub person: Text,
+}
+
+/// What an entry of a history tells.
+#[derive(Clone, Copy, Debug, PartialEq, Eq)]
+pub enum EntryKind {
+    /// The request was filed: `body` is its first status.
+    Create,
+    /// Its status moved from `head` to `body`.
+    Status,
+}
+
+/// An entry of a request's history. The entries of a request are numbered from 1 without gaps.
+#[derive(Clone, Debug, PartialEq, Eq, Drop)]
+pub struct Entry {
+    pub id: u32,
+    pub number: u32,
+    pub moment: Minute,
+    pub actor: Text,
+    pub kind: EntryKind,
+    pub head: Text,
+    pub body: Text,
+}

@@ -1,0 +1,51 @@
+ghost use Rattle.std.specs.Prelude.{◌≡◌, if◌then◌else◌};
+ghost use Rattle.hours_core.specs.Moment.{is_due_moment, IsDueMoment};
+
+use std::marker::Model;
+
+/// The first moment, 2000-01-01 00:00.
+pub const START: u32 = 15_778_080;
+
+/// The end of the last moment, 2100-01-01 00:00.
+pub const END: u32 = 68_374_080;
+
+/// A minute from `START` to `END`, both included, which contracts see as its number.
+#[derive(Clone, Copy, PartialEq, Eq, PartialOrd, Ord, Debug)]
+pub struct Minute {
+    number: u32,
+}
+
+impl Model for Minute {
+    ghost use Rattle.std.specs.Prelude.{ℕ};
+    ghost use Rattle.hours_core.specs.Moment.{IsDueMoment};
+
+    ghost Value = { ℕ };
+
+    ghost view = { λ m. m.number };
+
+    ghost invariant = { λ m. IsDueMoment m.number };
+
+    ghost inverse = { λ n. record { number = n } };
+}
+
+impl Minute {
+    /// The minute with this number of minutes since 1970-01-01 00:00 UTC, or `None` where that isn't from `START` to
+    /// `END`.
+    pub fn new(n: u32) -> Option<Minute>
+        ensures { result ≡ (if is_due_moment n then Some n else None) }
+    {
+        if START <= n && n <= END {
+            Some(Minute { number: n })
+        } else {
+            None
+        }
+    }
+
+    /// The number of minutes since 1970-01-01 00:00 UTC.
+    pub fn get(self) -> u32
+        ensures number { result ≡ self }
+        ensures range { IsDueMoment result }
+    {
+        self.number
+    }
+}
