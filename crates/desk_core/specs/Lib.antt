@@ -1,1 +1,13 @@
--- nothing yet
+pub use Rattle.text_core.specs.Form
+pub use Rattle.hours_core.specs.Date
+pub use Rattle.hours_core.specs.Moment
+pub use Rattle.settings_core.specs.Settings
+pub mod Change
+pub mod Desk
+pub mod Effect
+pub mod Facts
+pub mod Guard
+pub mod Names
+pub mod Reading
+pub mod Refusals
+pub mod Step

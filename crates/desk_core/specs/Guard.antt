@@ -1,0 +1,107 @@
+-- When a command is refused, and by which refusal: for each command its conditions in order, of which the first
+-- that holds decides.
+use Rattle.std.specs.Prelude.{ℕ, Bool, true, false, not, ◌&&◌, ◌||◌, List, [], ◌∷◌, length, nat_le, Option, Some, None, is_some, is_none, if◌then◌else◌, option_and_then}
+use Rattle.std.specs.Option.{option_map_or}
+use Rattle.std.specs.List.{list_all}
+use Rattle.std.specs.Str.{bytes_eq}
+use Rattle.text_core.specs.Form.{is_name, is_subject}
+use Rattle.hours_core.specs.Moment.{is_moment}
+use Rattle.lifecycle_core.specs.Lifecycle.{is_status, may_create, may_move}
+use Rattle.lifecycle_core.specs.declared.parts.Parts.{Parts}
+use Rattle.settings_core.specs.Settings.{knows, lifecycle_named, request_limit, entry_limit}
+use Rattle.settings_core.specs.declared.settings.Settings.{Settings}
+use Rattle.desk_core.specs.Desk.{Desk, Request, queue_at, request_at, queue_count, request_count}
+use Rattle.desk_core.specs.declared.rows.QueueRow.{QueueRow}
+use Rattle.desk_core.specs.declared.rows.RequestRow.{RequestRow}
+use Rattle.desk_core.specs.declared.command.Command.{Command}
+use Rattle.desk_core.specs.declared.command.Command.TheVariants.{OpenQueue, Create, SetStatus, Show}
+use Rattle.desk_core.specs.declared.refusal.Refusal.{Refusal}
+use Rattle.desk_core.specs.declared.refusal.Refusal.TheVariants.{UnknownCaller, BadMoment, BadText, NotFound, UnknownName, NoChange, NoTransition, Exists, Full}
+
+-- a refusal, and whether it is called for
+abbrev pub Condition : Type 0
+Condition = Refusal × Bool
+
+-- the first refusal that is called for
+abbrev pub first_holding : List Condition → Option Refusal
+first_holding [] = None
+first_holding (condition ∷ rest) = if condition.1 then Some condition.0 else first_holding rest
+
+-- the lifecycle of a queue, if it is there and its lifecycle is known
+abbrev pub lifecycle_of : Settings → Option QueueRow → Option Parts
+lifecycle_of settings queue = option_and_then (λ q. lifecycle_named settings q.lifecycle) queue
+
+abbrev pub has_status : Option Parts → List ℕ → Bool
+has_status lifecycle status = option_map_or (λ l. is_status l status) false lifecycle
+
+-- a status that is given is one of the lifecycle's
+abbrev pub has_given : Option Parts → Option (List ℕ) → Bool
+has_given lifecycle given = option_map_or (has_status lifecycle) true given
+
+-- the status of a new request: the one given, or else the one that its lifecycle begins with
+abbrev pub first_status : Option Parts → Option (List ℕ) → List ℕ
+first_status lifecycle given = option_map_or (λ s. s) (option_map_or (λ l. l.on_create) [] lifecycle) given
+
+abbrev pub is_creatable : Option Parts → List ℕ → Bool
+is_creatable lifecycle status = option_map_or (λ l. may_create l status) false lifecycle
+
+abbrev pub is_allowed : Option Parts → List ℕ → List ℕ → Bool
+is_allowed lifecycle from to = option_map_or (λ l. may_move l from to) false lifecycle
+
+-- no more queues than these are opened
+abbrev pub queue_limit : ℕ
+queue_limit = 1000
+
+-- of a new queue, by the queue of that name and the number of queues; a level would have to be known, and none is yet
+abbrev pub open_queue_conditions : Settings → List ℕ → List ℕ → Option (List ℕ) → Option QueueRow → ℕ → List Condition
+open_queue_conditions settings name lifecycle level there count =
+    (BadText, not (is_name name))
+    ∷ (UnknownName, is_none (lifecycle_named settings lifecycle) || is_some level)
+    ∷ (Exists, is_some there)
+    ∷ (Full, nat_le queue_limit count)
+    ∷ []
+
+-- of a new request, by its queue and the number of requests
+abbrev pub create_conditions : Settings → List ℕ → Option (List ℕ) → List (List ℕ) → Option QueueRow → ℕ → List Condition
+create_conditions settings subject status requestors queue count =
+    let lifecycle = lifecycle_of settings queue in
+    (BadText, not (is_subject subject))
+    ∷ (NotFound, is_none queue)
+    ∷ (UnknownName, not (has_given lifecycle status) || not (list_all (knows settings) requestors))
+    ∷ (NoTransition, not (is_creatable lifecycle (first_status lifecycle status)))
+    ∷ (Full, nat_le (request_limit settings) count)
+    ∷ []
+
+-- of a move, by the request's queue, its row and the number of its entries
+abbrev pub set_status_conditions : Settings → List ℕ → Option QueueRow → RequestRow → ℕ → List Condition
+set_status_conditions settings status queue row count =
+    let lifecycle = lifecycle_of settings queue in
+    (UnknownName, not (has_status lifecycle status))
+    ∷ (NoChange, bytes_eq row.status status)
+    ∷ (NoTransition, not (is_allowed lifecycle row.status status))
+    ∷ (Full, nat_le (entry_limit settings) count)
+    ∷ []
+
+-- what a command on a request asks: that it is there, and then what follows of it
+abbrev pub on_request : {A : Type 0} → Option A → (A → List Condition) → List Condition
+on_request None conditions = (NotFound, true) ∷ []
+on_request (Some request) conditions = conditions request
+
+-- the conditions of a command, in their order
+abbrev pub conditions_of : Settings → Command → Desk → List Condition
+conditions_of settings (OpenQueue name lifecycle level) desk =
+    open_queue_conditions settings name lifecycle level (queue_at desk name) (queue_count desk)
+conditions_of settings (Create queue subject status requestors) desk =
+    create_conditions settings subject status requestors (queue_at desk queue) (request_count desk)
+conditions_of settings (SetStatus id status) desk =
+    on_request (request_at desk id)
+    (λ r. set_status_conditions settings status (queue_at desk r.row.queue) r.row (length r.entries))
+conditions_of settings (Show id) desk = on_request (request_at desk id) (λ r. [])
+
+-- the refusal of a command by a caller at a moment, if there is one
+abbrev pub guard : Settings → ℕ → List ℕ → Command → Desk → Option Refusal
+guard settings at caller command desk =
+    first_holding
+    ((UnknownCaller, not (knows settings caller))
+    ∷ (BadMoment, not (is_moment at))
+    ∷ conditions_of settings command desk)

@@ -1,0 +1,19 @@
+-- Names in the order of their bytes, each once.
+use Rattle.std.specs.Prelude.{ℕ, List, []}
+use Rattle.std.specs.Prelude.{fold}
+use Rattle.std.specs.Ordering.{nat_cmp}
+use Rattle.std.specs.Cmp.Lexicographic.{slice_cmp}
+use Rattle.std.specs.declared.cmp.Ordering.{Ordering}
+use Rattle.std.specs.BTreeSet.{insert_key}
+
+-- by bytes, the shorter of two first where it begins the longer
+abbrev pub text_order : List ℕ → List ℕ → Ordering
+text_order = slice_cmp nat_cmp
+
+-- the names with this one at its place, where it stands once
+abbrev pub with_name : List (List ℕ) → List ℕ → List (List ℕ)
+with_name names name = insert_key text_order names name
+
+-- these names in order, each once
+abbrev pub in_order : List (List ℕ) → List (List ℕ)
+in_order names = fold with_name [] names
