@@ -1,0 +1,4 @@
+pub use Rattle.text_core.specs.Form
+pub mod Fault
+pub mod Lifecycle
+pub mod Standard

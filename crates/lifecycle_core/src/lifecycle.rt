@@ -1,0 +1,167 @@
+ghost use Rattle.std.specs.Prelude.{◌≡◌, ◌≢◌, None, Some, IfOk, IfErr, is_some};
+ghost use Rattle.std.specs.Option.{option_copied};
+ghost use Rattle.lifecycle_core.specs.Lifecycle as words;
+ghost use Rattle.lifecycle_core.specs.Fault.{fault_of};
+ghost use Rattle.lifecycle_core.specs.Standard.{default_lifecycle};
+
+use crate::fault::LifecycleFault;
+use crate::parts::{ANY_STATUS, Parts};
+use crate::{checks, standard};
+use std::alloc::Global;
+use std::marker::Model;
+
+/// The right that a move to `deleted` asks for where no entry gives one.
+const DELETE_TICKET: &str = "DeleteTicket";
+
+/// The right that any other move asks for where no entry gives one.
+const MODIFY_TICKET: &str = "ModifyTicket";
+
+/// Which of a lifecycle's three lists a status is in.
+#[derive(Clone, Copy, Debug, PartialEq, Eq)]
+pub enum Class {
+    Initial,
+    Active,
+    Inactive,
+}
+
+/// The statuses of requests, the moves between them and the rights that these ask for.
+///
+/// It is seen as the parts that it was built from, which have no fault.
+#[derive(Clone, Debug, Drop)]
+pub struct Lifecycle {
+    parts: Parts,
+}
+
+impl Model for Lifecycle {
+    ghost use Rattle.lifecycle_core.specs.declared.parts.Parts.{Parts};
+
+    ghost Value = { Parts };
+
+    ghost view = { λ l. l.parts };
+}
+
+impl Lifecycle {
+    /// The lifecycle of the parts, or the first fault that applies to them, by number.
+    ///
+    /// `NoMemory` may stand in place of the lifecycle, where its copy of the parts is refused memory.
+    pub fn build(alloc: Global, parts: &Parts) -> Result<Lifecycle, LifecycleFault>
+        ensures ok { IfOk result (λ l. (fault_of parts.now ≡ None) × (l ≡ parts.now)) }
+        ensures err { IfErr result (λ e. e ≢ LifecycleFault.NoMemory → fault_of parts.now ≡ Some e) }
+    {
+        match checks::fault_of(parts) {
+            Some(fault) => Err(fault),
+            None => Ok(Lifecycle {
+                parts: parts.copied(alloc)?,
+            }),
+        }
+    }
+
+    /// The lifecycle `default`: `new` is initial, `open` and `stalled` are active, `resolved`, `rejected` and
+    /// `deleted` inactive. A request is created as `new`, `open` or `resolved`, without a status as `new`, and moves
+    /// between any two different statuses. A move to `deleted` asks for `DeleteTicket`, any other for `ModifyTicket`.
+    ///
+    /// The only fault is `NoMemory`.
+    #[tactic(auto, unfolding(crate::specs::Standard::default_lifecycle))]
+    pub fn default_lifecycle(alloc: Global) -> Result<Lifecycle, LifecycleFault>
+        ensures ok { IfOk result (λ l. l ≡ default_lifecycle) }
+        ensures err { IfErr result (λ e. e ≡ LifecycleFault.NoMemory) }
+
+        // As if it were built.
+        ensures sound { fault_of default_lifecycle ≡ None }
+    {
+        Ok(Lifecycle {
+            parts: standard::default_parts(alloc)?,
+        })
+    }
+
+    /// The class of a status, or none for a text that is no status here.
+    pub fn class(&self, status: &str) -> Option<Class>
+        ensures class { result ≡ words.class_of self.now status.now }
+        ensures known { is_some result ≡ words.is_status self.now status.now }
+    {
+        if checks::is_among(self.parts.initial.as_slice(), status) {
+            Some(Class::Initial)
+        } else if checks::is_among(self.parts.active.as_slice(), status) {
+            Some(Class::Active)
+        } else if checks::is_among(self.parts.inactive.as_slice(), status) {
+            Some(Class::Inactive)
+        } else {
+            None
+        }
+    }
+
+    /// Whether a request may be created in the status.
+    pub fn may_create(&self, status: &str) -> bool
+        ensures { result ≡ words.may_create self.now status.now }
+    {
+        checks::is_among(self.parts.create.as_slice(), status)
+    }
+
+    /// Whether a request may move from the one status to the other.
+    pub fn may_move(&self, from: &str, to: &str) -> bool
+        ensures { result ≡ words.may_move self.now from.now to.now }
+    {
+        self.parts
+            .moves
+            .as_slice()
+            .iter()
+            .any(|m| m.from.as_str() == from && m.to.as_str() == to)
+    }
+
+    /// The right that a move asks for: that of the entry for the two statuses, for any status and `to`, for `from`
+    /// and any status, or for any two, whichever is found first. Without such an entry it is `DeleteTicket` where
+    /// `to` is `deleted`, and `ModifyTicket` otherwise.
+    ///
+    /// It answers for any two texts, also for a status and itself.
+    pub fn right_for(&self, from: &str, to: &str) -> &str
+        ensures { result.now ≡ words.right_of_move self.now from.now to.now }
+    {
+        self.right_of_entry(from, to)
+            .or_else(|| self.right_of_entry(ANY_STATUS, to))
+            .or_else(|| self.right_of_entry(from, ANY_STATUS))
+            .or_else(|| self.right_of_entry(ANY_STATUS, ANY_STATUS))
+            .unwrap_or(usual_right(to))
+    }
+
+    /// The first active status, in the order of their list, to which a request may move from the status.
+    pub fn reopen_to(&self, from: &str) -> Option<&str>
+        ensures { option_copied result ≡ words.reopening_target self.now from.now }
+    {
+        for status in self.parts.active.as_slice() {
+            if self.may_move(from, status.as_str()) {
+                return Some(status.as_str());
+            }
+        }
+        None
+    }
+
+    /// The status of a request that is created without one.
+    pub fn on_create(&self) -> &str
+        ensures { result.now ≡ self.now.on_create }
+    {
+        self.parts.on_create.as_str()
+    }
+
+    /// The right of the entry for just these two texts.
+    fn right_of_entry(&self, from: &str, to: &str) -> Option<&str>
+        ensures { option_copied result ≡ words.right_of_entry self.now from.now to.now }
+    {
+        self.parts
+            .rights
+            .as_slice()
+            .iter()
+            .find(|entry| entry.from.as_str() == from && entry.to.as_str() == to)
+            .map(|entry| entry.right.as_str())
+    }
+}
+
+/// The right that a move asks for where no entry gives one.
+fn usual_right(to: &str) -> &'static str
+    ensures { result.now ≡ words.usual_right to.now }
+{
+    if to == "deleted" {
+        DELETE_TICKET
+    } else {
+        MODIFY_TICKET
+    }
+}
