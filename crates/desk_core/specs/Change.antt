@@ -1,40 +1,51 @@
 -- The desk with a change's rows put.
-use Rattle.std.specs.Prelude.{ℕ, List, [], ◌∷◌, ◌++◌, Option, Some, None, fold}
-use Rattle.desk_core.specs.Names.{with_name}
+use Rattle.std.specs.Prelude.{ℕ, Bool, true, false, List, ◌++◌, Option, Some, None, map, filter}
 use Rattle.desk_core.specs.Desk.{Desk, Request, request_at, with_queue, with_request}
-use Rattle.desk_core.specs.declared.rows.RequestRow.{RequestRow}
 use Rattle.desk_core.specs.declared.rows.Watcher.{Watcher}
-use Rattle.desk_core.specs.declared.rows.WatchRole.TheVariants.{Requestor, Cc, AdminCc}
 use Rattle.desk_core.specs.declared.rows.WatchRole.{WatchRole}
+use Rattle.desk_core.specs.declared.rows.WatchRole.TheVariants.{Requestor, Cc, AdminCc}
 use Rattle.desk_core.specs.declared.change.Change.{Change}
 use Rattle.desk_core.specs.declared.change.Change.TheVariants as change
+use Rattle.desk_core.specs.declared.change.NewRequest.{NewRequest}
 use Rattle.desk_core.specs.declared.change.RequestChange.{RequestChange}
 
--- the request with this person in this role
-abbrev pub in_role : WatchRole → List ℕ → Request → Request
-in_role Requestor person request = record request { requestors = with_name request.requestors person }
-in_role Cc person request = record request { cc = with_name request.cc person }
-in_role AdminCc person request = record request { admin_cc = with_name request.admin_cc person }
+abbrev pub is_requestor : WatchRole → Bool
+is_requestor Requestor = true
+is_requestor other = false
 
-abbrev pub with_watcher : Request → Watcher → Request
-with_watcher request watcher = in_role watcher.role watcher.person request
+abbrev pub is_cc : WatchRole → Bool
+is_cc Cc = true
+is_cc other = false
 
--- a request of which nothing but the row is known
-abbrev pub bare : RequestRow → Request
-bare row = record { row = row; requestors = []; cc = []; admin_cc = []; entries = [] }
+abbrev pub is_admin_cc : WatchRole → Bool
+is_admin_cc AdminCc = true
+is_admin_cc other = false
 
--- the request with this row in place of its own, or a bare one
-abbrev pub with_row : RequestRow → Option Request → Request
-with_row row None = bare row
-with_row row (Some request) = record request { row = row }
+-- the persons whose role passes the test, in the order of the watchers
+abbrev pub persons_in : (WatchRole → Bool) → List Watcher → List (List ℕ)
+persons_in test watchers = map (λ w. w.person) (filter (λ w. test w.role) watchers)
 
--- the request after its row, its watchers and its entries are put
-abbrev pub changed : RequestChange → Option Request → Request
-changed change request =
-    let watched = fold with_watcher (with_row change.row request) change.watchers in
-    record watched { entries = watched.entries ++ change.entries }
+-- the request that is put anew
+abbrev pub put_anew : NewRequest → Request
+put_anew new =
+    record {
+      row = new.row;
+      requestors = persons_in is_requestor new.watchers;
+      cc = persons_in is_cc new.watchers;
+      admin_cc = persons_in is_admin_cc new.watchers;
+      entries = new.entries;
+    }
+
+-- the request with a change's row in place of its own, and the change's entries at its end
+abbrev pub changed : RequestChange → Request → Request
+changed change request = record request { row = change.row; entries = request.entries ++ change.entries }
+
+abbrev pub with_changed : Desk → RequestChange → Option Request → Desk
+with_changed desk change None = desk
+with_changed desk change (Some request) = with_request desk (changed change request)
 
 abbrev pub applied : Change → Desk → Desk
 applied change.Nothing desk = desk
 applied (change.Queue queue) desk = with_queue desk queue
-applied (change.Request request) desk = with_request desk (changed request (request_at desk request.row.id))
+applied (change.NewRequest new) desk = with_request desk (put_anew new)
+applied (change.Request request) desk = with_changed desk request (request_at desk request.row.id)

@@ -79,8 +79,8 @@ moved lifecycle at caller status request =
     record request {
       row = moved_row lifecycle at status request.row;
       entries =
-        request.entries
-        ++ moving request.row.id (length request.entries + 1) at caller request.row.status status ∷ [];
+          request.entries
+          ++ moving request.row.id (length request.entries + 1) at caller request.row.status status ∷ [];
     }
 
 -- a request as it is filed, with its people and its first entry

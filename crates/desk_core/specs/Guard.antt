@@ -1,6 +1,6 @@
 -- When a command is refused, and by which refusal: for each command its conditions in order, of which the first
 -- that holds decides.
-use Rattle.std.specs.Prelude.{ℕ, Bool, true, false, not, ◌&&◌, ◌||◌, List, [], ◌∷◌, length, nat_le, Option, Some, None, is_some, is_none, if◌then◌else◌, option_and_then}
+use Rattle.std.specs.Prelude.{ℕ, Bool, true, false, not, ◌&&◌, ◌||◌, List, [], ◌∷◌, length, nat_le, Option, Some, None, is_some, is_none, if◌then◌else◌, option_and_then, unwrap_or}
 use Rattle.std.specs.Option.{option_map_or}
 use Rattle.std.specs.List.{list_all}
 use Rattle.std.specs.Str.{bytes_eq}
@@ -32,21 +32,21 @@ abbrev pub lifecycle_of : Settings → Option QueueRow → Option Parts
 lifecycle_of settings queue = option_and_then (λ q. lifecycle_named settings q.lifecycle) queue
 
 abbrev pub has_status : Option Parts → List ℕ → Bool
-has_status lifecycle status = option_map_or (λ l. is_status l status) false lifecycle
+has_status lifecycle status = option_map_or (λ l. is_status l status) lifecycle false
 
 -- a status that is given is one of the lifecycle's
 abbrev pub has_given : Option Parts → Option (List ℕ) → Bool
-has_given lifecycle given = option_map_or (has_status lifecycle) true given
+has_given lifecycle given = option_map_or (has_status lifecycle) given true
 
 -- the status of a new request: the one given, or else the one that its lifecycle begins with
 abbrev pub first_status : Option Parts → Option (List ℕ) → List ℕ
-first_status lifecycle given = option_map_or (λ s. s) (option_map_or (λ l. l.on_create) [] lifecycle) given
+first_status lifecycle given = unwrap_or given (option_map_or (λ l. l.on_create) lifecycle [])
 
 abbrev pub is_creatable : Option Parts → List ℕ → Bool
-is_creatable lifecycle status = option_map_or (λ l. may_create l status) false lifecycle
+is_creatable lifecycle status = option_map_or (λ l. may_create l status) lifecycle false
 
 abbrev pub is_allowed : Option Parts → List ℕ → List ℕ → Bool
-is_allowed lifecycle from to = option_map_or (λ l. may_move l from to) false lifecycle
+is_allowed lifecycle from to = option_map_or (λ l. may_move l from to) lifecycle false
 
 -- no more queues than these are opened
 abbrev pub queue_limit : ℕ

@@ -3,6 +3,7 @@ pub use Rattle.hours_core.specs.Date
 pub use Rattle.hours_core.specs.Moment
 pub use Rattle.settings_core.specs.Settings
 pub mod Change
+pub mod Decision
 pub mod Desk
 pub mod Effect
 pub mod Facts

@@ -1,5 +1,5 @@
 -- What a command answers, of the desk as it was before.
-use Rattle.std.specs.Prelude.{ℕ, ◌+◌, List, [], Option, Some, None}
+use Rattle.std.specs.Prelude.{ℕ, ◌+◌, ⊤, List, [], Option, Some, None}
 use Rattle.settings_core.specs.declared.settings.Settings.{Settings}
 use Rattle.desk_core.specs.Desk.{Desk, Request, request_at, request_count}
 use Rattle.desk_core.specs.declared.answer.Answer.{Answer}
@@ -36,3 +36,8 @@ answer_of (OpenQueue name lifecycle level) desk = Done
 answer_of (Create queue subject status requestors) desk = Created (request_count desk + 1)
 answer_of (SetStatus id status) desk = Done
 answer_of (Show id) desk = shown_if_there (request_at desk id)
+
+-- the command only reads
+abbrev pub IsReading : Command → Type 0
+IsReading (Show id) = ⊤
+IsReading other = ⊥

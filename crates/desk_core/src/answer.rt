@@ -1,7 +1,6 @@
+use crate::rows::RequestRow;
 use hours_core::Minute;
 use text_core::{Sequence, Texts};
-
-use crate::rows::RequestRow;
 
 /// What an accepted command answers.
 #[derive(Clone, Debug, PartialEq, Eq, Drop)]

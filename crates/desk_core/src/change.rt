@@ -1,6 +1,5 @@
-use text_core::Sequence;
-
 use crate::rows::{Entry, QueueRow, RequestRow, Watcher};
+use text_core::Sequence;
 
 /// The rows that an accepted command puts.
 #[derive(Clone, Debug, PartialEq, Eq, Drop)]
@@ -9,18 +8,27 @@ pub enum Change {
     Nothing,
     /// A queue, put anew.
     Queue(QueueRow),
-    /// A request, put anew or in place of its row, with what comes to it.
+    /// A request, put anew.
+    NewRequest(NewRequest),
+    /// A request that is there, changed.
     Request(RequestChange),
 }
 
-/// A request's row, and what comes to it.
+/// A request that is put anew.
+#[derive(Clone, Debug, PartialEq, Eq, Drop)]
+pub struct NewRequest {
+    pub row: RequestRow,
+    /// Its watchers, those of a role in the order of their bytes, each once.
+    pub watchers: Sequence<Watcher>,
+    /// Its entries, in order.
+    pub entries: Sequence<Entry>,
+}
+
+/// What becomes of a request that is there.
 #[derive(Clone, Debug, PartialEq, Eq, Drop)]
 pub struct RequestChange {
-    /// Whether there was no such request before.
-    pub is_new: bool,
+    /// The row that stands in place of the one with its number.
     pub row: RequestRow,
-    /// The watchers put anew, each once.
-    pub watchers: Sequence<Watcher>,
-    /// The entries that end its history, in order.
+    /// The entries that go to the end of its history, in order.
     pub entries: Sequence<Entry>,
 }

@@ -18,7 +18,12 @@ pub enum Command {
         requestors: Texts,
     },
     /// Moves a request to another status.
-    SetStatus { id: u32, status: Text },
+    SetStatus {
+        id: u32,
+        status: Text,
+    },
     /// Shows a request.
-    Show { id: u32 },
+    Show {
+        id: u32,
+    },
 }

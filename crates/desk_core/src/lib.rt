@@ -1,8 +1,21 @@
+//! The desk's commands, and what each decides: the first refusal that is called for, or the rows to put.
+//!
+//! Nothing here keeps a row. A caller hands in the facts that a command looks at, and applies the change.
 #![tactic(auto)]
 
 pub mod answer;
 pub mod change;
 pub mod command;
+pub mod decision;
 pub mod facts;
+pub mod names;
 pub mod refusal;
 pub mod rows;
+
+pub use answer::{Answer, Links, Shown};
+pub use change::{Change, NewRequest, RequestChange};
+pub use command::Command;
+pub use decision::decide;
+pub use facts::{Facts, RequestFacts};
+pub use refusal::Refusal;
+pub use rows::{Entry, EntryKind, QueueRow, RequestRow, Turn, WatchRole, Watcher};

@@ -2,8 +2,7 @@ ghost use Rattle.std.specs.Prelude.{◌≡◌};
 ghost use Rattle.desk_core.specs.Refusals.{number_of, name_of};
 ghost use Rattle.desk_core.specs.declared.refusal.Refusal.TheVariants.{Unavailable};
 
-use std::alloc::AllocError;
-
+use std::alloc::{AllocError, AllocFailed};
 use text_core::Text;
 
 /// Why a command is refused. The desk is then as it was.
@@ -97,6 +96,14 @@ impl From<AllocError> for Refusal {
     ghost from_gives = { λ _ r. r ≡ Unavailable };
 
     fn from(_error: AllocError) -> Refusal {
+        Refusal::Unavailable
+    }
+}
+
+impl<T: Drop> From<AllocFailed<T>> for Refusal {
+    ghost from_gives = { λ _ r. r ≡ Unavailable };
+
+    fn from(_error: AllocFailed<T>) -> Refusal {
         Refusal::Unavailable
     }
 }

@@ -1,0 +1,113 @@
+-- The facts of a desk suffice: what is decided on them is the desk's own refusal, or leads to its effect.
+use Rattle.std.proofs.Common.{◌≡◌, ◌≢◌, ℕ, ◌+◌, ◌==◌, Bool, true, false, cond, List, [], ◌∷◌, map, find, length, Option, Some, None, Result, Ok, Err, IfOk, IfErr, refl, ap, sym, subst, ◌∙◌}
+use Rattle.std.specs.Option.{option_map}
+use Rattle.std.proofs.lemmas.Bool.{eqb-true}
+use Rattle.settings_core.specs.declared.settings.Settings.{Settings}
+use Rattle.desk_core.specs.Change.{applied, persons_in, is_requestor, is_cc, is_admin_cc}
+use Rattle.desk_core.specs.Decision.{conditions_by, change_by, decided, unless_refused, requestor, moving_if_there}
+use Rattle.desk_core.specs.Desk.{Desk, Request, request_at, queue_at, request_count}
+use Rattle.desk_core.specs.Effect.{effect, queue_of, with_moved, given_or_caller}
+use Rattle.desk_core.specs.Facts.{facts_of, facts_on, request_facts}
+use Rattle.desk_core.specs.Guard.{guard, conditions_of, on_request, set_status_conditions, lifecycle_of}
+use Rattle.desk_core.specs.Names.{in_order}
+use Rattle.desk_core.specs.declared.change.Change.{Change}
+use Rattle.desk_core.specs.declared.command.Command.{Command}
+use Rattle.desk_core.specs.declared.command.Command.TheVariants.{OpenQueue, Create, SetStatus, Show}
+use Rattle.desk_core.specs.declared.facts.Facts.{Facts}
+use Rattle.desk_core.specs.declared.refusal.Refusal.{Refusal}
+use Rattle.desk_core.specs.declared.refusal.Refusal.TheVariants.{Unavailable}
+
+moves_alike : (s : Settings) (status : List ℕ) (desk : Desk) (o : Option Request)
+    → on_request (option_map request_facts o) (λ r. set_status_conditions s status (queue_of desk o) r.row r.entry_count)
+    ≡ on_request o (λ r. set_status_conditions s status (queue_at desk r.row.queue) r.row (length r.entries))
+moves_alike s status desk None = refl
+moves_alike s status desk (Some request) = refl
+
+shows_alike : (o : Option Request) → on_request (option_map request_facts o) (λ r. []) ≡ on_request o (λ r. [])
+shows_alike None = refl
+shows_alike (Some request) = refl
+
+-- the conditions over the facts are those over the desk
+pub conditions_alike : (s : Settings) (command : Command) (desk : Desk)
+    → conditions_by s (facts_of command desk) command ≡ conditions_of s command desk
+conditions_alike s (OpenQueue name lifecycle level) desk = refl
+conditions_alike s (Create queue subject status requestors) desk = refl
+conditions_alike s (SetStatus id status) desk = moves_alike s status desk (request_at desk id)
+conditions_alike s (Show id) desk = shows_alike (request_at desk id)
+
+-- what is found passes the test
+found_passes : {A : Type 0} (test : A → Bool) (xs : List A) (x : A) → find test xs ≡ Some x → test x ≡ true
+found_passes test [] x e = cc
+found_passes {A} test (y ∷ ys) x e =
+    elim (test y) as (λ b. test y ≡ b → cond b (Some y) (find test ys) ≡ Some x → test x ≡ true) [
+      | true ↦ λ t f. let same : y ≡ x = cc in subst (λ (z : A). test z ≡ true) same t
+      | false ↦ λ t f. found_passes test ys x f
+    ] refl e
+
+-- a request that is found has the number that was asked for
+pub number_found : (desk : Desk) (id : ℕ) (request : Request) → request_at desk id ≡ Some request → request.row.id ≡ id
+number_found desk id request e = eqb-true request.row.id id (found_passes (λ r. r.row.id == id) desk.requests request e)
+
+requestors_kept : (id : ℕ) (names : List (List ℕ)) → persons_in is_requestor (map (requestor id) names) ≡ names
+requestors_kept id [] = refl
+requestors_kept id (name ∷ names) = ap (λ rest. name ∷ rest) (requestors_kept id names)
+
+no_cc : (id : ℕ) (names : List (List ℕ)) → persons_in is_cc (map (requestor id) names) ≡ []
+no_cc id [] = refl
+no_cc id (name ∷ names) = no_cc id names
+
+no_admin_cc : (id : ℕ) (names : List (List ℕ)) → persons_in is_admin_cc (map (requestor id) names) ≡ []
+no_admin_cc id [] = refl
+no_admin_cc id (name ∷ names) = no_admin_cc id names
+
+moves_there : (s : Settings) (at : ℕ) (caller status : List ℕ) (desk : Desk) (id : ℕ) (o : Option Request) → request_at desk id ≡ o
+    → applied (moving_if_there s at caller (facts_on desk id) status (option_map request_facts o)) desk
+    ≡ with_moved desk (lifecycle_of s (queue_of desk (request_at desk id))) at caller status o
+moves_there s at caller status desk id None e = refl
+moves_there s at caller status desk id (Some request) e =
+    let there : request_at desk request.row.id ≡ Some request = ap (request_at desk) (number_found desk id request e) ∙ e in
+    rw there refl
+
+-- the change on the facts leads to the effect
+pub change_leads : (s : Settings) (at : ℕ) (caller : List ℕ) (command : Command) (desk : Desk)
+    → applied (change_by s at caller (facts_of command desk) command) desk ≡ effect s at caller command desk
+change_leads s at caller (OpenQueue name lifecycle level) desk = refl
+change_leads s at caller (Create queue subject status requestors) desk =
+    let id = request_count desk + 1 in
+    let names = in_order (given_or_caller caller requestors) in
+    rw (requestors_kept id names, no_cc id names, no_admin_cc id names) refl
+change_leads s at caller (SetStatus id status) desk = moves_there s at caller status desk id (request_at desk id) refl
+change_leads s at caller (Show id) desk = refl
+
+accepted : (o : Option Refusal) (made change : Change) → unless_refused o made ≡ Ok change → (o ≡ None) × (made ≡ change)
+accepted None made change e = (refl, cc)
+accepted (Some refusal) made change e = cc
+
+refused : (o : Option Refusal) (made : Change) (refusal : Refusal) → unless_refused o made ≡ Err refusal → o ≡ Some refusal
+refused None made refusal e = cc
+refused (Some other) made refusal e = cc
+
+-- a decision on the facts of a desk, with the conditions of the desk
+on_desk : (s : Settings) (at : ℕ) (caller : List ℕ) (command : Command) (desk : Desk)
+    → decided s at caller (facts_of command desk) command
+    ≡ unless_refused (guard s at caller command desk) (change_by s at caller (facts_of command desk) command)
+on_desk s at caller command desk = rw (conditions_alike s command desk) refl
+
+-- a change that is decided on the facts of a desk leads to the effect, where the desk doesn't refuse
+pub accepts_on : (s : Settings) (at : ℕ) (caller : List ℕ) (command : Command) (facts : Facts) (result : Result Change Refusal)
+    → IfOk result (λ change. decided s at caller facts command ≡ Ok change) → (desk : Desk) → facts ≡ facts_of command desk
+    → IfOk result (λ change. (guard s at caller command desk ≡ None) × (applied change desk ≡ effect s at caller command desk))
+accepts_on s at caller command facts (Ok change) h desk f =
+    let on : decided s at caller (facts_of command desk) command ≡ Ok change = subst (λ (x : Facts). decided s at caller x command ≡ Ok change) f h in
+    let both = accepted (guard s at caller command desk) _ change (sym (on_desk s at caller command desk) ∙ on) in
+    (both.0, ap (λ (x : Change). applied x desk) (sym both.1) ∙ change_leads s at caller command desk)
+accepts_on s at caller command facts (Err refusal) h desk f = tt
+
+-- a refusal that is decided on the facts of a desk is the desk's own
+pub refuses_on : (s : Settings) (at : ℕ) (caller : List ℕ) (command : Command) (facts : Facts) (result : Result Change Refusal)
+    → IfErr result (λ refusal. refusal ≢ Unavailable → decided s at caller facts command ≡ Err refusal) → (desk : Desk) → facts ≡ facts_of command desk
+    → IfErr result (λ refusal. refusal ≢ Unavailable → guard s at caller command desk ≡ Some refusal)
+refuses_on s at caller command facts (Ok change) h desk f = tt
+refuses_on s at caller command facts (Err refusal) h desk f = λ other.
+    let on : decided s at caller (facts_of command desk) command ≡ Err refusal = subst (λ (x : Facts). decided s at caller x command ≡ Err refusal) f (h other) in
+    refused (guard s at caller command desk) _ refusal (sym (on_desk s at caller command desk) ∙ on)

@@ -1,0 +1,120 @@
+ghost use Rattle.std.specs.Prelude.{◌≡◌, ◌≢◌, IfOk, IfErr, None, Some, Ok, Err, if◌then◌else◌};
+ghost use Rattle.hours_core.specs.Moment.{is_moment};
+ghost use Rattle.desk_core.specs.Desk.{Desk};
+ghost use Rattle.desk_core.specs.Facts.{facts_of};
+ghost use Rattle.desk_core.specs.Guard.{guard};
+ghost use Rattle.desk_core.specs.Effect.{effect};
+ghost use Rattle.desk_core.specs.Change.{applied};
+ghost use Rattle.desk_core.specs.Reading.{IsReading};
+ghost use Rattle.desk_core.specs.Decision.{decided, decided_on};
+
+use crate::change::Change;
+use crate::command::Command;
+use crate::facts::Facts;
+use crate::refusal::Refusal;
+use hours_core::{END, Minute};
+use settings_core::Settings;
+use std::alloc::Global;
+
+mod create;
+mod lifecycles;
+mod open_queue;
+mod set_status;
+
+/// Decides a command by a caller at a moment, in minutes since 1970-01-01 00:00 UTC: the change that it makes, or
+/// the first refusal that is called for.
+///
+/// On the facts of a desk, that is the refusal that the desk gives, or the change that leads to the desk after the
+/// command. A reading command changes nothing. `Unavailable` stands in place of an answer where memory is wanting.
+pub fn decide(
+    alloc: Global,
+    settings: &Settings,
+    at: u32,
+    caller: &str,
+    facts: &Facts,
+    command: &Command,
+) -> Result<Change, Refusal>
+    ensures accepts { (desk : Desk) → facts.now ≡ facts_of command.now desk → IfOk result (λ change.
+        (guard settings.now at caller.now command.now desk ≡ None)
+        × (applied change desk ≡ effect settings.now at caller.now command.now desk)) }
+    ensures refuses { (desk : Desk) → facts.now ≡ facts_of command.now desk → IfErr result (λ refusal.
+        refusal ≢ Refusal.Unavailable → guard settings.now at caller.now command.now desk ≡ Some refusal) }
+    ensures reads { IsReading command.now → IfOk result (λ change. change ≡ Change.Nothing) }
+{
+    decide_on_facts(alloc, settings, at, caller, facts, command)
+}
+
+/// The decision on the facts as they are.
+fn decide_on_facts(
+    alloc: Global,
+    settings: &Settings,
+    at: u32,
+    caller: &str,
+    facts: &Facts,
+    command: &Command,
+) -> Result<Change, Refusal>
+    ensures ok { IfOk result (λ change. decided settings.now at caller.now facts.now command.now ≡ Ok change) }
+    ensures err { IfErr result (λ refusal. refusal ≢ Refusal.Unavailable
+        → decided settings.now at caller.now facts.now command.now ≡ Err refusal) }
+{
+    if !settings.people().knows(caller) {
+        return Err(Refusal::UnknownCaller);
+    }
+    let Some(moment) = moment_of(at) else {
+        return Err(Refusal::BadMoment);
+    };
+    let context = Context {
+        alloc,
+        settings,
+        moment,
+        caller,
+        facts,
+    };
+    context.decide(command)
+}
+
+/// The moment of this number, if a command may happen then.
+fn moment_of(at: u32) -> Option<Minute>
+    ensures { result ≡ (if is_moment at then Some at else None) }
+{
+    if at < END { Minute::new(at) } else { None }
+}
+
+/// What a decision on a command is made by: its caller is known, and its moment is one.
+#[derive(Drop)]
+struct Context<'c> {
+    alloc: Global,
+    settings: &'c Settings,
+    moment: Minute,
+    caller: &'c str,
+    facts: &'c Facts,
+}
+
+impl Context<'_> {
+    fn decide(&self, command: &Command) -> Result<Change, Refusal>
+        ensures ok { IfOk result (λ change. decided_on self.now.settings.now self.now.moment self.now.caller.now
+            self.now.facts.now command.now ≡ Ok change) }
+        ensures err { IfErr result (λ refusal. refusal ≢ Refusal.Unavailable
+            → decided_on self.now.settings.now self.now.moment self.now.caller.now self.now.facts.now command.now
+            ≡ Err refusal) }
+    {
+        match command {
+            Command::OpenQueue {
+                queue,
+                lifecycle,
+                level,
+            } => self.open_queue(queue, lifecycle, level),
+            Command::Create {
+                queue,
+                subject,
+                status,
+                requestors,
+            } => self.create(queue, subject, status, requestors),
+            Command::SetStatus { id: _, status } => self.set_status(status),
+            Command::Show { id: _ } => match &self.facts.request {
+                Some(_) => Ok(Change::Nothing),
+                None => Err(Refusal::NotFound),
+            },
+        }
+    }
+}

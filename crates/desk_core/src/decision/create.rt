@@ -1,0 +1,159 @@
+ghost use Rattle.std.specs.Prelude.{◌≡◌, ◌≢◌, map, IfOk, IfErr, Ok, Err, ◌+◌, ◌-◌, ◌^◌, ◌<◌};
+ghost use Rattle.std.specs.Option.{option_map};
+ghost use Rattle.std.specs.List.{list_all};
+ghost use Rattle.settings_core.specs.Settings.{knows};
+ghost use Rattle.desk_core.specs.Names.{in_order};
+ghost use Rattle.desk_core.specs.Decision.{decided_on, filing_change, requestor};
+ghost use Rattle.desk_core.specs.Effect.{filing, given_or_caller, new_row};
+ghost use Rattle.desk_core.specs.Guard as guard;
+
+use crate::change::{Change, NewRequest};
+use crate::command::Command;
+use crate::decision::Context;
+use crate::decision::lifecycles::{has_status, is_creatable, lifecycle_of};
+use crate::names::in_byte_order;
+use crate::refusal::Refusal;
+use crate::rows::{Entry, EntryKind, RequestRow, Turn, WatchRole, Watcher};
+use lifecycle_core::Lifecycle;
+use std::alloc::{AllocError, Global};
+use text_core::{Sequence, Text, Texts, is_subject};
+
+impl Context<'_> {
+    /// Files a request.
+    pub(super) fn create(
+        &self,
+        queue: &Text,
+        subject: &Text,
+        status: &Option<Text>,
+        requestors: &Texts,
+    ) -> Result<Change, Refusal>
+        ensures ok { IfOk result (λ change. decided_on self.now.settings.now self.now.moment self.now.caller.now
+            self.now.facts.now (Command.Create queue.now subject.now status.now requestors.now) ≡ Ok change) }
+        ensures err { IfErr result (λ refusal. refusal ≢ Refusal.Unavailable
+            → decided_on self.now.settings.now self.now.moment self.now.caller.now self.now.facts.now
+            (Command.Create queue.now subject.now status.now requestors.now) ≡ Err refusal) }
+    {
+        if !is_subject(subject.as_str()) {
+            return Err(Refusal::BadText);
+        }
+        if self.facts.queue.is_none() {
+            return Err(Refusal::NotFound);
+        }
+        let lifecycle = lifecycle_of(self.settings, &self.facts.queue);
+        if !has_given(lifecycle, status) || !self.knows_all(requestors.as_slice()) {
+            return Err(Refusal::UnknownName);
+        }
+        let first = first_status(lifecycle, status);
+        if !is_creatable(lifecycle, first) {
+            return Err(Refusal::NoTransition);
+        }
+        if self.facts.request_count >= self.settings.max_requests() {
+            return Err(Refusal::Full);
+        }
+        let row = self.new_row(queue, subject, first)?;
+        let watchers = self.requestors(row.id, requestors)?;
+        let entries = vec![in self.alloc; self.filing(row.id, first)?]?;
+        Ok(Change::NewRequest(NewRequest {
+            row,
+            watchers,
+            entries: Sequence::from(entries),
+        }))
+    }
+
+    /// Whether all of these are persons of the settings.
+    fn knows_all(&self, persons: &[Text]) -> bool
+        ensures { result ≡ list_all (knows self.now.settings.now) persons.now }
+    {
+        persons
+            .iter()
+            .all(|p| self.settings.people().knows(p.as_str()))
+    }
+
+    /// The row of the next request.
+    fn new_row(&self, queue: &Text, subject: &Text, status: &str) -> Result<RequestRow, AllocError>
+        requires { self.now.facts.now.request_count < 2 ^ 32 - 1 }
+        ensures { IfOk result (λ row. row ≡ new_row (self.now.facts.now.request_count + 1) self.now.moment
+            queue.now subject.now status.now self.now.facts.now.queue) }
+    {
+        let level = match &self.facts.queue {
+            Some(there) => there.level.clone()?,
+            None => None,
+        };
+        Ok(RequestRow {
+            id: self.facts.request_count + 1,
+            queue: queue.clone()?,
+            subject: subject.clone()?,
+            status: Text::new(self.alloc, status)?,
+            owner: None,
+            level,
+            created: self.moment,
+            opened: self.moment,
+            turn: Turn::Desk,
+            since: self.moment,
+        })
+    }
+
+    /// The entry of a request's filing.
+    fn filing(&self, id: u32, status: &str) -> Result<Entry, AllocError>
+        ensures { IfOk result (λ entry. entry ≡ filing id self.now.moment self.now.caller.now status.now) }
+    {
+        Ok(Entry {
+            id,
+            number: 1,
+            moment: self.moment,
+            actor: Text::new(self.alloc, self.caller)?,
+            kind: EntryKind::Create,
+            head: Text::new(self.alloc, "")?,
+            body: Text::new(self.alloc, status)?,
+        })
+    }
+
+    /// The persons given as requestors, each once, or the caller where none is given.
+    fn requestors(&self, id: u32, given: &Texts) -> Result<Sequence<Watcher>, AllocError>
+        ensures { IfOk result (λ watchers. watchers
+            ≡ map (requestor id) (in_order (given_or_caller self.now.caller.now given.now))) }
+    {
+        let persons = if given.is_empty() {
+            Texts::from(vec![in self.alloc; Text::new(self.alloc, self.caller)?]?)
+        } else {
+            in_byte_order(self.alloc, given.as_slice())?
+        };
+        as_requestors(self.alloc, id, persons)
+    }
+}
+
+/// The persons as requestors of a request.
+fn as_requestors(alloc: Global, id: u32, persons: Texts) -> Result<Sequence<Watcher>, AllocError>
+    ensures { IfOk result (λ watchers. watchers ≡ map (requestor id) persons) }
+{
+    let mut watchers = Vec::with_capacity(alloc, persons.len())?;
+    for person in persons.as_slice() {
+        watchers.push(Watcher {
+            id,
+            role: WatchRole::Requestor,
+            person: person.clone()?,
+        })?;
+    }
+    Ok(Sequence::from(watchers))
+}
+
+/// Whether a status that is given is one of the lifecycle's.
+fn has_given(lifecycle: Option<&Lifecycle>, given: &Option<Text>) -> bool
+    ensures { result ≡ guard.has_given (option_map (λ l. l.now) lifecycle.entry) given.now }
+{
+    match given {
+        Some(status) => has_status(lifecycle, status),
+        None => true,
+    }
+}
+
+/// The status given, or else the one that the lifecycle begins with.
+fn first_status<'s>(lifecycle: Option<&'s Lifecycle>, given: &'s Option<Text>) -> &'s str
+    ensures { result.now ≡ guard.first_status (option_map (λ l. l.now) lifecycle.entry) given.entry.now }
+{
+    match (given, lifecycle) {
+        (Some(status), _) => status.as_str(),
+        (None, Some(lifecycle)) => lifecycle.on_create(),
+        (None, None) => "",
+    }
+}

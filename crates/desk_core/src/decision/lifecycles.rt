@@ -1,0 +1,71 @@
+ghost use Rattle.std.specs.Prelude.{◌≡◌};
+ghost use Rattle.std.specs.Option.{option_map};
+ghost use Rattle.desk_core.specs.Guard as guard;
+ghost use Rattle.desk_core.specs.Effect as effect;
+
+use crate::rows::QueueRow;
+use lifecycle_core::{Class, Lifecycle};
+use settings_core::Settings;
+use text_core::Text;
+
+/// The lifecycle of a queue, if it is there and its lifecycle is known.
+pub(super) fn lifecycle_of<'s>(
+    settings: &'s Settings,
+    queue: &Option<QueueRow>,
+) -> Option<&'s Lifecycle>
+    ensures { option_map (λ l. l.now) result ≡ guard.lifecycle_of settings.now queue.now }
+{
+    match queue {
+        Some(queue) => settings.lifecycle(queue.lifecycle.as_str()),
+        None => None,
+    }
+}
+
+/// Whether the status is one of the lifecycle's.
+pub(super) fn has_status(lifecycle: Option<&Lifecycle>, status: &Text) -> bool
+    ensures { result ≡ guard.has_status (option_map (λ l. l.now) lifecycle.entry) status.now }
+{
+    match lifecycle {
+        Some(lifecycle) => lifecycle.class(status.as_str()).is_some(),
+        None => false,
+    }
+}
+
+/// Whether a request may be filed in the status.
+pub(super) fn is_creatable(lifecycle: Option<&Lifecycle>, status: &str) -> bool
+    ensures { result ≡ guard.is_creatable (option_map (λ l. l.now) lifecycle.entry) status.now }
+{
+    match lifecycle {
+        Some(lifecycle) => lifecycle.may_create(status),
+        None => false,
+    }
+}
+
+/// Whether a request may move from the one status to the other.
+pub(super) fn is_allowed(lifecycle: Option<&Lifecycle>, from: &Text, to: &Text) -> bool
+    ensures { result ≡ guard.is_allowed (option_map (λ l. l.now) lifecycle.entry) from.now to.now }
+{
+    match lifecycle {
+        Some(lifecycle) => lifecycle.may_move(from.as_str(), to.as_str()),
+        None => false,
+    }
+}
+
+/// Whether a move leads from an inactive status to one that isn't.
+pub(super) fn opens_anew(lifecycle: Option<&Lifecycle>, from: &Text, to: &Text) -> bool
+    ensures { result ≡ effect.opens_anew (option_map (λ l. l.now) lifecycle.entry) from.now to.now }
+{
+    is_inactive(lifecycle, from) && !is_inactive(lifecycle, to)
+}
+
+fn is_inactive(lifecycle: Option<&Lifecycle>, status: &Text) -> bool
+    ensures { result ≡ effect.is_inactive (option_map (λ l. l.now) lifecycle.entry) status.now }
+{
+    match lifecycle {
+        Some(lifecycle) => match lifecycle.class(status.as_str()) {
+            Some(Class::Inactive) => true,
+            _ => false,
+        },
+        None => false,
+    }
+}

@@ -1,0 +1,4 @@
+pub use Rattle.lifecycle_core.specs.Lifecycle
+pub use Rattle.lifecycle_core.specs.Standard
+pub mod Fault
+pub mod Settings
