@@ -1,0 +1,10 @@
+pub use Rattle.desk_core.specs.Change
+pub use Rattle.desk_core.specs.Desk
+pub use Rattle.desk_core.specs.Effect
+pub use Rattle.desk_core.specs.Facts
+pub use Rattle.desk_core.specs.Guard
+pub use Rattle.desk_core.specs.Names
+pub use Rattle.desk_core.specs.Reading
+pub use Rattle.desk_core.specs.Refusals
+pub use Rattle.desk_core.specs.Step
+pub mod Texts

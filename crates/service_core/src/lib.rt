@@ -1,0 +1,8 @@
+//! The texts of the desk's answers and refusals.
+#![tactic(auto)]
+
+pub mod shown;
+pub mod texts;
+
+pub use shown::show_text;
+pub use texts::{answer_text, refusal_text};
