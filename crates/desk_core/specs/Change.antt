@@ -1,6 +1,6 @@
 -- The desk with a change's rows put.
 use Rattle.std.specs.Prelude.{ℕ, Bool, true, false, List, ◌++◌, Option, Some, None, map, filter}
-use Rattle.desk_core.specs.Desk.{Desk, Request, request_at, with_queue, with_request}
+use Rattle.desk_core.specs.Desk.{Desk, Request, request_at, with_queue, with_request, with_changed_request}
 use Rattle.desk_core.specs.declared.rows.Watcher.{Watcher}
 use Rattle.desk_core.specs.declared.rows.WatchRole.{WatchRole}
 use Rattle.desk_core.specs.declared.rows.WatchRole.TheVariants.{Requestor, Cc, AdminCc}
@@ -42,7 +42,7 @@ changed change request = record request { row = change.row; entries = request.en
 
 abbrev pub with_changed : Desk → RequestChange → Option Request → Desk
 with_changed desk change None = desk
-with_changed desk change (Some request) = with_request desk (changed change request)
+with_changed desk change (Some request) = with_changed_request desk (changed change request)
 
 abbrev pub applied : Change → Desk → Desk
 applied change.Nothing desk = desk

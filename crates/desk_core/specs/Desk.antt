@@ -1,9 +1,7 @@
 -- The desk: its queues by name, and its requests by number, each with its people and its history.
-use Rattle.std.specs.Prelude.{ℕ, ◌==◌, List, [], Option, find, length}
-use Rattle.std.specs.Ordering.{nat_cmp}
+use Rattle.std.specs.Prelude.{ℕ, Bool, ◌==◌, nat_lt, if◌then◌else◌, List, [], ◌∷◌, Option, find, length}
+use Rattle.std.specs.Ordering.{is_lt}
 use Rattle.std.specs.Str.{bytes_eq}
-use Rattle.std.specs.BTreeSet.{replace_key}
-use Rattle.std.specs.declared.cmp.Ordering.{Ordering}
 use Rattle.desk_core.specs.Names.{text_order}
 use Rattle.desk_core.specs.declared.rows.QueueRow.{QueueRow}
 use Rattle.desk_core.specs.declared.rows.RequestRow.{RequestRow}
@@ -39,16 +37,33 @@ queue_count desk = length desk.queues
 abbrev pub request_count : Desk → ℕ
 request_count desk = length desk.requests
 
-abbrev pub by_name : QueueRow → QueueRow → Ordering
-by_name a b = text_order a.name b.name
+-- the list with x before the first element that comes after it
+abbrev pub placed : {X : Type 0} → (X → X → Bool) → List X → X → List X
+placed comes_before [] x = x ∷ []
+placed comes_before (y ∷ ys) x = if comes_before x y then x ∷ y ∷ ys else y ∷ placed comes_before ys x
 
-abbrev pub by_number : Request → Request → Ordering
-by_number a b = nat_cmp a.row.id b.row.id
+-- the list with x instead of the first element like it
+abbrev pub replaced : {X : Type 0} → (X → X → Bool) → List X → X → List X
+replaced is_like [] x = []
+replaced is_like (y ∷ ys) x = if is_like x y then x ∷ ys else y ∷ replaced is_like ys x
 
--- the desk with this queue at its place, instead of one of its name
+abbrev pub has_lower_name : QueueRow → QueueRow → Bool
+has_lower_name a b = is_lt (text_order a.name b.name)
+
+abbrev pub has_lower_number : Request → Request → Bool
+has_lower_number a b = nat_lt a.row.id b.row.id
+
+abbrev pub has_same_number : Request → Request → Bool
+has_same_number a b = a.row.id == b.row.id
+
+-- the desk with this queue, which is new
 abbrev pub with_queue : Desk → QueueRow → Desk
-with_queue desk queue = record desk { queues = replace_key by_name desk.queues queue }
+with_queue desk queue = record desk { queues = placed has_lower_name desk.queues queue }
 
--- the desk with this request at its place, instead of one with its number
+-- the desk with this request, which is new
 abbrev pub with_request : Desk → Request → Desk
-with_request desk request = record desk { requests = replace_key by_number desk.requests request }
+with_request desk request = record desk { requests = placed has_lower_number desk.requests request }
+
+-- the desk with this request instead of the one with its number
+abbrev pub with_changed_request : Desk → Request → Desk
+with_changed_request desk request = record desk { requests = replaced has_same_number desk.requests request }

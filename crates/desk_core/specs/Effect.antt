@@ -7,7 +7,7 @@ use Rattle.lifecycle_core.specs.declared.lifecycle.Class.TheVariants.{Inactive}
 use Rattle.lifecycle_core.specs.declared.parts.Parts.{Parts}
 use Rattle.settings_core.specs.declared.settings.Settings.{Settings}
 use Rattle.desk_core.specs.Names.{in_order}
-use Rattle.desk_core.specs.Desk.{Desk, Request, queue_at, request_at, request_count, with_queue, with_request}
+use Rattle.desk_core.specs.Desk.{Desk, Request, queue_at, request_at, request_count, with_queue, with_request, with_changed_request}
 use Rattle.desk_core.specs.Guard.{lifecycle_of, first_status}
 use Rattle.desk_core.specs.declared.rows.QueueRow.{QueueRow}
 use Rattle.desk_core.specs.declared.rows.RequestRow.{RequestRow}
@@ -97,7 +97,7 @@ filed id at caller queue subject status requestors there =
 abbrev pub with_moved : Desk → Option Parts → ℕ → List ℕ → List ℕ → Option Request → Desk
 with_moved desk lifecycle at caller status None = desk
 with_moved desk lifecycle at caller status (Some request) =
-    with_request desk (moved lifecycle at caller status request)
+    with_changed_request desk (moved lifecycle at caller status request)
 
 -- the queue of a request
 abbrev pub queue_of : Desk → Option Request → Option QueueRow
