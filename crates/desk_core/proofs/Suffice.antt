@@ -3,7 +3,7 @@ use Rattle.std.proofs.Common.{◌≡◌, ◌≢◌, ℕ, ◌+◌, ◌==◌, Bool
 use Rattle.std.specs.Option.{option_map}
 use Rattle.std.proofs.lemmas.Bool.{eqb-true}
 use Rattle.settings_core.specs.declared.settings.Settings.{Settings}
-use Rattle.desk_core.specs.Change.{applied, persons_in, is_requestor, is_cc, is_admin_cc}
+use Rattle.desk_core.specs.Change.{applied, persons_in}
 use Rattle.desk_core.specs.Decision.{conditions_by, change_by, decided, unless_refused, requestor, moving_if_there}
 use Rattle.desk_core.specs.Desk.{Desk, Request, request_at, queue_at, request_count}
 use Rattle.desk_core.specs.Effect.{effect, queue_of, with_moved, given_or_caller}
@@ -14,6 +14,7 @@ use Rattle.desk_core.specs.declared.change.Change.{Change}
 use Rattle.desk_core.specs.declared.command.Command.{Command}
 use Rattle.desk_core.specs.declared.command.Command.TheVariants.{OpenQueue, Create, SetStatus, Show}
 use Rattle.desk_core.specs.declared.facts.Facts.{Facts}
+use Rattle.desk_core.specs.declared.rows.WatchRole.TheVariants.{Requestor, Cc, AdminCc}
 use Rattle.desk_core.specs.declared.refusal.Refusal.{Refusal}
 use Rattle.desk_core.specs.declared.refusal.Refusal.TheVariants.{Unavailable}
 
@@ -48,15 +49,15 @@ found_passes {A} test (y ∷ ys) x e =
 pub number_found : (desk : Desk) (id : ℕ) (request : Request) → request_at desk id ≡ Some request → request.row.id ≡ id
 number_found desk id request e = eqb-true request.row.id id (found_passes (λ r. r.row.id == id) desk.requests request e)
 
-requestors_kept : (id : ℕ) (names : List (List ℕ)) → persons_in is_requestor (map (requestor id) names) ≡ names
+requestors_kept : (id : ℕ) (names : List (List ℕ)) → persons_in Requestor (map (requestor id) names) ≡ names
 requestors_kept id [] = refl
 requestors_kept id (name ∷ names) = ap (λ rest. name ∷ rest) (requestors_kept id names)
 
-no_cc : (id : ℕ) (names : List (List ℕ)) → persons_in is_cc (map (requestor id) names) ≡ []
+no_cc : (id : ℕ) (names : List (List ℕ)) → persons_in Cc (map (requestor id) names) ≡ []
 no_cc id [] = refl
 no_cc id (name ∷ names) = no_cc id names
 
-no_admin_cc : (id : ℕ) (names : List (List ℕ)) → persons_in is_admin_cc (map (requestor id) names) ≡ []
+no_admin_cc : (id : ℕ) (names : List (List ℕ)) → persons_in AdminCc (map (requestor id) names) ≡ []
 no_admin_cc id [] = refl
 no_admin_cc id (name ∷ names) = no_admin_cc id names
 

@@ -9,30 +9,24 @@ use Rattle.desk_core.specs.declared.change.Change.TheVariants as change
 use Rattle.desk_core.specs.declared.change.NewRequest.{NewRequest}
 use Rattle.desk_core.specs.declared.change.RequestChange.{RequestChange}
 
-abbrev pub is_requestor : WatchRole → Bool
-is_requestor Requestor = true
-is_requestor other = false
+abbrev pub is_role : WatchRole → WatchRole → Bool
+is_role Requestor Requestor = true
+is_role Cc Cc = true
+is_role AdminCc AdminCc = true
+is_role role other = false
 
-abbrev pub is_cc : WatchRole → Bool
-is_cc Cc = true
-is_cc other = false
-
-abbrev pub is_admin_cc : WatchRole → Bool
-is_admin_cc AdminCc = true
-is_admin_cc other = false
-
--- the persons whose role passes the test, in the order of the watchers
-abbrev pub persons_in : (WatchRole → Bool) → List Watcher → List (List ℕ)
-persons_in test watchers = map (λ w. w.person) (filter (λ w. test w.role) watchers)
+-- the persons in a role, in the order of the watchers
+abbrev pub persons_in : WatchRole → List Watcher → List (List ℕ)
+persons_in role watchers = map (λ w. w.person) (filter (λ w. is_role role w.role) watchers)
 
 -- the request that is put anew
 abbrev pub put_anew : NewRequest → Request
 put_anew new =
     record {
       row = new.row;
-      requestors = persons_in is_requestor new.watchers;
-      cc = persons_in is_cc new.watchers;
-      admin_cc = persons_in is_admin_cc new.watchers;
+      requestors = persons_in Requestor new.watchers;
+      cc = persons_in Cc new.watchers;
+      admin_cc = persons_in AdminCc new.watchers;
       entries = new.entries;
     }
 

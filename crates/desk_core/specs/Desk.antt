@@ -54,7 +54,7 @@ abbrev pub has_lower_number : Request → Request → Bool
 has_lower_number a b = nat_lt a.row.id b.row.id
 
 abbrev pub has_same_number : Request → Request → Bool
-has_same_number a b = a.row.id == b.row.id
+has_same_number a b = b.row.id == a.row.id
 
 -- the desk with this queue, which is new
 abbrev pub with_queue : Desk → QueueRow → Desk

@@ -1,0 +1,2 @@
+pub mod DeskRows
+pub mod Lists

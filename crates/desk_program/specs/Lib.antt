@@ -1,0 +1,2 @@
+pub use Rattle.service_core.specs.Texts
+pub mod Rows

@@ -1,0 +1,4 @@
+//! The desk's program: a script over a desk in memory.
+#![tactic(auto)]
+
+mod rows;
