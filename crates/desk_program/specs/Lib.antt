@@ -1,2 +1,3 @@
 pub use Rattle.service_core.specs.Texts
+pub mod Input
 pub mod Rows

@@ -1,4 +1,5 @@
 //! The desk's program: a script over a desk in memory.
 #![tactic(auto)]
 
+mod input;
 mod rows;

@@ -1,0 +1,59 @@
+-- A script's input: settings, a line `%%`, and commands, a line each.
+use Rattle.std.specs.Prelude.{ℕ, Bool, true, false, ◌==◌, ◌||◌, nat_lt, List, [], ◌∷◌, take, drop, length, Option, Some, None, Result, Ok, Err, codes, if◌then◌else◌}
+use Rattle.std.specs.Option.{option_map, option_or}
+use Rattle.std.specs.List.{list_all}
+use Rattle.std.specs.Str.{bytes_eq, is_utf8}
+use Rattle.std.specs.Str.Lines.{lines}
+use Rattle.settings_core.specs.Settings.{built_in_settings}
+use Rattle.settings_core.specs.declared.fault.SettingsFault.{SettingsFault}
+use Rattle.settings_core.specs.declared.fault.SettingsFault.TheVariants.{UnknownKey}
+use Rattle.settings_core.specs.declared.settings.Settings.{Settings}
+use Rattle.desk_program.specs.declared.input.InputFault.{InputFault}
+use Rattle.desk_program.specs.declared.input.InputFault.TheVariants.{NoMarker, TooLong, NotUtf8}
+
+-- the most bytes of a script
+abbrev pub input_limit : ℕ
+input_limit = 1048576
+
+-- what follows a line `%%` at the front, which a line feed ends, a carriage return and one, or the input's end
+abbrev pub after_marker : List ℕ → Option (List ℕ)
+after_marker text =
+    if bytes_eq text (codes "%%") then Some []
+    else if bytes_eq (take 3 text) (codes "%%\n") then Some (drop 3 text)
+    else if bytes_eq (take 4 text) (codes "%%\r\n") then Some (drop 4 text)
+    else None
+
+-- with a byte more in front of the first part
+abbrev pub onto_first : ℕ → List ℕ × List ℕ → List ℕ × List ℕ
+onto_first b parts = (b ∷ parts.0, parts.1)
+
+-- what stands before the marker and behind it, if it is at the front of a line
+abbrev pub at_marker : Bool → List ℕ → Option (List ℕ × List ℕ)
+at_marker begins text = if begins then option_map (λ rest. ([], rest)) (after_marker text) else None
+
+-- what stands before the first line `%%` and what stands behind it; whether the text begins a line is told
+abbrev pub parted : Bool → List ℕ → Option (List ℕ × List ℕ)
+parted begins [] = None
+parted begins (b ∷ bs) = option_or (at_marker begins (b ∷ bs)) (option_map (onto_first b) (parted (b == 10) bs))
+
+-- the settings and the commands of an input
+pub record Script : Type 0 where
+  pub settings : List ℕ
+  pub commands : List ℕ
+
+abbrev pub script_in : Option (List ℕ × List ℕ) → Result Script InputFault
+script_in None = Err NoMarker
+script_in (Some parts) =
+    if is_utf8 parts.1 then Ok (record { settings = parts.0; commands = parts.1 }) else Err NotUtf8
+
+-- the script that an input is, or its first fault
+abbrev pub script_of : List ℕ → Result Script InputFault
+script_of input = if nat_lt input_limit (length input) then Err TooLong else script_in (parted true input)
+
+-- a space, a tab, a carriage return or a line feed
+abbrev pub is_blank : ℕ → Bool
+is_blank b = (b == 32) || (b == 9) || (b == 13) || (b == 10)
+
+-- the settings of a text: for now a blank one alone is known
+abbrev pub settings_of : List ℕ → Result Settings SettingsFault
+settings_of text = if list_all is_blank text then Ok built_in_settings else Err UnknownKey

@@ -1,0 +1,90 @@
+ghost use Rattle.std.specs.Prelude.{◌≡◌, ◌≢◌, ◌≤◌, ◌<◌, ◌⊎◌, List, ℕ, Ok, Err, true, length, IfOk, IfErr, IfSome};
+ghost use Rattle.std.specs.Option.{option_map};
+ghost use Rattle.std.specs.List.{list_all};
+ghost use Rattle.desk_program.specs.Input as input;
+
+use std::alloc::Global;
+use std::io::Read;
+use std::str;
+
+/// The most bytes of a script.
+pub(crate) const MAX_INPUT: usize = 1_048_576;
+
+/// The most reads that an input takes: each but the last gives a byte or more.
+const MAX_READS: u32 = 1_048_577;
+
+/// How many bytes are asked for at once.
+const CHUNK: usize = 8_192;
+
+/// Why an input is no script.
+#[derive(Clone, Copy, Debug, PartialEq, Eq)]
+pub(crate) enum InputFault {
+    /// No line is `%%`.
+    NoMarker,
+    /// It has more than 1,048,576 bytes.
+    TooLong,
+    /// What stands behind the line `%%` isn't UTF-8.
+    NotUtf8,
+    /// It couldn't be read, or memory for it was wanting.
+    Read,
+}
+
+/// Settings and commands, as they stand in an input.
+#[derive(Clone, Copy)]
+pub(crate) struct Parts<'i> {
+    pub(crate) settings: &'i [u8],
+    pub(crate) commands: &'i str,
+}
+
+/// The parts of an input that isn't too long.
+pub(crate) fn parts_of(input: &[u8]) -> Result<Parts<'_>, InputFault>
+    ensures ok { IfOk result (λ parts. input.script_in (input.parted true input.now)
+        ≡ Ok (record { settings = parts.settings.now; commands = parts.commands.now })) }
+    ensures err { IfErr result (λ fault. input.script_in (input.parted true input.now) ≡ Err fault) }
+{
+    let Some((settings, rest)) = split(input) else {
+        return Err(InputFault::NoMarker);
+    };
+    match str::from_utf8(rest) {
+        Ok(commands) => Ok(Parts { settings, commands }),
+        Err(_) => Err(InputFault::NotUtf8),
+    }
+}
+
+/// What stands before the first line `%%`, and what stands behind it.
+fn split(input: &[u8]) -> Option<(&[u8], &[u8])>
+    ensures { option_map (λ parts. (parts.0.now, parts.1.now)) result ≡ input.parted true input.now }
+{
+    let mut begins = true;
+    for (place, byte) in input.iter().enumerate() {
+        if begins {
+            if let Some(rest) = after_marker(&input[place..]) {
+                return Some((&input[..place], rest));
+            }
+        }
+        begins = *byte == b'\n';
+    }
+    None
+}
+
+/// What follows a line `%%` at the front, if one stands there.
+fn after_marker(text: &[u8]) -> Option<&[u8]>
+    ensures { option_map (λ rest. rest.now) result ≡ input.after_marker text.now }
+{
+    if text == b"%%" {
+        Some(&text[2..])
+    } else if text.starts_with(b"%%\n") {
+        Some(&text[3..])
+    } else if text.starts_with(b"%%\r\n") {
+        Some(&text[4..])
+    } else {
+        None
+    }
+}
+
+/// Whether all of a text is spaces, tabs, carriage returns and line feeds.
+pub(crate) fn is_blank(text: &[u8]) -> bool
+    ensures { result ≡ list_all input.is_blank text.now }
+{
+    text.iter().all(|b| *b == b' ' || *b == b'\t' || *b == b'\r' || *b == b'\n')
+}
