@@ -9,6 +9,7 @@ use crate::parts::{ANY_STATUS, Move, MoveRight, Parts};
 use text_core::{Text, is_name, is_right_name};
 
 /// The fault with the least number that applies to the parts.
+#[tactic(auto, unfolding(crate::specs::Fault::fault_of))]
 pub(crate) fn fault_of(parts: &Parts) -> Option<LifecycleFault>
     ensures { result ≡ faults.fault_of parts.now }
 {

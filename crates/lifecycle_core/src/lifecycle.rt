@@ -61,13 +61,9 @@ impl Lifecycle {
     /// between any two different statuses. A move to `deleted` asks for `DeleteTicket`, any other for `ModifyTicket`.
     ///
     /// The only fault is `NoMemory`.
-    #[tactic(auto, unfolding(crate::specs::Standard::default_lifecycle))]
     pub fn default_lifecycle(alloc: Global) -> Result<Lifecycle, LifecycleFault>
         ensures ok { IfOk result (λ l. l ≡ default_lifecycle) }
         ensures err { IfErr result (λ e. e ≡ LifecycleFault.NoMemory) }
-
-        // As if it were built.
-        ensures sound { fault_of default_lifecycle ≡ None }
     {
         Ok(Lifecycle {
             parts: standard::default_parts(alloc)?,
@@ -113,6 +109,7 @@ impl Lifecycle {
     /// `to` is `deleted`, and `ModifyTicket` otherwise.
     ///
     /// It answers for any two texts, also for a status and itself.
+    #[tactic(auto, unfolding(crate::specs::Lifecycle::right_of_move))]
     pub fn right_for(&self, from: &str, to: &str) -> &str
         ensures { result.now ≡ words.right_of_move self.now from.now to.now }
     {
