@@ -197,17 +197,22 @@ fn what_is_no_fault(rt: HostRuntime) -> Result<(), Fail> {
     Ok(())
 }
 
+/// The right of a move, where each kind of entry gives another.
+fn right_of(rt: &impl AllocGlobal, from: &str, to: &str) -> Result<String, Fail> {
+    let mut parts = one_way(rt)?;
+    parts.rights = rights(rt, "*>*:Fourth new>*:Third *>done:Second new>open:First")?;
+    let built = Lifecycle::build(rt.alloc(), &parts)?;
+    Ok(String::from_str(rt.alloc(), built.right_for(from, to))?)
+}
+
 #[test]
 fn rights_by_order_of_search(rt: HostRuntime) -> Result<(), Fail> {
-    let mut parts = one_way(&rt)?;
-    parts.rights = rights(&rt, "*>*:Fourth new>*:Third *>done:Second new>open:First")?;
-    let built = Lifecycle::build(rt.alloc(), &parts)?;
-    assert_eq!(rt; built.right_for("new", "open"), "First");
-    assert_eq!(rt; built.right_for("new", "done"), "Second");
-    assert_eq!(rt; built.right_for("open", "done"), "Second");
-    assert_eq!(rt; built.right_for("new", "gone"), "Third");
-    assert_eq!(rt; built.right_for("open", "open"), "Fourth");
-    assert_eq!(rt; built.right_for("done", "deleted"), "Fourth");
+    assert_eq!(rt; right_of(&rt, "new", "open")?.as_str(), "First");
+    assert_eq!(rt; right_of(&rt, "new", "done")?.as_str(), "Second");
+    assert_eq!(rt; right_of(&rt, "open", "done")?.as_str(), "Second");
+    assert_eq!(rt; right_of(&rt, "new", "gone")?.as_str(), "Third");
+    assert_eq!(rt; right_of(&rt, "open", "open")?.as_str(), "Fourth");
+    assert_eq!(rt; right_of(&rt, "done", "deleted")?.as_str(), "Fourth");
     Ok(())
 }
 
