@@ -43,10 +43,11 @@ impl Model for Lifecycle {
 impl Lifecycle {
     /// The lifecycle of the parts, or the first fault that applies to them, by number.
     ///
-    /// `NoMemory` may stand in place of the lifecycle, where its copy of the parts is refused memory.
+    /// `NoMemory` comes only in place of a lifecycle, where its copy of the parts is refused memory, never of a fault.
     pub fn build(alloc: Global, parts: &Parts) -> Result<Lifecycle, LifecycleFault>
         ensures ok { IfOk result (λ l. (fault_of parts.now ≡ None) × (l ≡ parts.now)) }
         ensures err { IfErr result (λ e. e ≢ LifecycleFault.NoMemory → fault_of parts.now ≡ Some e) }
+        ensures memory { IfErr result (λ e. e ≡ LifecycleFault.NoMemory → fault_of parts.now ≡ None) }
     {
         match checks::fault_of(parts) {
             Some(fault) => Err(fault),
