@@ -80,7 +80,7 @@ abbrev pub when : LifecycleFault → Bool → Option LifecycleFault
 when fault applies = if applies then Some fault else None
 
 -- the first fault that applies, by number
-abbrev pub fault_of : Parts → Option LifecycleFault
+unfoldable pub fault_of : Parts → Option LifecycleFault
 fault_of parts =
     option_or (when BadName (not (has_names parts)))
     (option_or (when Repeated (has_repeats parts))

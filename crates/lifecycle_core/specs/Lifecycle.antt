@@ -50,7 +50,7 @@ abbrev pub usual_right : List ℕ → List ℕ
 usual_right to = if bytes_eq to (codes "deleted") then codes "DeleteTicket" else codes "ModifyTicket"
 
 -- that of the first entry found: for the two statuses, for any and `to`, for `from` and any, for any and any
-abbrev pub right_of_move : Parts → List ℕ → List ℕ → List ℕ
+unfoldable pub right_of_move : Parts → List ℕ → List ℕ → List ℕ
 right_of_move lifecycle from to =
     unwrap_or (right_of_entry lifecycle from to)
     (unwrap_or (right_of_entry lifecycle any_status to)

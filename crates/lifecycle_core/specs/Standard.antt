@@ -1,5 +1,5 @@
 -- The lifecycle `default`.
-use Rattle.std.specs.Prelude.{ℕ, not, List, [], ◌∷◌, ◌++◌, map, filter, codes}
+use Rattle.std.specs.Prelude.{ℕ, not, List, [], ◌∷◌, map, filter, codes}
 use Rattle.std.specs.List.{flat_map}
 use Rattle.std.specs.Str.{bytes_eq}
 use Rattle.lifecycle_core.specs.Lifecycle.{any_status}

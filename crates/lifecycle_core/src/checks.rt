@@ -1,4 +1,4 @@
-ghost use Rattle.std.specs.Prelude.{◌≡◌};
+ghost use Rattle.std.specs.Prelude.{◌≡◌, ◌≢◌, IfSome};
 ghost use Rattle.std.specs.List.{list_all, list_any};
 ghost use Rattle.lifecycle_core.specs.Lifecycle as words;
 ghost use Rattle.lifecycle_core.specs.Fault as faults;
@@ -9,8 +9,10 @@ use crate::parts::{ANY_STATUS, Move, MoveRight, Parts};
 use text_core::{Text, is_name, is_right_name};
 
 /// The fault with the least number that applies to the parts.
+#[tactic(auto, unfolding(crate::specs::Fault::fault_of))]
 pub(crate) fn fault_of(parts: &Parts) -> Option<LifecycleFault>
-    ensures { result ≡ faults.fault_of parts.now }
+    ensures least { result ≡ faults.fault_of parts.now }
+    ensures of_parts { IfSome result (λ f. f ≢ LifecycleFault.NoMemory) }
 {
     if !has_names(parts) {
         Some(LifecycleFault::BadName)

@@ -43,10 +43,11 @@ impl Model for Lifecycle {
 impl Lifecycle {
     /// The lifecycle of the parts, or the first fault that applies to them, by number.
     ///
-    /// `NoMemory` may stand in place of the lifecycle, where its copy of the parts is refused memory.
+    /// `NoMemory` comes only in place of a lifecycle, where its copy of the parts is refused memory, never of a fault.
     pub fn build(alloc: Global, parts: &Parts) -> Result<Lifecycle, LifecycleFault>
         ensures ok { IfOk result (λ l. (fault_of parts.now ≡ None) × (l ≡ parts.now)) }
         ensures err { IfErr result (λ e. e ≢ LifecycleFault.NoMemory → fault_of parts.now ≡ Some e) }
+        ensures memory { IfErr result (λ e. e ≡ LifecycleFault.NoMemory → fault_of parts.now ≡ None) }
     {
         match checks::fault_of(parts) {
             Some(fault) => Err(fault),
@@ -61,13 +62,9 @@ impl Lifecycle {
     /// between any two different statuses. A move to `deleted` asks for `DeleteTicket`, any other for `ModifyTicket`.
     ///
     /// The only fault is `NoMemory`.
-    #[tactic(auto, unfolding(crate::specs::Standard::default_lifecycle))]
     pub fn default_lifecycle(alloc: Global) -> Result<Lifecycle, LifecycleFault>
         ensures ok { IfOk result (λ l. l ≡ default_lifecycle) }
         ensures err { IfErr result (λ e. e ≡ LifecycleFault.NoMemory) }
-
-        // As if it were built.
-        ensures sound { fault_of default_lifecycle ≡ None }
     {
         Ok(Lifecycle {
             parts: standard::default_parts(alloc)?,
@@ -113,6 +110,7 @@ impl Lifecycle {
     /// `to` is `deleted`, and `ModifyTicket` otherwise.
     ///
     /// It answers for any two texts, also for a status and itself.
+    #[tactic(auto, unfolding(crate::specs::Lifecycle::right_of_move))]
     pub fn right_for(&self, from: &str, to: &str) -> &str
         ensures { result.now ≡ words.right_of_move self.now from.now to.now }
     {

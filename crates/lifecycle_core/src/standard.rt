@@ -1,14 +1,16 @@
-ghost use Rattle.std.specs.Prelude.{◌≡◌, ◌++◌, IfOk, map};
+ghost use Rattle.std.specs.Prelude.{◌≡◌, ◌++◌, None, IfOk, map};
+ghost use Rattle.lifecycle_core.specs.Fault.{fault_of};
 ghost use Rattle.lifecycle_core.specs.Standard as words;
 
 use crate::parts::{ANY_STATUS, Move, MoveRight, Parts};
 use std::alloc::{AllocError, Global};
 use text_core::{Sequence, Text, Texts};
 
-/// The parts of the lifecycle `default`.
-#[tactic(auto, unfolding(crate::specs::Standard::default_lifecycle))]
+/// The parts of the lifecycle `default`, which have no fault.
+#[tactic(auto, unfolding(crate::specs::Standard::default_lifecycle, crate::specs::Fault::fault_of))]
 pub(crate) fn default_parts(alloc: Global) -> Result<Parts, AllocError>
-    ensures { IfOk result (λ p. p ≡ words.default_lifecycle) }
+    ensures ok { IfOk result (λ p. p ≡ words.default_lifecycle) }
+    ensures sound { fault_of words.default_lifecycle ≡ None }
 {
     let statuses = texts_of(
         alloc,
