@@ -1,2 +1,3 @@
 pub mod DeskRows
 pub mod Lists
+pub mod Marker

@@ -1,6 +1,6 @@
 -- A script's input: settings, a line `%%`, and commands, a line each.
-use Rattle.std.specs.Prelude.{ℕ, Bool, true, false, ◌==◌, ◌||◌, nat_lt, List, [], ◌∷◌, take, drop, length, Option, Some, None, Result, Ok, Err, codes, if◌then◌else◌}
-use Rattle.std.specs.Option.{option_map, option_or}
+use Rattle.std.specs.Prelude.{ℕ, Bool, true, false, ◌==◌, ◌||◌, nat_lt, List, [], ◌∷◌, ◌++◌, take, drop, length, Option, Some, None, Result, Ok, Err, codes, if◌then◌else◌}
+use Rattle.std.specs.Option.{option_map}
 use Rattle.std.specs.List.{list_all}
 use Rattle.std.specs.Str.{bytes_eq, is_utf8}
 use Rattle.std.specs.Str.Lines.{lines}
@@ -23,18 +23,23 @@ after_marker text =
     else if bytes_eq (take 4 text) (codes "%%\r\n") then Some (drop 4 text)
     else None
 
--- with a byte more in front of the first part
-abbrev pub onto_first : ℕ → List ℕ × List ℕ → List ℕ × List ℕ
-onto_first b parts = (b ∷ parts.0, parts.1)
+-- with these bytes in front of the first part
+abbrev pub behind : List ℕ → List ℕ × List ℕ → List ℕ × List ℕ
+behind bytes parts = (bytes ++ parts.0, parts.1)
 
--- what stands before the marker and behind it, if it is at the front of a line
-abbrev pub at_marker : Bool → List ℕ → Option (List ℕ × List ℕ)
-at_marker begins text = if begins then option_map (λ rest. ([], rest)) (after_marker text) else None
+-- what follows the marker, in a text that begins a line
+abbrev pub marked : Bool → List ℕ → Option (List ℕ)
+marked begins text = if begins then after_marker text else None
+
+-- the parts where the marker stands here, and else those that are found later
+abbrev pub parted_here : Option (List ℕ) → Option (List ℕ × List ℕ) → Option (List ℕ × List ℕ)
+parted_here None later = later
+parted_here (Some rest) later = Some ([], rest)
 
 -- what stands before the first line `%%` and what stands behind it; whether the text begins a line is told
 abbrev pub parted : Bool → List ℕ → Option (List ℕ × List ℕ)
 parted begins [] = None
-parted begins (b ∷ bs) = option_or (at_marker begins (b ∷ bs)) (option_map (onto_first b) (parted (b == 10) bs))
+parted begins (b ∷ bs) = parted_here (marked begins (b ∷ bs)) (option_map (behind (b ∷ [])) (parted (b == 10) bs))
 
 -- the settings and the commands of an input
 pub record Script : Type 0 where

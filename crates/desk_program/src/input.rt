@@ -1,7 +1,7 @@
 ghost use Rattle.std.specs.Prelude.{◌≡◌, ◌≢◌, ◌≤◌, ◌<◌, ◌⊎◌, List, ℕ, Ok, Err, true, length, IfOk, IfErr, IfSome};
 ghost use Rattle.std.specs.Option.{option_map};
 ghost use Rattle.std.specs.List.{list_all};
-ghost use Rattle.desk_program.specs.Input as input;
+ghost use Rattle.desk_program.specs.Input as form;
 
 use std::alloc::Global;
 use std::io::Read;
@@ -38,9 +38,9 @@ pub(crate) struct Parts<'i> {
 
 /// The parts of an input that isn't too long.
 pub(crate) fn parts_of(input: &[u8]) -> Result<Parts<'_>, InputFault>
-    ensures ok { IfOk result (λ parts. input.script_in (input.parted true input.now)
+    ensures ok { IfOk result (λ parts. form.script_in (form.parted true input.now)
         ≡ Ok (record { settings = parts.settings.now; commands = parts.commands.now })) }
-    ensures err { IfErr result (λ fault. input.script_in (input.parted true input.now) ≡ Err fault) }
+    ensures err { IfErr result (λ fault. form.script_in (form.parted true input.now) ≡ Err fault) }
 {
     let Some((settings, rest)) = split(input) else {
         return Err(InputFault::NoMarker);
@@ -53,25 +53,30 @@ pub(crate) fn parts_of(input: &[u8]) -> Result<Parts<'_>, InputFault>
 
 /// What stands before the first line `%%`, and what stands behind it.
 fn split(input: &[u8]) -> Option<(&[u8], &[u8])>
-    ensures { option_map (λ parts. (parts.0.now, parts.1.now)) result ≡ input.parted true input.now }
+    ensures { option_map (λ parts. (parts.0.now, parts.1.now)) result ≡ form.parted true input.now }
 {
     let mut begins = true;
     for (place, byte) in input.iter().enumerate() {
-        if begins {
-            if let Some(rest) = after_marker(&input[place..]) {
-                return Some((&input[..place], rest));
-            }
+        if let Some(rest) = marked(begins, &input[place..]) {
+            return Some((&input[..place], rest));
         }
         begins = *byte == b'\n';
     }
     None
 }
 
+/// What follows a line `%%` at the front of a text that begins a line.
+fn marked(begins: bool, text: &[u8]) -> Option<&[u8]>
+    ensures { option_map (λ rest. rest.now) result ≡ form.marked begins text.now }
+{
+    if begins { after_marker(text) } else { None }
+}
+
 /// What follows a line `%%` at the front, if one stands there.
 fn after_marker(text: &[u8]) -> Option<&[u8]>
-    ensures { option_map (λ rest. rest.now) result ≡ input.after_marker text.now }
+    ensures { option_map (λ rest. rest.now) result ≡ form.after_marker text.now }
 {
-    if text == b"%%" {
+    if text == b"%%".as_slice() {
         Some(&text[2..])
     } else if text.starts_with(b"%%\n") {
         Some(&text[3..])
@@ -84,7 +89,7 @@ fn after_marker(text: &[u8]) -> Option<&[u8]>
 
 /// Whether all of a text is spaces, tabs, carriage returns and line feeds.
 pub(crate) fn is_blank(text: &[u8]) -> bool
-    ensures { result ≡ list_all input.is_blank text.now }
+    ensures { result ≡ list_all form.is_blank text.now }
 {
     text.iter().all(|b| *b == b' ' || *b == b'\t' || *b == b'\r' || *b == b'\n')
 }
