@@ -1,0 +1,15 @@
+//! What a line of text asks of the desk: its words, and the command that words spell.
+#![tactic(auto)]
+
+pub mod command;
+pub mod fault;
+mod matches;
+pub mod number;
+mod table;
+
+pub use command::command_of_words;
+pub use fault::WordsFault;
+pub use number::number_of_word;
+
+#[cfg(test)]
+mod tests;
