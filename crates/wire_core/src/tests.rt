@@ -97,7 +97,6 @@ fn no_words_of_a_command(rt: HostRuntime) -> Result<(), Fail> {
     let alloc = rt.alloc();
     let none: &[&str] = &[];
     assert!(rt; command_of(alloc, none) == Err(WordsFault::BadWords));
-    assert!(rt; command_of(alloc, &["show", ""]) == Err(WordsFault::BadWords));
     for line in [
         "fly",
         "show",
@@ -106,6 +105,7 @@ fn no_words_of_a_command(rt: HostRuntime) -> Result<(), Fail> {
         "show 4294967296",
         "show 12345678901",
         "show -1",
+        "show \"\"",
         "queue q l level",
         "create q",
         "create q s --status",
@@ -122,6 +122,42 @@ fn no_words_of_a_command(rt: HostRuntime) -> Result<(), Fail> {
         );
     }
     Ok(())
+}
+
+#[test]
+fn lines_have_words(rt: HostRuntime) -> Result<(), Fail> {
+    let alloc = rt.alloc();
+    let none: &[&str] = &[];
+    assert!(rt; words_of(alloc, "")? == strings(alloc, none)?);
+    assert!(rt; words_of(alloc, "   ")? == strings(alloc, none)?);
+    let three = strings(alloc, &["a", "b \"c\"", ""])?;
+    assert!(rt; words_of(alloc, r#"a  "b \"c\"" """#)? == three);
+    let spaced = strings(alloc, &["a", "b"])?;
+    assert!(rt; words_of(alloc, "  a   b ")? == spaced);
+    let escapes = strings(alloc, &["\\ \n\t.", "c\\n", "\td", "\u{fc}"])?;
+    assert!(rt; words_of(alloc, "\"\\\\ \\n\\t.\" c\\n \td \u{fc}")? == escapes);
+    Ok(())
+}
+
+#[test]
+fn quotes_out_of_place(rt: HostRuntime) {
+    for line in [
+        r#"a"b"#,
+        r#""ab"#,
+        r#"a ""#,
+        r#""a"b"#,
+        r#""a""b""#,
+        r#"a "b"" c"#,
+        r#""a\r""#,
+        r#""a\""#,
+        r#""a\"#,
+        "\"a\"\tb",
+    ] {
+        assert!(rt;
+            words_of(rt.alloc(), line) == Err(WordsFault::BadQuote),
+            "at {line}"
+        );
+    }
 }
 
 #[test]
