@@ -1,0 +1,17 @@
+//! What a line of text asks of the desk: its words, and the command that words spell.
+#![tactic(auto)]
+
+pub mod command;
+pub mod fault;
+mod matches;
+pub mod number;
+mod table;
+pub mod words;
+
+pub use command::command_of_words;
+pub use fault::WordsFault;
+pub use number::number_of_word;
+pub use words::words_of;
+
+#[cfg(test)]
+mod tests;

@@ -1,0 +1,102 @@
+ghost use Rattle.std.specs.Prelude.{◌≡◌, ◌≢◌, List, [], Ok, Err, Some, map, true, string_bytes, IfOk, IfErr};
+ghost use Rattle.std.specs.Option.{option_map};
+ghost use Rattle.clap.specs.Words.{App, all_of, fault_of, first_of, found_of, is_simple, is_simple_and_free, rows_of, subcommand_of, subcommand_rows_of};
+ghost use Rattle.wire_core.specs.Table as table;
+ghost use Rattle.wire_core.specs.Table.{Is};
+ghost use Rattle.wire_core.specs.Spelling.{id_of, requestors_of};
+
+use crate::fault::WordsFault;
+use crate::number::number_of_word;
+use crate::table::desk;
+use clap::error::ErrorKind;
+use clap::{ArgMatches, Command};
+use std::alloc::{AllocError, Global};
+use text_core::{Text, Texts};
+
+/// What the table makes of the words.
+pub(crate) fn matches_of<'a>(
+    alloc: Global,
+    words: &'a [String],
+) -> Result<ArgMatches<'a>, WordsFault>
+    ensures fits { IfOk result (λ _. fault_of table.desk (map string_bytes words.entry.now) ≡ []) }
+    ensures rows { IfOk result (λ m. subcommand_rows_of m ≡ subcommand_of table.desk (map string_bytes words.entry.now)) }
+    ensures bad { result ≡ Err WordsFault.BadWords → fault_of table.desk (map string_bytes words.entry.now) ≢ [] }
+    ensures kinds { IfErr result (λ e. e ≢ WordsFault.NoMemory → e ≡ WordsFault.BadWords) }
+{
+    let command = desk(alloc)?;
+    parsed(command, words)
+}
+
+/// What `clap` makes of the words, for any command.
+fn parsed<'a>(command: Command<'a>, words: &'a [String]) -> Result<ArgMatches<'a>, WordsFault>
+    ensures fits { (a : App) → Is a command.entry → is_simple_and_free a ≡ true
+        → IfOk result (λ _. fault_of a (map string_bytes words.entry.now) ≡ []) }
+    ensures rows { (a : App) → Is a command.entry → is_simple a ≡ true
+        → IfOk result (λ m. subcommand_rows_of m ≡ subcommand_of a (map string_bytes words.entry.now)) }
+    ensures bad { (a : App) → Is a command.entry → is_simple_and_free a ≡ true → result ≡ Err WordsFault.BadWords
+        → fault_of a (map string_bytes words.entry.now) ≢ [] }
+    ensures kinds { IfErr result (λ e. e ≢ WordsFault.NoMemory → e ≡ WordsFault.BadWords) }
+{
+    match command.try_get_matches_from(words) {
+        Ok(matches) => Ok(matches),
+        Err(e) => {
+            if e.kind() == ErrorKind::OutOfMemory {
+                Err(WordsFault::NoMemory)
+            } else {
+                Err(WordsFault::BadWords)
+            }
+        }
+    }
+}
+
+/// The subcommand that was met, with its matches.
+pub(crate) fn entered<'m, 'a>(matches: &'m ArgMatches<'a>) -> Option<(&'a str, &'m ArgMatches<'a>)>
+    ensures { option_map (λ p. (p.0.now, rows_of (found_of p.1.now))) result ≡ subcommand_rows_of matches.now }
+{
+    matches.subcommand()
+}
+
+/// The first word for an id.
+pub(crate) fn first<'a>(matches: &ArgMatches<'a>, id: &str) -> Option<&'a str>
+    ensures { option_map (λ s. s.now) result ≡ first_of id.now (rows_of (found_of matches.now)) }
+{
+    matches.get_str(id)
+}
+
+/// All the words for an id.
+fn all<'m, 'a>(matches: &'m ArgMatches<'a>, id: &str) -> Option<&'m [&'a str]>
+    ensures { option_map (λ s. map (λ v. v.now) s.now) result ≡ all_of id.now (rows_of (found_of matches.now)) }
+{
+    matches.get_raw(id)
+}
+
+/// The request that is meant.
+pub(crate) fn id(matches: &ArgMatches<'_>) -> Option<u32>
+    ensures { result ≡ id_of (rows_of (found_of matches.now)) }
+{
+    match first(matches, "id") {
+        Some(word) => number_of_word(word),
+        None => None,
+    }
+}
+
+/// The words for requestors, which may be none.
+pub(crate) fn requestors(alloc: Global, matches: &ArgMatches<'_>) -> Result<Texts, AllocError>
+    ensures { IfOk result (λ texts. texts ≡ requestors_of (rows_of (found_of matches.now))) }
+{
+    match all(matches, "requestor") {
+        Some(words) => texts(alloc, words),
+        None => Ok(Texts::from(Vec::new(alloc))),
+    }
+}
+
+/// Copies of the words.
+fn texts(alloc: Global, words: &[&str]) -> Result<Texts, AllocError>
+    ensures { IfOk result (λ texts. texts ≡ map (λ w. w.now) words.now) }
+{
+    let mut texts = Vec::with_capacity(alloc, words.len())?;
+    for word in words {
+        texts.push(Text::new(alloc, word)?)?;
+    }
+    Ok(Texts::from(texts))
+}
