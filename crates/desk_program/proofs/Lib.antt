@@ -1,3 +1,4 @@
+pub mod Bytes
 pub mod DeskRows
 pub mod Lists
 pub mod Marker

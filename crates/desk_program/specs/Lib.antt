@@ -1,3 +1,5 @@
 pub use Rattle.service_core.specs.Texts
 pub mod Input
 pub mod Rows
+pub mod Script
+pub mod Written

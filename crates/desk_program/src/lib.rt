@@ -2,4 +2,5 @@
 #![tactic(auto)]
 
 mod input;
+mod output;
 mod rows;

@@ -1,0 +1,26 @@
+-- Bytes that a writer has taken and a reader has lost, in more than one turn.
+use Rattle.std.proofs.Common.{◌≡◌, ◌∙◌, ℕ, ◌+◌, ◌<◌, List, [], ◌∷◌, ◌++◌, length, Option, Some, None, IfSome, refl, ap, sym, append_assoc, append-nil, length-append, arith}
+use Rattle.std.specs.Io.KnownBytes.{Appends, Consumes, IsAtEnd}
+
+pub appends_more : (a b c : Option (List ℕ)) (x y : List ℕ) → Appends a b x → Appends b c y → Appends a c (x ++ y)
+appends_more None b c x y first second = tt
+appends_more (Some xs) None c x y first second = absurd first
+appends_more (Some xs) (Some ys) None x y first second = absurd second
+appends_more (Some xs) (Some ys) (Some zs) x y first second = second ∙ ap (λ (l : List ℕ). l ++ y) first ∙ append_assoc xs x y
+
+pub appends_none : (a : Option (List ℕ)) → Appends a a []
+appends_none None = tt
+appends_none (Some xs) = sym (append-nil xs)
+
+pub consumes_more : (a b c : Option (List ℕ)) (x y : List ℕ) → Consumes a b x → Consumes b c y → Consumes a c (x ++ y)
+consumes_more None b c x y first second = tt
+consumes_more (Some xs) None c x y first second = absurd first
+consumes_more (Some xs) (Some ys) None x y first second = absurd second
+consumes_more (Some xs) (Some ys) (Some zs) x y first second = first ∙ ap (λ (l : List ℕ). x ++ l) second ∙ sym (append_assoc x y zs)
+
+-- more was lost than so many bytes, so there were more
+pub long_input : (limit : ℕ) (known left : Option (List ℕ)) (taken : List ℕ) → Consumes known left taken → limit < length taken
+    → (input : List ℕ) × (limit < length input) × IfSome known (λ all. all ≡ input)
+long_input limit None left taken lost long = (taken, long, tt)
+long_input limit (Some xs) None taken lost long = absurd lost
+long_input limit (Some xs) (Some ys) taken lost long = (xs, omega (arith, length-append taken ys, ap length lost), refl)

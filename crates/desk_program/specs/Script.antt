@@ -1,0 +1,100 @@
+-- What a script prints, and the status that it ends with.
+use Rattle.std.specs.Prelude.{◌≡◌, ℕ, Bool, true, false, ◌==◌, ◌||◌, ◌&&◌, not, List, [], ◌∷◌, ◌++◌, ◌⊎◌, Option, Some, None, Result, Ok, Err, codes, decimal, if◌then◌else◌}
+use Rattle.std.specs.List.{starts_with}
+use Rattle.std.specs.Str.Lines.{lines}
+use Rattle.settings_core.specs.Fault as settings
+use Rattle.settings_core.specs.declared.fault.SettingsFault.{SettingsFault}
+use Rattle.settings_core.specs.declared.fault.SettingsFault.TheVariants.{NoMemory}
+use Rattle.settings_core.specs.declared.settings.Settings.{Settings}
+use Rattle.desk_core.specs.declared.command.Command.{Command}
+use Rattle.desk_core.specs.declared.refusal.Refusal.TheVariants.{Unavailable}
+use Rattle.service_core.specs.Desk.{Desk, empty_desk}
+use Rattle.service_core.specs.Step.{Reply, Steps}
+use Rattle.service_core.specs.Texts.{reply_text}
+use Rattle.wire_core.specs.Number.{number_of}
+use Rattle.wire_core.specs.Spelling.{command_of}
+use Rattle.wire_core.specs.Words.{words_of}
+use Rattle.desk_program.specs.Input.{Script, script_of, settings_of}
+use Rattle.desk_program.specs.declared.input.InputFault.{InputFault}
+use Rattle.desk_program.specs.declared.input.InputFault.TheVariants.{NoMarker, TooLong, NotUtf8, Read}
+
+-- what a line of a script says: nothing, nothing that is understood, or a command by a caller at a moment
+pub data Line : Type 0 where
+  passed_over : Line
+  misspelt : Line
+  asked : ℕ → List ℕ → Command → Line
+
+-- the first byte that isn't a space is `#`
+abbrev pub is_comment : List ℕ → Bool
+is_comment [] = false
+is_comment (b ∷ bs) = if b == 32 then is_comment bs else b == 35
+
+-- an empty line, or a comment
+abbrev pub is_passed_over : List ℕ → Bool
+is_passed_over [] = true
+is_passed_over (b ∷ bs) = is_comment (b ∷ bs)
+
+abbrev pub asked_if_spelled : Option ℕ → List ℕ → Option Command → Line
+asked_if_spelled (Some at) caller (Some command) = asked at caller command
+asked_if_spelled at caller command = misspelt
+
+-- the moment, the caller, and the words of a command
+abbrev pub said_by : List (List ℕ) → Line
+said_by (at ∷ caller ∷ word ∷ words) = asked_if_spelled (number_of at) caller (command_of (word ∷ words))
+said_by fewer = misspelt
+
+abbrev pub said_if_words : Option (List (List ℕ)) → Line
+said_if_words None = misspelt
+said_if_words (Some words) = said_by words
+
+abbrev pub said : List ℕ → Line
+said text = if is_passed_over text then passed_over else said_if_words (words_of text)
+
+abbrev pub bad_words_text : List ℕ
+bad_words_text = codes "bad words\n"
+
+abbrev pub unavailable_text : List ℕ
+unavailable_text = codes "refused 16 Unavailable\n"
+
+-- What a line prints, and the desk after it. Where memory is wanting it prints that, and is left out of the run.
+abbrev pub LinePrints : Settings → Line → Desk → List ℕ → Desk → Type 0
+LinePrints settings passed_over old text new = (text ≡ []) × (new ≡ old)
+LinePrints settings misspelt old text new = ((text ≡ bad_words_text) ⊎ (text ≡ unavailable_text)) × (new ≡ old)
+LinePrints settings (asked at caller command) old text new =
+    (reply : Reply) × Steps settings at caller command old reply new × (text ≡ reply_text reply)
+
+-- one line after the other, each on the desk that the one before left
+abbrev pub Prints : Settings → List (List ℕ) → Desk → List ℕ → Desk → Type 0
+Prints settings [] old text new = (text ≡ []) × (new ≡ old)
+Prints settings (line ∷ rest) old text new =
+    (first : List ℕ) × (others : List ℕ) × (mid : Desk)
+    × LinePrints settings (said line) old first mid × Prints settings rest mid others new × (text ≡ first ++ others)
+
+-- the line of a fault of the input
+abbrev pub input_fault_text : InputFault → List ℕ
+input_fault_text NoMarker = codes "input: no %% line\n"
+input_fault_text TooLong = codes "input: too long\n"
+input_fault_text NotUtf8 = codes "input: not UTF-8\n"
+input_fault_text Read = codes "input: read\n"
+
+-- the line of a fault of the settings
+abbrev pub settings_fault_text : SettingsFault → List ℕ
+settings_fault_text fault =
+    codes "settings: " ++ (decimal (settings.number_of fault) ++ (codes " " ++ (settings.name_of fault ++ codes "\n")))
+
+-- what the commands print with these settings, or that memory for the settings was wanting
+abbrev pub IsRun : Result Settings SettingsFault → List ℕ → List ℕ → ℕ → Type 0
+IsRun (Err fault) commands text status = (text ≡ settings_fault_text fault) × (status ≡ 3)
+IsRun (Ok settings) commands text status =
+    ((text ≡ settings_fault_text NoMemory) × (status ≡ 3))
+    ⊎ (((new : Desk) × Prints settings (lines commands) empty_desk text new) × (status ≡ 0))
+
+abbrev pub IsOutputOf : Result Script InputFault → List ℕ → ℕ → Type 0
+IsOutputOf (Err fault) text status = (text ≡ input_fault_text fault) × (status ≡ 4)
+IsOutputOf (Ok script) text status = IsRun (settings_of script.settings) script.commands text status
+
+-- The text that a script prints and the status that it ends with, of all its input. Where the input couldn't be
+-- read whole, or memory for it was wanting, it prints that instead.
+abbrev pub IsOutput : List ℕ → List ℕ → ℕ → Type 0
+IsOutput input text status =
+    ((text ≡ input_fault_text Read) × (status ≡ 4)) ⊎ IsOutputOf (script_of input) text status
