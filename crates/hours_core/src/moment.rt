@@ -62,14 +62,14 @@ impl Minute {
     pub(crate) fn is_moment(self) -> bool
         ensures { result ≡ is_moment self }
     {
-        START <= self.number && self.number < END
+        START <= self.get() && self.get() < END
     }
 
     /// The minute so many minutes later, up to `END`.
     pub(crate) fn after(self, minutes: u32) -> Option<Minute>
         ensures { result ≡ minutes_after minutes self }
     {
-        match self.number.checked_add(minutes) {
+        match self.get().checked_add(minutes) {
             Some(number) => Minute::new(number),
             None => None,
         }
