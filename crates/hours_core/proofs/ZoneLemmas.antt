@@ -1,5 +1,5 @@
 -- The offset that holds is one of the zone's.
-use Rattle.std.proofs.Common.{◌≡◌, ℕ, Bool, true, false, ◌&&◌, List, [], ◌∷◌, ◌<◌, length, drop, get_or, suc, ℤ, pos, neg_ℤ, int_le, ◌≤ℤ◌, if◌then◌else◌, refl, ap, sym, ◌∙◌, arith, drop-cons}
+use Rattle.std.proofs.Common.{◌≡◌, ℕ, Bool, true, false, ◌&&◌, List, [], ◌∷◌, ◌<◌, length, drop, get_or, suc, ℤ, pos, neg_ℤ, int_le, ◌≤ℤ◌, if◌then◌else◌, refl, ap, drop-cons}
 use Rattle.std.specs.List.{list_all}
 use Rattle.std.specs.Int.Signed.{le_z_yes}
 use Rattle.std.proofs.lemmas.Float.{T_from_true}
@@ -22,8 +22,8 @@ pub offset_in : (first : ℤ) (changes : List (ℤ × ℤ)) (m : ℕ) → is_off
 offset_in first [] m h hs = h
 offset_in first (change ∷ changes) m h hs =
     offset_in (offset_after first change m) changes m
-      (chosen (int_le change.0 (pos m)) change.1 first (and-left (is_offset change.1) _ hs) h)
-      (and-right (is_offset change.1) _ hs)
+    (chosen (int_le change.0 (pos m)) change.1 first (and-left (is_offset change.1) _ hs) h)
+    (and-right (is_offset change.1) _ hs)
 
 -- the change in turn decides, and then the others
 pub offset_at-step : (offset : ℤ) (changes : List (ℤ × ℤ)) (i m : ℕ) (d : ℤ × ℤ) → i < length changes

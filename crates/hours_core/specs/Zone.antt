@@ -1,5 +1,5 @@
 -- Local time: an offset in minutes that changes at given minutes.
-use Rattle.std.specs.Prelude.{ℕ, Bool, true, not, ◌&&◌, List, [], ◌∷◌, length, nat_lt, ℤ, pos, neg_ℤ, ◌+ℤ◌, int_lt, int_le, unsigned_abs, if◌then◌else◌, Option, Some, None, Result, Ok, Err}
+use Rattle.std.specs.Prelude.{ℕ, Bool, true, not, ◌&&◌, List, [], ◌∷◌, length, nat_lt, ℤ, pos, neg_ℤ, ◌+ℤ◌, int_le, unsigned_abs, if◌then◌else◌, Result, Ok, Err}
 use Rattle.std.specs.List.{list_all}
 use Rattle.hours_core.specs.Moment.{end_minute}
 use Rattle.hours_core.specs.declared.fault.HoursFault.{HoursFault}

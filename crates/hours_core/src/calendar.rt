@@ -1,4 +1,4 @@
-ghost use Rattle.std.specs.Prelude.{◌≡◌, ◌≢◌, ◌≤◌, ◌<◌, not, pos, IfOk, IfErr, ◌==◌};
+ghost use Rattle.std.specs.Prelude.{◌≡◌, ◌≢◌, ◌≤◌, ◌<◌, not, pos, IfOk, OnOk, IfErr, ◌==◌};
 ghost use Rattle.std.specs.List.{list_any};
 ghost use Rattle.hours_core.specs.Calendar.{opens, HasHours};
 ghost use Rattle.hours_core.specs.Date.{date_of_day};
@@ -33,11 +33,9 @@ impl Calendar {
         holidays: &[u32],
         years: (i64, i64),
     ) -> Result<Calendar, HoursFault>
-        ensures valid { IfOk result (λ _. spec.calendar_fault week.now years ≡ None) }
-        ensures hours {
-            IfOk result
-                (λ c. HasHours c (record { zone = zone; week = week.now; holidays = holidays.now; years = years }))
-        }
+        ensures valid { OnOk result (spec.calendar_fault week.now years ≡ None) }
+        ensures hours { IfOk result
+            (λ c. HasHours c (record { zone = zone; week = week.now; holidays = holidays.now; years = years })) }
         ensures err { IfErr result (λ e. e ≢ HoursFault.NoMemory → spec.calendar_fault week.now years ≡ Some e) }
     {
         if !is_week(week) {
@@ -57,7 +55,6 @@ impl Calendar {
     }
 
     /// Whether the calendar is open at the minute.
-    #[tactic(auto, unfolding(crate::specs::Calendar::opens, crate::specs::Hours::is_open))]
     pub fn is_open(&self, m: Minute) -> bool
         ensures { result ≡ opens self.now m }
     {

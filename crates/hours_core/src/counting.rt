@@ -38,6 +38,10 @@ impl Calendar {
                 left -= 1;
             }
         }
-        if left == 0 { Some(Minute::at(END)) } else { None }
+        if left == 0 {
+            Some(Minute::at(END))
+        } else {
+            None
+        }
     }
 }

@@ -122,7 +122,10 @@ fn a_weekend_is_passed_over(rt: HostRuntime) -> Result<(), HoursFault> {
     assert!(rt; office.is_open(at(&rt, 29_546_999)));
     assert!(rt; !office.is_open(at(&rt, 29_547_000)));
     assert_eq!(rt; number(office.first_open(friday)), Some(29_546_970));
-    assert_eq!(rt; number(office.first_open(at(&rt, 29_547_000))), Some(29_550_780));
+    assert_eq!(rt;
+        number(office.first_open(at(&rt, 29_547_000))),
+        Some(29_550_780)
+    );
     Ok(())
 }
 
@@ -140,15 +143,24 @@ fn what_ends_on_closing_time_stays_there(rt: HostRuntime) -> Result<(), HoursFau
 #[test]
 fn a_repeated_hour_counts_twice(rt: HostRuntime) -> Result<(), HoursFault> {
     let autumn = night(&rt, 120, &[(29_881_500, 60)])?;
-    assert_eq!(rt; number(autumn.add_open(at(&rt, 29_881_320), 300)), Some(29_881_620));
+    assert_eq!(rt;
+        number(autumn.add_open(at(&rt, 29_881_320), 300)),
+        Some(29_881_620)
+    );
     Ok(())
 }
 
 #[test]
 fn a_skipped_hour_does_not_count(rt: HostRuntime) -> Result<(), HoursFault> {
     let spring = night(&rt, 60, &[(29_579_100, 120)])?;
-    assert_eq!(rt; number(spring.add_open(at(&rt, 29_578_980), 180)), Some(29_579_160));
-    assert_eq!(rt; number(spring.add_open(at(&rt, 29_578_980), 181)), Some(29_589_001));
+    assert_eq!(rt;
+        number(spring.add_open(at(&rt, 29_578_980), 180)),
+        Some(29_579_160)
+    );
+    assert_eq!(rt;
+        number(spring.add_open(at(&rt, 29_578_980), 181)),
+        Some(29_589_001)
+    );
     Ok(())
 }
 
@@ -166,7 +178,10 @@ fn a_week_may_be_empty(rt: HostRuntime) -> Result<(), HoursFault> {
     let zone = Zone::build(rt.alloc(), 0, &[])?;
     let closed = Calendar::build(rt.alloc(), zone, &week(&rt, &[], &[])?, &[], (2026, 2027))?;
     assert_eq!(rt; number(closed.first_open(at(&rt, 29_546_970))), None);
-    assert_eq!(rt; number(closed.add_open(at(&rt, 29_546_970), 0)), Some(29_546_970));
+    assert_eq!(rt;
+        number(closed.add_open(at(&rt, 29_546_970), 0)),
+        Some(29_546_970)
+    );
     Ok(())
 }
 
@@ -183,7 +198,10 @@ fn years_are_local(rt: HostRuntime) -> Result<(), HoursFault> {
     assert!(rt; !east.is_open(at(&rt, 68_374_079)));
 
     let far_west = always(&rt, -1439, &[])?;
-    assert_eq!(rt; number(far_west.first_open(at(&rt, START))), Some(15_779_519));
+    assert_eq!(rt;
+        number(far_west.first_open(at(&rt, START))),
+        Some(15_779_519)
+    );
     assert!(rt; far_west.is_open(at(&rt, 68_374_079)));
     Ok(())
 }
@@ -228,9 +246,15 @@ fn real_limits_begin_with_the_opening(rt: HostRuntime) -> Result<(), HoursFault>
     let christmas = at(&rt, 29_969_880);
     let hour = Limit::RealMinutes(60);
     let at_once = level(&rt, true)?;
-    assert_eq!(rt; number(at_once.limit_due(&office, christmas, hour)), Some(29_969_940));
+    assert_eq!(rt;
+        number(at_once.limit_due(&office, christmas, hour)),
+        Some(29_969_940)
+    );
     let opening = level(&rt, false)?;
-    assert_eq!(rt; number(opening.limit_due(&office, christmas, hour)), Some(29_974_200));
+    assert_eq!(rt;
+        number(opening.limit_due(&office, christmas, hour)),
+        Some(29_974_200)
+    );
     Ok(())
 }
 
@@ -248,7 +272,11 @@ fn limits_at_the_ends(rt: HostRuntime) -> Result<(), HoursFault> {
         (Limit::BusinessMinutes(1), None),
         (Limit::BusinessMinutes(4_294_967_295), None),
     ] {
-        assert_eq!(rt; number(at_once.limit_due(&office, last, limit)), want, "at {limit:?}");
+        assert_eq!(rt;
+            number(at_once.limit_due(&office, last, limit)),
+            want,
+            "at {limit:?}"
+        );
     }
     let opening = level(&rt, false)?;
     let friday = at(&rt, 29_547_000);
@@ -258,9 +286,16 @@ fn limits_at_the_ends(rt: HostRuntime) -> Result<(), HoursFault> {
         (Limit::BusinessMinutes(60), Some(29_550_840)),
         (Limit::RealMinutes(4_294_967_295), None),
     ] {
-        assert_eq!(rt; number(opening.limit_due(&office, friday, limit)), want, "at {limit:?}");
+        assert_eq!(rt;
+            number(opening.limit_due(&office, friday, limit)),
+            want,
+            "at {limit:?}"
+        );
     }
-    assert_eq!(rt; number(opening.limit_due(&office, last, Limit::RealMinutes(0))), None);
+    assert_eq!(rt;
+        number(opening.limit_due(&office, last, Limit::RealMinutes(0))),
+        None
+    );
     Ok(())
 }
 
@@ -272,11 +307,20 @@ fn faults_of_a_zone(rt: HostRuntime) -> Result<(), Fail> {
     assert_eq!(rt; Zone::build(alloc, 1440, &[]).err(), bad_offset);
     assert_eq!(rt; Zone::build(alloc, -1440, &[]).err(), bad_offset);
     assert_eq!(rt; Zone::build(alloc, i64::MIN, &[]).err(), bad_offset);
-    assert_eq!(rt; Zone::build(alloc, 0, &[(-1, 0), (5, 1440)]).err(), bad_offset);
+    assert_eq!(rt;
+        Zone::build(alloc, 0, &[(-1, 0), (5, 1440)]).err(),
+        bad_offset
+    );
     assert_eq!(rt; Zone::build(alloc, 0, &[(-1, 0)]).err(), out_of_order);
-    assert_eq!(rt; Zone::build(alloc, 0, &[(68_374_081, 0)]).err(), out_of_order);
+    assert_eq!(rt;
+        Zone::build(alloc, 0, &[(68_374_081, 0)]).err(),
+        out_of_order
+    );
     assert_eq!(rt; Zone::build(alloc, 0, &[(i64::MAX, 0)]).err(), out_of_order);
-    assert_eq!(rt; Zone::build(alloc, 0, &[(7, 0), (7, 60)]).err(), out_of_order);
+    assert_eq!(rt;
+        Zone::build(alloc, 0, &[(7, 0), (7, 60)]).err(),
+        out_of_order
+    );
     assert!(rt; Zone::build(alloc, -1439, &[(0, 1439), (68_374_080, 0)]).is_ok());
 
     let mut changes = Vec::new(alloc);
@@ -285,9 +329,15 @@ fn faults_of_a_zone(rt: HostRuntime) -> Result<(), Fail> {
     }
     assert!(rt; Zone::build(alloc, 0, changes.as_slice()).is_ok());
     changes.push((400, 60))?;
-    assert_eq!(rt; Zone::build(alloc, 0, changes.as_slice()).err(), Some(HoursFault::TooManyChanges));
+    assert_eq!(rt;
+        Zone::build(alloc, 0, changes.as_slice()).err(),
+        Some(HoursFault::TooManyChanges)
+    );
     changes.push((400, 60))?;
-    assert_eq!(rt; Zone::build(alloc, 0, changes.as_slice()).err(), out_of_order);
+    assert_eq!(rt;
+        Zone::build(alloc, 0, changes.as_slice()).err(),
+        out_of_order
+    );
     Ok(())
 }
 
@@ -306,8 +356,14 @@ fn fault_of(
 fn faults_of_a_calendar(rt: HostRuntime) -> Result<(), HoursFault> {
     let bad_interval = Some(HoursFault::BadInterval);
     let good = (2000, 2099);
-    assert_eq!(rt; fault_of(&rt, &[(0, 1), (1, 2), (2, 3), (1439, 1440)], good)?, None);
-    assert_eq!(rt; fault_of(&rt, &[(0, 1), (1, 2), (2, 3), (3, 4), (4, 5)], good)?, bad_interval);
+    assert_eq!(rt;
+        fault_of(&rt, &[(0, 1), (1, 2), (2, 3), (1439, 1440)], good)?,
+        None
+    );
+    assert_eq!(rt;
+        fault_of(&rt, &[(0, 1), (1, 2), (2, 3), (3, 4), (4, 5)], good)?,
+        bad_interval
+    );
     assert_eq!(rt; fault_of(&rt, &[(600, 540)], good)?, bad_interval);
     assert_eq!(rt; fault_of(&rt, &[(600, 600)], good)?, bad_interval);
     assert_eq!(rt; fault_of(&rt, &[(0, 1441)], good)?, bad_interval);

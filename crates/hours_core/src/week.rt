@@ -68,7 +68,5 @@ pub fn has_interval_at(week: &[Intervals], day: u32, minute: u32) -> bool
 fn is_in_one(intervals: &[(u16, u16)], minute: u32) -> bool
     ensures { result ≡ list_any (spec.is_within minute) intervals.now }
 {
-    intervals
-        .iter()
-        .any(|interval| interval.0 as u32 <= minute && minute < interval.1 as u32)
+    intervals.iter().any(|interval| interval.0 as u32 <= minute && minute < interval.1 as u32)
 }

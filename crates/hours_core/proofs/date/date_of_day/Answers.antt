@@ -1,4 +1,4 @@
-use Rattle.std.proofs.Common.{◌/◌, arith}
+use Rattle.std.proofs.Common.{arith}
 use Rattle.std.proofs.lemmas.Int.{ints}
 use Rattle.hours_core.proofs.DateLemmas.{only}
 use Rattle.hours_core.proofs.date.date_of_day.Goals as goal

@@ -1,4 +1,4 @@
-use Rattle.std.proofs.Common.{◌≡◌, ℕ, ◌+◌, ◌<◌, ◌≤◌, true, false, ◌==◌, eqb, Option, Some, None, refl, ap, sym, ◌∙◌, arith, eq-eqb}
+use Rattle.std.proofs.Common.{◌≡◌, ◌+◌, ◌≤◌, true, false, Some, None, refl, ap, sym, ◌∙◌, arith, eq-eqb}
 use Rattle.std.proofs.lemmas.Bool.{ne_eqb}
 use Rattle.hours_core.specs.Calendar.{opens}
 use Rattle.hours_core.specs.Counting.{count, has_passed}
@@ -16,7 +16,7 @@ loop-number-init c = record {
 pub returns-then-left-eq0-clause-end : goal.returns-then-left-eq0-clause-end
 returns-then-left-eq0-clause-end c =
     let passed : has_passed (opens c.args.self.now) c.args.m c.args.n c.loop-number.number ≡ true =
-        eq-eqb _ _ (omega (arith, c.loop-number.invariant.passed)) in
+    eq-eqb _ _ (omega (arith, c.loop-number.invariant.passed)) in
     let here = least-here (has_passed (opens c.args.self.now) c.args.m c.args.n) c.loop-number.number (end_minute + 1) (omega arith) passed in
     ap Some c.at-end.ensures ∙ sym here ∙ c.loop-number.invariant.not_before
 
@@ -30,14 +30,14 @@ loop-number-preserved c =
     let n = c.loop-number.number in
     let from : c.args.m ≤ n = omega (arith, c.get-number.ensures.number) in
     let passed_by : count p c.args.m (n + 1) + c.if-is_open.left ≡ c.args.n =
-        elim c.if-is_open.branch [
-          | then-is_open w ↦
-              let open_here : p n ≡ true = cc in
-              omega (arith, count-open p c.args.m n from open_here, c.loop-number.invariant.passed)
-          | else-is_open w ↦
-              let closed : p n ≡ false = cc in
-              omega (arith, count-closed p c.args.m n from closed, c.loop-number.invariant.passed)
-        ] in
+    elim c.if-is_open.branch [
+      | then-is_open w ↦
+          let open_here : p n ≡ true = cc in
+          omega (arith, count-open p c.args.m n from open_here, c.loop-number.invariant.passed)
+      | else-is_open w ↦
+          let closed : p n ≡ false = cc in
+          omega (arith, count-closed p c.args.m n from closed, c.loop-number.invariant.passed)
+    ] in
     let not_yet : has_passed p c.args.m c.args.n n ≡ false = ne_eqb _ _ (λ e. omega (arith, c.loop-number.invariant.passed)) in
     record {
       passed = passed_by;
@@ -48,7 +48,7 @@ pub returns-then-left-eq0-2-clause-end : goal.returns-then-left-eq0-2-clause-end
 returns-then-left-eq0-2-clause-end c =
     let last : c.loop-number.number ≡ end_minute = omega arith in
     let passed : has_passed (opens c.args.self.now) c.args.m c.args.n c.loop-number.number ≡ true =
-        eq-eqb _ _ (omega (arith, c.loop-number.invariant.passed)) in
+    eq-eqb _ _ (omega (arith, c.loop-number.invariant.passed)) in
     let here = least-here (has_passed (opens c.args.self.now) c.args.m c.args.n) c.loop-number.number (end_minute + 1) (omega arith) passed in
     ap Some (c.at.ensures ∙ sym last) ∙ sym here ∙ c.loop-number.invariant.not_before
 

@@ -1,4 +1,4 @@
-use Rattle.std.proofs.Common.{refl, rules}
+use Rattle.std.proofs.Common.{refl}
 use Rattle.hours_core.specs.Calendar.{opens}
 use Rattle.hours_core.proofs.calendar.Calendar.build.Goals as goal
 

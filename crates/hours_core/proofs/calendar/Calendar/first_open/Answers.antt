@@ -1,4 +1,4 @@
-use Rattle.std.proofs.Common.{◌≡◌, ◌<◌, true, false, Option, Some, None, ap, sym, ◌∙◌, arith}
+use Rattle.std.proofs.Common.{◌≡◌, true, false, Some, None, ap, sym, ◌∙◌, arith}
 use Rattle.hours_core.specs.Calendar.{opens}
 use Rattle.hours_core.specs.Moment.{end_minute}
 use Rattle.hours_core.proofs.LeastLemmas.{least-here, least-later, least-end, law}
