@@ -1,1 +1,3 @@
 pub mod DateLemmas
+pub mod LeastLemmas
+pub mod ZoneLemmas

@@ -1,2 +1,9 @@
+pub mod Calendar
+pub mod Counting
 pub mod Date
+pub mod Fault
+pub mod Hours
+pub mod Least
+pub mod Limit
 pub mod Moment
+pub mod Zone

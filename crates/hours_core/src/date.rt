@@ -1,6 +1,7 @@
-ghost use Rattle.std.specs.Prelude.{◌≡◌, ℕ, ◌+◌, ◌/◌, pos, ◌≤ℤ◌};
+ghost use Rattle.std.specs.Prelude.{◌≡◌, ℕ, ◌+◌, ◌/◌, pos, ◌≤◌, ◌≤ℤ◌};
 ghost use Rattle.jiff.specs.Words.{epoch_day, IsBetween};
-ghost use Rattle.hours_core.specs.Date.{date_of_minute, date_of_day, digit_of, text_of_minute, IsDateOfDay};
+ghost use Rattle.hours_core.specs.Date as spec;
+ghost use Rattle.hours_core.specs.Date.{date_of_minute, digit_of, text_of_minute, IsDateOfDay};
 
 use crate::moment::Minute;
 use jiff::ToSpan;
@@ -11,7 +12,25 @@ pub fn date_of(m: Minute) -> (u16, u8, u8)
     ensures counted { result ≡ date_of_minute m }
     ensures calendar { IsDateOfDay (m / 1440) result }
 {
-    let found = civil_date((m.get() / 1440) as i64);
+    date_of_day(m.get() / 1440)
+}
+
+/// The year of the day with this number of days since 1970-01-01.
+pub(crate) fn year_of_day(day: u32) -> u16
+    requires { day ≤ 60000 }
+    ensures { result ≡ (spec.date_of_day day).0 }
+{
+    let (year, _, _) = date_of_day(day);
+    year
+}
+
+/// The year, the month and the day of the day with this number of days since 1970-01-01.
+fn date_of_day(day: u32) -> (u16, u8, u8)
+    requires { day ≤ 60000 }
+    ensures counted { result ≡ spec.date_of_day day }
+    ensures calendar { IsDateOfDay day result }
+{
+    let found = civil_date(day as i64);
     (found.year() as u16, found.month() as u8, found.day() as u8)
 }
 

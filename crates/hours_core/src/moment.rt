@@ -1,5 +1,6 @@
 ghost use Rattle.std.specs.Prelude.{◌≡◌, if◌then◌else◌};
-ghost use Rattle.hours_core.specs.Moment.{is_due_moment, IsDueMoment};
+ghost use Rattle.hours_core.specs.Limit.{minutes_after};
+ghost use Rattle.hours_core.specs.Moment.{is_moment, is_due_moment, IsDueMoment};
 
 use std::marker::Model;
 
@@ -47,5 +48,30 @@ impl Minute {
         ensures range { IsDueMoment result }
     {
         self.number
+    }
+
+    /// The minute with this number, for where it is known to be one.
+    pub(crate) fn at(n: u32) -> Minute
+        requires { IsDueMoment n }
+        ensures { result ≡ n }
+    {
+        Minute { number: n }
+    }
+
+    /// Whether something may happen at the minute: at `END` nothing does.
+    pub(crate) fn is_moment(self) -> bool
+        ensures { result ≡ is_moment self }
+    {
+        START <= self.get() && self.get() < END
+    }
+
+    /// The minute so many minutes later, up to `END`.
+    pub(crate) fn after(self, minutes: u32) -> Option<Minute>
+        ensures { result ≡ minutes_after minutes self }
+    {
+        match self.get().checked_add(minutes) {
+            Some(number) => Minute::new(number),
+            None => None,
+        }
     }
 }

@@ -1,11 +1,4 @@
-use Rattle.std.proofs.Common.{◌/◌, arith}
-use Rattle.std.proofs.lemmas.Int.{ints}
-use Rattle.hours_core.proofs.DateLemmas.{only}
 use Rattle.hours_core.proofs.date.date_of.Goals as goal
 
 pub returns-clause-calendar : goal.returns-clause-calendar
-returns-clause-calendar c =
-    (c.civil_date-found.result, omega (arith, ints), omega (arith, ints), omega (arith, ints), omega (arith, ints, c.civil_date-found.ensures.number))
-
-pub returns-clause-counted : goal.returns-clause-counted
-returns-clause-counted c = only (c.args.m / 1440) _ (omega (arith, c.get.ensures.range)) (returns-clause-calendar c)
+returns-clause-calendar c = rw (← c.get.ensures.number) c.date_of_day.ensures.calendar

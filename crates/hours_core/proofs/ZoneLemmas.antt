@@ -1,0 +1,41 @@
+-- The offset that holds is one of the zone's.
+use Rattle.std.proofs.Common.{◌≡◌, ℕ, Bool, true, false, ◌&&◌, List, [], ◌∷◌, ◌<◌, length, drop, get_or, suc, ℤ, pos, neg_ℤ, int_le, ◌≤ℤ◌, if◌then◌else◌, refl, ap, drop-cons}
+use Rattle.std.specs.List.{list_all}
+use Rattle.std.specs.Int.Signed.{le_z_yes}
+use Rattle.std.proofs.lemmas.Float.{T_from_true}
+use Rattle.hours_core.specs.Zone.{offset_at, offset_after, is_offset}
+
+and-left : (a b : Bool) → (a && b) ≡ true → a ≡ true
+and-left true b e = refl
+and-left false b e = e
+
+and-right : (a b : Bool) → (a && b) ≡ true → b ≡ true
+and-right true b e = e
+and-right false b e = cc
+
+chosen : (t : Bool) (a b : ℤ) → is_offset a ≡ true → is_offset b ≡ true → is_offset (if t then a else b) ≡ true
+chosen true a b p q = p
+chosen false a b p q = q
+
+pub offset_in : (first : ℤ) (changes : List (ℤ × ℤ)) (m : ℕ) → is_offset first ≡ true → list_all (λ change. is_offset change.1) changes ≡ true
+    → is_offset (offset_at first changes m) ≡ true
+offset_in first [] m h hs = h
+offset_in first (change ∷ changes) m h hs =
+    offset_in (offset_after first change m) changes m
+    (chosen (int_le change.0 (pos m)) change.1 first (and-left (is_offset change.1) _ hs) h)
+    (and-right (is_offset change.1) _ hs)
+
+-- the change in turn decides, and then the others
+pub offset_at-step : (offset : ℤ) (changes : List (ℤ × ℤ)) (i m : ℕ) (d : ℤ × ℤ) → i < length changes
+    → offset_at offset (drop i changes) m ≡ offset_at (offset_after offset (get_or changes i d) m) (drop (suc i) changes) m
+offset_at-step offset changes i m d h = ap (λ (cs : List (ℤ × ℤ)). offset_at offset cs m) (drop-cons changes i d h)
+
+bounds : (z : ℤ) → is_offset z ≡ true → (neg_ℤ (pos 1439) ≤ℤ z) × (z ≤ℤ pos 1439)
+bounds z h =
+    (le_z_yes (T_from_true _ (and-left (int_le (neg_ℤ (pos 1439)) z) _ h)), le_z_yes (T_from_true _ (and-right (int_le (neg_ℤ (pos 1439)) z) _ h)))
+
+-- so it is less than a day
+pub offset_at-bounds : (first : ℤ) (changes : List (ℤ × ℤ)) (m : ℕ) → (is_offset first && list_all (λ change. is_offset change.1) changes) ≡ true
+    → (neg_ℤ (pos 1439) ≤ℤ offset_at first changes m) × (offset_at first changes m ≤ℤ pos 1439)
+offset_at-bounds first changes m h =
+    bounds _ (offset_in first changes m (and-left (is_offset first) _ h) (and-right (is_offset first) _ h))

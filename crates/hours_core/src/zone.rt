@@ -1,0 +1,115 @@
+ghost use Rattle.std.specs.Prelude.{◌≡◌, ◌≢◌, ◌≤◌, ◌+◌, true, ◌&&◌, length, pos, ◌+ℤ◌, ◌≤ℤ◌, neg_ℤ, IfOk, IfErr};
+ghost use Rattle.std.specs.List.{list_all};
+ghost use Rattle.hours_core.specs.Moment.{end_minute};
+ghost use Rattle.hours_core.specs.Zone as spec;
+
+use crate::fault::HoursFault;
+use crate::moment::{END, Minute};
+use std::alloc::Global;
+use std::marker::Model;
+
+/// The most changes of a zone.
+const MAX_CHANGES: usize = 400;
+
+/// The offset of local time, which contracts see as its first value and its changes.
+#[derive(Debug, Drop)]
+pub struct Zone {
+    first: i64,
+    changes: Vec<(i64, i64)>,
+}
+
+impl Model for Zone {
+    ghost use Rattle.std.specs.Prelude.{◌≡◌, ◌&&◌, true};
+    ghost use Rattle.std.specs.List.{list_all};
+    ghost use Rattle.hours_core.specs.Zone.{Offsets, is_offset};
+
+    ghost Value = { Offsets };
+
+    ghost view = { λ z. record { first = z.first; changes = z.changes.items } };
+
+    ghost invariant = { λ z. (is_offset z.first && list_all (λ change. is_offset change.1) z.changes.items) ≡ true };
+}
+
+impl Zone {
+    /// A zone whose local time is that many minutes before or after UTC, until each change, a minute and the offset that
+    /// holds from there on, has its turn.
+    ///
+    /// Refused are an offset of a day or more, a change outside of 0 to `END` or not after the one before, over 400
+    /// changes, in this order, and want of memory.
+    pub fn build(alloc: Global, first: i64, changes: &[(i64, i64)]) -> Result<Zone, HoursFault>
+        ensures ok { IfOk result (λ z. spec.zone_of first changes.now ≡ Ok z) }
+        ensures err { IfErr result (λ e. e ≢ HoursFault.NoMemory → spec.zone_of first changes.now ≡ Err e) }
+    {
+        if !(is_offset(first) && have_offsets(changes)) {
+            return Err(HoursFault::BadOffset);
+        }
+        if !are_in_order(changes) {
+            return Err(HoursFault::ChangesOutOfOrder);
+        }
+        if changes.len() > MAX_CHANGES {
+            return Err(HoursFault::TooManyChanges);
+        }
+        let changes = Vec::from_slice(alloc, changes)?;
+        Ok(Zone { first, changes })
+    }
+
+    /// The minute that a clock of the zone shows, counted as moments are.
+    pub(crate) fn local_minute(&self, m: Minute) -> u32
+        ensures minute { result ≡ spec.local_minute self.now m }
+        ensures range { result ≤ end_minute + 1439 }
+    {
+        let number = m.get();
+        (number as i64 + offset_at(self.first, self.changes.as_slice(), number)) as u32
+    }
+}
+
+/// The offset of the last change at or before the minute, or the first.
+fn offset_at(first: i64, changes: &[(i64, i64)], m: u32) -> i64
+    requires { (spec.is_offset first && list_all (λ change. spec.is_offset change.1) changes.now) ≡ true }
+    ensures offset { result ≡ spec.offset_at first changes.now m }
+    ensures range { (neg_ℤ (pos 1439) ≤ℤ result) × (result ≤ℤ pos 1439) }
+{
+    let mut offset = first;
+    for change in changes {
+        offset = offset_after(offset, *change, m);
+    }
+    offset
+}
+
+/// The change's offset where the change is at or before the minute, else the one that held before.
+fn offset_after(offset: i64, change: (i64, i64), m: u32) -> i64
+    ensures { result ≡ spec.offset_after offset change m }
+{
+    if change.0 <= m as i64 {
+        change.1
+    } else {
+        offset
+    }
+}
+
+/// Whether the offset is less than a day.
+fn is_offset(minutes: i64) -> bool
+    ensures { result ≡ spec.is_offset minutes }
+{
+    -1439 <= minutes && minutes <= 1439
+}
+
+fn have_offsets(changes: &[(i64, i64)]) -> bool
+    ensures { result ≡ list_all (λ change. spec.is_offset change.1) changes.now }
+{
+    changes.iter().all(|change| is_offset(change.1))
+}
+
+/// Whether the changes lie from 0 to `END`, each after the one before.
+fn are_in_order(changes: &[(i64, i64)]) -> bool
+    ensures { result ≡ spec.are_in_order (pos 0) changes.now }
+{
+    let mut earliest = 0;
+    for change in changes {
+        if !(earliest <= change.0 && change.0 <= END as i64) {
+            return false;
+        }
+        earliest = change.0 + 1;
+    }
+    true
+}
