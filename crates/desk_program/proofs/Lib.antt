@@ -2,3 +2,5 @@ pub mod Bytes
 pub mod DeskRows
 pub mod Lists
 pub mod Marker
+pub mod Stays
+pub mod Printing

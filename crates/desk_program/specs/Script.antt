@@ -15,14 +15,10 @@ use Rattle.wire_core.specs.Number.{number_of}
 use Rattle.wire_core.specs.Spelling.{command_of}
 use Rattle.wire_core.specs.Words.{words_of}
 use Rattle.desk_program.specs.Input.{Script, script_of, settings_of}
+use Rattle.desk_program.specs.declared.line.Line.{Line}
+use Rattle.desk_program.specs.declared.line.Line.TheVariants.{PassedOver, BadWords, Asked}
 use Rattle.desk_program.specs.declared.input.InputFault.{InputFault}
 use Rattle.desk_program.specs.declared.input.InputFault.TheVariants.{NoMarker, TooLong, NotUtf8, Read}
-
--- what a line of a script says: nothing, nothing that is understood, or a command by a caller at a moment
-pub data Line : Type 0 where
-  passed_over : Line
-  misspelt : Line
-  asked : ℕ → List ℕ → Command → Line
 
 -- the first byte that isn't a space is `#`
 abbrev pub is_comment : List ℕ → Bool
@@ -35,20 +31,20 @@ is_passed_over [] = true
 is_passed_over (b ∷ bs) = is_comment (b ∷ bs)
 
 abbrev pub asked_if_spelled : Option ℕ → List ℕ → Option Command → Line
-asked_if_spelled (Some at) caller (Some command) = asked at caller command
-asked_if_spelled at caller command = misspelt
+asked_if_spelled (Some at) caller (Some command) = Asked at caller command
+asked_if_spelled at caller command = BadWords
 
--- the moment, the caller, and the words of a command
+-- the moment, the caller, and the words of a command, which no words are none of
 abbrev pub said_by : List (List ℕ) → Line
-said_by (at ∷ caller ∷ word ∷ words) = asked_if_spelled (number_of at) caller (command_of (word ∷ words))
-said_by fewer = misspelt
+said_by (at ∷ caller ∷ words) = asked_if_spelled (number_of at) caller (command_of words)
+said_by fewer = BadWords
 
 abbrev pub said_if_words : Option (List (List ℕ)) → Line
-said_if_words None = misspelt
+said_if_words None = BadWords
 said_if_words (Some words) = said_by words
 
 abbrev pub said : List ℕ → Line
-said text = if is_passed_over text then passed_over else said_if_words (words_of text)
+said text = if is_passed_over text then PassedOver else said_if_words (words_of text)
 
 abbrev pub bad_words_text : List ℕ
 bad_words_text = codes "bad words\n"
@@ -58,9 +54,9 @@ unavailable_text = codes "refused 16 Unavailable\n"
 
 -- What a line prints, and the desk after it. Where memory is wanting it prints that, and is left out of the run.
 abbrev pub LinePrints : Settings → Line → Desk → List ℕ → Desk → Type 0
-LinePrints settings passed_over old text new = (text ≡ []) × (new ≡ old)
-LinePrints settings misspelt old text new = ((text ≡ bad_words_text) ⊎ (text ≡ unavailable_text)) × (new ≡ old)
-LinePrints settings (asked at caller command) old text new =
+LinePrints settings PassedOver old text new = (text ≡ []) × (new ≡ old)
+LinePrints settings BadWords old text new = ((text ≡ bad_words_text) ⊎ (text ≡ unavailable_text)) × (new ≡ old)
+LinePrints settings (Asked at caller command) old text new =
     (reply : Reply) × Steps settings at caller command old reply new × (text ≡ reply_text reply)
 
 -- one line after the other, each on the desk that the one before left
@@ -82,19 +78,27 @@ abbrev pub settings_fault_text : SettingsFault → List ℕ
 settings_fault_text fault =
     codes "settings: " ++ (decimal (settings.number_of fault) ++ (codes " " ++ (settings.name_of fault ++ codes "\n")))
 
--- what the commands print with these settings, or that memory for the settings was wanting
+-- the text and the status of an input that couldn't be read whole, or for which memory was wanting
+abbrev pub IsUnread : List ℕ → ℕ → Type 0
+IsUnread text status = (text ≡ input_fault_text Read) × (status ≡ 4)
+
+-- what the commands print on an empty desk
+abbrev pub IsOfCommands : Settings → List ℕ → List ℕ → ℕ → Type 0
+IsOfCommands settings commands text status =
+    IsUnread text status
+    ⊎ (((new : Desk) × Prints settings (lines commands) empty_desk text new) × (status ≡ 0))
+
+-- what is printed with these settings, unless memory for them was wanting
 abbrev pub IsRun : Result Settings SettingsFault → List ℕ → List ℕ → ℕ → Type 0
 IsRun (Err fault) commands text status = (text ≡ settings_fault_text fault) × (status ≡ 3)
 IsRun (Ok settings) commands text status =
-    ((text ≡ settings_fault_text NoMemory) × (status ≡ 3))
-    ⊎ (((new : Desk) × Prints settings (lines commands) empty_desk text new) × (status ≡ 0))
+    ((text ≡ settings_fault_text NoMemory) × (status ≡ 3)) ⊎ IsOfCommands settings commands text status
 
-abbrev pub IsOutputOf : Result Script InputFault → List ℕ → ℕ → Type 0
-IsOutputOf (Err fault) text status = (text ≡ input_fault_text fault) × (status ≡ 4)
-IsOutputOf (Ok script) text status = IsRun (settings_of script.settings) script.commands text status
+-- what is printed of a script, or of the fault of its input
+abbrev pub IsPrinted : Result Script InputFault → List ℕ → ℕ → Type 0
+IsPrinted (Err fault) text status = (text ≡ input_fault_text fault) × (status ≡ 4)
+IsPrinted (Ok script) text status = IsRun (settings_of script.settings) script.commands text status
 
--- The text that a script prints and the status that it ends with, of all its input. Where the input couldn't be
--- read whole, or memory for it was wanting, it prints that instead.
+-- the text that a script prints and the status that it ends with, of all its input
 abbrev pub IsOutput : List ℕ → List ℕ → ℕ → Type 0
-IsOutput input text status =
-    ((text ≡ input_fault_text Read) × (status ≡ 4)) ⊎ IsOutputOf (script_of input) text status
+IsOutput input text status = IsUnread text status ⊎ IsPrinted (script_of input) text status

@@ -1,11 +1,11 @@
 -- What a writer has taken of a text.
-use Rattle.std.specs.Prelude.{◌≡◌, ℕ, Bool, true, false, List, Option, ◌⊎◌, take}
+use Rattle.std.specs.Prelude.{◌≡◌, ℕ, Bool, true, false, List, ◌++◌, Option, ◌⊎◌}
 use Rattle.std.specs.Io.KnownBytes.{Appends}
 
--- all of the text was taken, or a part from its front
+-- all of the text was taken, or a part from its front and not the rest
 abbrev pub Takes : Bool → Option (List ℕ) → Option (List ℕ) → List ℕ → Type 0
 Takes true old new text = Appends old new text
-Takes false old new text = (n : ℕ) × Appends old new (take n text)
+Takes false old new text = (part : List ℕ) × (rest : List ℕ) × (text ≡ part ++ rest) × Appends old new part
 
 -- all was taken, and the status is this one, or a part was, and it is 4
 abbrev pub Ends : Option (List ℕ) → Option (List ℕ) → List ℕ → ℕ → ℕ → Type 0

@@ -2,5 +2,9 @@
 #![tactic(auto)]
 
 mod input;
+mod line;
 mod output;
 mod rows;
+mod script;
+
+pub use script::run_script;

@@ -1,10 +1,21 @@
 -- what a write took goes behind what was taken before
-use Rattle.std.proofs.Common.{◌≡◌, ◌≤◌, ◌+◌, ◌++◌, length, take, drop, arith, length-drop}
+use Rattle.std.proofs.Common.{◌≡◌, ◌≤◌, ◌+◌, ◌-◌, ◌++◌, length, take, drop, ap, sym, subst, arith, length-drop}
+use Rattle.std.proofs.Math.Seq.{take-add}
 use Rattle.std.proofs.lemmas.List.{take_all}
+use Rattle.std.specs.Io.KnownBytes.{Appends}
 use Rattle.desk_program.proofs.Bytes.{appends_more}
 use Rattle.desk_program.proofs.output.put.Goals as goal
 
 pub loop-taken-preserved : goal.loop-taken-preserved
 loop-taken-preserved g c =
-    let some = c.in-Ok.ensures.bytes in
-    let bound = c.in-Ok.ensures.bound in ?
+    let rest = drop c.loop-taken.taken c.args.bytes.now in
+    let fits : length rest ≤ length c.args.bytes.now - c.loop-taken.taken = simp length-drop (omega arith) in
+    let whole : take (length c.args.bytes.now - c.loop-taken.taken) rest ≡ rest = take_all _ rest fits in
+    let some = rw whole at c.in-Ok.ensures.bytes in
+    let bound = rw whole at c.in-Ok.ensures.bound in
+    let both = appends_more (g.W.Write.contents c.args.writer.now) (g.W.Write.contents c.loop-taken.writer) (g.W.Write.contents c.write.new.self)
+    (take c.loop-taken.taken c.args.bytes.now) (take c.in-Ok.count rest) c.loop-taken.invariant.taken some in
+    record {
+      taken = rw (take-add c.loop-taken.taken c.in-Ok.count c.args.bytes.now) both;
+      within = omega (arith, simp length-drop at bound);
+    }

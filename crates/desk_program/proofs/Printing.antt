@@ -1,0 +1,61 @@
+-- Lines that print one after the other, and how much of it is written.
+use Rattle.std.proofs.Common.{◌≡◌, ◌∙◌, ◌⊎◌, inl, inr, ℕ, ◌+◌, ◌<◌, Bool, true, false, List, [], ◌∷◌, ◌++◌, map, take, drop, length, Option, Some, None, Result, Ok, Err, refl, ap, sym, subst, append_assoc, append-nil}
+use Rattle.settings_core.specs.declared.settings.Settings.{Settings}
+use Rattle.desk_core.specs.declared.command.Command.{Command}
+use Rattle.desk_core.specs.declared.refusal.Refusal.TheVariants.{Unavailable}
+use Rattle.service_core.specs.Desk.{Desk}
+use Rattle.wire_core.specs.Number.{number_of}
+use Rattle.wire_core.specs.Spelling.{command_of}
+use Rattle.wire_core.specs.Words.{words_of}
+use Rattle.desk_program.specs.Script.{LinePrints, Prints, asked_if_spelled, bad_words_text, is_passed_over, said, said_by, said_if_words, unavailable_text}
+use Rattle.desk_program.specs.declared.line.Line.{Line}
+use Rattle.desk_program.specs.declared.line.Line.TheVariants.{PassedOver, BadWords, Asked}
+
+from_here : (s : Settings) (old mid : Desk) (lines : List (List ℕ)) (text : List ℕ) (new : Desk) → mid ≡ old → Prints s lines mid text new → Prints s lines old text new
+from_here s old mid lines text new e h = subst (λ (d : Desk). Prints s lines d text new) e h
+
+-- lines print, and then more lines
+pub prints_all : (s : Settings) (lines more : List (List ℕ)) (old mid new : Desk) (text others : List ℕ)
+    → Prints s lines old text mid → Prints s more mid others new → Prints s (lines ++ more) old (text ++ others) new
+prints_all s [] more old mid new text others h g =
+    subst (λ (t : List ℕ). Prints s more old (t ++ others) new) (sym h.0) (from_here s old mid more others new h.1 g)
+prints_all s (line ∷ lines) more old mid new text others (first, rest, next, prints, run, whole) g =
+    (first, rest ++ others, next, prints, prints_all s lines more next mid new rest others run g,
+    ap (λ (t : List ℕ). t ++ others) whole ∙ append_assoc first rest others)
+
+-- one line prints
+pub prints_one : (s : Settings) (line : List ℕ) (old new : Desk) (text : List ℕ) → LinePrints s (said line) old text new → Prints s (line ∷ []) old text new
+prints_one s line old new text h = (text, [], new, h, (refl, refl), sym (append-nil text))
+
+prints_something : (s : Settings) (line : Line) (old : Desk) → (text : List ℕ) × LinePrints s line old text old
+prints_something s PassedOver old = ([], refl, refl)
+prints_something s BadWords old = (bad_words_text, inl refl, refl)
+prints_something s (Asked at caller command) old = (unavailable_text, Err Unavailable, inl (refl, refl), refl)
+
+-- whatever comes, lines print something
+pub prints_on : (s : Settings) (lines : List (List ℕ)) (old : Desk) → (text : List ℕ) × (new : Desk) × Prints s lines old text new
+prints_on s [] old = ([], old, refl, refl)
+prints_on s (line ∷ lines) old =
+    let first = prints_something s (said line) old in
+    let rest = prints_on s lines old in
+    (first.0 ++ rest.0, rest.1, first.0, rest.0, old, first.1, rest.2, refl)
+
+asked_unavailable : (s : Settings) (at : Option ℕ) (caller : List ℕ) (command : Option Command) (desk : Desk)
+    → LinePrints s (asked_if_spelled at caller command) desk unavailable_text desk
+asked_unavailable s (Some at) caller (Some command) desk = (Err Unavailable, inl (refl, refl), refl)
+asked_unavailable s (Some at) caller None desk = (inr refl, refl)
+asked_unavailable s None caller command desk = (inr refl, refl)
+
+words_unavailable : (s : Settings) (words : List (List ℕ)) (desk : Desk) → LinePrints s (said_by words) desk unavailable_text desk
+words_unavailable s [] desk = (inr refl, refl)
+words_unavailable s (at ∷ []) desk = (inr refl, refl)
+words_unavailable s (at ∷ caller ∷ words) desk = asked_unavailable s (number_of at) caller (command_of words) desk
+
+if_words_unavailable : (s : Settings) (words : Option (List (List ℕ))) (desk : Desk) → LinePrints s (said_if_words words) desk unavailable_text desk
+if_words_unavailable s None desk = (inr refl, refl)
+if_words_unavailable s (Some words) desk = words_unavailable s words desk
+
+-- a line that isn't passed over may print that memory was wanting, and is then left out
+pub unavailable_prints : (s : Settings) (line : List ℕ) (desk : Desk) → is_passed_over line ≡ false
+    → LinePrints s (said line) desk unavailable_text desk
+unavailable_prints s line desk e = rw e (if_words_unavailable s (words_of line) desk)
