@@ -1,7 +1,6 @@
 -- words that don't fit the table spell no command
 use Rattle.std.proofs.Common.{◌≡◌, ◌≢◌, List, [], ◌∷◌, Option, None, Err, ap, refl, rules}
 use Rattle.clap.specs.Words.{Kinds, Row, Text}
-use Rattle.desk_core.specs.declared.command.Command.{Command}
 use Rattle.wire_core.specs.Spelling.{unless_fault}
 use Rattle.wire_core.specs.declared.fault.WordsFault.TheVariants.{BadWords}
 use Rattle.wire_core.proofs.command.command_of_words.Goals as goal
