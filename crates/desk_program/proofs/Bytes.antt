@@ -1,6 +1,6 @@
 -- Bytes that a writer has taken and a reader has lost, in more than one turn.
-use Rattle.std.proofs.Common.{◌≡◌, ◌∙◌, ℕ, ◌+◌, ◌<◌, List, [], ◌∷◌, ◌++◌, length, Option, Some, None, IfSome, refl, ap, sym, append_assoc, append-nil, length-append, arith}
-use Rattle.std.specs.Io.KnownBytes.{Appends, Consumes, IsAtEnd}
+use Rattle.std.proofs.Common.{◌≡◌, ◌∙◌, ℕ, ◌+◌, ◌<◌, List, [], ◌∷◌, ◌++◌, length, take, Option, Some, None, IfSome, refl, ap, sym, subst, append_assoc, append-nil, length-append, arith}
+use Rattle.std.specs.Io.KnownBytes.{Appends, Consumes, Keeps}
 
 pub appends_more : (a b c : Option (List ℕ)) (x y : List ℕ) → Appends a b x → Appends b c y → Appends a c (x ++ y)
 appends_more None b c x y first second = tt
@@ -24,3 +24,16 @@ pub long_input : (limit : ℕ) (known left : Option (List ℕ)) (taken : List �
 long_input limit None left taken lost long = (taken, long, tt)
 long_input limit (Some xs) None taken lost long = absurd lost
 long_input limit (Some xs) (Some ys) taken lost long = (xs, omega (arith, length-append taken ys, ap length lost), refl)
+
+-- no byte more
+pub nothing_more : (a b c : Option (List ℕ)) (x w : List ℕ) (n : ℕ) → n ≡ 0 → Appends a b x → Appends b c (take n w) → Appends a c x
+nothing_more a b c x w n none first second =
+    let empty : take n w ≡ [] = ap (λ (k : ℕ). take k w) none in
+    let both = appends_more a b c x (take n w) first second in
+    subst (λ (l : List ℕ). Appends a c l) (ap (λ (l : List ℕ). x ++ l) empty ∙ append-nil x) both
+
+pub keeps_more : (a b c : Option (List ℕ)) (x : List ℕ) → Appends a b x → Keeps b c → Appends a c x
+keeps_more None b c x first second = tt
+keeps_more (Some xs) None c x first second = absurd first
+keeps_more (Some xs) (Some ys) None x first second = absurd second
+keeps_more (Some xs) (Some ys) (Some zs) x first second = second ∙ first

@@ -4,3 +4,4 @@ pub mod Lists
 pub mod Marker
 pub mod Stays
 pub mod Printing
+pub mod Endings

@@ -1,9 +1,13 @@
 -- Lines that print one after the other, and how much of it is written.
-use Rattle.std.proofs.Common.{◌≡◌, ◌∙◌, ◌⊎◌, inl, inr, ℕ, ◌+◌, ◌<◌, Bool, true, false, List, [], ◌∷◌, ◌++◌, map, take, drop, length, Option, Some, None, Result, Ok, Err, refl, ap, sym, subst, append_assoc, append-nil}
+use Rattle.std.proofs.Common.{◌≡◌, ◌∙◌, ◌⊎◌, inl, inr, ℕ, ◌+◌, ◌<◌, Bool, true, false, List, [], ◌∷◌, ◌++◌, map, take, drop, length, get_or, Bor, Option, Some, None, Result, Ok, Err, refl, ap, sym, subst, append_assoc, append-nil}
 use Rattle.settings_core.specs.declared.settings.Settings.{Settings}
 use Rattle.desk_core.specs.declared.command.Command.{Command}
 use Rattle.desk_core.specs.declared.refusal.Refusal.TheVariants.{Unavailable}
-use Rattle.service_core.specs.Desk.{Desk}
+use Rattle.std.specs.Fmt.{digits, decimal}
+use Rattle.std.specs.Io.KnownBytes.{Appends}
+use Rattle.std.proofs.lemmas.List.{map-append, map_more, take-append-drop}
+use Rattle.service_core.specs.Desk.{Desk, empty_desk}
+use Rattle.service_core.specs.Texts.{reply_text}
 use Rattle.wire_core.specs.Number.{number_of}
 use Rattle.wire_core.specs.Spelling.{command_of}
 use Rattle.wire_core.specs.Words.{words_of}
@@ -27,22 +31,29 @@ prints_all s (line ∷ lines) more old mid new text others (first, rest, next, p
 pub prints_one : (s : Settings) (line : List ℕ) (old new : Desk) (text : List ℕ) → LinePrints s (said line) old text new → Prints s (line ∷ []) old text new
 prints_one s line old new text h = (text, [], new, h, (refl, refl), sym (append-nil text))
 
+sixteen : decimal 16 ≡ 49 ∷ 54 ∷ []
+unfolding digits
+sixteen = refl
+
+unavailable_is : unavailable_text ≡ reply_text (Err Unavailable)
+unavailable_is = rw sixteen refl
+
 prints_something : (s : Settings) (line : Line) (old : Desk) → (text : List ℕ) × LinePrints s line old text old
-prints_something s PassedOver old = ([], refl, refl)
-prints_something s BadWords old = (bad_words_text, inl refl, refl)
-prints_something s (Asked at caller command) old = (unavailable_text, Err Unavailable, inl (refl, refl), refl)
+prints_something s PassedOver old = ([], (refl, refl))
+prints_something s BadWords old = (bad_words_text, (inl refl, refl))
+prints_something s (Asked at caller command) old = (unavailable_text, (Err Unavailable, inl (refl, refl), unavailable_is))
 
 -- whatever comes, lines print something
 pub prints_on : (s : Settings) (lines : List (List ℕ)) (old : Desk) → (text : List ℕ) × (new : Desk) × Prints s lines old text new
-prints_on s [] old = ([], old, refl, refl)
+prints_on s [] old = ([], old, (refl, refl))
 prints_on s (line ∷ lines) old =
     let first = prints_something s (said line) old in
     let rest = prints_on s lines old in
-    (first.0 ++ rest.0, rest.1, first.0, rest.0, old, first.1, rest.2, refl)
+    (first.0 ++ rest.0, rest.1, (first.0, rest.0, old, first.1, rest.2, refl))
 
 asked_unavailable : (s : Settings) (at : Option ℕ) (caller : List ℕ) (command : Option Command) (desk : Desk)
     → LinePrints s (asked_if_spelled at caller command) desk unavailable_text desk
-asked_unavailable s (Some at) caller (Some command) desk = (Err Unavailable, inl (refl, refl), refl)
+asked_unavailable s (Some at) caller (Some command) desk = (Err Unavailable, inl (refl, refl), unavailable_is)
 asked_unavailable s (Some at) caller None desk = (inr refl, refl)
 asked_unavailable s None caller command desk = (inr refl, refl)
 
@@ -59,3 +70,29 @@ if_words_unavailable s (Some words) desk = words_unavailable s words desk
 pub unavailable_prints : (s : Settings) (line : List ℕ) (desk : Desk) → is_passed_over line ≡ false
     → LinePrints s (said line) desk unavailable_text desk
 unavailable_prints s line desk e = rw e (if_words_unavailable s (words_of line) desk)
+
+-- the lines so far and one more
+pub run_more : (s : Settings) (lines : List (Bor (List ℕ))) (i : ℕ) (d : Bor (List ℕ)) → i < length lines → (mid new : Desk) (text piece : List ℕ)
+    → Prints s (map (λ l. l.now) (take i lines)) empty_desk text mid → LinePrints s (said (get_or lines i d).now) mid piece new
+    → Prints s (map (λ l. l.now) (take (i + 1) lines)) empty_desk (text ++ piece) new
+run_more s lines i d within mid new text piece run prints =
+    let one = prints_one s (get_or lines i d).now mid new piece prints in
+    let all = prints_all s (map (λ l. l.now) (take i lines)) ((get_or lines i d).now ∷ []) empty_desk mid new text piece run one in
+    subst (λ (ls : List (List ℕ)). Prints s ls empty_desk (text ++ piece) new) (sym (map_more (λ l. l.now) lines i d within)) all
+
+-- the same, with something that the rest prints
+pub run_on : (s : Settings) (lines : List (Bor (List ℕ))) (i : ℕ) (d : Bor (List ℕ)) → i < length lines → (mid new : Desk) (text piece : List ℕ)
+    → Prints s (map (λ l. l.now) (take i lines)) empty_desk text mid → LinePrints s (said (get_or lines i d).now) mid piece new
+    → (others : List ℕ) × (last : Desk) × Prints s (map (λ l. l.now) lines) empty_desk ((text ++ piece) ++ others) last
+run_on s lines i d within mid new text piece run prints =
+    let rest = prints_on s (map (λ l. l.now) (drop (i + 1) lines)) new in
+    let all = prints_all s (map (λ l. l.now) (take (i + 1) lines)) (map (λ l. l.now) (drop (i + 1) lines)) empty_desk new rest.1 (text ++ piece) rest.0
+        (run_more s lines i d within mid new text piece run prints) rest.2 in
+    let whole : map (λ (l : Bor (List ℕ)). l.now) (take (i + 1) lines) ++ map (λ (l : Bor (List ℕ)). l.now) (drop (i + 1) lines) ≡ map (λ (l : Bor (List ℕ)). l.now) lines =
+        sym (map-append (λ (l : Bor (List ℕ)). l.now) (take (i + 1) lines) (drop (i + 1) lines)) ∙ ap (map (λ (l : Bor (List ℕ)). l.now)) (take-append-drop (i + 1) lines) in
+    (rest.0, rest.1, subst (λ (ls : List (List ℕ)). Prints s ls empty_desk ((text ++ piece) ++ rest.0) rest.1) whole all)
+
+pub cut_short : (text part left others piece : List ℕ) → piece ≡ part ++ left → (text ++ piece) ++ others ≡ (text ++ part) ++ (left ++ others)
+cut_short text part left others piece e =
+    ap (λ (p : List ℕ). (text ++ p) ++ others) e ∙ ap (λ (l : List ℕ). l ++ others) (sym (append_assoc text part left))
+    ∙ append_assoc (text ++ part) left others

@@ -1,5 +1,6 @@
 ghost use Rattle.std.specs.Prelude.{◌≡◌, ◌≢◌, ℕ, true, List, map, string_bytes, IfOk, IfErr, IfSome, Ok, Err};
 ghost use Rattle.std.specs.Str.Lines.{lines as lines_of_text};
+ghost use Rattle.settings_core.specs.Settings.{built_in_settings};
 ghost use Rattle.service_core.specs.Desk.{Desk, empty_desk};
 ghost use Rattle.desk_program.specs.Input as form;
 ghost use Rattle.desk_program.specs.Rows.{desk_of};
@@ -71,6 +72,7 @@ fn run_parts<W: Write>(alloc: Global, settings: &[u8], commands: &str, writer: &
 fn settings_of(alloc: Global, text: &[u8]) -> Result<Settings, SettingsFault>
     ensures ok { IfOk result (λ settings. form.settings_of text.now ≡ Ok settings) }
     ensures err { IfErr result (λ fault. fault ≢ SettingsFault.NoMemory → form.settings_of text.now ≡ Err fault) }
+    ensures memory { result ≡ Err SettingsFault.NoMemory → form.settings_of text.now ≡ Ok built_in_settings }
 {
     if is_blank(text) {
         Settings::built_in(alloc)

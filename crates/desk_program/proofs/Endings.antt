@@ -1,0 +1,39 @@
+-- What is printed where a script doesn't come to its commands.
+use Rattle.std.proofs.Common.{◌≡◌, ◌≢◌, ◌<◌, inl, inr, ℕ, List, [], ◌∷◌, length, Option, Some, None, IfSome, Result, Ok, Err, refl, ap, sym, subst}
+use Rattle.std.proofs.lemmas.Bool.{lt-ltb}
+use Rattle.settings_core.specs.Settings.{built_in_settings}
+use Rattle.settings_core.specs.declared.fault.SettingsFault.{SettingsFault}
+use Rattle.settings_core.specs.declared.fault.SettingsFault.TheVariants.{UnknownKey, NoMemory}
+use Rattle.settings_core.specs.declared.settings.Settings.{Settings}
+use Rattle.desk_program.specs.Input.{input_limit, script_of}
+use Rattle.desk_program.specs.Script.{IsOutput, IsPrinted, IsRun, input_fault_text, settings_fault_text}
+use Rattle.desk_program.specs.declared.input.InputFault.{InputFault}
+use Rattle.desk_program.specs.declared.input.InputFault.TheVariants.{NoMarker, TooLong, NotUtf8, Read}
+
+-- the settings have a fault, or memory for them was wanting
+pub settings_end : (settings : Result Settings SettingsFault) (fault : SettingsFault) (commands text : List ℕ)
+    → text ≡ settings_fault_text fault → (fault ≢ NoMemory → settings ≡ Err fault) → (fault ≡ NoMemory → settings ≡ Ok built_in_settings)
+    → IsRun settings commands text 3
+settings_end settings UnknownKey commands text shown other memory =
+    let known : settings ≡ Err UnknownKey = other (λ e. cc) in
+    subst (λ (s : Result Settings SettingsFault). IsRun s commands text 3) (sym known) (shown, refl)
+settings_end settings NoMemory commands text shown other memory =
+    subst (λ (s : Result Settings SettingsFault). IsRun s commands text 3) (sym (memory refl)) (inl (shown, refl))
+
+abbrev pub EndsInput : Option (List ℕ) → List ℕ → Type 0
+EndsInput known text = (input : List ℕ) × IfSome known (λ all. all ≡ input) × IsOutput input text 4
+
+unread : (known : Option (List ℕ)) (text : List ℕ) → text ≡ input_fault_text Read → EndsInput known text
+unread None text shown = ([], tt, inl (shown, refl))
+unread (Some xs) text shown = (xs, refl, inl (shown, refl))
+
+-- the input is too long, or couldn't be read whole
+pub input_end : (known : Option (List ℕ)) (fault : InputFault) (text : List ℕ) → text ≡ input_fault_text fault
+    → (fault ≢ TooLong → fault ≡ Read) → (fault ≡ TooLong → (input : List ℕ) × (input_limit < length input) × IfSome known (λ all. all ≡ input))
+    → EndsInput known text
+input_end known NoMarker text shown other long = let no : NoMarker ≡ Read = other (λ e. cc) in cc
+input_end known NotUtf8 text shown other long = let no : NotUtf8 ≡ Read = other (λ e. cc) in cc
+input_end known Read text shown other long = unread known text shown
+input_end known TooLong text shown other long =
+    let all = long refl in
+    (all.0, all.2, inr (rw (lt-ltb input_limit (length all.0) all.1) (shown, refl)))
