@@ -1,0 +1,1 @@
+-- tests have no definitions of their own

@@ -1,0 +1,77 @@
+//! Readers and writers that do less than they could.
+use std::io::{Error, ErrorKind, Read, Result, Write};
+
+/// A reader that gives one byte at a time, and fails after so many reads, if told to.
+#[derive(Drop)]
+pub struct Slow<'b> {
+    pub bytes: &'b [u8],
+    pub reads: u32,
+    pub fails_at: Option<u32>,
+}
+
+impl Read for Slow<'_> {
+    fn read(&mut self, buf: &mut [u8]) -> Result<usize> {
+        if self.fails_at == Some(self.reads) {
+            return Err(Error::from(ErrorKind::BrokenPipe));
+        }
+        self.reads = self.reads.saturating_add(1);
+        let Some((first, rest)) = self.bytes.split_first() else {
+            return Ok(0);
+        };
+        if buf.is_empty() {
+            return Ok(0);
+        }
+        buf[0] = *first;
+        self.bytes = rest;
+        Ok(1)
+    }
+}
+
+/// A reader that never ends.
+#[derive(Drop)]
+pub struct Endless {
+    pub reads: u32,
+}
+
+impl Read for Endless {
+    fn read(&mut self, buf: &mut [u8]) -> Result<usize> {
+        self.reads = self.reads.saturating_add(1);
+        if buf.is_empty() {
+            return Ok(0);
+        }
+        buf[0] = b'#';
+        Ok(1)
+    }
+}
+
+/// A writer that takes so many bytes, and then none, or fails.
+#[derive(Drop)]
+pub struct Narrow {
+    pub taken: Vec<u8>,
+    pub room: usize,
+    pub fails: bool,
+    pub writes: u32,
+}
+
+impl Write for Narrow {
+    fn write(&mut self, buf: &[u8]) -> Result<usize> {
+        self.writes = self.writes.saturating_add(1);
+        match buf.first() {
+            Some(byte) if self.taken.len() < self.room => {
+                self.taken.push(*byte)?;
+                Ok(1)
+            }
+            _ => {
+                if self.fails {
+                    Err(Error::from(ErrorKind::BrokenPipe))
+                } else {
+                    Ok(0)
+                }
+            }
+        }
+    }
+
+    fn flush(&mut self) -> Result<()> {
+        Ok(())
+    }
+}
