@@ -65,7 +65,7 @@ fn readers_in_any_pieces(rt: HostRuntime) {
 
 #[test]
 fn readers_that_fail(rt: HostRuntime) {
-    for fails_at in [0u32, 1, 50, 91] {
+    for fails_at in [0u32, 1, 50, 85] {
         let mut reader = Slow {
             bytes: SCRIPT,
             reads: 0,
