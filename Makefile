@@ -1,11 +1,11 @@
-# The gate and the first look. Nothing has to be set up: `rt` is the toolchain's one command.
+# Nothing has to be set up beforehand: `rt` is the toolchain's one command.
 PREFIX ?= /usr/local
 
 .PHONY: demo test desk install
 
-# The printer script, run without any proof, within a minute on a fresh machine.
+# The first look: the printer script, run within about a minute on a fresh machine, before any proof.
 demo:
-	@echo "Not proved: this runs the desk as it stands, before any proof. 'make test' proves it."
+	@echo "Not proved: this runs the desk as it stands. 'make test' proves it."
 	cd crates/desk && rt try < ../../examples/printer.desk
 
 # The gate: every proof from nothing, every must-fail edit, every test and every stored run.
@@ -14,7 +14,7 @@ test:
 
 # The proved program, as bin/desk.
 desk:
-	cd crates/desk && rt run < /dev/null > /dev/null; test -x crates/desk/out/desk
+	cd crates/desk && rt run < ../../examples/printer.desk
 	mkdir -p bin
 	cp crates/desk/out/desk bin/desk
 
