@@ -64,7 +64,8 @@ fn plain(rt: &(impl AllocGlobal + Abort)) -> Result<Shown, AllocError> {
     })
 }
 
-const PLAIN_TEXT: &str = "id: 1\nqueue: general\nsubject: printer broken\nstatus: open\nowner: Nobody\n\
+const PLAIN_TEXT: &str =
+    "id: 1\nqueue: general\nsubject: printer broken\nstatus: open\nowner: Nobody\n\
     requestors: root\ncc: -\nadmincc: -\nlevel: -\ncreated: 2026-03-06 17:30\ndue: -\n\
     DependsOn: -\nDependedOnBy: -\nMemberOf: -\nHasMember: -\nRefersTo: -\nReferredToBy: -\n";
 
@@ -102,7 +103,10 @@ fn requests_line_by_line(rt: HostRuntime) -> Result<(), Fail> {
 fn texts_of_answers(rt: HostRuntime) -> Result<(), Fail> {
     let alloc = rt.alloc();
     assert_eq!(rt; answer_text(alloc, &Answer::Done)?.as_str(), "ok\n");
-    assert_eq!(rt; answer_text(alloc, &Answer::Created(7))?.as_str(), "request 7\n");
+    assert_eq!(rt;
+        answer_text(alloc, &Answer::Created(7))?.as_str(),
+        "request 7\n"
+    );
     let shown = Answer::Shown(plain(&rt)?);
     assert_eq!(rt; answer_text(alloc, &shown)?.as_str(), PLAIN_TEXT);
     Ok(())

@@ -4,7 +4,12 @@ use std::test::Fail;
 #[test]
 fn built_in_settings(rt: HostRuntime) -> Result<(), Fail> {
     let settings = Settings::built_in(rt.alloc())?;
-    for (person, want) in [("root", true), ("zoe", false), ("", false), ("roots", false)] {
+    for (person, want) in [
+        ("root", true),
+        ("zoe", false),
+        ("", false),
+        ("roots", false),
+    ] {
         assert_eq!(rt; settings.people().knows(person), want, "of {person}");
     }
     assert_eq!(rt; settings.max_requests(), 1_000_000);
