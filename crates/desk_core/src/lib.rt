@@ -19,3 +19,6 @@ pub use decision::decide;
 pub use facts::{Facts, RequestFacts};
 pub use refusal::Refusal;
 pub use rows::{Entry, EntryKind, QueueRow, RequestRow, Turn, WatchRole, Watcher};
+
+#[cfg(test)]
+mod tests;

@@ -6,3 +6,6 @@ pub mod texts;
 
 pub use shown::show_text;
 pub use texts::{answer_text, refusal_text};
+
+#[cfg(test)]
+mod tests;

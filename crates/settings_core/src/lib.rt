@@ -10,3 +10,6 @@ pub mod settings;
 pub use fault::SettingsFault;
 pub use people::People;
 pub use settings::Settings;
+
+#[cfg(test)]
+mod tests;

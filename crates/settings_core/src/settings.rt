@@ -2,13 +2,11 @@ ghost use Rattle.std.specs.Prelude.{◌≡◌, IfOk, IfErr};
 ghost use Rattle.std.specs.Option.{option_map};
 ghost use Rattle.settings_core.specs.Settings.{built_in_settings, standard_lifecycle, people_of, lifecycle_named, request_limit, entry_limit};
 
-use std::alloc::Global;
-
-use lifecycle_core::Lifecycle;
-use text_core::{Sequence, Text, Texts};
-
 use crate::fault::SettingsFault;
 use crate::people::People;
+use lifecycle_core::Lifecycle;
+use std::alloc::Global;
+use text_core::{Sequence, Text, Texts};
 
 /// The most requests that settings may allow.
 pub const MAX_REQUESTS: u32 = 1_000_000;
