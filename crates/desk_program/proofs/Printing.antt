@@ -1,10 +1,9 @@
 -- Lines that print one after the other, and how much of it is written.
-use Rattle.std.proofs.Common.{◌≡◌, ◌∙◌, ◌⊎◌, inl, inr, ℕ, ◌+◌, ◌<◌, Bool, true, false, List, [], ◌∷◌, ◌++◌, map, take, drop, length, get_or, Bor, Option, Some, None, Result, Ok, Err, refl, ap, sym, subst, append_assoc, append-nil}
+use Rattle.std.proofs.Common.{◌≡◌, ◌∙◌, inl, inr, ℕ, ◌+◌, ◌<◌, false, List, [], ◌∷◌, ◌++◌, map, take, drop, length, get_or, Bor, Option, Some, None, Err, refl, ap, sym, subst, append_assoc, append-nil}
 use Rattle.settings_core.specs.declared.settings.Settings.{Settings}
 use Rattle.desk_core.specs.declared.command.Command.{Command}
 use Rattle.desk_core.specs.declared.refusal.Refusal.TheVariants.{Unavailable}
 use Rattle.std.specs.Fmt.{digits, decimal}
-use Rattle.std.specs.Io.KnownBytes.{Appends}
 use Rattle.std.proofs.lemmas.List.{map-append, map_more, take-append-drop}
 use Rattle.service_core.specs.Desk.{Desk, empty_desk}
 use Rattle.service_core.specs.Texts.{reply_text}
@@ -23,9 +22,14 @@ pub prints_all : (s : Settings) (lines more : List (List ℕ)) (old mid new : De
     → Prints s lines old text mid → Prints s more mid others new → Prints s (lines ++ more) old (text ++ others) new
 prints_all s [] more old mid new text others h g =
     subst (λ (t : List ℕ). Prints s more old (t ++ others) new) (sym h.0) (from_here s old mid more others new h.1 g)
-prints_all s (line ∷ lines) more old mid new text others (first, rest, next, prints, run, whole) g =
-    (first, rest ++ others, next, prints, prints_all s lines more next mid new rest others run g,
-    ap (λ (t : List ℕ). t ++ others) whole ∙ append_assoc first rest others)
+prints_all s (line ∷ lines) more old mid new text others (first, rest, next, prints, run, whole) g = (
+  first,
+  rest ++ others,
+  next,
+  prints,
+  prints_all s lines more next mid new rest others run g,
+  ap (λ (t : List ℕ). t ++ others) whole ∙ append_assoc first rest others,
+)
 
 -- one line prints
 pub prints_one : (s : Settings) (line : List ℕ) (old new : Desk) (text : List ℕ) → LinePrints s (said line) old text new → Prints s (line ∷ []) old text new
@@ -87,9 +91,9 @@ pub run_on : (s : Settings) (lines : List (Bor (List ℕ))) (i : ℕ) (d : Bor (
 run_on s lines i d within mid new text piece run prints =
     let rest = prints_on s (map (λ l. l.now) (drop (i + 1) lines)) new in
     let all = prints_all s (map (λ l. l.now) (take (i + 1) lines)) (map (λ l. l.now) (drop (i + 1) lines)) empty_desk new rest.1 (text ++ piece) rest.0
-        (run_more s lines i d within mid new text piece run prints) rest.2 in
+    (run_more s lines i d within mid new text piece run prints) rest.2 in
     let whole : map (λ (l : Bor (List ℕ)). l.now) (take (i + 1) lines) ++ map (λ (l : Bor (List ℕ)). l.now) (drop (i + 1) lines) ≡ map (λ (l : Bor (List ℕ)). l.now) lines =
-        sym (map-append (λ (l : Bor (List ℕ)). l.now) (take (i + 1) lines) (drop (i + 1) lines)) ∙ ap (map (λ (l : Bor (List ℕ)). l.now)) (take-append-drop (i + 1) lines) in
+    sym (map-append (λ (l : Bor (List ℕ)). l.now) (take (i + 1) lines) (drop (i + 1) lines)) ∙ ap (map (λ (l : Bor (List ℕ)). l.now)) (take-append-drop (i + 1) lines) in
     (rest.0, rest.1, subst (λ (ls : List (List ℕ)). Prints s ls empty_desk ((text ++ piece) ++ rest.0) rest.1) whole all)
 
 pub cut_short : (text part left others piece : List ℕ) → piece ≡ part ++ left → (text ++ piece) ++ others ≡ (text ++ part) ++ (left ++ others)

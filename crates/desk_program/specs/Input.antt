@@ -1,9 +1,8 @@
 -- A script's input: settings, a line `%%`, and commands, a line each.
-use Rattle.std.specs.Prelude.{ℕ, Bool, true, false, ◌==◌, ◌||◌, nat_lt, List, [], ◌∷◌, ◌++◌, take, drop, length, Option, Some, None, Result, Ok, Err, codes, if◌then◌else◌}
+use Rattle.std.specs.Prelude.{ℕ, Bool, true, ◌==◌, ◌||◌, nat_lt, List, [], ◌∷◌, ◌++◌, take, drop, length, Option, Some, None, Result, Ok, Err, codes, if◌then◌else◌}
 use Rattle.std.specs.Option.{option_map}
 use Rattle.std.specs.List.{list_all}
 use Rattle.std.specs.Str.{bytes_eq, is_utf8}
-use Rattle.std.specs.Str.Lines.{lines}
 use Rattle.settings_core.specs.Settings.{built_in_settings}
 use Rattle.settings_core.specs.declared.fault.SettingsFault.{SettingsFault}
 use Rattle.settings_core.specs.declared.fault.SettingsFault.TheVariants.{UnknownKey}

@@ -1,5 +1,5 @@
 -- The desk that a list of rows stands for.
-use Rattle.std.specs.Prelude.{List, map}
+use Rattle.std.specs.Prelude.{map}
 use Rattle.service_core.specs.Desk.{Desk, Request}
 use Rattle.desk_program.specs.declared.rows.Kept.{Kept}
 use Rattle.desk_program.specs.declared.rows.Rows.{Rows}

@@ -1,5 +1,5 @@
 -- no marker stands so far, so that what is before it begins with what was passed
-use Rattle.std.proofs.Common.{◌≡◌, ◌++◌, true, take, drop}
+use Rattle.std.proofs.Common.{◌≡◌, true, take, drop}
 use Rattle.std.specs.Option.{option_map}
 use Rattle.desk_program.specs.Input.{behind, parted}
 use Rattle.desk_program.proofs.input.split.Given as goal

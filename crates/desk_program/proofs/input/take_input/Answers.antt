@@ -1,6 +1,5 @@
 -- the bytes taken so far are more than an input may have
-use Rattle.std.proofs.Common.{◌≡◌, ◌<◌, ◌++◌, List, ℕ, length, subst, sym, arith}
-use Rattle.std.specs.Io.KnownBytes.{Consumes}
+use Rattle.std.proofs.Common.{◌<◌, ◌++◌, length, arith}
 use Rattle.desk_program.specs.Input.{input_limit}
 use Rattle.desk_program.proofs.Bytes.{consumes_more, long_input}
 use Rattle.desk_program.proofs.input.take_input.Goals as goal

@@ -1,8 +1,7 @@
 -- what a write took goes behind what was taken before
-use Rattle.std.proofs.Common.{◌≡◌, ◌≤◌, ◌+◌, ◌-◌, ◌++◌, length, take, drop, ap, sym, subst, arith, length-drop}
+use Rattle.std.proofs.Common.{◌≡◌, ◌≤◌, ◌-◌, length, take, drop, sym, arith, length-drop}
 use Rattle.std.proofs.Math.Seq.{take-add}
 use Rattle.std.proofs.lemmas.List.{take-append-drop, take_all}
-use Rattle.std.specs.Io.KnownBytes.{Appends}
 use Rattle.desk_program.proofs.Bytes.{appends_more, keeps_more, nothing_more}
 use Rattle.desk_program.proofs.output.put.Goals as goal
 
@@ -22,13 +21,19 @@ loop-taken-preserved g c =
 
 pub returns-in-Ok-eq0 : goal.returns-in-Ok-eq0
 returns-in-Ok-eq0 g c =
-    let none : c.in-Ok-eq0.field-0 ≡ 0 = omega arith in
-    (take c.loop-taken.taken c.args.bytes.now, drop c.loop-taken.taken c.args.bytes.now, sym (take-append-drop c.loop-taken.taken c.args.bytes.now),
-    nothing_more (g.W.Write.contents c.args.writer.now) (g.W.Write.contents c.loop-taken.writer) (g.W.Write.contents c.write.new.self) _ _
-        c.in-Ok-eq0.field-0 none c.loop-taken.invariant.taken c.in-Ok-eq0.ensures.bytes)
+    let none : c.in-Ok-eq0.field-0 ≡ 0 = omega arith in (
+      take c.loop-taken.taken c.args.bytes.now,
+      drop c.loop-taken.taken c.args.bytes.now,
+      sym (take-append-drop c.loop-taken.taken c.args.bytes.now),
+      nothing_more (g.W.Write.contents c.args.writer.now) (g.W.Write.contents c.loop-taken.writer) (g.W.Write.contents c.write.new.self) _ _
+          c.in-Ok-eq0.field-0 none c.loop-taken.invariant.taken c.in-Ok-eq0.ensures.bytes,
+    )
 
 pub returns-in-Err : goal.returns-in-Err
-returns-in-Err g c =
-    (take c.loop-taken.taken c.args.bytes.now, drop c.loop-taken.taken c.args.bytes.now, sym (take-append-drop c.loop-taken.taken c.args.bytes.now),
-    keeps_more (g.W.Write.contents c.args.writer.now) (g.W.Write.contents c.loop-taken.writer) (g.W.Write.contents c.write.new.self) _
-        c.loop-taken.invariant.taken c.in-Err.ensures.bytes)
+returns-in-Err g c = (
+  take c.loop-taken.taken c.args.bytes.now,
+  drop c.loop-taken.taken c.args.bytes.now,
+  sym (take-append-drop c.loop-taken.taken c.args.bytes.now),
+  keeps_more (g.W.Write.contents c.args.writer.now) (g.W.Write.contents c.loop-taken.writer) (g.W.Write.contents c.write.new.self) _
+      c.loop-taken.invariant.taken c.in-Err.ensures.bytes,
+)

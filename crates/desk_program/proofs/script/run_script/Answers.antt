@@ -6,5 +6,5 @@ use Rattle.desk_program.proofs.script.run_script.Goals as goal
 pub returns-in-Err : goal.returns-in-Err
 returns-in-Err g c =
     let all = input_end (g.R.Read.remaining c.args.reader.now) c.in-Err.fault c.input_fault_text.result.now c.input_fault_text.ensures
-        c.in-Err.ensures.kinds (λ e. c.in-Err.ensures.long (ap Err e)) in
+    c.in-Err.ensures.kinds (λ e. c.in-Err.ensures.long (ap Err e)) in
     (all.0, c.input_fault_text.result.now, 4, all.1, all.2, c.end.ensures)

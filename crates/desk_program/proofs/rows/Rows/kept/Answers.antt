@@ -1,5 +1,5 @@
 -- what is found among the rows is found among their requests
-use Rattle.std.proofs.Common.{◌≡◌, ◌==◌, ℕ, List, find, Option, Some, None, Bor, refl, ap, sym, ◌∙◌}
+use Rattle.std.proofs.Common.{◌≡◌, ◌==◌, List, find, Option, Some, None, Bor, refl, ap, sym, ◌∙◌}
 use Rattle.std.specs.Option.{option_map}
 use Rattle.desk_program.specs.Rows.{request_of}
 use Rattle.desk_program.specs.declared.rows.Kept.{Kept}

@@ -1,8 +1,7 @@
 -- the queue goes before the first with a greater name
-use Rattle.std.proofs.Common.{◌≡◌, ◌∙◌, List, Some, None, ap, sym, arith}
+use Rattle.std.proofs.Common.{◌≡◌, Some, None, arith}
 use Rattle.std.specs.List.{position_from}
 use Rattle.service_core.specs.Desk.{has_lower_name}
-use Rattle.desk_core.specs.declared.rows.QueueRow.{QueueRow}
 use Rattle.desk_program.proofs.DeskRows.{queue_put, queue_put_last}
 use Rattle.desk_program.proofs.Lists.{placed_at}
 use Rattle.desk_program.proofs.rows.Rows.put_queue.Goals as goal

@@ -1,5 +1,5 @@
 -- the request goes before the first with a greater number
-use Rattle.std.proofs.Common.{◌≡◌, ◌∙◌, ap, sym, Some, None, arith}
+use Rattle.std.proofs.Common.{◌≡◌, ◌∙◌, ap, Some, None, arith}
 use Rattle.std.specs.List.{position_from}
 use Rattle.service_core.specs.Desk.{Request, with_request}
 use Rattle.desk_program.proofs.DeskRows.{comes_before, desk_with, request_put, request_put_last}
