@@ -96,7 +96,8 @@ run_on s lines i d within mid new text piece run prints =
     sym (map-append (λ (l : Bor (List ℕ)). l.now) (take (i + 1) lines) (drop (i + 1) lines)) ∙ ap (map (λ (l : Bor (List ℕ)). l.now)) (take-append-drop (i + 1) lines) in
     (rest.0, rest.1, subst (λ (ls : List (List ℕ)). Prints s ls empty_desk ((text ++ piece) ++ rest.0) rest.1) whole all)
 
-pub cut_short : (text part left others piece : List ℕ) → piece ≡ part ++ left → (text ++ piece) ++ others ≡ (text ++ part) ++ (left ++ others)
-cut_short text part left others piece e =
-    ap (λ (p : List ℕ). (text ++ p) ++ others) e ∙ ap (λ (l : List ℕ). l ++ others) (sym (append_assoc text part left))
-    ∙ append_assoc (text ++ part) left others
+pub cut_short : (text part left others piece : List ℕ) (byte : ℕ) → piece ≡ part ++ byte ∷ left
+    → (text ++ piece) ++ others ≡ (text ++ part) ++ byte ∷ (left ++ others)
+cut_short text part left others piece byte e =
+    ap (λ (p : List ℕ). (text ++ p) ++ others) e ∙ ap (λ (l : List ℕ). l ++ others) (sym (append_assoc text part (byte ∷ left)))
+    ∙ append_assoc (text ++ part) (byte ∷ left) others

@@ -1,9 +1,14 @@
 -- what a write took goes behind what was taken before
-use Rattle.std.proofs.Common.{◌≡◌, ◌≤◌, ◌-◌, length, take, drop, sym, arith, length-drop}
+use Rattle.std.proofs.Common.{◌≡◌, ◌≤◌, ◌<◌, ◌+◌, ◌-◌, ◌∙◌, ℕ, List, ◌∷◌, ◌++◌, get_or, length, take, drop, sym, ap, arith, length-drop}
 use Rattle.std.proofs.Math.Seq.{take-add}
-use Rattle.std.proofs.lemmas.List.{take-append-drop, take_all}
+use Rattle.std.proofs.lemmas.List.{drop_more, take-append-drop, take_all}
 use Rattle.desk_program.proofs.Bytes.{appends_more, keeps_more, nothing_more}
 use Rattle.desk_program.proofs.output.put.Goals as goal
+
+-- the bytes up to a place, the byte there, and those behind it
+cut : (bytes : List ℕ) (place : ℕ) → place < length bytes → bytes ≡ take place bytes ++ get_or bytes place 0 ∷ drop (place + 1) bytes
+cut bytes place within =
+    sym (take-append-drop place bytes) ∙ ap (λ (l : List ℕ). take place bytes ++ l) (drop_more bytes place 0 within)
 
 pub loop-taken-preserved : goal.loop-taken-preserved
 loop-taken-preserved g c =
@@ -23,8 +28,9 @@ pub returns-in-Ok-eq0 : goal.returns-in-Ok-eq0
 returns-in-Ok-eq0 g c =
     let none : c.in-Ok-eq0.field-0 ≡ 0 = omega arith in (
       take c.loop-taken.taken c.args.bytes.now,
-      drop c.loop-taken.taken c.args.bytes.now,
-      sym (take-append-drop c.loop-taken.taken c.args.bytes.now),
+      get_or c.args.bytes.now c.loop-taken.taken 0,
+      drop (c.loop-taken.taken + 1) c.args.bytes.now,
+      cut c.args.bytes.now c.loop-taken.taken c.loop-taken-test.true,
       nothing_more (g.W.Write.contents c.args.writer.now) (g.W.Write.contents c.loop-taken.writer) (g.W.Write.contents c.write.new.self) _ _
           c.in-Ok-eq0.field-0 none c.loop-taken.invariant.taken c.in-Ok-eq0.ensures.bytes,
     )
@@ -32,8 +38,9 @@ returns-in-Ok-eq0 g c =
 pub returns-in-Err : goal.returns-in-Err
 returns-in-Err g c = (
   take c.loop-taken.taken c.args.bytes.now,
-  drop c.loop-taken.taken c.args.bytes.now,
-  sym (take-append-drop c.loop-taken.taken c.args.bytes.now),
+  get_or c.args.bytes.now c.loop-taken.taken 0,
+  drop (c.loop-taken.taken + 1) c.args.bytes.now,
+  cut c.args.bytes.now c.loop-taken.taken c.loop-taken-test.true,
   keeps_more (g.W.Write.contents c.args.writer.now) (g.W.Write.contents c.loop-taken.writer) (g.W.Write.contents c.write.new.self) _
       c.loop-taken.invariant.taken c.in-Err.ensures.bytes,
 )

@@ -16,10 +16,11 @@ returns-then-not-run_line g c =
       whole.2,
       (
         so_far.0 ++ here.2.0,
-        here.2.1 ++ whole.0,
-        cut_short so_far.0 here.2.0 here.2.1 whole.0 here.0 here.2.2,
+        here.2.1,
+        here.2.2 ++ whole.0,
+        cut_short so_far.0 here.2.0 here.2.2 whole.0 here.0 here.2.1 here.2.3,
         appends_more (g.W.Write.contents c.args.writer.now) (g.W.Write.contents c.loop-line.writer) (g.W.Write.contents c.run_line.new.writer)
-            so_far.0 here.2.0 so_far.2 here.2.3,
+            so_far.0 here.2.0 so_far.2 here.2.4,
       ),
     )
 
