@@ -1,1 +1,4 @@
+pub mod InView
+pub mod Roles
+pub mod Steps
 pub mod Suffice

@@ -1,40 +1,48 @@
 -- The facts of a desk suffice: what is decided on them is the desk's own refusal, or leads to its effect.
-use Rattle.std.proofs.Common.{◌≡◌, ◌≢◌, ℕ, ◌+◌, ◌==◌, Bool, true, false, cond, List, [], ◌∷◌, map, find, length, Option, Some, None, Result, Ok, Err, IfOk, IfErr, refl, ap, sym, subst, ◌∙◌}
+use Rattle.std.proofs.Common.{◌≡◌, ◌≢◌, ℕ, ◌+◌, ◌==◌, Bool, true, false, cond, ◌||◌, List, [], ◌∷◌, ◌++◌, map, find, length, Option, Some, None, Result, Ok, Err, IfOk, IfErr, refl, ap, sym, subst, ◌∙◌}
 use Rattle.std.specs.Option.{option_map}
 use Rattle.std.proofs.lemmas.Bool.{eqb-true}
 use Rattle.settings_core.specs.declared.settings.Settings.{Settings}
+use Rattle.desk_core.proofs.Roles.{roles_kept}
 use Rattle.desk_core.specs.Change.{applied, persons_in}
-use Rattle.desk_core.specs.Decision.{conditions_by, change_by, decided, unless_refused, requestor, moving_if_there}
+use Rattle.desk_core.specs.Decision.{conditions_by, change_by, decided, unless_refused, moving_if_there}
 use Rattle.desk_core.specs.Desk.{Desk, Request, request_at, queue_at, request_count}
 use Rattle.desk_core.specs.Effect.{effect, queue_of, with_moved, given_or_caller}
-use Rattle.desk_core.specs.Facts.{facts_of, facts_on, request_facts}
-use Rattle.desk_core.specs.Guard.{guard, conditions_of, on_request, set_status_conditions, lifecycle_of}
+use Rattle.desk_core.specs.Facts.{facts_of, facts_on, is_watching, request_facts, roles_among, standing_by, watcher, watchers_of}
+use Rattle.desk_core.specs.Guard.{guard, conditions_of, on_request, set_status_conditions, lifecycle_of, standing_on}
 use Rattle.desk_core.specs.Names.{in_order}
+use Rattle.desk_core.specs.Rights.{is_among, roles_on}
 use Rattle.desk_core.specs.declared.change.Change.{Change}
 use Rattle.desk_core.specs.declared.command.Command.{Command}
-use Rattle.desk_core.specs.declared.command.Command.TheVariants.{OpenQueue, Create, SetStatus, Show}
+use Rattle.desk_core.specs.declared.command.Command.TheVariants.{OpenQueue, Create, SetStatus, Queues, Show}
 use Rattle.desk_core.specs.declared.facts.Facts.{Facts}
+use Rattle.desk_core.specs.declared.rows.WatchRole.{WatchRole}
 use Rattle.desk_core.specs.declared.rows.WatchRole.TheVariants.{Requestor, Cc, AdminCc}
 use Rattle.desk_core.specs.declared.refusal.Refusal.{Refusal}
 use Rattle.desk_core.specs.declared.refusal.Refusal.TheVariants.{Unavailable}
 
-moves_alike : (s : Settings) (status : List ℕ) (desk : Desk) (o : Option Request)
-    → on_request (option_map request_facts o) (λ r. set_status_conditions s status (queue_of desk o) r.row r.entry_count)
-    ≡ on_request o (λ r. set_status_conditions s status (queue_at desk r.row.queue) r.row (length r.entries))
-moves_alike s status desk None = refl
-moves_alike s status desk (Some request) = refl
+moves_alike : (s : Settings) (caller status : List ℕ) (desk : Desk) (o : Option Request)
+    → on_request s caller (option_map (standing_by caller) (option_map request_facts o))
+    (λ on. set_status_conditions s caller status (queue_of desk o) on)
+    ≡ on_request s caller (option_map (standing_on caller) o)
+    (λ on. set_status_conditions s caller status (queue_at desk on.row.queue) on)
+moves_alike s caller status desk None = refl
+moves_alike s caller status desk (Some request) = rw (roles_kept caller request) refl
 
-shows_alike : (o : Option Request) → on_request (option_map request_facts o) (λ r. []) ≡ on_request o (λ r. [])
-shows_alike None = refl
-shows_alike (Some request) = refl
+shows_alike : (s : Settings) (caller : List ℕ) (o : Option Request)
+    → on_request s caller (option_map (standing_by caller) (option_map request_facts o)) (λ on. [])
+    ≡ on_request s caller (option_map (standing_on caller) o) (λ on. [])
+shows_alike s caller None = refl
+shows_alike s caller (Some request) = rw (roles_kept caller request) refl
 
 -- the conditions over the facts are those over the desk
-pub conditions_alike : (s : Settings) (command : Command) (desk : Desk)
-    → conditions_by s (facts_of command desk) command ≡ conditions_of s command desk
-conditions_alike s (OpenQueue name lifecycle level) desk = refl
-conditions_alike s (Create queue subject status requestors) desk = refl
-conditions_alike s (SetStatus id status) desk = moves_alike s status desk (request_at desk id)
-conditions_alike s (Show id) desk = shows_alike (request_at desk id)
+pub conditions_alike : (s : Settings) (caller : List ℕ) (command : Command) (desk : Desk)
+    → conditions_by s caller (facts_of command desk) command ≡ conditions_of s caller command desk
+conditions_alike s caller (OpenQueue name lifecycle level) desk = refl
+conditions_alike s caller (Create queue subject status requestors) desk = refl
+conditions_alike s caller (SetStatus id status) desk = moves_alike s caller status desk (request_at desk id)
+conditions_alike s caller Queues desk = refl
+conditions_alike s caller (Show id) desk = shows_alike s caller (request_at desk id)
 
 -- what is found passes the test
 found_passes : {A : Type 0} (test : A → Bool) (xs : List A) (x : A) → find test xs ≡ Some x → test x ≡ true
@@ -49,15 +57,15 @@ found_passes {A} test (y ∷ ys) x e =
 pub number_found : (desk : Desk) (id : ℕ) (request : Request) → request_at desk id ≡ Some request → request.row.id ≡ id
 number_found desk id request e = eqb-true request.row.id id (found_passes (λ r. r.row.id == id) desk.requests request e)
 
-requestors_kept : (id : ℕ) (names : List (List ℕ)) → persons_in Requestor (map (requestor id) names) ≡ names
+requestors_kept : (id : ℕ) (names : List (List ℕ)) → persons_in Requestor (map (watcher id Requestor) names) ≡ names
 requestors_kept id [] = refl
 requestors_kept id (name ∷ names) = ap (λ rest. name ∷ rest) (requestors_kept id names)
 
-no_cc : (id : ℕ) (names : List (List ℕ)) → persons_in Cc (map (requestor id) names) ≡ []
+no_cc : (id : ℕ) (names : List (List ℕ)) → persons_in Cc (map (watcher id Requestor) names) ≡ []
 no_cc id [] = refl
 no_cc id (name ∷ names) = no_cc id names
 
-no_admin_cc : (id : ℕ) (names : List (List ℕ)) → persons_in AdminCc (map (requestor id) names) ≡ []
+no_admin_cc : (id : ℕ) (names : List (List ℕ)) → persons_in AdminCc (map (watcher id Requestor) names) ≡ []
 no_admin_cc id [] = refl
 no_admin_cc id (name ∷ names) = no_admin_cc id names
 
@@ -78,6 +86,7 @@ change_leads s at caller (Create queue subject status requestors) desk =
     let names = in_order (given_or_caller caller requestors) in
     rw (requestors_kept id names, no_cc id names, no_admin_cc id names) refl
 change_leads s at caller (SetStatus id status) desk = moves_there s at caller status desk id (request_at desk id) refl
+change_leads s at caller Queues desk = refl
 change_leads s at caller (Show id) desk = refl
 
 accepted : (o : Option Refusal) (made change : Change) → unless_refused o made ≡ Ok change → (o ≡ None) × (made ≡ change)
@@ -92,7 +101,7 @@ refused (Some other) made refusal e = cc
 on_desk : (s : Settings) (at : ℕ) (caller : List ℕ) (command : Command) (desk : Desk)
     → decided s at caller (facts_of command desk) command
     ≡ unless_refused (guard s at caller command desk) (change_by s at caller (facts_of command desk) command)
-on_desk s at caller command desk = rw (conditions_alike s command desk) refl
+on_desk s at caller command desk = rw (conditions_alike s caller command desk) refl
 
 -- a change that is decided on the facts of a desk leads to the effect, where the desk doesn't refuse
 pub accepts_on : (s : Settings) (at : ℕ) (caller : List ℕ) (command : Command) (facts : Facts) (result : Result Change Refusal)

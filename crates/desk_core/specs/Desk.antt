@@ -1,5 +1,5 @@
 -- The desk: its queues by name, and its requests by number, each with its people and its history.
-use Rattle.std.specs.Prelude.{ℕ, Bool, ◌==◌, nat_lt, if◌then◌else◌, List, [], ◌∷◌, Option, find, length}
+use Rattle.std.specs.Prelude.{ℕ, ◌+◌, Bool, true, ◌&&◌, ◌==◌, if◌then◌else◌, List, [], ◌∷◌, ◌++◌, Option, find, length}
 use Rattle.std.specs.Ordering.{is_lt}
 use Rattle.std.specs.Str.{bytes_eq}
 use Rattle.desk_core.specs.Names.{text_order}
@@ -50,9 +50,6 @@ replaced is_like (y ∷ ys) x = if is_like x y then x ∷ ys else y ∷ replaced
 abbrev pub has_lower_name : QueueRow → QueueRow → Bool
 has_lower_name a b = is_lt (text_order a.name b.name)
 
-abbrev pub has_lower_number : Request → Request → Bool
-has_lower_number a b = nat_lt a.row.id b.row.id
-
 abbrev pub has_same_number : Request → Request → Bool
 has_same_number a b = b.row.id == a.row.id
 
@@ -60,10 +57,15 @@ has_same_number a b = b.row.id == a.row.id
 abbrev pub with_queue : Desk → QueueRow → Desk
 with_queue desk queue = record desk { queues = placed has_lower_name desk.queues queue }
 
--- the desk with this request, which is new
+-- the desk with this request, which is new and has the greatest number
 abbrev pub with_request : Desk → Request → Desk
-with_request desk request = record desk { requests = placed has_lower_number desk.requests request }
+with_request desk request = record desk { requests = desk.requests ++ request ∷ [] }
 
 -- the desk with this request instead of the one with its number
 abbrev pub with_changed_request : Desk → Request → Desk
 with_changed_request desk request = record desk { requests = replaced has_same_number desk.requests request }
+
+-- the requests are numbered from this number on, without gaps
+abbrev pub is_numbered : ℕ → List Request → Bool
+is_numbered next [] = true
+is_numbered next (request ∷ rest) = request.row.id == next && is_numbered (next + 1) rest

@@ -15,7 +15,7 @@ use Rattle.desk_core.specs.declared.rows.Entry.{Entry}
 use Rattle.desk_core.specs.declared.rows.EntryKind.TheVariants as kind
 use Rattle.desk_core.specs.declared.rows.Turn.TheVariants as turn
 use Rattle.desk_core.specs.declared.command.Command.{Command}
-use Rattle.desk_core.specs.declared.command.Command.TheVariants.{OpenQueue, Create, SetStatus, Show}
+use Rattle.desk_core.specs.declared.command.Command.TheVariants.{OpenQueue, Create, SetStatus, Queues, Show}
 
 -- a queue as it is opened
 abbrev pub new_queue : List ℕ → List ℕ → Option (List ℕ) → QueueRow
@@ -114,4 +114,5 @@ effect settings at caller (Create queue subject status requestors) desk =
 effect settings at caller (SetStatus id status) desk =
     let request = request_at desk id in
     with_moved desk (lifecycle_of settings (queue_of desk request)) at caller status request
+effect settings at caller Queues desk = desk
 effect settings at caller (Show id) desk = desk

@@ -8,7 +8,10 @@ pub mod Desk
 pub mod Effect
 pub mod Facts
 pub mod Guard
+pub mod Laws
 pub mod Names
 pub mod Reading
 pub mod Refusals
+pub mod Rights
 pub mod Step
+pub mod View

@@ -1,13 +1,14 @@
 -- What a command answers, of the desk as it was before.
-use Rattle.std.specs.Prelude.{ℕ, ◌+◌, ⊤, List, [], Option, Some, None}
+use Rattle.std.specs.Prelude.{ℕ, ◌+◌, ⊤, List, [], filter, Option, Some, None}
 use Rattle.settings_core.specs.declared.settings.Settings.{Settings}
 use Rattle.desk_core.specs.Desk.{Desk, Request, request_at, request_count}
+use Rattle.desk_core.specs.Rights.{sees_queue}
 use Rattle.desk_core.specs.declared.answer.Answer.{Answer}
-use Rattle.desk_core.specs.declared.answer.Answer.TheVariants.{Done, Created, Shown}
+use Rattle.desk_core.specs.declared.answer.Answer.TheVariants as answer
 use Rattle.desk_core.specs.declared.answer.Links.{Links}
 use Rattle.desk_core.specs.declared.answer.Shown as shown
 use Rattle.desk_core.specs.declared.command.Command.{Command}
-use Rattle.desk_core.specs.declared.command.Command.TheVariants.{OpenQueue, Create, SetStatus, Show}
+use Rattle.desk_core.specs.declared.command.Command.TheVariants.{OpenQueue, Create, SetStatus, Queues, Show}
 
 -- no links: none can be made yet
 abbrev pub no_links : Links
@@ -27,17 +28,19 @@ shown_of request =
     }
 
 abbrev pub shown_if_there : Option Request → Answer
-shown_if_there None = Done
-shown_if_there (Some request) = Shown (shown_of request)
+shown_if_there None = answer.Done
+shown_if_there (Some request) = answer.Shown (shown_of request)
 
 -- the answer of a command that isn't refused
-abbrev pub answer_of : Command → Desk → Answer
-answer_of (OpenQueue name lifecycle level) desk = Done
-answer_of (Create queue subject status requestors) desk = Created (request_count desk + 1)
-answer_of (SetStatus id status) desk = Done
-answer_of (Show id) desk = shown_if_there (request_at desk id)
+abbrev pub answer_of : Settings → List ℕ → Command → Desk → Answer
+answer_of settings caller (OpenQueue name lifecycle level) desk = answer.Done
+answer_of settings caller (Create queue subject status requestors) desk = answer.Created (request_count desk + 1)
+answer_of settings caller (SetStatus id status) desk = answer.Done
+answer_of settings caller Queues desk = answer.Queues (filter (sees_queue settings caller) desk.queues)
+answer_of settings caller (Show id) desk = shown_if_there (request_at desk id)
 
 -- the command only reads
 abbrev pub IsReading : Command → Type 0
+IsReading Queues = ⊤
 IsReading (Show id) = ⊤
 IsReading other = ⊥

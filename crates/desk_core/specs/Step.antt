@@ -31,7 +31,7 @@ desk_after settings at caller command desk =
 -- the reply to a command
 abbrev pub reply_to : Settings → ℕ → List ℕ → Command → Desk → Reply
 reply_to settings at caller command desk =
-    reply_unless (guard settings at caller command desk) (answer_of command desk)
+    reply_unless (guard settings at caller command desk) (answer_of settings caller command desk)
 
 -- `Unavailable` with the desk as it was, or the step
 abbrev pub Steps : Settings → ℕ → List ℕ → Command → Desk → Reply → Desk → Type 0

@@ -1,4 +1,4 @@
-use crate::rows::RequestRow;
+use crate::rows::{QueueRow, RequestRow};
 use hours_core::Minute;
 use text_core::{Sequence, Texts};
 
@@ -9,6 +9,8 @@ pub enum Answer {
     Done,
     /// The request with this number was filed.
     Created(u32),
+    /// The queues that the caller may see, in the order of their names.
+    Queues(Sequence<QueueRow>),
     /// The request that was asked for.
     Shown(Shown),
 }

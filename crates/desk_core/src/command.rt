@@ -22,6 +22,8 @@ pub enum Command {
         id: u32,
         status: Text,
     },
+    /// Lists the queues that the caller may see.
+    Queues,
     /// Shows a request.
     Show {
         id: u32,

@@ -1,25 +1,32 @@
-ghost use Rattle.std.specs.Prelude.{◌≡◌, ◌≢◌, IfOk, IfErr, None, Some, Ok, Err, if◌then◌else◌};
+ghost use Rattle.std.specs.Prelude.{◌≡◌, ◌≢◌, IfOk, IfErr, OnOk, None, Some, Ok, Err, true, false, if◌then◌else◌};
 ghost use Rattle.hours_core.specs.Moment.{is_moment};
+ghost use Rattle.rights_core.specs.People.{holds};
+ghost use Rattle.settings_core.specs.Settings.{people_of};
 ghost use Rattle.desk_core.specs.Desk.{Desk};
-ghost use Rattle.desk_core.specs.Facts.{facts_of};
+ghost use Rattle.desk_core.specs.Facts.{facts_of, may_show_by, roles_among};
 ghost use Rattle.desk_core.specs.Guard.{guard};
 ghost use Rattle.desk_core.specs.Effect.{effect};
 ghost use Rattle.desk_core.specs.Change.{applied};
 ghost use Rattle.desk_core.specs.Reading.{IsReading};
+ghost use Rattle.desk_core.specs.Rights.{holds_as, holds_on_queue};
 ghost use Rattle.desk_core.specs.Decision.{decided, decided_on};
 
 use crate::change::Change;
 use crate::command::Command;
-use crate::facts::Facts;
+use crate::facts::{Facts, RequestFacts};
 use crate::refusal::Refusal;
+use crate::rights::{may_show, roles_among};
 use hours_core::{END, Minute};
+use rights_core::Roles;
 use settings_core::Settings;
 use std::alloc::Global;
+use text_core::Text;
 
 mod create;
 mod lifecycles;
 mod open_queue;
 mod set_status;
+mod show;
 
 /// Decides a command by a caller at a moment, in minutes since 1970-01-01 00:00 UTC: the change that it makes, or
 /// the first refusal that is called for.
@@ -111,10 +118,52 @@ impl Context<'_> {
                 requestors,
             } => self.create(queue, subject, status, requestors),
             Command::SetStatus { id: _, status } => self.set_status(status),
-            Command::Show { id: _ } => match &self.facts.request {
-                Some(_) => Ok(Change::Nothing),
-                None => Err(Refusal::NotFound),
-            },
+            Command::Queues => Ok(Change::Nothing),
+            Command::Show { id: _ } => self.show(),
+        }
+    }
+
+    /// Whether the caller may show the request.
+    fn may_show(&self, request: &RequestFacts) -> bool
+        ensures { result ≡ may_show_by self.now.settings.now self.now.caller.now request.now.row request.now.watchers }
+    {
+        let watchers = request.watchers.as_slice();
+        may_show(self.settings, self.caller, &request.row, watchers)
+    }
+
+    /// Refuses where the caller lacks a right on the request.
+    fn ask_on(&self, right: &str, request: &RequestFacts) -> Result<(), Refusal>
+        ensures ok { OnOk result (holds_as self.now.settings.now self.now.caller.now right.now request.now.row
+            (roles_among self.now.caller.now request.now.row request.now.watchers) ≡ true) }
+        ensures err { IfErr result (λ refusal. refusal ≢ Refusal.Unavailable → (refusal ≡ Refusal.Denied right.now)
+            × (holds_as self.now.settings.now self.now.caller.now right.now request.now.row
+            (roles_among self.now.caller.now request.now.row request.now.watchers) ≡ false)) }
+    {
+        let watchers = request.watchers.as_slice();
+        let roles = roles_among(self.caller, &request.row, watchers);
+        self.ask(right, &request.row.queue, roles)
+    }
+
+    /// Refuses where the caller lacks a right on the queue of that name: nobody has a role on a queue.
+    fn ask_on_queue(&self, right: &str, queue: &Text) -> Result<(), Refusal>
+        ensures ok { OnOk result (holds_on_queue self.now.settings.now self.now.caller.now right.now queue.now ≡ true) }
+        ensures err { IfErr result (λ refusal. refusal ≢ Refusal.Unavailable → (refusal ≡ Refusal.Denied right.now)
+            × (holds_on_queue self.now.settings.now self.now.caller.now right.now queue.now ≡ false)) }
+    {
+        self.ask(right, queue, Roles::none())
+    }
+
+    fn ask(&self, right: &str, queue: &Text, roles: Roles) -> Result<(), Refusal>
+        ensures ok { OnOk result (holds (people_of self.now.settings.now) self.now.caller.now right.now queue.now roles
+            ≡ true) }
+        ensures err { IfErr result (λ refusal. refusal ≢ Refusal.Unavailable → (refusal ≡ Refusal.Denied right.now)
+            × (holds (people_of self.now.settings.now) self.now.caller.now right.now queue.now roles ≡ false)) }
+    {
+        let people = self.settings.people();
+        if people.holds(self.caller, right, queue.as_str(), roles) {
+            Ok(())
+        } else {
+            Err(Refusal::Denied(Text::new(self.alloc, right)?))
         }
     }
 }

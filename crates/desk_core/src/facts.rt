@@ -1,4 +1,5 @@
-use crate::rows::{QueueRow, RequestRow};
+use crate::rows::{QueueRow, RequestRow, Watcher};
+use text_core::Sequence;
 
 /// What a command looks at before it decides. What it doesn't look at is absent or 0.
 #[derive(Clone, Debug, PartialEq, Eq, Drop)]
@@ -13,9 +14,11 @@ pub struct Facts {
     pub request: Option<RequestFacts>,
 }
 
-/// A request, and how many entries its history has.
+/// A request with its people, and how many entries its history has.
 #[derive(Clone, Debug, PartialEq, Eq, Drop)]
 pub struct RequestFacts {
     pub row: RequestRow,
+    /// Its requestors, then those in copy, then the administrators in copy.
+    pub watchers: Sequence<Watcher>,
     pub entry_count: u32,
 }

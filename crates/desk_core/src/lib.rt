@@ -8,8 +8,10 @@ pub mod change;
 pub mod command;
 pub mod decision;
 pub mod facts;
+pub mod laws;
 pub mod names;
 pub mod refusal;
+pub mod rights;
 pub mod rows;
 
 pub use answer::{Answer, Links, Shown};
@@ -18,6 +20,7 @@ pub use command::Command;
 pub use decision::decide;
 pub use facts::{Facts, RequestFacts};
 pub use refusal::Refusal;
+pub use rights::{may_show, sees_queue};
 pub use rows::{Entry, EntryKind, QueueRow, RequestRow, Turn, WatchRole, Watcher};
 
 #[cfg(test)]

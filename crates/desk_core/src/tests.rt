@@ -7,6 +7,8 @@ use std::process::Abort;
 use std::test::Fail;
 use text_core::{Sequence, Text, Texts};
 
+mod rights;
+
 /// The moment of the commands.
 const NOW: u32 = 29_546_980;
 
@@ -380,7 +382,11 @@ fn on_request(
         queue: Some(general(rt.alloc(), None)?),
         queue_count: 0,
         request_count: 0,
-        request: Some(RequestFacts { row, entry_count }),
+        request: Some(RequestFacts {
+            row,
+            watchers: Sequence::from(Vec::new(rt.alloc())),
+            entry_count,
+        }),
     })
 }
 

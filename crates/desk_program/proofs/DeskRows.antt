@@ -1,14 +1,14 @@
 -- The desk that rows stand for, after a row has come to them or has changed.
-use Rattle.std.proofs.Common.{◌≡◌, ◌∙◌, Bool, ℕ, zero, suc, ◌==◌, nat_lt, List, [], ◌∷◌, ◌++◌, map, find, Option, Some, None, Result, Ok, Err, OnErr, refl, ap, sym, arith}
+use Rattle.std.proofs.Common.{◌≡◌, ◌∙◌, Bool, ℕ, zero, suc, ◌==◌, List, [], ◌∷◌, ◌++◌, map, find, Option, Some, None, Result, Ok, Err, OnErr, refl, ap, sym, arith}
 use Rattle.std.specs.Option.{option_map}
 use Rattle.std.specs.List.{position_from, insert, slice_set, slice_index_or}
 use Rattle.service_core.specs.Change.{changed, with_changed}
-use Rattle.service_core.specs.Desk.{Desk, Request, has_lower_name, has_lower_number, has_same_number, placed, replaced, request_at, with_queue, with_request}
+use Rattle.service_core.specs.Desk.{Desk, Request, has_lower_name, has_same_number, placed, replaced, request_at, with_queue, with_request}
 use Rattle.desk_core.specs.declared.change.RequestChange.{RequestChange}
 use Rattle.desk_core.specs.declared.rows.QueueRow.{QueueRow}
 use Rattle.desk_program.specs.Rows.{request_of}
 use Rattle.desk_program.specs.declared.rows.Kept.{Kept}
-use Rattle.desk_program.proofs.Lists.{find-map, not_found, placed-map, placed_at, placed_last, replaced-map, replaced_at}
+use Rattle.desk_program.proofs.Lists.{find-map, not_found, placed_at, placed_last, replaced-map, replaced_at}
 
 abbrev pub desk_with : List QueueRow → List Kept → Desk
 desk_with queues kept = record { queues = queues; requests = map request_of kept }
@@ -32,29 +32,15 @@ pub queue_put_last : (old new : List QueueRow) (kept : List Kept) (q : QueueRow)
 queue_put_last old new kept q at put =
     queues_alike old new (placed has_lower_name old q) kept (put ∙ sym (placed_last has_lower_name q 0 old at))
 
-abbrev pub comes_before : Kept → Kept → Bool
-comes_before a b = nat_lt a.row.id b.row.id
-
 abbrev pub is_same : Kept → Kept → Bool
 is_same a b = b.row.id == a.row.id
 
-filed_alike : (queues : List QueueRow) (old new : List Kept) (k : Kept) → new ≡ placed comes_before old k
+-- a request put behind the others
+pub request_put : (queues : List QueueRow) (old new : List Kept) (k : Kept) → new ≡ old ++ k ∷ []
     → desk_with queues new ≡ with_request (desk_with queues old) (request_of k)
-filed_alike queues old new k e =
+request_put queues old new k e =
     ap (λ (rs : List Request). let d : Desk = record { queues = queues; requests = rs } in d)
-    (ap (map request_of) e ∙ sym (placed-map request_of has_lower_number old k))
-
--- a request put before the first with a greater number
-pub request_put : (queues : List QueueRow) (old new : List Kept) (k : Kept) (i : ℕ) → position_from (comes_before k) 0 old ≡ Some i
-    → new ≡ insert old i k → desk_with queues new ≡ with_request (desk_with queues old) (request_of k)
-request_put queues old new k i at put =
-    let p = placed_at comes_before k 0 old i at in
-    let place : i ≡ p.0 = omega (arith, p.1) in
-    filed_alike queues old new k (put ∙ ap (λ (n : ℕ). insert old n k) place ∙ sym p.3)
-
-pub request_put_last : (queues : List QueueRow) (old new : List Kept) (k : Kept) → position_from (comes_before k) 0 old ≡ None
-    → new ≡ old ++ k ∷ [] → desk_with queues new ≡ with_request (desk_with queues old) (request_of k)
-request_put_last queues old new k at put = filed_alike queues old new k (put ∙ sym (placed_last comes_before k 0 old at))
+    (ap (map request_of) e ∙ map-append request_of old (k ∷ []))
 
 -- a request changed in its place
 pub request_changed : (queues : List QueueRow) (old new : List Kept) (change : RequestChange) (was k : Kept) (i : ℕ)

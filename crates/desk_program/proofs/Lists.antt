@@ -14,16 +14,6 @@ pub find-map : {A B : Type 0} (f : A → B) (test : B → Bool) (xs : List A) �
 find-map f test [] = refl
 find-map f test (x ∷ xs) = find_cases f (test (f x)) x _ _ (find-map f test xs)
 
-placed_cases : {A B : Type 0} (f : A → B) (b : Bool) (x y : A) (ys : List A) (more : List B) (rest : List A) → more ≡ map f rest
-    → cond b (f x ∷ f y ∷ map f ys) (f y ∷ more) ≡ map f (cond b (x ∷ y ∷ ys) (y ∷ rest))
-placed_cases f true x y ys more rest e = refl
-placed_cases f false x y ys more rest e = ap (λ l. f y ∷ l) e
-
-pub placed-map : {A B : Type 0} (f : A → B) (before : B → B → Bool) (xs : List A) (x : A)
-    → placed before (map f xs) (f x) ≡ map f (placed (λ a b. before (f a) (f b)) xs x)
-placed-map f before [] x = refl
-placed-map f before (y ∷ ys) x = placed_cases f (before (f x) (f y)) x y ys _ _ (placed-map f before ys x)
-
 -- where a new element goes, from the place of the first that comes after it
 abbrev pub PlacedAt : {A : Type 0} → (A → A → Bool) → List A → A → ℕ → ℕ → Type 0
 PlacedAt before xs x n i = (k : ℕ) × (i ≡ n + k) × (k ≤ length xs) × (placed before xs x ≡ insert xs k x)

@@ -1,27 +1,47 @@
 -- A command that shows something leaves the desk as it was, and so may be left out of a run.
-use Rattle.std.proofs.Common.{◌≡◌, ◌∙◌, inl, inr, ℕ, List, Option, Some, None, Ok, refl, sym}
+use Rattle.std.proofs.Common.{◌≡◌, ◌∙◌, ⊤, inl, inr, ℕ, ◌+◌, List, Option, Some, None, Ok, refl, subst, sym}
 use Rattle.settings_core.specs.declared.settings.Settings.{Settings}
-use Rattle.desk_core.specs.declared.answer.Answer.TheVariants.{Shown}
+use Rattle.desk_core.specs.declared.answer.Answer.{Answer}
+use Rattle.desk_core.specs.declared.answer.Answer.TheVariants as answer
 use Rattle.desk_core.specs.declared.answer.Shown as shown
+use Rattle.desk_core.specs.declared.rows.QueueRow.{QueueRow}
 use Rattle.desk_core.specs.declared.command.Command.{Command}
-use Rattle.desk_core.specs.declared.command.Command.TheVariants.{OpenQueue, Create, SetStatus, Show}
+use Rattle.desk_core.specs.declared.command.Command.TheVariants.{OpenQueue, Create, SetStatus, Queues, Show}
 use Rattle.desk_core.specs.declared.refusal.Refusal.{Refusal}
-use Rattle.service_core.specs.Desk.{Desk}
+use Rattle.service_core.specs.Desk.{Desk, request_count}
 use Rattle.service_core.specs.Effect.{effect}
 use Rattle.service_core.specs.Guard.{guard}
 use Rattle.service_core.specs.Reading.{answer_of}
 use Rattle.service_core.specs.Step.{Steps, desk_unless, reply_unless}
 
-shows_only : (s : Settings) (at : ℕ) (caller : List ℕ) (o : Option Refusal) (command : Command) (old : Desk) (x : shown.Shown)
-    → reply_unless o (answer_of command old) ≡ Ok (Shown x) → desk_unless o old (effect s at caller command old) ≡ old
-shows_only s at caller (Some refusal) command old x e = cc
-shows_only s at caller None (OpenQueue name lifecycle level) old x e = cc
-shows_only s at caller None (Create queue subject status requestors) old x e = cc
-shows_only s at caller None (SetStatus id status) old x e = cc
-shows_only s at caller None (Show id) old x e = refl
+-- an answer that shows something
+abbrev Tells : Answer → Type 0
+Tells (answer.Queues queues) = ⊤
+Tells (answer.Shown x) = ⊤
+Tells other = ⊥
+
+tells_only : (s : Settings) (at : ℕ) (caller : List ℕ) (o : Option Refusal) (command : Command) (old : Desk) (x : Answer)
+    → Tells x → reply_unless o (answer_of s caller command old) ≡ Ok x → desk_unless o old (effect s at caller command old) ≡ old
+tells_only s at caller (Some refusal) command old x t e = refl
+tells_only s at caller None (OpenQueue name lifecycle level) old x t e =
+    let made : answer.Done ≡ x = cc in absurd (subst Tells (sym made) t)
+tells_only s at caller None (Create queue subject status requestors) old x t e =
+    let made : answer.Created (request_count old + 1) ≡ x = cc in absurd (subst Tells (sym made) t)
+tells_only s at caller None (SetStatus id status) old x t e =
+    let made : answer.Done ≡ x = cc in absurd (subst Tells (sym made) t)
+tells_only s at caller None Queues old x t e = refl
+tells_only s at caller None (Show id) old x t e = refl
+
+told_stays : (s : Settings) (at : ℕ) (caller : List ℕ) (command : Command) (old new : Desk) (x : Answer)
+    → Tells x → Steps s at caller command old (Ok x) new → new ≡ old
+told_stays s at caller command old new x t (inl left) = left.1
+told_stays s at caller command old new x t (inr made) =
+    made.1 ∙ tells_only s at caller (guard s at caller command old) command old x t (sym made.0)
 
 pub shown_stays : (s : Settings) (at : ℕ) (caller : List ℕ) (command : Command) (old new : Desk) (x : shown.Shown)
-    → Steps s at caller command old (Ok (Shown x)) new → new ≡ old
-shown_stays s at caller command old new x (inl left) = left.1
-shown_stays s at caller command old new x (inr made) =
-    made.1 ∙ shows_only s at caller (guard s at caller command old) command old x (sym made.0)
+    → Steps s at caller command old (Ok (answer.Shown x)) new → new ≡ old
+shown_stays s at caller command old new x = told_stays s at caller command old new (answer.Shown x) tt
+
+pub queues_stay : (s : Settings) (at : ℕ) (caller : List ℕ) (command : Command) (old new : Desk) (queues : List QueueRow)
+    → Steps s at caller command old (Ok (answer.Queues queues)) new → new ≡ old
+queues_stay s at caller command old new queues = told_stays s at caller command old new (answer.Queues queues) tt

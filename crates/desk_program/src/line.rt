@@ -8,7 +8,7 @@ ghost use Rattle.desk_program.specs.Script.{LinePrints, said, said_by, is_passed
 use crate::rows::Rows;
 use desk_core::{Answer, Command};
 use itoa::Buffer;
-use service_core::{refusal_text, show_text};
+use service_core::{queues_text, refusal_text, show_text};
 use settings_core::Settings;
 use std::alloc::{AllocError, Global};
 use text_core::Text;
@@ -79,6 +79,7 @@ fn answer_command(
             put_created(&mut room, id);
             Ok(room)
         }
+        Ok(Answer::Queues(queues)) => queues_text(alloc, queues.as_slice()),
         Ok(Answer::Shown(shown)) => show_text(alloc, &shown),
         Err(refusal) => refusal_text(alloc, &refusal),
     }

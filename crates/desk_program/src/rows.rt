@@ -52,9 +52,9 @@ impl Rows {
     ) -> Result<Answer, Refusal>
         ensures { Steps settings.now at caller.now command.now (desk_of self.old) result (desk_of self.new) }
     {
-        let facts = self.facts_for(command)?;
+        let facts = self.facts_for(alloc, command)?;
         let change = decide(alloc, settings, at, caller, &facts, command)?;
-        let answer = self.answer_to(alloc, command)?;
+        let answer = self.answer_to(alloc, settings, caller, command)?;
         self.apply(alloc, change)?;
         Ok(answer)
     }

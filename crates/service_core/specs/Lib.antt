@@ -5,6 +5,12 @@ pub use Rattle.desk_core.specs.Facts
 pub use Rattle.desk_core.specs.Guard
 pub use Rattle.desk_core.specs.Names
 pub use Rattle.desk_core.specs.Reading
+pub use Rattle.desk_core.specs.Laws
 pub use Rattle.desk_core.specs.Refusals
+pub use Rattle.desk_core.specs.Rights
 pub use Rattle.desk_core.specs.Step
+pub use Rattle.desk_core.specs.View
+pub mod Columns
+pub mod Queues
 pub mod Texts
+pub mod Words

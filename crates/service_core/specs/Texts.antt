@@ -1,5 +1,5 @@
 -- The texts of answers and refusals, as lists of bytes.
-use Rattle.std.specs.Prelude.{ℕ, List, [], ◌∷◌, ◌++◌, Option, Some, None, Ok, Err, unwrap_or, codes, decimal}
+use Rattle.std.specs.Prelude.{ℕ, List, [], ◌∷◌, ◌++◌, Option, Ok, Err, unwrap_or, codes, decimal}
 use Rattle.std.specs.Option.{option_map}
 use Rattle.std.specs.List.{flat_map}
 use Rattle.hours_core.specs.Date.{text_of_minute}
@@ -12,6 +12,8 @@ use Rattle.desk_core.specs.declared.answer.Shown.{Shown}
 use Rattle.desk_core.specs.declared.refusal.Refusal.{Refusal}
 use Rattle.desk_core.specs.declared.refusal.Refusal.TheVariants.{Denied}
 use Rattle.desk_core.specs.declared.rows.RequestRow.{RequestRow}
+use Rattle.service_core.specs.Queues.{queues_text}
+use Rattle.service_core.specs.Words.{or_dash}
 
 -- a label, its value and a line feed
 unfoldable pub line : List ℕ → List ℕ → List ℕ
@@ -32,10 +34,6 @@ behind_number n = behind_space (decimal n)
 abbrev pub numbers : List ℕ → List ℕ
 numbers [] = codes "-"
 numbers (first ∷ rest) = decimal first ++ flat_map behind_number rest
-
--- a name, or a dash for none
-abbrev pub or_dash : Option (List ℕ) → List ℕ
-or_dash text = unwrap_or text (codes "-")
 
 -- the owner, or `Nobody`
 abbrev pub or_nobody : Option (List ℕ) → List ℕ
@@ -88,6 +86,7 @@ created_text id = codes "request " ++ (decimal id ++ codes "\n")
 abbrev pub answer_text : Answer → List ℕ
 answer_text answer.Done = done_text
 answer_text (answer.Created id) = created_text id
+answer_text (answer.Queues queues) = queues_text queues
 answer_text (answer.Shown shown) = show_text shown
 
 -- a refusal's number and name, and what stands behind them

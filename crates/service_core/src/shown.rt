@@ -36,7 +36,7 @@ fn put_row(out: &mut String, row: &RequestRow) -> Result<(), AllocError>
 }
 
 /// The name, or what stands for none.
-fn name_or<'t>(name: &'t Option<Text>, absent: &'static str) -> &'t str
+pub(crate) fn name_or<'t>(name: &'t Option<Text>, absent: &'static str) -> &'t str
     ensures { result.now ≡ unwrap_or name.entry.now absent.entry.now }
 {
     match name {

@@ -1,17 +1,19 @@
 ghost use Rattle.std.specs.Prelude.{◌≡◌, ◌++◌, [], IfOk, codes, string_bytes};
 ghost use Rattle.service_core.specs.Texts as text;
 
+use crate::queues::queues_text;
 use crate::shown::show_text;
 use desk_core::{Answer, Refusal};
 use std::alloc::{AllocError, Global};
 
-/// The text of an answer: `ok`, `request N`, or the lines of a request.
+/// The text of an answer: `ok`, `request N`, a line for each queue, or the lines of a request.
 pub fn answer_text(alloc: Global, answer: &Answer) -> Result<String, AllocError>
     ensures { IfOk result (λ t. string_bytes t ≡ text.answer_text answer.now) }
 {
     match answer {
         Answer::Done => String::from_str(alloc, "ok\n"),
         Answer::Created(id) => created_text(alloc, *id),
+        Answer::Queues(queues) => queues_text(alloc, queues.as_slice()),
         Answer::Shown(shown) => show_text(alloc, shown),
     }
 }

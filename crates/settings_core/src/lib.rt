@@ -1,15 +1,14 @@
 //! The settings that a desk runs by.
 //!
-//! For now there are the built-in settings alone: one person, `root`, and one lifecycle, `default`.
+//! The built-in settings know one person, `root`, who holds every right, and one lifecycle, `default`. Others are made
+//! of their parts.
 #![tactic(auto)]
 
 pub mod fault;
-pub mod people;
 pub mod settings;
 
 pub use fault::SettingsFault;
-pub use people::People;
-pub use settings::Settings;
+pub use settings::{NamedLifecycle, Settings};
 
 #[cfg(test)]
 mod tests;

@@ -1,12 +1,12 @@
-ghost use Rattle.std.specs.Prelude.{◌≡◌, IfOk, IfErr};
+ghost use Rattle.std.specs.Prelude.{◌≡◌, ◌≤◌, true, IfOk, IfErr};
 ghost use Rattle.std.specs.Option.{option_map};
-ghost use Rattle.settings_core.specs.Settings.{built_in_settings, standard_lifecycle, people_of, lifecycle_named, request_limit, entry_limit};
+ghost use Rattle.settings_core.specs.Settings.{are_distinct, built_in_people, built_in_settings, standard_lifecycle, people_of, lifecycle_named, request_limit, entry_limit};
 
 use crate::fault::SettingsFault;
-use crate::people::People;
 use lifecycle_core::Lifecycle;
+use rights_core::{Grant, People, RightsFault, Subject, right};
 use std::alloc::Global;
-use text_core::{Sequence, Text, Texts};
+use text_core::{Sequence, Text};
 
 /// The most requests that settings may allow.
 pub const MAX_REQUESTS: u32 = 1_000_000;
@@ -26,13 +26,13 @@ pub struct Settings {
 /// A lifecycle under its name.
 #[derive(Debug, Drop)]
 pub struct NamedLifecycle {
-    name: Text,
-    lifecycle: Lifecycle,
+    pub name: Text,
+    pub lifecycle: Lifecycle,
 }
 
 impl NamedLifecycle {
-    /// The lifecycle `default` under its name.
-    fn standard(alloc: Global) -> Result<NamedLifecycle, SettingsFault>
+    /// The lifecycle `default` under its name. The only fault is `NoMemory`.
+    pub fn standard(alloc: Global) -> Result<NamedLifecycle, SettingsFault>
         ensures ok { IfOk result (λ named. named ≡ standard_lifecycle) }
         ensures err { IfErr result (λ fault. fault ≡ SettingsFault.NoMemory) }
     {
@@ -44,27 +44,62 @@ impl NamedLifecycle {
     }
 }
 
+/// The one person `root`, who holds every right on every queue. The only fault is `NoMemory`.
+#[tactic(auto, unfolding(rights_core::specs::Right::super_user))]
+fn root_alone(alloc: Global) -> Result<People, SettingsFault>
+    ensures ok { IfOk result (λ people. people ≡ built_in_people) }
+    ensures err { IfErr result (λ fault. fault ≡ SettingsFault.NoMemory) }
+{
+    let persons = [Text::new(alloc, "root")?];
+    let grants = [Grant {
+        right: Text::new(alloc, right::SUPER_USER)?,
+        subject: Subject::Person(Text::new(alloc, "root")?),
+        queue: None,
+    }];
+    let people = People::build(alloc, &persons, &[], &grants);
+    people.map_err(|_| SettingsFault::NoMemory)
+}
+
 impl Settings {
-    /// The settings that hold without a text: the person `root`, the lifecycle `default`, 1,000,000 requests with
-    /// 10,000 entries each. The only fault is `NoMemory`.
+    /// The settings that hold without a text: the person `root` with every right, the lifecycle `default`, 1,000,000
+    /// requests with 10,000 entries each. The only fault is `NoMemory`.
     #[tactic(auto, unfolding(crate::specs::Settings::built_in_settings))]
     pub fn built_in(alloc: Global) -> Result<Settings, SettingsFault>
         ensures ok { IfOk result (λ settings. settings ≡ built_in_settings) }
         ensures err { IfErr result (λ fault. fault ≡ SettingsFault.NoMemory) }
     {
-        let root = vec![in alloc; Text::new(alloc, "root")?]?;
+        let people = root_alone(alloc)?;
         let standard = NamedLifecycle::standard(alloc)?;
         Ok(Settings {
-            people: People {
-                persons: Texts::from(root),
-            },
+            people,
             lifecycles: Sequence::from(vec![in alloc; standard]?),
             max_requests: MAX_REQUESTS,
             max_entries: MAX_ENTRIES,
         })
     }
 
-    /// The persons.
+    /// The settings of these parts. The lifecycles have different names, there may be 1 to 1,000,000 requests, and
+    /// each has room for 1 to 10,000 entries.
+    pub fn of_parts(
+        people: People,
+        lifecycles: Sequence<NamedLifecycle>,
+        max_requests: u32,
+        max_entries: u32,
+    ) -> Settings
+        requires names { are_distinct lifecycles ≡ true }
+        requires requests { (1 ≤ max_requests) × (max_requests ≤ 1000000) }
+        requires entries { (1 ≤ max_entries) × (max_entries ≤ 10000) }
+        ensures { result ≡ record { people = people; lifecycles = lifecycles; max_requests = max_requests; max_entries = max_entries } }
+    {
+        Settings {
+            people,
+            lifecycles,
+            max_requests,
+            max_entries,
+        }
+    }
+
+    /// The persons, their groups and their rights.
     pub fn people(&self) -> &People
         ensures { result.now ≡ people_of self.now }
     {

@@ -3,7 +3,9 @@ ghost use Rattle.std.specs.Option.{option_map};
 ghost use Rattle.std.specs.List.{list_all};
 ghost use Rattle.settings_core.specs.Settings.{knows};
 ghost use Rattle.desk_core.specs.Names.{in_order};
-ghost use Rattle.desk_core.specs.Decision.{decided_on, filing_change, requestor};
+ghost use Rattle.desk_core.specs.Decision.{decided_on, filing_change};
+ghost use Rattle.desk_core.specs.Facts.{watcher};
+ghost use Rattle.desk_core.specs.declared.rows.WatchRole.TheVariants.{Requestor};
 ghost use Rattle.desk_core.specs.Effect.{filing, given_or_caller, new_row};
 ghost use Rattle.desk_core.specs.Guard as guard;
 
@@ -15,11 +17,13 @@ use crate::names::in_byte_order;
 use crate::refusal::Refusal;
 use crate::rows::{Entry, EntryKind, RequestRow, Turn, WatchRole, Watcher};
 use lifecycle_core::Lifecycle;
+use rights_core::right;
 use std::alloc::{AllocError, Global};
 use text_core::{Sequence, Text, Texts, is_subject};
 
 impl Context<'_> {
     /// Files a request.
+    #[tactic(auto, unfolding(rights_core::specs::Right::create_ticket))]
     pub(super) fn create(
         &self,
         queue: &Text,
@@ -43,6 +47,7 @@ impl Context<'_> {
         if !has_given(lifecycle, status) || !self.knows_all(requestors.as_slice()) {
             return Err(Refusal::UnknownName);
         }
+        self.ask_on_queue(right::CREATE_TICKET, queue)?;
         let first = first_status(lifecycle, status);
         if !is_creatable(lifecycle, first) {
             return Err(Refusal::NoTransition);
@@ -111,7 +116,7 @@ impl Context<'_> {
     /// The persons given as requestors, each once, or the caller where none is given.
     fn requestors(&self, id: u32, given: &Texts) -> Result<Sequence<Watcher>, AllocError>
         ensures { IfOk result (λ watchers. watchers
-            ≡ map (requestor id) (in_order (given_or_caller self.now.caller.now given.now))) }
+            ≡ map (watcher id Requestor) (in_order (given_or_caller self.now.caller.now given.now))) }
     {
         let persons = if given.is_empty() {
             Texts::from(vec![in self.alloc; Text::new(self.alloc, self.caller)?]?)
@@ -124,7 +129,7 @@ impl Context<'_> {
 
 /// The persons as requestors of a request.
 fn as_requestors(alloc: Global, id: u32, persons: Texts) -> Result<Sequence<Watcher>, AllocError>
-    ensures { IfOk result (λ watchers. watchers ≡ map (requestor id) persons) }
+    ensures { IfOk result (λ watchers. watchers ≡ map (watcher id Requestor) persons) }
 {
     let mut watchers = Vec::with_capacity(alloc, persons.len())?;
     for person in persons.as_slice() {

@@ -51,6 +51,16 @@ pub(super) fn is_allowed(lifecycle: Option<&Lifecycle>, from: &Text, to: &Text) 
     }
 }
 
+/// The right that a move asks for.
+pub(super) fn right_of<'s>(lifecycle: Option<&'s Lifecycle>, from: &Text, to: &Text) -> &'s str
+    ensures { result.now ≡ guard.right_of (option_map (λ l. l.now) lifecycle.entry) from.now to.now }
+{
+    match lifecycle {
+        Some(lifecycle) => lifecycle.right_for(from.as_str(), to.as_str()),
+        None => "",
+    }
+}
+
 /// Whether a move leads from an inactive status to one that isn't.
 pub(super) fn opens_anew(lifecycle: Option<&Lifecycle>, from: &Text, to: &Text) -> bool
     ensures { result ≡ effect.opens_anew (option_map (λ l. l.now) lifecycle.entry) from.now to.now }

@@ -6,6 +6,7 @@ use crate::command::Command;
 use crate::decision::Context;
 use crate::refusal::Refusal;
 use crate::rows::QueueRow;
+use rights_core::right;
 use text_core::{Text, is_name};
 
 /// The most queues that a desk opens.
@@ -13,6 +14,7 @@ const MAX_QUEUES: u32 = 1_000;
 
 impl Context<'_> {
     /// Opens a queue.
+    #[tactic(auto, unfolding(rights_core::specs::Right::admin_queue))]
     pub(super) fn open_queue(
         &self,
         name: &Text,
@@ -31,6 +33,7 @@ impl Context<'_> {
         if self.settings.lifecycle(lifecycle.as_str()).is_none() || level.is_some() {
             return Err(Refusal::UnknownName);
         }
+        self.ask_on_queue(right::ADMIN_QUEUE, name)?;
         if self.facts.queue.is_some() {
             return Err(Refusal::Exists);
         }

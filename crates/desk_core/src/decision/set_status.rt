@@ -6,7 +6,7 @@ ghost use Rattle.desk_core.specs.Effect as effect;
 use crate::change::{Change, RequestChange};
 use crate::command::Command;
 use crate::decision::Context;
-use crate::decision::lifecycles::{has_status, is_allowed, lifecycle_of, opens_anew};
+use crate::decision::lifecycles::{has_status, is_allowed, lifecycle_of, opens_anew, right_of};
 use crate::facts::RequestFacts;
 use crate::refusal::Refusal;
 use crate::rows::{Entry, EntryKind, RequestRow};
@@ -26,10 +26,17 @@ impl Context<'_> {
         let Some(request) = &self.facts.request else {
             return Err(Refusal::NotFound);
         };
+        if !self.may_show(request) {
+            return Err(Refusal::NotFound);
+        }
         let lifecycle = lifecycle_of(self.settings, &self.facts.queue);
         if !has_status(lifecycle, status) {
             return Err(Refusal::UnknownName);
         }
+        self.ask_on(
+            right_of(lifecycle, &request.row.status, status),
+            request,
+        )?;
         if request.row.status == *status {
             return Err(Refusal::NoChange);
         }

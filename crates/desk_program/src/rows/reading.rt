@@ -1,24 +1,29 @@
-ghost use Rattle.std.specs.Prelude.{◌≡◌, IfOk};
+ghost use Rattle.std.specs.Prelude.{◌≡◌, ◌++◌, filter, map, IfOk, OnOk};
 ghost use Rattle.service_core.specs.Reading as reading;
 ghost use Rattle.service_core.specs.Desk.{queue_at};
-ghost use Rattle.service_core.specs.Facts.{facts_of, queue_facts, facts_on, request_facts};
+ghost use Rattle.service_core.specs.Facts.{facts_of, queue_facts, facts_on, no_facts, request_facts, watcher, watchers_of};
+ghost use Rattle.service_core.specs.Rights as rights;
 ghost use Rattle.desk_program.specs.Rows.{desk_of, request_of};
 
 use crate::rows::{Kept, Rows};
-use desk_core::{Answer, Command, Facts, Links, QueueRow, RequestFacts, Shown};
+use desk_core::{
+    Answer, Command, Facts, Links, QueueRow, RequestFacts, Shown, WatchRole, Watcher, sees_queue,
+};
+use settings_core::Settings;
 use std::alloc::{AllocError, Global};
-use text_core::{Sequence, Text};
+use text_core::{Sequence, Text, Texts};
 
 impl Rows {
     /// What a command looks at.
-    pub(super) fn facts_for(&self, command: &Command) -> Result<Facts, AllocError>
+    pub(super) fn facts_for(&self, alloc: Global, command: &Command) -> Result<Facts, AllocError>
         ensures { IfOk result (λ facts. facts ≡ facts_of command.now (desk_of self.now)) }
     {
         match command {
             Command::OpenQueue { queue, .. } => self.queue_facts(queue),
             Command::Create { queue, .. } => self.queue_facts(queue),
-            Command::SetStatus { id, .. } => self.facts_on(*id),
-            Command::Show { id } => self.facts_on(*id),
+            Command::SetStatus { id, .. } => self.facts_on(alloc, *id),
+            Command::Queues => Ok(no_facts()),
+            Command::Show { id } => self.facts_on(alloc, *id),
         }
     }
 
@@ -33,7 +38,7 @@ impl Rows {
         })
     }
 
-    fn facts_on(&self, id: u32) -> Result<Facts, AllocError>
+    fn facts_on(&self, alloc: Global, id: u32) -> Result<Facts, AllocError>
         ensures { IfOk result (λ facts. facts ≡ facts_on (desk_of self.now) id) }
     {
         match self.kept(id) {
@@ -41,14 +46,9 @@ impl Rows {
                 queue: self.queue_row(&kept.row.queue)?,
                 queue_count: 0,
                 request_count: 0,
-                request: Some(kept.facts()?),
+                request: Some(kept.facts(alloc)?),
             }),
-            None => Ok(Facts {
-                queue: None,
-                queue_count: 0,
-                request_count: 0,
-                request: None,
-            }),
+            None => Ok(no_facts()),
         }
     }
 
@@ -62,13 +62,20 @@ impl Rows {
     }
 
     /// The answer of a command that isn't refused, of the desk before it.
-    pub(super) fn answer_to(&self, alloc: Global, command: &Command) -> Result<Answer, AllocError>
-        ensures { IfOk result (λ answer. answer ≡ reading.answer_of command.now (desk_of self.now)) }
+    pub(super) fn answer_to(
+        &self,
+        alloc: Global,
+        settings: &Settings,
+        caller: &str,
+        command: &Command,
+    ) -> Result<Answer, AllocError>
+        ensures { IfOk result (λ answer. answer ≡ reading.answer_of settings.now caller.now command.now (desk_of self.now)) }
     {
         match command {
             Command::OpenQueue { .. } => Ok(Answer::Done),
             Command::Create { .. } => Ok(Answer::Created(count(self.requests.len() + 1)?)),
             Command::SetStatus { .. } => Ok(Answer::Done),
+            Command::Queues => Ok(Answer::Queues(self.queues_seen(alloc, settings, caller)?)),
             Command::Show { id } => match self.kept(*id) {
                 Some(kept) => Ok(Answer::Shown(kept.shown(alloc)?)),
                 None => Ok(Answer::Done),
@@ -77,12 +84,44 @@ impl Rows {
     }
 }
 
+impl Rows {
+    /// The queues that the caller may see.
+    fn queues_seen(
+        &self,
+        alloc: Global,
+        settings: &Settings,
+        caller: &str,
+    ) -> Result<Sequence<QueueRow>, AllocError>
+        ensures { IfOk result (λ seen. seen ≡ filter (rights.sees_queue settings.now caller.now) (desk_of self.now).queues) }
+    {
+        let mut seen = Vec::new(alloc);
+        for queue in &self.queues {
+            if sees_queue(settings, caller, queue) {
+                seen.push(queue.clone()?)?;
+            }
+        }
+        Ok(Sequence::from(seen))
+    }
+}
+
 impl Kept {
-    fn facts(&self) -> Result<RequestFacts, AllocError>
+    /// Its people, each with the role.
+    fn watchers(&self, alloc: Global) -> Result<Sequence<Watcher>, AllocError>
+        ensures { IfOk result (λ watchers. watchers ≡ watchers_of (request_of self.now)) }
+    {
+        let mut watchers = Vec::new(alloc);
+        put_watchers(&mut watchers, self.row.id, WatchRole::Requestor, &self.requestors)?;
+        put_watchers(&mut watchers, self.row.id, WatchRole::Cc, &self.cc)?;
+        put_watchers(&mut watchers, self.row.id, WatchRole::AdminCc, &self.admin_cc)?;
+        Ok(Sequence::from(watchers))
+    }
+
+    fn facts(&self, alloc: Global) -> Result<RequestFacts, AllocError>
         ensures { IfOk result (λ facts. facts ≡ request_facts (request_of self.now)) }
     {
         Ok(RequestFacts {
             row: self.row.clone()?,
+            watchers: self.watchers(alloc)?,
             entry_count: count(self.entries.len())?,
         })
     }
@@ -98,6 +137,37 @@ impl Kept {
             due: None,
             links: no_links(alloc),
         })
+    }
+}
+
+/// Puts the persons behind the watchers, each in the role.
+fn put_watchers(
+    watchers: &mut Vec<Watcher>,
+    id: u32,
+    role: WatchRole,
+    persons: &Texts,
+) -> Result<(), AllocError>
+    ensures { OnOk result (watchers.new.items ≡ watchers.old.items ++ map (watcher id role) persons.now) }
+{
+    for person in persons.as_slice() {
+        watchers.push(Watcher {
+            id,
+            role,
+            person: person.clone()?,
+        })?;
+    }
+    Ok(())
+}
+
+/// Of a command that looks at no queue and no request, or at one that isn't there.
+fn no_facts() -> Facts
+    ensures { result ≡ no_facts }
+{
+    Facts {
+        queue: None,
+        queue_count: 0,
+        request_count: 0,
+        request: None,
     }
 }
 

@@ -1,4 +1,4 @@
-ghost use Rattle.std.specs.Prelude.{◌≡◌, ◌==◌, nat_lt, IfOk, OnOk, OnErr};
+ghost use Rattle.std.specs.Prelude.{◌≡◌, ◌==◌, IfOk, OnOk, OnErr};
 ghost use Rattle.std.specs.List.{position_from};
 ghost use Rattle.std.specs.Ordering.{is_lt};
 ghost use Rattle.service_core.specs.Names.{text_order};
@@ -41,10 +41,7 @@ impl Rows {
         ensures err { OnErr result (desk_of self.new ≡ desk_of self.old) }
     {
         let kept = Kept::new(alloc, new)?;
-        match first_above(self.requests.as_slice(), kept.row.id) {
-            Some(place) => self.requests.insert(place, kept)?,
-            None => self.requests.push(kept)?,
-        }
+        self.requests.push(kept)?;
         Ok(())
     }
 
@@ -93,13 +90,6 @@ fn first_above_name(queues: &[QueueRow], name: &Text) -> Option<usize>
     ensures { result ≡ position_from (λ q. is_lt (text_order name.now q.name)) 0 queues.now }
 {
     queues.iter().position(|q| *name < q.name)
-}
-
-/// Where the first request with a greater number is, if there is one.
-fn first_above(requests: &[Kept], id: u32) -> Option<usize>
-    ensures { result ≡ position_from (λ k. nat_lt id k.row.id) 0 requests.now }
-{
-    requests.iter().position(|k| id < k.row.id)
 }
 
 /// Where the request with this number is, if there is one.

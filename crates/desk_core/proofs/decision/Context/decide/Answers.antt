@@ -1,4 +1,4 @@
--- a move is decided alike whatever number the command names: the facts are of that request
+-- a move and a showing are decided alike whatever number the command names: the facts are of that request
 use Rattle.desk_core.proofs.decision.Context.decide.Goals as goal
 
 pub returns-in-SetStatus-clause-ok : goal.returns-in-SetStatus-clause-ok
@@ -6,3 +6,9 @@ returns-in-SetStatus-clause-ok c = rw c.in-SetStatus.is (c.set_status.ensures.ok
 
 pub returns-in-SetStatus-clause-err : goal.returns-in-SetStatus-clause-err
 returns-in-SetStatus-clause-err c = rw c.in-SetStatus.is (c.set_status.ensures.err c.in-SetStatus.id)
+
+pub returns-in-Show-clause-ok : goal.returns-in-Show-clause-ok
+returns-in-Show-clause-ok c = rw c.in-Show.is (c.show.ensures.ok c.in-Show.id)
+
+pub returns-in-Show-clause-err : goal.returns-in-Show-clause-err
+returns-in-Show-clause-err c = rw c.in-Show.is (c.show.ensures.err c.in-Show.id)
