@@ -1,2 +1,5 @@
 pub mod Chains
+pub mod Lists
+pub mod Marks
+pub mod Places
 pub mod Repeats

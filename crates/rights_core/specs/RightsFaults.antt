@@ -37,26 +37,31 @@ has_names parts =
     list_all is_name parts.persons && list_all (λ g. is_name g.name) parts.groups
     && list_all has_grant_names parts.grants
 
+-- a group has this name
+abbrev pub has_group : List Group → List ℕ → Bool
+has_group groups name = list_any (λ g. bytes_eq g.name name) groups
+
 abbrev pub group_names : List Group → List (List ℕ)
 group_names groups = map (λ g. g.name) groups
-
--- persons and groups share one space of names
-abbrev pub names : List (List ℕ) → List Group → List (List ℕ)
-names persons groups = persons ++ group_names groups
 
 -- a name stands again further on in the list
 abbrev pub repeats_text : List (List ℕ) → Bool
 repeats_text [] = false
 repeats_text (text ∷ rest) = is_among rest text || repeats_text rest
 
--- each member of the group has one of these names
-abbrev pub has_known_members : List (List ℕ) → Group → Bool
-has_known_members known group = list_all (is_among known) group.members
+-- persons and groups share one space of names, in which one name stands twice
+abbrev pub repeats_name : List (List ℕ) → List Group → Bool
+repeats_name persons groups = repeats_text (persons ++ group_names groups)
+
+-- each member of the group is a person or a group
+abbrev pub has_known_members : List (List ℕ) → List Group → Group → Bool
+has_known_members persons groups group =
+    list_all (λ name. is_among persons name || has_group groups name) group.members
 
 -- the person or the group that a grant is for is there
 abbrev pub is_there : List (List ℕ) → List Group → Subject → Bool
 is_there persons groups (subject.Person name) = is_among persons name
-is_there persons groups (subject.Group name) = is_among (group_names groups) name
+is_there persons groups (subject.Group name) = has_group groups name
 is_there persons groups subject.Everyone = true
 is_there persons groups (subject.Role _) = true
 
@@ -68,6 +73,6 @@ when fault applies = if applies then Some fault else None
 unfoldable pub fault_of : Parts → Option RightsFault
 fault_of parts =
     option_or (when BadName (not (has_names parts)))
-    (option_or (when Repeated (repeats_text (names parts.persons parts.groups)))
-    (option_or (when UnknownMember (not (list_all (has_known_members (names parts.persons parts.groups)) parts.groups)))
+    (option_or (when Repeated (repeats_name parts.persons parts.groups))
+    (option_or (when UnknownMember (not (list_all (has_known_members parts.persons parts.groups) parts.groups)))
     (when UnknownSubject (not (list_all (λ g. is_there parts.persons parts.groups g.subject) parts.grants)))))

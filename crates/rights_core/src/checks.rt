@@ -1,4 +1,4 @@
-ghost use Rattle.std.specs.Prelude.{◌≡◌, ◌≢◌, ◌++◌, [], IfSome, map};
+ghost use Rattle.std.specs.Prelude.{◌≡◌, ◌≢◌, ◌||◌, IfSome};
 ghost use Rattle.std.specs.List.{list_all, list_any};
 ghost use Rattle.rights_core.specs.People as words;
 ghost use Rattle.rights_core.specs.RightsFaults as faults;
@@ -37,14 +37,14 @@ pub(crate) fn is_among(texts: &[Text], text: &str) -> bool
 
 /// Whether a group has this name.
 fn has_group(groups: &[Group], name: &str) -> bool
-    ensures { result ≡ words.is_among (faults.group_names groups.now) name.now }
+    ensures { result ≡ faults.has_group groups.now name.now }
 {
     groups.iter().any(|g| g.name.as_str() == name)
 }
 
 /// Whether a person or a group has this name.
 fn has_either(persons: &[Text], groups: &[Group], name: &str) -> bool
-    ensures { result ≡ words.is_among (faults.names persons.now groups.now) name.now }
+    ensures { result ≡ (words.is_among persons.now name.now || faults.has_group groups.now name.now) }
 {
     is_among(persons, name) || has_group(groups, name)
 }
@@ -53,9 +53,25 @@ fn has_either(persons: &[Text], groups: &[Group], name: &str) -> bool
 fn has_names(persons: &[Text], groups: &[Group], grants: &[Grant]) -> bool
     ensures { result ≡ faults.has_names (words.parts_of persons.now groups.now grants.now) }
 {
-    persons.iter().all(|p| is_name(p.as_str()))
-        && groups.iter().all(|g| is_name(g.name.as_str()))
-        && grants.iter().all(|g| has_grant_names(g))
+    are_names(persons) && have_names(groups) && have_grant_names(grants)
+}
+
+fn are_names(texts: &[Text]) -> bool
+    ensures { result ≡ list_all is_name_of texts.now }
+{
+    texts.iter().all(|t| is_name(t.as_str()))
+}
+
+fn have_names(groups: &[Group]) -> bool
+    ensures { result ≡ list_all (λ g. is_name_of g.name) groups.now }
+{
+    groups.iter().all(|g| is_name(g.name.as_str()))
+}
+
+fn have_grant_names(grants: &[Grant]) -> bool
+    ensures { result ≡ list_all faults.has_grant_names grants.now }
+{
+    grants.iter().all(|g| has_grant_names(g))
 }
 
 fn has_grant_names(grant: &Grant) -> bool
@@ -69,8 +85,9 @@ fn has_grant_names(grant: &Grant) -> bool
 }
 
 /// Whether two of the persons and groups have one name.
+#[tactic(auto, using(crate::proofs::Repeats::repeats_in_either))]
 fn repeats_name(persons: &[Text], groups: &[Group]) -> bool
-    ensures { result ≡ faults.repeats_text (faults.names persons.now groups.now) }
+    ensures { result ≡ faults.repeats_name persons.now groups.now }
 {
     repeats_text(persons) || repeats_group(groups) || shares_name(persons, groups)
 }
@@ -88,6 +105,7 @@ fn repeats_text(texts: &[Text]) -> bool
 }
 
 /// Whether two groups have one name.
+#[tactic(auto, using(crate::proofs::Repeats::repeats_from))]
 fn repeats_group(groups: &[Group]) -> bool
     ensures { result ≡ faults.repeats_text (faults.group_names groups.now) }
 {
@@ -101,20 +119,20 @@ fn repeats_group(groups: &[Group]) -> bool
 
 /// Whether a person has a group's name.
 fn shares_name(persons: &[Text], groups: &[Group]) -> bool
-    ensures { result ≡ list_any (words.is_among (faults.group_names groups.now)) persons.now }
+    ensures { result ≡ list_any (faults.has_group groups.now) persons.now }
 {
     persons.iter().any(|p| has_group(groups, p.as_str()))
 }
 
 /// Whether each member of a group is a person or a group.
 fn knows_members(persons: &[Text], groups: &[Group]) -> bool
-    ensures { result ≡ list_all (faults.has_known_members (faults.names persons.now groups.now)) groups.now }
+    ensures { result ≡ list_all (faults.has_known_members persons.now groups.now) groups.now }
 {
     groups.iter().all(|g| has_known_members(persons, groups, g))
 }
 
 fn has_known_members(persons: &[Text], groups: &[Group], group: &Group) -> bool
-    ensures { result ≡ faults.has_known_members (faults.names persons.now groups.now) group.now }
+    ensures { result ≡ faults.has_known_members persons.now groups.now group.now }
 {
     group
         .members

@@ -27,12 +27,12 @@ fn listed_places(
     ensures { IfOk result (λ p. p ≡ words.listed_places groups.now group.now) }
 {
     let members = group.members.as_slice();
-    let places = groups
-        .iter()
-        .enumerate()
-        .filter(|(_, other)| checks::is_among(members, other.name.as_str()))
-        .map(|(place, _)| place)
-        .collect::<Vec<usize>>(alloc)?;
+    let mut places = Vec::new(alloc);
+    for (place, other) in groups.iter().enumerate() {
+        if checks::is_among(members, other.name.as_str()) {
+            places.push(place)?;
+        }
+    }
     Ok(Sequence::from(places))
 }
 

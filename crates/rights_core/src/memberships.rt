@@ -41,8 +41,9 @@ fn groups_of(
     ensures { IfOk result (λ t. (group : List ℕ) → words.is_among t group ≡ words.leads groups.now person.now group) }
 {
     let mut marks = direct(alloc, groups, person)?;
-    closure::close(nested, marks.as_mut_slice());
-    marked_names(alloc, groups, marks.as_slice())
+    let marks = marks.as_mut_slice();
+    closure::close(nested, marks);
+    marked_names(alloc, groups, marks)
 }
 
 /// Which of the groups list the person.
