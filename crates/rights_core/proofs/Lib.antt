@@ -1,4 +1,5 @@
 pub mod Chains
+pub mod Kept
 pub mod Lists
 pub mod Marks
 pub mod Places

@@ -8,7 +8,7 @@ use Rattle.rights_core.specs.declared.grant.Subject.{Subject}
 use Rattle.rights_core.specs.declared.grant.Subject.TheVariants as subject
 use Rattle.rights_core.specs.declared.parts.Group.{Group}
 use Rattle.rights_core.specs.declared.role.Roles.{Roles}
-use Rattle.rights_core.specs.People.{has_role, is_among, leads}
+use Rattle.rights_core.specs.People.{covers, has_role, is_among, leads}
 
 -- each person, and no other text, has the list of the groups from which a chain leads to the person
 abbrev pub IsMemberships : {Y : Type 0} → List (List ℕ) → List Group → BTreeMap (String Y) (List (List ℕ)) → Type 0
@@ -32,3 +32,7 @@ is_meant_in groups person roles subject.Everyone = true
 is_meant_in groups person roles (subject.Person name) = bytes_eq name person
 is_meant_in groups person roles (subject.Group name) = is_among groups name
 is_meant_in groups person roles (subject.Role role) = has_role roles role
+
+-- the grant covers the queue and means that person
+abbrev pub meets : List ℕ → List ℕ → List (List ℕ) → Roles → Grant → Bool
+meets queue person groups roles grant = covers grant queue && is_meant_in groups person roles grant.subject

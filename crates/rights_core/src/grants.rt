@@ -1,10 +1,12 @@
-ghost use Rattle.std.specs.Prelude.{◌≡◌, ◌&&◌, IfOk};
+ghost use Rattle.std.specs.Prelude.{◌≡◌, ◌||◌, IfOk};
 ghost use Rattle.std.specs.List.{list_any};
-ghost use Rattle.rights_core.specs.Index.{IsGrantsByRight, grants_under, is_meant_in};
+ghost use Rattle.rights_core.specs.Index.{IsGrantsByRight, grants_under, is_meant_in, meets};
 ghost use Rattle.rights_core.specs.People as words;
+ghost use Rattle.rights_core.specs.Right.{super_user};
 
 use crate::checks;
 use crate::grant::{Grant, Subject};
+use crate::right::SUPER_USER;
 use crate::role::Roles;
 use std::alloc::{AllocError, Global};
 use std::collections::BTreeMap;
@@ -25,9 +27,10 @@ pub(crate) fn by_right(alloc: Global, grants: &[Grant]) -> Result<GrantsByRight,
     Ok(kept)
 }
 
-/// Whether a grant that is kept under the right covers the queue and means the person, who is a member of the groups
-/// and has the roles.
-pub(crate) fn is_granted(
+/// Whether a grant of the right, or of `SuperUser`, covers the queue and means the person, who is a member of the
+/// groups and has the roles.
+#[tactic(auto, unfolding(crate::specs::Right::super_user))]
+pub(crate) fn give(
     kept: &GrantsByRight,
     right: &str,
     queue: &str,
@@ -35,14 +38,26 @@ pub(crate) fn is_granted(
     groups: &[Text],
     roles: Roles,
 ) -> bool
-    ensures { result ≡ list_any (λ g. words.covers g queue.now && is_meant_in groups.now person.now roles g.subject) (grants_under kept.now right.now) }
+    ensures { result ≡ (list_any (meets queue.now person.now groups.now roles) (grants_under kept.now right.now) || list_any (meets queue.now person.now groups.now roles) (grants_under kept.now super_user)) }
 {
-    match kept.get(right) {
-        Some(grants) => grants
-            .iter()
-            .any(|g| covers(g, queue) && is_meant(&g.subject, person, groups, roles)),
-        None => false,
-    }
+    meet(granted(kept, right), queue, person, groups, roles)
+        || meet(granted(kept, SUPER_USER), queue, person, groups, roles)
+}
+
+/// The grants that are kept under the right.
+fn granted<'a>(kept: &'a GrantsByRight, right: &str) -> &'a [Grant]
+    ensures { result.now ≡ grants_under kept.now right.now }
+{
+    kept.get(right).map_or(&[], |grants| grants.as_slice())
+}
+
+/// Whether one of the grants covers the queue and means the person.
+fn meet(grants: &[Grant], queue: &str, person: &str, groups: &[Text], roles: Roles) -> bool
+    ensures { result ≡ list_any (meets queue.now person.now groups.now roles) grants.now }
+{
+    grants
+        .iter()
+        .any(|g| covers(g, queue) && is_meant(&g.subject, person, groups, roles))
 }
 
 /// Whether the grant is for the queue, or for all.

@@ -8,7 +8,7 @@ use crate::grants::{self, GrantsByRight};
 use crate::memberships::{self, Memberships};
 use crate::parts::{Group, Parts};
 use crate::role::Roles;
-use crate::{checks, right};
+use crate::checks;
 use std::alloc::Global;
 use std::marker::Model;
 use text_core::Text;
@@ -84,16 +84,7 @@ impl People {
     {
         match self.memberships.get(person) {
             Some(groups) => {
-                let groups = groups.as_slice();
-                grants::is_granted(&self.grants, right, queue, person, groups, roles)
-                    || grants::is_granted(
-                        &self.grants,
-                        right::SUPER_USER,
-                        queue,
-                        person,
-                        groups,
-                        roles,
-                    )
+                grants::give(&self.grants, right, queue, person, groups.as_slice(), roles)
             }
             None => false,
         }

@@ -9,7 +9,6 @@ pub returns : goal.returns
 returns c =
     let direct : c.as_mut_slice-marks.result.now ≡ direct_marks c.args.groups.now c.args.person.now =
             c.as_mut_slice-marks.ensures.value ∙ c.in_ok-marks.ensures in
-    let closed = rw c.requires at c.close.ensures.closed in
     IfOk-weaker
     c.marked_names.result
     _
