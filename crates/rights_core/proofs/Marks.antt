@@ -1,11 +1,11 @@
 -- What marking one more place does.
-use Rattle.std.proofs.Common.{◌≡◌, ◌≢◌, ℕ, ◌+◌, ◌<◌, Bool, true, false, not, cond, List, [], length, get_or, ⊎_elim, refl, arith, get_or-set_same, get_or-set_other, IsTrue}
+use Rattle.std.proofs.Common.{◌≡◌, ℕ, ◌+◌, ◌<◌, Bool, true, false, not, cond, List, length, get_or, ⊎_elim, refl, arith, get_or-set_same, get_or-set_other, IsTrue}
 use Rattle.std.proofs.Math.ListN.{set}
 use Rattle.std.proofs.lemmas.Bool.{cases_eq}
 use Rattle.std.proofs.lemmas.List.Sums.{sum_by-set}
 use Rattle.std.specs.List.{list_any, sum_by}
 use Rattle.rights_core.proofs.Lists.{any_weaker}
-use Rattle.rights_core.specs.Closure.{is_marked, unmarked_count, AllMarkedPass, IsClosed}
+use Rattle.rights_core.specs.Closure.{is_marked, unmarked_count, AllMarkedPass}
 
 pub marked_kept : (marks : List Bool) (i : ℕ) → i < length marks → AllMarkedPass marks (is_marked (set marks i true))
 marked_kept marks i inside k marked =

@@ -105,7 +105,6 @@ fn repeats_text(texts: &[Text]) -> bool
 }
 
 /// Whether two groups have one name.
-#[tactic(auto, using(crate::proofs::Repeats::repeats_from))]
 fn repeats_group(groups: &[Group]) -> bool
     ensures { result ≡ faults.repeats_text (faults.group_names groups.now) }
 {

@@ -1,4 +1,4 @@
-use Rattle.std.proofs.Common.{◌≡◌, ℕ, Bool, length}
+use Rattle.std.proofs.Common.{ℕ, Bool}
 use Rattle.rights_core.specs.Closure as words
 use Rattle.rights_core.proofs.closure.close.Given as goal
 

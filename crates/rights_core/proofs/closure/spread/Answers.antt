@@ -1,8 +1,6 @@
-use Rattle.std.proofs.Common.{◌≡◌, ℕ, ◌+◌, ◌<◌, ◌≤◌, Bool, true, false, List, [], length, get_or, sym, ap, subst, ⊎_elim, arith, below_more, IsTrue, rules, ◌∙◌}
-use Rattle.std.proofs.Math.ListN.{set}
+use Rattle.std.proofs.Common.{◌≡◌, ◌<◌, true, false, [], length, get_or, sym, ap, ⊎_elim, arith, below_more, IsTrue, rules, ◌∙◌}
 use Rattle.std.proofs.lemmas.List.{get_or_default}
 use Rattle.std.specs.List.{list_any}
-use Rattle.std.specs.Bool.{OnFalse}
 use Rattle.std.proofs.lemmas.Bool.{false≢true, OnTrue_at, OnFalse_at, OnFalse_from, cases_Bool}
 use Rattle.rights_core.specs.Closure as words
 use Rattle.rights_core.proofs.Marks.{marked_kept, marked_passes, fewer_unmarked, listed_mark}

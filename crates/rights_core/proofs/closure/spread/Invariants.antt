@@ -1,4 +1,4 @@
-use Rattle.std.proofs.Common.{◌≡◌, ℕ, Bool, true, ◌<◌, ◌≤◌, ◌+◌, length, IsTrue, []}
+use Rattle.std.proofs.Common.{◌≡◌, ℕ, Bool, ◌<◌, IsTrue, []}
 use Rattle.std.specs.Bool.{OnTrue, OnFalse}
 use Rattle.std.specs.List.{list_any, slice_index_or}
 use Rattle.rights_core.specs.Closure as words

@@ -1,6 +1,5 @@
-use Rattle.std.proofs.Common.{◌≡◌, ℕ, Bool, List, map, ap, ◌∙◌}
+use Rattle.std.proofs.Common.{◌≡◌, ap, ◌∙◌}
 use Rattle.std.proofs.lemmas.Result.{IfOk-weaker}
-use Rattle.rights_core.specs.Closure as words
 use Rattle.rights_core.specs.People.{is_among}
 use Rattle.rights_core.proofs.Places.{closed_names, direct_marks}
 use Rattle.rights_core.proofs.memberships.groups_of.Goals as goal

@@ -1,5 +1,4 @@
-use Rattle.std.proofs.Common.{◌≡◌, map, take}
-use Rattle.rights_core.specs.Closure.{listed_places}
+use Rattle.std.proofs.Common.{take}
 use Rattle.rights_core.specs.Index.{IsMemberships}
 use Rattle.rights_core.proofs.memberships.memberships.Given as goal
 

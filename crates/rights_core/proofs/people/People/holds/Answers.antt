@@ -1,8 +1,5 @@
-use Rattle.std.proofs.Common.{◌≡◌, Bool, true, ◌||◌, ap, sym, ◌∙◌}
-use Rattle.std.specs.List.{list_any}
-use Rattle.rights_core.specs.Index.{grants_under, meets}
+use Rattle.std.proofs.Common.{ap, sym, ◌∙◌}
 use Rattle.rights_core.specs.People.{is_among}
-use Rattle.rights_core.specs.Right.{super_user}
 use Rattle.rights_core.proofs.Kept.{granted_kept, known_kept, member_kept, nobody_kept, unknown_holds_nothing}
 use Rattle.rights_core.proofs.people.People.holds.Goals as goal
 

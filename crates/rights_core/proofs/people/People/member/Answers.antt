@@ -1,6 +1,5 @@
-use Rattle.std.proofs.Common.{◌≡◌, Some, None, ap, sym, ◌∙◌, IsTrue}
-use Rattle.std.specs.BTreeMap.{get_by_text}
-use Rattle.rights_core.specs.People.{is_among, is_member, knows}
+use Rattle.std.proofs.Common.{◌≡◌, ap, sym, ◌∙◌}
+use Rattle.rights_core.specs.People.{is_among, is_member}
 use Rattle.rights_core.proofs.Kept.{member_kept, nobody_kept, no_member, member_chain}
 use Rattle.rights_core.proofs.people.People.member.Goals as goal
 
