@@ -4,7 +4,7 @@ use Rattle.std.specs.Option.{option_map, option_and_then}
 use Rattle.std.specs.Str.{bytes_eq}
 use Rattle.clap.specs.Words.{Kinds, Row, Text, all_of, fault_of, first_of, subcommand_of}
 use Rattle.desk_core.specs.declared.command.Command.{Command}
-use Rattle.desk_core.specs.declared.command.Command.TheVariants.{OpenQueue, Create, SetStatus, Show}
+use Rattle.desk_core.specs.declared.command.Command.TheVariants.{OpenQueue, Create, SetStatus, Queues, Show}
 use Rattle.wire_core.specs.Number.{number_of}
 use Rattle.wire_core.specs.Table.{desk}
 
@@ -55,6 +55,7 @@ command_in met =
     else if bytes_eq met.0 (codes "create") then create_of met.1
     else if bytes_eq met.0 (codes "status") then status_of met.1
     else if bytes_eq met.0 (codes "resolve") then resolve_of met.1
+    else if bytes_eq met.0 (codes "queues") then Some Queues
     else if bytes_eq met.0 (codes "show") then show_of met.1
     else None
 

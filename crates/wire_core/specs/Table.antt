@@ -49,6 +49,10 @@ status = with_all (bare (codes "status")) (codes "id" ∷ codes "status" ∷ [])
 abbrev pub resolve : App
 resolve = with_all (bare (codes "resolve")) (codes "id" ∷ [])
 
+-- queues
+abbrev pub queues : App
+queues = bare (codes "queues")
+
 -- show ID
 abbrev pub show : App
 show = with_all (bare (codes "show")) (codes "id" ∷ [])
@@ -57,9 +61,13 @@ show = with_all (bare (codes "show")) (codes "id" ∷ [])
 unfoldable pub with_new : App
 with_new = with_subcommand (with_subcommand root queue.top) create.top
 
--- the whole table
+-- and those that move or change
+unfoldable pub with_changes : App
+with_changes = with_subcommand (with_subcommand with_new status.top) resolve.top
+
+-- and those that read: the whole table
 unfoldable pub desk : App
-desk = with_subcommand (with_subcommand (with_subcommand with_new status.top) resolve.top) show.top
+desk = with_subcommand (with_subcommand with_changes queues.top) show.top
 
 -- the command is that one, and has no argument for all levels
 pub record Is (a : App) (c : Command) : Type 0 where

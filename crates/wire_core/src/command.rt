@@ -34,6 +34,7 @@ fn command_in(alloc: Global, name: &str, given: &ArgMatches<'_>) -> Result<Comma
         "create" => create(alloc, given),
         "status" => status(alloc, given),
         "resolve" => resolve(alloc, given),
+        "queues" => Ok(Command::Queues),
         "show" => show(given),
         _ => Err(WordsFault::BadWords),
     }

@@ -11,9 +11,8 @@ pub(crate) fn desk<'a>(alloc: Global) -> Result<Command<'a>, AllocError>
     ensures { IfOk result (Is table.desk) }
 {
     let command = with_new(alloc, root_command(alloc))?;
-    let command = with_subcommand(command, leaf(alloc, "status", &["id", "status"])?)?;
-    let command = with_subcommand(command, leaf(alloc, "resolve", &["id"])?)?;
-    with_subcommand(command, leaf(alloc, "show", &["id"])?)
+    let command = with_changes(alloc, command)?;
+    with_readings(alloc, command)
 }
 
 /// The subcommands that open and file, added to the root.
@@ -22,6 +21,22 @@ fn with_new<'a>(alloc: Global, command: Command<'a>) -> Result<Command<'a>, Allo
 {
     let command = with_subcommand(command, leaf(alloc, "queue", &["name", "lifecycle"])?)?;
     with_subcommand(command, create(alloc)?)
+}
+
+/// The subcommands that move or change, added to those.
+fn with_changes<'a>(alloc: Global, command: Command<'a>) -> Result<Command<'a>, AllocError>
+    ensures { Is table.with_new command.entry → IfOk result (Is table.with_changes) }
+{
+    let command = with_subcommand(command, leaf(alloc, "status", &["id", "status"])?)?;
+    with_subcommand(command, leaf(alloc, "resolve", &["id"])?)
+}
+
+/// The subcommands that read, added to those.
+fn with_readings<'a>(alloc: Global, command: Command<'a>) -> Result<Command<'a>, AllocError>
+    ensures { Is table.with_changes command.entry → IfOk result (Is table.desk) }
+{
+    let command = with_subcommand(command, bare_command(alloc, "queues"))?;
+    with_subcommand(command, leaf(alloc, "show", &["id"])?)
 }
 
 fn create<'a>(alloc: Global) -> Result<Command<'a>, AllocError>

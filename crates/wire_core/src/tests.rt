@@ -84,6 +84,14 @@ fn statuses_are_set(rt: HostRuntime) -> Result<(), Fail> {
 }
 
 #[test]
+fn queues_are_listed(rt: HostRuntime) -> Result<(), Fail> {
+    let alloc = rt.alloc();
+    assert!(rt; command_of(alloc, &["queues"])? == Command::Queues);
+    assert!(rt; command_of(alloc, &["queues", "--"])? == Command::Queues);
+    Ok(())
+}
+
+#[test]
 fn requests_are_shown(rt: HostRuntime) -> Result<(), Fail> {
     let alloc = rt.alloc();
     assert!(rt; command_of(alloc, &["show", "1"])? == Command::Show { id: 1 });
@@ -111,6 +119,9 @@ fn no_words_of_a_command(rt: HostRuntime) -> Result<(), Fail> {
         "create q s --status",
         "resolve",
         "status 1",
+        "queues x",
+        "queues --all",
+        "Queues",
         "--help",
         "help",
         "show --help",
