@@ -1,5 +1,5 @@
 -- What a caller is told is told of his view of the desk.
-use Rattle.std.proofs.Common.{◌≡◌, ◌∙◌, ℕ, ◌+◌, ◌==◌, ◌≤◌, ◌<◌, Bool, true, false, not, ◌||◌, cond, List, [], ◌∷◌, find, filter, map, Option, Some, None, Ok, Err, inl, inr, refl, ap, sym, arith}
+use Rattle.std.proofs.Common.{◌≡◌, ◌∙◌, ℕ, ◌+◌, ◌==◌, ◌≤◌, ◌<◌, Bool, true, false, not, ◌||◌, cond, List, [], ◌∷◌, find, filter, map, Option, Some, None, Err, inl, inr, refl, ap, sym, arith}
 use Rattle.std.specs.Option.{option_and_then, option_map}
 use Rattle.std.proofs.lemmas.Bool.{eqb-true}
 use Rattle.std.proofs.lemmas.Bool.Decides.{eqb_tells}
@@ -7,13 +7,13 @@ use Rattle.hours_core.specs.Moment.{is_moment}
 use Rattle.settings_core.specs.Settings.{knows}
 use Rattle.settings_core.specs.declared.settings.Settings.{Settings}
 use Rattle.desk_core.proofs.Steps.{both}
-use Rattle.desk_core.specs.Desk.{Desk, Request, is_numbered, queue_at, request_at}
-use Rattle.desk_core.specs.Guard.{Condition, first_holding, guard, on_request, set_status_conditions, Standing, standing_on}
-use Rattle.desk_core.specs.Laws.{IsNumbered, RefusesAsMissing, RepliesByTheView, request_named}
-use Rattle.desk_core.specs.Reading.{answer_of, shown_if_there}
+use Rattle.desk_core.specs.Desk.{Desk, Request, is_numbered, request_at}
+use Rattle.desk_core.specs.Guard.{Condition, first_holding, on_request, Standing, standing_on}
+use Rattle.desk_core.specs.Laws.{IsNumbered, RefusesAsMissing, RepliesByTheView}
+use Rattle.desk_core.specs.Reading.{shown_if_there}
 use Rattle.desk_core.specs.Refusals.{number_of}
 use Rattle.desk_core.specs.Rights.{may_show, sees_queue}
-use Rattle.desk_core.specs.Step.{Reply, reply_to, reply_unless}
+use Rattle.desk_core.specs.Step.{Reply, reply_unless}
 use Rattle.desk_core.specs.View.{as_seen, has_shown, view}
 use Rattle.desk_core.specs.declared.answer.Answer.{Answer}
 use Rattle.desk_core.specs.declared.answer.Answer.TheVariants as answer
@@ -156,18 +156,24 @@ refuses_as_missing s at caller (SetStatus asked status) desk id e named hidden =
     let same : asked ≡ id = cc in
     let a = not (knows s caller) in
     let b = not (is_moment at) in
-    let gone = ap (λ n. option_and_then (kept_if (may_show s caller) s caller) (request_at desk n)) same ∙ sym (in_view s caller desk id e) ∙ hidden in
-    (missing a b, missing_is_low a b, hidden_refuses s at caller (request_at desk asked) _ _ gone,
-    λ other none. hidden_refuses s at caller (request_at other asked) _ _
-    (ap (λ n. option_and_then (kept_if (may_show s caller) s caller) (request_at other n)) same
-    ∙ ap (option_and_then (kept_if (may_show s caller) s caller)) none))
+    let gone = ap (λ n. option_and_then (kept_if (may_show s caller) s caller) (request_at desk n)) same ∙ sym (in_view s caller desk id e) ∙ hidden in (
+      missing a b,
+      missing_is_low a b,
+      hidden_refuses s at caller (request_at desk asked) _ _ gone,
+      λ other none. hidden_refuses s at caller (request_at other asked) _ _
+          (ap (λ n. option_and_then (kept_if (may_show s caller) s caller) (request_at other n)) same
+          ∙ ap (option_and_then (kept_if (may_show s caller) s caller)) none),
+    )
 refuses_as_missing s at caller Queues desk id e named hidden = cc
 refuses_as_missing s at caller (Show asked) desk id e named hidden =
     let same : asked ≡ id = cc in
     let a = not (knows s caller) in
     let b = not (is_moment at) in
-    let gone = ap (λ n. option_and_then (kept_if (may_show s caller) s caller) (request_at desk n)) same ∙ sym (in_view s caller desk id e) ∙ hidden in
-    (missing a b, missing_is_low a b, hidden_refuses s at caller (request_at desk asked) _ _ gone,
-    λ other none. hidden_refuses s at caller (request_at other asked) _ _
-    (ap (λ n. option_and_then (kept_if (may_show s caller) s caller) (request_at other n)) same
-    ∙ ap (option_and_then (kept_if (may_show s caller) s caller)) none))
+    let gone = ap (λ n. option_and_then (kept_if (may_show s caller) s caller) (request_at desk n)) same ∙ sym (in_view s caller desk id e) ∙ hidden in (
+      missing a b,
+      missing_is_low a b,
+      hidden_refuses s at caller (request_at desk asked) _ _ gone,
+      λ other none. hidden_refuses s at caller (request_at other asked) _ _
+          (ap (λ n. option_and_then (kept_if (may_show s caller) s caller) (request_at other n)) same
+          ∙ ap (option_and_then (kept_if (may_show s caller) s caller)) none),
+    )

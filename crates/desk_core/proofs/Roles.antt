@@ -1,6 +1,5 @@
 -- The watchers of a request tell the roles on it.
 use Rattle.std.proofs.Common.{◌≡◌, ◌∙◌, ℕ, ◌==◌, Bool, true, false, ◌&&◌, ◌||◌, List, [], ◌∷◌, ◌++◌, map, refl, inl, inr}
-use Rattle.std.specs.List.{list_any}
 use Rattle.std.specs.Str.{bytes_eq}
 use Rattle.std.proofs.lemmas.Bool.Decides.{eqb_tells}
 use Rattle.std.proofs.lemmas.List.Folds.{list_any-append}
@@ -42,31 +41,39 @@ in_one : (person : List ℕ) (id : ℕ) (asked : WatchRole) (requestors cc admin
     ≡ (is_watching person id asked (map (watcher id Requestor) requestors)
     || (is_watching person id asked (map (watcher id Cc) cc) || is_watching person id asked (map (watcher id AdminCc) admin_cc)))
 in_one person id asked requestors cc admin_cc =
-    rw (list_any-append (is_in person id asked) (map (watcher id Requestor) requestors) _,
-        list_any-append (is_in person id asked) (map (watcher id Cc) cc) (map (watcher id AdminCc) admin_cc)) refl
+    rw (
+      list_any-append (is_in person id asked) (map (watcher id Requestor) requestors) _,
+      list_any-append (is_in person id asked) (map (watcher id Cc) cc) (map (watcher id AdminCc) admin_cc),
+    ) refl
 
 requestors_kept : (person : List ℕ) (r : Request)
     → is_watching person r.row.id Requestor (watchers_of r) ≡ is_among r.requestors person
 requestors_kept person r =
     in_one person r.row.id Requestor r.requestors r.cc r.admin_cc
-    ∙ rw (in_the_role person r.row.id Requestor Requestor r.requestors refl,
-          in_no_role person r.row.id Requestor Cc r.cc refl,
-          in_no_role person r.row.id Requestor AdminCc r.admin_cc refl) (or_false (is_among r.requestors person))
+    ∙ rw (
+      in_the_role person r.row.id Requestor Requestor r.requestors refl,
+      in_no_role person r.row.id Requestor Cc r.cc refl,
+      in_no_role person r.row.id Requestor AdminCc r.admin_cc refl,
+    ) (or_false (is_among r.requestors person))
 
 cc_kept : (person : List ℕ) (r : Request) → is_watching person r.row.id Cc (watchers_of r) ≡ is_among r.cc person
 cc_kept person r =
     in_one person r.row.id Cc r.requestors r.cc r.admin_cc
-    ∙ rw (in_no_role person r.row.id Cc Requestor r.requestors refl,
-          in_the_role person r.row.id Cc Cc r.cc refl,
-          in_no_role person r.row.id Cc AdminCc r.admin_cc refl) (or_false (is_among r.cc person))
+    ∙ rw (
+      in_no_role person r.row.id Cc Requestor r.requestors refl,
+      in_the_role person r.row.id Cc Cc r.cc refl,
+      in_no_role person r.row.id Cc AdminCc r.admin_cc refl,
+    ) (or_false (is_among r.cc person))
 
 admin_cc_kept : (person : List ℕ) (r : Request)
     → is_watching person r.row.id AdminCc (watchers_of r) ≡ is_among r.admin_cc person
 admin_cc_kept person r =
     in_one person r.row.id AdminCc r.requestors r.cc r.admin_cc
-    ∙ rw (in_no_role person r.row.id AdminCc Requestor r.requestors refl,
-          in_no_role person r.row.id AdminCc Cc r.cc refl,
-          in_the_role person r.row.id AdminCc AdminCc r.admin_cc refl) refl
+    ∙ rw (
+      in_no_role person r.row.id AdminCc Requestor r.requestors refl,
+      in_no_role person r.row.id AdminCc Cc r.cc refl,
+      in_the_role person r.row.id AdminCc AdminCc r.admin_cc refl,
+    ) refl
 
 -- the roles that the watchers tell are the person's on the request
 pub roles_kept : (person : List ℕ) (r : Request) → roles_among person r.row (watchers_of r) ≡ roles_on person r

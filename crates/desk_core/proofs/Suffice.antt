@@ -1,5 +1,5 @@
 -- The facts of a desk suffice: what is decided on them is the desk's own refusal, or leads to its effect.
-use Rattle.std.proofs.Common.{◌≡◌, ◌≢◌, ℕ, ◌+◌, ◌==◌, Bool, true, false, cond, ◌||◌, List, [], ◌∷◌, ◌++◌, map, find, length, Option, Some, None, Result, Ok, Err, IfOk, IfErr, refl, ap, sym, subst, ◌∙◌}
+use Rattle.std.proofs.Common.{◌≡◌, ◌≢◌, ℕ, ◌+◌, ◌==◌, Bool, true, false, cond, List, [], ◌∷◌, map, find, Option, Some, None, Result, Ok, Err, IfOk, IfErr, refl, ap, sym, subst, ◌∙◌}
 use Rattle.std.specs.Option.{option_map}
 use Rattle.std.proofs.lemmas.Bool.{eqb-true}
 use Rattle.settings_core.specs.declared.settings.Settings.{Settings}
@@ -8,15 +8,13 @@ use Rattle.desk_core.specs.Change.{applied, persons_in}
 use Rattle.desk_core.specs.Decision.{conditions_by, change_by, decided, unless_refused, moving_if_there}
 use Rattle.desk_core.specs.Desk.{Desk, Request, request_at, queue_at, request_count}
 use Rattle.desk_core.specs.Effect.{effect, queue_of, with_moved, given_or_caller}
-use Rattle.desk_core.specs.Facts.{facts_of, facts_on, is_watching, request_facts, roles_among, standing_by, watcher, watchers_of}
+use Rattle.desk_core.specs.Facts.{facts_of, facts_on, request_facts, standing_by, watcher}
 use Rattle.desk_core.specs.Guard.{guard, conditions_of, on_request, set_status_conditions, lifecycle_of, standing_on}
 use Rattle.desk_core.specs.Names.{in_order}
-use Rattle.desk_core.specs.Rights.{is_among, roles_on}
 use Rattle.desk_core.specs.declared.change.Change.{Change}
 use Rattle.desk_core.specs.declared.command.Command.{Command}
 use Rattle.desk_core.specs.declared.command.Command.TheVariants.{OpenQueue, Create, SetStatus, Queues, Show}
 use Rattle.desk_core.specs.declared.facts.Facts.{Facts}
-use Rattle.desk_core.specs.declared.rows.WatchRole.{WatchRole}
 use Rattle.desk_core.specs.declared.rows.WatchRole.TheVariants.{Requestor, Cc, AdminCc}
 use Rattle.desk_core.specs.declared.refusal.Refusal.{Refusal}
 use Rattle.desk_core.specs.declared.refusal.Refusal.TheVariants.{Unavailable}

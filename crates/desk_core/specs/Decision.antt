@@ -1,7 +1,7 @@
 -- A decision on facts: the conditions of a command over them, and the change of a command that isn't refused.
 -- That on the facts of a desk it is the desk's own refusal or effect is what `decide` promises.
 use Rattle.std.specs.Option.{option_map}
-use Rattle.std.specs.Prelude.{ℕ, ◌+◌, true, false, not, List, [], ◌∷◌, map, Option, Some, None, Result, Ok, Err}
+use Rattle.std.specs.Prelude.{ℕ, ◌+◌, not, List, [], ◌∷◌, map, Option, Some, None, Result, Ok, Err}
 use Rattle.hours_core.specs.Moment.{is_moment}
 use Rattle.settings_core.specs.Settings.{knows}
 use Rattle.settings_core.specs.declared.settings.Settings.{Settings}
@@ -9,7 +9,6 @@ use Rattle.desk_core.specs.Names.{in_order}
 use Rattle.desk_core.specs.Guard.{Condition, first_holding, lifecycle_of, first_status, on_request, open_queue_conditions, create_conditions, set_status_conditions}
 use Rattle.desk_core.specs.Facts.{standing_by, watcher}
 use Rattle.desk_core.specs.Effect.{new_queue, new_row, filing, moving, moved_row, given_or_caller}
-use Rattle.desk_core.specs.declared.rows.RequestRow.{RequestRow}
 use Rattle.desk_core.specs.declared.rows.WatchRole.TheVariants.{Requestor}
 use Rattle.desk_core.specs.declared.facts.Facts.{Facts}
 use Rattle.desk_core.specs.declared.facts.RequestFacts.{RequestFacts}

@@ -1,6 +1,5 @@
 -- The desk after an accepted command.
 use Rattle.std.specs.Prelude.{ℕ, ◌+◌, Bool, true, false, not, ◌&&◌, List, [], ◌∷◌, ◌++◌, length, Option, Some, None, if◌then◌else◌, option_and_then}
-use Rattle.std.specs.Option.{option_map_or}
 use Rattle.lifecycle_core.specs.Lifecycle.{class_of}
 use Rattle.lifecycle_core.specs.declared.lifecycle.Class.{Class}
 use Rattle.lifecycle_core.specs.declared.lifecycle.Class.TheVariants.{Inactive}

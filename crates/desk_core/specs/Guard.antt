@@ -1,6 +1,6 @@
 -- When a command is refused, and by which refusal: for each command its conditions in order, of which the first
 -- that holds decides.
-use Rattle.std.specs.Prelude.{ℕ, Bool, true, false, not, ◌&&◌, ◌||◌, List, [], ◌∷◌, length, nat_le, Option, Some, None, is_some, is_none, if◌then◌else◌, option_and_then, unwrap_or}
+use Rattle.std.specs.Prelude.{ℕ, Bool, true, false, not, ◌||◌, List, [], ◌∷◌, length, nat_le, Option, Some, None, is_some, is_none, if◌then◌else◌, option_and_then, unwrap_or}
 use Rattle.std.specs.Option.{option_map, option_map_or}
 use Rattle.std.specs.List.{list_all}
 use Rattle.std.specs.Str.{bytes_eq}

@@ -1,5 +1,5 @@
 -- The laws of one step: what holds of every command by every caller at every moment, whatever the desk.
-use Rattle.std.specs.Prelude.{◌≡◌, ◌≢◌, ℕ, ◌≤◌, true, List, Option, Some, None, Result, Err}
+use Rattle.std.specs.Prelude.{◌≡◌, ◌≢◌, ℕ, ◌≤◌, true, List, Option, Some, None, Err}
 use Rattle.settings_core.specs.declared.settings.Settings.{Settings}
 use Rattle.desk_core.specs.Desk.{Desk, Request, is_numbered, queue_at, request_at}
 use Rattle.desk_core.specs.Guard.{is_allowed, lifecycle_of, right_of}

@@ -11,16 +11,14 @@ ghost use Rattle.desk_core.specs.declared.command.Command.{Command};
 pub fn status_law()
     ensures { (settings : Settings) (at : ℕ) (caller : List ℕ) (command : Command) (desk : Desk)
         → KeepsStatusLaw settings at caller command desk }
-{
-}
+{}
 
 /// Requests are numbered from 1 without gaps, and stay so.
 #[tactic(auto, using(crate::proofs::Steps::numbers_law))]
 pub fn numbers_law()
     ensures { (settings : Settings) (at : ℕ) (caller : List ℕ) (command : Command) (desk : Desk)
         → KeepsNumbers settings at caller command desk }
-{
-}
+{}
 
 /// Nothing leaks by reading: a caller is told of his view of the desk alone, and a request outside it is refused as
 /// one that isn't there.
@@ -30,5 +28,4 @@ pub fn view_law()
         → RepliesByTheView settings at caller command desk }
     ensures hidden { (settings : Settings) (at : ℕ) (caller : List ℕ) (command : Command) (desk : Desk)
         → RefusesAsMissing settings at caller command desk }
-{
-}
+{}

@@ -60,9 +60,7 @@ fn is_owner(row: &RequestRow, person: &str) -> bool
 fn is_watching(person: &str, id: u32, role: WatchRole, watchers: &[Watcher]) -> bool
     ensures { result ≡ is_watching person.now id role watchers.now }
 {
-    watchers
-        .iter()
-        .any(|w| w.id == id && is_role(role, w.role) && w.person.as_str() == person)
+    watchers.iter().any(|w| w.id == id && is_role(role, w.role) && w.person.as_str() == person)
 }
 
 fn is_role(role: WatchRole, other: WatchRole) -> bool

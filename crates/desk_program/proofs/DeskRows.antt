@@ -1,5 +1,6 @@
 -- The desk that rows stand for, after a row has come to them or has changed.
 use Rattle.std.proofs.Common.{◌≡◌, ◌∙◌, Bool, ℕ, zero, suc, ◌==◌, List, [], ◌∷◌, ◌++◌, map, find, Option, Some, None, Result, Ok, Err, OnErr, refl, ap, sym, arith}
+use Rattle.std.proofs.lemmas.List.{map-append}
 use Rattle.std.specs.Option.{option_map}
 use Rattle.std.specs.List.{position_from, insert, slice_set, slice_index_or}
 use Rattle.service_core.specs.Change.{changed, with_changed}

@@ -1,5 +1,5 @@
 -- The text of a minute is ASCII.
-use Rattle.std.proofs.Common.{ℕ, zero, suc, ◌+◌, ◌/◌, ◌%◌, ◌<◌, List, [], ◌∷◌, ◌++◌, arith}
+use Rattle.std.proofs.Common.{ℕ, zero, suc, ◌/◌, ◌%◌, ◌<◌, List, [], ◌∷◌, ◌++◌, arith}
 use Rattle.std.specs.Str.{IsAscii}
 use Rattle.hours_core.specs.Date.{digit_of, two_digits, text_of_date, text_of_time, text_of_minute, date_of_minute}
 

@@ -26,7 +26,10 @@ fn texts_of_refusals(rt: HostRuntime) -> Result<(), Fail> {
 fn text_of_queues(rt: HostRuntime) -> Result<(), Fail> {
     let alloc = rt.alloc();
     let none = queues_text(alloc, &[])?;
-    assert_eq!(rt; none.as_str(), "queue                lifecycle            level\n");
+    assert_eq!(rt;
+        none.as_str(),
+        "queue                lifecycle            level\n"
+    );
     let queues = [
         QueueRow {
             name: Text::new(alloc, "general")?,

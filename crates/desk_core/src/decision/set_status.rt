@@ -33,10 +33,7 @@ impl Context<'_> {
         if !has_status(lifecycle, status) {
             return Err(Refusal::UnknownName);
         }
-        self.ask_on(
-            right_of(lifecycle, &request.row.status, status),
-            request,
-        )?;
+        self.ask_on(right_of(lifecycle, &request.row.status, status), request)?;
         if request.row.status == *status {
             return Err(Refusal::NoChange);
         }

@@ -68,8 +68,9 @@ fn people(alloc: Global, of_requestors: &[&str]) -> Result<People, Refusal> {
         members: Texts::from(texts(alloc, &["bob", "cid"])?),
     }];
     let grants = grants(alloc, of_requestors)?;
-    People::build(alloc, persons.as_slice(), &groups, grants.as_slice())
-        .map_err(|_| Refusal::Unavailable)
+    People::build(alloc, persons.as_slice(), &groups, grants.as_slice()).map_err(
+        |_| Refusal::Unavailable,
+    )
 }
 
 fn office(alloc: Global) -> Result<Settings, Refusal> {
@@ -137,11 +138,13 @@ fn row(alloc: Global, now: Minute, queue: &str) -> Result<RequestRow, AllocError
 }
 
 fn watchers(alloc: Global, id: u32, person: &str) -> Result<Sequence<Watcher>, AllocError> {
-    Ok(Sequence::from(vec![in alloc; Watcher {
-        id,
-        role: WatchRole::Requestor,
-        person: Text::new(alloc, person)?,
-    }]?))
+    Ok(Sequence::from(vec![in alloc;
+        Watcher {
+            id,
+            role: WatchRole::Requestor,
+            person: Text::new(alloc, person)?,
+        },
+    ]?))
 }
 
 /// The 7th request in a queue, beside a requestor of the request with that number.
@@ -261,6 +264,9 @@ fn queues_that_are_seen(rt: HostRuntime) {
         ("bob", "secret", false),
         ("dora", "secret", true),
     ] {
-        assert!(rt; is_seen(rt.alloc(), caller, queue) == Ok(want), "{caller} on {queue}");
+        assert!(rt;
+            is_seen(rt.alloc(), caller, queue) == Ok(want),
+            "{caller} on {queue}"
+        );
     }
 }

@@ -4,8 +4,8 @@ use Rattle.service_core.specs.Desk.{Request, with_request}
 use Rattle.desk_program.proofs.DeskRows.{desk_with, request_put}
 use Rattle.desk_program.proofs.rows.Rows.put_request.Goals as goal
 
-pub returns-in_ok-push-clause-ok : goal.returns-in_ok-push-clause-ok
-returns-in_ok-push-clause-ok c =
+pub returns-clause-ok : goal.returns-clause-ok
+returns-clause-ok c =
     let desk = desk_with c.args.self.now.queues.items c.args.self.now.requests.items in
     request_put c.args.self.now.queues.items c.args.self.now.requests.items c.push.new.self.items c.in_ok-kept.kept
     c.in_ok-push.ensures.items
