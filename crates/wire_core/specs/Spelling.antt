@@ -4,7 +4,7 @@ use Rattle.std.specs.Option.{option_map, option_and_then}
 use Rattle.std.specs.Str.{bytes_eq}
 use Rattle.clap.specs.Words.{Kinds, Row, Text, all_of, fault_of, first_of, subcommand_of}
 use Rattle.desk_core.specs.declared.command.Command.{Command}
-use Rattle.desk_core.specs.declared.command.Command.TheVariants.{OpenQueue, Create, SetStatus, Queues, Show}
+use Rattle.desk_core.specs.declared.command.Command.TheVariants.{OpenQueue, Create, SetStatus, SetLevel, Queues, Show}
 use Rattle.wire_core.specs.Number.{number_of}
 use Rattle.wire_core.specs.Table.{desk}
 
@@ -12,13 +12,17 @@ use Rattle.wire_core.specs.Table.{desk}
 abbrev pub id_of : List Row → Option ℕ
 id_of rows = option_and_then number_of (first_of (codes "id") rows)
 
-abbrev pub opening : Option Text → Option Text → Option Command
-opening (Some name) (Some lifecycle) = Some (OpenQueue name lifecycle None)
-opening _ _ = None
+-- the word for a level, which may be none
+abbrev pub level_in : List Row → Option Text
+level_in rows = first_of (codes "level") rows
 
--- queue NAME LIFECYCLE, without a level
+abbrev pub opening : Option Text → Option Text → Option Text → Option Command
+opening (Some name) (Some lifecycle) level = Some (OpenQueue name lifecycle level)
+opening _ _ _ = None
+
+-- queue NAME LIFECYCLE [LEVEL]
 abbrev pub queue_of : List Row → Option Command
-queue_of rows = opening (first_of (codes "name") rows) (first_of (codes "lifecycle") rows)
+queue_of rows = opening (first_of (codes "name") rows) (first_of (codes "lifecycle") rows) (level_in rows)
 
 -- the words for requestors, which may be none
 abbrev pub requestors_of : List Row → List Text
@@ -44,6 +48,10 @@ status_of rows = moving (id_of rows) (first_of (codes "status") rows)
 abbrev pub resolve_of : List Row → Option Command
 resolve_of rows = moving (id_of rows) (Some (codes "resolved"))
 
+-- level ID [LEVEL]
+abbrev pub level_of : List Row → Option Command
+level_of rows = option_map (λ id. SetLevel id (level_in rows)) (id_of rows)
+
 -- show ID
 abbrev pub show_of : List Row → Option Command
 show_of rows = option_map (λ id. Show id) (id_of rows)
@@ -55,6 +63,7 @@ command_in met =
     else if bytes_eq met.0 (codes "create") then create_of met.1
     else if bytes_eq met.0 (codes "status") then status_of met.1
     else if bytes_eq met.0 (codes "resolve") then resolve_of met.1
+    else if bytes_eq met.0 (codes "level") then level_of met.1
     else if bytes_eq met.0 (codes "queues") then Some Queues
     else if bytes_eq met.0 (codes "show") then show_of met.1
     else None

@@ -9,6 +9,10 @@ use Rattle.clap.specs.declared.builder.command.Command.TheViews.{out-Command}
 abbrev pub wanted : Text → Rule
 wanted id = record (new_rule id) { required = true; action = Some Set }
 
+-- a word that may be there
+abbrev pub allowed : Text → Rule
+allowed id = record (new_rule id) { action = Some Set }
+
 -- any number of words
 abbrev pub several : Text → Rule
 several id = record (new_rule id) { action = Some Append }
@@ -31,9 +35,9 @@ abbrev pub with_all : App → List Text → App
 with_all a [] = a
 with_all a (x ∷ xs) = with_all (with_rule a (wanted x)) xs
 
--- queue NAME LIFECYCLE
+-- queue NAME LIFECYCLE [LEVEL]
 abbrev pub queue : App
-queue = with_all (bare (codes "queue")) (codes "name" ∷ codes "lifecycle" ∷ [])
+queue = with_rule (with_all (bare (codes "queue")) (codes "name" ∷ codes "lifecycle" ∷ [])) (allowed (codes "level"))
 
 -- create [--status STATUS] QUEUE SUBJECT [REQUESTOR ..]
 abbrev pub create : App
@@ -49,6 +53,10 @@ status = with_all (bare (codes "status")) (codes "id" ∷ codes "status" ∷ [])
 abbrev pub resolve : App
 resolve = with_all (bare (codes "resolve")) (codes "id" ∷ [])
 
+-- level ID [LEVEL]
+abbrev pub level : App
+level = with_rule (with_all (bare (codes "level")) (codes "id" ∷ [])) (allowed (codes "level"))
+
 -- queues
 abbrev pub queues : App
 queues = bare (codes "queues")
@@ -63,7 +71,7 @@ with_new = with_subcommand (with_subcommand root queue.top) create.top
 
 -- and those that move or change
 unfoldable pub with_changes : App
-with_changes = with_subcommand (with_subcommand with_new status.top) resolve.top
+with_changes = with_subcommand (with_subcommand (with_subcommand with_new status.top) resolve.top) level.top
 
 -- and those that read: the whole table
 unfoldable pub desk : App

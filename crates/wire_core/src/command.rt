@@ -4,7 +4,7 @@ ghost use Rattle.wire_core.specs.Spelling as spelling;
 ghost use Rattle.wire_core.specs.Spelling.{command_in};
 
 use crate::fault::WordsFault;
-use crate::matches::{entered, first, id, matches_of, requestors};
+use crate::matches::{entered, first, first_text, id, matches_of, requestors};
 use clap::ArgMatches;
 use desk_core::Command;
 use std::alloc::Global;
@@ -34,6 +34,7 @@ fn command_in(alloc: Global, name: &str, given: &ArgMatches<'_>) -> Result<Comma
         "create" => create(alloc, given),
         "status" => status(alloc, given),
         "resolve" => resolve(alloc, given),
+        "level" => level(alloc, given),
         "queues" => Ok(Command::Queues),
         "show" => show(given),
         _ => Err(WordsFault::BadWords),
@@ -49,7 +50,7 @@ fn queue(alloc: Global, given: &ArgMatches<'_>) -> Result<Command, WordsFault>
         (Some(name), Some(lifecycle)) => Ok(Command::OpenQueue {
             queue: Text::new(alloc, name)?,
             lifecycle: Text::new(alloc, lifecycle)?,
-            level: None,
+            level: first_text(alloc, given, "level")?,
         }),
         _ => Err(WordsFault::BadWords),
     }
@@ -64,10 +65,7 @@ fn create(alloc: Global, given: &ArgMatches<'_>) -> Result<Command, WordsFault>
         (Some(queue), Some(subject)) => Ok(Command::Create {
             queue: Text::new(alloc, queue)?,
             subject: Text::new(alloc, subject)?,
-            status: match first(given, "status") {
-                Some(status) => Some(Text::new(alloc, status)?),
-                None => None,
-            },
+            status: first_text(alloc, given, "status")?,
             requestors: requestors(alloc, given)?,
         }),
         _ => Err(WordsFault::BadWords),
@@ -98,6 +96,20 @@ fn resolve(alloc: Global, given: &ArgMatches<'_>) -> Result<Command, WordsFault>
             id,
             status: Text::new(alloc, "resolved")?,
         }),
+        None => Err(WordsFault::BadWords),
+    }
+}
+
+fn level(alloc: Global, given: &ArgMatches<'_>) -> Result<Command, WordsFault>
+    ensures ok { IfOk result (λ c. spelling.level_of (rows_of (found_of given.now)) ≡ Some c) }
+    ensures bad { result ≡ Err WordsFault.BadWords → spelling.level_of (rows_of (found_of given.now)) ≡ None }
+    ensures kinds { IfErr result (λ e. e ≢ WordsFault.NoMemory → e ≡ WordsFault.BadWords) }
+{
+    match id(given) {
+        Some(id) => {
+            let level = first_text(alloc, given, "level")?;
+            Ok(Command::SetLevel { id, level })
+        }
         None => Err(WordsFault::BadWords),
     }
 }

@@ -1,7 +1,7 @@
 ghost use Rattle.std.specs.Prelude.{◌≡◌, map, codes, IfOk, false};
 ghost use Rattle.clap.specs.Words.{App, Rule, rule_of, with_rule, with_subcommand};
 ghost use Rattle.wire_core.specs.Table as table;
-ghost use Rattle.wire_core.specs.Table.{Is, bare, option, root, several, wanted, with_all};
+ghost use Rattle.wire_core.specs.Table.{Is, allowed, bare, option, root, several, wanted, with_all};
 
 use clap::{Arg, ArgAction, Command};
 use std::alloc::{AllocError, Global};
@@ -19,7 +19,7 @@ pub(crate) fn desk<'a>(alloc: Global) -> Result<Command<'a>, AllocError>
 fn with_new<'a>(alloc: Global, command: Command<'a>) -> Result<Command<'a>, AllocError>
     ensures { Is root command.entry → IfOk result (Is table.with_new) }
 {
-    let command = with_subcommand(command, leaf(alloc, "queue", &["name", "lifecycle"])?)?;
+    let command = with_subcommand(command, queue(alloc)?)?;
     with_subcommand(command, create(alloc)?)
 }
 
@@ -28,7 +28,8 @@ fn with_changes<'a>(alloc: Global, command: Command<'a>) -> Result<Command<'a>, 
     ensures { Is table.with_new command.entry → IfOk result (Is table.with_changes) }
 {
     let command = with_subcommand(command, leaf(alloc, "status", &["id", "status"])?)?;
-    with_subcommand(command, leaf(alloc, "resolve", &["id"])?)
+    let command = with_subcommand(command, leaf(alloc, "resolve", &["id"])?)?;
+    with_subcommand(command, level(alloc)?)
 }
 
 /// The subcommands that read, added to those.
@@ -39,12 +40,26 @@ fn with_readings<'a>(alloc: Global, command: Command<'a>) -> Result<Command<'a>,
     with_subcommand(command, leaf(alloc, "show", &["id"])?)
 }
 
+fn queue<'a>(alloc: Global) -> Result<Command<'a>, AllocError>
+    ensures { IfOk result (Is table.queue) }
+{
+    let command = leaf(alloc, "queue", &["name", "lifecycle"])?;
+    with_argument(command, allowed_argument(alloc, "level"))
+}
+
 fn create<'a>(alloc: Global) -> Result<Command<'a>, AllocError>
     ensures { IfOk result (Is table.create) }
 {
     let command = leaf(alloc, "create", &["queue", "subject"])?;
     let command = with_argument(command, several_argument(alloc, "requestor"))?;
     with_argument(command, option_argument(alloc, "status"))
+}
+
+fn level<'a>(alloc: Global) -> Result<Command<'a>, AllocError>
+    ensures { IfOk result (Is table.level) }
+{
+    let command = leaf(alloc, "level", &["id"])?;
+    with_argument(command, allowed_argument(alloc, "level"))
 }
 
 /// The command above all others. Help words are none of its words.
@@ -93,6 +108,13 @@ fn wanted_argument<'a>(alloc: Global, id: &'a str) -> Arg<'a>
     ensures local { result.global ≡ false }
 {
     Arg::new(alloc, id).required(true).action(ArgAction::Set)
+}
+
+fn allowed_argument<'a>(alloc: Global, id: &'a str) -> Arg<'a>
+    ensures rule { rule_of result ≡ allowed id.entry.now }
+    ensures local { result.global ≡ false }
+{
+    Arg::new(alloc, id).action(ArgAction::Set)
 }
 
 fn several_argument<'a>(alloc: Global, id: &'a str) -> Arg<'a>

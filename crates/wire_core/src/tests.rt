@@ -35,23 +35,53 @@ fn creation(
     Ok(Command::Create {
         queue: Text::new(alloc, "q")?,
         subject: Text::new(alloc, "s")?,
-        status: match status {
-            Some(status) => Some(Text::new(alloc, status)?),
-            None => None,
-        },
+        status: text_of(alloc, status)?,
         requestors: texts(alloc, requestors)?,
     })
 }
 
-#[test]
-fn queue_is_opened(rt: HostRuntime) -> Result<(), Fail> {
-    let alloc = rt.alloc();
-    let want = Command::OpenQueue {
+/// The text, if there is one.
+fn text_of(alloc: Global, text: Option<&str>) -> Result<Option<Text>, AllocError> {
+    match text {
+        Some(text) => Ok(Some(Text::new(alloc, text)?)),
+        None => Ok(None),
+    }
+}
+
+fn opening(alloc: Global, level: Option<&str>) -> Result<Command, AllocError> {
+    Ok(Command::OpenQueue {
         queue: Text::new(alloc, "printers")?,
         lifecycle: Text::new(alloc, "default")?,
-        level: None,
-    };
-    assert!(rt; command_of(alloc, &["queue", "printers", "default"])? == want);
+        level: text_of(alloc, level)?,
+    })
+}
+
+fn leveling(alloc: Global, id: u32, level: Option<&str>) -> Result<Command, AllocError> {
+    Ok(Command::SetLevel {
+        id,
+        level: text_of(alloc, level)?,
+    })
+}
+
+#[test]
+fn queues_are_opened(rt: HostRuntime) -> Result<(), Fail> {
+    let alloc = rt.alloc();
+    let plain = ["queue", "printers", "default"];
+    assert!(rt; command_of(alloc, &plain)? == opening(alloc, None)?);
+    let fast = ["queue", "printers", "default", "fast"];
+    assert!(rt; command_of(alloc, &fast)? == opening(alloc, Some("fast"))?);
+    let empty = ["queue", "printers", "default", ""];
+    assert!(rt; command_of(alloc, &empty)? == opening(alloc, Some(""))?);
+    Ok(())
+}
+
+#[test]
+fn levels_are_set(rt: HostRuntime) -> Result<(), Fail> {
+    let alloc = rt.alloc();
+    assert!(rt; command_of(alloc, &["level", "7", "fast"])? == leveling(alloc, 7, Some("fast"))?);
+    assert!(rt; command_of(alloc, &["level", "7", "-"])? == leveling(alloc, 7, Some("-"))?);
+    assert!(rt; command_of(alloc, &["level", "7", ""])? == leveling(alloc, 7, Some(""))?);
+    assert!(rt; command_of(alloc, &["level", "7"])? == leveling(alloc, 7, None)?);
     Ok(())
 }
 
@@ -114,11 +144,16 @@ fn no_words_of_a_command(rt: HostRuntime) -> Result<(), Fail> {
         "show 12345678901",
         "show -1",
         "show \"\"",
-        "queue q l level",
+        "queue q",
+        "queue a b c d",
         "create q",
         "create q s --status",
         "resolve",
         "status 1",
+        "level",
+        "level x",
+        "level 1 a b",
+        "level 1 -fast",
         "queues x",
         "queues --all",
         "Queues",
