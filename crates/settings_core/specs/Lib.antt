@@ -1,6 +1,9 @@
+pub use Rattle.hours_core.specs.Calendar
+pub use Rattle.hours_core.specs.Limit
 pub use Rattle.lifecycle_core.specs.Lifecycle
 pub use Rattle.lifecycle_core.specs.Standard
 pub use Rattle.rights_core.specs.People
 pub use Rattle.rights_core.specs.Right
+pub mod BuiltIn
 pub mod Fault
 pub mod Settings
