@@ -1,3 +1,4 @@
+pub mod DueLaw
 pub mod InView
 pub mod Roles
 pub mod Steps

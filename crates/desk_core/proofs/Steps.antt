@@ -1,5 +1,5 @@
 -- The laws of one step, and why they hold.
-use Rattle.std.proofs.Common.{◌≡◌, ◌≢◌, ◌∙◌, ℕ, ◌+◌, ◌==◌, Bool, true, false, not, ◌&&◌, cond, List, [], ◌∷◌, ◌++◌, length, nat_le, find, Option, Some, None, inl, inr, refl, ap, sym, subst, arith}
+use Rattle.std.proofs.Common.{◌⊎◌, ◌≡◌, ◌≢◌, ◌∙◌, ℕ, ◌+◌, ◌==◌, Bool, true, false, not, ◌&&◌, cond, List, [], ◌∷◌, ◌++◌, length, nat_le, find, Option, Some, None, inl, inr, refl, ap, sym, subst, arith}
 use Rattle.std.specs.Str.{bytes_eq}
 use Rattle.std.specs.Option.{option_map, option_or, option_and_then}
 use Rattle.lifecycle_core.specs.declared.parts.Parts.{Parts}
@@ -11,14 +11,14 @@ use Rattle.settings_core.specs.Settings.{entry_limit, knows}
 use Rattle.settings_core.specs.declared.settings.Settings.{Settings}
 use Rattle.desk_core.proofs.Roles.{same_number}
 use Rattle.desk_core.proofs.Suffice.{number_found}
-use Rattle.desk_core.specs.Desk.{Desk, Request, has_same_number, is_numbered, queue_at, replaced, request_at}
-use Rattle.desk_core.specs.Effect.{effect, moved, with_moved}
+use Rattle.desk_core.specs.Desk.{Desk, Request, has_same_number, is_numbered, queue_at, replaced, request_at, with_changed_request}
+use Rattle.desk_core.specs.Effect.{effect, levelled, moved, with_revised}
 use Rattle.desk_core.specs.Guard.{Condition, first_holding, guard, has_status, is_allowed, lifecycle_of, on_request, right_of, set_status_conditions, standing_on}
 use Rattle.desk_core.specs.Laws.{IsLawfulMove, KeepsNumbers, KeepsStatusLaw}
 use Rattle.desk_core.specs.Rights.{holds_on, may_show}
 use Rattle.desk_core.specs.Step.{desk_unless}
 use Rattle.desk_core.specs.declared.command.Command.{Command}
-use Rattle.desk_core.specs.declared.command.Command.TheVariants.{OpenQueue, Create, SetStatus, Queues, Show}
+use Rattle.desk_core.specs.declared.command.Command.TheVariants.{OpenQueue, Create, SetStatus, SetLevel, Queues, Show}
 use Rattle.desk_core.specs.declared.refusal.Refusal.{Refusal}
 use Rattle.desk_core.specs.declared.refusal.Refusal.TheVariants.{UnknownCaller, BadMoment, NotFound, UnknownName, Denied, NoChange, NoTransition, Full}
 
@@ -106,37 +106,66 @@ keeps_found s caller command None old new id before after was stays is differs =
 keeps_found s caller command (Some refusal) old new id before after was stays is differs =
     let same : after ≡ before = cc in absurd (differs (ap (λ (r : Request). r.row.status) same))
 
+-- what is found where a request is revised: what was found before, or what has become of the request
+revised_found : (desk : Desk) (asked id : ℕ) (r m before after : Request) → request_at desk asked ≡ Some r → m.row.id ≡ r.row.id
+    → request_at desk id ≡ Some before → request_at (with_changed_request desk m) id ≡ Some after
+    → (after ≡ before) ⊎ ((before ≡ r) × (after ≡ m))
+revised_found desk asked id r m before after there number was is =
+    let found = sym (found_replaced desk.requests m id) ∙ is in
+    elim (eqb_tells m.row.id id) [
+      | inl same ↦
+          let here : request_at desk id ≡ Some r =
+          ap (request_at desk) (sym same.1 ∙ number ∙ number_found desk asked r there) ∙ there in
+          let made : Some m ≡ Some after =
+          sym (ap (λ (o : Option Request). option_map (λ _. m) o) was)
+          ∙ sym (ap (λ b. cond b (option_map (λ _. m) (request_at desk id)) (request_at desk id)) same.0) ∙ found in
+          let one : before ≡ r = cc in
+          let other : after ≡ m = cc in
+          inr (one, other)
+      | inr other ↦
+          let stays : Some before ≡ Some after =
+          sym was ∙ sym (ap (λ b. cond b (option_map (λ _. m) (request_at desk id)) (request_at desk id)) other.0) ∙ found in
+          let same : after ≡ before = cc in
+          inl same
+    ]
+
 -- a move that isn't refused is lawful
 moves_lawfully : (s : Settings) (at : ℕ) (caller : List ℕ) (asked : ℕ) (status : List ℕ) (desk : Desk) (o : Option Request) (id : ℕ) (before after : Request)
     → request_at desk asked ≡ o
     → first_holding (on_request s caller (option_map (standing_on caller) o)
     (λ on. set_status_conditions s caller status (queue_at desk on.row.queue) on)) ≡ None
     → request_at desk id ≡ Some before
-    → request_at (with_moved desk (lifecycle_of s (option_and_then (λ r. queue_at desk r.row.queue) o)) at caller status o) id ≡ Some after
+    → request_at (with_revised desk (moved (lifecycle_of s (option_and_then (λ r. queue_at desk r.row.queue) o)) at caller status) o) id ≡ Some after
     → after.row.status ≢ before.row.status → IsLawfulMove s caller (SetStatus asked status) desk before after
 moves_lawfully s at caller asked status desk None id before after there free was is differs = cc
 moves_lawfully s at caller asked status desk (Some r) id before after there free was is differs =
-    let lifecycle = lifecycle_of s (queue_at desk r.row.queue) in
-    let m : Request = moved lifecycle at caller status r in
-    let found = sym (found_replaced desk.requests m id) ∙ is in
-    let number : r.row.id ≡ asked = number_found desk asked r there in
-    elim (eqb_tells r.row.id id) [
-      | inl same ↦
-          let here : request_at desk id ≡ Some r = ap (request_at desk) (sym same.1 ∙ number) ∙ there in
-          let one : before ≡ r = cc in
-          let made : Some m ≡ Some after =
-          sym (ap (λ (o : Option Request). option_map (λ _. m) o) was) ∙ sym (ap (λ b. cond b (option_map (λ _. m) (request_at desk id)) (request_at desk id)) same.0) ∙ found in
-          let other : after ≡ m = cc in
+    let m : Request = moved (lifecycle_of s (queue_at desk r.row.queue)) at caller status r in
+    elim (revised_found desk asked id r m before after there refl was is) [
+      | inl same ↦ absurd (differs (ap (λ (r : Request). r.row.status) same))
+      | inr new ↦
           let asks : Unrefused s caller status desk r = unrefused s caller status desk r free in
           let lawful : IsLawfulMove s caller (SetStatus asked status) desk r m =
-          (ap (λ n. SetStatus n status) (sym number), asks.allowed, asks.held) in
-          subst (λ (a : Request). IsLawfulMove s caller (SetStatus asked status) desk before a) (sym other)
-          (subst (λ (b : Request). IsLawfulMove s caller (SetStatus asked status) desk b m) (sym one) lawful)
-      | inr other ↦
-          let stays : Some before ≡ Some after =
-          sym was ∙ sym (ap (λ b. cond b (option_map (λ _. m) (request_at desk id)) (request_at desk id)) other.0) ∙ found in
-          let same : after ≡ before = cc in
-          absurd (differs (ap (λ (r : Request). r.row.status) same))
+          (ap (λ n. SetStatus n status) (sym (number_found desk asked r there)), asks.allowed, asks.held) in
+          subst (λ (a : Request). IsLawfulMove s caller (SetStatus asked status) desk before a) (sym new.1)
+          (subst (λ (b : Request). IsLawfulMove s caller (SetStatus asked status) desk b m) (sym new.0) lawful)
+    ]
+
+-- what becomes of a request without another status keeps the law
+keeps_status : (s : Settings) (caller : List ℕ) (command : Command) (asked : ℕ) (revised : Request → Request) (desk : Desk) (o : Option Request)
+    (refusal : Option Refusal) (id : ℕ) (before after : Request)
+    → ((r : Request) → (revised r).row.id ≡ r.row.id) → ((r : Request) → (revised r).row.status ≡ r.row.status)
+    → request_at desk asked ≡ o → request_at desk id ≡ Some before
+    → request_at (desk_unless refusal desk (with_revised desk revised o)) id ≡ Some after
+    → after.row.status ≢ before.row.status → IsLawfulMove s caller command desk before after
+keeps_status s caller command asked revised desk o (Some refusal) id before after number status there was is differs =
+    let same : after ≡ before = cc in absurd (differs (ap (λ (r : Request). r.row.status) same))
+keeps_status s caller command asked revised desk None None id before after number status there was is differs =
+    let same : after ≡ before = cc in absurd (differs (ap (λ (r : Request). r.row.status) same))
+keeps_status s caller command asked revised desk (Some r) None id before after number status there was is differs =
+    elim (revised_found desk asked id r (revised r) before after there (number r) was is) [
+      | inl same ↦ absurd (differs (ap (λ (r : Request). r.row.status) same))
+      | inr new ↦
+          absurd (differs (ap (λ (r : Request). r.row.status) new.1 ∙ status r ∙ sym (ap (λ (r : Request). r.row.status) new.0)))
     ]
 
 moved_law : (s : Settings) (at : ℕ) (caller : List ℕ) (asked : ℕ) (status : List ℕ) (desk : Desk) (o : Option Refusal)
@@ -167,6 +196,9 @@ status_law s at caller (Create queue subject status requestors) desk id before a
     (found_behind desk.requests _ id before was) is differs
 status_law s at caller (SetStatus asked status) desk id before after was is differs =
     moved_law s at caller asked status desk (guard s at caller (SetStatus asked status) desk) refl id before after was is differs
+status_law s at caller (SetLevel asked level) desk id before after was is differs =
+    keeps_status s caller (SetLevel asked level) asked (levelled at caller level) desk (request_at desk asked)
+    (guard s at caller (SetLevel asked level) desk) id before after (λ r. refl) (λ r. refl) refl was is differs
 status_law s at caller Queues desk id before after was is differs =
     keeps_found s caller Queues (guard s at caller Queues desk) desk desk id before after was was is differs
 status_law s at caller (Show asked) desk id before after was is differs =
@@ -200,10 +232,10 @@ numbered_replaced n (y ∷ ys) x e =
       | inr other ↦ rw (other.0, parts.0) (numbered_replaced (n + 1) ys x parts.1)
     ]
 
-numbered_moved : (desk : Desk) (lifecycle : Option Parts) (at : ℕ) (caller status : List ℕ) (o : Option Request)
-    → is_numbered 1 desk.requests ≡ true → is_numbered 1 (with_moved desk lifecycle at caller status o).requests ≡ true
-numbered_moved desk lifecycle at caller status None e = e
-numbered_moved desk lifecycle at caller status (Some r) e = numbered_replaced 1 desk.requests (moved lifecycle at caller status r) e
+numbered_revised : (desk : Desk) (revised : Request → Request) (o : Option Request)
+    → is_numbered 1 desk.requests ≡ true → is_numbered 1 (with_revised desk revised o).requests ≡ true
+numbered_revised desk revised None e = e
+numbered_revised desk revised (Some r) e = numbered_replaced 1 desk.requests (revised r) e
 
 pub numbers_law : (s : Settings) (at : ℕ) (caller : List ℕ) (command : Command) (desk : Desk) → KeepsNumbers s at caller command desk
 numbers_law s at caller (OpenQueue name lifecycle level) desk e =
@@ -213,6 +245,9 @@ numbers_law s at caller (Create queue subject status requestors) desk e =
     (numbered_more 1 desk.requests _ e (omega arith))
 numbers_law s at caller (SetStatus asked status) desk e =
     numbered_unless (guard s at caller (SetStatus asked status) desk) desk _ e
-    (numbered_moved desk _ at caller status (request_at desk asked) e)
+    (numbered_revised desk _ (request_at desk asked) e)
+numbers_law s at caller (SetLevel asked level) desk e =
+    numbered_unless (guard s at caller (SetLevel asked level) desk) desk _ e
+    (numbered_revised desk (levelled at caller level) (request_at desk asked) e)
 numbers_law s at caller Queues desk e = numbered_unless (guard s at caller Queues desk) desk desk e e
 numbers_law s at caller (Show asked) desk e = numbered_unless (guard s at caller (Show asked) desk) desk desk e e

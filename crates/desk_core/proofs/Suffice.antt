@@ -4,17 +4,19 @@ use Rattle.std.specs.Option.{option_map}
 use Rattle.std.proofs.lemmas.Bool.{eqb-true}
 use Rattle.settings_core.specs.declared.settings.Settings.{Settings}
 use Rattle.desk_core.proofs.Roles.{roles_kept}
-use Rattle.desk_core.specs.Change.{applied, persons_in}
-use Rattle.desk_core.specs.Decision.{conditions_by, change_by, decided, unless_refused, moving_if_there}
-use Rattle.desk_core.specs.Desk.{Desk, Request, request_at, queue_at, request_count}
-use Rattle.desk_core.specs.Effect.{effect, queue_of, with_moved, given_or_caller}
+use Rattle.desk_core.specs.Change.{applied, changed, persons_in}
+use Rattle.desk_core.specs.Decision.{conditions_by, change_by, decided, unless_refused, changing, levelling_change, moving_change}
+use Rattle.desk_core.specs.Desk.{Desk, Request, request_at, queue_at, request_count, with_changed_request}
+use Rattle.desk_core.specs.Effect.{effect, given_or_caller, levelled, moved, queue_of, with_revised}
 use Rattle.desk_core.specs.Facts.{facts_of, facts_on, request_facts, standing_by, watcher}
-use Rattle.desk_core.specs.Guard.{guard, conditions_of, on_request, set_status_conditions, lifecycle_of, standing_on}
+use Rattle.desk_core.specs.Guard.{guard, conditions_of, on_request, set_level_conditions, set_status_conditions, lifecycle_of, standing_on}
 use Rattle.desk_core.specs.Names.{in_order}
 use Rattle.desk_core.specs.declared.change.Change.{Change}
 use Rattle.desk_core.specs.declared.command.Command.{Command}
-use Rattle.desk_core.specs.declared.command.Command.TheVariants.{OpenQueue, Create, SetStatus, Queues, Show}
+use Rattle.desk_core.specs.declared.command.Command.TheVariants.{OpenQueue, Create, SetStatus, SetLevel, Queues, Show}
 use Rattle.desk_core.specs.declared.facts.Facts.{Facts}
+use Rattle.desk_core.specs.declared.facts.RequestFacts.{RequestFacts}
+use Rattle.desk_core.specs.declared.change.RequestChange.{RequestChange}
 use Rattle.desk_core.specs.declared.rows.WatchRole.TheVariants.{Requestor, Cc, AdminCc}
 use Rattle.desk_core.specs.declared.refusal.Refusal.{Refusal}
 use Rattle.desk_core.specs.declared.refusal.Refusal.TheVariants.{Unavailable}
@@ -26,6 +28,12 @@ moves_alike : (s : Settings) (caller status : List ℕ) (desk : Desk) (o : Optio
     (λ on. set_status_conditions s caller status (queue_at desk on.row.queue) on)
 moves_alike s caller status desk None = refl
 moves_alike s caller status desk (Some request) = rw (roles_kept caller request) refl
+
+levels_alike : (s : Settings) (caller : List ℕ) (level : Option (List ℕ)) (o : Option Request)
+    → on_request s caller (option_map (standing_by caller) (option_map request_facts o)) (λ on. set_level_conditions s caller level on)
+    ≡ on_request s caller (option_map (standing_on caller) o) (λ on. set_level_conditions s caller level on)
+levels_alike s caller level None = refl
+levels_alike s caller level (Some request) = rw (roles_kept caller request) refl
 
 shows_alike : (s : Settings) (caller : List ℕ) (o : Option Request)
     → on_request s caller (option_map (standing_by caller) (option_map request_facts o)) (λ on. [])
@@ -39,6 +47,7 @@ pub conditions_alike : (s : Settings) (caller : List ℕ) (command : Command) (d
 conditions_alike s caller (OpenQueue name lifecycle level) desk = refl
 conditions_alike s caller (Create queue subject status requestors) desk = refl
 conditions_alike s caller (SetStatus id status) desk = moves_alike s caller status desk (request_at desk id)
+conditions_alike s caller (SetLevel id level) desk = levels_alike s caller level (request_at desk id)
 conditions_alike s caller Queues desk = refl
 conditions_alike s caller (Show id) desk = shows_alike s caller (request_at desk id)
 
@@ -67,13 +76,24 @@ no_admin_cc : (id : ℕ) (names : List (List ℕ)) → persons_in AdminCc (map (
 no_admin_cc id [] = refl
 no_admin_cc id (name ∷ names) = no_admin_cc id names
 
+-- the change of a request on its facts leads to what becomes of it on the desk
+revises_there : (desk : Desk) (id : ℕ) (made : RequestFacts → RequestChange) (revised : Request → Request) (o : Option Request)
+    → request_at desk id ≡ o
+    → ((r : Request) → (made (request_facts r)).row.id ≡ r.row.id)
+    → ((r : Request) → changed (made (request_facts r)) r ≡ revised r)
+    → applied (changing made (option_map request_facts o)) desk ≡ with_revised desk revised o
+revises_there desk id made revised None e number same = refl
+revises_there desk id made revised (Some r) e number same =
+    let there : request_at desk (made (request_facts r)).row.id ≡ Some r =
+    ap (request_at desk) (number r ∙ number_found desk id r e) ∙ e in
+    rw there (ap (with_changed_request desk) (same r))
+
 moves_there : (s : Settings) (at : ℕ) (caller status : List ℕ) (desk : Desk) (id : ℕ) (o : Option Request) → request_at desk id ≡ o
-    → applied (moving_if_there s at caller (facts_on desk id) status (option_map request_facts o)) desk
-    ≡ with_moved desk (lifecycle_of s (queue_of desk (request_at desk id))) at caller status o
-moves_there s at caller status desk id None e = refl
-moves_there s at caller status desk id (Some request) e =
-    let there : request_at desk request.row.id ≡ Some request = ap (request_at desk) (number_found desk id request e) ∙ e in
-    rw there refl
+    → applied (changing (moving_change s at caller (facts_on desk id) status) (option_map request_facts o)) desk
+    ≡ with_revised desk (moved (lifecycle_of s (queue_of desk (request_at desk id))) at caller status) o
+moves_there s at caller status desk id o e =
+    revises_there desk id (moving_change s at caller (facts_on desk id) status)
+    (moved (lifecycle_of s (queue_of desk (request_at desk id))) at caller status) o e (λ r. refl) (λ r. refl)
 
 -- the change on the facts leads to the effect
 pub change_leads : (s : Settings) (at : ℕ) (caller : List ℕ) (command : Command) (desk : Desk)
@@ -83,7 +103,11 @@ change_leads s at caller (Create queue subject status requestors) desk =
     let id = request_count desk + 1 in
     let names = in_order (given_or_caller caller requestors) in
     rw (requestors_kept id names, no_cc id names, no_admin_cc id names) refl
-change_leads s at caller (SetStatus id status) desk = moves_there s at caller status desk id (request_at desk id) refl
+change_leads s at caller (SetStatus id status) desk =
+    moves_there s at caller status desk id (request_at desk id) refl
+change_leads s at caller (SetLevel id level) desk =
+    revises_there desk id (levelling_change at caller level) (levelled at caller level) (request_at desk id) refl
+    (λ r. refl) (λ r. refl)
 change_leads s at caller Queues desk = refl
 change_leads s at caller (Show id) desk = refl
 

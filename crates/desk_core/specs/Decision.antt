@@ -6,9 +6,9 @@ use Rattle.hours_core.specs.Moment.{is_moment}
 use Rattle.settings_core.specs.Settings.{knows}
 use Rattle.settings_core.specs.declared.settings.Settings.{Settings}
 use Rattle.desk_core.specs.Names.{in_order}
-use Rattle.desk_core.specs.Guard.{Condition, first_holding, lifecycle_of, first_status, on_request, open_queue_conditions, create_conditions, set_status_conditions}
+use Rattle.desk_core.specs.Guard.{Condition, first_holding, lifecycle_of, first_status, on_request, open_queue_conditions, create_conditions, set_level_conditions, set_status_conditions}
 use Rattle.desk_core.specs.Facts.{standing_by, watcher}
-use Rattle.desk_core.specs.Effect.{new_queue, new_row, filing, moving, moved_row, given_or_caller}
+use Rattle.desk_core.specs.Effect.{new_queue, new_row, filing, levelled_row, levelling, moving, moved_row, given_or_caller}
 use Rattle.desk_core.specs.declared.rows.WatchRole.TheVariants.{Requestor}
 use Rattle.desk_core.specs.declared.facts.Facts.{Facts}
 use Rattle.desk_core.specs.declared.facts.RequestFacts.{RequestFacts}
@@ -17,7 +17,7 @@ use Rattle.desk_core.specs.declared.change.Change.TheVariants as change
 use Rattle.desk_core.specs.declared.change.NewRequest.{NewRequest}
 use Rattle.desk_core.specs.declared.change.RequestChange.{RequestChange}
 use Rattle.desk_core.specs.declared.command.Command.{Command}
-use Rattle.desk_core.specs.declared.command.Command.TheVariants.{OpenQueue, Create, SetStatus, Queues, Show}
+use Rattle.desk_core.specs.declared.command.Command.TheVariants.{OpenQueue, Create, SetStatus, SetLevel, Queues, Show}
 use Rattle.desk_core.specs.declared.refusal.Refusal.{Refusal}
 use Rattle.desk_core.specs.declared.refusal.Refusal.TheVariants.{UnknownCaller, BadMoment}
 
@@ -29,6 +29,9 @@ conditions_by settings caller facts (Create queue subject status requestors) =
 conditions_by settings caller facts (SetStatus id status) =
     on_request settings caller (option_map (standing_by caller) facts.request)
     (λ on. set_status_conditions settings caller status facts.queue on)
+conditions_by settings caller facts (SetLevel id level) =
+    on_request settings caller (option_map (standing_by caller) facts.request)
+    (λ on. set_level_conditions settings caller level on)
 conditions_by settings caller facts Queues = []
 conditions_by settings caller facts (Show id) =
     on_request settings caller (option_map (standing_by caller) facts.request) (λ on. [])
@@ -52,17 +55,26 @@ moving_change settings at caller facts status request =
       entries = moving request.row.id (request.entry_count + 1) at caller request.row.status status ∷ [];
     }
 
-abbrev pub moving_if_there : Settings → ℕ → List ℕ → Facts → List ℕ → Option RequestFacts → Change
-moving_if_there settings at caller facts status None = change.Nothing
-moving_if_there settings at caller facts status (Some request) =
-    change.Request (moving_change settings at caller facts status request)
+-- the change that gives a request another level, or none
+abbrev pub levelling_change : ℕ → List ℕ → Option (List ℕ) → RequestFacts → RequestChange
+levelling_change at caller level request =
+    record {
+      row = levelled_row level request.row;
+      entries = levelling request.row.id (request.entry_count + 1) at caller request.row.level level ∷ [];
+    }
+
+-- the change of a request, if it is there
+abbrev pub changing : (RequestFacts → RequestChange) → Option RequestFacts → Change
+changing made None = change.Nothing
+changing made (Some request) = change.Request (made request)
 
 abbrev pub change_by : Settings → ℕ → List ℕ → Facts → Command → Change
 change_by settings at caller facts (OpenQueue name lifecycle level) = change.Queue (new_queue name lifecycle level)
 change_by settings at caller facts (Create queue subject status requestors) =
     change.NewRequest (filing_change settings at caller facts queue subject status requestors)
 change_by settings at caller facts (SetStatus id status) =
-    moving_if_there settings at caller facts status facts.request
+    changing (moving_change settings at caller facts status) facts.request
+change_by settings at caller facts (SetLevel id level) = changing (levelling_change at caller level) facts.request
 change_by settings at caller facts Queues = change.Nothing
 change_by settings at caller facts (Show id) = change.Nothing
 

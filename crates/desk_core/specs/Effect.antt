@@ -1,5 +1,5 @@
 -- The desk after an accepted command.
-use Rattle.std.specs.Prelude.{ℕ, ◌+◌, Bool, true, false, not, ◌&&◌, List, [], ◌∷◌, ◌++◌, length, Option, Some, None, if◌then◌else◌, option_and_then}
+use Rattle.std.specs.Prelude.{ℕ, ◌+◌, Bool, true, false, not, ◌&&◌, List, [], ◌∷◌, ◌++◌, length, Option, Some, None, if◌then◌else◌, unwrap_or, codes, option_and_then}
 use Rattle.lifecycle_core.specs.Lifecycle.{class_of}
 use Rattle.lifecycle_core.specs.declared.lifecycle.Class.{Class}
 use Rattle.lifecycle_core.specs.declared.lifecycle.Class.TheVariants.{Inactive}
@@ -14,7 +14,7 @@ use Rattle.desk_core.specs.declared.rows.Entry.{Entry}
 use Rattle.desk_core.specs.declared.rows.EntryKind.TheVariants as kind
 use Rattle.desk_core.specs.declared.rows.Turn.TheVariants as turn
 use Rattle.desk_core.specs.declared.command.Command.{Command}
-use Rattle.desk_core.specs.declared.command.Command.TheVariants.{OpenQueue, Create, SetStatus, Queues, Show}
+use Rattle.desk_core.specs.declared.command.Command.TheVariants.{OpenQueue, Create, SetStatus, SetLevel, Queues, Show}
 
 -- a queue as it is opened
 abbrev pub new_queue : List ℕ → List ℕ → Option (List ℕ) → QueueRow
@@ -45,6 +45,23 @@ filing id at caller status =
 abbrev pub moving : ℕ → ℕ → ℕ → List ℕ → List ℕ → List ℕ → Entry
 moving id number at caller old new =
     record { id = id; number = number; moment = at; actor = caller; kind = kind.Status; head = old; body = new }
+
+-- a level in an entry, or a dash for none
+abbrev pub level_word : Option (List ℕ) → List ℕ
+level_word level = unwrap_or level (codes "-")
+
+-- the entry of another level
+abbrev pub levelling : ℕ → ℕ → ℕ → List ℕ → Option (List ℕ) → Option (List ℕ) → Entry
+levelling id number at caller old new =
+    record {
+      id = id;
+      number = number;
+      moment = at;
+      actor = caller;
+      kind = kind.Level;
+      head = level_word old;
+      body = level_word new;
+    }
 
 -- the persons given, or the caller where none is
 abbrev pub given_or_caller : List ℕ → List (List ℕ) → List (List ℕ)
@@ -82,6 +99,19 @@ moved lifecycle at caller status request =
           ++ moving request.row.id (length request.entries + 1) at caller request.row.status status ∷ [];
     }
 
+abbrev pub levelled_row : Option (List ℕ) → RequestRow → RequestRow
+levelled_row level row = record row { level = level }
+
+-- the request with another level, or with none
+abbrev pub levelled : ℕ → List ℕ → Option (List ℕ) → Request → Request
+levelled at caller level request =
+    record request {
+      row = levelled_row level request.row;
+      entries =
+          request.entries
+          ++ levelling request.row.id (length request.entries + 1) at caller request.row.level level ∷ [];
+    }
+
 -- a request as it is filed, with its people and its first entry
 abbrev pub filed : ℕ → ℕ → List ℕ → List ℕ → List ℕ → List ℕ → List (List ℕ) → Option QueueRow → Request
 filed id at caller queue subject status requestors there =
@@ -93,10 +123,10 @@ filed id at caller queue subject status requestors there =
       entries = filing id at caller status ∷ [];
     }
 
-abbrev pub with_moved : Desk → Option Parts → ℕ → List ℕ → List ℕ → Option Request → Desk
-with_moved desk lifecycle at caller status None = desk
-with_moved desk lifecycle at caller status (Some request) =
-    with_changed_request desk (moved lifecycle at caller status request)
+-- the desk with what becomes of a request in its place, if it is there
+abbrev pub with_revised : Desk → (Request → Request) → Option Request → Desk
+with_revised desk revised None = desk
+with_revised desk revised (Some request) = with_changed_request desk (revised request)
 
 -- the queue of a request
 abbrev pub queue_of : Desk → Option Request → Option QueueRow
@@ -112,6 +142,7 @@ effect settings at caller (Create queue subject status requestors) desk =
     requestors there)
 effect settings at caller (SetStatus id status) desk =
     let request = request_at desk id in
-    with_moved desk (lifecycle_of settings (queue_of desk request)) at caller status request
+    with_revised desk (moved (lifecycle_of settings (queue_of desk request)) at caller status) request
+effect settings at caller (SetLevel id level) desk = with_revised desk (levelled at caller level) (request_at desk id)
 effect settings at caller Queues desk = desk
 effect settings at caller (Show id) desk = desk

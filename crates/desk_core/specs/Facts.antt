@@ -18,7 +18,7 @@ use Rattle.desk_core.specs.declared.rows.WatchRole.TheVariants.{Requestor, Cc, A
 use Rattle.desk_core.specs.declared.facts.Facts.{Facts}
 use Rattle.desk_core.specs.declared.facts.RequestFacts.{RequestFacts}
 use Rattle.desk_core.specs.declared.command.Command.{Command}
-use Rattle.desk_core.specs.declared.command.Command.TheVariants.{OpenQueue, Create, SetStatus, Queues, Show}
+use Rattle.desk_core.specs.declared.command.Command.TheVariants.{OpenQueue, Create, SetStatus, SetLevel, Queues, Show}
 
 abbrev pub watcher : ℕ → WatchRole → List ℕ → Watcher
 watcher id role person = record { id = id; role = role; person = person }
@@ -84,5 +84,6 @@ abbrev pub facts_of : Command → Desk → Facts
 facts_of (OpenQueue name lifecycle level) desk = queue_facts desk name
 facts_of (Create queue subject status requestors) desk = queue_facts desk queue
 facts_of (SetStatus id status) desk = facts_on desk id
+facts_of (SetLevel id level) desk = facts_on desk id
 facts_of Queues desk = no_facts
 facts_of (Show id) desk = facts_on desk id

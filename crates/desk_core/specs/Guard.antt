@@ -8,16 +8,16 @@ use Rattle.text_core.specs.Form.{is_name, is_subject}
 use Rattle.hours_core.specs.Moment.{is_moment}
 use Rattle.lifecycle_core.specs.Lifecycle.{is_status, may_create, may_move, right_of_move}
 use Rattle.lifecycle_core.specs.declared.parts.Parts.{Parts}
-use Rattle.rights_core.specs.Right.{admin_queue, create_ticket, show_ticket}
+use Rattle.rights_core.specs.Right.{admin_queue, create_ticket, modify_ticket, show_ticket}
 use Rattle.rights_core.specs.declared.role.Roles.{Roles}
-use Rattle.settings_core.specs.Settings.{knows, lifecycle_named, request_limit, entry_limit}
+use Rattle.settings_core.specs.Settings.{knows, lifecycle_named, level_named, request_limit, entry_limit}
 use Rattle.settings_core.specs.declared.settings.Settings.{Settings}
 use Rattle.desk_core.specs.Desk.{Desk, Request, queue_at, request_at, queue_count, request_count}
 use Rattle.desk_core.specs.Rights.{holds_as, holds_on_queue, roles_on}
 use Rattle.desk_core.specs.declared.rows.QueueRow.{QueueRow}
 use Rattle.desk_core.specs.declared.rows.RequestRow.{RequestRow}
 use Rattle.desk_core.specs.declared.command.Command.{Command}
-use Rattle.desk_core.specs.declared.command.Command.TheVariants.{OpenQueue, Create, SetStatus, Queues, Show}
+use Rattle.desk_core.specs.declared.command.Command.TheVariants.{OpenQueue, Create, SetStatus, SetLevel, Queues, Show}
 use Rattle.desk_core.specs.declared.refusal.Refusal.{Refusal}
 use Rattle.desk_core.specs.declared.refusal.Refusal.TheVariants.{UnknownCaller, BadMoment, BadText, NotFound, UnknownName, Denied, NoChange, NoTransition, Exists, Full}
 
@@ -59,11 +59,15 @@ right_of lifecycle from to = option_map_or (λ l. right_of_move l from to) lifec
 abbrev pub queue_limit : ℕ
 queue_limit = 1000
 
--- of a new queue, by the queue of that name and the number of queues; a level would have to be known, and none is yet
+-- a level that is given is one of the settings
+abbrev pub knows_level : Settings → Option (List ℕ) → Bool
+knows_level settings level = option_map_or (λ l. is_some (level_named settings l)) level true
+
+-- of a new queue, by the queue of that name and the number of queues
 abbrev pub open_queue_conditions : Settings → List ℕ → List ℕ → List ℕ → Option (List ℕ) → Option QueueRow → ℕ → List Condition
 open_queue_conditions settings caller name lifecycle level there count =
     (BadText, not (is_name name))
-    ∷ (UnknownName, is_none (lifecycle_named settings lifecycle) || is_some level)
+    ∷ (UnknownName, is_none (lifecycle_named settings lifecycle) || not (knows_level settings level))
     ∷ (Denied admin_queue, not (holds_on_queue settings caller admin_queue name))
     ∷ (Exists, is_some there)
     ∷ (Full, nat_le queue_limit count)
@@ -103,6 +107,20 @@ set_status_conditions settings caller status queue on =
     ∷ (Full, nat_le (entry_limit settings) on.entry_count)
     ∷ []
 
+abbrev pub is_same_level : Option (List ℕ) → Option (List ℕ) → Bool
+is_same_level None None = true
+is_same_level (Some a) (Some b) = bytes_eq a b
+is_same_level a b = false
+
+-- of another level, or of none, by where the caller stands on the request
+abbrev pub set_level_conditions : Settings → List ℕ → Option (List ℕ) → Standing → List Condition
+set_level_conditions settings caller level on =
+    (UnknownName, not (knows_level settings level))
+    ∷ (Denied modify_ticket, not (holds_as settings caller modify_ticket on.row on.roles))
+    ∷ (NoChange, is_same_level on.row.level level)
+    ∷ (Full, nat_le (entry_limit settings) on.entry_count)
+    ∷ []
+
 -- what a command on a request asks: that it is there and the caller may show it, and then what follows of it
 abbrev pub on_request : Settings → List ℕ → Option Standing → (Standing → List Condition) → List Condition
 on_request settings caller None conditions = (NotFound, true) ∷ []
@@ -118,6 +136,9 @@ conditions_of settings caller (Create queue subject status requestors) desk =
 conditions_of settings caller (SetStatus id status) desk =
     on_request settings caller (option_map (standing_on caller) (request_at desk id))
     (λ on. set_status_conditions settings caller status (queue_at desk on.row.queue) on)
+conditions_of settings caller (SetLevel id level) desk =
+    on_request settings caller (option_map (standing_on caller) (request_at desk id))
+    (λ on. set_level_conditions settings caller level on)
 conditions_of settings caller Queues desk = []
 conditions_of settings caller (Show id) desk =
     on_request settings caller (option_map (standing_on caller) (request_at desk id)) (λ on. [])

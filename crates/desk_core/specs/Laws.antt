@@ -3,13 +3,15 @@ use Rattle.std.specs.Prelude.{◌≡◌, ◌≢◌, ℕ, ◌≤◌, true, List, 
 use Rattle.settings_core.specs.declared.settings.Settings.{Settings}
 use Rattle.desk_core.specs.Desk.{Desk, Request, is_numbered, queue_at, request_at}
 use Rattle.desk_core.specs.Guard.{is_allowed, lifecycle_of, right_of}
-use Rattle.desk_core.specs.Reading.{IsReading}
+use Rattle.desk_core.specs.Reading.{IsReading, answer_of, due_in}
 use Rattle.desk_core.specs.Refusals.{number_of}
 use Rattle.desk_core.specs.Rights.{holds_on}
 use Rattle.desk_core.specs.Step.{desk_after, reply_to}
 use Rattle.desk_core.specs.View.{view}
+use Rattle.desk_core.specs.declared.answer.Shown as answer
+use Rattle.desk_core.specs.declared.answer.Answer.TheVariants.{Shown}
 use Rattle.desk_core.specs.declared.command.Command.{Command}
-use Rattle.desk_core.specs.declared.command.Command.TheVariants.{OpenQueue, Create, SetStatus, Queues, Show}
+use Rattle.desk_core.specs.declared.command.Command.TheVariants.{OpenQueue, Create, SetStatus, SetLevel, Queues, Show}
 use Rattle.desk_core.specs.declared.refusal.Refusal.{Refusal}
 
 -- The status law: where a status changes, the command asks for just that move, the lifecycle of the request's queue
@@ -26,6 +28,14 @@ KeepsStatusLaw settings at caller command desk =
     (id : ℕ) (before after : Request) → request_at desk id ≡ Some before
     → request_at (desk_after settings at caller command desk) id ≡ Some after
     → after.row.status ≢ before.row.status → IsLawfulMove settings caller command desk before after
+
+-- The due law: a due moment in an answer is that of the request that is shown, by its queue's lifecycle and its own
+-- level.
+abbrev pub TellsDueMoments : Settings → List ℕ → Command → Desk → Type 0
+TellsDueMoments settings caller command desk =
+    (shown : answer.Shown) → answer_of settings caller command desk ≡ Shown shown
+    → (request : Request) × (request_at desk request.row.id ≡ Some request) × (shown.row ≡ request.row)
+    × (shown.due ≡ due_in settings (queue_at desk request.row.queue) request.row)
 
 -- The requests of a desk are numbered from 1 without gaps, and stay so.
 abbrev pub IsNumbered : Desk → Type 0
@@ -45,6 +55,7 @@ abbrev pub request_named : Command → Option ℕ
 request_named (OpenQueue name lifecycle level) = None
 request_named (Create queue subject status requestors) = None
 request_named (SetStatus id status) = Some id
+request_named (SetLevel id level) = Some id
 request_named Queues = None
 request_named (Show id) = Some id
 

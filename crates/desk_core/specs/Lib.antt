@@ -5,6 +5,7 @@ pub use Rattle.settings_core.specs.Settings
 pub mod Change
 pub mod Decision
 pub mod Desk
+pub mod Due
 pub mod Effect
 pub mod Facts
 pub mod Guard

@@ -7,12 +7,13 @@ use Rattle.desk_core.specs.Desk.{Desk, Request}
 use Rattle.desk_core.specs.Rights.{may_show, may_show_comments, sees_queue}
 use Rattle.desk_core.specs.declared.rows.Entry.{Entry}
 use Rattle.desk_core.specs.declared.rows.EntryKind.{EntryKind}
-use Rattle.desk_core.specs.declared.rows.EntryKind.TheVariants.{Create, Status}
+use Rattle.desk_core.specs.declared.rows.EntryKind.TheVariants.{Create, Status, Level}
 
 -- no entry is a comment yet
 abbrev pub is_comment : EntryKind → Bool
 is_comment Create = false
 is_comment Status = false
+is_comment Level = false
 
 -- an entry stays unless it is a comment that the caller may not see
 abbrev pub is_seen : Settings → List ℕ → Request → Entry → Bool

@@ -22,6 +22,11 @@ pub enum Command {
         id: u32,
         status: Text,
     },
+    /// Gives a request another level, or none.
+    SetLevel {
+        id: u32,
+        level: Option<Text>,
+    },
     /// Lists the queues that the caller may see.
     Queues,
     /// Shows a request.

@@ -1,10 +1,11 @@
 ghost use Rattle.std.specs.Prelude.{◌≡◌, ◌≢◌, IfOk, IfErr, OnOk, None, Some, Ok, Err, true, false, if◌then◌else◌};
 ghost use Rattle.hours_core.specs.Moment.{is_moment};
 ghost use Rattle.rights_core.specs.People.{holds};
+ghost use Rattle.rights_core.specs.Right.{modify_ticket};
 ghost use Rattle.settings_core.specs.Settings.{people_of};
 ghost use Rattle.desk_core.specs.Desk.{Desk};
 ghost use Rattle.desk_core.specs.Facts.{facts_of, may_show_by, roles_among};
-ghost use Rattle.desk_core.specs.Guard.{guard};
+ghost use Rattle.desk_core.specs.Guard.{guard, knows_level};
 ghost use Rattle.desk_core.specs.Effect.{effect};
 ghost use Rattle.desk_core.specs.Change.{applied};
 ghost use Rattle.desk_core.specs.Reading.{IsReading};
@@ -17,7 +18,7 @@ use crate::facts::{Facts, RequestFacts};
 use crate::refusal::Refusal;
 use crate::rights::{may_show, roles_among};
 use hours_core::{END, Minute};
-use rights_core::Roles;
+use rights_core::{Roles, right};
 use settings_core::Settings;
 use std::alloc::Global;
 use text_core::Text;
@@ -25,6 +26,7 @@ use text_core::Text;
 mod create;
 mod lifecycles;
 mod open_queue;
+mod set_level;
 mod set_status;
 mod show;
 
@@ -118,8 +120,19 @@ impl Context<'_> {
                 requestors,
             } => self.create(queue, subject, status, requestors),
             Command::SetStatus { id: _, status } => self.set_status(status),
+            Command::SetLevel { id: _, level } => self.set_level(level),
             Command::Queues => Ok(Change::Nothing),
             Command::Show { id: _ } => self.show(),
+        }
+    }
+
+    /// Whether a level that is given is one of the settings.
+    fn knows_level(&self, level: &Option<Text>) -> bool
+        ensures { result ≡ knows_level self.now.settings.now level.now }
+    {
+        match level {
+            Some(level) => self.settings.level(level.as_str()).is_some(),
+            None => true,
         }
     }
 
@@ -142,6 +155,18 @@ impl Context<'_> {
         let watchers = request.watchers.as_slice();
         let roles = roles_among(self.caller, &request.row, watchers);
         self.ask(right, &request.row.queue, roles)
+    }
+
+    /// Refuses where the caller may not modify the request.
+    #[tactic(auto, unfolding(rights_core::specs::Right::modify_ticket))]
+    fn ask_to_modify(&self, request: &RequestFacts) -> Result<(), Refusal>
+        ensures ok { OnOk result (holds_as self.now.settings.now self.now.caller.now modify_ticket request.now.row
+            (roles_among self.now.caller.now request.now.row request.now.watchers) ≡ true) }
+        ensures err { IfErr result (λ refusal. refusal ≢ Refusal.Unavailable → (refusal ≡ Refusal.Denied modify_ticket)
+            × (holds_as self.now.settings.now self.now.caller.now modify_ticket request.now.row
+            (roles_among self.now.caller.now request.now.row request.now.watchers) ≡ false)) }
+    {
+        self.ask_on(right::MODIFY_TICKET, request)
     }
 
     /// Refuses where the caller lacks a right on the queue of that name: nobody has a role on a queue.

@@ -4,7 +4,7 @@
 ghost use Rattle.std.specs.Prelude.{ℕ, List};
 ghost use Rattle.settings_core.specs.declared.settings.Settings.{Settings};
 ghost use Rattle.desk_core.specs.Desk.{Desk};
-ghost use Rattle.desk_core.specs.Laws.{KeepsNumbers, KeepsStatusLaw, RefusesAsMissing, RepliesByTheView};
+ghost use Rattle.desk_core.specs.Laws.{KeepsNumbers, KeepsStatusLaw, RefusesAsMissing, RepliesByTheView, TellsDueMoments};
 ghost use Rattle.desk_core.specs.declared.command.Command.{Command};
 
 /// A status moves only along the lifecycle of the request's queue, and by a caller who holds the right of the move.
@@ -12,6 +12,14 @@ pub fn status_law()
     ensures { (settings : Settings) (at : ℕ) (caller : List ℕ) (command : Command) (desk : Desk)
         → KeepsStatusLaw settings at caller command desk }
 {}
+
+/// A due moment in an answer is that of the request that is shown.
+#[tactic(auto, using(crate::proofs::DueLaw::due_law))]
+pub fn due_law()
+    ensures { (settings : Settings) (caller : List ℕ) (command : Command) (desk : Desk)
+        → TellsDueMoments settings caller command desk }
+{
+}
 
 /// Requests are numbered from 1 without gaps, and stay so.
 #[tactic(auto, using(crate::proofs::Steps::numbers_law))]

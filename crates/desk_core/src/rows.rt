@@ -59,6 +59,8 @@ pub enum EntryKind {
     Create,
     /// Its status moved from `head` to `body`.
     Status,
+    /// Its level changed from `head` to `body`, where `-` stands for none.
+    Level,
 }
 
 /// An entry of a request's history. The entries of a request are numbered from 1 without gaps.

@@ -30,7 +30,7 @@ impl Context<'_> {
         if !is_name(name.as_str()) {
             return Err(Refusal::BadText);
         }
-        if self.settings.lifecycle(lifecycle.as_str()).is_none() || level.is_some() {
+        if self.settings.lifecycle(lifecycle.as_str()).is_none() || !self.knows_level(level) {
             return Err(Refusal::UnknownName);
         }
         self.ask_on_queue(right::ADMIN_QUEUE, name)?;

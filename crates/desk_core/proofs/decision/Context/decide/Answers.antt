@@ -12,3 +12,9 @@ returns-in-Show-clause-ok c = rw c.in-Show.is (c.show.ensures.ok c.in-Show.id)
 
 pub returns-in-Show-clause-err : goal.returns-in-Show-clause-err
 returns-in-Show-clause-err c = rw c.in-Show.is (c.show.ensures.err c.in-Show.id)
+
+pub returns-in-SetLevel-clause-ok : goal.returns-in-SetLevel-clause-ok
+returns-in-SetLevel-clause-ok c = rw c.in-SetLevel.is (c.set_level.ensures.ok c.in-SetLevel.id)
+
+pub returns-in-SetLevel-clause-err : goal.returns-in-SetLevel-clause-err
+returns-in-SetLevel-clause-err c = rw c.in-SetLevel.is (c.set_level.ensures.err c.in-SetLevel.id)
