@@ -17,25 +17,6 @@ const DEPTH: usize = 20;
 /// How many queues are spoken of.
 const QUEUES: usize = 50;
 
-const RIGHTS: [&str; 16] = [
-    right::SEE_QUEUE,
-    right::CREATE_TICKET,
-    right::SHOW_TICKET,
-    right::SHOW_TICKET_COMMENTS,
-    right::MODIFY_TICKET,
-    right::REPLY_TO_TICKET,
-    right::COMMENT_ON_TICKET,
-    right::OWN_TICKET,
-    right::TAKE_TICKET,
-    right::STEAL_TICKET,
-    right::REASSIGN_TICKET,
-    right::DELETE_TICKET,
-    right::WATCH,
-    right::WATCH_AS_ADMIN_CC,
-    right::ADMIN_QUEUE,
-    right::SUPER_USER,
-];
-
 /// Why nothing is measured.
 #[derive(Debug, Drop)]
 enum Failure {
@@ -128,7 +109,7 @@ fn grants(
         let group = Text::new(rt.alloc(), named(groups, number))?;
         let queue = Text::new(rt.alloc(), named(queues, number / 10))?;
         grants.push(Grant {
-            right: Text::new(rt.alloc(), RIGHTS[number % 16])?,
+            right: Text::new(rt.alloc(), right::STANDARD[number % 16])?,
             subject: Subject::Group(group),
             queue: if number % 10 == 0 { None } else { Some(queue) },
         })?;
@@ -142,7 +123,7 @@ fn ask(people: &People, persons: &[Text], queues: &[Text], questions: usize) -> 
         .filter(|number| {
             let person = named(persons, *number);
             let queue = named(queues, *number / 7);
-            people.holds(person, RIGHTS[*number / 3 % 16], queue, Roles::none())
+            people.holds(person, right::STANDARD[*number / 3 % 16], queue, Roles::none())
         })
         .count()
 }

@@ -1,5 +1,11 @@
 //! The names of the rights that commands ask for.
 
+ghost use Rattle.std.specs.Prelude.{◌≡◌};
+ghost use Rattle.std.specs.List.{list_any};
+ghost use Rattle.std.specs.Str.{bytes_eq};
+ghost use Rattle.rights_core.specs.People.{is_among};
+ghost use Rattle.rights_core.specs.Right.{standard_rights};
+
 pub const SEE_QUEUE: &str = "SeeQueue";
 
 pub const CREATE_TICKET: &str = "CreateTicket";
@@ -32,3 +38,36 @@ pub const ADMIN_QUEUE: &str = "AdminQueue";
 
 /// Stands for every right on the queues that its grant covers.
 pub const SUPER_USER: &str = "SuperUser";
+
+/// All of them.
+pub const STANDARD: [&str; 16] = [
+    SEE_QUEUE,
+    CREATE_TICKET,
+    SHOW_TICKET,
+    SHOW_TICKET_COMMENTS,
+    MODIFY_TICKET,
+    REPLY_TO_TICKET,
+    COMMENT_ON_TICKET,
+    OWN_TICKET,
+    TAKE_TICKET,
+    STEAL_TICKET,
+    REASSIGN_TICKET,
+    DELETE_TICKET,
+    WATCH,
+    WATCH_AS_ADMIN_CC,
+    ADMIN_QUEUE,
+    SUPER_USER,
+];
+
+/// Whether the text is one of them.
+pub fn is_standard(text: &str) -> bool
+    ensures { result ≡ is_among standard_rights text.now }
+{
+    has_name(&STANDARD, text)
+}
+
+fn has_name(rights: &[&str], text: &str) -> bool
+    ensures { result ≡ list_any (λ r. bytes_eq r.now text.now) rights.now }
+{
+    rights.iter().any(|right| *right == text)
+}

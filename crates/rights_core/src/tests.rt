@@ -326,5 +326,9 @@ fn rights_by_name(rt: HostRuntime) {
         (right::SUPER_USER, "SuperUser"),
     ] {
         assert_eq!(rt; right, name);
+        assert!(rt; right::is_standard(name), "{name}");
+    }
+    for name in ["", "Own", "seequeue", "SuperUsers"] {
+        assert!(rt; !right::is_standard(name), "{name}");
     }
 }
