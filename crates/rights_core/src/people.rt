@@ -86,7 +86,7 @@ impl People {
             Some(groups) => {
                 grants::give(&self.grants, right, queue, person, groups.as_slice(), roles)
             }
-            None => false,
+            None => false, // nor what everyone holds
         }
     }
 }
