@@ -326,9 +326,20 @@ fn rights_by_name(rt: HostRuntime) {
         (right::SUPER_USER, "SuperUser"),
     ] {
         assert_eq!(rt; right, name);
-        assert!(rt; right::is_standard(name), "{name}");
     }
-    for name in ["", "Own", "seequeue", "SuperUsers"] {
-        assert!(rt; !right::is_standard(name), "{name}");
+}
+
+#[test]
+fn standard_rights(rt: HostRuntime) {
+    for (name, want) in [
+        ("SeeQueue", true),
+        ("WatchAsAdminCc", true),
+        ("SuperUser", true),
+        ("", false),
+        ("Own", false),
+        ("seequeue", false),
+        ("SuperUsers", false),
+    ] {
+        assert_eq!(rt; right::is_standard(name), want, "{name}");
     }
 }
