@@ -104,10 +104,10 @@ settled_or_more n groups person =
     (λ same. inl (λ group found.
     let at = leader n groups person group found in
     let P : Group → Type 0 =
-            λ g. leads_within (suc n) groups person g.name ≡ true → leads_within n groups person g.name ≡ true in
+    λ g. leads_within (suc n) groups person g.name ≡ true → leads_within n groups person g.name ≡ true in
     let here : P at.1 = subst P at.3 (same at.0 at.1 at.2) in
     let Q : List ℕ → Type 0 =
-            λ name. leads_within (suc n) groups person name ≡ true → leads_within n groups person name ≡ true in
+    λ name. leads_within (suc n) groups person name ≡ true → leads_within n groups person name ≡ true in
     subst Q at.4 here found))
     (λ more. inr more)
     (same_or_more
@@ -149,9 +149,9 @@ pub leads_further : (groups : List Group) (person group next : List ℕ)
 leads_further groups person group next listed found =
     let at = leader (length groups) groups person next (longer (length groups) groups person next found) in
     let P : List ℕ → Type 0 =
-            λ name. (lists groups group name && leads_within (length groups) groups person name) ≡ true in
+    λ name. (lists groups group name && leads_within (length groups) groups person name) ≡ true in
     let passes : P at.1.name =
-            subst P (sym at.4) (and_from (lists groups group next) (leads_within (length groups) groups person next) listed found) in
+    subst P (sym at.4) (and_from (lists groups group next) (leads_within (length groups) groups person next) listed found) in
     settled
     groups
     person

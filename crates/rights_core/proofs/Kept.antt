@@ -31,35 +31,38 @@ pub one_more_person : {Y : Type 0} (persons : List (List ℕ)) (groups : List Gr
     → IsMemberships (take (i + 1) persons) groups new
 one_more_person persons groups i person names old new inside here leading updates before q =
     let more : is_among (take (i + 1) persons) q ≡ (is_among (take i persons) q || bytes_eq person q) =
-            list_any_more (λ t. bytes_eq t q) persons i [] inside
-            ∙ ap (λ p. is_among (take i persons) q || bytes_eq p q) (sym here) in
+    list_any_more (λ t. bytes_eq t q) persons i [] inside
+    ∙ ap (λ p. is_among (take i persons) q || bytes_eq p q) (sym here) in
     ⊎_elim
     (λ same.
     let now : get_by_text new q ≡ Some names =
-            updates q ∙ ap (λ b. cond b (Some names) (get_by_text old q)) same in
+    updates q ∙ ap (λ b. cond b (Some names) (get_by_text old q)) same in
     let known : is_among (take (i + 1) persons) q ≡ true =
-            more ∙ ap (λ b. is_among (take i persons) q || b) same ∙ or_true (is_among (take i persons) q) in
-    (ap is_some now ∙ sym known,
-    λ group.
-    ap (λ o. is_among (unwrap_or o []) group) now
-    ∙ leading group
-    ∙ ap (λ p. leads groups p group) ((bytes_eq-Decides person q).0 same)
-    ∙ sym (ap (λ b. b && leads groups q group) known)))
+    more ∙ ap (λ b. is_among (take i persons) q || b) same ∙ or_true (is_among (take i persons) q) in (
+      ap is_some now ∙ sym known,
+      λ group.
+          ap (λ o. is_among (unwrap_or o []) group) now
+          ∙ leading group
+          ∙ ap (λ p. leads groups p group) ((bytes_eq-Decides person q).0 same)
+          ∙ sym (ap (λ b. b && leads groups q group) known),
+    ))
     (λ other.
     let now : get_by_text new q ≡ get_by_text old q =
-            updates q ∙ ap (λ b. cond b (Some names) (get_by_text old q)) other in
+    updates q ∙ ap (λ b. cond b (Some names) (get_by_text old q)) other in
     let known : is_among (take (i + 1) persons) q ≡ is_among (take i persons) q =
-            more ∙ ap (λ b. is_among (take i persons) q || b) other ∙ or_false (is_among (take i persons) q) in
-    (ap is_some now ∙ (before q).0 ∙ sym known,
-    λ group.
-    ap (λ o. is_among (unwrap_or o []) group) now
-    ∙ (before q).1 group
-    ∙ sym (ap (λ b. b && leads groups q group) known)))
+    more ∙ ap (λ b. is_among (take i persons) q || b) other ∙ or_false (is_among (take i persons) q) in (
+      ap is_some now ∙ (before q).0 ∙ sym known,
+      λ group.
+          ap (λ o. is_among (unwrap_or o []) group) now
+          ∙ (before q).1 group
+          ∙ sym (ap (λ b. b && leads groups q group) known),
+    ))
     (cases_Bool (bytes_eq person q))
   where
     or_true : (b : Bool) → (b || true) ≡ true
     or_true true = refl
     or_true false = refl
+
     or_false : (b : Bool) → (b || false) ≡ b
     or_false true = refl
     or_false false = refl
@@ -92,15 +95,16 @@ pub member_chain : (people : Parts) (person group : List ℕ)
     → IsTrue (is_member people person group)
     ↔ (IsTrue (knows people person) × ((others : List (List ℕ)) × IsChain people.groups group others person))
 unfolding is_member
-member_chain people person group =
-    ((λ member.
-    let parts = and_parts (knows people person) (leads people.groups person group) member in
-    (parts.0, chain_within (length people.groups) people.groups person group parts.1)),
-    (λ chain. and_from
-    (knows people person)
-    (leads people.groups person group)
-    chain.0
-    (leads_along people.groups person chain.1.0 group chain.1.1)))
+member_chain people person group = (
+  (λ member.
+      let parts = and_parts (knows people person) (leads people.groups person group) member in
+      (parts.0, chain_within (length people.groups) people.groups person group parts.1)),
+  (λ chain. and_from
+      (knows people person)
+      (leads people.groups person group)
+      chain.0
+      (leads_along people.groups person chain.1.0 group chain.1.1)),
+)
 
 -- the people of those parts, in the words of a look-up that found nobody
 pub nobody_kept : {Y : Type 0} (people : Parts) (kept : BTreeMap (String Y) (List (List ℕ)))

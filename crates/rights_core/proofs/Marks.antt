@@ -31,7 +31,7 @@ pub fewer_unmarked : (marks : List Bool) (i : ℕ)
 fewer_unmarked marks i inside unmarked =
     let weight : Bool → ℕ = λ b. cond (not b) 1 0 in
     let moved : sum_by weight (set marks i true) + weight (get_or marks i false) ≡ sum_by weight marks + 0 =
-            sum_by-set weight marks i true false inside in
+    sum_by-set weight marks i true false inside in
     let one : weight (get_or marks i false) ≡ 1 = rw unmarked refl in
     let less : sum_by weight (set marks i true) < sum_by weight marks = omega arith in
     less

@@ -55,9 +55,7 @@ fn granted<'a>(kept: &'a GrantsByRight, right: &str) -> &'a [Grant]
 fn meet(grants: &[Grant], queue: &str, person: &str, groups: &[Text], roles: Roles) -> bool
     ensures { result ≡ list_any (meets queue.now person.now groups.now roles) grants.now }
 {
-    grants
-        .iter()
-        .any(|g| covers(g, queue) && is_meant(&g.subject, person, groups, roles))
+    grants.iter().any(|g| covers(g, queue) && is_meant(&g.subject, person, groups, roles))
 }
 
 /// Whether the grant is for the queue, or for all.

@@ -2,13 +2,13 @@ ghost use Rattle.std.specs.Prelude.{◌≡◌, ◌≢◌, ◌↔◌, ℕ, List, 
 ghost use Rattle.rights_core.specs.People as words;
 ghost use Rattle.rights_core.specs.RightsFaults.{fault_of};
 
+use crate::checks;
 use crate::fault::RightsFault;
 use crate::grant::Grant;
 use crate::grants::{self, GrantsByRight};
 use crate::memberships::{self, Memberships};
 use crate::parts::{Group, Parts};
 use crate::role::Roles;
-use crate::checks;
 use std::alloc::Global;
 use std::marker::Model;
 use text_core::Text;
@@ -86,7 +86,7 @@ impl People {
             Some(groups) => {
                 grants::give(&self.grants, right, queue, person, groups.as_slice(), roles)
             }
-            None => false,
+            None => false, // nor what everyone holds
         }
     }
 }

@@ -12,10 +12,10 @@ returns-then-has_group c =
     let rest : List Group = drop (c.loop-i.i + 1) groups in
     let whole : rest ≡ take (length groups - (c.loop-i.i + 1)) rest = grind (arith, common_steps) in
     let again : has_group rest name ≡ true =
-            ap (λ gs. has_group gs name) whole
-            ∙ ap (has_group (take (length groups - (c.loop-i.i + 1)) rest)) (sym c.as_str.ensures)
-            ∙ sym c.has_group.ensures
-            ∙ c.if-has_group.true in
+    ap (λ gs. has_group gs name) whole
+    ∙ ap (has_group (take (length groups - (c.loop-i.i + 1)) rest)) (sym c.as_str.ensures)
+    ∙ sym c.has_group.ensures
+    ∙ c.if-has_group.true in
     sym
     (c.loop-i.invariant
     ∙ repeats_from groups c.loop-i.i c.index-groups-i.result c.loop-i-test.true c.index-groups-i.is
@@ -28,10 +28,10 @@ loop-i-preserved c =
     let rest : List Group = drop (c.loop-i.i + 1) groups in
     let whole : rest ≡ take (length groups - (c.loop-i.i + 1)) rest = grind (arith, common_steps) in
     let once : has_group rest name ≡ false =
-            ap (λ gs. has_group gs name) whole
-            ∙ ap (has_group (take (length groups - (c.loop-i.i + 1)) rest)) (sym c.as_str.ensures)
-            ∙ sym c.has_group.ensures
-            ∙ c.if-has_group.false in
+    ap (λ gs. has_group gs name) whole
+    ∙ ap (has_group (take (length groups - (c.loop-i.i + 1)) rest)) (sym c.as_str.ensures)
+    ∙ sym c.has_group.ensures
+    ∙ c.if-has_group.false in
     c.loop-i.invariant
     ∙ repeats_from groups c.loop-i.i c.index-groups-i.result c.loop-i-test.true c.index-groups-i.is
     ∙ ap (λ b. b || repeats_text (group_names rest)) once

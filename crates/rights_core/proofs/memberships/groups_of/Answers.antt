@@ -7,7 +7,7 @@ use Rattle.rights_core.proofs.memberships.groups_of.Goals as goal
 pub returns : goal.returns
 returns c =
     let direct : c.as_mut_slice-marks.result.now ≡ direct_marks c.args.groups.now c.args.person.now =
-            c.as_mut_slice-marks.ensures.value ∙ c.in_ok-marks.ensures in
+    c.as_mut_slice-marks.ensures.value ∙ c.in_ok-marks.ensures in
     IfOk-weaker
     c.marked_names.result
     _

@@ -14,7 +14,7 @@ returns-in-Some-clause-value c =
 pub returns-in-Some-clause-chain : goal.returns-in-Some-clause-chain
 returns-in-Some-clause-chain c =
     let value : c.is_among.result ≡ is_member c.args.self.now c.args.person.now c.args.group.now =
-            returns-in-Some-clause-value c in
+    returns-in-Some-clause-value c in
     let law = member_chain c.args.self.now c.args.person.now c.args.group.now in
     rw value law
 
