@@ -32,7 +32,7 @@ abbrev pub asked_if_spelled : Option ℕ → List ℕ → Option Command → Lin
 asked_if_spelled (Some at) caller (Some command) = Asked at caller command
 asked_if_spelled at caller command = BadWords
 
--- the moment, the caller, and the words of a command, which no words are none of
+-- the moment, the caller and the words of a command; no words spell no command, so that fewer than three are bad words
 abbrev pub said_by : List (List ℕ) → Line
 said_by (at ∷ caller ∷ words) = asked_if_spelled (number_of at) caller (command_of words)
 said_by fewer = BadWords
@@ -82,9 +82,7 @@ IsUnread text status = (text ≡ input_fault_text Read) × (status ≡ 4)
 
 -- what the commands print on an empty desk
 abbrev pub IsOfCommands : Settings → List ℕ → List ℕ → ℕ → Type 0
-IsOfCommands settings commands text status =
-    IsUnread text status
-    ⊎ (((new : Desk) × Prints settings (lines commands) empty_desk text new) × (status ≡ 0))
+IsOfCommands settings commands text status = ((new : Desk) × Prints settings (lines commands) empty_desk text new) × (status ≡ 0)
 
 -- what is printed with these settings, unless memory for them was wanting
 abbrev pub IsRun : Result Settings SettingsFault → List ℕ → List ℕ → ℕ → Type 0

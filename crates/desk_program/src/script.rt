@@ -1,5 +1,5 @@
-ghost use Rattle.std.specs.Prelude.{◌≡◌, ◌≢◌, ℕ, true, List, map, string_bytes, IfOk, IfErr, IfSome, Ok, Err};
-ghost use Rattle.std.specs.Str.Lines.{lines as lines_of_text};
+ghost use Rattle.std.specs.Prelude.{◌≡◌, ◌≢◌, ℕ, true, List, string_bytes, IfOk, IfErr, IfSome, Ok, Err};
+ghost use Rattle.std.specs.Str.Lines.{lines};
 ghost use Rattle.settings_core.specs.Settings.{built_in_settings};
 ghost use Rattle.service_core.specs.Desk.{Desk, empty_desk};
 ghost use Rattle.desk_program.specs.Input as form;
@@ -12,7 +12,7 @@ use crate::line::answer_line;
 use crate::output::put;
 use crate::rows::Rows;
 use settings_core::{Settings, SettingsFault};
-use std::alloc::{AllocError, Global};
+use std::alloc::Global;
 use std::io::{Read, Write};
 
 /// The exit status of a script that ran, refused lines included.
@@ -87,33 +87,21 @@ fn run_commands<W: Write>(alloc: Global, settings: &Settings, commands: &str, wr
         × script.IsOfCommands settings.now commands.now text status
         × Ends (W.contents writer.old) (W.contents writer.new) text status result }
 {
-    match lines_of(alloc, commands) {
-        Ok(lines) => {
-            if run_lines(alloc, settings, lines.as_slice(), writer) {
-                DONE
-            } else {
-                BAD_INPUT
-            }
-        }
-        Err(_) => end(writer, input_fault_text(InputFault::Read), BAD_INPUT),
+    if run_lines(alloc, settings, commands, writer) {
+        DONE
+    } else {
+        BAD_INPUT
     }
 }
 
-/// The lines of a text. A line feed or the text's end ends a line, and a carriage return before a line feed is dropped.
-fn lines_of<'t>(alloc: Global, text: &'t str) -> Result<Vec<&'t str>, AllocError>
-    ensures { IfOk result (λ found. map (λ l. l.now) found.items ≡ lines_of_text text.entry.now) }
-{
-    text.lines().collect(alloc)
-}
-
 /// Writes what each line prints, after its command is done: whether the writer takes all of it.
-fn run_lines<W: Write>(alloc: Global, settings: &Settings, lines: &[&str], writer: &mut W) -> bool
+fn run_lines<W: Write>(alloc: Global, settings: &Settings, commands: &str, writer: &mut W) -> bool
     ensures { (text : List ℕ) × (new : Desk)
-        × script.Prints settings.now (map (λ l. l.now) lines.now) empty_desk text new
+        × script.Prints settings.now (lines commands.now) empty_desk text new
         × Takes result (W.contents writer.old) (W.contents writer.new) text }
 {
     let mut rows = Rows::new(alloc);
-    for line in lines {
+    for line in commands.lines() {
         if !run_line(alloc, settings, &mut rows, line, writer) {
             return false;
         }

@@ -1,5 +1,6 @@
 -- the lines so far have printed what the writer has taken
-use Rattle.std.proofs.Common.{ℕ, true, List, map, take}
+use Rattle.std.proofs.Common.{ℕ, true, List, length, take}
+use Rattle.std.specs.Str.Lines.{lines}
 use Rattle.service_core.specs.Desk.{empty_desk}
 use Rattle.desk_program.specs.Rows.{desk_of}
 use Rattle.desk_program.specs.Script.{Prints}
@@ -8,5 +9,5 @@ use Rattle.desk_program.proofs.script.run_lines.Given as goal
 
 abbrev pub invariant-loop-line : goal.invariant-loop-line
 invariant-loop-line g l =
-    (text : List ℕ) × Prints l.settings (map (λ s. s.now) (take l.line-index l.lines)) empty_desk text (desk_of l.rows)
+    (text : List ℕ) × Prints l.settings (take (length l.yielded) (lines l.commands)) empty_desk text (desk_of l.rows)
     × Takes true (g.W.Write.contents l.initial.writer) (g.W.Write.contents l.writer) text
