@@ -5,3 +5,4 @@ pub mod Marker
 pub mod Stays
 pub mod Printing
 pub mod Endings
+pub mod Writing

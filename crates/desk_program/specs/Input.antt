@@ -1,5 +1,6 @@
 -- A script's input: settings, a line `%%`, and commands, a line each.
-use Rattle.std.specs.Prelude.{ℕ, Bool, true, ◌==◌, ◌||◌, nat_lt, List, [], ◌∷◌, ◌++◌, take, drop, length, Option, Some, None, Result, Ok, Err, codes, if◌then◌else◌}
+use Rattle.std.specs.Prelude.{◌≤◌, ℕ, Bool, true, ◌==◌, ◌||◌, nat_lt, List, [], ◌∷◌, ◌++◌, take, drop, length, Option, Some, None, Result, Ok, Err, codes, if◌then◌else◌}
+use Rattle.std.specs.Io.KnownBytes.{Consumes}
 use Rattle.std.specs.Option.{option_map}
 use Rattle.std.specs.List.{list_all}
 use Rattle.std.specs.Str.{bytes_eq, is_utf8}
@@ -13,6 +14,10 @@ use Rattle.desk_program.specs.declared.input.InputFault.TheVariants.{NoMarker, T
 -- the most bytes of a script
 abbrev pub input_limit : ℕ
 input_limit = 1048576
+
+-- a reader lost at most so many bytes
+abbrev pub TakesAtMost : Option (List ℕ) → Option (List ℕ) → ℕ → Type 0
+TakesAtMost old new most = (bytes : List ℕ) × Consumes old new bytes × (length bytes ≤ most)
 
 -- what follows a line `%%` at the front, which a line feed ends, a carriage return and one, or the input's end
 abbrev pub after_marker : List ℕ → Option (List ℕ)

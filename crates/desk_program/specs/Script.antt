@@ -81,14 +81,14 @@ abbrev pub IsUnread : List ℕ → ℕ → Type 0
 IsUnread text status = (text ≡ input_fault_text Read) × (status ≡ 4)
 
 -- what the commands print on an empty desk
-abbrev pub IsOfCommands : Settings → List ℕ → List ℕ → ℕ → Type 0
-IsOfCommands settings commands text status = ((new : Desk) × Prints settings (lines commands) empty_desk text new) × (status ≡ 0)
+abbrev pub IsOfCommands : Settings → List ℕ → List ℕ → Type 0
+IsOfCommands settings commands text = (new : Desk) × Prints settings (lines commands) empty_desk text new
 
 -- what is printed with these settings, unless memory for them was wanting
 abbrev pub IsRun : Result Settings SettingsFault → List ℕ → List ℕ → ℕ → Type 0
 IsRun (Err fault) commands text status = (text ≡ settings_fault_text fault) × (status ≡ 3)
 IsRun (Ok settings) commands text status =
-    ((text ≡ settings_fault_text NoMemory) × (status ≡ 3)) ⊎ IsOfCommands settings commands text status
+    ((text ≡ settings_fault_text NoMemory) × (status ≡ 3)) ⊎ (IsOfCommands settings commands text × (status ≡ 0))
 
 -- what is printed of a script, or of the fault of its input
 abbrev pub IsPrinted : Result Script InputFault → List ℕ → ℕ → Type 0
