@@ -6,13 +6,41 @@ use Rattle.desk_core.specs.declared.refusal.Refusal.TheVariants.{Unavailable}
 use Rattle.std.specs.Fmt.{digits, decimal}
 use Rattle.std.proofs.lemmas.List.{take-append-drop, take_more}
 use Rattle.service_core.specs.Desk.{Desk, empty_desk}
+use Rattle.service_core.specs.Step.{Ask, Reply, Runs}
 use Rattle.service_core.specs.Texts.{reply_text}
 use Rattle.wire_core.specs.Number.{number_of}
 use Rattle.wire_core.specs.Spelling.{command_of}
 use Rattle.wire_core.specs.Words.{words_of}
-use Rattle.desk_program.specs.Script.{LinePrints, Prints, asked_if_spelled, bad_words_text, is_passed_over, said, said_by, said_if_words, unavailable_text}
+use Rattle.desk_program.specs.Script.{AreTexts, IsText, LinePrints, asked_if_spelled, asks_of, bad_words_text, is_passed_over, said, said_by, said_if_words, unavailable_text, with_asked}
 use Rattle.desk_program.specs.declared.line.Line.{Line}
 use Rattle.desk_program.specs.declared.line.Line.TheVariants.{PassedOver, BadWords, Asked}
+
+-- one line after the other, each on the desk that the one before left
+abbrev pub Prints : Settings → List (List ℕ) → Desk → List ℕ → Desk → Type 0
+Prints settings [] old text new = (text ≡ []) × (new ≡ old)
+Prints settings (line ∷ rest) old text new =
+    (first : List ℕ) × (others : List ℕ) × (mid : Desk)
+    × LinePrints settings (said line) old first mid × Prints settings rest mid others new × (text ≡ first ++ others)
+
+-- a line, and then a run of the later commands
+step_of : (s : Settings) (line : Line) (asks : List Ask) (old mid new : Desk) (text : List ℕ) (replies : List Reply)
+    → LinePrints s line old text mid → Runs s mid asks replies new
+    → (all : List Reply) × Runs s old (with_asked line asks) all new × IsText line all replies text
+step_of s PassedOver asks old mid new text replies (shown, same) run =
+    (replies, subst (λ (d : Desk). Runs s d asks replies new) same run, (shown, refl))
+step_of s BadWords asks old mid new text replies (shown, same) run =
+    (replies, subst (λ (d : Desk). Runs s d asks replies new) same run, (shown, refl))
+step_of s (Asked at caller command) asks old mid new text replies (reply, steps, shown) run =
+    (reply ∷ replies, (mid, steps, run), (reply, refl, shown))
+
+-- what lines print is of a run of their commands
+pub run_of : (s : Settings) (lines : List (List ℕ)) (old new : Desk) (text : List ℕ) → Prints s lines old text new
+    → (replies : List Reply) × Runs s old (asks_of lines) replies new × AreTexts lines replies text
+run_of s [] old new text (shown, same) = ([], same, (refl, shown))
+run_of s (line ∷ lines) old new text (first, others, mid, prints, later, whole) =
+    let run = run_of s lines mid new others later in
+    let all = step_of s (said line) (asks_of lines) old mid new first run.0 prints run.1 in
+    (all.0, all.1, (first, others, run.0, all.2, run.2, whole))
 
 from_here : (s : Settings) (old mid : Desk) (lines : List (List ℕ)) (text : List ℕ) (new : Desk) → mid ≡ old → Prints s lines mid text new → Prints s lines old text new
 from_here s old mid lines text new e h = subst (λ (d : Desk). Prints s lines d text new) e h

@@ -6,10 +6,9 @@ use Rattle.std.proofs.lemmas.List.{length_push, take_all}
 use Rattle.std.specs.Str.Lines.{lines}
 use Rattle.service_core.specs.Desk.{empty_desk}
 use Rattle.desk_program.specs.Rows.{desk_of}
-use Rattle.desk_program.specs.Script.{Prints}
 use Rattle.desk_program.specs.Written.{Takes}
 use Rattle.desk_program.proofs.Bytes.{appends_more}
-use Rattle.desk_program.proofs.Printing.{cut_short, run_more, run_on}
+use Rattle.desk_program.proofs.Printing.{Prints, cut_short, run_more, run_of, run_on}
 use Rattle.desk_program.proofs.script.run_lines.Goals as goal
 
 pub returns-then-failed : goal.returns-then-failed
@@ -20,9 +19,10 @@ returns-then-failed g c =
     let here = c.run_line.ensures in
     let part = subst (λ (b : Bool). Takes b (g.W.Write.contents c.loop-line.writer) (g.W.Write.contents c.run_line.new.writer) here.0) failed here.2 in
     let whole = run_on c.args.settings.now (lines c.args.commands.now) (length c.loop-line.yielded) c.in-Some.line.now turn
-    (desk_of c.loop-line.rows) (desk_of c.run_line.new.rows) so_far.0 here.0 so_far.1 here.1 in (
+    (desk_of c.loop-line.rows) (desk_of c.run_line.new.rows) so_far.0 here.0 so_far.1 here.1 in
+    let run = run_of c.args.settings.now (lines c.args.commands.now) empty_desk whole.1 ((so_far.0 ++ here.0) ++ whole.0) whole.2 in (
       (so_far.0 ++ here.0) ++ whole.0,
-      (whole.1, whole.2),
+      (run.0, whole.1, run.1, run.2),
       subst (λ (b : Bool). Takes b (g.W.Write.contents c.args.writer.now) (g.W.Write.contents c.run_line.new.writer) ((so_far.0 ++ here.0) ++ whole.0)) (sym failed) (
         so_far.0 ++ part.0,
         part.1,
@@ -60,9 +60,11 @@ returns g c =
     let ends = YieldsList-end (YieldsList-at c.into_iter-line-iterator.ensures.into_iter_gives (YieldsList-from_lines c.args.commands.now c.lines-line-items.ensures.rest)) c.loop-line.yielded _ c.loop-line.yielded_by _ _ c.in-None.is c.next.ensures.steps in
     let so_far = c.loop-line.invariant.printed in
     let all : take (length c.loop-line.yielded) (lines c.args.commands.now) ≡ lines c.args.commands.now =
-    take_all _ _ (omega (arith, ends.1)) in (
+    take_all _ _ (omega (arith, ends.1)) in
+    let run = run_of c.args.settings.now (lines c.args.commands.now) empty_desk (desk_of c.loop-line.rows) so_far.0
+    (subst (λ (ls : List (List ℕ)). Prints c.args.settings.now ls empty_desk so_far.0 (desk_of c.loop-line.rows)) all so_far.1) in (
       so_far.0,
-      (desk_of c.loop-line.rows, subst (λ (ls : List (List ℕ)). Prints c.args.settings.now ls empty_desk so_far.0 (desk_of c.loop-line.rows)) all so_far.1),
+      (run.0, desk_of c.loop-line.rows, run.1, run.2),
       subst (λ (b : Bool). Takes b (g.W.Write.contents c.args.writer.now) (g.W.Write.contents c.loop-line.writer) so_far.0) (sym c.loop-line.invariant.unfailed) so_far.2,
       so_far.3,
     )
