@@ -6,3 +6,4 @@ pub mod Stays
 pub mod Printing
 pub mod Endings
 pub mod Writing
+pub mod Parting

@@ -12,7 +12,7 @@ use Rattle.service_core.specs.Texts.{reply_text}
 use Rattle.wire_core.specs.Number.{number_of}
 use Rattle.wire_core.specs.Spelling.{command_of}
 use Rattle.wire_core.specs.Words.{words_of}
-use Rattle.desk_program.specs.Input.{Script, script_of, settings_of}
+use Rattle.desk_program.specs.Input.{IsScript, Script, settings_of}
 use Rattle.desk_program.specs.declared.line.Line.{Line}
 use Rattle.desk_program.specs.declared.line.Line.TheVariants.{PassedOver, BadWords, Asked}
 use Rattle.desk_program.specs.declared.input.InputFault.{InputFault}
@@ -115,4 +115,5 @@ IsPrinted (Ok script) text status = IsRun (settings_of script.settings) script.c
 
 -- the text that a script prints and the status that it ends with, of all its input
 abbrev pub IsOutput : List ℕ → List ℕ → ℕ → Type 0
-IsOutput input text status = IsUnread text status ⊎ IsPrinted (script_of input) text status
+IsOutput input text status =
+    IsUnread text status ⊎ ((script : Result Script InputFault) × IsScript input script × IsPrinted script text status)

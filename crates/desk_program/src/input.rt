@@ -97,9 +97,9 @@ fn take_some<R: Read>(
 
 /// The parts of an input that isn't too long.
 pub(crate) fn parts_of(input: &[u8]) -> Result<Parts<'_>, InputFault>
-    ensures ok { IfOk result (λ parts. form.script_in (form.parted true input.now)
-        ≡ Ok (record { settings = parts.settings.now; commands = parts.commands.now })) }
-    ensures err { IfErr result (λ fault. form.script_in (form.parted true input.now) ≡ Err fault) }
+    ensures ok { IfOk result (λ parts. form.IsScriptIn input.now
+        (Ok (record { settings = parts.settings.now; commands = parts.commands.now }))) }
+    ensures err { IfErr result (λ fault. form.IsScriptIn input.now (Err fault)) }
 {
     let Some((settings, rest)) = split(input) else {
         return Err(InputFault::NoMarker);

@@ -1,4 +1,4 @@
-ghost use Rattle.std.specs.Prelude.{◌≡◌, ◌≢◌, ◌≤◌, ◌+◌, ℕ, Bool, true, false, List, length, string_bytes, IfOk, IfErr, IfSome, Ok, Err, if◌then◌else◌};
+ghost use Rattle.std.specs.Prelude.{◌≡◌, ◌≢◌, ◌≤◌, ◌+◌, ℕ, Bool, true, false, List, length, string_bytes, IfOk, IfErr, IfSome, Result, Ok, Err, if◌then◌else◌};
 ghost use Rattle.std.specs.Str.Lines.{lines};
 ghost use Rattle.settings_core.specs.Settings.{built_in_settings};
 ghost use Rattle.service_core.specs.Desk.{empty_desk};
@@ -114,8 +114,9 @@ fn print_script<R: Read, W: Write>(
 
 /// Runs an input that isn't too long.
 fn run_input<W: Write>(alloc: Global, input: &[u8], writer: &mut W) -> Printed
-    ensures { (text : List ℕ) × (status : ℕ)
-        × script.IsPrinted (form.script_in (form.parted true input.now)) text status
+    ensures { (found : Result form.Script InputFault) × (text : List ℕ) × (status : ℕ)
+        × form.IsScriptIn input.now found
+        × script.IsPrinted found text status
         × Ends result.writes.failed (W.contents writer.old) (W.contents writer.new) text status result.status
         × (result.writes.made ≤ length text) }
 {
