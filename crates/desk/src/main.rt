@@ -1,7 +1,7 @@
 //! The program `desk`: a script from the standard input over a desk in memory.
 #![tactic(auto)]
 
-use desk_program::run_script;
+use desk_program::run_script_counted;
 use std::process::ExitCode;
 use std::rt::Env;
 use std::{env, io};
@@ -9,14 +9,20 @@ use std::{env, io};
 /// The exit status of words that the program doesn't know.
 const BAD_WORDS: u8 = 2;
 
+/// The exit status of a failed write.
+const FAILED_WRITE: u8 = 4;
+
 /// `desk script`, or `desk` alone, runs the script that stands in the standard input, and ends with its status. All
 /// else is `bad words`.
 fn main(rt: HostRuntime) -> ExitCode {
     if asks_for_script(&rt) {
-        ExitCode::from(run_script(rt.alloc(), &mut rt.reader(), &mut io::writer(&rt)))
+        let ended = run_script_counted(rt.alloc(), &mut rt.reader(), &mut io::writer(&rt));
+        ExitCode::from(ended.status)
     } else {
-        let _ = println!(rt; "bad words");
-        ExitCode::from(BAD_WORDS)
+        match println!(rt; "bad words") {
+            Ok(()) => ExitCode::from(BAD_WORDS),
+            Err(_) => ExitCode::from(FAILED_WRITE),
+        }
     }
 }
 

@@ -1,6 +1,5 @@
 -- What is printed where a script doesn't come to its commands.
 use Rattle.std.proofs.Common.{◌≡◌, ◌≢◌, ◌<◌, inl, inr, ℕ, List, [], length, Option, Some, None, IfSome, Result, Ok, Err, refl, sym, subst}
-use Rattle.std.proofs.lemmas.Bool.{lt-ltb}
 use Rattle.settings_core.specs.Settings.{built_in_settings}
 use Rattle.settings_core.specs.declared.fault.SettingsFault.{SettingsFault}
 use Rattle.settings_core.specs.declared.fault.SettingsFault.TheVariants.{UnknownKey, NoMemory}
@@ -36,4 +35,4 @@ input_end known NotUtf8 text shown other long = let no : NotUtf8 ≡ Read = othe
 input_end known Read text shown other long = unread known text shown
 input_end known TooLong text shown other long =
     let all = long refl in
-    (all.0, all.2, inr (rw (lt-ltb input_limit (length all.0) all.1) (shown, refl)))
+    (all.0, all.2, inr (Err TooLong, inl (all.1, refl), (shown, refl)))

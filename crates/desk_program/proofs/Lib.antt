@@ -5,3 +5,5 @@ pub mod Marker
 pub mod Stays
 pub mod Printing
 pub mod Endings
+pub mod Writing
+pub mod Parting

@@ -4,7 +4,7 @@ use Rattle.std.specs.Option.{option_map}
 use Rattle.std.proofs.lemmas.List.{drop_more, take_more}
 use Rattle.desk_program.specs.Input.{behind, marked, parted, parted_here}
 
-behind_both : (a b : List ℕ) (o : Option (List ℕ × List ℕ)) → option_map (behind a) (option_map (behind b) o) ≡ option_map (behind (a ++ b)) o
+pub behind_both : (a b : List ℕ) (o : Option (List ℕ × List ℕ)) → option_map (behind a) (option_map (behind b) o) ≡ option_map (behind (a ++ b)) o
 behind_both a b None = refl
 behind_both a b (Some p) = ap (λ (x : List ℕ). Some (x, p.1)) (sym (append_assoc a b p.0))
 

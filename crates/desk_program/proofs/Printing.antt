@@ -1,18 +1,46 @@
 -- Lines that print one after the other, and how much of it is written.
-use Rattle.std.proofs.Common.{◌≡◌, ◌∙◌, inl, inr, ℕ, ◌+◌, ◌<◌, false, List, [], ◌∷◌, ◌++◌, map, take, drop, length, get_or, Bor, Option, Some, None, Err, refl, ap, sym, subst, append_assoc, append-nil}
+use Rattle.std.proofs.Common.{◌≡◌, ◌∙◌, inl, inr, ℕ, ◌+◌, ◌<◌, false, List, [], ◌∷◌, ◌++◌, take, drop, length, get_or, Option, Some, None, Err, refl, ap, sym, subst, append_assoc, append-nil}
 use Rattle.settings_core.specs.declared.settings.Settings.{Settings}
 use Rattle.desk_core.specs.declared.command.Command.{Command}
 use Rattle.desk_core.specs.declared.refusal.Refusal.TheVariants.{Unavailable}
 use Rattle.std.specs.Fmt.{digits, decimal}
-use Rattle.std.proofs.lemmas.List.{map-append, map_more, take-append-drop}
+use Rattle.std.proofs.lemmas.List.{take-append-drop, take_more}
 use Rattle.service_core.specs.Desk.{Desk, empty_desk}
+use Rattle.service_core.specs.Step.{Ask, Reply, Runs}
 use Rattle.service_core.specs.Texts.{reply_text}
 use Rattle.wire_core.specs.Number.{number_of}
 use Rattle.wire_core.specs.Spelling.{command_of}
 use Rattle.wire_core.specs.Words.{words_of}
-use Rattle.desk_program.specs.Script.{LinePrints, Prints, asked_if_spelled, bad_words_text, is_passed_over, said, said_by, said_if_words, unavailable_text}
+use Rattle.desk_program.specs.Script.{AreTexts, IsText, LinePrints, asked_if_spelled, asks_of, bad_words_text, is_passed_over, said, said_by, said_if_words, unavailable_text, with_asked}
 use Rattle.desk_program.specs.declared.line.Line.{Line}
 use Rattle.desk_program.specs.declared.line.Line.TheVariants.{PassedOver, BadWords, Asked}
+
+-- one line after the other, each on the desk that the one before left
+abbrev pub Prints : Settings → List (List ℕ) → Desk → List ℕ → Desk → Type 0
+Prints settings [] old text new = (text ≡ []) × (new ≡ old)
+Prints settings (line ∷ rest) old text new =
+    (first : List ℕ) × (others : List ℕ) × (mid : Desk)
+    × LinePrints settings (said line) old first mid × Prints settings rest mid others new × (text ≡ first ++ others)
+
+-- a line, and then a run of the later commands
+step_of : (s : Settings) (line : Line) (asks : List Ask) (old mid new : Desk) (text : List ℕ) (replies : List Reply)
+    → LinePrints s line old text mid → Runs s mid asks replies new
+    → (all : List Reply) × Runs s old (with_asked line asks) all new × IsText line all replies text
+step_of s PassedOver asks old mid new text replies (shown, same) run =
+    (replies, subst (λ (d : Desk). Runs s d asks replies new) same run, (shown, refl))
+step_of s BadWords asks old mid new text replies (shown, same) run =
+    (replies, subst (λ (d : Desk). Runs s d asks replies new) same run, (shown, refl))
+step_of s (Asked at caller command) asks old mid new text replies (reply, steps, shown) run =
+    (reply ∷ replies, (mid, steps, run), (reply, refl, shown))
+
+-- what lines print is of a run of their commands
+pub run_of : (s : Settings) (lines : List (List ℕ)) (old new : Desk) (text : List ℕ) → Prints s lines old text new
+    → (replies : List Reply) × Runs s old (asks_of lines) replies new × AreTexts lines replies text
+run_of s [] old new text (shown, same) = ([], same, (refl, shown))
+run_of s (line ∷ lines) old new text (first, others, mid, prints, later, whole) =
+    let run = run_of s lines mid new others later in
+    let all = step_of s (said line) (asks_of lines) old mid new first run.0 prints run.1 in
+    (all.0, all.1, (first, others, run.0, all.2, run.2, whole))
 
 from_here : (s : Settings) (old mid : Desk) (lines : List (List ℕ)) (text : List ℕ) (new : Desk) → mid ≡ old → Prints s lines mid text new → Prints s lines old text new
 from_here s old mid lines text new e h = subst (λ (d : Desk). Prints s lines d text new) e h
@@ -76,25 +104,25 @@ pub unavailable_prints : (s : Settings) (line : List ℕ) (desk : Desk) → is_p
 unavailable_prints s line desk e = rw e (if_words_unavailable s (words_of line) desk)
 
 -- the lines so far and one more
-pub run_more : (s : Settings) (lines : List (Bor (List ℕ))) (i : ℕ) (d : Bor (List ℕ)) → i < length lines → (mid new : Desk) (text piece : List ℕ)
-    → Prints s (map (λ l. l.now) (take i lines)) empty_desk text mid → LinePrints s (said (get_or lines i d).now) mid piece new
-    → Prints s (map (λ l. l.now) (take (i + 1) lines)) empty_desk (text ++ piece) new
-run_more s lines i d within mid new text piece run prints =
-    let one = prints_one s (get_or lines i d).now mid new piece prints in
-    let all = prints_all s (map (λ l. l.now) (take i lines)) ((get_or lines i d).now ∷ []) empty_desk mid new text piece run one in
-    subst (λ (ls : List (List ℕ)). Prints s ls empty_desk (text ++ piece) new) (sym (map_more (λ l. l.now) lines i d within)) all
+pub run_more : (s : Settings) (lines : List (List ℕ)) (i : ℕ) (line : List ℕ) → (i < length lines) × (line ≡ get_or lines i line) → (mid new : Desk) (text piece : List ℕ)
+    → Prints s (take i lines) empty_desk text mid → LinePrints s (said line) mid piece new
+    → Prints s (take (i + 1) lines) empty_desk (text ++ piece) new
+run_more s lines i line here mid new text piece run prints =
+    let one = prints_one s line mid new piece prints in
+    let all = prints_all s (take i lines) (line ∷ []) empty_desk mid new text piece run one in
+    let more : take i lines ++ line ∷ [] ≡ take (i + 1) lines =
+    ap (λ (l : List ℕ). take i lines ++ l ∷ []) here.1 ∙ sym (take_more lines i line here.0) in
+    subst (λ (ls : List (List ℕ)). Prints s ls empty_desk (text ++ piece) new) more all
 
 -- the same, with something that the rest prints
-pub run_on : (s : Settings) (lines : List (Bor (List ℕ))) (i : ℕ) (d : Bor (List ℕ)) → i < length lines → (mid new : Desk) (text piece : List ℕ)
-    → Prints s (map (λ l. l.now) (take i lines)) empty_desk text mid → LinePrints s (said (get_or lines i d).now) mid piece new
-    → (others : List ℕ) × (last : Desk) × Prints s (map (λ l. l.now) lines) empty_desk ((text ++ piece) ++ others) last
-run_on s lines i d within mid new text piece run prints =
-    let rest = prints_on s (map (λ l. l.now) (drop (i + 1) lines)) new in
-    let all = prints_all s (map (λ l. l.now) (take (i + 1) lines)) (map (λ l. l.now) (drop (i + 1) lines)) empty_desk new rest.1 (text ++ piece) rest.0
-    (run_more s lines i d within mid new text piece run prints) rest.2 in
-    let whole : map (λ (l : Bor (List ℕ)). l.now) (take (i + 1) lines) ++ map (λ (l : Bor (List ℕ)). l.now) (drop (i + 1) lines) ≡ map (λ (l : Bor (List ℕ)). l.now) lines =
-    sym (map-append (λ (l : Bor (List ℕ)). l.now) (take (i + 1) lines) (drop (i + 1) lines)) ∙ ap (map (λ (l : Bor (List ℕ)). l.now)) (take-append-drop (i + 1) lines) in
-    (rest.0, rest.1, subst (λ (ls : List (List ℕ)). Prints s ls empty_desk ((text ++ piece) ++ rest.0) rest.1) whole all)
+pub run_on : (s : Settings) (lines : List (List ℕ)) (i : ℕ) (line : List ℕ) → (i < length lines) × (line ≡ get_or lines i line) → (mid new : Desk) (text piece : List ℕ)
+    → Prints s (take i lines) empty_desk text mid → LinePrints s (said line) mid piece new
+    → (others : List ℕ) × (last : Desk) × Prints s lines empty_desk ((text ++ piece) ++ others) last
+run_on s lines i line here mid new text piece run prints =
+    let rest = prints_on s (drop (i + 1) lines) new in
+    let all = prints_all s (take (i + 1) lines) (drop (i + 1) lines) empty_desk new rest.1 (text ++ piece) rest.0
+    (run_more s lines i line here mid new text piece run prints) rest.2 in
+    (rest.0, rest.1, subst (λ (ls : List (List ℕ)). Prints s ls empty_desk ((text ++ piece) ++ rest.0) rest.1) (take-append-drop (i + 1) lines) all)
 
 pub cut_short : (text part left others piece : List ℕ) (byte : ℕ) → piece ≡ part ++ byte ∷ left
     → (text ++ piece) ++ others ≡ (text ++ part) ++ byte ∷ (left ++ others)

@@ -1,4 +1,5 @@
 pub use Rattle.service_core.specs.Texts
+pub mod Calls
 pub mod Input
 pub mod Rows
 pub mod Script

@@ -7,12 +7,12 @@ use Rattle.settings_core.specs.declared.fault.SettingsFault.TheVariants.{NoMemor
 use Rattle.settings_core.specs.declared.settings.Settings.{Settings}
 use Rattle.desk_core.specs.declared.command.Command.{Command}
 use Rattle.service_core.specs.Desk.{Desk, empty_desk}
-use Rattle.service_core.specs.Step.{Reply, Steps}
+use Rattle.service_core.specs.Step.{Ask, Reply, Runs, Steps}
 use Rattle.service_core.specs.Texts.{reply_text}
 use Rattle.wire_core.specs.Number.{number_of}
 use Rattle.wire_core.specs.Spelling.{command_of}
 use Rattle.wire_core.specs.Words.{words_of}
-use Rattle.desk_program.specs.Input.{Script, script_of, settings_of}
+use Rattle.desk_program.specs.Input.{IsScript, Script, settings_of}
 use Rattle.desk_program.specs.declared.line.Line.{Line}
 use Rattle.desk_program.specs.declared.line.Line.TheVariants.{PassedOver, BadWords, Asked}
 use Rattle.desk_program.specs.declared.input.InputFault.{InputFault}
@@ -32,7 +32,7 @@ abbrev pub asked_if_spelled : Option ℕ → List ℕ → Option Command → Lin
 asked_if_spelled (Some at) caller (Some command) = Asked at caller command
 asked_if_spelled at caller command = BadWords
 
--- the moment, the caller, and the words of a command, which no words are none of
+-- the moment, the caller and the words of a command; no words spell no command, so that fewer than three are bad words
 abbrev pub said_by : List (List ℕ) → Line
 said_by (at ∷ caller ∷ words) = asked_if_spelled (number_of at) caller (command_of words)
 said_by fewer = BadWords
@@ -57,12 +57,28 @@ LinePrints settings BadWords old text new = ((text ≡ bad_words_text) ⊎ (text
 LinePrints settings (Asked at caller command) old text new =
     (reply : Reply) × Steps settings at caller command old reply new × (text ≡ reply_text reply)
 
--- one line after the other, each on the desk that the one before left
-abbrev pub Prints : Settings → List (List ℕ) → Desk → List ℕ → Desk → Type 0
-Prints settings [] old text new = (text ≡ []) × (new ≡ old)
-Prints settings (line ∷ rest) old text new =
-    (first : List ℕ) × (others : List ℕ) × (mid : Desk)
-    × LinePrints settings (said line) old first mid × Prints settings rest mid others new × (text ≡ first ++ others)
+-- the command of a line that has one, in front of these
+abbrev pub with_asked : Line → List Ask → List Ask
+with_asked (Asked at caller command) asks = record { at = at; caller = caller; command = command } ∷ asks
+with_asked line asks = asks
+
+-- the commands of lines, in their order
+abbrev pub asks_of : List (List ℕ) → List Ask
+asks_of [] = []
+asks_of (line ∷ rest) = with_asked (said line) (asks_of rest)
+
+-- The text of a line, and the replies that it leaves to those behind it: a command's text is that of its reply.
+abbrev pub IsText : Line → List Reply → List Reply → List ℕ → Type 0
+IsText PassedOver replies left text = (text ≡ []) × (left ≡ replies)
+IsText BadWords replies left text = ((text ≡ bad_words_text) ⊎ (text ≡ unavailable_text)) × (left ≡ replies)
+IsText (Asked at caller command) replies left text = (reply : Reply) × (replies ≡ reply ∷ left) × (text ≡ reply_text reply)
+
+-- the texts of lines one after the other, where these are the replies to their commands
+abbrev pub AreTexts : List (List ℕ) → List Reply → List ℕ → Type 0
+AreTexts [] replies text = (replies ≡ []) × (text ≡ [])
+AreTexts (line ∷ rest) replies text =
+    (first : List ℕ) × (others : List ℕ) × (left : List Reply)
+    × IsText (said line) replies left first × AreTexts rest left others × (text ≡ first ++ others)
 
 -- the line of a fault of the input
 abbrev pub input_fault_text : InputFault → List ℕ
@@ -80,17 +96,17 @@ settings_fault_text fault =
 abbrev pub IsUnread : List ℕ → ℕ → Type 0
 IsUnread text status = (text ≡ input_fault_text Read) × (status ≡ 4)
 
--- what the commands print on an empty desk
-abbrev pub IsOfCommands : Settings → List ℕ → List ℕ → ℕ → Type 0
-IsOfCommands settings commands text status =
-    IsUnread text status
-    ⊎ (((new : Desk) × Prints settings (lines commands) empty_desk text new) × (status ≡ 0))
+-- each line's text, from a run of the commands that begins with the empty desk
+abbrev pub IsOfCommands : Settings → List ℕ → List ℕ → Type 0
+IsOfCommands settings commands text =
+    (replies : List Reply) × (new : Desk)
+    × Runs settings empty_desk (asks_of (lines commands)) replies new × AreTexts (lines commands) replies text
 
 -- what is printed with these settings, unless memory for them was wanting
 abbrev pub IsRun : Result Settings SettingsFault → List ℕ → List ℕ → ℕ → Type 0
 IsRun (Err fault) commands text status = (text ≡ settings_fault_text fault) × (status ≡ 3)
 IsRun (Ok settings) commands text status =
-    ((text ≡ settings_fault_text NoMemory) × (status ≡ 3)) ⊎ IsOfCommands settings commands text status
+    ((text ≡ settings_fault_text NoMemory) × (status ≡ 3)) ⊎ (IsOfCommands settings commands text × (status ≡ 0))
 
 -- what is printed of a script, or of the fault of its input
 abbrev pub IsPrinted : Result Script InputFault → List ℕ → ℕ → Type 0
@@ -99,4 +115,5 @@ IsPrinted (Ok script) text status = IsRun (settings_of script.settings) script.c
 
 -- the text that a script prints and the status that it ends with, of all its input
 abbrev pub IsOutput : List ℕ → List ℕ → ℕ → Type 0
-IsOutput input text status = IsUnread text status ⊎ IsPrinted (script_of input) text status
+IsOutput input text status =
+    IsUnread text status ⊎ ((script : Result Script InputFault) × IsScript input script × IsPrinted script text status)

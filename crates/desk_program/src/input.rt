@@ -1,9 +1,10 @@
-ghost use Rattle.std.specs.Prelude.{◌≡◌, ◌≢◌, ◌≤◌, ◌<◌, ◌+◌, ◌++◌, List, ℕ, Ok, Err, true, length, IfOk, IfErr, IfSome};
+ghost use Rattle.std.specs.Prelude.{◌≡◌, ◌≢◌, ◌≤◌, ◌<◌, ◌+◌, ◌-◌, ◌++◌, List, ℕ, Ok, Err, true, length, IfOk, IfErr, IfSome};
 ghost use Rattle.std.specs.Option.{option_map};
 ghost use Rattle.std.specs.Io.KnownBytes.{Consumes, IsAtEnd};
 ghost use Rattle.std.specs.List.{list_all};
 ghost use Rattle.desk_program.specs.Input as form;
 
+use crate::reads::Reads;
 use std::alloc::Global;
 use std::io::Read;
 use std::str;
@@ -39,16 +40,22 @@ pub(crate) struct Parts<'i> {
 
 /// All that a reader has left, where that is at most 1,048,576 bytes: `TooLong` is answered one byte behind, and `Read`
 /// where a read failed or memory was wanting.
-pub(crate) fn take_input<R: Read>(alloc: Global, reader: &mut R) -> Result<Vec<u8>, InputFault>
+pub(crate) fn take_input<R: Read>(
+    alloc: Global,
+    reader: &mut R,
+    reads: &mut Reads,
+) -> Result<Vec<u8>, InputFault>
     ensures whole { IfOk result (λ taken. (length taken.items ≤ form.input_limit)
         × IfSome (R.remaining reader.old) (λ input. input ≡ taken.items)) }
     ensures long { result ≡ Err InputFault.TooLong → ((input : List ℕ) × (form.input_limit < length input)
         × IfSome (R.remaining reader.old) (λ all. all ≡ input)) }
     ensures kinds { IfErr result (λ fault. fault ≢ InputFault.TooLong → fault ≡ InputFault.Read) }
+    ensures taken { form.TakesAtMost (R.remaining reader.old) (R.remaining reader.new) (form.input_limit + 1) }
+    ensures reads { reads.new.made ≤ reads.old.made + 1048577 }
 {
     let mut taken = Vec::new(alloc);
     for turn in 0..MAX_READS {
-        match take_some(reader, &mut taken) {
+        match take_some(reader, reads, &mut taken) {
             Ok(0) => return Ok(taken),
             Ok(_) => {}
             Err(fault) => return Err(fault),
@@ -62,17 +69,24 @@ pub(crate) fn take_input<R: Read>(alloc: Global, reader: &mut R) -> Result<Vec<u
 
 /// One read, whose bytes go to the end of those taken so far: how many they are. At most one byte more than an input
 /// may have is taken in all.
-fn take_some<R: Read>(reader: &mut R, taken: &mut Vec<u8>) -> Result<usize, InputFault>
+fn take_some<R: Read>(
+    reader: &mut R,
+    reads: &mut Reads,
+    taken: &mut Vec<u8>,
+) -> Result<usize, InputFault>
     requires { length taken.old.items ≤ form.input_limit }
     ensures some { IfOk result (λ n. (length taken.new.items ≡ length taken.old.items + n)
         × ((bytes : List ℕ) × (taken.new.items ≡ taken.old.items ++ bytes)
         × Consumes (R.remaining reader.old) (R.remaining reader.new) bytes)
         × (n ≡ 0 → IsAtEnd (R.remaining reader.new))) }
     ensures err { IfErr result (λ fault. fault ≡ InputFault.Read) }
+    ensures taken { form.TakesAtMost (R.remaining reader.old) (R.remaining reader.new)
+        (form.input_limit + 1 - length taken.old.items) }
+    ensures reads { reads.new.made ≤ reads.old.made + 1 }
 {
     let mut chunk = [0u8; CHUNK];
     let room = CHUNK.min(MAX_INPUT + 1 - taken.len());
-    match reader.read(&mut chunk[..room]) {
+    match reads.read(reader, &mut chunk[..room]) {
         Ok(count) => match taken.extend_from_slice(&chunk[..count]) {
             Ok(()) => Ok(count),
             Err(_) => Err(InputFault::Read),
@@ -83,9 +97,9 @@ fn take_some<R: Read>(reader: &mut R, taken: &mut Vec<u8>) -> Result<usize, Inpu
 
 /// The parts of an input that isn't too long.
 pub(crate) fn parts_of(input: &[u8]) -> Result<Parts<'_>, InputFault>
-    ensures ok { IfOk result (λ parts. form.script_in (form.parted true input.now)
-        ≡ Ok (record { settings = parts.settings.now; commands = parts.commands.now })) }
-    ensures err { IfErr result (λ fault. form.script_in (form.parted true input.now) ≡ Err fault) }
+    ensures ok { IfOk result (λ parts. form.IsScriptIn input.now
+        (Ok (record { settings = parts.settings.now; commands = parts.commands.now }))) }
+    ensures err { IfErr result (λ fault. form.IsScriptIn input.now (Err fault)) }
 {
     let Some((settings, rest)) = split(input) else {
         return Err(InputFault::NoMarker);

@@ -4,7 +4,11 @@
 mod input;
 mod line;
 mod output;
+mod reads;
 mod rows;
 mod script;
+mod writes;
 
-pub use script::run_script;
+pub use reads::Reads;
+pub use script::{Ended, run_script, run_script_counted};
+pub use writes::Writes;

@@ -1,7 +1,7 @@
-ghost use Rattle.std.specs.Prelude.{◌≡◌, ◌≢◌, ℕ, true, List, map, string_bytes, IfOk, IfErr, IfSome, Ok, Err};
-ghost use Rattle.std.specs.Str.Lines.{lines as lines_of_text};
+ghost use Rattle.std.specs.Prelude.{◌≡◌, ◌≢◌, ◌≤◌, ◌+◌, ℕ, Bool, true, false, List, length, string_bytes, IfOk, IfErr, IfSome, Result, Ok, Err, if◌then◌else◌};
+ghost use Rattle.std.specs.Str.Lines.{lines};
 ghost use Rattle.settings_core.specs.Settings.{built_in_settings};
-ghost use Rattle.service_core.specs.Desk.{Desk, empty_desk};
+ghost use Rattle.service_core.specs.Desk.{empty_desk};
 ghost use Rattle.desk_program.specs.Input as form;
 ghost use Rattle.desk_program.specs.Rows.{desk_of};
 ghost use Rattle.desk_program.specs.Script as script;
@@ -10,9 +10,11 @@ ghost use Rattle.desk_program.specs.Written.{Ends, Takes};
 use crate::input::{InputFault, is_blank, parts_of, take_input};
 use crate::line::answer_line;
 use crate::output::put;
+use crate::reads::Reads;
 use crate::rows::Rows;
+use crate::writes::Writes;
 use settings_core::{Settings, SettingsFault};
-use std::alloc::{AllocError, Global};
+use std::alloc::Global;
 use std::io::{Read, Write};
 
 /// The exit status of a script that ran, refused lines included.
@@ -24,6 +26,15 @@ const BAD_SETTINGS: u8 = 3;
 /// The exit status where the input has a fault, or a write failed.
 const BAD_INPUT: u8 = 4;
 
+/// How a script ended, and how often its reader and its writer were called.
+#[derive(Clone, Copy, Debug, PartialEq, Eq)]
+pub struct Ended {
+    /// The exit status.
+    pub status: u8,
+    pub reads: Reads,
+    pub writes: Writes,
+}
+
 /// Runs a script over a desk in memory, and answers the exit status.
 ///
 /// The input has settings, a line `%%`, and a command on each line after it: a moment in minutes since 1970-01-01
@@ -31,24 +42,83 @@ const BAD_INPUT: u8 = 4;
 /// whole is one line. A failed write, or one that takes no byte, ends the run with status 4: what was written is then
 /// a part from the front of what the script prints.
 ///
-/// At most 1,048,577 reads are made, and at most as many writes as bytes.
+/// At most 1,048,577 bytes are taken of the reader, in at most as many reads, and at most as many writes are made as
+/// bytes are printed. The writer isn't flushed. A read or a write that was interrupted has failed.
 pub fn run_script<R: Read, W: Write>(alloc: Global, reader: &mut R, writer: &mut W) -> u8
-    ensures { (input : List ℕ) × (text : List ℕ) × (status : ℕ)
+    ensures printed { (input : List ℕ) × (text : List ℕ) × (status : ℕ) × (failed : Bool)
         × IfSome (R.remaining reader.old) (λ all. all ≡ input)
         × script.IsOutput input text status
-        × Ends (W.contents writer.old) (W.contents writer.new) text status result }
+        × Ends failed (W.contents writer.old) (W.contents writer.new) text status result }
+    ensures taken { form.TakesAtMost (R.remaining reader.old) (R.remaining reader.new) 1048577 }
 {
-    match take_input(alloc, reader) {
+    run_script_counted(alloc, reader, writer).status
+}
+
+/// Runs a script as `run_script` does, and counts the reads and the writes. The status is 4 for a part of what the
+/// script prints only where a write failed.
+pub fn run_script_counted<R: Read, W: Write>(alloc: Global, reader: &mut R, writer: &mut W) -> Ended
+    ensures printed { (input : List ℕ) × (text : List ℕ) × (status : ℕ)
+        × IfSome (R.remaining reader.old) (λ all. all ≡ input)
+        × script.IsOutput input text status
+        × Ends result.writes.failed (W.contents writer.old) (W.contents writer.new) text status result.status
+        × (result.writes.made ≤ length text) }
+    ensures taken { form.TakesAtMost (R.remaining reader.old) (R.remaining reader.new) 1048577 }
+    ensures reads { result.reads.made ≤ 1048577 }
+{
+    let mut reads = Reads::new();
+    let Printed { status, writes } = print_script(alloc, reader, &mut reads, writer);
+    Ended {
+        status,
+        reads,
+        writes,
+    }
+}
+
+/// The exit status of what was printed, and the writes.
+struct Printed {
+    status: u8,
+    writes: Writes,
+}
+
+impl Printed {
+    /// The status, or that of a failed write.
+    fn new(status: u8, writes: Writes) -> Printed
+        ensures status { result.status ≡ (if writes.failed then 4 else status) }
+        ensures writes { result.writes ≡ writes }
+    {
+        let status = if writes.failed() { BAD_INPUT } else { status };
+        Printed { status, writes }
+    }
+}
+
+/// Takes the input in and runs it.
+fn print_script<R: Read, W: Write>(
+    alloc: Global,
+    reader: &mut R,
+    reads: &mut Reads,
+    writer: &mut W,
+) -> Printed
+    ensures printed { (input : List ℕ) × (text : List ℕ) × (status : ℕ)
+        × IfSome (R.remaining reader.old) (λ all. all ≡ input)
+        × script.IsOutput input text status
+        × Ends result.writes.failed (W.contents writer.old) (W.contents writer.new) text status result.status
+        × (result.writes.made ≤ length text) }
+    ensures taken { form.TakesAtMost (R.remaining reader.old) (R.remaining reader.new) 1048577 }
+    ensures reads { reads.new.made ≤ reads.old.made + 1048577 }
+{
+    match take_input(alloc, reader, reads) {
         Ok(input) => run_input(alloc, input.as_slice(), writer),
         Err(fault) => end(writer, input_fault_text(fault), BAD_INPUT),
     }
 }
 
 /// Runs an input that isn't too long.
-fn run_input<W: Write>(alloc: Global, input: &[u8], writer: &mut W) -> u8
-    ensures { (text : List ℕ) × (status : ℕ)
-        × script.IsPrinted (form.script_in (form.parted true input.now)) text status
-        × Ends (W.contents writer.old) (W.contents writer.new) text status result }
+fn run_input<W: Write>(alloc: Global, input: &[u8], writer: &mut W) -> Printed
+    ensures { (found : Result form.Script InputFault) × (text : List ℕ) × (status : ℕ)
+        × form.IsScriptIn input.now found
+        × script.IsPrinted found text status
+        × Ends result.writes.failed (W.contents writer.old) (W.contents writer.new) text status result.status
+        × (result.writes.made ≤ length text) }
 {
     match parts_of(input) {
         Ok(parts) => run_parts(alloc, parts.settings, parts.commands, writer),
@@ -57,13 +127,14 @@ fn run_input<W: Write>(alloc: Global, input: &[u8], writer: &mut W) -> u8
 }
 
 /// Runs the commands with the settings of a text.
-fn run_parts<W: Write>(alloc: Global, settings: &[u8], commands: &str, writer: &mut W) -> u8
+fn run_parts<W: Write>(alloc: Global, settings: &[u8], commands: &str, writer: &mut W) -> Printed
     ensures { (text : List ℕ) × (status : ℕ)
         × script.IsRun (form.settings_of settings.now) commands.now text status
-        × Ends (W.contents writer.old) (W.contents writer.new) text status result }
+        × Ends result.writes.failed (W.contents writer.old) (W.contents writer.new) text status result.status
+        × (result.writes.made ≤ length text) }
 {
     match settings_of(alloc, settings) {
-        Ok(settings) => run_commands(alloc, &settings, commands, writer),
+        Ok(settings) => Printed::new(DONE, run_lines(alloc, &settings, commands, writer)),
         Err(fault) => end(writer, settings_fault_text(fault), BAD_SETTINGS),
     }
 }
@@ -81,73 +152,53 @@ fn settings_of(alloc: Global, text: &[u8]) -> Result<Settings, SettingsFault>
     }
 }
 
-/// Runs the commands, a line each, on an empty desk.
-fn run_commands<W: Write>(alloc: Global, settings: &Settings, commands: &str, writer: &mut W) -> u8
-    ensures { (text : List ℕ) × (status : ℕ)
-        × script.IsOfCommands settings.now commands.now text status
-        × Ends (W.contents writer.old) (W.contents writer.new) text status result }
-{
-    match lines_of(alloc, commands) {
-        Ok(lines) => {
-            if run_lines(alloc, settings, lines.as_slice(), writer) {
-                DONE
-            } else {
-                BAD_INPUT
-            }
-        }
-        Err(_) => end(writer, input_fault_text(InputFault::Read), BAD_INPUT),
-    }
-}
-
-/// The lines of a text. A line feed or the text's end ends a line, and a carriage return before a line feed is dropped.
-fn lines_of<'t>(alloc: Global, text: &'t str) -> Result<Vec<&'t str>, AllocError>
-    ensures { IfOk result (λ found. map (λ l. l.now) found.items ≡ lines_of_text text.entry.now) }
-{
-    text.lines().collect(alloc)
-}
-
-/// Writes what each line prints, after its command is done: whether the writer takes all of it.
-fn run_lines<W: Write>(alloc: Global, settings: &Settings, lines: &[&str], writer: &mut W) -> bool
-    ensures { (text : List ℕ) × (new : Desk)
-        × script.Prints settings.now (map (λ l. l.now) lines.now) empty_desk text new
-        × Takes result (W.contents writer.old) (W.contents writer.new) text }
+/// Writes what each line prints, after its command is done, on an empty desk. A write that fails ends the run.
+fn run_lines<W: Write>(alloc: Global, settings: &Settings, commands: &str, writer: &mut W) -> Writes
+    ensures { (text : List ℕ)
+        × script.IsOfCommands settings.now commands.now text
+        × Takes result.failed (W.contents writer.old) (W.contents writer.new) text
+        × (result.made ≤ length text) }
 {
     let mut rows = Rows::new(alloc);
-    for line in lines {
-        if !run_line(alloc, settings, &mut rows, line, writer) {
-            return false;
+    let mut writes = Writes::new();
+    for line in commands.lines() {
+        run_line(alloc, settings, &mut rows, line, writer, &mut writes);
+        if writes.failed() {
+            return writes;
         }
     }
-    true
+    writes
 }
 
-/// Writes what a line prints, after its command is done: whether the writer takes all of it.
+/// Writes what a line prints, after its command is done.
 fn run_line<W: Write>(
     alloc: Global,
     settings: &Settings,
     rows: &mut Rows,
     line: &str,
     writer: &mut W,
-) -> bool
+    writes: &mut Writes,
+)
+    requires { writes.old.failed ≡ false }
     ensures { (text : List ℕ)
         × script.LinePrints settings.now (script.said line.now) (desk_of rows.old) text (desk_of rows.new)
-        × Takes result (W.contents writer.old) (W.contents writer.new) text }
+        × Takes writes.new.failed (W.contents writer.old) (W.contents writer.new) text
+        × (writes.new.made ≤ writes.old.made + length text) }
 {
     match answer_line(alloc, settings, rows, line) {
-        Ok(text) => put(writer, text.as_bytes()),
-        Err(_) => put(writer, b"refused 16 Unavailable\n"),
+        Ok(text) => put(writer, writes, text.as_bytes()),
+        Err(_) => put(writer, writes, b"refused 16 Unavailable\n"),
     }
 }
 
-/// Writes the one line of a fault: the status, or that of a failed write.
-fn end<W: Write>(writer: &mut W, line: &str, status: u8) -> u8
-    ensures { Ends (W.contents writer.old) (W.contents writer.new) line.now status result }
+/// Writes the one line of a fault.
+fn end<W: Write>(writer: &mut W, line: &str, status: u8) -> Printed
+    ensures ended { Ends result.writes.failed (W.contents writer.old) (W.contents writer.new) line.now status result.status }
+    ensures counted { result.writes.made ≤ length line.now }
 {
-    if put(writer, line.as_bytes()) {
-        status
-    } else {
-        BAD_INPUT
-    }
+    let mut writes = Writes::new();
+    put(writer, &mut writes, line.as_bytes());
+    Printed::new(status, writes)
 }
 
 /// The line of a fault of the input.

@@ -1,7 +1,7 @@
 //! Faults of the whole, and readers and writers that fail.
 use crate::scripts::expect;
-use crate::streams::{Endless, Narrow, Slow};
-use desk_program::run_script;
+use crate::streams::{Endless, Faltering, Filling, Slow};
+use desk_program::{run_script, run_script_counted};
 use std::alloc::{AllocError, Global};
 use std::test::Fail;
 
@@ -43,10 +43,21 @@ fn scripts_that_are_too_long(rt: HostRuntime) -> Result<(), Fail> {
 fn endless_input_is_left(rt: HostRuntime) {
     let mut reader = Endless { reads: 0 };
     let mut writer = Vec::new(rt.alloc());
-    let status = run_script(rt.alloc(), &mut reader, &mut writer);
-    assert_eq!(rt; status, 4);
+    let ended = run_script_counted(rt.alloc(), &mut reader, &mut writer);
+    assert_eq!(rt; ended.status, 4);
     assert!(rt; writer.as_slice() == b"input: too long\n".as_slice());
     assert_eq!(rt; reader.reads, 1_048_577);
+    assert_eq!(rt; ended.reads.made(), 1_048_577);
+}
+
+#[test]
+fn a_byte_too_many_ends_the_reading(rt: HostRuntime) {
+    let mut reader = Filling { given: 0 };
+    let mut writer = Vec::new(rt.alloc());
+    let ended = run_script_counted(rt.alloc(), &mut reader, &mut writer);
+    assert_eq!(rt; ended.status, 4);
+    assert!(rt; writer.as_slice() == b"input: too long\n".as_slice());
+    assert_eq!(rt; reader.given, 1_048_577);
 }
 
 #[test]
@@ -83,22 +94,41 @@ fn readers_that_fail(rt: HostRuntime) {
 
 #[test]
 fn writers_that_fail_or_take_nothing(rt: HostRuntime) {
-    for room in 0..13usize {
+    for falters_at in 0..13u64 {
         for fails in [false, true] {
             let mut reader = SCRIPT;
-            let mut writer = Narrow {
+            let mut writer = Faltering {
                 taken: Vec::new(rt.alloc()),
-                room,
+                falters_at,
                 fails,
                 writes: 0,
             };
-            let status = run_script(rt.alloc(), &mut reader, &mut writer);
-            assert_eq!(rt; status, 4, "with room for {room}");
+            let ended = run_script_counted(rt.alloc(), &mut reader, &mut writer);
+            assert_eq!(rt; ended.status, 4, "at {falters_at}");
             assert!(rt;
-                writer.taken.as_slice() == &PRINTED.as_bytes()[..room],
-                "with room for {room}"
+                writer.taken.as_slice() == &PRINTED.as_bytes()[..falters_at as usize],
+                "at {falters_at}"
             );
-            assert!(rt; writer.writes <= 13, "with room for {room}");
+            assert!(rt; ended.writes.failed(), "at {falters_at}");
+            assert_eq!(rt; ended.writes.made(), falters_at + 1);
+            assert_eq!(rt; writer.writes, falters_at + 1, "at {falters_at}");
         }
     }
+}
+
+#[test]
+fn writers_that_take_a_byte_at_a_time(rt: HostRuntime) {
+    let mut reader = SCRIPT;
+    let mut writer = Faltering {
+        taken: Vec::new(rt.alloc()),
+        falters_at: 13,
+        fails: true,
+        writes: 0,
+    };
+    let ended = run_script_counted(rt.alloc(), &mut reader, &mut writer);
+    assert_eq!(rt; ended.status, 0);
+    assert!(rt; writer.taken.as_slice() == PRINTED.as_bytes());
+    assert!(rt; !ended.writes.failed());
+    assert_eq!(rt; ended.writes.made(), 13);
+    assert_eq!(rt; ended.reads.made(), 2);
 }

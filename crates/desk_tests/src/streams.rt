@@ -27,7 +27,7 @@ impl Read for Slow<'_> {
     }
 }
 
-/// A reader that never ends.
+/// A reader that never ends, and gives one byte at a time.
 #[derive(Drop)]
 pub struct Endless {
     pub reads: u32,
@@ -44,20 +44,37 @@ impl Read for Endless {
     }
 }
 
-/// A writer that takes so many bytes, and then none, or fails.
+/// A reader that never ends, and gives as many bytes as there is room for.
 #[derive(Drop)]
-pub struct Narrow {
-    pub taken: Vec<u8>,
-    pub room: usize,
-    pub fails: bool,
-    pub writes: u32,
+pub struct Filling {
+    pub given: usize,
 }
 
-impl Write for Narrow {
+impl Read for Filling {
+    fn read(&mut self, buf: &mut [u8]) -> Result<usize> {
+        for place in buf.iter_mut() {
+            *place = b'#';
+        }
+        self.given = self.given.saturating_add(buf.len());
+        Ok(buf.len())
+    }
+}
+
+/// A writer that takes a byte at a time, but for one write that fails, or takes none. It would take more afterwards.
+#[derive(Drop)]
+pub struct Faltering {
+    pub taken: Vec<u8>,
+    pub falters_at: u64,
+    pub fails: bool,
+    pub writes: u64,
+}
+
+impl Write for Faltering {
     fn write(&mut self, buf: &[u8]) -> Result<usize> {
+        let falters = self.writes == self.falters_at;
         self.writes = self.writes.saturating_add(1);
         match buf.first() {
-            Some(byte) if self.taken.len() < self.room => {
+            Some(byte) if !falters => {
                 self.taken.push(*byte)?;
                 Ok(1)
             }

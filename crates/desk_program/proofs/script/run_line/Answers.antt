@@ -11,5 +11,6 @@ returns-in-Err g c = (
   unavailable_text,
   subst (λ (d : Desk). LinePrints c.args.settings.now (said c.args.line.now) (desk_of c.args.rows.now) unavailable_text d) (sym c.in-Err.ensures.err)
       (unavailable_prints c.args.settings.now c.args.line.now (desk_of c.args.rows.now) c.in-Err.ensures.asked),
-  c.put-in-Err.ensures,
+  c.put-in-Err.ensures.taken,
+  c.put-in-Err.ensures.counted,
 )

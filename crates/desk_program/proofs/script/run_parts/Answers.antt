@@ -10,5 +10,6 @@ returns-in-Err g c = (
   3,
   settings_end (settings_of c.args.settings.now) c.in-Err.fault c.args.commands.now c.settings_fault_text.result.now
       c.settings_fault_text.ensures c.in-Err.ensures.err (λ e. c.in-Err.ensures.memory (ap Err e)),
-  c.end.ensures,
+  c.end.ensures.ended,
+  c.end.ensures.counted,
 )
