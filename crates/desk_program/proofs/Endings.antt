@@ -1,6 +1,5 @@
 -- What is printed where a script doesn't come to its commands.
 use Rattle.std.proofs.Common.{◌≡◌, ◌≢◌, ◌<◌, inl, inr, ℕ, List, [], length, Option, Some, None, IfSome, Result, Ok, Err, refl, sym, subst}
-use Rattle.settings_core.specs.Settings.{built_in_settings}
 use Rattle.settings_core.specs.declared.fault.SettingsFault.{SettingsFault}
 use Rattle.settings_core.specs.declared.fault.SettingsFault.TheVariants.{UnknownKey, NoMemory}
 use Rattle.settings_core.specs.declared.settings.Settings.{Settings}
@@ -8,16 +7,6 @@ use Rattle.desk_program.specs.Input.{input_limit}
 use Rattle.desk_program.specs.Script.{IsOutput, IsRun, input_fault_text, settings_fault_text}
 use Rattle.desk_program.specs.declared.input.InputFault.{InputFault}
 use Rattle.desk_program.specs.declared.input.InputFault.TheVariants.{NoMarker, TooLong, NotUtf8, Read}
-
--- the settings have a fault, or memory for them was wanting
-pub settings_end : (settings : Result Settings SettingsFault) (fault : SettingsFault) (commands text : List ℕ)
-    → text ≡ settings_fault_text fault → (fault ≢ NoMemory → settings ≡ Err fault) → (fault ≡ NoMemory → settings ≡ Ok built_in_settings)
-    → IsRun settings commands text 3
-settings_end settings UnknownKey commands text shown other memory =
-    let known : settings ≡ Err UnknownKey = other (λ e. cc) in
-    subst (λ (s : Result Settings SettingsFault). IsRun s commands text 3) (sym known) (shown, refl)
-settings_end settings NoMemory commands text shown other memory =
-    subst (λ (s : Result Settings SettingsFault). IsRun s commands text 3) (sym (memory refl)) (inl (shown, refl))
 
 abbrev pub EndsInput : Option (List ℕ) → List ℕ → Type 0
 EndsInput known text = (input : List ℕ) × IfSome known (λ all. all ≡ input) × IsOutput input text 4

@@ -7,7 +7,7 @@ use Rattle.desk_core.specs.declared.answer.Answer.TheVariants as answer
 use Rattle.desk_core.specs.declared.answer.Shown as shown
 use Rattle.desk_core.specs.declared.rows.QueueRow.{QueueRow}
 use Rattle.desk_core.specs.declared.command.Command.{Command}
-use Rattle.desk_core.specs.declared.command.Command.TheVariants.{OpenQueue, Create, SetStatus, Queues, Show}
+use Rattle.desk_core.specs.declared.command.Command.TheVariants.{OpenQueue, Create, SetStatus, SetLevel, Queues, Show}
 use Rattle.desk_core.specs.declared.refusal.Refusal.{Refusal}
 use Rattle.service_core.specs.Desk.{Desk, request_count}
 use Rattle.service_core.specs.Effect.{effect}
@@ -29,6 +29,8 @@ tells_only s at caller None (OpenQueue name lifecycle level) old x t e =
 tells_only s at caller None (Create queue subject status requestors) old x t e =
     let made : answer.Created (request_count old + 1) ≡ x = cc in absurd (subst Tells (sym made) t)
 tells_only s at caller None (SetStatus id status) old x t e =
+    let made : answer.Done ≡ x = cc in absurd (subst Tells (sym made) t)
+tells_only s at caller None (SetLevel id level) old x t e =
     let made : answer.Done ≡ x = cc in absurd (subst Tells (sym made) t)
 tells_only s at caller None Queues old x t e = refl
 tells_only s at caller None (Show id) old x t e = refl

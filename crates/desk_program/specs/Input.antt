@@ -1,13 +1,13 @@
 -- A script's input: settings, a line `%%`, and commands, a line each.
-use Rattle.std.specs.Prelude.{◌≡◌, ◌≢◌, ◌≤◌, ◌<◌, ◌⊎◌, ℕ, Bool, ◌==◌, ◌||◌, List, [], ◌∷◌, ◌++◌, take, drop, length, Option, Some, None, Result, Ok, Err, codes, if◌then◌else◌}
+use Rattle.std.specs.Prelude.{◌≡◌, ◌≢◌, ◌≤◌, ◌<◌, ◌⊎◌, ℕ, Bool, true, ◌==◌, ◌||◌, List, [], ◌∷◌, ◌++◌, take, drop, length, Option, Some, None, Result, Ok, Err, codes, if◌then◌else◌}
 use Rattle.std.specs.Io.KnownBytes.{Consumes}
 use Rattle.std.specs.Option.{option_map}
 use Rattle.std.specs.List.{All, list_all}
 use Rattle.std.specs.Str.{bytes_eq, is_utf8}
 use Rattle.std.specs.Str.Lines.{lines}
-use Rattle.settings_core.specs.Settings.{built_in_settings}
+use Rattle.settings_core.specs.BuiltIn.{IsBuiltIn}
 use Rattle.settings_core.specs.declared.fault.SettingsFault.{SettingsFault}
-use Rattle.settings_core.specs.declared.fault.SettingsFault.TheVariants.{UnknownKey}
+use Rattle.settings_core.specs.declared.fault.SettingsFault.TheVariants.{UnknownKey, NoMemory}
 use Rattle.settings_core.specs.declared.settings.Settings.{Settings}
 use Rattle.desk_program.specs.declared.input.InputFault.{InputFault}
 use Rattle.desk_program.specs.declared.input.InputFault.TheVariants.{NoMarker, TooLong, NotUtf8}
@@ -91,6 +91,8 @@ IsScript input script =
 abbrev pub is_blank : ℕ → Bool
 is_blank b = (b == 32) || (b == 9) || (b == 13) || (b == 10)
 
--- the settings of a text: for now a blank one alone is known
-abbrev pub settings_of : List ℕ → Result Settings SettingsFault
-settings_of text = if list_all is_blank text then Ok built_in_settings else Err UnknownKey
+-- What reading settings gives: the built-in ones for a blank text, unless memory for them is wanting. No other text is
+-- known for now.
+abbrev pub GivesSettings : List ℕ → Result Settings SettingsFault → Type 0
+GivesSettings text (Ok settings) = (list_all is_blank text ≡ true) × IsBuiltIn settings
+GivesSettings text (Err fault) = fault ≡ (if list_all is_blank text then NoMemory else UnknownKey)

@@ -3,7 +3,6 @@ use Rattle.std.specs.Prelude.{◌≡◌, ℕ, Bool, true, false, ◌==◌, List,
 use Rattle.std.specs.Str.Lines.{lines}
 use Rattle.settings_core.specs.Fault as settings
 use Rattle.settings_core.specs.declared.fault.SettingsFault.{SettingsFault}
-use Rattle.settings_core.specs.declared.fault.SettingsFault.TheVariants.{NoMemory}
 use Rattle.settings_core.specs.declared.settings.Settings.{Settings}
 use Rattle.desk_core.specs.declared.command.Command.{Command}
 use Rattle.service_core.specs.Desk.{Desk, empty_desk}
@@ -12,7 +11,7 @@ use Rattle.service_core.specs.Texts.{reply_text}
 use Rattle.wire_core.specs.Number.{number_of}
 use Rattle.wire_core.specs.Spelling.{command_of}
 use Rattle.wire_core.specs.Words.{words_of}
-use Rattle.desk_program.specs.Input.{IsScript, Script, settings_of}
+use Rattle.desk_program.specs.Input.{GivesSettings, IsScript, Script}
 use Rattle.desk_program.specs.declared.line.Line.{Line}
 use Rattle.desk_program.specs.declared.line.Line.TheVariants.{PassedOver, BadWords, Asked}
 use Rattle.desk_program.specs.declared.input.InputFault.{InputFault}
@@ -102,16 +101,16 @@ IsOfCommands settings commands text =
     (replies : List Reply) × (new : Desk)
     × Runs settings empty_desk (asks_of (lines commands)) replies new × AreTexts (lines commands) replies text
 
--- what is printed with these settings, unless memory for them was wanting
+-- what is printed with settings, or of their fault
 abbrev pub IsRun : Result Settings SettingsFault → List ℕ → List ℕ → ℕ → Type 0
 IsRun (Err fault) commands text status = (text ≡ settings_fault_text fault) × (status ≡ 3)
-IsRun (Ok settings) commands text status =
-    ((text ≡ settings_fault_text NoMemory) × (status ≡ 3)) ⊎ (IsOfCommands settings commands text × (status ≡ 0))
+IsRun (Ok settings) commands text status = IsOfCommands settings commands text × (status ≡ 0)
 
 -- what is printed of a script, or of the fault of its input
 abbrev pub IsPrinted : Result Script InputFault → List ℕ → ℕ → Type 0
 IsPrinted (Err fault) text status = (text ≡ input_fault_text fault) × (status ≡ 4)
-IsPrinted (Ok script) text status = IsRun (settings_of script.settings) script.commands text status
+IsPrinted (Ok script) text status =
+    (given : Result Settings SettingsFault) × GivesSettings script.settings given × IsRun given script.commands text status
 
 -- the text that a script prints and the status that it ends with, of all its input
 abbrev pub IsOutput : List ℕ → List ℕ → ℕ → Type 0

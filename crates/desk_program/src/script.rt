@@ -1,6 +1,5 @@
-ghost use Rattle.std.specs.Prelude.{◌≡◌, ◌≢◌, ◌≤◌, ◌+◌, ℕ, Bool, true, false, List, length, string_bytes, IfOk, IfErr, IfSome, Result, Ok, Err, if◌then◌else◌};
+ghost use Rattle.std.specs.Prelude.{◌≡◌, ◌≤◌, ◌+◌, ℕ, Bool, false, List, length, IfSome, Result, if◌then◌else◌};
 ghost use Rattle.std.specs.Str.Lines.{lines};
-ghost use Rattle.settings_core.specs.Settings.{built_in_settings};
 ghost use Rattle.service_core.specs.Desk.{empty_desk};
 ghost use Rattle.desk_program.specs.Input as form;
 ghost use Rattle.desk_program.specs.Rows.{desk_of};
@@ -129,7 +128,8 @@ fn run_input<W: Write>(alloc: Global, input: &[u8], writer: &mut W) -> Printed
 /// Runs the commands with the settings of a text.
 fn run_parts<W: Write>(alloc: Global, settings: &[u8], commands: &str, writer: &mut W) -> Printed
     ensures { (text : List ℕ) × (status : ℕ)
-        × script.IsRun (form.settings_of settings.now) commands.now text status
+        × ((given : Result Settings SettingsFault) × form.GivesSettings settings.now given
+            × script.IsRun given commands.now text status)
         × Ends result.writes.failed (W.contents writer.old) (W.contents writer.new) text status result.status
         × (result.writes.made ≤ length text) }
 {
@@ -139,11 +139,9 @@ fn run_parts<W: Write>(alloc: Global, settings: &[u8], commands: &str, writer: &
     }
 }
 
-/// The settings of a text: for now a blank text alone has settings, the built-in ones.
+/// The settings of a text: for now a blank text alone has settings, the built-in ones. Otherwise `UnknownKey`.
 fn settings_of(alloc: Global, text: &[u8]) -> Result<Settings, SettingsFault>
-    ensures ok { IfOk result (λ settings. form.settings_of text.now ≡ Ok settings) }
-    ensures err { IfErr result (λ fault. fault ≢ SettingsFault.NoMemory → form.settings_of text.now ≡ Err fault) }
-    ensures memory { result ≡ Err SettingsFault.NoMemory → form.settings_of text.now ≡ Ok built_in_settings }
+    ensures { form.GivesSettings text.now result }
 {
     if is_blank(text) {
         Settings::built_in(alloc)

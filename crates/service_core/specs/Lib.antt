@@ -1,5 +1,6 @@
 pub use Rattle.desk_core.specs.Change
 pub use Rattle.desk_core.specs.Desk
+pub use Rattle.desk_core.specs.Due
 pub use Rattle.desk_core.specs.Effect
 pub use Rattle.desk_core.specs.Facts
 pub use Rattle.desk_core.specs.Guard

@@ -1,4 +1,5 @@
 ghost use Rattle.std.specs.Prelude.{◌≡◌, ◌++◌, filter, map, IfOk, OnOk};
+ghost use Rattle.std.specs.Option.{option_map};
 ghost use Rattle.service_core.specs.Reading as reading;
 ghost use Rattle.service_core.specs.Desk.{queue_at};
 ghost use Rattle.service_core.specs.Facts.{facts_of, queue_facts, facts_on, no_facts, request_facts, watcher, watchers_of};
@@ -7,8 +8,10 @@ ghost use Rattle.desk_program.specs.Rows.{desk_of, request_of};
 
 use crate::rows::{Kept, Rows};
 use desk_core::{
-    Answer, Command, Facts, Links, QueueRow, RequestFacts, Shown, WatchRole, Watcher, sees_queue,
+    Answer, Command, Facts, Links, QueueRow, RequestFacts, RequestRow, Shown, WatchRole, Watcher,
+    due_of, sees_queue,
 };
+use hours_core::Minute;
 use settings_core::Settings;
 use std::alloc::{AllocError, Global};
 use text_core::{Sequence, Text, Texts};
@@ -22,6 +25,7 @@ impl Rows {
             Command::OpenQueue { queue, .. } => self.queue_facts(queue),
             Command::Create { queue, .. } => self.queue_facts(queue),
             Command::SetStatus { id, .. } => self.facts_on(alloc, *id),
+            Command::SetLevel { id, .. } => self.facts_on(alloc, *id),
             Command::Queues => Ok(no_facts()),
             Command::Show { id } => self.facts_on(alloc, *id),
         }
@@ -75,9 +79,14 @@ impl Rows {
             Command::OpenQueue { .. } => Ok(Answer::Done),
             Command::Create { .. } => Ok(Answer::Created(count(self.requests.len() + 1)?)),
             Command::SetStatus { .. } => Ok(Answer::Done),
+            Command::SetLevel { .. } => Ok(Answer::Done),
             Command::Queues => Ok(Answer::Queues(self.queues_seen(alloc, settings, caller)?)),
             Command::Show { id } => match self.kept(*id) {
-                Some(kept) => Ok(Answer::Shown(kept.shown(alloc)?)),
+                Some(kept) => Ok(Answer::Shown(kept.shown(
+                    alloc,
+                    settings,
+                    self.queue(&kept.row.queue),
+                )?)),
                 None => Ok(Answer::Done),
             },
         }
@@ -126,17 +135,38 @@ impl Kept {
         })
     }
 
-    fn shown(&self, alloc: Global) -> Result<Shown, AllocError>
-        ensures { IfOk result (λ shown. shown ≡ reading.shown_of (request_of self.now)) }
+    /// The request as it is shown, and when it is due by the lifecycle of its queue.
+    fn shown(
+        &self,
+        alloc: Global,
+        settings: &Settings,
+        queue: Option<&QueueRow>,
+    ) -> Result<Shown, AllocError>
+        ensures { IfOk result (λ shown. shown ≡ reading.shown_of settings.now (option_map (λ q. q.now) queue.entry)
+            (request_of self.now)) }
     {
         Ok(Shown {
             row: self.row.clone()?,
             requestors: self.requestors.clone()?,
             cc: self.cc.clone()?,
             admin_cc: self.admin_cc.clone()?,
-            due: None,
+            due: due_in(settings, queue, &self.row),
             links: no_links(alloc),
         })
+    }
+}
+
+/// When a request of this queue is due, if the queue is there.
+fn due_in(
+    settings: &Settings,
+    queue: Option<&QueueRow>,
+    request: &RequestRow,
+) -> Option<Minute>
+    ensures { result ≡ reading.due_in settings.now (option_map (λ q. q.now) queue.entry) request.now }
+{
+    match queue {
+        Some(queue) => due_of(settings, queue, request),
+        None => None,
     }
 }
 
