@@ -30,7 +30,9 @@ const BAD_INPUT: u8 = 4;
 pub struct Ended {
     /// The exit status.
     pub status: u8,
+    /// What was asked of the reader.
     pub reads: Reads,
+    /// What was asked of the writer.
     pub writes: Writes,
 }
 
@@ -53,8 +55,8 @@ pub fn run_script<R: Read, W: Write>(alloc: Global, reader: &mut R, writer: &mut
     run_script_counted(alloc, reader, writer).status
 }
 
-/// Runs a script as `run_script` does, and counts the reads and the writes. The status is 4 for a part of what the
-/// script prints only where a write failed.
+/// Runs a script as `run_script` does, and counts the reads and the writes. Only where a write failed is a part of what
+/// the script prints written, with status 4.
 pub fn run_script_counted<R: Read, W: Write>(alloc: Global, reader: &mut R, writer: &mut W) -> Ended
     ensures printed { (input : List ℕ) × (text : List ℕ) × (status : ℕ)
         × IfSome (R.remaining reader.old) (λ all. all ≡ input)
