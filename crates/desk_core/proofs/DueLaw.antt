@@ -17,9 +17,12 @@ tells : (s : Settings) (desk : Desk) (id : ℕ) (o : Option Request) (x : answer
     × (x.due ≡ due_in s (queue_at desk request.row.queue) request.row)
 tells s desk id None x there e = cc
 tells s desk id (Some r) x there e =
-    let made : shown_of s (queue_at desk r.row.queue) r ≡ x = cc in
-    (r, ap (request_at desk) (number_found desk id r there) ∙ there, sym (ap (λ (y : answer.Shown). y.row) made),
-    sym (ap (λ (y : answer.Shown). y.due) made))
+    let made : shown_of s (queue_at desk r.row.queue) r ≡ x = cc in (
+      r,
+      ap (request_at desk) (number_found desk id r there) ∙ there,
+      sym (ap (λ (y : answer.Shown). y.row) made),
+      sym (ap (λ (y : answer.Shown). y.due) made),
+    )
 
 pub due_law : (s : Settings) (caller : List ℕ) (command : Command) (desk : Desk) → TellsDueMoments s caller command desk
 due_law s caller (OpenQueue name lifecycle level) desk x e = cc

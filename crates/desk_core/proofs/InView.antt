@@ -211,11 +211,14 @@ hidden_as_missing : (s : Settings) (at : ℕ) (caller : List ℕ) (desk : Desk) 
 hidden_as_missing s at caller desk asked id f x e same hidden =
     let a = not (knows s caller) in
     let b = not (is_moment at) in
-    let gone = ap (λ n. option_and_then (kept_if (may_show s caller) s caller) (request_at desk n)) same ∙ sym (in_view s caller desk id e) ∙ hidden in
-    (missing a b, missing_is_low a b, hidden_refuses s at caller (request_at desk asked) (f desk) (x desk) gone,
-    λ other none. hidden_refuses s at caller (request_at other asked) (f other) (x other)
-    (ap (λ n. option_and_then (kept_if (may_show s caller) s caller) (request_at other n)) same
-    ∙ ap (option_and_then (kept_if (may_show s caller) s caller)) none))
+    let gone = ap (λ n. option_and_then (kept_if (may_show s caller) s caller) (request_at desk n)) same ∙ sym (in_view s caller desk id e) ∙ hidden in (
+      missing a b,
+      missing_is_low a b,
+      hidden_refuses s at caller (request_at desk asked) (f desk) (x desk) gone,
+      λ other none. hidden_refuses s at caller (request_at other asked) (f other) (x other)
+          (ap (λ n. option_and_then (kept_if (may_show s caller) s caller) (request_at other n)) same
+          ∙ ap (option_and_then (kept_if (may_show s caller) s caller)) none),
+    )
 
 pub refuses_as_missing : (s : Settings) (at : ℕ) (caller : List ℕ) (command : Command) (desk : Desk) → RefusesAsMissing s at caller command desk
 refuses_as_missing s at caller (OpenQueue name lifecycle level) desk id e named hidden = cc

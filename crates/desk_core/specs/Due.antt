@@ -6,7 +6,7 @@ use Rattle.hours_core.specs.declared.level.Level.{Level}
 use Rattle.hours_core.specs.declared.level.Limit.{Limit}
 use Rattle.lifecycle_core.specs.Lifecycle.{class_of}
 use Rattle.lifecycle_core.specs.declared.lifecycle.Class.{Class}
-use Rattle.lifecycle_core.specs.declared.lifecycle.Class.TheVariants.{Initial, Active, Inactive}
+use Rattle.lifecycle_core.specs.declared.lifecycle.Class.TheVariants.{Initial, Active}
 use Rattle.settings_core.specs.Settings.{calendar_named, level_named, lifecycle_named}
 use Rattle.settings_core.specs.declared.settings.Settings.{Settings}
 use Rattle.desk_core.specs.declared.rows.QueueRow.{QueueRow}

@@ -18,8 +18,7 @@ pub fn status_law()
 pub fn due_law()
     ensures { (settings : Settings) (caller : List ℕ) (command : Command) (desk : Desk)
         → TellsDueMoments settings caller command desk }
-{
-}
+{}
 
 /// Requests are numbered from 1 without gaps, and stay so.
 #[tactic(auto, using(crate::proofs::Steps::numbers_law))]

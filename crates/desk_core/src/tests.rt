@@ -7,6 +7,7 @@ use std::process::Abort;
 use std::test::Fail;
 use text_core::{Sequence, Text, Texts};
 
+mod levels;
 mod rights;
 
 /// The moment of the commands.

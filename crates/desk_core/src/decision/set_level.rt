@@ -47,11 +47,7 @@ impl Context<'_> {
     }
 
     /// The entry of the level.
-    fn levelling(
-        &self,
-        request: &RequestFacts,
-        level: &Option<Text>,
-    ) -> Result<Entry, AllocError>
+    fn levelling(&self, request: &RequestFacts, level: &Option<Text>) -> Result<Entry, AllocError>
         requires { request.now.entry_count < 2 ^ 32 - 1 }
         ensures { IfOk result (λ entry. entry ≡ effect.levelling request.now.row.id (request.now.entry_count + 1)
             self.now.moment self.now.caller.now request.now.row.level level.now) }

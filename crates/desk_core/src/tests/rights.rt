@@ -82,7 +82,9 @@ fn office_where(alloc: Global, of_requestors: &[&str]) -> Result<Settings, Refus
     let people = people(alloc, of_requestors)?;
     let standard = NamedLifecycle::standard(alloc).map_err(|_| Refusal::Unavailable)?;
     let lifecycles = Sequence::from(vec![in alloc; standard]?);
-    Ok(Settings::of_parts(people, lifecycles, 1_000_000, 10_000))
+    let calendars = Sequence::from(Vec::new(alloc));
+    let levels = Sequence::from(Vec::new(alloc));
+    Ok(Settings::of_parts(people, lifecycles, calendars, levels, 1_000_000, 10_000))
 }
 
 /// The refusal of a command, if it is refused.
