@@ -59,6 +59,10 @@ fn subjects_and_first_statuses(rt: HostRuntime) -> Result<(), Fail> {
         ("0 zoe show 1\n", "refused 1 UnknownCaller"),
         ("29546970 root queue general default\n", "refused 13 Exists"),
         ("29546970 root queue q nolife\n", "refused 5 UnknownName"),
+        (
+            "29546970 root queue q default fast\n",
+            "refused 5 UnknownName",
+        ),
         ("29546970 root queue Q default\n", "refused 3 BadText"),
     ] {
         let script = in_general(rt.alloc(), line)?;
@@ -69,13 +73,51 @@ fn subjects_and_first_statuses(rt: HostRuntime) -> Result<(), Fail> {
 }
 
 #[test]
+fn queues_at_every_moment_and_for_every_caller(rt: HostRuntime) {
+    const HEADER: &str = "queue                lifecycle            level\n";
+    expect(&rt, b"%%\n15778080 root queues\n", HEADER, 0);
+    for (line, refusal) in [
+        ("%%\n15778079 root queues\n", "refused 2 BadMoment\n"),
+        ("%%\n68374080 root queues\n", "refused 2 BadMoment\n"),
+        ("%%\n0 zoe queues\n", "refused 1 UnknownCaller\n"),
+    ] {
+        expect(&rt, line.as_bytes(), refusal, 0);
+    }
+}
+
+#[test]
+fn queues_in_the_order_of_their_names(rt: HostRuntime) {
+    let script = b"%%\n\
+        29546970 root queue secret default\n\
+        29546970 root queue general default\n\
+        29546970 root queues\n";
+    let printed = "ok\nok\n\
+        queue                lifecycle            level\n\
+        general              default              -\n\
+        secret               default              -\n";
+    expect(&rt, script, printed, 0);
+}
+
+#[test]
+fn no_level_is_known(rt: HostRuntime) -> Result<(), Fail> {
+    let lines = "29546970 root create general x\n\
+        29546970 root level 1 x\n\
+        29546970 root level 1\n\
+        29546970 root level 2\n";
+    let script = in_general(rt.alloc(), lines)?;
+    let printed = "ok\nrequest 1\nrefused 5 UnknownName\nrefused 7 NoChange\nrefused 4 NotFound\n";
+    expect(&rt, script.as_bytes(), printed, 0);
+    Ok(())
+}
+
+#[test]
 fn lines_that_are_no_commands(rt: HostRuntime) -> Result<(), Fail> {
     for line in [
         "   \n",
         "29546970 root\n",
         "29546970 root fly\n",
         "29546970 root take 1\n",
-        "29546970 root queue q default fast\n",
+        "29546970 root queue q default fast faster\n",
         "29546970 root create general \"x\n",
         "12345678901 root show 1\n",
         "now root show 1\n",
