@@ -1,6 +1,7 @@
 use super::*;
 use crate::names::in_byte_order;
 use hours_core::Minute;
+use rights_core::{Grant, People, Subject};
 use settings_core::Settings;
 use std::alloc::{AllocError, Global};
 use std::process::Abort;
@@ -8,6 +9,7 @@ use std::test::Fail;
 use text_core::{Sequence, Text, Texts};
 
 mod levels;
+mod moves;
 mod rights;
 
 /// The moment of the commands.
@@ -38,6 +40,39 @@ fn general(alloc: Global, level: Option<&str>) -> Result<QueueRow, AllocError> {
         name: Text::new(alloc, "general")?,
         lifecycle: Text::new(alloc, "default")?,
         level: given(alloc, level)?,
+    })
+}
+
+/// `root`, who may do all.
+fn root_alone(alloc: Global) -> Result<People, Refusal> {
+    let persons = [Text::new(alloc, "root")?];
+    let grants = [Grant {
+        right: Text::new(alloc, "SuperUser")?,
+        subject: Subject::Everyone,
+        queue: None,
+    }];
+    People::build(alloc, &persons, &[], &grants).map_err(|_| Refusal::Unavailable)
+}
+
+/// The 7th request, filed now in a queue, which nobody owns and the desk is to answer.
+fn filed_now(
+    rt: &(impl AllocGlobal + Abort),
+    queue: &str,
+    status: &str,
+) -> Result<RequestRow, AllocError> {
+    let alloc = rt.alloc();
+    let now = minute(rt, NOW);
+    Ok(RequestRow {
+        id: 7,
+        queue: Text::new(alloc, queue)?,
+        subject: Text::new(alloc, "printer broken")?,
+        status: Text::new(alloc, status)?,
+        owner: None,
+        level: None,
+        created: now,
+        opened: now,
+        turn: Turn::Desk,
+        since: now,
     })
 }
 

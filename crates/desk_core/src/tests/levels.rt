@@ -1,10 +1,9 @@
 //! Levels and due moments, under the settings of an office: it is open from Monday to Friday from 09:00 to 18:00 in 2026
 //! and 2027, and its one level is `fast`.
 
-use super::{NOW, absent, given, minute, opening};
+use super::{NOW, absent, filed_now, given, minute, opening, root_alone};
 use crate::*;
-use hours_core::{Calendar, HoursFault, Intervals, Level, Limit, Minute, Zone};
-use rights_core::{Grant, People, Subject};
+use hours_core::{Calendar, HoursFault, Intervals, Level, Limit, Zone};
 use settings_core::{NamedCalendar, NamedLevel, NamedLifecycle, Settings};
 use std::alloc::{AllocError, Global};
 use std::process::Abort;
@@ -60,19 +59,8 @@ fn calendar(alloc: Global, is_ever_open: bool) -> Result<Calendar, HoursFault> {
     Calendar::build(alloc, zone, &week, &[], (2026, 2027))
 }
 
-/// `root`, who may do all.
-fn people(alloc: Global) -> Result<People, Refusal> {
-    let persons = [Text::new(alloc, "root")?];
-    let grants = [Grant {
-        right: Text::new(alloc, "SuperUser")?,
-        subject: Subject::Everyone,
-        queue: None,
-    }];
-    People::build(alloc, &persons, &[], &grants).map_err(|_| Refusal::Unavailable)
-}
-
 fn settings(alloc: Global, limits: Limits, is_ever_open: bool) -> Result<Settings, Refusal> {
-    let people = people(alloc)?;
+    let people = root_alone(alloc)?;
     let standard = NamedLifecycle::standard(alloc).map_err(|_| Refusal::Unavailable)?;
     let calendar = calendar(alloc, is_ever_open).map_err(|_| Refusal::Unavailable)?;
     let calendars = vec![in alloc;
@@ -122,19 +110,12 @@ struct State {
 }
 
 fn row(rt: &(impl AllocGlobal + Abort), state: State) -> Result<RequestRow, AllocError> {
-    let alloc = rt.alloc();
-    Ok(RequestRow {
-        id: 7,
-        queue: Text::new(alloc, "general")?,
-        subject: Text::new(alloc, "help")?,
-        status: Text::new(alloc, state.status)?,
-        owner: None,
-        level: given(alloc, state.level)?,
-        created: minute(rt, FRIDAY),
-        opened: minute(rt, state.opened),
-        turn: state.turn,
-        since: minute(rt, state.since),
-    })
+    let mut row = filed_now(rt, "general", state.status)?;
+    row.level = given(rt.alloc(), state.level)?;
+    row.opened = minute(rt, state.opened);
+    row.turn = state.turn;
+    row.since = minute(rt, state.since);
+    Ok(row)
 }
 
 /// When the request is due by these limits.

@@ -1,9 +1,8 @@
 //! Who may do what, under the people of an office: `dora` may do all, the staff `bob` and `cid` work on the queue
 //! `general`, requestors may show their requests, and everyone may file some.
 
-use super::{NOW, absent, creation, given, minute, move_to, opening};
+use super::{NOW, absent, creation, filed_now, given, move_to, opening};
 use crate::*;
-use hours_core::Minute;
 use rights_core::{Grant, Group, People, Role, Subject};
 use settings_core::{NamedLifecycle, Settings};
 use std::alloc::{AllocError, Global};
@@ -123,22 +122,6 @@ fn is_accepted(alloc: Global, caller: &str, facts: &Facts, command: &Command) ->
     }
 }
 
-/// The 7th request, which nobody owns.
-fn row(alloc: Global, now: Minute, queue: &str) -> Result<RequestRow, AllocError> {
-    Ok(RequestRow {
-        id: 7,
-        queue: Text::new(alloc, queue)?,
-        subject: Text::new(alloc, "printer broken")?,
-        status: Text::new(alloc, "new")?,
-        owner: None,
-        level: None,
-        created: now,
-        opened: now,
-        turn: Turn::Desk,
-        since: now,
-    })
-}
-
 fn watchers(alloc: Global, id: u32, person: &str) -> Result<Sequence<Watcher>, AllocError> {
     Ok(Sequence::from(vec![in alloc;
         Watcher {
@@ -166,7 +149,7 @@ fn on_request(
         queue_count: 0,
         request_count: 0,
         request: Some(RequestFacts {
-            row: row(alloc, minute(rt, NOW), queue)?,
+            row: filed_now(rt, queue, "new")?,
             watchers: watchers(alloc, id, requestor)?,
             entry_count: 1,
         }),
