@@ -20,7 +20,10 @@ pub fn due_of(settings: &Settings, queue: &QueueRow, request: &RequestRow) -> Op
     ensures { result ≡ due.due_of settings.now queue.now request.now }
 {
     match settings.lifecycle(queue.lifecycle.as_str()) {
-        Some(lifecycle) if is_live(lifecycle, &request.status) => due_at_level(settings, request),
+        Some(lifecycle) if is_live(lifecycle, &request.status) => {
+            let level = level_of(settings, &request.level)?;
+            due_at_level(settings, level, request)
+        }
         _ => None,
     }
 }
@@ -36,12 +39,10 @@ fn is_live(lifecycle: &Lifecycle, status: &Text) -> bool
     }
 }
 
-/// When a request with a live status is due.
-fn due_at_level(settings: &Settings, request: &RequestRow) -> Option<Minute>
-    ensures { result ≡ option_and_then (due.due_at_level settings.now request.now)
-        (option_and_then (level_named settings.now) request.now.level) }
+/// When a request with a live status is due by this level.
+fn due_at_level(settings: &Settings, level: &Level, request: &RequestRow) -> Option<Minute>
+    ensures { result ≡ due.due_at_level settings.now request.now level.now }
 {
-    let level = level_of(settings, &request.level)?;
     let calendar = settings.calendar(level.calendar.as_str())?;
     least_due(calendar, level, request)
 }
