@@ -123,12 +123,20 @@ fn ask(people: &People, persons: &[Text], queues: &[Text], questions: usize) -> 
         .filter(|number| {
             let person = named(persons, *number);
             let queue = named(queues, *number / 7);
-            people.holds(person, right::STANDARD[*number / 3 % 16], queue, Roles::none())
+            people.holds(
+                person,
+                right::STANDARD[*number / 3 % 16],
+                queue,
+                Roles::none(),
+            )
         })
         .count()
 }
 
-fn measure(rt: &(impl AllocGlobal + Clock + Print + Eprint), sizes: [usize; 4]) -> Result<(), Failure> {
+fn measure(
+    rt: &(impl AllocGlobal + Clock + Print + Eprint),
+    sizes: [usize; 4],
+) -> Result<(), Failure> {
     let [person_count, group_count, grant_count, questions] = sizes;
     let persons = names(rt, 'p', person_count)?;
     let group_names = names(rt, 'g', group_count)?;
@@ -136,12 +144,19 @@ fn measure(rt: &(impl AllocGlobal + Clock + Print + Eprint), sizes: [usize; 4]) 
     let groups = groups(rt, group_names.as_slice(), persons.as_slice())?;
     let grants = grants(rt, group_names.as_slice(), queues.as_slice(), grant_count)?;
     let start = Instant::now(rt)?;
-    let people = People::build(rt.alloc(), persons.as_slice(), groups.as_slice(), grants.as_slice())?;
+    let people = People::build(
+        rt.alloc(),
+        persons.as_slice(),
+        groups.as_slice(),
+        grants.as_slice(),
+    )?;
     let built = start.elapsed(rt)?.as_micros();
     let start = Instant::now(rt)?;
     let held = ask(&people, persons.as_slice(), queues.as_slice(), questions);
     let asked = start.elapsed(rt)?.as_micros();
-    println!(rt; "{person_count} persons, {group_count} groups, {grant_count} grants: {held} of {questions} held")?;
+    println!(rt;
+        "{person_count} persons, {group_count} groups, {grant_count} grants: {held} of {questions} held"
+    )?;
     eprintln!(rt; "built in {built} us, asked in {asked} us")?;
     Ok(())
 }
@@ -157,7 +172,11 @@ fn sizes(rt: &(impl AllocGlobal + std::rt::Env)) -> Result<[usize; 4], Failure> 
         }
         count += 1;
     }
-    if count == 4 { Ok(sizes) } else { Err(Failure::NoSize) }
+    if count == 4 {
+        Ok(sizes)
+    } else {
+        Err(Failure::NoSize)
+    }
 }
 
 fn main(rt: HostRuntime) -> Result<(), Failure> {

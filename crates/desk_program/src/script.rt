@@ -131,7 +131,7 @@ fn run_input<W: Write>(alloc: Global, input: &[u8], writer: &mut W) -> Printed
 fn run_parts<W: Write>(alloc: Global, settings: &[u8], commands: &str, writer: &mut W) -> Printed
     ensures { (text : List ℕ) × (status : ℕ)
         × ((given : Result Settings SettingsFault) × form.GivesSettings settings.now given
-            × script.IsRun given commands.now text status)
+        × script.IsRun given commands.now text status)
         × Ends result.writes.failed (W.contents writer.old) (W.contents writer.new) text status result.status
         × (result.writes.made ≤ length text) }
 {

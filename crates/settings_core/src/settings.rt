@@ -62,8 +62,14 @@ impl Settings {
         requires known { knows_calendars calendars levels ≡ true }
         requires requests { (1 ≤ max_requests) × (max_requests ≤ 1000000) }
         requires entries { (1 ≤ max_entries) × (max_entries ≤ 10000) }
-        ensures { result ≡ record { people = people; lifecycles = lifecycles; calendars = calendars; levels = levels;
-            max_requests = max_requests; max_entries = max_entries } }
+        ensures { result ≡ record {
+          people = people;
+          lifecycles = lifecycles;
+          calendars = calendars;
+          levels = levels;
+          max_requests = max_requests;
+          max_entries = max_entries;
+        } }
     {
         Settings {
             people,

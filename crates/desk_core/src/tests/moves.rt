@@ -35,10 +35,12 @@ fn oneway(alloc: Global) -> Result<Lifecycle, Refusal> {
 
 fn settings(alloc: Global) -> Result<Settings, Refusal> {
     let people = root_alone(alloc)?;
-    let lifecycles = vec![in alloc; NamedLifecycle {
-        name: Text::new(alloc, "oneway")?,
-        lifecycle: oneway(alloc)?,
-    }]?;
+    let lifecycles = vec![in alloc;
+        NamedLifecycle {
+            name: Text::new(alloc, "oneway")?,
+            lifecycle: oneway(alloc)?,
+        },
+    ]?;
     Ok(Settings::of_parts(
         people,
         Sequence::from(lifecycles),

@@ -119,9 +119,19 @@ impl Kept {
         ensures { IfOk result (λ watchers. watchers ≡ watchers_of (request_of self.now)) }
     {
         let mut watchers = Vec::new(alloc);
-        put_watchers(&mut watchers, self.row.id, WatchRole::Requestor, &self.requestors)?;
+        put_watchers(
+            &mut watchers,
+            self.row.id,
+            WatchRole::Requestor,
+            &self.requestors,
+        )?;
         put_watchers(&mut watchers, self.row.id, WatchRole::Cc, &self.cc)?;
-        put_watchers(&mut watchers, self.row.id, WatchRole::AdminCc, &self.admin_cc)?;
+        put_watchers(
+            &mut watchers,
+            self.row.id,
+            WatchRole::AdminCc,
+            &self.admin_cc,
+        )?;
         Ok(Sequence::from(watchers))
     }
 
@@ -157,11 +167,7 @@ impl Kept {
 }
 
 /// When a request of this queue is due, if the queue is there.
-fn due_in(
-    settings: &Settings,
-    queue: Option<&QueueRow>,
-    request: &RequestRow,
-) -> Option<Minute>
+fn due_in(settings: &Settings, queue: Option<&QueueRow>, request: &RequestRow) -> Option<Minute>
     ensures { result ≡ reading.due_in settings.now (option_map (λ q. q.now) queue.entry) request.now }
 {
     match queue {
