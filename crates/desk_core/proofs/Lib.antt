@@ -1,5 +1,5 @@
-pub mod DueLaw
-pub mod InView
+pub mod Applied
+pub mod Depends
+pub mod Goes
+pub mod Kept
 pub mod Roles
-pub mod Steps
-pub mod Suffice

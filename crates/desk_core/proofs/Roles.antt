@@ -3,9 +3,9 @@ use Rattle.std.proofs.Common.{◌≡◌, ◌∙◌, ℕ, ◌==◌, Bool, true, f
 use Rattle.std.specs.Str.{bytes_eq}
 use Rattle.std.proofs.lemmas.Bool.Decides.{eqb_tells}
 use Rattle.std.proofs.lemmas.List.Folds.{list_any-append}
-use Rattle.desk_core.specs.Change.{is_role}
 use Rattle.desk_core.specs.Desk.{Request}
-use Rattle.desk_core.specs.Facts.{is_watching, roles_among, watcher, watchers_of}
+use Rattle.desk_core.specs.Facts.{standing}
+use Rattle.desk_core.specs.Watchers.{is_role, is_watching, roles_among, watcher, watchers_of}
 use Rattle.desk_core.specs.Rights.{is_among, roles_on}
 use Rattle.desk_core.specs.declared.rows.Watcher.{Watcher}
 use Rattle.desk_core.specs.declared.rows.WatchRole.{WatchRole}
@@ -76,5 +76,5 @@ admin_cc_kept person r =
     ) refl
 
 -- the roles that the watchers tell are the person's on the request
-pub roles_kept : (person : List ℕ) (r : Request) → roles_among person r.row (watchers_of r) ≡ roles_on person r
+pub roles_kept : (person : List ℕ) (r : Request) → roles_among person r.row (watchers_of r) ≡ roles_on person (standing r)
 roles_kept person r = rw (requestors_kept person r, cc_kept person r, admin_cc_kept person r) refl

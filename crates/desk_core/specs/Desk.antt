@@ -1,11 +1,13 @@
--- The desk: its queues by name, and its requests by number, each with its people and its history.
-use Rattle.std.specs.Prelude.{ℕ, ◌+◌, Bool, true, ◌&&◌, ◌==◌, if◌then◌else◌, List, [], ◌∷◌, ◌++◌, Option, find, length}
+-- The desk: its queues by name, its requests by number, each with its people and its history, and the links.
+use Rattle.std.specs.Prelude.{ℕ, Bool, ◌&&◌, ◌==◌, if◌then◌else◌, List, [], ◌∷◌, ◌++◌, Option, find, map, length}
+use Rattle.std.specs.List.{list_any}
 use Rattle.std.specs.Ordering.{is_lt}
 use Rattle.std.specs.Str.{bytes_eq}
 use Rattle.desk_core.specs.Names.{text_order}
 use Rattle.desk_core.specs.declared.rows.QueueRow.{QueueRow}
 use Rattle.desk_core.specs.declared.rows.RequestRow.{RequestRow}
 use Rattle.desk_core.specs.declared.rows.Entry.{Entry}
+use Rattle.desk_core.specs.declared.rows.LinkRow.{LinkRow}
 
 -- a request's row, the persons in each role in the order of their bytes, and its entries from the first
 pub record Request : Type 0 where
@@ -15,13 +17,14 @@ pub record Request : Type 0 where
   pub admin_cc : List (List ℕ)
   pub entries : List Entry
 
--- the queues in the order of their names, and the requests in that of their numbers, which may have gaps
+-- the queues in the order of their names, the requests in that of their numbers, and the links
 pub record Desk : Type 0 where
   pub queues : List QueueRow
   pub requests : List Request
+  pub links : List LinkRow
 
 abbrev pub empty_desk : Desk
-empty_desk = record { queues = []; requests = [] }
+empty_desk = record { queues = []; requests = []; links = [] }
 
 -- the queue of that name, if there is one
 abbrev pub queue_at : Desk → List ℕ → Option QueueRow
@@ -42,16 +45,8 @@ abbrev pub placed : {X : Type 0} → (X → X → Bool) → List X → X → Lis
 placed comes_before [] x = x ∷ []
 placed comes_before (y ∷ ys) x = if comes_before x y then x ∷ y ∷ ys else y ∷ placed comes_before ys x
 
--- the list with x instead of the first element like it
-abbrev pub replaced : {X : Type 0} → (X → X → Bool) → List X → X → List X
-replaced is_like [] x = []
-replaced is_like (y ∷ ys) x = if is_like x y then x ∷ ys else y ∷ replaced is_like ys x
-
 abbrev pub has_lower_name : QueueRow → QueueRow → Bool
 has_lower_name a b = is_lt (text_order a.name b.name)
-
-abbrev pub has_same_number : Request → Request → Bool
-has_same_number a b = b.row.id == a.row.id
 
 -- the desk with this queue, which is new
 abbrev pub with_queue : Desk → QueueRow → Desk
@@ -61,11 +56,10 @@ with_queue desk queue = record desk { queues = placed has_lower_name desk.queues
 abbrev pub with_request : Desk → Request → Desk
 with_request desk request = record desk { requests = desk.requests ++ request ∷ [] }
 
--- the desk with this request instead of the one with its number
-abbrev pub with_changed_request : Desk → Request → Desk
-with_changed_request desk request = record desk { requests = replaced has_same_number desk.requests request }
+-- what becomes of a request, if it has that number
+abbrev pub revised_at : ℕ → (Request → Request) → Request → Request
+revised_at id revised request = if request.row.id == id then revised request else request
 
--- the requests are numbered from this number on, without gaps
-abbrev pub is_numbered : ℕ → List Request → Bool
-is_numbered next [] = true
-is_numbered next (request ∷ rest) = request.row.id == next && is_numbered (next + 1) rest
+-- the desk with what becomes of the request of that number
+abbrev pub with_revised : Desk → ℕ → (Request → Request) → Desk
+with_revised desk id revised = record desk { requests = map (revised_at id revised) desk.requests }

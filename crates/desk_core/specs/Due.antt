@@ -9,6 +9,7 @@ use Rattle.lifecycle_core.specs.declared.lifecycle.Class.{Class}
 use Rattle.lifecycle_core.specs.declared.lifecycle.Class.TheVariants.{Initial, Active}
 use Rattle.settings_core.specs.Settings.{calendar_named, level_named, lifecycle_named}
 use Rattle.settings_core.specs.declared.settings.Settings.{Settings}
+use Rattle.desk_core.specs.Desk.{Desk, Request, queue_at}
 use Rattle.desk_core.specs.declared.rows.QueueRow.{QueueRow}
 use Rattle.desk_core.specs.declared.rows.RequestRow.{RequestRow}
 use Rattle.desk_core.specs.declared.rows.Turn.{Turn}
@@ -52,3 +53,7 @@ due_of settings queue row =
     then option_and_then (due_at_level settings row) (option_and_then (level_named settings) row.level)
     else None)
     (lifecycle_named settings queue.lifecycle)
+
+-- when a request of the desk is due, if its queue is there
+abbrev pub due_on : Settings → Desk → Request → Option ℕ
+due_on settings desk request = option_and_then (λ q. due_of settings q request.row) (queue_at desk request.row.queue)

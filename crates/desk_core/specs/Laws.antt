@@ -1,67 +1,113 @@
 -- The laws of one step: what holds of every command by every caller at every moment, whatever the desk.
-use Rattle.std.specs.Prelude.{◌≡◌, ◌≢◌, ℕ, ◌≤◌, true, List, Option, Some, None, Err}
+use Rattle.std.specs.Prelude.{◌≡◌, ◌≢◌, ℕ, ◌≤◌, ⊤, true, false, List, [], ◌∷◌, ◌++◌, Option, Some, None, Err, All}
+use Rattle.lifecycle_core.specs.declared.parts.Parts.{Parts}
+use Rattle.rights_core.specs.Right.{own_ticket}
 use Rattle.settings_core.specs.declared.settings.Settings.{Settings}
-use Rattle.desk_core.specs.Desk.{Desk, Request, is_numbered, queue_at, request_at}
-use Rattle.desk_core.specs.Guard.{is_allowed, lifecycle_of, right_of}
-use Rattle.desk_core.specs.Reading.{IsReading, answer_of, due_in}
+use Rattle.desk_core.specs.Commands.SetStatus.{has_open}
+use Rattle.desk_core.specs.Desk.{Desk, Request, queue_at, request_at}
+use Rattle.desk_core.specs.Commands.{plan_of}
+use Rattle.desk_core.specs.Due.{due_on}
+use Rattle.desk_core.specs.Facts.{dependencies_of, standing}
+use Rattle.desk_core.specs.IsDesk.{IsDesk}
+use Rattle.desk_core.specs.Lifecycles.{is_allowed, is_inactive, lifecycle_of, reopening_of, right_of}
+use Rattle.desk_core.specs.Plan.{names_request}
+use Rattle.desk_core.specs.Reading.{IsReading, answer_of, is_shown}
 use Rattle.desk_core.specs.Refusals.{number_of}
 use Rattle.desk_core.specs.Rights.{holds_on}
-use Rattle.desk_core.specs.Step.{desk_after, reply_to}
+use Rattle.desk_core.specs.Step.{desk_after, outcome_of}
 use Rattle.desk_core.specs.View.{view}
-use Rattle.desk_core.specs.declared.answer.Shown as answer
+use Rattle.desk_core.specs.declared.answer.Answer.{Answer}
 use Rattle.desk_core.specs.declared.answer.Answer.TheVariants.{Shown}
 use Rattle.desk_core.specs.declared.command.Command.{Command}
-use Rattle.desk_core.specs.declared.command.Command.TheVariants.{OpenQueue, Create, SetStatus, SetLevel, Queues, Show}
+use Rattle.desk_core.specs.declared.command.Command.TheVariants.{SetStatus, Take, Steal, Untake, Give, Reply}
+use Rattle.desk_core.specs.declared.facts.Standing.{Standing}
 use Rattle.desk_core.specs.declared.refusal.Refusal.{Refusal}
+use Rattle.desk_core.specs.declared.rows.Entry.{Entry}
 
--- The status law: where a status changes, the command asks for just that move, the lifecycle of the request's queue
--- allows it, and the caller holds its right before the step.
-abbrev pub IsLawfulMove : Settings → List ℕ → Command → Desk → Request → Request → Type 0
-IsLawfulMove settings caller command desk before after =
-    let lifecycle = lifecycle_of settings (queue_at desk before.row.queue) in
-    (command ≡ SetStatus before.row.id after.row.status)
-    × (is_allowed lifecycle before.row.status after.row.status ≡ true)
-    × (holds_on settings caller (right_of lifecycle before.row.status after.row.status) before ≡ true)
+-- The history law: a request stays, and its old entries are a prefix of its new ones.
+abbrev pub KeepsHistory : Settings → ℕ → List ℕ → Command → Desk → Type 0
+KeepsHistory settings at caller command desk =
+    (id : ℕ) (before : Request) → request_at desk id ≡ Some before
+    → (after : Request) × (request_at (desk_after settings at caller command desk) id ≡ Some after)
+    × ((added : List Entry) × (after.entries ≡ before.entries ++ added))
 
+-- the command gives a request this owner
+abbrev pub SetsOwner : List ℕ → Command → ℕ → Option (List ℕ) → Type 0
+SetsOwner caller (Take id) asked owner = (id ≡ asked) × (owner ≡ Some caller)
+SetsOwner caller (Steal id) asked owner = (id ≡ asked) × (owner ≡ Some caller)
+SetsOwner caller (Untake id) asked owner = (id ≡ asked) × (owner ≡ None)
+SetsOwner caller (Give id person) asked owner = (id ≡ asked) × (owner ≡ Some person)
+SetsOwner caller other asked owner = ⊥
+
+abbrev pub MayOwn : Settings → Standing → Option (List ℕ) → Type 0
+MayOwn settings on None = ⊤
+MayOwn settings on (Some person) = holds_on settings person own_ticket on ≡ true
+
+-- The owner law: where an owner changes, the command gives that owner, who holds OwnTicket before the step.
+abbrev pub KeepsOwnerLaw : Settings → ℕ → List ℕ → Command → Desk → Type 0
+KeepsOwnerLaw settings at caller command desk =
+    (id : ℕ) (before after : Request) → request_at desk id ≡ Some before
+    → request_at (desk_after settings at caller command desk) id ≡ Some after
+    → after.row.owner ≢ before.row.owner
+    → SetsOwner caller command before.row.id after.row.owner × MayOwn settings (standing before) after.row.owner
+
+-- the command moves a request to this status, by this lifecycle: it asks for the move and the caller holds its right,
+-- or it is a reply and the status is the one to which the request is opened again
+abbrev pub MovesTo : Settings → List ℕ → Option Parts → Command → Standing → List ℕ → Type 0
+MovesTo settings caller lifecycle (SetStatus id status) on to =
+    (id ≡ on.row.id) × (status ≡ to)
+    × (holds_on settings caller (right_of lifecycle on.row.status to) on ≡ true)
+MovesTo settings caller lifecycle (Reply id text) on to =
+    (id ≡ on.row.id) × (reopening_of lifecycle on.row.status ≡ Some to)
+MovesTo settings caller lifecycle other on to = ⊥
+
+abbrev pub IsLawfulMove : Settings → List ℕ → Option Parts → Command → Standing → List ℕ → Type 0
+IsLawfulMove settings caller lifecycle command on to =
+    (is_allowed lifecycle on.row.status to ≡ true) × MovesTo settings caller lifecycle command on to
+
+-- The status law: where a status changes, the lifecycle of the request's queue allows it, and the command moves it so.
 abbrev pub KeepsStatusLaw : Settings → ℕ → List ℕ → Command → Desk → Type 0
 KeepsStatusLaw settings at caller command desk =
     (id : ℕ) (before after : Request) → request_at desk id ≡ Some before
     → request_at (desk_after settings at caller command desk) id ≡ Some after
-    → after.row.status ≢ before.row.status → IsLawfulMove settings caller command desk before after
+    → after.row.status ≢ before.row.status
+    → IsLawfulMove settings caller (lifecycle_of settings (queue_at desk before.row.queue)) command (standing before) after.row.status
 
--- The due law: a due moment in an answer is that of the request that is shown, by its queue's lifecycle and its own
--- level.
-abbrev pub TellsDueMoments : Settings → List ℕ → Command → Desk → Type 0
-TellsDueMoments settings caller command desk =
-    (shown : answer.Shown) → answer_of settings caller command desk ≡ Shown shown
-    → (request : Request) × (request_at desk request.row.id ≡ Some request) × (shown.row ≡ request.row)
-    × (shown.due ≡ due_in settings (queue_at desk request.row.queue) request.row)
-
--- The requests of a desk are numbered from 1 without gaps, and stay so.
-abbrev pub IsNumbered : Desk → Type 0
-IsNumbered desk = is_numbered 1 desk.requests ≡ true
-
-abbrev pub KeepsNumbers : Settings → ℕ → List ℕ → Command → Desk → Type 0
-KeepsNumbers settings at caller command desk = IsNumbered desk → IsNumbered (desk_after settings at caller command desk)
-
--- Nothing leaks by reading: what a caller is told is told of his view of the desk alone.
-abbrev pub RepliesByTheView : Settings → ℕ → List ℕ → Command → Desk → Type 0
-RepliesByTheView settings at caller command desk =
-    IsNumbered desk → IsReading command
-    → reply_to settings at caller command desk ≡ reply_to settings at caller command (view settings caller desk)
-
--- the request that a command names
-abbrev pub request_named : Command → Option ℕ
-request_named (OpenQueue name lifecycle level) = None
-request_named (Create queue subject status requestors) = None
-request_named (SetStatus id status) = Some id
-request_named (SetLevel id level) = Some id
-request_named Queues = None
-request_named (Show id) = Some id
-
--- A request outside the caller's view is refused as one that isn't there, whatever the command on it.
+-- A request that the caller may not show is refused as one that isn't there, at either end of a link too, whatever the
+-- command that names it.
 abbrev pub RefusesAsMissing : Settings → ℕ → List ℕ → Command → Desk → Type 0
 RefusesAsMissing settings at caller command desk =
-    (id : ℕ) → IsNumbered desk → request_named command ≡ Some id → request_at (view settings caller desk) id ≡ None
-    → (refusal : Refusal) × (number_of refusal ≤ 4) × (reply_to settings at caller command desk ≡ Err refusal)
-    × ((other : Desk) → request_at other id ≡ None → reply_to settings at caller command other ≡ Err refusal)
+    (id : ℕ) → names_request (plan_of command) id ≡ true → is_shown settings caller desk id ≡ false
+    → (refusal : Refusal) × (number_of refusal ≤ 4)
+    × (outcome_of settings at caller command desk ≡ Err refusal)
+    × ((other : Desk) → request_at other id ≡ None → outcome_of settings at caller command other ≡ Err refusal)
+
+-- The dependency law: where a status changes to an inactive one, no request that this one depends on is open.
+abbrev pub KeepsDependencyLaw : Settings → ℕ → List ℕ → Command → Desk → Type 0
+KeepsDependencyLaw settings at caller command desk =
+    (id : ℕ) (before after : Request) → request_at desk id ≡ Some before
+    → request_at (desk_after settings at caller command desk) id ≡ Some after
+    → after.row.status ≢ before.row.status
+    → is_inactive (lifecycle_of settings (queue_at desk before.row.queue)) after.row.status ≡ true
+    → has_open settings (dependencies_of desk before.row.id) ≡ false
+
+-- the due moments that an answer tells, each with the number of its request
+abbrev pub dues_told : Answer → List (ℕ × Option ℕ)
+dues_told (Shown shown) = (shown.row.id, shown.due) ∷ []
+dues_told other = []
+
+-- the request is there, and this is when it is due
+abbrev pub IsDue : Settings → Desk → ℕ × Option ℕ → Type 0
+IsDue settings desk told =
+    (request : Request) × (request_at desk told.0 ≡ Some request) × (told.1 ≡ due_on settings desk request)
+
+-- The due law: each due moment in an answer is that of its request, by the level that it has.
+abbrev pub TellsDueMoments : Settings → ℕ → List ℕ → Command → Desk → Type 0
+TellsDueMoments settings at caller command desk =
+    All (IsDue settings desk) (dues_told (answer_of settings at caller command desk))
+
+-- Nothing leaks by reading: what comes of a reading command is told of the caller's view of the desk alone.
+abbrev pub TellsOfTheView : Settings → ℕ → List ℕ → Command → Desk → Type 0
+TellsOfTheView settings at caller command desk =
+    IsDesk desk → IsReading command
+    → outcome_of settings at caller command desk ≡ outcome_of settings at caller command (view settings caller desk)

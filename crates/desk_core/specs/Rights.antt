@@ -8,42 +8,38 @@ use Rattle.rights_core.specs.People.{holds, no_roles}
 use Rattle.rights_core.specs.declared.role.Roles.{Roles}
 use Rattle.settings_core.specs.Settings.{people_of}
 use Rattle.settings_core.specs.declared.settings.Settings.{Settings}
-use Rattle.desk_core.specs.Desk.{Request}
+use Rattle.desk_core.specs.declared.facts.Standing.{Standing}
 use Rattle.desk_core.specs.declared.rows.QueueRow.{QueueRow}
-use Rattle.desk_core.specs.declared.rows.RequestRow.{RequestRow}
 
 abbrev pub is_among : List (List ℕ) → List ℕ → Bool
 is_among persons person = list_any (λ p. bytes_eq p person) persons
 
-abbrev pub is_owner : RequestRow → List ℕ → Bool
-is_owner row person = option_map_or (λ owner. bytes_eq owner person) row.owner false
+abbrev pub owns : List ℕ → Standing → Bool
+owns person on = option_map_or (λ owner. bytes_eq owner person) on.row.owner false
 
 -- the roles of a person on a request
-abbrev pub roles_on : List ℕ → Request → Roles
-roles_on person request =
+abbrev pub roles_on : List ℕ → Standing → Roles
+roles_on person on =
     record {
-      owner = is_owner request.row person;
-      requestor = is_among request.requestors person;
-      cc = is_among request.cc person;
-      admin_cc = is_among request.admin_cc person;
+      owner = owns person on;
+      requestor = is_among on.requestors person;
+      cc = is_among on.cc person;
+      admin_cc = is_among on.admin_cc person;
     }
 
 -- a right on a queue, where nobody has a role
 abbrev pub holds_on_queue : Settings → List ℕ → List ℕ → List ℕ → Bool
 holds_on_queue settings person right queue = holds (people_of settings) person right queue no_roles
 
--- a right on a request with these roles, which are the person's on it
-abbrev pub holds_as : Settings → List ℕ → List ℕ → RequestRow → Roles → Bool
-holds_as settings person right row roles = holds (people_of settings) person right row.queue roles
-
-abbrev pub holds_on : Settings → List ℕ → List ℕ → Request → Bool
-holds_on settings person right request = holds_as settings person right request.row (roles_on person request)
-
 abbrev pub sees_queue : Settings → List ℕ → QueueRow → Bool
 sees_queue settings person queue = holds_on_queue settings person see_queue queue.name
 
-abbrev pub may_show : Settings → List ℕ → Request → Bool
-may_show settings person request = holds_on settings person show_ticket request
+-- a right on a request, held with the person's roles on it
+abbrev pub holds_on : Settings → List ℕ → List ℕ → Standing → Bool
+holds_on settings person right on = holds (people_of settings) person right on.row.queue (roles_on person on)
 
-abbrev pub may_show_comments : Settings → List ℕ → Request → Bool
-may_show_comments settings person request = holds_on settings person show_ticket_comments request
+abbrev pub may_show : Settings → List ℕ → Standing → Bool
+may_show settings person on = holds_on settings person show_ticket on
+
+abbrev pub may_show_comments : Settings → List ℕ → Standing → Bool
+may_show_comments settings person on = holds_on settings person show_ticket_comments on

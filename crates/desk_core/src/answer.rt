@@ -1,4 +1,4 @@
-use crate::rows::{QueueRow, RequestRow};
+use crate::rows::{Entry, QueueRow, RequestRow};
 use hours_core::Minute;
 use text_core::{Sequence, Texts};
 
@@ -13,6 +13,8 @@ pub enum Answer {
     Queues(Sequence<QueueRow>),
     /// The request that was asked for.
     Shown(Shown),
+    /// The entries that the caller may see of a request's history, in the order of their numbers.
+    History(Sequence<Entry>),
 }
 
 /// A request as a caller sees it.

@@ -1,34 +1,178 @@
-use crate::rows::{Entry, QueueRow, RequestRow, Watcher};
+ghost use Rattle.std.specs.Prelude.{◌≡◌};
+ghost use Rattle.desk_core.specs.Change as change;
+
+use crate::rows::{Entry, LinkRow, QueueRow, RequestRow, Watcher};
+use std::alloc::Global;
 use text_core::Sequence;
 
-/// The rows that an accepted command puts.
-#[derive(Clone, Debug, PartialEq, Eq, Drop)]
-pub enum Change {
-    /// None: the command only reads.
-    Nothing,
-    /// A queue, put anew.
-    Queue(QueueRow),
-    /// A request, put anew.
-    NewRequest(NewRequest),
-    /// A request that is there, changed.
-    Request(RequestChange),
-}
-
-/// A request that is put anew.
-#[derive(Clone, Debug, PartialEq, Eq, Drop)]
-pub struct NewRequest {
-    pub row: RequestRow,
-    /// Its watchers, those of a role in the order of their bytes, each once.
-    pub watchers: Sequence<Watcher>,
-    /// Its entries, in order.
+/// What an accepted command does to the desk, in this order. A reading command does nothing.
+#[derive(Drop)]
+pub struct Change {
+    /// A queue that is opened.
+    pub queue: Option<QueueRow>,
+    /// A request that is filed.
+    pub filed: Option<RequestRow>,
+    /// The row that a request gets in place of its own.
+    pub row: Option<RequestRow>,
+    /// The persons that are put into a role.
+    pub put: Sequence<Watcher>,
+    /// The persons that are taken out of a role.
+    pub taken: Sequence<Watcher>,
+    /// A link that is put.
+    pub linked: Option<LinkRow>,
+    /// A link that is taken away.
+    pub unlinked: Option<LinkRow>,
+    /// The entries that go to the end of a request's history, in order.
     pub entries: Sequence<Entry>,
 }
 
-/// What becomes of a request that is there.
-#[derive(Clone, Debug, PartialEq, Eq, Drop)]
-pub struct RequestChange {
-    /// The row that stands in place of the one with its number.
-    pub row: RequestRow,
-    /// The entries that go to the end of its history, in order.
-    pub entries: Sequence<Entry>,
+impl Change {
+    /// Nothing.
+    pub fn nothing(alloc: Global) -> Change
+        ensures { result ≡ change.no_change }
+    {
+        Change {
+            queue: None,
+            filed: None,
+            row: None,
+            put: Sequence::from(Vec::new(alloc)),
+            taken: Sequence::from(Vec::new(alloc)),
+            linked: None,
+            unlinked: None,
+            entries: Sequence::from(Vec::new(alloc)),
+        }
+    }
+
+    /// A queue is opened.
+    pub fn opening(alloc: Global, queue: QueueRow) -> Change
+        ensures { result ≡ change.opening queue }
+    {
+        Change {
+            queue: Some(queue),
+            filed: None,
+            row: None,
+            put: Sequence::from(Vec::new(alloc)),
+            taken: Sequence::from(Vec::new(alloc)),
+            linked: None,
+            unlinked: None,
+            entries: Sequence::from(Vec::new(alloc)),
+        }
+    }
+
+    /// A request's history gets entries.
+    pub fn noting(alloc: Global, entries: Sequence<Entry>) -> Change
+        ensures { result ≡ change.noting entries }
+    {
+        Change {
+            queue: None,
+            filed: None,
+            row: None,
+            put: Sequence::from(Vec::new(alloc)),
+            taken: Sequence::from(Vec::new(alloc)),
+            linked: None,
+            unlinked: None,
+            entries,
+        }
+    }
+
+    /// A request gets another row.
+    pub fn revising(alloc: Global, row: RequestRow, entries: Sequence<Entry>) -> Change
+        ensures { result ≡ change.revising row entries }
+    {
+        Change {
+            queue: None,
+            filed: None,
+            row: Some(row),
+            put: Sequence::from(Vec::new(alloc)),
+            taken: Sequence::from(Vec::new(alloc)),
+            linked: None,
+            unlinked: None,
+            entries,
+        }
+    }
+
+    /// Persons are put into roles on a request.
+    pub fn putting(alloc: Global, put: Sequence<Watcher>, entries: Sequence<Entry>) -> Change
+        ensures { result ≡ change.putting put entries }
+    {
+        Change {
+            queue: None,
+            filed: None,
+            row: None,
+            put,
+            taken: Sequence::from(Vec::new(alloc)),
+            linked: None,
+            unlinked: None,
+            entries,
+        }
+    }
+
+    /// A request is linked with another one.
+    pub fn linking(alloc: Global, link: LinkRow, entries: Sequence<Entry>) -> Change
+        ensures { result ≡ change.linking link entries }
+    {
+        Change {
+            queue: None,
+            filed: None,
+            row: None,
+            put: Sequence::from(Vec::new(alloc)),
+            taken: Sequence::from(Vec::new(alloc)),
+            linked: Some(link),
+            unlinked: None,
+            entries,
+        }
+    }
+
+    /// Persons are taken out of roles on a request.
+    pub fn taking(alloc: Global, taken: Sequence<Watcher>, entries: Sequence<Entry>) -> Change
+        ensures { result ≡ change.taking taken entries }
+    {
+        Change {
+            queue: None,
+            filed: None,
+            row: None,
+            put: Sequence::from(Vec::new(alloc)),
+            taken,
+            linked: None,
+            unlinked: None,
+            entries,
+        }
+    }
+
+    /// The link of a request with another one goes.
+    pub fn unlinking(alloc: Global, link: LinkRow, entries: Sequence<Entry>) -> Change
+        ensures { result ≡ change.unlinking link entries }
+    {
+        Change {
+            queue: None,
+            filed: None,
+            row: None,
+            put: Sequence::from(Vec::new(alloc)),
+            taken: Sequence::from(Vec::new(alloc)),
+            linked: None,
+            unlinked: Some(link),
+            entries,
+        }
+    }
+
+    /// A request is filed, with the persons in its roles.
+    pub fn filing(
+        alloc: Global,
+        row: RequestRow,
+        put: Sequence<Watcher>,
+        entries: Sequence<Entry>,
+    ) -> Change
+        ensures { result ≡ change.filing row put entries }
+    {
+        Change {
+            queue: None,
+            filed: Some(row),
+            row: None,
+            put,
+            taken: Sequence::from(Vec::new(alloc)),
+            linked: None,
+            unlinked: None,
+            entries,
+        }
+    }
 }

@@ -1,3 +1,4 @@
+use crate::rows::{LinkKind, WatchRole};
 use text_core::{Text, Texts};
 
 /// What a caller asks of the desk. Names and texts are as they were given: a command may be refused for each.
@@ -22,6 +23,57 @@ pub enum Command {
         id: u32,
         status: Text,
     },
+    /// Makes the caller the owner of a request that nobody owns.
+    Take {
+        id: u32,
+    },
+    /// Makes the caller the owner of a request that another person owns.
+    Steal {
+        id: u32,
+    },
+    /// Leaves a request that the caller owns without an owner.
+    Untake {
+        id: u32,
+    },
+    /// Makes a person the owner of a request.
+    Give {
+        id: u32,
+        person: Text,
+    },
+    /// Replies to a request, which may open it again.
+    Reply {
+        id: u32,
+        text: Text,
+    },
+    /// Comments on a request.
+    Comment {
+        id: u32,
+        text: Text,
+    },
+    /// Puts a person into a role on a request.
+    Watch {
+        id: u32,
+        role: WatchRole,
+        person: Text,
+    },
+    /// Takes a person out of a role on a request.
+    Unwatch {
+        id: u32,
+        role: WatchRole,
+        person: Text,
+    },
+    /// Links a request with another one.
+    Link {
+        id: u32,
+        kind: LinkKind,
+        other: u32,
+    },
+    /// Takes away the link of a request with another one.
+    Unlink {
+        id: u32,
+        kind: LinkKind,
+        other: u32,
+    },
     /// Gives a request another level, or none.
     SetLevel {
         id: u32,
@@ -31,6 +83,10 @@ pub enum Command {
     Queues,
     /// Shows a request.
     Show {
+        id: u32,
+    },
+    /// Tells the history of a request.
+    History {
         id: u32,
     },
 }

@@ -1,40 +1,51 @@
-ghost use Rattle.std.specs.Prelude.{◌≡◌, ◌≢◌, IfOk, IfErr, OnOk, None, Some, Ok, Err, true, false, if◌then◌else◌};
+ghost use Rattle.text_core.specs.Form.{is_text};
+ghost use Rattle.std.specs.Prelude.{◌||◌, ◌≡◌, ◌≢◌, ◌+◌, ◌^◌, ◌<◌, ◌∷◌, IfOk, IfErr, OnOk, None, Some, Ok, Err, true, false, nat_lt, ℕ, if◌then◌else◌};
 ghost use Rattle.hours_core.specs.Moment.{is_moment};
 ghost use Rattle.rights_core.specs.People.{holds};
-ghost use Rattle.rights_core.specs.Right.{modify_ticket};
 ghost use Rattle.settings_core.specs.Settings.{people_of};
+ghost use Rattle.desk_core.specs.Change.{applied, no_change};
+ghost use Rattle.desk_core.specs.Commands.{plan_of};
+ghost use Rattle.desk_core.specs.Condition.{Decides, first_holding};
+ghost use Rattle.desk_core.specs.Context.{call_of};
 ghost use Rattle.desk_core.specs.Desk.{Desk};
-ghost use Rattle.desk_core.specs.Facts.{facts_of, may_show_by, roles_among};
-ghost use Rattle.desk_core.specs.Guard.{guard, knows_level};
-ghost use Rattle.desk_core.specs.Effect.{effect};
-ghost use Rattle.desk_core.specs.Change.{applied};
+ghost use Rattle.desk_core.specs.Entries as entries;
+ghost use Rattle.desk_core.specs.Plan.{change_by, conditions_by, is_missing};
 ghost use Rattle.desk_core.specs.Reading.{IsReading};
-ghost use Rattle.desk_core.specs.Rights.{holds_as, holds_on_queue};
-ghost use Rattle.desk_core.specs.Decision.{decided, decided_on};
+ghost use Rattle.desk_core.specs.Rights as rights;
+ghost use Rattle.desk_core.specs.Step.{call, conditions_on, effect, facts_of, guard};
 
 use crate::change::Change;
 use crate::command::Command;
-use crate::facts::{Facts, RequestFacts};
+use crate::facts::{Facts, Standing};
 use crate::refusal::Refusal;
-use crate::rights::{may_show, roles_among};
+use crate::rows::{Entry, EntryKind};
 use hours_core::{END, Minute};
-use rights_core::{Roles, right};
+use rights_core::Roles;
 use settings_core::Settings;
-use std::alloc::Global;
-use text_core::Text;
+use std::alloc::{AllocError, Global};
+use text_core::{Text, is_text};
 
+mod comment;
 mod create;
+mod give;
 mod lifecycles;
+mod link;
 mod open_queue;
+mod reply;
 mod set_level;
 mod set_status;
-mod show;
+mod steal;
+mod take;
+mod unlink;
+mod untake;
+mod unwatch;
+mod watch;
 
 /// Decides a command by a caller at a moment, in minutes since 1970-01-01 00:00 UTC: the change that it makes, or
 /// the first refusal that is called for.
 ///
 /// On the facts of a desk, that is the refusal that the desk gives, or the change that leads to the desk after the
-/// command. A reading command changes nothing. `Unavailable` stands in place of an answer where memory is wanting.
+/// command. A reading command changes nothing. `Unavailable` stands in place of an answer where out of memory.
 pub fn decide(
     alloc: Global,
     settings: &Settings,
@@ -48,7 +59,7 @@ pub fn decide(
         × (applied change desk ≡ effect settings.now at caller.now command.now desk)) }
     ensures refuses { (desk : Desk) → facts.now ≡ facts_of command.now desk → IfErr result (λ refusal.
         refusal ≢ Refusal.Unavailable → guard settings.now at caller.now command.now desk ≡ Some refusal) }
-    ensures reads { IsReading command.now → IfOk result (λ change. change ≡ Change.Nothing) }
+    ensures reads { IsReading command.now → IfOk result (λ change. change ≡ no_change) }
 {
     decide_on_facts(alloc, settings, at, caller, facts, command)
 }
@@ -62,9 +73,8 @@ fn decide_on_facts(
     facts: &Facts,
     command: &Command,
 ) -> Result<Change, Refusal>
-    ensures ok { IfOk result (λ change. decided settings.now at caller.now facts.now command.now ≡ Ok change) }
-    ensures err { IfErr result (λ refusal. refusal ≢ Refusal.Unavailable
-        → decided settings.now at caller.now facts.now command.now ≡ Err refusal) }
+    ensures { Decides result (conditions_on (call settings.now at caller.now) facts.now command.now)
+        (change_by (call settings.now at caller.now) facts.now (plan_of command.now)) }
 {
     if !settings.people().knows(caller) {
         return Err(Refusal::UnknownCaller);
@@ -99,13 +109,10 @@ struct Context<'c> {
     facts: &'c Facts,
 }
 
-impl Context<'_> {
+impl<'c> Context<'c> {
     fn decide(&self, command: &Command) -> Result<Change, Refusal>
-        ensures ok { IfOk result (λ change. decided_on self.now.settings.now self.now.moment self.now.caller.now
-            self.now.facts.now command.now ≡ Ok change) }
-        ensures err { IfErr result (λ refusal. refusal ≢ Refusal.Unavailable
-            → decided_on self.now.settings.now self.now.moment self.now.caller.now self.now.facts.now command.now
-            ≡ Err refusal) }
+        ensures { Decides result (conditions_by (call_of self.now) self.now.facts.now (plan_of command.now))
+            (change_by (call_of self.now) self.now.facts.now (plan_of command.now)) }
     {
         match command {
             Command::OpenQueue {
@@ -119,76 +126,189 @@ impl Context<'_> {
                 status,
                 requestors,
             } => self.create(queue, subject, status, requestors),
-            Command::SetStatus { id: _, status } => self.set_status(status),
-            Command::SetLevel { id: _, level } => self.set_level(level),
-            Command::Queues => Ok(Change::Nothing),
-            Command::Show { id: _ } => self.show(),
+            Command::SetStatus { id: _, status } => self.set_status(self.shown()?, status),
+            Command::Take { id: _ } => self.take(self.shown()?),
+            Command::Steal { id: _ } => self.steal(self.shown()?),
+            Command::Untake { id: _ } => self.untake(self.shown()?),
+            Command::Give { id: _, person } => self.give(self.shown()?, person),
+            Command::Reply { id: _, text } => {
+                self.ask_for_text(text)?;
+                self.reply(self.shown()?, text)
+            }
+            Command::Comment { id: _, text } => {
+                self.ask_for_text(text)?;
+                self.comment(self.shown()?, text)
+            }
+            Command::Watch {
+                id: _,
+                role,
+                person,
+            } => self.watch(self.shown()?, *role, person),
+            Command::Unwatch {
+                id: _,
+                role,
+                person,
+            } => self.unwatch(self.shown()?, *role, person),
+            Command::Link { id: _, kind, other } => self.link(self.both_shown()?, *kind, *other),
+            Command::Unlink { id: _, kind, other } => {
+                self.unlink(self.both_shown()?, *kind, *other)
+            }
+            Command::SetLevel { id: _, level } => self.set_level(self.shown()?, level),
+            Command::Queues => Ok(Change::nothing(self.alloc)),
+            Command::Show { id: _ } => self.read(),
+            Command::History { id: _ } => self.read(),
         }
     }
 
-    /// Whether a level that is given is one of the settings.
-    fn knows_level(&self, level: &Option<Text>) -> bool
-        ensures { result ≡ knows_level self.now.settings.now level.now }
+    /// Shows the request: nothing changes.
+    fn read(&self) -> Result<Change, Refusal>
+        ensures ok { IfOk result (λ change. (change ≡ no_change)
+            × (is_missing (call_of self.now) self.now.facts.now.request ≡ false)) }
+        ensures err { IfErr result (λ refusal. (refusal ≡ Refusal.NotFound)
+            × (is_missing (call_of self.now) self.now.facts.now.request ≡ true)) }
     {
-        match level {
-            Some(level) => self.settings.level(level.as_str()).is_some(),
-            None => true,
+        self.shown()?;
+        Ok(Change::nothing(self.alloc))
+    }
+
+    /// Refuses a text of a reply or a comment that isn't of its form.
+    fn ask_for_text(&self, text: &Text) -> Result<(), Refusal>
+        ensures ok { OnOk result (is_text text.now ≡ true) }
+        ensures err { IfErr result (λ refusal. (refusal ≡ Refusal.BadText) × (is_text text.now ≡ false)) }
+    {
+        if is_text(text.as_str()) {
+            Ok(())
+        } else {
+            Err(Refusal::BadText)
+        }
+    }
+
+    /// The request that the command names, where the caller may show it and the other one too.
+    fn both_shown(&self) -> Result<&'c Standing, Refusal>
+        ensures ok { IfOk result (λ on. (self.now.facts.now.request ≡ Some on.now)
+            × (is_missing (call_of self.now) (Some on.now) ≡ false)
+            × (is_missing (call_of self.now) self.now.facts.now.other ≡ false)) }
+        ensures err { IfErr result (λ refusal. (refusal ≡ Refusal.NotFound)
+            × ((is_missing (call_of self.now) self.now.facts.now.request
+            || is_missing (call_of self.now) self.now.facts.now.other) ≡ true)) }
+    {
+        let on = self.shown()?;
+        self.ask_for_other()?;
+        Ok(on)
+    }
+
+    /// The request that the command names, where the caller may show it.
+    fn shown(&self) -> Result<&'c Standing, Refusal>
+        ensures ok { IfOk result (λ on. (self.now.facts.now.request ≡ Some on.now)
+            × (is_missing (call_of self.now) (Some on.now) ≡ false)) }
+        ensures err { IfErr result (λ refusal. (refusal ≡ Refusal.NotFound)
+            × (is_missing (call_of self.now) self.now.facts.now.request ≡ true)) }
+    {
+        match &self.facts.request {
+            Some(on) if self.may_show(on) => Ok(on),
+            _ => Err(Refusal::NotFound),
+        }
+    }
+
+    /// Refuses where the other request that the command names isn't there, or the caller may not show it.
+    fn ask_for_other(&self) -> Result<(), Refusal>
+        ensures ok { OnOk result (is_missing (call_of self.now) self.now.facts.now.other ≡ false) }
+        ensures err { IfErr result (λ refusal. (refusal ≡ Refusal.NotFound)
+            × (is_missing (call_of self.now) self.now.facts.now.other ≡ true)) }
+    {
+        match &self.facts.other {
+            Some(other) if self.may_show(other) => Ok(()),
+            _ => Err(Refusal::NotFound),
         }
     }
 
     /// Whether the caller may show the request.
-    fn may_show(&self, request: &RequestFacts) -> bool
-        ensures { result ≡ may_show_by self.now.settings.now self.now.caller.now request.now.row request.now.watchers }
+    fn may_show(&self, on: &Standing) -> bool
+        ensures { result ≡ rights.may_show self.now.settings.now self.now.caller.now on.now }
     {
-        let watchers = request.watchers.as_slice();
-        may_show(self.settings, self.caller, &request.row, watchers)
+        on.may_be_shown(self.settings, self.caller)
+    }
+
+    /// Whether a person holds a right on the request, with the person's roles on it.
+    fn holds(&self, person: &str, right: &str, on: &Standing) -> bool
+        ensures { result ≡ rights.holds_on self.now.settings.now person.now right.now on.now }
+    {
+        on.is_held(self.settings, person, right)
     }
 
     /// Refuses where the caller lacks a right on the request.
-    fn ask_on(&self, right: &str, request: &RequestFacts) -> Result<(), Refusal>
-        ensures ok { OnOk result (holds_as self.now.settings.now self.now.caller.now right.now request.now.row
-            (roles_among self.now.caller.now request.now.row request.now.watchers) ≡ true) }
+    fn ask(&self, right: &str, on: &Standing) -> Result<(), Refusal>
+        ensures ok { OnOk result (rights.holds_on self.now.settings.now self.now.caller.now right.now on.now ≡ true) }
         ensures err { IfErr result (λ refusal. refusal ≢ Refusal.Unavailable → (refusal ≡ Refusal.Denied right.now)
-            × (holds_as self.now.settings.now self.now.caller.now right.now request.now.row
-            (roles_among self.now.caller.now request.now.row request.now.watchers) ≡ false)) }
+            × (rights.holds_on self.now.settings.now self.now.caller.now right.now on.now ≡ false)) }
     {
-        let watchers = request.watchers.as_slice();
-        let roles = roles_among(self.caller, &request.row, watchers);
-        self.ask(right, &request.row.queue, roles)
-    }
-
-    /// Refuses where the caller may not modify the request.
-    #[tactic(auto, unfolding(rights_core::specs::Right::modify_ticket))]
-    fn ask_to_modify(&self, request: &RequestFacts) -> Result<(), Refusal>
-        ensures ok { OnOk result (holds_as self.now.settings.now self.now.caller.now modify_ticket request.now.row
-            (roles_among self.now.caller.now request.now.row request.now.watchers) ≡ true) }
-        ensures err { IfErr result (λ refusal. refusal ≢ Refusal.Unavailable → (refusal ≡ Refusal.Denied modify_ticket)
-            × (holds_as self.now.settings.now self.now.caller.now modify_ticket request.now.row
-            (roles_among self.now.caller.now request.now.row request.now.watchers) ≡ false)) }
-    {
-        self.ask_on(right::MODIFY_TICKET, request)
+        if self.holds(self.caller, right, on) {
+            Ok(())
+        } else {
+            Err(self.denied(right))
+        }
     }
 
     /// Refuses where the caller lacks a right on the queue of that name: nobody has a role on a queue.
     fn ask_on_queue(&self, right: &str, queue: &Text) -> Result<(), Refusal>
-        ensures ok { OnOk result (holds_on_queue self.now.settings.now self.now.caller.now right.now queue.now ≡ true) }
-        ensures err { IfErr result (λ refusal. refusal ≢ Refusal.Unavailable → (refusal ≡ Refusal.Denied right.now)
-            × (holds_on_queue self.now.settings.now self.now.caller.now right.now queue.now ≡ false)) }
-    {
-        self.ask(right, queue, Roles::none())
-    }
-
-    fn ask(&self, right: &str, queue: &Text, roles: Roles) -> Result<(), Refusal>
-        ensures ok { OnOk result (holds (people_of self.now.settings.now) self.now.caller.now right.now queue.now roles
+        ensures ok { OnOk result (rights.holds_on_queue self.now.settings.now self.now.caller.now right.now queue.now
             ≡ true) }
         ensures err { IfErr result (λ refusal. refusal ≢ Refusal.Unavailable → (refusal ≡ Refusal.Denied right.now)
-            × (holds (people_of self.now.settings.now) self.now.caller.now right.now queue.now roles ≡ false)) }
+            × (rights.holds_on_queue self.now.settings.now self.now.caller.now right.now queue.now ≡ false)) }
     {
         let people = self.settings.people();
-        if people.holds(self.caller, right, queue.as_str(), roles) {
+        if people.holds(self.caller, right, queue.as_str(), Roles::none()) {
             Ok(())
         } else {
-            Err(Refusal::Denied(Text::new(self.alloc, right)?))
+            Err(self.denied(right))
         }
+    }
+
+    /// That a right is lacking, or that there is no memory to say so.
+    fn denied(&self, right: &str) -> Refusal
+        ensures { result ≢ Refusal.Unavailable → result ≡ Refusal.Denied right.now }
+    {
+        match Text::new(self.alloc, right) {
+            Ok(right) => Refusal::Denied(right),
+            Err(_) => Refusal::Unavailable,
+        }
+    }
+
+    /// Refuses where so many more entries are too many.
+    fn ask_for_room(&self, on: &Standing, count: u32) -> Result<(), Refusal>
+        ensures ok { OnOk result (entries.lacks_room (call_of self.now) on.now count ≡ false) }
+        ensures fits { OnOk result (on.now.entry_count + count < 2 ^ 32) }
+        ensures err { IfErr result (λ refusal. (refusal ≡ Refusal.Full)
+            × (entries.lacks_room (call_of self.now) on.now count ≡ true)) }
+    {
+        let wanted = u64::from(on.entry_count) + u64::from(count);
+        if u64::from(self.settings.max_entries()) < wanted {
+            Err(Refusal::Full)
+        } else {
+            Ok(())
+        }
+    }
+
+    /// The entry of that number after those that are there.
+    fn entry(
+        &self,
+        on: &Standing,
+        number: u32,
+        kind: EntryKind,
+        head: Text,
+        body: Text,
+    ) -> Result<Entry, AllocError>
+        requires { on.now.entry_count + number < 2 ^ 32 }
+        ensures { IfOk result (λ entry. entry ≡ entries.entry_of (call_of self.now) on.now number kind head body) }
+    {
+        Ok(Entry {
+            id: on.row.id,
+            number: on.entry_count + number,
+            moment: self.moment,
+            actor: Text::new(self.alloc, self.caller)?,
+            kind,
+            head,
+            body,
+        })
     }
 }

@@ -1,8 +1,8 @@
-use crate::rows::{QueueRow, RequestRow, Watcher};
-use text_core::Sequence;
+use crate::rows::{QueueRow, RequestRow};
+use text_core::{Sequence, Text, Texts};
 
-/// What a command looks at before it decides. What it doesn't look at is absent or 0.
-#[derive(Clone, Debug, PartialEq, Eq, Drop)]
+/// What a command looks at before it decides. What it doesn't look at is absent, empty or 0.
+#[derive(Drop)]
 pub struct Facts {
     /// The queue that the command names, or the queue of the request that it names.
     pub queue: Option<QueueRow>,
@@ -11,14 +11,29 @@ pub struct Facts {
     /// How many requests there are.
     pub request_count: u32,
     /// The request that the command names.
-    pub request: Option<RequestFacts>,
+    pub request: Option<Standing>,
+    /// The other request that the command names.
+    pub other: Option<Standing>,
+    /// Whether the link that the command names is there.
+    pub is_linked: bool,
+    /// The requests that the one depends on.
+    pub dependencies: Sequence<Dependency>,
 }
 
 /// A request with its people, and how many entries its history has.
-#[derive(Clone, Debug, PartialEq, Eq, Drop)]
-pub struct RequestFacts {
+#[derive(Drop)]
+pub struct Standing {
     pub row: RequestRow,
-    /// Its requestors, then those in copy, then the administrators in copy.
-    pub watchers: Sequence<Watcher>,
+    /// Its requestors, in the order of their bytes; and so are the next two lists.
+    pub requestors: Texts,
+    pub cc: Texts,
+    pub admin_cc: Texts,
     pub entry_count: u32,
+}
+
+/// A request that another one depends on: the lifecycle of its queue, and its status.
+#[derive(Drop)]
+pub struct Dependency {
+    pub lifecycle: Text,
+    pub status: Text,
 }

@@ -1,4 +1,4 @@
-//! The desk's commands, and what each decides: the first refusal that is called for, or the rows to put.
+//! The desk's commands, and what each decides: the first refusal that is called for, or the change that it makes.
 //!
 //! Nothing here keeps a row. A caller hands in the facts that a command looks at, and applies the change.
 #![tactic(auto)]
@@ -16,14 +16,13 @@ pub mod rights;
 pub mod rows;
 
 pub use answer::{Answer, Links, Shown};
-pub use change::{Change, NewRequest, RequestChange};
+pub use change::Change;
 pub use command::Command;
 pub use decision::decide;
 pub use due::due_of;
-pub use facts::{Facts, RequestFacts};
+pub use facts::{Dependency, Facts, Standing};
 pub use refusal::Refusal;
 pub use rights::{may_show, sees_queue};
-pub use rows::{Entry, EntryKind, QueueRow, RequestRow, Turn, WatchRole, Watcher};
-
-#[cfg(test)]
-mod tests;
+pub use rows::{
+    Entry, EntryKind, LinkKind, LinkRow, QueueRow, RequestRow, Turn, WatchRole, Watcher,
+};

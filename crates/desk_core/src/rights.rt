@@ -1,11 +1,12 @@
 ghost use Rattle.std.specs.Prelude.{◌≡◌};
-ghost use Rattle.desk_core.specs.Facts.{is_watching, may_show_by, roles_among};
-ghost use Rattle.desk_core.specs.Change as change;
 ghost use Rattle.desk_core.specs.Rights as rights;
+ghost use Rattle.desk_core.specs.Watchers as watching;
 
+use crate::facts::Standing;
 use crate::rows::{QueueRow, RequestRow, WatchRole, Watcher};
 use rights_core::{Roles, right};
 use settings_core::Settings;
+use text_core::Texts;
 
 /// Whether a person may show a request: whether the right to do so is held with the person's roles on it. Of the
 /// watchers only those of this request count.
@@ -16,7 +17,7 @@ pub fn may_show(
     request: &RequestRow,
     watchers: &[Watcher],
 ) -> bool
-    ensures { result ≡ may_show_by settings.now person.now request.now watchers.now }
+    ensures { result ≡ watching.may_show_by settings.now person.now request.now watchers.now }
 {
     let roles = roles_among(person, request, watchers);
     settings
@@ -35,36 +36,87 @@ pub fn sees_queue(settings: &Settings, person: &str, queue: &QueueRow) -> bool
         .holds(person, right::SEE_QUEUE, name, Roles::none())
 }
 
-/// The roles of a person on a request.
-pub(crate) fn roles_among(person: &str, row: &RequestRow, watchers: &[Watcher]) -> Roles
-    ensures { result ≡ roles_among person.now row.now watchers.now }
+impl Standing {
+    /// Whether the person may show the request.
+    #[tactic(auto, unfolding(rights_core::specs::Right::show_ticket))]
+    pub fn may_be_shown(&self, settings: &Settings, person: &str) -> bool
+        ensures { result ≡ rights.may_show settings.now person.now self.now }
+    {
+        self.is_held(settings, person, right::SHOW_TICKET)
+    }
+
+    /// Whether the person may show the comments of the request.
+    #[tactic(auto, unfolding(rights_core::specs::Right::show_ticket_comments))]
+    pub fn has_comments_for(&self, settings: &Settings, person: &str) -> bool
+        ensures { result ≡ rights.may_show_comments settings.now person.now self.now }
+    {
+        self.is_held(settings, person, right::SHOW_TICKET_COMMENTS)
+    }
+
+    /// Whether a person holds a right on the request, with the person's roles on it.
+    pub(crate) fn is_held(&self, settings: &Settings, person: &str, right: &str) -> bool
+        ensures { result ≡ rights.holds_on settings.now person.now right.now self.now }
+    {
+        let roles = self.roles_of(person);
+        settings
+            .people()
+            .holds(person, right, self.row.queue.as_str(), roles)
+    }
+
+    /// The roles of a person on the request.
+    fn roles_of(&self, person: &str) -> Roles
+        ensures { result ≡ rights.roles_on person.now self.now }
+    {
+        Roles {
+            owner: self.is_owned_by(person),
+            requestor: is_among(&self.requestors, person),
+            cc: is_among(&self.cc, person),
+            admin_cc: is_among(&self.admin_cc, person),
+        }
+    }
+
+    /// Whether the person owns the request.
+    pub(crate) fn is_owned_by(&self, person: &str) -> bool
+        ensures { result ≡ rights.owns person.now self.now }
+    {
+        match &self.row.owner {
+            Some(owner) => owner.as_str() == person,
+            None => false,
+        }
+    }
+}
+
+/// Whether the person is one of these.
+pub(crate) fn is_among(persons: &Texts, person: &str) -> bool
+    ensures { result ≡ rights.is_among persons.now person.now }
+{
+    persons.as_slice().iter().any(|p| p.as_str() == person)
+}
+
+/// The roles of a person on a request, as its watchers tell them.
+fn roles_among(person: &str, row: &RequestRow, watchers: &[Watcher]) -> Roles
+    ensures { result ≡ watching.roles_among person.now row.now watchers.now }
 {
     Roles {
-        owner: is_owner(row, person),
+        owner: match &row.owner {
+            Some(owner) => owner.as_str() == person,
+            None => false,
+        },
         requestor: is_watching(person, row.id, WatchRole::Requestor, watchers),
         cc: is_watching(person, row.id, WatchRole::Cc, watchers),
         admin_cc: is_watching(person, row.id, WatchRole::AdminCc, watchers),
     }
 }
 
-fn is_owner(row: &RequestRow, person: &str) -> bool
-    ensures { result ≡ rights.is_owner row.now person.now }
-{
-    match &row.owner {
-        Some(owner) => owner.as_str() == person,
-        None => false,
-    }
-}
-
 /// Whether the person is in that role on the request with this number.
 fn is_watching(person: &str, id: u32, role: WatchRole, watchers: &[Watcher]) -> bool
-    ensures { result ≡ is_watching person.now id role watchers.now }
+    ensures { result ≡ watching.is_watching person.now id role watchers.now }
 {
     watchers.iter().any(|w| w.id == id && is_role(role, w.role) && w.person.as_str() == person)
 }
 
 fn is_role(role: WatchRole, other: WatchRole) -> bool
-    ensures { result ≡ change.is_role role other }
+    ensures { result ≡ watching.is_role role other }
 {
     match (role, other) {
         (WatchRole::Requestor, WatchRole::Requestor) => true,

@@ -52,6 +52,22 @@ pub struct Watcher {
     pub person: Text,
 }
 
+/// How a request is linked with another one.
+#[derive(Clone, Copy, Debug, PartialEq, Eq)]
+pub enum LinkKind {
+    DependsOn,
+    MemberOf,
+    RefersTo,
+}
+
+/// A link of a request, the source, with another one.
+#[derive(Clone, Copy, Debug, PartialEq, Eq)]
+pub struct LinkRow {
+    pub source: u32,
+    pub kind: LinkKind,
+    pub target: u32,
+}
+
 /// What an entry of a history tells.
 #[derive(Clone, Copy, Debug, PartialEq, Eq)]
 pub enum EntryKind {
@@ -59,6 +75,20 @@ pub enum EntryKind {
     Create,
     /// Its status moved from `head` to `body`.
     Status,
+    /// Its owner changed from `head` to `body`, where `Nobody` stands for none.
+    Owner,
+    /// Somebody replied with the text in `body`.
+    Reply,
+    /// Somebody commented with the text in `body`.
+    Comment,
+    /// The person in `body` was put into the role in `head`.
+    Watch,
+    /// The person in `body` was taken out of the role in `head`.
+    Unwatch,
+    /// The request was linked, in the kind in `head`, with the one whose number is in `body`.
+    Link,
+    /// Such a link was taken away.
+    Unlink,
     /// Its level changed from `head` to `body`, where `-` stands for none.
     Level,
 }

@@ -1,16 +1,13 @@
-ghost use Rattle.std.specs.Prelude.{◌≡◌, ◌≢◌, map, IfOk, IfErr, Ok, Err, ◌+◌, ◌-◌, ◌^◌, ◌<◌};
+ghost use Rattle.std.specs.Prelude.{◌≡◌, map, IfOk, OnOk, ◌+◌, ◌^◌, ◌<◌};
 ghost use Rattle.std.specs.Option.{option_map};
 ghost use Rattle.std.specs.List.{list_all};
 ghost use Rattle.settings_core.specs.Settings.{knows};
-ghost use Rattle.desk_core.specs.Names.{in_order};
-ghost use Rattle.desk_core.specs.Decision.{decided_on, filing_change};
-ghost use Rattle.desk_core.specs.Facts.{watcher};
-ghost use Rattle.desk_core.specs.declared.rows.WatchRole.TheVariants.{Requestor};
-ghost use Rattle.desk_core.specs.Effect.{filing, given_or_caller, new_row};
-ghost use Rattle.desk_core.specs.Guard as guard;
+ghost use Rattle.desk_core.specs.Commands.Create as creating;
+ghost use Rattle.desk_core.specs.Condition.{Decides, Passes};
+ghost use Rattle.desk_core.specs.Context.{call_of};
+ghost use Rattle.desk_core.specs.Lifecycles as lifecycles;
 
-use crate::change::{Change, NewRequest};
-use crate::command::Command;
+use crate::change::Change;
 use crate::decision::Context;
 use crate::decision::lifecycles::{has_status, is_creatable, lifecycle_of};
 use crate::names::in_byte_order;
@@ -23,7 +20,6 @@ use text_core::{Sequence, Text, Texts, is_subject};
 
 impl Context<'_> {
     /// Files a request.
-    #[tactic(auto, unfolding(rights_core::specs::Right::create_ticket))]
     pub(super) fn create(
         &self,
         queue: &Text,
@@ -31,11 +27,25 @@ impl Context<'_> {
         status: &Option<Text>,
         requestors: &Texts,
     ) -> Result<Change, Refusal>
-        ensures ok { IfOk result (λ change. decided_on self.now.settings.now self.now.moment self.now.caller.now
-            self.now.facts.now (Command.Create queue.now subject.now status.now requestors.now) ≡ Ok change) }
-        ensures err { IfErr result (λ refusal. refusal ≢ Refusal.Unavailable
-            → decided_on self.now.settings.now self.now.moment self.now.caller.now self.now.facts.now
-            (Command.Create queue.now subject.now status.now requestors.now) ≡ Err refusal) }
+        ensures { Decides result
+            (creating.conditions queue.now subject.now status.now requestors.now (call_of self.now) self.now.facts.now)
+            (creating.change queue.now subject.now status.now requestors.now (call_of self.now) self.now.facts.now) }
+    {
+        self.ask_to_create(queue, subject, status, requestors)?;
+        Ok(self.created(queue, subject, status, requestors)?)
+    }
+
+    #[tactic(auto, unfolding(rights_core::specs::Right::create_ticket))]
+    fn ask_to_create(
+        &self,
+        queue: &Text,
+        subject: &Text,
+        status: &Option<Text>,
+        requestors: &Texts,
+    ) -> Result<(), Refusal>
+        ensures asks { Passes result
+            (creating.conditions queue.now subject.now status.now requestors.now (call_of self.now) self.now.facts.now) }
+        ensures fits { OnOk result (self.now.facts.now.request_count + 1 < 2 ^ 32) }
     {
         if !is_subject(subject.as_str()) {
             return Err(Refusal::BadText);
@@ -48,21 +58,13 @@ impl Context<'_> {
             return Err(Refusal::UnknownName);
         }
         self.ask_on_queue(right::CREATE_TICKET, queue)?;
-        let first = first_status(lifecycle, status);
-        if !is_creatable(lifecycle, first) {
+        if !is_creatable(lifecycle, first_status(lifecycle, status)) {
             return Err(Refusal::NoTransition);
         }
         if self.facts.request_count >= self.settings.max_requests() {
             return Err(Refusal::Full);
         }
-        let row = self.new_row(queue, subject, first)?;
-        let watchers = self.requestors(row.id, requestors)?;
-        let entries = vec![in self.alloc; self.filing(row.id, first)?]?;
-        Ok(Change::NewRequest(NewRequest {
-            row,
-            watchers,
-            entries: Sequence::from(entries),
-        }))
+        Ok(())
     }
 
     /// Whether all of these are persons of the settings.
@@ -74,10 +76,30 @@ impl Context<'_> {
             .all(|p| self.settings.people().knows(p.as_str()))
     }
 
+    fn created(
+        &self,
+        queue: &Text,
+        subject: &Text,
+        status: &Option<Text>,
+        requestors: &Texts,
+    ) -> Result<Change, AllocError>
+        requires { self.now.facts.now.request_count + 1 < 2 ^ 32 }
+        ensures { IfOk result (λ change. change ≡ creating.change queue.now subject.now status.now requestors.now
+            (call_of self.now) self.now.facts.now) }
+    {
+        let lifecycle = lifecycle_of(self.settings, &self.facts.queue);
+        let first = first_status(lifecycle, status);
+        let row = self.new_row(queue, subject, first)?;
+        let watchers = self.requestors_of(row.id, requestors)?;
+        let entry = self.first_entry(row.id, first)?;
+        let entries = Sequence::from(vec![in self.alloc; entry]?);
+        Ok(Change::filing(self.alloc, row, watchers, entries))
+    }
+
     /// The row of the next request.
     fn new_row(&self, queue: &Text, subject: &Text, status: &str) -> Result<RequestRow, AllocError>
-        requires { self.now.facts.now.request_count < 2 ^ 32 - 1 }
-        ensures { IfOk result (λ row. row ≡ new_row (self.now.facts.now.request_count + 1) self.now.moment
+        requires { self.now.facts.now.request_count + 1 < 2 ^ 32 }
+        ensures { IfOk result (λ row. row ≡ creating.new_row (self.now.facts.now.request_count + 1) self.now.moment
             queue.now subject.now status.now self.now.facts.now.queue) }
     {
         let level = match &self.facts.queue {
@@ -98,9 +120,9 @@ impl Context<'_> {
         })
     }
 
-    /// The entry of a request's filing.
-    fn filing(&self, id: u32, status: &str) -> Result<Entry, AllocError>
-        ensures { IfOk result (λ entry. entry ≡ filing id self.now.moment self.now.caller.now status.now) }
+    /// The first entry of a request.
+    fn first_entry(&self, id: u32, status: &str) -> Result<Entry, AllocError>
+        ensures { IfOk result (λ entry. entry ≡ creating.first_entry id (call_of self.now) status.now) }
     {
         Ok(Entry {
             id,
@@ -114,9 +136,8 @@ impl Context<'_> {
     }
 
     /// The persons given as requestors, each once, or the caller where none is given.
-    fn requestors(&self, id: u32, given: &Texts) -> Result<Sequence<Watcher>, AllocError>
-        ensures { IfOk result (λ watchers. watchers
-            ≡ map (watcher id Requestor) (in_order (given_or_caller self.now.caller.now given.now))) }
+    fn requestors_of(&self, id: u32, given: &Texts) -> Result<Sequence<Watcher>, AllocError>
+        ensures { IfOk result (λ watchers. watchers ≡ creating.requestors_of id (call_of self.now) given.now) }
     {
         let persons = if given.is_empty() {
             Texts::from(vec![in self.alloc; Text::new(self.alloc, self.caller)?]?)
@@ -129,7 +150,7 @@ impl Context<'_> {
 
 /// The persons as requestors of a request.
 fn as_requestors(alloc: Global, id: u32, persons: Texts) -> Result<Sequence<Watcher>, AllocError>
-    ensures { IfOk result (λ watchers. watchers ≡ map (watcher id Requestor) persons) }
+    ensures { IfOk result (λ watchers. watchers ≡ map (creating.requestor id) persons) }
 {
     let mut watchers = Vec::with_capacity(alloc, persons.len())?;
     for person in persons.as_slice() {
@@ -144,7 +165,7 @@ fn as_requestors(alloc: Global, id: u32, persons: Texts) -> Result<Sequence<Watc
 
 /// Whether a status that is given is one of the lifecycle's.
 fn has_given(lifecycle: Option<&Lifecycle>, given: &Option<Text>) -> bool
-    ensures { result ≡ guard.has_given (option_map (λ l. l.now) lifecycle.entry) given.now }
+    ensures { result ≡ lifecycles.has_given (option_map (λ l. l.now) lifecycle.entry) given.now }
 {
     match given {
         Some(status) => has_status(lifecycle, status),
@@ -154,7 +175,7 @@ fn has_given(lifecycle: Option<&Lifecycle>, given: &Option<Text>) -> bool
 
 /// The status given, or else the one that the lifecycle begins with.
 fn first_status<'s>(lifecycle: Option<&'s Lifecycle>, given: &'s Option<Text>) -> &'s str
-    ensures { result.now ≡ guard.first_status (option_map (λ l. l.now) lifecycle.entry) given.entry.now }
+    ensures { result.now ≡ lifecycles.first_status (option_map (λ l. l.now) lifecycle.entry) given.entry.now }
 {
     match (given, lifecycle) {
         (Some(status), _) => status.as_str(),

@@ -1,7 +1,6 @@
 ghost use Rattle.std.specs.Prelude.{◌≡◌};
 ghost use Rattle.std.specs.Option.{option_map};
-ghost use Rattle.desk_core.specs.Guard as guard;
-ghost use Rattle.desk_core.specs.Effect as effect;
+ghost use Rattle.desk_core.specs.Lifecycles as lifecycles;
 
 use crate::rows::QueueRow;
 use lifecycle_core::{Class, Lifecycle};
@@ -13,7 +12,7 @@ pub(super) fn lifecycle_of<'s>(
     settings: &'s Settings,
     queue: &Option<QueueRow>,
 ) -> Option<&'s Lifecycle>
-    ensures { option_map (λ l. l.now) result ≡ guard.lifecycle_of settings.now queue.now }
+    ensures { option_map (λ l. l.now) result ≡ lifecycles.lifecycle_of settings.now queue.now }
 {
     match queue {
         Some(queue) => settings.lifecycle(queue.lifecycle.as_str()),
@@ -23,7 +22,7 @@ pub(super) fn lifecycle_of<'s>(
 
 /// Whether the status is one of the lifecycle's.
 pub(super) fn has_status(lifecycle: Option<&Lifecycle>, status: &Text) -> bool
-    ensures { result ≡ guard.has_status (option_map (λ l. l.now) lifecycle.entry) status.now }
+    ensures { result ≡ lifecycles.has_status (option_map (λ l. l.now) lifecycle.entry) status.now }
 {
     match lifecycle {
         Some(lifecycle) => lifecycle.class(status.as_str()).is_some(),
@@ -33,7 +32,7 @@ pub(super) fn has_status(lifecycle: Option<&Lifecycle>, status: &Text) -> bool
 
 /// Whether a request may be filed in the status.
 pub(super) fn is_creatable(lifecycle: Option<&Lifecycle>, status: &str) -> bool
-    ensures { result ≡ guard.is_creatable (option_map (λ l. l.now) lifecycle.entry) status.now }
+    ensures { result ≡ lifecycles.is_creatable (option_map (λ l. l.now) lifecycle.entry) status.now }
 {
     match lifecycle {
         Some(lifecycle) => lifecycle.may_create(status),
@@ -43,7 +42,7 @@ pub(super) fn is_creatable(lifecycle: Option<&Lifecycle>, status: &str) -> bool
 
 /// Whether a request may move from the one status to the other.
 pub(super) fn is_allowed(lifecycle: Option<&Lifecycle>, from: &Text, to: &Text) -> bool
-    ensures { result ≡ guard.is_allowed (option_map (λ l. l.now) lifecycle.entry) from.now to.now }
+    ensures { result ≡ lifecycles.is_allowed (option_map (λ l. l.now) lifecycle.entry) from.now to.now }
 {
     match lifecycle {
         Some(lifecycle) => lifecycle.may_move(from.as_str(), to.as_str()),
@@ -53,7 +52,7 @@ pub(super) fn is_allowed(lifecycle: Option<&Lifecycle>, from: &Text, to: &Text) 
 
 /// The right that a move asks for.
 pub(super) fn right_of<'s>(lifecycle: Option<&'s Lifecycle>, from: &Text, to: &Text) -> &'s str
-    ensures { result.now ≡ guard.right_of (option_map (λ l. l.now) lifecycle.entry) from.now to.now }
+    ensures { result.now ≡ lifecycles.right_of (option_map (λ l. l.now) lifecycle.entry) from.now to.now }
 {
     match lifecycle {
         Some(lifecycle) => lifecycle.right_for(from.as_str(), to.as_str()),
@@ -63,13 +62,13 @@ pub(super) fn right_of<'s>(lifecycle: Option<&'s Lifecycle>, from: &Text, to: &T
 
 /// Whether a move leads from an inactive status to one that isn't.
 pub(super) fn opens_anew(lifecycle: Option<&Lifecycle>, from: &Text, to: &Text) -> bool
-    ensures { result ≡ effect.opens_anew (option_map (λ l. l.now) lifecycle.entry) from.now to.now }
+    ensures { result ≡ lifecycles.opens_anew (option_map (λ l. l.now) lifecycle.entry) from.now to.now }
 {
     is_inactive(lifecycle, from) && !is_inactive(lifecycle, to)
 }
 
-fn is_inactive(lifecycle: Option<&Lifecycle>, status: &Text) -> bool
-    ensures { result ≡ effect.is_inactive (option_map (λ l. l.now) lifecycle.entry) status.now }
+pub(super) fn is_inactive(lifecycle: Option<&Lifecycle>, status: &Text) -> bool
+    ensures { result ≡ lifecycles.is_inactive (option_map (λ l. l.now) lifecycle.entry) status.now }
 {
     match lifecycle {
         Some(lifecycle) => match lifecycle.class(status.as_str()) {
@@ -77,5 +76,28 @@ fn is_inactive(lifecycle: Option<&Lifecycle>, status: &Text) -> bool
             _ => false,
         },
         None => false,
+    }
+}
+
+/// Whether the status is initial.
+pub(super) fn is_initial(lifecycle: Option<&Lifecycle>, status: &Text) -> bool
+    ensures { result ≡ lifecycles.is_initial (option_map (λ l. l.now) lifecycle.entry) status.now }
+{
+    match lifecycle {
+        Some(lifecycle) => match lifecycle.class(status.as_str()) {
+            Some(Class::Initial) => true,
+            _ => false,
+        },
+        None => false,
+    }
+}
+
+/// The status to which a request is opened again.
+pub(super) fn reopening_of<'s>(lifecycle: Option<&'s Lifecycle>, from: &Text) -> Option<&'s str>
+    ensures { option_map (λ s. s.now) result ≡ lifecycles.reopening_of (option_map (λ l. l.now) lifecycle.entry) from.now }
+{
+    match lifecycle {
+        Some(lifecycle) => lifecycle.reopen_to(from.as_str()),
+        None => None,
     }
 }

@@ -1,8 +1,9 @@
-ghost use Rattle.std.specs.Prelude.{◌≡◌, ◌≢◌, IfOk, IfErr, Ok, Err};
-ghost use Rattle.desk_core.specs.Decision.{decided_on};
+ghost use Rattle.std.specs.Prelude.{◌≡◌};
+ghost use Rattle.desk_core.specs.Commands.OpenQueue as opening;
+ghost use Rattle.desk_core.specs.Condition.{Decides};
+ghost use Rattle.desk_core.specs.Context.{call_of};
 
 use crate::change::Change;
-use crate::command::Command;
 use crate::decision::Context;
 use crate::refusal::Refusal;
 use crate::rows::QueueRow;
@@ -21,11 +22,8 @@ impl Context<'_> {
         lifecycle: &Text,
         level: &Option<Text>,
     ) -> Result<Change, Refusal>
-        ensures ok { IfOk result (λ change. decided_on self.now.settings.now self.now.moment self.now.caller.now
-            self.now.facts.now (Command.OpenQueue name.now lifecycle.now level.now) ≡ Ok change) }
-        ensures err { IfErr result (λ refusal. refusal ≢ Refusal.Unavailable
-            → decided_on self.now.settings.now self.now.moment self.now.caller.now self.now.facts.now
-            (Command.OpenQueue name.now lifecycle.now level.now) ≡ Err refusal) }
+        ensures { Decides result (opening.conditions name.now lifecycle.now level.now (call_of self.now) self.now.facts.now)
+            (opening.change name.now lifecycle.now level.now (call_of self.now) self.now.facts.now) }
     {
         if !is_name(name.as_str()) {
             return Err(Refusal::BadText);
@@ -40,10 +38,21 @@ impl Context<'_> {
         if self.facts.queue_count >= MAX_QUEUES {
             return Err(Refusal::Full);
         }
-        Ok(Change::Queue(QueueRow {
+        let queue = QueueRow {
             name: name.clone()?,
             lifecycle: lifecycle.clone()?,
             level: level.clone()?,
-        }))
+        };
+        Ok(Change::opening(self.alloc, queue))
+    }
+
+    /// Whether a level that is given is one of the settings.
+    pub(super) fn knows_level(&self, level: &Option<Text>) -> bool
+        ensures { result ≡ opening.knows_level self.now.settings.now level.now }
+    {
+        match level {
+            Some(level) => self.settings.level(level.as_str()).is_some(),
+            None => true,
+        }
     }
 }

@@ -1,71 +1,67 @@
-ghost use Rattle.std.specs.Prelude.{◌≡◌, ◌≢◌, IfOk, IfErr, Ok, Err, ℕ, ◌+◌, ◌-◌, ◌^◌, ◌<◌};
-ghost use Rattle.desk_core.specs.Decision.{decided_on};
-ghost use Rattle.desk_core.specs.Effect as effect;
-ghost use Rattle.desk_core.specs.Guard as guard;
+ghost use Rattle.std.specs.Prelude.{◌≡◌, ◌+◌, ◌^◌, ◌<◌, IfOk, OnOk};
+ghost use Rattle.desk_core.specs.Commands.SetLevel as levelling;
+ghost use Rattle.desk_core.specs.Condition.{Decides, Passes};
+ghost use Rattle.desk_core.specs.Context.{call_of};
 
-use crate::change::{Change, RequestChange};
-use crate::command::Command;
+use crate::change::Change;
 use crate::decision::Context;
-use crate::facts::RequestFacts;
+use crate::facts::Standing;
 use crate::refusal::Refusal;
-use crate::rows::{Entry, EntryKind};
+use crate::rows::{EntryKind, RequestRow};
+use rights_core::right;
 use std::alloc::{AllocError, Global};
 use text_core::{Sequence, Text};
 
 impl Context<'_> {
     /// Gives the request another level, or none.
-    pub(super) fn set_level(&self, level: &Option<Text>) -> Result<Change, Refusal>
-        ensures ok { (id : ℕ) → IfOk result (λ change. decided_on self.now.settings.now self.now.moment
-            self.now.caller.now self.now.facts.now (Command.SetLevel id level.now) ≡ Ok change) }
-        ensures err { (id : ℕ) → IfErr result (λ refusal. refusal ≢ Refusal.Unavailable
-            → decided_on self.now.settings.now self.now.moment self.now.caller.now self.now.facts.now
-            (Command.SetLevel id level.now) ≡ Err refusal) }
+    pub(super) fn set_level(&self, on: &Standing, level: &Option<Text>) -> Result<Change, Refusal>
+        ensures { Decides result (levelling.conditions level.now (call_of self.now) self.now.facts.now on.now)
+            (levelling.change level.now (call_of self.now) self.now.facts.now on.now) }
     {
-        let Some(request) = &self.facts.request else {
-            return Err(Refusal::NotFound);
-        };
-        if !self.may_show(request) {
-            return Err(Refusal::NotFound);
-        }
+        self.ask_to_set_level(on, level)?;
+        Ok(self.levelled(on, level)?)
+    }
+
+    #[tactic(auto, unfolding(rights_core::specs::Right::modify_ticket))]
+    fn ask_to_set_level(&self, on: &Standing, level: &Option<Text>) -> Result<(), Refusal>
+        ensures asks { Passes result (levelling.conditions level.now (call_of self.now) self.now.facts.now on.now) }
+        ensures fits { OnOk result (on.now.entry_count + 1 < 2 ^ 32) }
+    {
         if !self.knows_level(level) {
             return Err(Refusal::UnknownName);
         }
-        self.ask_to_modify(request)?;
-        if is_same_level(&request.row.level, level) {
+        self.ask(right::MODIFY_TICKET, on)?;
+        if is_same_level(&on.row.level, level) {
             return Err(Refusal::NoChange);
         }
-        if request.entry_count >= self.settings.max_entries() {
-            return Err(Refusal::Full);
-        }
-        let mut row = request.row.clone()?;
-        row.level = level.clone()?;
-        let entries = vec![in self.alloc; self.levelling(request, level)?]?;
-        Ok(Change::Request(RequestChange {
-            row,
-            entries: Sequence::from(entries),
-        }))
+        self.ask_for_room(on, 1)
     }
 
-    /// The entry of the level.
-    fn levelling(&self, request: &RequestFacts, level: &Option<Text>) -> Result<Entry, AllocError>
-        requires { request.now.entry_count < 2 ^ 32 - 1 }
-        ensures { IfOk result (λ entry. entry ≡ effect.levelling request.now.row.id (request.now.entry_count + 1)
-            self.now.moment self.now.caller.now request.now.row.level level.now) }
+    fn levelled(&self, on: &Standing, level: &Option<Text>) -> Result<Change, AllocError>
+        requires { on.now.entry_count + 1 < 2 ^ 32 }
+        ensures { IfOk result (λ change. change
+            ≡ levelling.change level.now (call_of self.now) self.now.facts.now on.now) }
     {
-        Ok(Entry {
-            id: request.row.id,
-            number: request.entry_count + 1,
-            moment: self.moment,
-            actor: Text::new(self.alloc, self.caller)?,
-            kind: EntryKind::Level,
-            head: level_word(self.alloc, &request.row.level)?,
-            body: level_word(self.alloc, level)?,
-        })
+        let old = level_word(self.alloc, &on.row.level)?;
+        let new = level_word(self.alloc, level)?;
+        let entry = self.entry(on, 1, EntryKind::Level, old, new)?;
+        let row = with_level(&on.row, level)?;
+        let entries = Sequence::from(vec![in self.alloc; entry]?);
+        Ok(Change::revising(self.alloc, row, entries))
     }
 }
 
+/// The row with this level, or with none.
+fn with_level(row: &RequestRow, level: &Option<Text>) -> Result<RequestRow, AllocError>
+    ensures { IfOk result (λ levelled. levelled ≡ levelling.with_level level.now row.now) }
+{
+    let mut levelled = row.clone()?;
+    levelled.level = level.clone()?;
+    Ok(levelled)
+}
+
 fn is_same_level(a: &Option<Text>, b: &Option<Text>) -> bool
-    ensures { result ≡ guard.is_same_level a.now b.now }
+    ensures { result ≡ levelling.is_same_level a.now b.now }
 {
     match (a, b) {
         (Some(a), Some(b)) => *a == *b,
@@ -76,7 +72,7 @@ fn is_same_level(a: &Option<Text>, b: &Option<Text>) -> bool
 
 /// A level in an entry, or a dash for none.
 fn level_word(alloc: Global, level: &Option<Text>) -> Result<Text, AllocError>
-    ensures { IfOk result (λ word. word ≡ effect.level_word level.now) }
+    ensures { IfOk result (λ word. word ≡ levelling.level_word level.now) }
 {
     match level {
         Some(level) => level.clone(),

@@ -1,64 +1,57 @@
-ghost use Rattle.std.specs.Prelude.{◌≡◌, ◌≢◌, IfOk, IfErr, Ok, Err, ℕ, ◌+◌, ◌-◌, ◌^◌, ◌<◌};
+ghost use Rattle.std.specs.Prelude.{◌≡◌, ◌+◌, ◌^◌, ◌<◌, IfOk};
 ghost use Rattle.std.specs.Option.{option_map};
-ghost use Rattle.desk_core.specs.Decision.{decided_on};
-ghost use Rattle.desk_core.specs.Effect as effect;
+ghost use Rattle.desk_core.specs.Commands.SetStatus as setting;
+ghost use Rattle.desk_core.specs.Condition.{Decides};
+ghost use Rattle.desk_core.specs.Context.{call_of};
 
-use crate::change::{Change, RequestChange};
-use crate::command::Command;
+use crate::change::Change;
 use crate::decision::Context;
-use crate::decision::lifecycles::{has_status, is_allowed, lifecycle_of, opens_anew, right_of};
-use crate::facts::RequestFacts;
+use crate::decision::lifecycles::{
+    has_status, is_allowed, is_inactive, lifecycle_of, opens_anew, right_of,
+};
+use crate::facts::{Dependency, Standing};
 use crate::refusal::Refusal;
 use crate::rows::{Entry, EntryKind, RequestRow};
 use lifecycle_core::Lifecycle;
+use settings_core::Settings;
 use std::alloc::AllocError;
 use text_core::{Sequence, Text};
 
 impl Context<'_> {
     /// Moves the request to another status.
-    pub(super) fn set_status(&self, status: &Text) -> Result<Change, Refusal>
-        ensures ok { (id : ℕ) → IfOk result (λ change. decided_on self.now.settings.now self.now.moment
-            self.now.caller.now self.now.facts.now (Command.SetStatus id status.now) ≡ Ok change) }
-        ensures err { (id : ℕ) → IfErr result (λ refusal. refusal ≢ Refusal.Unavailable
-            → decided_on self.now.settings.now self.now.moment self.now.caller.now self.now.facts.now
-            (Command.SetStatus id status.now) ≡ Err refusal) }
+    pub(super) fn set_status(&self, on: &Standing, status: &Text) -> Result<Change, Refusal>
+        ensures { Decides result (setting.conditions status.now (call_of self.now) self.now.facts.now on.now)
+            (setting.change status.now (call_of self.now) self.now.facts.now on.now) }
     {
-        let Some(request) = &self.facts.request else {
-            return Err(Refusal::NotFound);
-        };
-        if !self.may_show(request) {
-            return Err(Refusal::NotFound);
-        }
         let lifecycle = lifecycle_of(self.settings, &self.facts.queue);
         if !has_status(lifecycle, status) {
             return Err(Refusal::UnknownName);
         }
-        self.ask_on(right_of(lifecycle, &request.row.status, status), request)?;
-        if request.row.status == *status {
+        self.ask(right_of(lifecycle, &on.row.status, status), on)?;
+        if on.row.status == *status {
             return Err(Refusal::NoChange);
         }
-        if !is_allowed(lifecycle, &request.row.status, status) {
+        if !is_allowed(lifecycle, &on.row.status, status) {
             return Err(Refusal::NoTransition);
         }
-        if request.entry_count >= self.settings.max_entries() {
-            return Err(Refusal::Full);
+        if is_inactive(lifecycle, status) && has_open(self.settings, &self.facts.dependencies) {
+            return Err(Refusal::OpenDependency);
         }
-        let row = self.moved_row(lifecycle, &request.row, status)?;
-        let entries = vec![in self.alloc; self.moving(request, status)?]?;
-        Ok(Change::Request(RequestChange {
-            row,
-            entries: Sequence::from(entries),
-        }))
+        self.ask_for_room(on, 1)?;
+        let entry = self.moving(on, 1, status)?;
+        let row = self.moved_row(lifecycle, &on.row, status)?;
+        let entries = Sequence::from(vec![in self.alloc; entry]?);
+        Ok(Change::revising(self.alloc, row, entries))
     }
 
-    /// The row after the move. A move out of the inactive statuses opens the request anew.
-    fn moved_row(
+    /// The row after a move. A move out of the inactive statuses opens the request anew.
+    pub(super) fn moved_row(
         &self,
         lifecycle: Option<&Lifecycle>,
         row: &RequestRow,
         status: &Text,
     ) -> Result<RequestRow, AllocError>
-        ensures { IfOk result (λ moved. moved ≡ effect.moved_row (option_map (λ l. l.now) lifecycle.entry)
+        ensures { IfOk result (λ moved. moved ≡ setting.moved_row (option_map (λ l. l.now) lifecycle.entry)
             self.now.moment status.now row.now) }
     {
         let mut moved = row.clone()?;
@@ -70,20 +63,38 @@ impl Context<'_> {
         Ok(moved)
     }
 
-    /// The entry of the move.
-    fn moving(&self, request: &RequestFacts, status: &Text) -> Result<Entry, AllocError>
-        requires { request.now.entry_count < 2 ^ 32 - 1 }
-        ensures { IfOk result (λ entry. entry ≡ effect.moving request.now.row.id (request.now.entry_count + 1)
-            self.now.moment self.now.caller.now request.now.row.status status.now) }
+    /// The entry of a move.
+    pub(super) fn moving(
+        &self,
+        on: &Standing,
+        number: u32,
+        status: &Text,
+    ) -> Result<Entry, AllocError>
+        requires { on.now.entry_count + number < 2 ^ 32 }
+        ensures { IfOk result (λ entry. entry ≡ setting.moving (call_of self.now) on.now number status.now) }
     {
-        Ok(Entry {
-            id: request.row.id,
-            number: request.entry_count + 1,
-            moment: self.moment,
-            actor: Text::new(self.alloc, self.caller)?,
-            kind: EntryKind::Status,
-            head: request.row.status.clone()?,
-            body: status.clone()?,
-        })
+        self.entry(
+            on,
+            number,
+            EntryKind::Status,
+            on.row.status.clone()?,
+            status.clone()?,
+        )
     }
+}
+
+/// Whether one of the requests that another one depends on isn't inactive.
+fn has_open(settings: &Settings, dependencies: &Sequence<Dependency>) -> bool
+    ensures { result ≡ setting.has_open settings.now dependencies.now }
+{
+    dependencies.as_slice().iter().any(|d| is_open(settings, d))
+}
+
+fn is_open(settings: &Settings, dependency: &Dependency) -> bool
+    ensures { result ≡ setting.is_open settings.now dependency.now }
+{
+    !is_inactive(
+        settings.lifecycle(dependency.lifecycle.as_str()),
+        &dependency.status,
+    )
 }

@@ -1,0 +1,33 @@
+-- Links a request with another one.
+use Rattle.std.specs.Prelude.{ℕ, ◌==◌, not, List, [], ◌∷◌, Some, codes, decimal}
+use Rattle.rights_core.specs.Right.{modify_ticket}
+use Rattle.desk_core.specs.Change.{linking}
+use Rattle.desk_core.specs.Condition.{Condition}
+use Rattle.desk_core.specs.Entries.{entry_of, lacks_room}
+use Rattle.desk_core.specs.Links.{link}
+use Rattle.desk_core.specs.Plan.{Call}
+use Rattle.desk_core.specs.Rights.{holds_on}
+use Rattle.desk_core.specs.declared.change.Change.{Change}
+use Rattle.desk_core.specs.declared.facts.Facts.{Facts}
+use Rattle.desk_core.specs.declared.facts.Standing.{Standing}
+use Rattle.desk_core.specs.declared.refusal.Refusal.TheVariants.{Denied, NoChange, SelfLink, Full}
+use Rattle.desk_core.specs.declared.rows.EntryKind.TheVariants as entry
+use Rattle.desk_core.specs.declared.rows.LinkKind.{LinkKind}
+use Rattle.desk_core.specs.declared.rows.LinkKind.TheVariants.{DependsOn, MemberOf, RefersTo}
+
+abbrev pub kind_word : LinkKind → List ℕ
+kind_word DependsOn = codes "DependsOn"
+kind_word MemberOf = codes "MemberOf"
+kind_word RefersTo = codes "RefersTo"
+
+abbrev pub conditions : ℕ → Call → Facts → Standing → List Condition
+conditions other call facts on =
+    (Denied modify_ticket, not (holds_on call.settings call.caller modify_ticket on))
+    ∷ (NoChange, facts.is_linked)
+    ∷ (SelfLink, on.row.id == other)
+    ∷ (Full, lacks_room call on 1)
+    ∷ []
+
+abbrev pub change : LinkKind → ℕ → Call → Facts → Standing → Change
+change kind other call facts on =
+    linking (link on.row.id kind other) (entry_of call on 1 entry.Link (kind_word kind) (decimal other) ∷ [])

@@ -1,0 +1,35 @@
+-- Opens a queue.
+use Rattle.std.specs.Prelude.{ℕ, Bool, true, not, ◌||◌, List, [], ◌∷◌, nat_le, Option, Some, is_some, is_none}
+use Rattle.std.specs.Option.{option_map_or}
+use Rattle.text_core.specs.Form.{is_name}
+use Rattle.rights_core.specs.Right.{admin_queue}
+use Rattle.settings_core.specs.Settings.{lifecycle_named, level_named}
+use Rattle.settings_core.specs.declared.settings.Settings.{Settings}
+use Rattle.desk_core.specs.Change.{opening}
+use Rattle.desk_core.specs.Condition.{Condition}
+use Rattle.desk_core.specs.Plan.{Call}
+use Rattle.desk_core.specs.Rights.{holds_on_queue}
+use Rattle.desk_core.specs.declared.change.Change.{Change}
+use Rattle.desk_core.specs.declared.facts.Facts.{Facts}
+use Rattle.desk_core.specs.declared.refusal.Refusal.TheVariants.{BadText, UnknownName, Denied, Exists, Full}
+
+-- no more queues than these are opened
+abbrev pub queue_limit : ℕ
+queue_limit = 1000
+
+-- a level that is given is one of the settings
+abbrev pub knows_level : Settings → Option (List ℕ) → Bool
+knows_level settings level = option_map_or (λ l. is_some (level_named settings l)) level true
+
+abbrev pub conditions : List ℕ → List ℕ → Option (List ℕ) → Call → Facts → List Condition
+conditions name lifecycle level call facts =
+    (BadText, not (is_name name))
+    ∷ (UnknownName, is_none (lifecycle_named call.settings lifecycle) || not (knows_level call.settings level))
+    ∷ (Denied admin_queue, not (holds_on_queue call.settings call.caller admin_queue name))
+    ∷ (Exists, is_some facts.queue)
+    ∷ (Full, nat_le queue_limit facts.queue_count)
+    ∷ []
+
+abbrev pub change : List ℕ → List ℕ → Option (List ℕ) → Call → Facts → Change
+change name lifecycle level call facts =
+    opening (record { name = name; lifecycle = lifecycle; level = level })

@@ -1,0 +1,21 @@
+-- Leaves a request that the caller owns without an owner.
+use Rattle.std.specs.Prelude.{ℕ, not, List, [], ◌∷◌, None, is_none}
+use Rattle.desk_core.specs.Commands.Take.{owned_by}
+use Rattle.desk_core.specs.Condition.{Condition}
+use Rattle.desk_core.specs.Entries.{lacks_room}
+use Rattle.desk_core.specs.Plan.{Call}
+use Rattle.desk_core.specs.Rights.{owns}
+use Rattle.desk_core.specs.declared.change.Change.{Change}
+use Rattle.desk_core.specs.declared.facts.Facts.{Facts}
+use Rattle.desk_core.specs.declared.facts.Standing.{Standing}
+use Rattle.desk_core.specs.declared.refusal.Refusal.TheVariants.{NotOwned, NotOwner, Full}
+
+abbrev pub conditions : Call → Facts → Standing → List Condition
+conditions call facts on =
+    (NotOwned, is_none on.row.owner)
+    ∷ (NotOwner, not (owns call.caller on))
+    ∷ (Full, lacks_room call on 1)
+    ∷ []
+
+abbrev pub change : Call → Facts → Standing → Change
+change call facts on = owned_by None call on

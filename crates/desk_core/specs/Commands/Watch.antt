@@ -1,0 +1,52 @@
+-- Puts a person into a role on a request.
+use Rattle.std.specs.Prelude.{ℕ, Bool, not, ◌&&◌, ◌||◌, List, [], ◌∷◌, codes}
+use Rattle.std.specs.Str.{bytes_eq}
+use Rattle.rights_core.specs.Right.{modify_ticket, watch, watch_as_admin_cc}
+use Rattle.settings_core.specs.Settings.{knows}
+use Rattle.desk_core.specs.Change.{putting}
+use Rattle.desk_core.specs.Condition.{Condition}
+use Rattle.desk_core.specs.Entries.{entry_of, lacks_room}
+use Rattle.desk_core.specs.Plan.{Call}
+use Rattle.desk_core.specs.Rights.{holds_on, is_among}
+use Rattle.desk_core.specs.declared.change.Change.{Change}
+use Rattle.desk_core.specs.declared.facts.Facts.{Facts}
+use Rattle.desk_core.specs.declared.facts.Standing.{Standing}
+use Rattle.desk_core.specs.declared.refusal.Refusal.TheVariants.{UnknownName, Denied, NoChange, Full}
+use Rattle.desk_core.specs.declared.rows.EntryKind.TheVariants as kind
+use Rattle.desk_core.specs.declared.rows.WatchRole.{WatchRole}
+use Rattle.desk_core.specs.declared.rows.WatchRole.TheVariants.{Requestor, Cc, AdminCc}
+
+abbrev pub persons_in : WatchRole → Standing → List (List ℕ)
+persons_in Requestor on = on.requestors
+persons_in Cc on = on.cc
+persons_in AdminCc on = on.admin_cc
+
+-- the right to put oneself into a role
+abbrev pub right_to_watch : WatchRole → List ℕ
+right_to_watch Requestor = watch
+right_to_watch Cc = watch
+right_to_watch AdminCc = watch_as_admin_cc
+
+abbrev pub role_word : WatchRole → List ℕ
+role_word Requestor = codes "requestor"
+role_word Cc = codes "cc"
+role_word AdminCc = codes "admincc"
+
+-- the caller may modify the request, or names himself and may watch it: to put into a role, and to take out of it
+abbrev pub may_put : WatchRole → List ℕ → Call → Standing → Bool
+may_put role person call on =
+    holds_on call.settings call.caller modify_ticket on
+    || (bytes_eq person call.caller && holds_on call.settings call.caller (right_to_watch role) on)
+
+abbrev pub conditions : WatchRole → List ℕ → Call → Facts → Standing → List Condition
+conditions role person call facts on =
+    (UnknownName, not (knows call.settings person))
+    ∷ (Denied modify_ticket, not (may_put role person call on))
+    ∷ (NoChange, is_among (persons_in role on) person)
+    ∷ (Full, lacks_room call on 1)
+    ∷ []
+
+abbrev pub change : WatchRole → List ℕ → Call → Facts → Standing → Change
+change role person call facts on =
+    putting (record { id = on.row.id; role = role; person = person } ∷ [])
+    (entry_of call on 1 kind.Watch (role_word role) person ∷ [])

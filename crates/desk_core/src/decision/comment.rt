@@ -1,0 +1,42 @@
+ghost use Rattle.std.specs.Prelude.{◌≡◌, ◌+◌, ◌^◌, ◌<◌, IfOk, OnOk};
+ghost use Rattle.desk_core.specs.Commands.Comment as commenting;
+ghost use Rattle.desk_core.specs.Condition.{Decides, Passes};
+ghost use Rattle.desk_core.specs.Context.{call_of};
+
+use crate::change::Change;
+use crate::decision::Context;
+use crate::facts::Standing;
+use crate::refusal::Refusal;
+use crate::rows::EntryKind;
+use rights_core::right;
+use std::alloc::AllocError;
+use text_core::{Sequence, Text};
+
+impl Context<'_> {
+    /// Comments on the request.
+    pub(super) fn comment(&self, on: &Standing, text: &Text) -> Result<Change, Refusal>
+        ensures { Decides result (commenting.conditions (call_of self.now) self.now.facts.now on.now)
+            (commenting.change text.now (call_of self.now) self.now.facts.now on.now) }
+    {
+        self.ask_to_comment(on)?;
+        Ok(self.commented(on, text)?)
+    }
+
+    #[tactic(auto, unfolding(rights_core::specs::Right::comment_on_ticket))]
+    fn ask_to_comment(&self, on: &Standing) -> Result<(), Refusal>
+        ensures asks { Passes result (commenting.conditions (call_of self.now) self.now.facts.now on.now) }
+        ensures fits { OnOk result (on.now.entry_count + 1 < 2 ^ 32) }
+    {
+        self.ask(right::COMMENT_ON_TICKET, on)?;
+        self.ask_for_room(on, 1)
+    }
+
+    fn commented(&self, on: &Standing, text: &Text) -> Result<Change, AllocError>
+        requires { on.now.entry_count + 1 < 2 ^ 32 }
+        ensures { IfOk result (λ change. change ≡ commenting.change text.now (call_of self.now) self.now.facts.now on.now) }
+    {
+        let empty = Text::new(self.alloc, "")?;
+        let entry = self.entry(on, 1, EntryKind::Comment, empty, text.clone()?)?;
+        Ok(Change::noting(self.alloc, Sequence::from(vec![in self.alloc; entry]?)))
+    }
+}

@@ -1,0 +1,59 @@
+ghost use Rattle.std.specs.Prelude.{◌≡◌, ◌+◌, ◌^◌, ◌<◌, OnOk};
+ghost use Rattle.desk_core.specs.Commands.Give as giving;
+ghost use Rattle.desk_core.specs.Condition.{Decides, Passes};
+ghost use Rattle.rights_core.specs.Right.{own_ticket};
+ghost use Rattle.desk_core.specs.Rights as rights;
+ghost use Rattle.desk_core.specs.Context.{call_of};
+
+use crate::change::Change;
+use crate::decision::Context;
+use crate::facts::Standing;
+use crate::refusal::Refusal;
+use rights_core::right;
+use text_core::Text;
+
+impl Context<'_> {
+    /// Makes a person the owner of a request.
+    pub(super) fn give(&self, on: &Standing, person: &Text) -> Result<Change, Refusal>
+        ensures { Decides result (giving.conditions person.now (call_of self.now) self.now.facts.now on.now)
+            (giving.change person.now (call_of self.now) self.now.facts.now on.now) }
+    {
+        self.ask_to_give(on, person)?;
+        Ok(self.owned_by(Some(person.clone()?), on)?)
+    }
+
+    #[tactic(auto, unfolding(rights_core::specs::Right::reassign_ticket, rights_core::specs::Right::own_ticket))]
+    fn ask_to_give(&self, on: &Standing, person: &Text) -> Result<(), Refusal>
+        ensures asks { Passes result (giving.conditions person.now (call_of self.now) self.now.facts.now on.now) }
+        ensures fits { OnOk result (on.now.entry_count + 1 < 2 ^ 32) }
+    {
+        if !self.settings.people().knows(person.as_str()) {
+            return Err(Refusal::UnknownName);
+        }
+        if !self.may_give(on) {
+            return Err(self.denied(right::REASSIGN_TICKET));
+        }
+        if !self.may_own(person, on) {
+            return Err(self.denied(right::OWN_TICKET));
+        }
+        if on.is_owned_by(person.as_str()) {
+            return Err(Refusal::NoChange);
+        }
+        self.ask_for_room(on, 1)
+    }
+
+    #[tactic(auto, unfolding(rights_core::specs::Right::own_ticket))]
+    fn may_own(&self, person: &Text, on: &Standing) -> bool
+        ensures { result ≡ rights.holds_on self.now.settings.now person.now own_ticket on.now }
+    {
+        self.holds(person.as_str(), right::OWN_TICKET, on)
+    }
+
+    /// Whether the caller owns the request, or may give away what others own.
+    #[tactic(auto, unfolding(rights_core::specs::Right::reassign_ticket))]
+    fn may_give(&self, on: &Standing) -> bool
+        ensures { result ≡ giving.may_give (call_of self.now) on.now }
+    {
+        on.is_owned_by(self.caller) || self.holds(self.caller, right::REASSIGN_TICKET, on)
+    }
+}

@@ -1,0 +1,72 @@
+ghost use Rattle.std.specs.Prelude.{◌≡◌, ◌==◌, ◌+◌, ◌^◌, ◌<◌, IfOk, OnOk, Some, decimal};
+ghost use Rattle.desk_core.specs.Commands.Link as linking;
+ghost use Rattle.desk_core.specs.Condition.{Decides, Passes};
+ghost use Rattle.desk_core.specs.Context.{call_of};
+
+use crate::change::Change;
+use crate::decision::Context;
+use crate::facts::Standing;
+use crate::refusal::Refusal;
+use crate::rows::{EntryKind, LinkKind, LinkRow};
+use rights_core::right;
+use std::alloc::{AllocError, Global};
+use text_core::{Sequence, Text};
+
+impl Context<'_> {
+    /// Links the request with another one.
+    pub(super) fn link(&self, on: &Standing, kind: LinkKind, other: u32) -> Result<Change, Refusal>
+        ensures { Decides result (linking.conditions other (call_of self.now) self.now.facts.now on.now)
+            (linking.change kind other (call_of self.now) self.now.facts.now on.now) }
+    {
+        self.ask_to_link(on, other)?;
+        Ok(self.linked(on, kind, other)?)
+    }
+
+    #[tactic(auto, unfolding(rights_core::specs::Right::modify_ticket))]
+    fn ask_to_link(&self, on: &Standing, other: u32) -> Result<(), Refusal>
+        ensures asks { Passes result (linking.conditions other (call_of self.now) self.now.facts.now on.now) }
+        ensures fits { OnOk result (on.now.entry_count + 1 < 2 ^ 32) }
+    {
+        self.ask(right::MODIFY_TICKET, on)?;
+        if self.facts.is_linked {
+            return Err(Refusal::NoChange);
+        }
+        if on.row.id == other {
+            return Err(Refusal::SelfLink);
+        }
+        self.ask_for_room(on, 1)
+    }
+
+    fn linked(&self, on: &Standing, kind: LinkKind, other: u32) -> Result<Change, AllocError>
+        requires { on.now.entry_count + 1 < 2 ^ 32 }
+        ensures { IfOk result (λ change. change ≡ linking.change kind other (call_of self.now) self.now.facts.now on.now) }
+    {
+        let head = Text::new(self.alloc, kind_word(kind))?;
+        let body = in_digits(self.alloc, other)?;
+        let entry = self.entry(on, 1, EntryKind::Link, head, body)?;
+        let link = LinkRow {
+            source: on.row.id,
+            kind,
+            target: other,
+        };
+        let entries = Sequence::from(vec![in self.alloc; entry]?);
+        Ok(Change::linking(self.alloc, link, entries))
+    }
+}
+
+pub(super) fn kind_word(kind: LinkKind) -> &'static str
+    ensures { result.now ≡ linking.kind_word kind }
+{
+    match kind {
+        LinkKind::DependsOn => "DependsOn",
+        LinkKind::MemberOf => "MemberOf",
+        LinkKind::RefersTo => "RefersTo",
+    }
+}
+
+/// The number in digits.
+pub(super) fn in_digits(alloc: Global, number: u32) -> Result<Text, AllocError>
+    ensures { IfOk result (λ text. text ≡ decimal number) }
+{
+    Ok(Text::from(format!(in alloc; "{number}")?))
+}

@@ -1,0 +1,151 @@
+ghost use Rattle.std.specs.Prelude.{◌≡◌, ◌+◌, ◌^◌, ◌<◌, ◌∷◌, [], IfOk, OnOk};
+ghost use Rattle.std.specs.Option.{option_map};
+ghost use Rattle.desk_core.specs.Commands.Reply as replying;
+ghost use Rattle.desk_core.specs.Entries.{entry_of};
+ghost use Rattle.desk_core.specs.declared.rows.EntryKind.TheVariants as kind;
+ghost use Rattle.desk_core.specs.Condition.{Decides, Passes};
+ghost use Rattle.desk_core.specs.Context.{call_of};
+
+use crate::change::Change;
+use crate::decision::Context;
+use crate::decision::lifecycles::{is_inactive, is_initial, lifecycle_of, reopening_of};
+use crate::facts::Standing;
+use crate::refusal::Refusal;
+use crate::rights::is_among;
+use crate::rows::{Entry, EntryKind, RequestRow, Turn};
+use hours_core::Minute;
+use lifecycle_core::Lifecycle;
+use rights_core::right;
+use std::alloc::AllocError;
+use text_core::{Sequence, Text};
+
+impl Context<'_> {
+    /// Replies to the request: the reply may open it again, and the turn passes.
+    pub(super) fn reply(&self, on: &Standing, text: &Text) -> Result<Change, Refusal>
+        ensures { Decides result (replying.conditions (call_of self.now) self.now.facts.now on.now)
+            (replying.change text.now (call_of self.now) self.now.facts.now on.now) }
+    {
+        self.ask_to_reply(on)?;
+        Ok(self.replied(on, text)?)
+    }
+
+    #[tactic(auto, unfolding(rights_core::specs::Right::reply_to_ticket))]
+    fn ask_to_reply(&self, on: &Standing) -> Result<(), Refusal>
+        ensures asks { Passes result (replying.conditions (call_of self.now) self.now.facts.now on.now) }
+        ensures fits { OnOk result (on.now.entry_count + replying.entries_wanted (call_of self.now) self.now.facts.now on.now < 2 ^ 32) }
+    {
+        self.ask(right::REPLY_TO_TICKET, on)?;
+        self.ask_for_room(on, self.entries_wanted(on)?)
+    }
+
+    /// How many entries a reply appends.
+    fn entries_wanted(&self, on: &Standing) -> Result<u32, AllocError>
+        ensures { IfOk result (λ count. count ≡ replying.entries_wanted (call_of self.now) self.now.facts.now on.now) }
+    {
+        let reopened = self.move_of(on)?;
+        Ok(entries_of_move(&reopened))
+    }
+
+    fn replied(&self, on: &Standing, text: &Text) -> Result<Change, AllocError>
+        requires { on.now.entry_count + replying.entries_wanted (call_of self.now) self.now.facts.now on.now < 2 ^ 32 }
+        ensures { IfOk result (λ change. change ≡ replying.change text.now (call_of self.now) self.now.facts.now on.now) }
+    {
+        let reopened = self.move_of(on)?;
+        let row = self.replied_row(on, &reopened)?;
+        let entries = self.entries_of_reply(on, text, &reopened)?;
+        Ok(Change::revising(self.alloc, row, entries))
+    }
+
+    /// The status that a reply moves the request to, if it moves it.
+    fn move_of(&self, on: &Standing) -> Result<Option<Text>, AllocError>
+        ensures { IfOk result (λ move. move ≡ replying.move_of (call_of self.now) self.now.facts.now on.now) }
+    {
+        let lifecycle = lifecycle_of(self.settings, &self.facts.queue);
+        let is_requestor = is_among(&on.requestors, self.caller);
+        match reopening(lifecycle, is_requestor, &on.row.status) {
+            Some(status) => Ok(Some(Text::new(self.alloc, status)?)),
+            None => Ok(None),
+        }
+    }
+
+    /// The row after a reply.
+    fn replied_row(&self, on: &Standing, reopened: &Option<Text>) -> Result<RequestRow, AllocError>
+        ensures { IfOk result (λ row. row ≡ replying.replied_row (call_of self.now) self.now.facts.now reopened.now on.now) }
+    {
+        let lifecycle = lifecycle_of(self.settings, &self.facts.queue);
+        let is_requestor = is_among(&on.requestors, self.caller);
+        let moved = match reopened {
+            Some(status) => self.moved_row(lifecycle, &on.row, status)?,
+            None => self.moved_row(lifecycle, &on.row, &on.row.status)?,
+        };
+        Ok(turned(is_requestor, self.moment, moved))
+    }
+
+    /// The entry of the reply, and that of the move.
+    fn entries_of_reply(
+        &self,
+        on: &Standing,
+        text: &Text,
+        reopened: &Option<Text>,
+    ) -> Result<Sequence<Entry>, AllocError>
+        requires { on.now.entry_count + replying.entries_of_move reopened.now < 2 ^ 32 }
+        ensures { IfOk result (λ entries. entries ≡ entry_of (call_of self.now) on.now 1 kind.Reply [] text.now
+            ∷ replying.second_entry (call_of self.now) on.now reopened.now) }
+    {
+        let empty = Text::new(self.alloc, "")?;
+        let mut entries = Vec::new(self.alloc);
+        match reopened {
+            Some(status) => {
+                entries.push(self.entry(on, 1, EntryKind::Reply, empty, text.clone()?)?)?;
+                entries.push(self.moving(on, 2, status)?)?;
+            }
+            None => {
+                entries.push(self.entry(on, 1, EntryKind::Reply, empty, text.clone()?)?)?;
+            }
+        }
+        Ok(Sequence::from(entries))
+    }
+}
+
+/// How many entries a reply appends.
+fn entries_of_move(reopened: &Option<Text>) -> u32
+    ensures { result ≡ replying.entries_of_move reopened.now }
+{
+    match reopened {
+        Some(_) => 2,
+        None => 1,
+    }
+}
+
+/// The status that a reply moves a request to, if it moves it.
+fn reopening<'s>(
+    lifecycle: Option<&'s Lifecycle>,
+    is_requestor: bool,
+    status: &Text,
+) -> Option<&'s str>
+    ensures { option_map (λ s. s.now) result
+        ≡ replying.reopening (option_map (λ l. l.now) lifecycle.entry) is_requestor status.now }
+{
+    if is_inactive(lifecycle, status) || (is_initial(lifecycle, status) && !is_requestor) {
+        reopening_of(lifecycle, status)
+    } else {
+        None
+    }
+}
+
+/// The row after the turn has passed.
+fn turned(is_requestor: bool, at: Minute, row: RequestRow) -> RequestRow
+    ensures { result ≡ replying.turned is_requestor at row }
+{
+    let mut turned = row;
+    if is_requestor {
+        if let Turn::Requestor = turned.turn {
+            turned.turn = Turn::Desk;
+            turned.since = at;
+        }
+    } else {
+        turned.turn = Turn::Requestor;
+        turned.since = at;
+    }
+    turned
+}

@@ -1,0 +1,59 @@
+ghost use Rattle.std.specs.Prelude.{◌≡◌, ◌+◌, ◌^◌, ◌<◌, IfOk, OnOk};
+ghost use Rattle.desk_core.specs.Commands.Unlink as unlinking;
+ghost use Rattle.desk_core.specs.Condition.{Decides, Passes};
+ghost use Rattle.desk_core.specs.Context.{call_of};
+
+use crate::change::Change;
+use crate::decision::Context;
+use crate::decision::link::{in_digits, kind_word};
+use crate::facts::Standing;
+use crate::refusal::Refusal;
+use crate::rows::{EntryKind, LinkKind, LinkRow};
+use rights_core::right;
+use std::alloc::AllocError;
+use text_core::{Sequence, Text};
+
+impl Context<'_> {
+    /// Takes away the link of the request with another one.
+    pub(super) fn unlink(
+        &self,
+        on: &Standing,
+        kind: LinkKind,
+        other: u32,
+    ) -> Result<Change, Refusal>
+        ensures { Decides result (unlinking.conditions (call_of self.now) self.now.facts.now on.now)
+            (unlinking.change kind other (call_of self.now) self.now.facts.now on.now) }
+    {
+        self.ask_to_unlink(on)?;
+        Ok(self.unlinked(on, kind, other)?)
+    }
+
+    #[tactic(auto, unfolding(rights_core::specs::Right::modify_ticket))]
+    fn ask_to_unlink(&self, on: &Standing) -> Result<(), Refusal>
+        ensures asks { Passes result (unlinking.conditions (call_of self.now) self.now.facts.now on.now) }
+        ensures fits { OnOk result (on.now.entry_count + 1 < 2 ^ 32) }
+    {
+        self.ask(right::MODIFY_TICKET, on)?;
+        if !self.facts.is_linked {
+            return Err(Refusal::NoChange);
+        }
+        self.ask_for_room(on, 1)
+    }
+
+    fn unlinked(&self, on: &Standing, kind: LinkKind, other: u32) -> Result<Change, AllocError>
+        requires { on.now.entry_count + 1 < 2 ^ 32 }
+        ensures { IfOk result (λ change. change
+            ≡ unlinking.change kind other (call_of self.now) self.now.facts.now on.now) }
+    {
+        let head = Text::new(self.alloc, kind_word(kind))?;
+        let body = in_digits(self.alloc, other)?;
+        let entry = self.entry(on, 1, EntryKind::Unlink, head, body)?;
+        let link = LinkRow {
+            source: on.row.id,
+            kind,
+            target: other,
+        };
+        let entries = Sequence::from(vec![in self.alloc; entry]?);
+        Ok(Change::unlinking(self.alloc, link, entries))
+    }
+}

@@ -1,0 +1,111 @@
+ghost use Rattle.std.specs.Prelude.{◌≡◌, ◌+◌, ◌^◌, ◌<◌, IfOk, OnOk};
+ghost use Rattle.desk_core.specs.Commands.Watch as watching;
+ghost use Rattle.desk_core.specs.Condition.{Decides, Passes};
+ghost use Rattle.desk_core.specs.Context.{call_of};
+
+use crate::change::Change;
+use crate::decision::Context;
+use crate::facts::Standing;
+use crate::refusal::Refusal;
+use crate::rights::is_among;
+use crate::rows::{EntryKind, WatchRole, Watcher};
+use rights_core::right;
+use std::alloc::AllocError;
+use text_core::{Sequence, Text, Texts};
+
+impl Context<'_> {
+    /// Puts a person into a role on the request.
+    pub(super) fn watch(
+        &self,
+        on: &Standing,
+        role: WatchRole,
+        person: &Text,
+    ) -> Result<Change, Refusal>
+        ensures { Decides result (watching.conditions role person.now (call_of self.now) self.now.facts.now on.now)
+            (watching.change role person.now (call_of self.now) self.now.facts.now on.now) }
+    {
+        self.ask_to_watch(on, role, person)?;
+        Ok(self.watched(on, role, person)?)
+    }
+
+    #[tactic(auto, unfolding(rights_core::specs::Right::modify_ticket))]
+    fn ask_to_watch(&self, on: &Standing, role: WatchRole, person: &Text) -> Result<(), Refusal>
+        ensures asks { Passes result (watching.conditions role person.now (call_of self.now) self.now.facts.now on.now) }
+        ensures fits { OnOk result (on.now.entry_count + 1 < 2 ^ 32) }
+    {
+        if !self.settings.people().knows(person.as_str()) {
+            return Err(Refusal::UnknownName);
+        }
+        if !self.may_put(on, role, person) {
+            return Err(self.denied(right::MODIFY_TICKET));
+        }
+        if is_among(persons_in(role, on), person.as_str()) {
+            return Err(Refusal::NoChange);
+        }
+        self.ask_for_room(on, 1)
+    }
+
+    fn watched(&self, on: &Standing, role: WatchRole, person: &Text) -> Result<Change, AllocError>
+        requires { on.now.entry_count + 1 < 2 ^ 32 }
+        ensures { IfOk result (λ change. change
+            ≡ watching.change role person.now (call_of self.now) self.now.facts.now on.now) }
+    {
+        let head = Text::new(self.alloc, role_word(role))?;
+        let entry = self.entry(on, 1, EntryKind::Watch, head, person.clone()?)?;
+        let put = Sequence::from(vec![in self.alloc; watcher(on, role, person)?]?);
+        let entries = Sequence::from(vec![in self.alloc; entry]?);
+        Ok(Change::putting(self.alloc, put, entries))
+    }
+
+    /// Whether the caller may modify the request, or names himself and may watch it.
+    #[tactic(auto, unfolding(rights_core::specs::Right::modify_ticket))]
+    pub(super) fn may_put(&self, on: &Standing, role: WatchRole, person: &Text) -> bool
+        ensures { result ≡ watching.may_put role person.now (call_of self.now) on.now }
+    {
+        self.holds(self.caller, right::MODIFY_TICKET, on)
+            || (person.as_str() == self.caller && self.holds(self.caller, right_to_watch(role), on))
+    }
+}
+
+/// The person in the role on the request.
+pub(super) fn watcher(on: &Standing, role: WatchRole, person: &Text) -> Result<Watcher, AllocError>
+    ensures { IfOk result (λ watcher. watcher ≡ record { id = on.now.row.id; role = role; person = person.now }) }
+{
+    Ok(Watcher {
+        id: on.row.id,
+        role,
+        person: person.clone()?,
+    })
+}
+
+pub(super) fn persons_in(role: WatchRole, on: &Standing) -> &Texts
+    ensures { result.now ≡ watching.persons_in role on.now }
+{
+    match role {
+        WatchRole::Requestor => &on.requestors,
+        WatchRole::Cc => &on.cc,
+        WatchRole::AdminCc => &on.admin_cc,
+    }
+}
+
+/// The right to put oneself into a role.
+#[tactic(auto, unfolding(rights_core::specs::Right::watch, rights_core::specs::Right::watch_as_admin_cc))]
+fn right_to_watch(role: WatchRole) -> &'static str
+    ensures { result.now ≡ watching.right_to_watch role }
+{
+    match role {
+        WatchRole::Requestor => right::WATCH,
+        WatchRole::Cc => right::WATCH,
+        WatchRole::AdminCc => right::WATCH_AS_ADMIN_CC,
+    }
+}
+
+pub(super) fn role_word(role: WatchRole) -> &'static str
+    ensures { result.now ≡ watching.role_word role }
+{
+    match role {
+        WatchRole::Requestor => "requestor",
+        WatchRole::Cc => "cc",
+        WatchRole::AdminCc => "admincc",
+    }
+}
