@@ -3,3 +3,4 @@ pub mod Depends
 pub mod Goes
 pub mod Kept
 pub mod Roles
+pub mod Unchanged
