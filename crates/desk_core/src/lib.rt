@@ -10,6 +10,7 @@ pub mod decision;
 pub mod due;
 pub mod facts;
 pub mod laws;
+pub mod links;
 pub mod names;
 pub mod refusal;
 pub mod rights;
@@ -21,6 +22,8 @@ pub use command::Command;
 pub use decision::decide;
 pub use due::due_of;
 pub use facts::{Dependency, Facts, Standing};
+pub use links::{is_kind, is_link, is_lower_link};
+pub use names::{with_name, without_name};
 pub use refusal::Refusal;
 pub use rights::{may_show, sees_queue};
 pub use rows::{

@@ -1,3 +1,6 @@
+ghost use Rattle.std.specs.Prelude.{◌≡◌};
+ghost use Rattle.desk_core.specs.Reading.{is_comment};
+
 use hours_core::Minute;
 use text_core::Text;
 
@@ -91,6 +94,18 @@ pub enum EntryKind {
     Unlink,
     /// Its level changed from `head` to `body`, where `-` stands for none.
     Level,
+}
+
+impl EntryKind {
+    /// Whether the entry is a comment.
+    pub fn is_comment(self) -> bool
+        ensures { result ≡ is_comment self }
+    {
+        match self {
+            EntryKind::Comment => true,
+            _ => false,
+        }
+    }
 }
 
 /// An entry of a request's history. The entries of a request are numbered from 1 without gaps.

@@ -4,7 +4,7 @@ use Rattle.std.specs.Option.{option_map}
 use Rattle.std.specs.List.{flat_map}
 use Rattle.hours_core.specs.Date.{text_of_minute}
 use Rattle.desk_core.specs.Refusals.{number_of, name_of}
-use Rattle.desk_core.specs.Step.{Reply}
+use Rattle.desk_core.specs.Step.{Outcome}
 use Rattle.desk_core.specs.declared.answer.Answer.{Answer}
 use Rattle.desk_core.specs.declared.answer.Answer.TheVariants as answer
 use Rattle.desk_core.specs.declared.answer.Links.{Links}
@@ -12,6 +12,7 @@ use Rattle.desk_core.specs.declared.answer.Shown.{Shown}
 use Rattle.desk_core.specs.declared.refusal.Refusal.{Refusal}
 use Rattle.desk_core.specs.declared.refusal.Refusal.TheVariants.{Denied}
 use Rattle.desk_core.specs.declared.rows.RequestRow.{RequestRow}
+use Rattle.service_core.specs.History.{history_text}
 use Rattle.service_core.specs.Queues.{queues_text}
 use Rattle.service_core.specs.Words.{or_dash}
 
@@ -88,6 +89,7 @@ answer_text answer.Done = done_text
 answer_text (answer.Created id) = created_text id
 answer_text (answer.Queues queues) = queues_text queues
 answer_text (answer.Shown shown) = show_text shown
+answer_text (answer.History entries) = history_text entries
 
 -- a refusal's number and name, and what stands behind them
 abbrev pub refused_text : Refusal → List ℕ → List ℕ
@@ -102,6 +104,6 @@ right_text other = []
 abbrev pub refusal_text : Refusal → List ℕ
 refusal_text refusal = refused_text refusal (right_text refusal)
 
-abbrev pub reply_text : Reply → List ℕ
-reply_text (Ok answer) = answer_text answer
-reply_text (Err refusal) = refusal_text refusal
+abbrev pub outcome_text : Outcome → List ℕ
+outcome_text (Ok answer) = answer_text answer
+outcome_text (Err refusal) = refusal_text refusal

@@ -1,12 +1,13 @@
 ghost use Rattle.std.specs.Prelude.{◌≡◌, ◌++◌, [], IfOk, codes, string_bytes};
 ghost use Rattle.service_core.specs.Texts as text;
 
+use crate::history::history_text;
 use crate::queues::queues_text;
 use crate::shown::show_text;
 use desk_core::{Answer, Refusal};
 use std::alloc::{AllocError, Global};
 
-/// The text of an answer: `ok`, `request N`, a line for each queue, or the lines of a request.
+/// The text of an answer: `ok`, `request N`, a line for each queue, the lines of a request, or one for each entry.
 pub fn answer_text(alloc: Global, answer: &Answer) -> Result<String, AllocError>
     ensures { IfOk result (λ t. string_bytes t ≡ text.answer_text answer.now) }
 {
@@ -15,6 +16,7 @@ pub fn answer_text(alloc: Global, answer: &Answer) -> Result<String, AllocError>
         Answer::Created(id) => created_text(alloc, *id),
         Answer::Queues(queues) => queues_text(alloc, queues.as_slice()),
         Answer::Shown(shown) => show_text(alloc, shown),
+        Answer::History(entries) => history_text(alloc, entries.as_slice()),
     }
 }
 
