@@ -1,9 +1,11 @@
 pub mod Bytes
-pub mod DeskRows
+pub mod Endings
+pub mod Failing
 pub mod Lists
 pub mod Marker
-pub mod Stays
-pub mod Printing
-pub mod Endings
-pub mod Writing
+pub mod Numbering
+pub mod OneRequest
 pub mod Parting
+pub mod Printing
+pub mod Stays
+pub mod Writing

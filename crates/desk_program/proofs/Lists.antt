@@ -1,8 +1,8 @@
--- Rows in a list: where a row is found, where a new one is put, and which one is replaced.
+-- Rows in a list: where a row is found, and where a new one is put.
 use Rattle.std.proofs.Common.{◌≡◌, ℕ, suc, ◌+◌, ◌≤◌, ◌<◌, Bool, true, false, cond, List, [], ◌∷◌, ◌++◌, map, find, length, Option, Some, None, refl, ap, arith}
 use Rattle.std.specs.Option.{option_map}
-use Rattle.std.specs.List.{position_from, insert, slice_set, slice_index_or}
-use Rattle.service_core.specs.Desk.{placed, replaced}
+use Rattle.std.specs.List.{position_from, insert}
+use Rattle.service_core.specs.Desk.{placed}
 
 find_cases : {A B : Type 0} (f : A → B) (b : Bool) (x : A) (o : Option B) (p : Option A) → o ≡ option_map f p
     → cond b (Some (f x)) o ≡ option_map f (cond b (Some x) p)
@@ -42,28 +42,6 @@ placed_last before x n (y ∷ ys) e =
       | false ↦ λ f. ap (λ l. y ∷ l) (placed_last before x (n + 1) ys f)
     ] e
 
--- what is replaced, from the place of the first element like it
-abbrev pub ReplacedAt : {A : Type 0} → (A → A → Bool) → List A → A → ℕ → ℕ → Type 0
-ReplacedAt {A} like xs x n i =
-    (k : ℕ) × (i ≡ n + k) × (k < length xs) × (replaced like xs x ≡ slice_set xs k x)
-    × ((d : A) → find (like x) xs ≡ Some (slice_index_or xs k d))
-
-replaced_later : {A : Type 0} (like : A → A → Bool) (y : A) (ys : List A) (x : A) (n i : ℕ) → ReplacedAt like ys x (n + 1) i
-    → (k : ℕ) × (i ≡ n + k) × (k < length (y ∷ ys)) × (y ∷ replaced like ys x ≡ slice_set (y ∷ ys) k x)
-    × ((d : A) → find (like x) ys ≡ Some (slice_index_or (y ∷ ys) k d))
-replaced_later like y ys x n i (k, at, within, same, found) = (suc k, omega arith, omega arith, ap (λ l. y ∷ l) same, found)
-
-pub replaced_at : {A : Type 0} (like : A → A → Bool) (x : A) (n : ℕ) (xs : List A) (i : ℕ)
-    → position_from (like x) n xs ≡ Some i → ReplacedAt like xs x n i
-replaced_at like x n [] i e = cc
-replaced_at {A} like x n (y ∷ ys) i e =
-    elim (like x y) as (λ b. cond b (Some n) (position_from (like x) (n + 1) ys) ≡ Some i
-    → (k : ℕ) × (i ≡ n + k) × (k < length (y ∷ ys)) × (cond b (x ∷ ys) (y ∷ replaced like ys x) ≡ slice_set (y ∷ ys) k x)
-    × ((d : A) → cond b (Some y) (find (like x) ys) ≡ Some (slice_index_or (y ∷ ys) k d))) [
-      | true ↦ λ f. let at : n ≡ i = cc in (0, omega arith, omega arith, refl, λ d. refl)
-      | false ↦ λ f. replaced_later like y ys x n i (replaced_at like x (n + 1) ys i f)
-    ] e
-
 pub not_found : {A : Type 0} (test : A → Bool) (n : ℕ) (xs : List A) → position_from test n xs ≡ None → find test xs ≡ None
 not_found test n [] e = refl
 not_found test n (y ∷ ys) e =
@@ -71,16 +49,6 @@ not_found test n (y ∷ ys) e =
       | true ↦ λ f. cc
       | false ↦ λ f. not_found test (n + 1) ys f
     ] e
-
-replaced_cases : {A B : Type 0} (f : A → B) (b : Bool) (x y : A) (ys : List A) (more : List B) (rest : List A) → more ≡ map f rest
-    → cond b (f x ∷ map f ys) (f y ∷ more) ≡ map f (cond b (x ∷ ys) (y ∷ rest))
-replaced_cases f true x y ys more rest e = refl
-replaced_cases f false x y ys more rest e = ap (λ l. f y ∷ l) e
-
-pub replaced-map : {A B : Type 0} (f : A → B) (like : B → B → Bool) (xs : List A) (x : A)
-    → replaced like (map f xs) (f x) ≡ map f (replaced (λ a b. like (f a) (f b)) xs x)
-replaced-map f like [] x = refl
-replaced-map f like (y ∷ ys) x = replaced_cases f (like (f x) (f y)) x y ys _ _ (replaced-map f like ys x)
 
 -- what is found is within the list
 pub within : {A : Type 0} (test : A → Bool) (n : ℕ) (xs : List A) (i : ℕ) → position_from test n xs ≡ Some i → i < n + length xs

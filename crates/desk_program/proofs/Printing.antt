@@ -6,8 +6,8 @@ use Rattle.desk_core.specs.declared.refusal.Refusal.TheVariants.{Unavailable}
 use Rattle.std.specs.Fmt.{digits, decimal}
 use Rattle.std.proofs.lemmas.List.{take-append-drop, take_more}
 use Rattle.service_core.specs.Desk.{Desk, empty_desk}
-use Rattle.service_core.specs.Step.{Ask, Reply, Runs}
-use Rattle.service_core.specs.Texts.{reply_text}
+use Rattle.service_core.specs.Step.{Ask, Outcome, Runs}
+use Rattle.service_core.specs.Texts.{outcome_text}
 use Rattle.wire_core.specs.Number.{number_of}
 use Rattle.wire_core.specs.Spelling.{command_of}
 use Rattle.wire_core.specs.Words.{words_of}
@@ -23,19 +23,19 @@ Prints settings (line ∷ rest) old text new =
     × LinePrints settings (said line) old first mid × Prints settings rest mid others new × (text ≡ first ++ others)
 
 -- a line, and then a run of the later commands
-step_of : (s : Settings) (line : Line) (asks : List Ask) (old mid new : Desk) (text : List ℕ) (replies : List Reply)
-    → LinePrints s line old text mid → Runs s mid asks replies new
-    → (all : List Reply) × Runs s old (with_asked line asks) all new × IsText line all replies text
-step_of s PassedOver asks old mid new text replies (shown, same) run =
-    (replies, subst (λ (d : Desk). Runs s d asks replies new) same run, (shown, refl))
-step_of s BadWords asks old mid new text replies (shown, same) run =
-    (replies, subst (λ (d : Desk). Runs s d asks replies new) same run, (shown, refl))
-step_of s (Asked at caller command) asks old mid new text replies (reply, steps, shown) run =
-    (reply ∷ replies, (mid, steps, run), (reply, refl, shown))
+step_of : (s : Settings) (line : Line) (asks : List Ask) (old mid new : Desk) (text : List ℕ) (outcomes : List Outcome)
+    → LinePrints s line old text mid → Runs s mid asks outcomes new
+    → (all : List Outcome) × Runs s old (with_asked line asks) all new × IsText line all outcomes text
+step_of s PassedOver asks old mid new text outcomes (shown, same) run =
+    (outcomes, subst (λ (d : Desk). Runs s d asks outcomes new) same run, (shown, refl))
+step_of s BadWords asks old mid new text outcomes (shown, same) run =
+    (outcomes, subst (λ (d : Desk). Runs s d asks outcomes new) same run, (shown, refl))
+step_of s (Asked at caller command) asks old mid new text outcomes (outcome, steps, shown) run =
+    (outcome ∷ outcomes, (mid, steps, run), (outcome, refl, shown))
 
 -- what lines print is of a run of their commands
 pub run_of : (s : Settings) (lines : List (List ℕ)) (old new : Desk) (text : List ℕ) → Prints s lines old text new
-    → (replies : List Reply) × Runs s old (asks_of lines) replies new × AreTexts lines replies text
+    → (outcomes : List Outcome) × Runs s old (asks_of lines) outcomes new × AreTexts lines outcomes text
 run_of s [] old new text (shown, same) = ([], same, (refl, shown))
 run_of s (line ∷ lines) old new text (first, others, mid, prints, later, whole) =
     let run = run_of s lines mid new others later in
@@ -67,7 +67,7 @@ sixteen : decimal 16 ≡ 49 ∷ 54 ∷ []
 unfolding digits
 sixteen = refl
 
-unavailable_is : unavailable_text ≡ reply_text (Err Unavailable)
+unavailable_is : unavailable_text ≡ outcome_text (Err Unavailable)
 unavailable_is = rw sixteen refl
 
 prints_something : (s : Settings) (line : Line) (old : Desk) → (text : List ℕ) × LinePrints s line old text old

@@ -1,18 +1,23 @@
 -- The desk that a list of rows stands for.
-use Rattle.std.specs.Prelude.{map}
+use Rattle.std.specs.Prelude.{List, map}
 use Rattle.service_core.specs.Desk.{Desk, Request}
-use Rattle.desk_program.specs.declared.rows.Kept.{Kept}
+use Rattle.desk_program.specs.declared.rows.records.Record.{Record}
+use Rattle.desk_program.specs.declared.rows.records.Records.{Records}
 use Rattle.desk_program.specs.declared.rows.Rows.{Rows}
 
-abbrev pub request_of : Kept → Request
+abbrev pub request_of : Record → Request
 request_of kept =
     record {
       row = kept.row;
-      requestors = kept.requestors;
-      cc = kept.cc;
-      admin_cc = kept.admin_cc;
+      requestors = kept.people.requestors;
+      cc = kept.people.cc;
+      admin_cc = kept.people.admin_cc;
       entries = kept.entries.items;
     }
 
+abbrev pub requests_of : Records → List Request
+requests_of records = map request_of records.inner.items
+
 abbrev pub desk_of : Rows → Desk
-desk_of rows = record { queues = rows.queues.items; requests = map request_of rows.requests.items }
+desk_of rows =
+    record { queues = rows.queues.items; requests = requests_of rows.records; links = rows.links.items }

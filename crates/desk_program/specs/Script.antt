@@ -6,8 +6,8 @@ use Rattle.settings_core.specs.declared.fault.SettingsFault.{SettingsFault}
 use Rattle.settings_core.specs.declared.settings.Settings.{Settings}
 use Rattle.desk_core.specs.declared.command.Command.{Command}
 use Rattle.service_core.specs.Desk.{Desk, empty_desk}
-use Rattle.service_core.specs.Step.{Ask, Reply, Runs, Steps}
-use Rattle.service_core.specs.Texts.{reply_text}
+use Rattle.service_core.specs.Step.{Ask, Outcome, Runs, Steps}
+use Rattle.service_core.specs.Texts.{outcome_text}
 use Rattle.wire_core.specs.Number.{number_of}
 use Rattle.wire_core.specs.Spelling.{command_of}
 use Rattle.wire_core.specs.Words.{words_of}
@@ -54,7 +54,7 @@ abbrev pub LinePrints : Settings → Line → Desk → List ℕ → Desk → Typ
 LinePrints settings PassedOver old text new = (text ≡ []) × (new ≡ old)
 LinePrints settings BadWords old text new = ((text ≡ bad_words_text) ⊎ (text ≡ unavailable_text)) × (new ≡ old)
 LinePrints settings (Asked at caller command) old text new =
-    (reply : Reply) × Steps settings at caller command old reply new × (text ≡ reply_text reply)
+    (outcome : Outcome) × Steps settings at caller command old outcome new × (text ≡ outcome_text outcome)
 
 -- the command of a line that has one, in front of these
 abbrev pub with_asked : Line → List Ask → List Ask
@@ -66,18 +66,18 @@ abbrev pub asks_of : List (List ℕ) → List Ask
 asks_of [] = []
 asks_of (line ∷ rest) = with_asked (said line) (asks_of rest)
 
--- The text of a line, and the replies that it leaves to those behind it: a command's text is that of its reply.
-abbrev pub IsText : Line → List Reply → List Reply → List ℕ → Type 0
-IsText PassedOver replies left text = (text ≡ []) × (left ≡ replies)
-IsText BadWords replies left text = ((text ≡ bad_words_text) ⊎ (text ≡ unavailable_text)) × (left ≡ replies)
-IsText (Asked at caller command) replies left text = (reply : Reply) × (replies ≡ reply ∷ left) × (text ≡ reply_text reply)
+-- The text of a line, and the outcomes that it leaves to those behind it: a command's text is that of its reply.
+abbrev pub IsText : Line → List Outcome → List Outcome → List ℕ → Type 0
+IsText PassedOver outcomes left text = (text ≡ []) × (left ≡ outcomes)
+IsText BadWords outcomes left text = ((text ≡ bad_words_text) ⊎ (text ≡ unavailable_text)) × (left ≡ outcomes)
+IsText (Asked at caller command) outcomes left text = (outcome : Outcome) × (outcomes ≡ outcome ∷ left) × (text ≡ outcome_text outcome)
 
--- the texts of lines one after the other, where these are the replies to their commands
-abbrev pub AreTexts : List (List ℕ) → List Reply → List ℕ → Type 0
-AreTexts [] replies text = (replies ≡ []) × (text ≡ [])
-AreTexts (line ∷ rest) replies text =
-    (first : List ℕ) × (others : List ℕ) × (left : List Reply)
-    × IsText (said line) replies left first × AreTexts rest left others × (text ≡ first ++ others)
+-- the texts of lines one after the other, where these are the outcomes to their commands
+abbrev pub AreTexts : List (List ℕ) → List Outcome → List ℕ → Type 0
+AreTexts [] outcomes text = (outcomes ≡ []) × (text ≡ [])
+AreTexts (line ∷ rest) outcomes text =
+    (first : List ℕ) × (others : List ℕ) × (left : List Outcome)
+    × IsText (said line) outcomes left first × AreTexts rest left others × (text ≡ first ++ others)
 
 -- the line of a fault of the input
 abbrev pub input_fault_text : InputFault → List ℕ
@@ -98,8 +98,8 @@ IsUnread text status = (text ≡ input_fault_text Read) × (status ≡ 4)
 -- each line's text, from a run of the commands that begins with the empty desk
 abbrev pub IsOfCommands : Settings → List ℕ → List ℕ → Type 0
 IsOfCommands settings commands text =
-    (replies : List Reply) × (new : Desk)
-    × Runs settings empty_desk (asks_of (lines commands)) replies new × AreTexts (lines commands) replies text
+    (outcomes : List Outcome) × (new : Desk)
+    × Runs settings empty_desk (asks_of (lines commands)) outcomes new × AreTexts (lines commands) outcomes text
 
 -- what is printed with settings, or of their fault
 abbrev pub IsRun : Result Settings SettingsFault → List ℕ → List ℕ → ℕ → Type 0

@@ -1,14 +1,14 @@
 ghost use Rattle.std.specs.Prelude.{◌≡◌, ◌+◌, ◌≤◌, ◌++◌, ℕ, List, map, false, IfOk, OnErr, codes, decimal, string_bytes};
 ghost use Rattle.std.specs.String.{string_capacity, string_len};
-ghost use Rattle.service_core.specs.Step.{Reply, Steps};
-ghost use Rattle.service_core.specs.Texts.{created_text, reply_text};
+ghost use Rattle.service_core.specs.Step.{Outcome, Steps};
+ghost use Rattle.service_core.specs.Texts.{created_text, outcome_text};
 ghost use Rattle.desk_program.specs.Rows.{desk_of};
 ghost use Rattle.desk_program.specs.Script.{LinePrints, said, said_by, is_passed_over, is_comment};
 
 use crate::rows::Rows;
 use desk_core::{Answer, Command};
 use itoa::Buffer;
-use service_core::{queues_text, refusal_text, show_text};
+use service_core::{history_text, queues_text, refusal_text, show_text};
 use settings_core::Settings;
 use std::alloc::{AllocError, Global};
 use text_core::Text;
@@ -64,9 +64,9 @@ fn answer_command(
     caller: &str,
     command: &Command,
 ) -> Result<String, AllocError>
-    ensures ok { IfOk result (λ printed. (reply : Reply)
-        × Steps settings.now at caller.now command.now (desk_of rows.old) reply (desk_of rows.new)
-        × (string_bytes printed ≡ reply_text reply)) }
+    ensures ok { IfOk result (λ printed. (outcome : Outcome)
+        × Steps settings.now at caller.now command.now (desk_of rows.old) outcome (desk_of rows.new)
+        × (string_bytes printed ≡ outcome_text outcome)) }
     ensures err { OnErr result (desk_of rows.new ≡ desk_of rows.old) }
 {
     let mut room = String::with_capacity(alloc, SHORT_TEXT)?;
@@ -81,6 +81,7 @@ fn answer_command(
         }
         Ok(Answer::Queues(queues)) => queues_text(alloc, queues.as_slice()),
         Ok(Answer::Shown(shown)) => show_text(alloc, &shown),
+        Ok(Answer::History(entries)) => history_text(alloc, entries.as_slice()),
         Err(refusal) => refusal_text(alloc, &refusal),
     }
 }

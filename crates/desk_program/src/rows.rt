@@ -1,32 +1,28 @@
-ghost use Rattle.std.specs.Prelude.{◌≡◌, ◌==◌, find};
+ghost use Rattle.std.specs.Prelude.{◌≡◌, IfOk};
 ghost use Rattle.std.specs.Option.{option_map};
 ghost use Rattle.service_core.specs.Desk.{empty_desk, queue_at, request_at};
 ghost use Rattle.service_core.specs.Step.{Steps};
 ghost use Rattle.desk_program.specs.Rows.{desk_of, request_of};
 
-use desk_core::{Answer, Command, Entry, QueueRow, Refusal, RequestRow, decide};
+use crate::rows::records::{Record, Records};
+use desk_core::{Answer, Command, LinkRow, QueueRow, Refusal, decide};
 use settings_core::Settings;
-use std::alloc::Global;
-use text_core::{Text, Texts};
+use std::alloc::{AllocError, Global};
+use text_core::Text;
 
+mod facts;
+mod people;
 mod reading;
+mod records;
 mod writing;
 
-/// A desk in memory: its queues in the order of their names, its requests in that of their numbers.
+/// A desk in memory: its queues in the order of their names, its requests in that of their numbers, and its links in
+/// that of their sources, kinds and targets.
 #[derive(Drop)]
 pub(crate) struct Rows {
     queues: Vec<QueueRow>,
-    requests: Vec<Kept>,
-}
-
-/// A request with its people, in the order of their bytes, and its history.
-#[derive(Drop)]
-pub(crate) struct Kept {
-    row: RequestRow,
-    requestors: Texts,
-    cc: Texts,
-    admin_cc: Texts,
-    entries: Vec<Entry>,
+    records: Records,
+    links: Vec<LinkRow>,
 }
 
 impl Rows {
@@ -36,7 +32,8 @@ impl Rows {
     {
         Rows {
             queues: Vec::new(alloc),
-            requests: Vec::new(alloc),
+            records: Records::new(alloc),
+            links: Vec::new(alloc),
         }
     }
 
@@ -54,7 +51,7 @@ impl Rows {
     {
         let facts = self.facts_for(alloc, command)?;
         let change = decide(alloc, settings, at, caller, &facts, command)?;
-        let answer = self.answer_to(alloc, settings, caller, command)?;
+        let answer = self.answer_to(alloc, settings, at, caller, command)?;
         self.apply(alloc, change)?;
         Ok(answer)
     }
@@ -67,15 +64,16 @@ impl Rows {
     }
 
     /// The request with this number, if there is one.
-    fn kept(&self, id: u32) -> Option<&Kept>
-        ensures { option_map (λ k. request_of k.now) result ≡ request_at (desk_of self.now) id }
+    fn request(&self, id: u32) -> Option<&Record>
+        ensures { option_map (λ r. request_of r.now) result ≡ request_at (desk_of self.now) id }
     {
-        kept_among(self.requests.as_slice(), id)
+        self.records.at(id)
     }
 }
 
-fn kept_among(requests: &[Kept], id: u32) -> Option<&Kept>
-    ensures { option_map (λ k. k.now) result ≡ find (λ k. k.row.id == id) requests.now }
+/// A count of rows. Memory for more rows than this type counts is refused.
+fn count(rows: usize) -> Result<u32, AllocError>
+    ensures { IfOk result (λ n. n ≡ rows) }
 {
-    requests.iter().find(|k| k.row.id == id)
+    u32::try_from(rows).map_err(|_| AllocError)
 }

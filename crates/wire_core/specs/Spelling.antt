@@ -1,12 +1,19 @@
 -- The command that words spell.
-use Rattle.std.specs.Prelude.{ℕ, List, [], ◌∷◌, Option, Some, None, unwrap_or, codes, if◌then◌else◌}
-use Rattle.std.specs.Option.{option_map, option_and_then}
+use Rattle.std.specs.Prelude.{ℕ, Bool, false, List, [], ◌∷◌, Option, Some, None, unwrap_or, codes, if◌then◌else◌}
+use Rattle.std.specs.Option.{option_map, option_and_then, option_map_or}
 use Rattle.std.specs.Str.{bytes_eq}
 use Rattle.clap.specs.Words.{Kinds, Row, Text, all_of, fault_of, first_of, subcommand_of}
 use Rattle.desk_core.specs.declared.command.Command.{Command}
+use Rattle.desk_core.specs.declared.command.Command.TheVariants as command
 use Rattle.desk_core.specs.declared.command.Command.TheVariants.{OpenQueue, Create, SetStatus, SetLevel, Queues, Show}
 use Rattle.wire_core.specs.Number.{number_of}
+use Rattle.desk_core.specs.declared.rows.LinkKind.{LinkKind}
+use Rattle.desk_core.specs.declared.rows.LinkKind.TheVariants.{DependsOn, MemberOf, RefersTo}
+use Rattle.desk_core.specs.declared.rows.WatchRole.{WatchRole}
+use Rattle.desk_core.specs.declared.rows.WatchRole.TheVariants.{Requestor, Cc, AdminCc}
 use Rattle.wire_core.specs.Table.{desk}
+use Rattle.wire_core.specs.declared.command.links.NamedKind.{NamedKind}
+use Rattle.wire_core.specs.declared.command.links.NamedKind.TheVariants.{Plain, Inverse}
 
 -- the request that is meant
 abbrev pub id_of : List Row → Option ℕ
@@ -56,6 +63,87 @@ level_of rows = option_map (λ id. SetLevel id (level_in rows)) (id_of rows)
 abbrev pub show_of : List Row → Option Command
 show_of rows = option_map (λ id. Show id) (id_of rows)
 
+-- the command on the request that is meant
+abbrev pub on_request : (ℕ → Command) → List Row → Option Command
+on_request made rows = option_map made (id_of rows)
+
+-- the command on the request that is meant, with the word for an id
+abbrev pub with_word : (ℕ → Text → Command) → Option ℕ → Option Text → Option Command
+with_word made (Some id) (Some word) = Some (made id word)
+with_word made _ _ = None
+
+-- give ID PERSON
+abbrev pub give_of : List Row → Option Command
+give_of rows = with_word command.Give (id_of rows) (first_of (codes "person") rows)
+
+-- correspond ID TEXT
+abbrev pub correspond_of : List Row → Option Command
+correspond_of rows = with_word command.Reply (id_of rows) (first_of (codes "text") rows)
+
+-- comment ID TEXT
+abbrev pub comment_of : List Row → Option Command
+comment_of rows = with_word command.Comment (id_of rows) (first_of (codes "text") rows)
+
+abbrev pub role_named : Text → Option WatchRole
+role_named word =
+    if bytes_eq word (codes "requestor") then Some Requestor
+    else if bytes_eq word (codes "cc") then Some Cc
+    else if bytes_eq word (codes "admincc") then Some AdminCc
+    else None
+
+abbrev pub role_of : List Row → Option WatchRole
+role_of rows = option_and_then role_named (first_of (codes "role") rows)
+
+abbrev pub watching : (ℕ → WatchRole → Text → Command) → Option ℕ → Option WatchRole → Option Text → Option Command
+watching made (Some id) (Some role) (Some person) = Some (made id role person)
+watching made _ _ _ = None
+
+-- watch ID ROLE PERSON
+abbrev pub watch_of : List Row → Option Command
+watch_of rows = watching command.Watch (id_of rows) (role_of rows) (first_of (codes "person") rows)
+
+-- unwatch ID ROLE PERSON
+abbrev pub unwatch_of : List Row → Option Command
+unwatch_of rows = watching command.Unwatch (id_of rows) (role_of rows) (first_of (codes "person") rows)
+
+-- a kind of link by its own word or by that of its inverse
+abbrev pub kind_named : Text → Option NamedKind
+kind_named word =
+    if bytes_eq word (codes "DependsOn") then Some (Plain DependsOn)
+    else if bytes_eq word (codes "MemberOf") then Some (Plain MemberOf)
+    else if bytes_eq word (codes "RefersTo") then Some (Plain RefersTo)
+    else if bytes_eq word (codes "DependedOnBy") then Some (Inverse DependsOn)
+    else if bytes_eq word (codes "HasMember") then Some (Inverse MemberOf)
+    else if bytes_eq word (codes "ReferredToBy") then Some (Inverse RefersTo)
+    else None
+
+abbrev pub kind_of : List Row → Option NamedKind
+kind_of rows = option_and_then kind_named (first_of (codes "kind") rows)
+
+-- the request at the other end
+abbrev pub other_of : List Row → Option ℕ
+other_of rows = option_and_then number_of (first_of (codes "other") rows)
+
+-- the link is to be taken away
+abbrev pub takes_away : List Row → Bool
+takes_away rows = option_map_or (λ word. bytes_eq word (codes "true")) (first_of (codes "delete") rows) false
+
+abbrev pub link_or_unlink : Bool → ℕ → LinkKind → ℕ → Command
+link_or_unlink away id kind other = if away then command.Unlink id kind other else command.Link id kind other
+
+-- by an inverse the two requests change places
+abbrev pub linking : Bool → ℕ → NamedKind → ℕ → Command
+linking away id (Plain kind) other = link_or_unlink away id kind other
+linking away id (Inverse kind) other = link_or_unlink away other kind id
+
+abbrev pub linked : Bool → Option ℕ → Option NamedKind → Option ℕ → Option Command
+linked away (Some id) (Some kind) (Some other) = Some (linking away id kind other)
+linked away _ _ _ = None
+
+-- link [-d] ID KIND OTHER
+abbrev pub link_of : List Row → Option Command
+link_of rows = linked (takes_away rows) (id_of rows) (kind_of rows) (other_of rows)
+
 -- the command of a subcommand and of what it was given
 abbrev pub command_in : Text × List Row → Option Command
 command_in met =
@@ -64,8 +152,18 @@ command_in met =
     else if bytes_eq met.0 (codes "status") then status_of met.1
     else if bytes_eq met.0 (codes "resolve") then resolve_of met.1
     else if bytes_eq met.0 (codes "level") then level_of met.1
+    else if bytes_eq met.0 (codes "take") then on_request command.Take met.1
+    else if bytes_eq met.0 (codes "steal") then on_request command.Steal met.1
+    else if bytes_eq met.0 (codes "untake") then on_request command.Untake met.1
+    else if bytes_eq met.0 (codes "give") then give_of met.1
+    else if bytes_eq met.0 (codes "correspond") then correspond_of met.1
+    else if bytes_eq met.0 (codes "comment") then comment_of met.1
+    else if bytes_eq met.0 (codes "watch") then watch_of met.1
+    else if bytes_eq met.0 (codes "unwatch") then unwatch_of met.1
+    else if bytes_eq met.0 (codes "link") then link_of met.1
     else if bytes_eq met.0 (codes "queues") then Some Queues
     else if bytes_eq met.0 (codes "show") then show_of met.1
+    else if bytes_eq met.0 (codes "history") then on_request command.History met.1
     else None
 
 abbrev pub unless_fault : Kinds → Option (Text × List Row) → Option Command

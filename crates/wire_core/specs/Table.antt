@@ -1,7 +1,7 @@
 -- The table of the command line: the subcommands, and what each is given.
-use Rattle.std.specs.Prelude.{◌≡◌, true, false, List, [], ◌∷◌, Some, codes}
+use Rattle.std.specs.Prelude.{◌≡◌, ℕ, true, false, List, [], ◌∷◌, Some, codes}
 use Rattle.clap.specs.Words.{App, Rule, Text, app_of, new_app, new_rule, with_rule, with_subcommand}
-use Rattle.clap.specs.declared.builder.action.ArgAction.TheVariants.{Set, Append}
+use Rattle.clap.specs.declared.builder.action.ArgAction.TheVariants.{Set, SetTrue, Append}
 use Rattle.clap.specs.declared.builder.command.Command.{Command}
 use Rattle.clap.specs.declared.builder.command.Command.TheViews.{out-Command}
 
@@ -16,6 +16,10 @@ allowed id = record (new_rule id) { action = Some Set }
 -- any number of words
 abbrev pub several : Text → Rule
 several id = record (new_rule id) { action = Some Append }
+
+-- a hyphen and a letter that may be there
+abbrev pub flag : Text → ℕ → Rule
+flag id letter = record (new_rule id) { short = Some letter; action = Some SetTrue }
 
 -- a word behind two hyphens and the name
 abbrev pub option : Text → Rule
@@ -57,6 +61,44 @@ resolve = with_all (bare (codes "resolve")) (codes "id" ∷ [])
 abbrev pub level : App
 level = with_rule (with_all (bare (codes "level")) (codes "id" ∷ [])) (allowed (codes "level"))
 
+-- take ID
+abbrev pub take : App
+take = with_all (bare (codes "take")) (codes "id" ∷ [])
+
+-- steal ID
+abbrev pub steal : App
+steal = with_all (bare (codes "steal")) (codes "id" ∷ [])
+
+-- untake ID
+abbrev pub untake : App
+untake = with_all (bare (codes "untake")) (codes "id" ∷ [])
+
+-- give ID PERSON
+abbrev pub give : App
+give = with_all (bare (codes "give")) (codes "id" ∷ codes "person" ∷ [])
+
+-- correspond ID TEXT
+abbrev pub correspond : App
+correspond = with_all (bare (codes "correspond")) (codes "id" ∷ codes "text" ∷ [])
+
+-- comment ID TEXT
+abbrev pub comment : App
+comment = with_all (bare (codes "comment")) (codes "id" ∷ codes "text" ∷ [])
+
+-- watch ID ROLE PERSON
+abbrev pub watch : App
+watch = with_all (bare (codes "watch")) (codes "id" ∷ codes "role" ∷ codes "person" ∷ [])
+
+-- unwatch ID ROLE PERSON
+abbrev pub unwatch : App
+unwatch = with_all (bare (codes "unwatch")) (codes "id" ∷ codes "role" ∷ codes "person" ∷ [])
+
+-- link [-d] ID KIND OTHER
+abbrev pub link : App
+link =
+    with_rule (with_all (bare (codes "link")) (codes "id" ∷ codes "kind" ∷ codes "other" ∷ []))
+    (flag (codes "delete") 100)
+
 -- queues
 abbrev pub queues : App
 queues = bare (codes "queues")
@@ -64,6 +106,10 @@ queues = bare (codes "queues")
 -- show ID
 abbrev pub show : App
 show = with_all (bare (codes "show")) (codes "id" ∷ [])
+
+-- history ID
+abbrev pub history : App
+history = with_all (bare (codes "history")) (codes "id" ∷ [])
 
 -- the subcommands that open and file
 unfoldable pub with_new : App
@@ -73,9 +119,21 @@ with_new = with_subcommand (with_subcommand root queue.top) create.top
 unfoldable pub with_changes : App
 with_changes = with_subcommand (with_subcommand (with_subcommand with_new status.top) resolve.top) level.top
 
+-- and those that change the owner
+unfoldable pub with_owners : App
+with_owners =
+    with_subcommand (with_subcommand (with_subcommand (with_subcommand with_changes take.top) steal.top) untake.top)
+    give.top
+
+-- and those that write, watch and link
+unfoldable pub with_others : App
+with_others =
+    with_subcommand (with_subcommand (with_subcommand (with_subcommand (with_subcommand with_owners correspond.top)
+    comment.top) watch.top) unwatch.top) link.top
+
 -- and those that read: the whole table
 unfoldable pub desk : App
-desk = with_subcommand (with_subcommand with_changes queues.top) show.top
+desk = with_subcommand (with_subcommand (with_subcommand with_others queues.top) show.top) history.top
 
 -- the command is that one, and has no argument for all levels
 pub record Is (a : App) (c : Command) : Type 0 where

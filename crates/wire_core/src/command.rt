@@ -3,12 +3,19 @@ ghost use Rattle.clap.specs.Words.{found_of, rows_of};
 ghost use Rattle.wire_core.specs.Spelling as spelling;
 ghost use Rattle.wire_core.specs.Spelling.{command_in};
 
+use crate::command::links::link;
+use crate::command::people::{give, unwatch, watch};
+use crate::command::texts::{comment, correspond};
 use crate::fault::WordsFault;
 use crate::matches::{entered, first, first_text, id, matches_of, requestors};
 use clap::ArgMatches;
 use desk_core::Command;
 use std::alloc::Global;
 use text_core::Text;
+
+mod links;
+mod people;
+mod texts;
 
 /// The command that the words spell, or `BadWords` where they spell none. Names and texts are taken as they stand.
 pub fn command_of_words(alloc: Global, words: &[String]) -> Result<Command, WordsFault>
@@ -35,8 +42,18 @@ fn command_in(alloc: Global, name: &str, given: &ArgMatches<'_>) -> Result<Comma
         "status" => status(alloc, given),
         "resolve" => resolve(alloc, given),
         "level" => level(alloc, given),
+        "take" => take(given),
+        "steal" => steal(given),
+        "untake" => untake(given),
+        "give" => give(alloc, given),
+        "correspond" => correspond(alloc, given),
+        "comment" => comment(alloc, given),
+        "watch" => watch(alloc, given),
+        "unwatch" => unwatch(alloc, given),
+        "link" => link(given),
         "queues" => Ok(Command::Queues),
         "show" => show(given),
+        "history" => history(given),
         _ => Err(WordsFault::BadWords),
     }
 }
@@ -121,6 +138,50 @@ fn show(given: &ArgMatches<'_>) -> Result<Command, WordsFault>
 {
     match id(given) {
         Some(id) => Ok(Command::Show { id }),
+        None => Err(WordsFault::BadWords),
+    }
+}
+
+fn take(given: &ArgMatches<'_>) -> Result<Command, WordsFault>
+    ensures ok { IfOk result (λ c. spelling.on_request Command.Take (rows_of (found_of given.now)) ≡ Some c) }
+    ensures bad { result ≡ Err WordsFault.BadWords → spelling.on_request Command.Take (rows_of (found_of given.now)) ≡ None }
+    ensures kinds { IfErr result (λ e. e ≢ WordsFault.NoMemory → e ≡ WordsFault.BadWords) }
+{
+    match id(given) {
+        Some(id) => Ok(Command::Take { id }),
+        None => Err(WordsFault::BadWords),
+    }
+}
+
+fn steal(given: &ArgMatches<'_>) -> Result<Command, WordsFault>
+    ensures ok { IfOk result (λ c. spelling.on_request Command.Steal (rows_of (found_of given.now)) ≡ Some c) }
+    ensures bad { result ≡ Err WordsFault.BadWords → spelling.on_request Command.Steal (rows_of (found_of given.now)) ≡ None }
+    ensures kinds { IfErr result (λ e. e ≢ WordsFault.NoMemory → e ≡ WordsFault.BadWords) }
+{
+    match id(given) {
+        Some(id) => Ok(Command::Steal { id }),
+        None => Err(WordsFault::BadWords),
+    }
+}
+
+fn untake(given: &ArgMatches<'_>) -> Result<Command, WordsFault>
+    ensures ok { IfOk result (λ c. spelling.on_request Command.Untake (rows_of (found_of given.now)) ≡ Some c) }
+    ensures bad { result ≡ Err WordsFault.BadWords → spelling.on_request Command.Untake (rows_of (found_of given.now)) ≡ None }
+    ensures kinds { IfErr result (λ e. e ≢ WordsFault.NoMemory → e ≡ WordsFault.BadWords) }
+{
+    match id(given) {
+        Some(id) => Ok(Command::Untake { id }),
+        None => Err(WordsFault::BadWords),
+    }
+}
+
+fn history(given: &ArgMatches<'_>) -> Result<Command, WordsFault>
+    ensures ok { IfOk result (λ c. spelling.on_request Command.History (rows_of (found_of given.now)) ≡ Some c) }
+    ensures bad { result ≡ Err WordsFault.BadWords → spelling.on_request Command.History (rows_of (found_of given.now)) ≡ None }
+    ensures kinds { IfErr result (λ e. e ≢ WordsFault.NoMemory → e ≡ WordsFault.BadWords) }
+{
+    match id(given) {
+        Some(id) => Ok(Command::History { id }),
         None => Err(WordsFault::BadWords),
     }
 }

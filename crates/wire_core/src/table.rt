@@ -1,7 +1,7 @@
 ghost use Rattle.std.specs.Prelude.{◌≡◌, map, codes, IfOk, false};
 ghost use Rattle.clap.specs.Words.{App, Rule, rule_of, with_rule, with_subcommand};
 ghost use Rattle.wire_core.specs.Table as table;
-ghost use Rattle.wire_core.specs.Table.{Is, allowed, bare, option, root, several, wanted, with_all};
+ghost use Rattle.wire_core.specs.Table.{Is, allowed, bare, flag, option, root, several, wanted, with_all};
 
 use clap::{Arg, ArgAction, Command};
 use std::alloc::{AllocError, Global};
@@ -12,6 +12,8 @@ pub(crate) fn desk<'a>(alloc: Global) -> Result<Command<'a>, AllocError>
 {
     let command = with_new(alloc, root_command(alloc))?;
     let command = with_changes(alloc, command)?;
+    let command = with_owners(alloc, command)?;
+    let command = with_others(alloc, command)?;
     with_readings(alloc, command)
 }
 
@@ -32,12 +34,41 @@ fn with_changes<'a>(alloc: Global, command: Command<'a>) -> Result<Command<'a>, 
     with_subcommand(command, level(alloc)?)
 }
 
+/// The subcommands that change the owner, added to those.
+fn with_owners<'a>(alloc: Global, command: Command<'a>) -> Result<Command<'a>, AllocError>
+    ensures { Is table.with_changes command.entry → IfOk result (Is table.with_owners) }
+{
+    let command = with_subcommand(command, leaf(alloc, "take", &["id"])?)?;
+    let command = with_subcommand(command, leaf(alloc, "steal", &["id"])?)?;
+    let command = with_subcommand(command, leaf(alloc, "untake", &["id"])?)?;
+    with_subcommand(command, leaf(alloc, "give", &["id", "person"])?)
+}
+
+/// The subcommands that write, watch and link, added to those.
+fn with_others<'a>(alloc: Global, command: Command<'a>) -> Result<Command<'a>, AllocError>
+    ensures { Is table.with_owners command.entry → IfOk result (Is table.with_others) }
+{
+    let command = with_subcommand(command, leaf(alloc, "correspond", &["id", "text"])?)?;
+    let command = with_subcommand(command, leaf(alloc, "comment", &["id", "text"])?)?;
+    let command = with_subcommand(command, leaf(alloc, "watch", &["id", "role", "person"])?)?;
+    let command = with_subcommand(command, leaf(alloc, "unwatch", &["id", "role", "person"])?)?;
+    with_subcommand(command, link(alloc)?)
+}
+
 /// The subcommands that read, added to those.
 fn with_readings<'a>(alloc: Global, command: Command<'a>) -> Result<Command<'a>, AllocError>
-    ensures { Is table.with_changes command.entry → IfOk result (Is table.desk) }
+    ensures { Is table.with_others command.entry → IfOk result (Is table.desk) }
 {
     let command = with_subcommand(command, bare_command(alloc, "queues"))?;
-    with_subcommand(command, leaf(alloc, "show", &["id"])?)
+    let command = with_subcommand(command, leaf(alloc, "show", &["id"])?)?;
+    with_subcommand(command, leaf(alloc, "history", &["id"])?)
+}
+
+fn link<'a>(alloc: Global) -> Result<Command<'a>, AllocError>
+    ensures { IfOk result (Is table.link) }
+{
+    let command = leaf(alloc, "link", &["id", "kind", "other"])?;
+    with_argument(command, flag_argument(alloc, "delete", 'd'))
 }
 
 fn queue<'a>(alloc: Global) -> Result<Command<'a>, AllocError>
@@ -122,6 +153,15 @@ fn several_argument<'a>(alloc: Global, id: &'a str) -> Arg<'a>
     ensures local { result.global ≡ false }
 {
     Arg::new(alloc, id).action(ArgAction::Append)
+}
+
+fn flag_argument<'a>(alloc: Global, id: &'a str, letter: char) -> Arg<'a>
+    ensures rule { rule_of result ≡ flag id.entry.now letter }
+    ensures local { result.global ≡ false }
+{
+    Arg::new(alloc, id)
+        .short(letter)
+        .action(ArgAction::SetTrue)
 }
 
 fn option_argument<'a>(alloc: Global, id: &'a str) -> Arg<'a>

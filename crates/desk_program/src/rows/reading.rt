@@ -1,99 +1,62 @@
-ghost use Rattle.std.specs.Prelude.{◌≡◌, ◌++◌, filter, map, IfOk, OnOk};
-ghost use Rattle.std.specs.Option.{option_map};
+ghost use Rattle.std.specs.Prelude.{◌≡◌, filter, map, IfOk};
+ghost use Rattle.service_core.specs.Due.{due_on};
 ghost use Rattle.service_core.specs.Reading as reading;
-ghost use Rattle.service_core.specs.Desk.{queue_at};
-ghost use Rattle.service_core.specs.Facts.{facts_of, queue_facts, facts_on, no_facts, request_facts, watcher, watchers_of};
 ghost use Rattle.service_core.specs.Rights as rights;
 ghost use Rattle.desk_program.specs.Rows.{desk_of, request_of};
 
-use crate::rows::{Kept, Rows};
+use crate::rows::records::Record;
+use crate::rows::{Rows, count};
 use desk_core::{
-    Answer, Command, Facts, Links, QueueRow, RequestFacts, RequestRow, Shown, WatchRole, Watcher,
-    due_of, sees_queue,
+    Answer, Command, Entry, LinkKind, LinkRow, Links, QueueRow, Shown, due_of, is_kind, sees_queue,
 };
 use hours_core::Minute;
 use settings_core::Settings;
 use std::alloc::{AllocError, Global};
-use text_core::{Sequence, Text, Texts};
+use text_core::Sequence;
 
 impl Rows {
-    /// What a command looks at.
-    pub(super) fn facts_for(&self, alloc: Global, command: &Command) -> Result<Facts, AllocError>
-        ensures { IfOk result (λ facts. facts ≡ facts_of command.now (desk_of self.now)) }
-    {
-        match command {
-            Command::OpenQueue { queue, .. } => self.queue_facts(queue),
-            Command::Create { queue, .. } => self.queue_facts(queue),
-            Command::SetStatus { id, .. } => self.facts_on(alloc, *id),
-            Command::SetLevel { id, .. } => self.facts_on(alloc, *id),
-            Command::Queues => Ok(no_facts()),
-            Command::Show { id } => self.facts_on(alloc, *id),
-        }
-    }
-
-    fn queue_facts(&self, name: &Text) -> Result<Facts, AllocError>
-        ensures { IfOk result (λ facts. facts ≡ queue_facts (desk_of self.now) name.now) }
-    {
-        Ok(Facts {
-            queue: self.queue_row(name)?,
-            queue_count: count(self.queues.len())?,
-            request_count: count(self.requests.len())?,
-            request: None,
-        })
-    }
-
-    fn facts_on(&self, alloc: Global, id: u32) -> Result<Facts, AllocError>
-        ensures { IfOk result (λ facts. facts ≡ facts_on (desk_of self.now) id) }
-    {
-        match self.kept(id) {
-            Some(kept) => Ok(Facts {
-                queue: self.queue_row(&kept.row.queue)?,
-                queue_count: 0,
-                request_count: 0,
-                request: Some(kept.facts(alloc)?),
-            }),
-            None => Ok(no_facts()),
-        }
-    }
-
-    fn queue_row(&self, name: &Text) -> Result<Option<QueueRow>, AllocError>
-        ensures { IfOk result (λ queue. queue ≡ queue_at (desk_of self.now) name.now) }
-    {
-        match self.queue(name) {
-            Some(queue) => Ok(Some(queue.clone()?)),
-            None => Ok(None),
-        }
-    }
-
     /// The answer of a command that isn't refused, of the desk before it.
     pub(super) fn answer_to(
         &self,
         alloc: Global,
         settings: &Settings,
+        at: u32,
         caller: &str,
         command: &Command,
     ) -> Result<Answer, AllocError>
-        ensures { IfOk result (λ answer. answer ≡ reading.answer_of settings.now caller.now command.now (desk_of self.now)) }
+        ensures { IfOk result (λ answer. answer
+            ≡ reading.answer_of settings.now at caller.now command.now (desk_of self.now)) }
     {
+        let _moment = at;
         match command {
             Command::OpenQueue { .. } => Ok(Answer::Done),
-            Command::Create { .. } => Ok(Answer::Created(count(self.requests.len() + 1)?)),
+            Command::Create { .. } => Ok(Answer::Created(count(self.records.len() + 1)?)),
             Command::SetStatus { .. } => Ok(Answer::Done),
+            Command::Take { .. } => Ok(Answer::Done),
+            Command::Steal { .. } => Ok(Answer::Done),
+            Command::Untake { .. } => Ok(Answer::Done),
+            Command::Give { .. } => Ok(Answer::Done),
+            Command::Reply { .. } => Ok(Answer::Done),
+            Command::Comment { .. } => Ok(Answer::Done),
+            Command::Watch { .. } => Ok(Answer::Done),
+            Command::Unwatch { .. } => Ok(Answer::Done),
+            Command::Link { .. } => Ok(Answer::Done),
+            Command::Unlink { .. } => Ok(Answer::Done),
             Command::SetLevel { .. } => Ok(Answer::Done),
             Command::Queues => Ok(Answer::Queues(self.queues_seen(alloc, settings, caller)?)),
-            Command::Show { id } => match self.kept(*id) {
-                Some(kept) => Ok(Answer::Shown(kept.shown(
-                    alloc,
-                    settings,
-                    self.queue(&kept.row.queue),
+            Command::Show { id } => match self.request(*id) {
+                Some(request) => Ok(Answer::Shown(self.shown(alloc, settings, caller, request)?)),
+                None => Ok(Answer::Done),
+            },
+            Command::History { id } => match self.request(*id) {
+                Some(request) => Ok(Answer::History(request.entries_told(
+                    alloc, settings, caller,
                 )?)),
                 None => Ok(Answer::Done),
             },
         }
     }
-}
 
-impl Rows {
     /// The queues that the caller may see.
     fn queues_seen(
         &self,
@@ -101,7 +64,8 @@ impl Rows {
         settings: &Settings,
         caller: &str,
     ) -> Result<Sequence<QueueRow>, AllocError>
-        ensures { IfOk result (λ seen. seen ≡ filter (rights.sees_queue settings.now caller.now) (desk_of self.now).queues) }
+        ensures { IfOk result (λ seen. seen
+            ≡ filter (rights.sees_queue settings.now caller.now) (desk_of self.now).queues) }
     {
         let mut seen = Vec::new(alloc);
         for queue in &self.queues {
@@ -111,118 +75,155 @@ impl Rows {
         }
         Ok(Sequence::from(seen))
     }
-}
 
-impl Kept {
-    /// Its people, each with the role.
-    fn watchers(&self, alloc: Global) -> Result<Sequence<Watcher>, AllocError>
-        ensures { IfOk result (λ watchers. watchers ≡ watchers_of (request_of self.now)) }
-    {
-        let mut watchers = Vec::new(alloc);
-        put_watchers(
-            &mut watchers,
-            self.row.id,
-            WatchRole::Requestor,
-            &self.requestors,
-        )?;
-        put_watchers(&mut watchers, self.row.id, WatchRole::Cc, &self.cc)?;
-        put_watchers(
-            &mut watchers,
-            self.row.id,
-            WatchRole::AdminCc,
-            &self.admin_cc,
-        )?;
-        Ok(Sequence::from(watchers))
-    }
-
-    fn facts(&self, alloc: Global) -> Result<RequestFacts, AllocError>
-        ensures { IfOk result (λ facts. facts ≡ request_facts (request_of self.now)) }
-    {
-        Ok(RequestFacts {
-            row: self.row.clone()?,
-            watchers: self.watchers(alloc)?,
-            entry_count: count(self.entries.len())?,
-        })
-    }
-
-    /// The request as it is shown, and when it is due by the lifecycle of its queue.
+    /// The request as it is shown.
     fn shown(
         &self,
         alloc: Global,
         settings: &Settings,
-        queue: Option<&QueueRow>,
+        caller: &str,
+        request: &Record,
     ) -> Result<Shown, AllocError>
-        ensures { IfOk result (λ shown. shown ≡ reading.shown_of settings.now (option_map (λ q. q.now) queue.entry)
-            (request_of self.now)) }
+        ensures { IfOk result (λ shown. shown
+            ≡ reading.shown_of settings.now caller.now (desk_of self.now) (request_of request.now)) }
     {
+        let people = request.people.copy()?;
         Ok(Shown {
-            row: self.row.clone()?,
-            requestors: self.requestors.clone()?,
-            cc: self.cc.clone()?,
-            admin_cc: self.admin_cc.clone()?,
-            due: due_in(settings, queue, &self.row),
-            links: no_links(alloc),
+            row: request.row.clone()?,
+            requestors: people.requestors,
+            cc: people.cc,
+            admin_cc: people.admin_cc,
+            due: self.due_on(settings, request),
+            links: self.links_of(alloc, settings, caller, request.row.id)?,
+        })
+    }
+
+    /// When the request is due, if its queue is there.
+    fn due_on(&self, settings: &Settings, request: &Record) -> Option<Minute>
+        ensures { result ≡ due_on settings.now (desk_of self.now) (request_of request.now) }
+    {
+        match self.queue(&request.row.queue) {
+            Some(queue) => due_of(settings, queue, &request.row),
+            None => None,
+        }
+    }
+
+    /// The requests that one is linked with, as far as the caller may show them.
+    fn links_of(
+        &self,
+        alloc: Global,
+        settings: &Settings,
+        caller: &str,
+        id: u32,
+    ) -> Result<Links, AllocError>
+        ensures { IfOk result (λ links. links ≡ reading.links_of settings.now caller.now (desk_of self.now) id) }
+    {
+        let reader = Reader {
+            alloc,
+            settings,
+            caller,
+            rows: self,
+        };
+        Ok(Links {
+            depends_on: reader.linked_from(LinkKind::DependsOn, id)?,
+            depended_on_by: reader.linked_to(LinkKind::DependsOn, id)?,
+            member_of: reader.linked_from(LinkKind::MemberOf, id)?,
+            has_member: reader.linked_to(LinkKind::MemberOf, id)?,
+            refers_to: reader.linked_from(LinkKind::RefersTo, id)?,
+            referred_to_by: reader.linked_to(LinkKind::RefersTo, id)?,
         })
     }
 }
 
-/// When a request of this queue is due, if the queue is there.
-fn due_in(settings: &Settings, queue: Option<&QueueRow>, request: &RequestRow) -> Option<Minute>
-    ensures { result ≡ reading.due_in settings.now (option_map (λ q. q.now) queue.entry) request.now }
-{
-    match queue {
-        Some(queue) => due_of(settings, queue, request),
-        None => None,
+/// Who reads what.
+#[derive(Drop)]
+struct Reader<'r> {
+    alloc: Global,
+    settings: &'r Settings,
+    caller: &'r str,
+    rows: &'r Rows,
+}
+
+impl Reader<'_> {
+    /// The numbers of the requests to which links of a kind lead from this one.
+    fn linked_from(&self, kind: LinkKind, id: u32) -> Result<Sequence<u32>, AllocError>
+        ensures { IfOk result (λ found. found
+            ≡ reading.linked_from self.now.settings.now self.now.caller.now (desk_of self.now.rows.now) kind id) }
+    {
+        let mut found = Vec::new(self.alloc);
+        for link in &self.rows.links {
+            if self.leads_from(kind, id, link)? {
+                found.push(link.target)?;
+            }
+        }
+        Ok(Sequence::from(found))
+    }
+
+    /// The numbers of the requests from which links of a kind lead to this one.
+    fn linked_to(&self, kind: LinkKind, id: u32) -> Result<Sequence<u32>, AllocError>
+        ensures { IfOk result (λ found. found
+            ≡ reading.linked_to self.now.settings.now self.now.caller.now (desk_of self.now.rows.now) kind id) }
+    {
+        let mut found = Vec::new(self.alloc);
+        for link in &self.rows.links {
+            if self.leads_to(kind, id, link)? {
+                found.push(link.source)?;
+            }
+        }
+        Ok(Sequence::from(found))
+    }
+
+    fn leads_from(&self, kind: LinkKind, id: u32, link: &LinkRow) -> Result<bool, AllocError>
+        ensures { IfOk result (λ leads. leads ≡ reading.leads_from self.now.settings.now self.now.caller.now
+            (desk_of self.now.rows.now) kind id link.now) }
+    {
+        if link.source == id && is_kind(kind, link.kind) {
+            self.is_shown(link.target)
+        } else {
+            Ok(false)
+        }
+    }
+
+    fn leads_to(&self, kind: LinkKind, id: u32, link: &LinkRow) -> Result<bool, AllocError>
+        ensures { IfOk result (λ leads. leads ≡ reading.leads_to self.now.settings.now self.now.caller.now
+            (desk_of self.now.rows.now) kind id link.now) }
+    {
+        if link.target == id && is_kind(kind, link.kind) {
+            self.is_shown(link.source)
+        } else {
+            Ok(false)
+        }
+    }
+
+    /// Whether the request with this number is there and the caller may show it.
+    fn is_shown(&self, id: u32) -> Result<bool, AllocError>
+        ensures { IfOk result (λ shown. shown
+            ≡ reading.is_shown self.now.settings.now self.now.caller.now (desk_of self.now.rows.now) id) }
+    {
+        match self.rows.standing(id)? {
+            Some(on) => Ok(on.may_be_shown(self.settings, self.caller)),
+            None => Ok(false),
+        }
     }
 }
 
-/// Puts the persons behind the watchers, each in the role.
-fn put_watchers(
-    watchers: &mut Vec<Watcher>,
-    id: u32,
-    role: WatchRole,
-    persons: &Texts,
-) -> Result<(), AllocError>
-    ensures { OnOk result (watchers.new.items ≡ watchers.old.items ++ map (watcher id role) persons.now) }
-{
-    for person in persons.as_slice() {
-        watchers.push(Watcher {
-            id,
-            role,
-            person: person.clone()?,
-        })?;
+impl Record {
+    /// The entries that the caller is told of.
+    fn entries_told(
+        &self,
+        alloc: Global,
+        settings: &Settings,
+        caller: &str,
+    ) -> Result<Sequence<Entry>, AllocError>
+        ensures { IfOk result (λ told. told ≡ reading.entries_told settings.now caller.now (request_of self.now)) }
+    {
+        let comments = self.standing()?.has_comments_for(settings, caller);
+        let mut told = Vec::new(alloc);
+        for entry in &self.entries {
+            if !entry.kind.is_comment() || comments {
+                told.push(entry.clone()?)?;
+            }
+        }
+        Ok(Sequence::from(told))
     }
-    Ok(())
-}
-
-/// Of a command that looks at no queue and no request, or at one that isn't there.
-fn no_facts() -> Facts
-    ensures { result ≡ no_facts }
-{
-    Facts {
-        queue: None,
-        queue_count: 0,
-        request_count: 0,
-        request: None,
-    }
-}
-
-fn no_links(alloc: Global) -> Links
-    ensures { result ≡ reading.no_links }
-{
-    Links {
-        depends_on: Sequence::from(Vec::new(alloc)),
-        depended_on_by: Sequence::from(Vec::new(alloc)),
-        member_of: Sequence::from(Vec::new(alloc)),
-        has_member: Sequence::from(Vec::new(alloc)),
-        refers_to: Sequence::from(Vec::new(alloc)),
-        referred_to_by: Sequence::from(Vec::new(alloc)),
-    }
-}
-
-/// A count of rows. Memory for more rows than this type counts is refused.
-fn count(rows: usize) -> Result<u32, AllocError>
-    ensures { IfOk result (λ n. n ≡ rows) }
-{
-    u32::try_from(rows).map_err(|_| AllocError)
 }

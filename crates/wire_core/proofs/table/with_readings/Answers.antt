@@ -5,4 +5,5 @@ pub returns : goal.returns
 unfolding desk
 returns c given =
     let a = c.in_ok-command.ensures _ _ given c.bare_command.ensures in
-    c.with_subcommand-2.ensures _ _ a c.in_ok-leaf.ensures
+    let b = c.in_ok-command-2.ensures _ _ a c.in_ok-leaf.ensures in
+    c.with_subcommand-3.ensures _ _ b c.in_ok-leaf-2.ensures
