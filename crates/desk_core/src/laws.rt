@@ -3,7 +3,7 @@
 ghost use Rattle.std.specs.Prelude.{ℕ, List};
 ghost use Rattle.settings_core.specs.declared.settings.Settings.{Settings};
 ghost use Rattle.desk_core.specs.Desk.{Desk, Request};
-ghost use Rattle.desk_core.specs.Laws.{KeepsDependencyLaw, KeepsHistory, KeepsOwnerLaw, KeepsStatusLaw, RefusesAsMissing, ShowsByWatchers, TellsDueMoments};
+ghost use Rattle.desk_core.specs.Laws.{HidesTheRest, KeepsDependencyLaw, KeepsHistory, KeepsOwnerLaw, KeepsStatusLaw, RefusesAsMissing, ShowsByWatchers, TellsDueMoments, TellsOfTheView};
 ghost use Rattle.desk_core.specs.declared.command.Command.{Command};
 
 /// A request stays, and so do the entries of its history.
@@ -42,6 +42,14 @@ pub fn hidden_law()
 pub fn due_law()
     ensures { (settings : Settings) (at : ℕ) (caller : List ℕ) (command : Command) (desk : Desk)
         → TellsDueMoments settings at caller command desk }
+{}
+
+/// What comes of a reading command is told of the caller's view of the desk alone, and outside of it is only what the
+/// caller may not show.
+pub fn view_law()
+    ensures inside { (settings : Settings) (at : ℕ) (caller : List ℕ) (command : Command) (desk : Desk)
+        → TellsOfTheView settings at caller command desk }
+    ensures outside { (settings : Settings) (caller : List ℕ) (desk : Desk) → HidesTheRest settings caller desk }
 {}
 
 /// The rows of a request's people tell who may show it.
