@@ -1,7 +1,7 @@
 -- A command that names a hidden request is refused as one that names a request that isn't there.
 use Rattle.std.proofs.Common.{◌≡◌, ◌⊎◌, ◌∙◌, ℕ, ◌≤◌, ◌==◌, ◌||◌, Bool, true, false, not, cond, List, [], ◌∷◌, Option, Some, None, Err, inl, inr, refl, ap, sym, arith}
 use Rattle.std.specs.Option.{option_map, option_map_or}
-use Rattle.std.proofs.lemmas.Bool.{eqb-true}
+use Rattle.std.proofs.lemmas.Bool.{eqb-true, or_cases}
 use Rattle.hours_core.specs.Moment.{is_moment}
 use Rattle.settings_core.specs.Settings.{knows}
 use Rattle.settings_core.specs.declared.settings.Settings.{Settings}
@@ -70,11 +70,6 @@ missing_unless_shown : (s : Settings) (at : ℕ) (caller : List ℕ) (o : Option
 missing_unless_shown s at caller None e = refl
 missing_unless_shown s at caller (Some on) e = ap not e
 
--- one of the two is what was asked for
-one_of : (a b : Bool) → (a || b) ≡ true → (a ≡ true) ⊎ (b ≡ true)
-one_of true b e = inl refl
-one_of false b e = inr e
-
 abbrev guard_by : Call → Plan → Desk → Option Refusal
 guard_by c plan desk = first_holding (after_those c (conditions_by c (seen_by plan desk) plan))
 
@@ -111,7 +106,7 @@ hidden_by_plan : (c : Call) (plan : Plan) (desk : Desk) (id : ℕ) → names_req
 hidden_by_plan c OnDesk desk id named hidden = cc
 hidden_by_plan c (OnQueue name conditions change) desk id named hidden = cc
 hidden_by_plan c (OnRequest asked Nothing text conditions change) desk id named hidden =
-    elim (one_of (asked == id) false named) [
+    elim (or_cases (asked == id) false named) [
       | inl first ↦
           let same : asked ≡ id = eqb-true asked id first in
           refused_on c asked text (λ d. conditions c (besides_on Nothing asked d)) desk id
@@ -119,7 +114,7 @@ hidden_by_plan c (OnRequest asked Nothing text conditions change) desk id named 
       | inr second ↦ cc
     ]
 hidden_by_plan c (OnRequest asked Dependencies text conditions change) desk id named hidden =
-    elim (one_of (asked == id) false named) [
+    elim (or_cases (asked == id) false named) [
       | inl first ↦
           let same : asked ≡ id = eqb-true asked id first in
           refused_on c asked text (λ d. conditions c (besides_on Dependencies asked d)) desk id
@@ -129,7 +124,7 @@ hidden_by_plan c (OnRequest asked Dependencies text conditions change) desk id n
 hidden_by_plan c (OnRequest asked (Another kind end) text conditions change) desk id named hidden =
     let asks : Desk → Standing → List Condition =
     λ d on. (NotFound, is_missing c (standing_at d end)) ∷ conditions c (besides_on (Another kind end) asked d) on in
-    elim (one_of (asked == id) (end == id) named) [
+    elim (or_cases (asked == id) (end == id) named) [
       | inl first ↦
           let same : asked ≡ id = eqb-true asked id first in
           refused_on c asked text asks desk id

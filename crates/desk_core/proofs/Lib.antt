@@ -3,7 +3,7 @@ pub mod AsMissing
 pub mod Depends
 pub mod DueLaw
 pub mod Goes
-pub mod InView
 pub mod Kept
 pub mod Roles
 pub mod Unchanged
+pub mod ViewLaw

@@ -1,15 +1,16 @@
 -- What a caller is told is told of the caller's view of the desk.
 use Rattle.std.proofs.Common.{◌≡◌, ◌∙◌, ℕ, ◌+◌, ◌==◌, ◌<◌, Bool, true, false, not, ◌&&◌, ◌||◌, cond, List, [], ◌∷◌, find, filter, map, Option, Some, None, inl, inr, refl, ap, sym, arith}
-use Rattle.std.specs.List.{list_any}
 use Rattle.std.specs.Option.{option_and_then, option_map, option_map_or}
 use Rattle.std.specs.Str.{bytes_eq}
-use Rattle.std.proofs.lemmas.Bool.{eqb-true}
+use Rattle.std.proofs.lemmas.Bool.{and_from, and_parts, eqb-true, or_left, or_right}
 use Rattle.std.proofs.lemmas.Bool.Decides.{eqb_tells}
+use Rattle.std.proofs.lemmas.List.Elements.{filter_agree}
 use Rattle.std.proofs.lemmas.Slice.Eq.{bytes_eq-Decides}
 use Rattle.hours_core.specs.Moment.{is_moment}
 use Rattle.rights_core.specs.Right.{see_queue}
 use Rattle.settings_core.specs.Settings.{knows}
 use Rattle.settings_core.specs.declared.settings.Settings.{Settings}
+use Rattle.desk_core.proofs.Depends.{found_among}
 use Rattle.desk_core.proofs.Goes.{number_found}
 use Rattle.desk_core.specs.Condition.{first_holding}
 use Rattle.desk_core.specs.Desk.{Desk, Request, queue_at, request_at}
@@ -37,18 +38,6 @@ use Rattle.desk_core.specs.declared.rows.LinkKind.TheVariants.{DependsOn, Member
 use Rattle.desk_core.specs.declared.rows.LinkRow.{LinkRow}
 use Rattle.desk_core.specs.declared.rows.QueueRow.{QueueRow}
 
-both : (a b : Bool) → (a && b) ≡ true → (a ≡ true) × (b ≡ true)
-both true b e = (refl, e)
-both false b e = cc
-
-or_true : (b : Bool) → (b || true) ≡ true
-or_true true = refl
-or_true false = refl
-
-true_or : (a b : Bool) → a ≡ true → (a || b) ≡ true
-true_or true b e = refl
-true_or false b e = cc
-
 unless_kept : (a : Bool) → (a ≡ true → false ≡ true) → a ≡ false
 unless_kept true h = let no : false ≡ true = h refl in cc
 unless_kept false h = refl
@@ -65,16 +54,12 @@ filter_within {A} p q keeps (x ∷ xs) =
           rw drops (filter_within p q keeps xs)
     ] refl
 
-filter_alike : {A : Type 0} (p q : A → Bool) → ((x : A) → p x ≡ q x) → (xs : List A) → filter p xs ≡ filter q xs
-filter_alike p q same [] = refl
-filter_alike p q same (x ∷ xs) = rw (same x, filter_alike p q same xs) refl
-
 -- no request with a lower number is there
 absent : (p : Request → Bool) (s : Settings) (caller : List ℕ) (n id : ℕ) (xs : List Request) → are_numbered n (map (λ r. r.row.id) xs) ≡ true → id < n
     → find (λ r. r.row.id == id) (map (as_seen s caller) (filter p xs)) ≡ None
 absent p s caller n id [] e low = refl
 absent p s caller n id (y ∷ ys) e low =
-    let parts = both (y.row.id == n) (are_numbered (n + 1) (map (λ r. r.row.id) ys)) e in
+    let parts = and_parts (y.row.id == n) (are_numbered (n + 1) (map (λ r. r.row.id) ys)) e in
     let rest = absent p s caller (n + 1) id ys parts.1 (omega (arith, low)) in
     elim (p y) as (λ b. find (λ r. r.row.id == id) (map (as_seen s caller) (cond b (y ∷ filter p ys) (filter p ys))) ≡ None) [
       | true ↦
@@ -95,7 +80,7 @@ found_kept : (p : Request → Bool) (s : Settings) (caller : List ℕ) (n id : �
     ≡ option_and_then (kept_if p s caller) (find (λ r. r.row.id == id) xs)
 found_kept p s caller n id [] e = refl
 found_kept p s caller n id (y ∷ ys) e =
-    let parts = both (y.row.id == n) (are_numbered (n + 1) (map (λ r. r.row.id) ys)) e in
+    let parts = and_parts (y.row.id == n) (are_numbered (n + 1) (map (λ r. r.row.id) ys)) e in
     let rest = found_kept p s caller (n + 1) id ys parts.1 in
     elim (eqb_tells y.row.id id) [
       | inl same ↦
@@ -152,30 +137,30 @@ linked_from_view : (s : Settings) (caller : List ℕ) (desk : Desk) (kind : Link
     → linked_from s caller (view s caller desk) kind id ≡ linked_from s caller desk kind id
 linked_from_view s caller desk kind id is shown =
     ap (λ (l : List LinkRow). map (λ x. x.target) l)
-    (filter_alike (leads_from s caller (view s caller desk) kind id) (leads_from s caller desk kind id)
+    (filter_agree (leads_from s caller (view s caller desk) kind id) (leads_from s caller desk kind id)
     (λ l. ap (λ b. l.source == id && (is_kind kind l.kind && b)) (shown_in_view s caller desk l.target is))
     (filter (is_seen_link s caller desk) desk.links)
     ∙ filter_within (leads_from s caller desk kind id) (is_seen_link s caller desk)
     (λ l leads.
-        let here = both (l.source == id) (is_kind kind l.kind && is_shown s caller desk l.target) leads in
-        let there = both (is_kind kind l.kind) (is_shown s caller desk l.target) here.1 in
+        let here = and_parts (l.source == id) (is_kind kind l.kind && is_shown s caller desk l.target) leads in
+        let there = and_parts (is_kind kind l.kind) (is_shown s caller desk l.target) here.1 in
         let first : is_shown s caller desk l.source ≡ true = ap (is_shown s caller desk) (eqb-true l.source id here.0) ∙ shown in
-        rw first there.1)
+        and_from (is_shown s caller desk l.source) (is_shown s caller desk l.target) first there.1)
     desk.links)
 
 linked_to_view : (s : Settings) (caller : List ℕ) (desk : Desk) (kind : LinkKind) (id : ℕ) → IsDesk desk → is_shown s caller desk id ≡ true
     → linked_to s caller (view s caller desk) kind id ≡ linked_to s caller desk kind id
 linked_to_view s caller desk kind id is shown =
     ap (λ (l : List LinkRow). map (λ x. x.source) l)
-    (filter_alike (leads_to s caller (view s caller desk) kind id) (leads_to s caller desk kind id)
+    (filter_agree (leads_to s caller (view s caller desk) kind id) (leads_to s caller desk kind id)
     (λ l. ap (λ b. l.target == id && (is_kind kind l.kind && b)) (shown_in_view s caller desk l.source is))
     (filter (is_seen_link s caller desk) desk.links)
     ∙ filter_within (leads_to s caller desk kind id) (is_seen_link s caller desk)
     (λ l leads.
-        let here = both (l.target == id) (is_kind kind l.kind && is_shown s caller desk l.source) leads in
-        let there = both (is_kind kind l.kind) (is_shown s caller desk l.source) here.1 in
+        let here = and_parts (l.target == id) (is_kind kind l.kind && is_shown s caller desk l.source) leads in
+        let there = and_parts (is_kind kind l.kind) (is_shown s caller desk l.source) here.1 in
         let second : is_shown s caller desk l.target ≡ true = ap (is_shown s caller desk) (eqb-true l.target id here.0) ∙ shown in
-        rw there.1 second)
+        and_from (is_shown s caller desk l.source) (is_shown s caller desk l.target) there.1 second)
     desk.links)
 
 links_in_view : (s : Settings) (caller : List ℕ) (desk : Desk) (id : ℕ) → IsDesk desk → is_shown s caller desk id ≡ true
@@ -189,15 +174,6 @@ links_in_view s caller desk id is shown =
       linked_from_view s caller desk RefersTo id is shown,
       linked_to_view s caller desk RefersTo id is shown,
     ) refl
-
--- what passes a test is among what is found by another
-found_among : {A : Type 0} (test other : A → Bool) (xs : List A) (x : A) → find test xs ≡ Some x → other x ≡ true → list_any other xs ≡ true
-found_among test other [] x e t = cc
-found_among {A} test other (y ∷ ys) x e t =
-    elim (test y) as (λ b. cond b (Some y) (find test ys) ≡ Some x → (other y || list_any other ys) ≡ true) [
-      | true ↦ λ f. let same : y ≡ x = cc in let here : other y ≡ true = ap other same ∙ t in rw here refl
-      | false ↦ λ f. rw (found_among test other ys x f t) (or_true (other y))
-    ] e
 
 -- what is found by a name is found where all of that name are kept
 found_by_name : (keep : List ℕ → Bool) (name : List ℕ) (xs : List QueueRow) → keep name ≡ true
@@ -224,9 +200,9 @@ queue_in_view : (s : Settings) (caller : List ℕ) (desk : Desk) (id : ℕ) (r :
 queue_in_view s caller desk id r there shown =
     let has : has_shown s caller desk r.row.queue ≡ true =
     found_among (λ x. x.row.id == id) (λ x. may_show s caller (standing x) && bytes_eq x.row.queue r.row.queue) desk.requests r there
-    (rw shown ((bytes_eq-Decides r.row.queue r.row.queue).1 refl)) in
+    (and_from (may_show s caller (standing r)) (bytes_eq r.row.queue r.row.queue) shown ((bytes_eq-Decides r.row.queue r.row.queue).1 refl)) in
     found_by_name (λ name. holds_on_queue s caller see_queue name || has_shown s caller desk name) r.row.queue desk.queues
-    (rw has (or_true (holds_on_queue s caller see_queue r.row.queue)))
+    (or_right (holds_on_queue s caller see_queue r.row.queue) (has_shown s caller desk r.row.queue) has)
 
 -- a request as it is shown, with this due moment and these links
 abbrev shown_with : Request → Option ℕ → Links → shown.Shown
@@ -290,7 +266,7 @@ pub view_law : (s : Settings) (at : ℕ) (caller : List ℕ) (command : Command)
 view_law s at caller Queues desk is reads =
     ap (λ (queues : List QueueRow). outcome_unless (first_holding ((UnknownCaller, not (knows s caller)) ∷ (BadMoment, not (is_moment at)) ∷ [])) (answer.Queues queues))
     (sym (filter_within (sees_queue s caller) (λ q. sees_queue s caller q || has_shown s caller desk q.name)
-    (λ q sees. true_or (sees_queue s caller q) (has_shown s caller desk q.name) sees) desk.queues))
+    (λ q sees. or_left (sees_queue s caller q) (has_shown s caller desk q.name) sees) desk.queues))
 view_law s at caller (Show id) desk is reads =
     reads_alike s at caller (request_at desk id) (λ r. answer.Shown (shown_of s caller desk r))
     (λ r. answer.Shown (shown_of s caller (view s caller desk) r))
