@@ -1,6 +1,7 @@
 -- A command that names a hidden request is refused as one that names a request that isn't there.
 use Rattle.std.proofs.Common.{◌≡◌, ◌⊎◌, ◌∙◌, ℕ, ◌≤◌, ◌==◌, ◌||◌, Bool, true, false, not, cond, List, [], ◌∷◌, Option, Some, None, Err, inl, inr, refl, ap, sym, arith}
 use Rattle.std.specs.Option.{option_map, option_map_or}
+use Rattle.std.proofs.Math.Bool.{or-false}
 use Rattle.std.proofs.lemmas.Bool.{eqb-true, or_cases}
 use Rattle.hours_core.specs.Moment.{is_moment}
 use Rattle.settings_core.specs.Settings.{knows}
@@ -78,15 +79,19 @@ RefusedByPlan c plan desk id =
     (refusal : Refusal) × (number_of refusal ≤ 4) × (guard_by c plan desk ≡ Some refusal)
     × ((other : Desk) → request_at other id ≡ None → guard_by c plan other ≡ Some refusal)
 
--- what is missing on two desks is refused alike
-refused_on : (c : Call) (asked : ℕ) (text : Option (List ℕ)) (asks : Desk → Standing → List Condition) (desk : Desk) (id : ℕ)
-    → Misses c (standing_at desk asked) (asks desk)
-    → ((other : Desk) → request_at other id ≡ None → Misses c (standing_at other asked) (asks other))
-    → (refusal : Refusal) × (number_of refusal ≤ 4)
+-- what is asked of a request is refused on this desk, and alike on each where the request of a number isn't there
+abbrev RefusedAlike : Call → ℕ → Option (List ℕ) → (Desk → Standing → List Condition) → Desk → ℕ → Type 0
+RefusedAlike c asked text asks desk id =
+    (refusal : Refusal) × (number_of refusal ≤ 4)
     × (first_holding (after_those c ((BadText, is_bad_text text) ∷ on_shown c (standing_at desk asked) (asks desk))) ≡ Some refusal)
     × ((other : Desk) → request_at other id ≡ None
     → first_holding (after_those c ((BadText, is_bad_text text) ∷ on_shown c (standing_at other asked) (asks other))) ≡ Some refusal)
-refused_on c asked text asks desk id misses elsewhere =
+
+refused_alike : (c : Call) (asked : ℕ) (text : Option (List ℕ)) (asks : Desk → Standing → List Condition) (desk : Desk) (id : ℕ)
+    → Misses c (standing_at desk asked) (asks desk)
+    → ((other : Desk) → request_at other id ≡ None → Misses c (standing_at other asked) (asks other))
+    → RefusedAlike c asked text asks desk id
+refused_alike c asked text asks desk id misses elsewhere =
     let a = not (knows c.settings c.caller) in
     let b = not (is_moment c.at) in (
       missing a b (is_bad_text text),
@@ -96,46 +101,45 @@ refused_on c asked text asks desk id misses elsewhere =
           (not_found c (standing_at other asked) (asks other) (elsewhere other none)),
     )
 
--- a request that isn't there is missing
-gone : (c : Call) (desk : Desk) (asked id : ℕ) → asked ≡ id → request_at desk id ≡ None → is_missing c (standing_at desk asked) ≡ true
-gone c desk asked id same none =
-    ap (λ n. is_missing c (standing_at desk n)) same ∙ ap (λ (o : Option Request). is_missing c (option_map standing o)) none
+-- a request that is hidden is missing, and so is one that isn't there
+hidden_at : (c : Call) (desk : Desk) (asked id : ℕ) → (asked == id) ≡ true → is_missing c (standing_at desk id) ≡ true
+    → is_missing c (standing_at desk asked) ≡ true
+hidden_at c desk asked id same hidden = ap (λ n. is_missing c (standing_at desk n)) (eqb-true asked id same) ∙ hidden
+
+gone_at : (c : Call) (desk : Desk) (asked id : ℕ) → (asked == id) ≡ true → request_at desk id ≡ None
+    → is_missing c (standing_at desk asked) ≡ true
+gone_at c desk asked id same none =
+    hidden_at c desk asked id same (ap (λ (o : Option Request). is_missing c (option_map standing o)) none)
+
+hidden_first : (c : Call) (asked : ℕ) (text : Option (List ℕ)) (asks : Desk → Standing → List Condition) (desk : Desk) (id : ℕ)
+    → (asked == id) ≡ true → is_missing c (standing_at desk id) ≡ true → RefusedAlike c asked text asks desk id
+hidden_first c asked text asks desk id same hidden =
+    refused_alike c asked text asks desk id (inl (hidden_at c desk asked id same hidden))
+    (λ other none. inl (gone_at c other asked id same none))
+
+-- the other end of a link is hidden
+hidden_second : (c : Call) (asked end : ℕ) (text : Option (List ℕ)) (conditions : Desk → Standing → List Condition) (desk : Desk) (id : ℕ)
+    → (end == id) ≡ true → is_missing c (standing_at desk id) ≡ true
+    → RefusedAlike c asked text (λ d on. (NotFound, is_missing c (standing_at d end)) ∷ conditions d on) desk id
+hidden_second c asked end text conditions desk id same hidden =
+    refused_alike c asked text (λ d on. (NotFound, is_missing c (standing_at d end)) ∷ conditions d on) desk id
+    (inr (λ on. holds_first (is_missing c (standing_at desk end)) (conditions desk on) (hidden_at c desk end id same hidden)))
+    (λ other none. inr (λ on. holds_first (is_missing c (standing_at other end)) (conditions other on) (gone_at c other end id same none)))
 
 hidden_by_plan : (c : Call) (plan : Plan) (desk : Desk) (id : ℕ) → names_request plan id ≡ true
     → is_missing c (standing_at desk id) ≡ true → RefusedByPlan c plan desk id
 hidden_by_plan c OnDesk desk id named hidden = cc
 hidden_by_plan c (OnQueue name conditions change) desk id named hidden = cc
 hidden_by_plan c (OnRequest asked Nothing text conditions change) desk id named hidden =
-    elim (or_cases (asked == id) false named) [
-      | inl first ↦
-          let same : asked ≡ id = eqb-true asked id first in
-          refused_on c asked text (λ d. conditions c (besides_on Nothing asked d)) desk id
-          (inl (ap (λ n. is_missing c (standing_at desk n)) same ∙ hidden)) (λ other none. inl (gone c other asked id same none))
-      | inr second ↦ cc
-    ]
+    hidden_first c asked text (λ d. conditions c (besides_on Nothing asked d)) desk id (sym (or-false (asked == id)) ∙ named) hidden
 hidden_by_plan c (OnRequest asked Dependencies text conditions change) desk id named hidden =
-    elim (or_cases (asked == id) false named) [
-      | inl first ↦
-          let same : asked ≡ id = eqb-true asked id first in
-          refused_on c asked text (λ d. conditions c (besides_on Dependencies asked d)) desk id
-          (inl (ap (λ n. is_missing c (standing_at desk n)) same ∙ hidden)) (λ other none. inl (gone c other asked id same none))
-      | inr second ↦ cc
-    ]
+    hidden_first c asked text (λ d. conditions c (besides_on Dependencies asked d)) desk id (sym (or-false (asked == id)) ∙ named) hidden
 hidden_by_plan c (OnRequest asked (Another kind end) text conditions change) desk id named hidden =
-    let asks : Desk → Standing → List Condition =
-    λ d on. (NotFound, is_missing c (standing_at d end)) ∷ conditions c (besides_on (Another kind end) asked d) on in
+    let besides : Desk → Standing → List Condition = λ d. conditions c (besides_on (Another kind end) asked d) in
     elim (or_cases (asked == id) (end == id) named) [
       | inl first ↦
-          let same : asked ≡ id = eqb-true asked id first in
-          refused_on c asked text asks desk id
-          (inl (ap (λ n. is_missing c (standing_at desk n)) same ∙ hidden)) (λ other none. inl (gone c other asked id same none))
-      | inr second ↦
-          let same : end ≡ id = eqb-true end id second in
-          refused_on c asked text asks desk id
-          (inr (λ on. holds_first (is_missing c (standing_at desk end)) (conditions c (besides_on (Another kind end) asked desk) on)
-          (ap (λ n. is_missing c (standing_at desk n)) same ∙ hidden)))
-          (λ other none. inr (λ on. holds_first (is_missing c (standing_at other end)) (conditions c (besides_on (Another kind end) asked other) on)
-          (gone c other end id same none)))
+          hidden_first c asked text (λ d on. (NotFound, is_missing c (standing_at d end)) ∷ besides d on) desk id first hidden
+      | inr second ↦ hidden_second c asked end text besides desk id second hidden
     ]
 
 pub hidden_law : (s : Settings) (at : ℕ) (caller : List ℕ) (command : Command) (desk : Desk) → RefusesAsMissing s at caller command desk

@@ -132,36 +132,44 @@ shown_there : (s : Settings) (caller : List ℕ) (desk : Desk) (r : Request) (id
 shown_there s caller desk r id there may =
     ap (is_shown s caller desk) (number_found desk id r there) ∙ ap (λ (o : Option Request). is_shown_in s caller o) there ∙ may
 
+-- a filter of the view's links is one of the desk's links, where it tests alike and keeps only links that are seen
+kept_in_view : (s : Settings) (caller : List ℕ) (desk : Desk) (there here : LinkRow → Bool) → ((l : LinkRow) → there l ≡ here l)
+    → ((l : LinkRow) → here l ≡ true → is_seen_link s caller desk l ≡ true)
+    → filter there (filter (is_seen_link s caller desk) desk.links) ≡ filter here desk.links
+kept_in_view s caller desk there here alike seen =
+    filter_agree there here alike (filter (is_seen_link s caller desk) desk.links)
+    ∙ filter_within here (is_seen_link s caller desk) seen desk.links
+
+-- both ends of a link of a request that is shown to another one that is
+ends_shown : (s : Settings) (caller : List ℕ) (desk : Desk) (id own other : ℕ) (is_of_kind : Bool) → is_shown s caller desk id ≡ true
+    → (own == id && (is_of_kind && is_shown s caller desk other)) ≡ true
+    → (is_shown s caller desk own ≡ true) × (is_shown s caller desk other ≡ true)
+ends_shown s caller desk id own other is_of_kind shown leads =
+    let parts = and_parts (own == id) (is_of_kind && is_shown s caller desk other) leads in (
+      ap (is_shown s caller desk) (eqb-true own id parts.0) ∙ shown,
+      (and_parts is_of_kind (is_shown s caller desk other) parts.1).1,
+    )
+
 -- the links of a request that is shown are those of the view
 linked_from_view : (s : Settings) (caller : List ℕ) (desk : Desk) (kind : LinkKind) (id : ℕ) → IsDesk desk → is_shown s caller desk id ≡ true
     → linked_from s caller (view s caller desk) kind id ≡ linked_from s caller desk kind id
 linked_from_view s caller desk kind id is shown =
-    ap (λ (l : List LinkRow). map (λ x. x.target) l)
-    (filter_agree (leads_from s caller (view s caller desk) kind id) (leads_from s caller desk kind id)
+    ap (λ (links : List LinkRow). map (λ l. l.target) links)
+    (kept_in_view s caller desk (leads_from s caller (view s caller desk) kind id) (leads_from s caller desk kind id)
     (λ l. ap (λ b. l.source == id && (is_kind kind l.kind && b)) (shown_in_view s caller desk l.target is))
-    (filter (is_seen_link s caller desk) desk.links)
-    ∙ filter_within (leads_from s caller desk kind id) (is_seen_link s caller desk)
     (λ l leads.
-        let here = and_parts (l.source == id) (is_kind kind l.kind && is_shown s caller desk l.target) leads in
-        let there = and_parts (is_kind kind l.kind) (is_shown s caller desk l.target) here.1 in
-        let first : is_shown s caller desk l.source ≡ true = ap (is_shown s caller desk) (eqb-true l.source id here.0) ∙ shown in
-        and_from (is_shown s caller desk l.source) (is_shown s caller desk l.target) first there.1)
-    desk.links)
+        let ends = ends_shown s caller desk id l.source l.target (is_kind kind l.kind) shown leads in
+        and_from (is_shown s caller desk l.source) (is_shown s caller desk l.target) ends.0 ends.1))
 
 linked_to_view : (s : Settings) (caller : List ℕ) (desk : Desk) (kind : LinkKind) (id : ℕ) → IsDesk desk → is_shown s caller desk id ≡ true
     → linked_to s caller (view s caller desk) kind id ≡ linked_to s caller desk kind id
 linked_to_view s caller desk kind id is shown =
-    ap (λ (l : List LinkRow). map (λ x. x.source) l)
-    (filter_agree (leads_to s caller (view s caller desk) kind id) (leads_to s caller desk kind id)
+    ap (λ (links : List LinkRow). map (λ l. l.source) links)
+    (kept_in_view s caller desk (leads_to s caller (view s caller desk) kind id) (leads_to s caller desk kind id)
     (λ l. ap (λ b. l.target == id && (is_kind kind l.kind && b)) (shown_in_view s caller desk l.source is))
-    (filter (is_seen_link s caller desk) desk.links)
-    ∙ filter_within (leads_to s caller desk kind id) (is_seen_link s caller desk)
     (λ l leads.
-        let here = and_parts (l.target == id) (is_kind kind l.kind && is_shown s caller desk l.source) leads in
-        let there = and_parts (is_kind kind l.kind) (is_shown s caller desk l.source) here.1 in
-        let second : is_shown s caller desk l.target ≡ true = ap (is_shown s caller desk) (eqb-true l.target id here.0) ∙ shown in
-        and_from (is_shown s caller desk l.source) (is_shown s caller desk l.target) there.1 second)
-    desk.links)
+        let ends = ends_shown s caller desk id l.target l.source (is_kind kind l.kind) shown leads in
+        and_from (is_shown s caller desk l.source) (is_shown s caller desk l.target) ends.1 ends.0))
 
 links_in_view : (s : Settings) (caller : List ℕ) (desk : Desk) (id : ℕ) → IsDesk desk → is_shown s caller desk id ≡ true
     → links_of s caller (view s caller desk) id ≡ links_of s caller desk id
