@@ -1,5 +1,5 @@
 -- A command that names a hidden request is refused as one that names a request that isn't there.
-use Rattle.std.proofs.Common.{◌≡◌, ◌⊎◌, ◌∙◌, ℕ, ◌≤◌, ◌==◌, ◌||◌, Bool, true, false, not, cond, List, [], ◌∷◌, Option, Some, None, Err, inl, inr, refl, ap, sym, arith}
+use Rattle.std.proofs.Common.{◌≡◌, ◌⊎◌, ◌∙◌, ℕ, ◌≤◌, ◌==◌, Bool, true, false, not, cond, List, ◌∷◌, Option, Some, None, inl, inr, refl, ap, sym, arith}
 use Rattle.std.specs.Option.{option_map, option_map_or}
 use Rattle.std.proofs.Math.Bool.{or-false}
 use Rattle.std.proofs.lemmas.Bool.{eqb-true, or_cases}
@@ -11,12 +11,11 @@ use Rattle.desk_core.specs.Condition.{Condition, first_holding}
 use Rattle.desk_core.specs.Desk.{Desk, Request, request_at}
 use Rattle.desk_core.specs.Facts.{standing, standing_at}
 use Rattle.desk_core.specs.Laws.{RefusesAsMissing}
-use Rattle.desk_core.specs.Plan.{Call, Plan, OnDesk, OnQueue, OnRequest, Besides, Nothing, Dependencies, Another, besides_on, conditions_by, is_bad_text, is_missing, names_request, on_shown, seen_by}
-use Rattle.desk_core.specs.Reading.{answer_of, is_shown}
+use Rattle.desk_core.specs.Plan.{Call, Plan, OnDesk, OnQueue, OnRequest, Nothing, Dependencies, Another, besides_on, conditions_by, is_bad_text, is_missing, names_request, on_shown, seen_by}
+use Rattle.desk_core.specs.Reading.{answer_of}
 use Rattle.desk_core.specs.Refusals.{number_of}
 use Rattle.desk_core.specs.Rights.{may_show}
-use Rattle.desk_core.specs.Step.{call, conditions_on, facts_of, outcome_unless}
-use Rattle.desk_core.specs.declared.answer.Answer.{Answer}
+use Rattle.desk_core.specs.Step.{call, outcome_unless}
 use Rattle.desk_core.specs.declared.command.Command.{Command}
 use Rattle.desk_core.specs.declared.facts.Standing.{Standing}
 use Rattle.desk_core.specs.declared.refusal.Refusal.{Refusal}

@@ -15,7 +15,7 @@ use Rattle.desk_core.proofs.Goes.{number_found}
 use Rattle.desk_core.specs.Condition.{first_holding}
 use Rattle.desk_core.specs.Desk.{Desk, Request, queue_at, request_at}
 use Rattle.desk_core.specs.Due.{due_of, due_on}
-use Rattle.desk_core.specs.Facts.{standing, standing_at}
+use Rattle.desk_core.specs.Facts.{standing}
 use Rattle.desk_core.specs.IsDesk.{IsDesk, are_numbered}
 use Rattle.desk_core.specs.Laws.{HidesTheRest, TellsOfTheView}
 use Rattle.desk_core.specs.Links.{is_kind}
@@ -30,7 +30,6 @@ use Rattle.desk_core.specs.declared.answer.Links.{Links}
 use Rattle.desk_core.specs.declared.answer.Shown as shown
 use Rattle.desk_core.specs.declared.command.Command.{Command}
 use Rattle.desk_core.specs.declared.command.Command.TheVariants.{Queues, Show, History}
-use Rattle.desk_core.specs.declared.refusal.Refusal.{Refusal}
 use Rattle.desk_core.specs.declared.refusal.Refusal.TheVariants.{UnknownCaller, BadMoment, BadText, NotFound}
 use Rattle.desk_core.specs.declared.rows.Entry.{Entry}
 use Rattle.desk_core.specs.declared.rows.LinkKind.{LinkKind}
@@ -158,8 +157,8 @@ linked_from_view s caller desk kind id is shown =
     (kept_in_view s caller desk (leads_from s caller (view s caller desk) kind id) (leads_from s caller desk kind id)
     (λ l. ap (λ b. l.source == id && (is_kind kind l.kind && b)) (shown_in_view s caller desk l.target is))
     (λ l leads.
-        let ends = ends_shown s caller desk id l.source l.target (is_kind kind l.kind) shown leads in
-        and_from (is_shown s caller desk l.source) (is_shown s caller desk l.target) ends.0 ends.1))
+    let ends = ends_shown s caller desk id l.source l.target (is_kind kind l.kind) shown leads in
+    and_from (is_shown s caller desk l.source) (is_shown s caller desk l.target) ends.0 ends.1))
 
 linked_to_view : (s : Settings) (caller : List ℕ) (desk : Desk) (kind : LinkKind) (id : ℕ) → IsDesk desk → is_shown s caller desk id ≡ true
     → linked_to s caller (view s caller desk) kind id ≡ linked_to s caller desk kind id
@@ -168,8 +167,8 @@ linked_to_view s caller desk kind id is shown =
     (kept_in_view s caller desk (leads_to s caller (view s caller desk) kind id) (leads_to s caller desk kind id)
     (λ l. ap (λ b. l.target == id && (is_kind kind l.kind && b)) (shown_in_view s caller desk l.source is))
     (λ l leads.
-        let ends = ends_shown s caller desk id l.target l.source (is_kind kind l.kind) shown leads in
-        and_from (is_shown s caller desk l.source) (is_shown s caller desk l.target) ends.1 ends.0))
+    let ends = ends_shown s caller desk id l.target l.source (is_kind kind l.kind) shown leads in
+    and_from (is_shown s caller desk l.source) (is_shown s caller desk l.target) ends.1 ends.0))
 
 links_in_view : (s : Settings) (caller : List ℕ) (desk : Desk) (id : ℕ) → IsDesk desk → is_shown s caller desk id ≡ true
     → links_of s caller (view s caller desk) id ≡ links_of s caller desk id
