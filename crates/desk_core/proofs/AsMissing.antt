@@ -42,9 +42,9 @@ first_missing false true c rest e = refl
 first_missing false false true rest e = refl
 first_missing false false false rest e = e
 
--- the conditions that come before those of the plan
-abbrev after_those : Call → List Condition → List Condition
-after_those c rest = (UnknownCaller, not (knows c.settings c.caller)) ∷ (BadMoment, not (is_moment c.at)) ∷ rest
+-- these conditions after those on the call
+abbrev after_call : Call → List Condition → List Condition
+after_call c rest = (UnknownCaller, not (knows c.settings c.caller)) ∷ (BadMoment, not (is_moment c.at)) ∷ rest
 
 -- the request is missing, or what follows of it begins with a request that is
 abbrev Misses : Call → Option Standing → (Standing → List Condition) → Type 0
@@ -71,7 +71,7 @@ missing_unless_shown s at caller None e = refl
 missing_unless_shown s at caller (Some on) e = ap not e
 
 abbrev guard_by : Call → Plan → Desk → Option Refusal
-guard_by c plan desk = first_holding (after_those c (conditions_by c (seen_by plan desk) plan))
+guard_by c plan desk = first_holding (after_call c (conditions_by c (seen_by plan desk) plan))
 
 abbrev RefusedByPlan : Call → Plan → Desk → ℕ → Type 0
 RefusedByPlan c plan desk id =
@@ -82,9 +82,9 @@ RefusedByPlan c plan desk id =
 abbrev RefusedAlike : Call → ℕ → Option (List ℕ) → (Desk → Standing → List Condition) → Desk → ℕ → Type 0
 RefusedAlike c asked text asks desk id =
     (refusal : Refusal) × (number_of refusal ≤ 4)
-    × (first_holding (after_those c ((BadText, is_bad_text text) ∷ on_shown c (standing_at desk asked) (asks desk))) ≡ Some refusal)
+    × (first_holding (after_call c ((BadText, is_bad_text text) ∷ on_shown c (standing_at desk asked) (asks desk))) ≡ Some refusal)
     × ((other : Desk) → request_at other id ≡ None
-    → first_holding (after_those c ((BadText, is_bad_text text) ∷ on_shown c (standing_at other asked) (asks other))) ≡ Some refusal)
+    → first_holding (after_call c ((BadText, is_bad_text text) ∷ on_shown c (standing_at other asked) (asks other))) ≡ Some refusal)
 
 refused_alike : (c : Call) (asked : ℕ) (text : Option (List ℕ)) (asks : Desk → Standing → List Condition) (desk : Desk) (id : ℕ)
     → Misses c (standing_at desk asked) (asks desk)

@@ -113,7 +113,7 @@ TellsOfTheView settings at caller command desk =
     IsDesk desk → IsReading command
     → outcome_of settings at caller command desk ≡ outcome_of settings at caller command (view settings caller desk)
 
--- What is outside the caller's view is what the caller may not show.
+-- A request outside the caller's view isn't there, or the caller may not show it.
 abbrev pub HidesTheRest : Settings → List ℕ → Desk → Type 0
 HidesTheRest settings caller desk =
     IsDesk desk → (id : ℕ) → request_at (view settings caller desk) id ≡ None → is_shown settings caller desk id ≡ false

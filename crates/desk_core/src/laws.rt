@@ -44,8 +44,8 @@ pub fn due_law()
         → TellsDueMoments settings at caller command desk }
 {}
 
-/// What comes of a reading command is told of the caller's view of the desk alone, and outside of it is only what the
-/// caller may not show.
+/// What comes of a reading command is told of the caller's view of the desk alone. A request outside the view isn't
+/// there, or the caller may not show it.
 pub fn view_law()
     ensures inside { (settings : Settings) (at : ℕ) (caller : List ℕ) (command : Command) (desk : Desk)
         → TellsOfTheView settings at caller command desk }
