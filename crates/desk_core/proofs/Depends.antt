@@ -32,7 +32,7 @@ or_true true = refl
 or_true false = refl
 
 -- what passes a test is among what is found by another
-found_among : {A : Type 0} (test other : A → Bool) (xs : List A) (x : A) → find test xs ≡ Some x → other x ≡ true → list_any other xs ≡ true
+pub found_among : {A : Type 0} (test other : A → Bool) (xs : List A) (x : A) → find test xs ≡ Some x → other x ≡ true → list_any other xs ≡ true
 found_among test other [] x e t = cc
 found_among {A} test other (y ∷ ys) x e t =
     elim (test y) as (λ b. cond b (Some y) (find test ys) ≡ Some x → (other y || list_any other ys) ≡ true) [

@@ -1,7 +1,10 @@
 pub mod Applied
+pub mod AsMissing
 pub mod Depends
+pub mod DueLaw
 pub mod Goes
 pub mod Kept
 pub mod Placing
 pub mod Roles
 pub mod Unchanged
+pub mod ViewLaw

@@ -1,10 +1,16 @@
 -- The watchers of a request tell the roles on it.
-use Rattle.std.proofs.Common.{◌≡◌, ◌∙◌, ℕ, ◌==◌, Bool, true, false, ◌&&◌, ◌||◌, List, [], ◌∷◌, ◌++◌, map, refl, inl, inr}
+use Rattle.std.proofs.Common.{◌≡◌, ◌∙◌, ℕ, ◌==◌, Bool, true, false, ◌&&◌, ◌||◌, List, [], ◌∷◌, ◌++◌, map, refl, ap, inl, inr}
 use Rattle.std.specs.Str.{bytes_eq}
 use Rattle.std.proofs.lemmas.Bool.Decides.{eqb_tells}
 use Rattle.std.proofs.lemmas.List.Folds.{list_any-append}
+use Rattle.rights_core.specs.People.{holds}
+use Rattle.rights_core.specs.Right.{show_ticket}
+use Rattle.rights_core.specs.declared.role.Roles.{Roles}
+use Rattle.settings_core.specs.Settings.{people_of}
+use Rattle.settings_core.specs.declared.settings.Settings.{Settings}
 use Rattle.desk_core.specs.Desk.{Request}
 use Rattle.desk_core.specs.Facts.{standing}
+use Rattle.desk_core.specs.Laws.{ShowsByWatchers}
 use Rattle.desk_core.specs.Watchers.{is_role, is_watching, roles_among, watcher, watchers_of}
 use Rattle.desk_core.specs.Rights.{is_among, roles_on}
 use Rattle.desk_core.specs.declared.rows.Watcher.{Watcher}
@@ -78,3 +84,7 @@ admin_cc_kept person r =
 -- the roles that the watchers tell are the person's on the request
 pub roles_kept : (person : List ℕ) (r : Request) → roles_among person r.row (watchers_of r) ≡ roles_on person (standing r)
 roles_kept person r = rw (requestors_kept person r, cc_kept person r, admin_cc_kept person r) refl
+
+-- who may show a request by its watchers may show it
+pub roles_law : (s : Settings) (person : List ℕ) (r : Request) → ShowsByWatchers s person r
+roles_law s person r = ap (λ (roles : Roles). holds (people_of s) person show_ticket r.row.queue roles) (roles_kept person r)

@@ -13,9 +13,10 @@ use Rattle.desk_core.specs.Lifecycles.{is_allowed, is_inactive, lifecycle_of, re
 use Rattle.desk_core.specs.Plan.{names_request}
 use Rattle.desk_core.specs.Reading.{IsReading, answer_of, is_shown}
 use Rattle.desk_core.specs.Refusals.{number_of}
-use Rattle.desk_core.specs.Rights.{holds_on}
+use Rattle.desk_core.specs.Rights.{holds_on, may_show}
 use Rattle.desk_core.specs.Step.{desk_after, outcome_of}
 use Rattle.desk_core.specs.View.{view}
+use Rattle.desk_core.specs.Watchers.{may_show_by, watchers_of}
 use Rattle.desk_core.specs.declared.answer.Answer.{Answer}
 use Rattle.desk_core.specs.declared.answer.Answer.TheVariants.{Shown}
 use Rattle.desk_core.specs.declared.command.Command.{Command}
@@ -111,3 +112,13 @@ abbrev pub TellsOfTheView : Settings → ℕ → List ℕ → Command → Desk �
 TellsOfTheView settings at caller command desk =
     IsDesk desk → IsReading command
     → outcome_of settings at caller command desk ≡ outcome_of settings at caller command (view settings caller desk)
+
+-- A request outside the caller's view isn't there, or the caller may not show it.
+abbrev pub HidesTheRest : Settings → List ℕ → Desk → Type 0
+HidesTheRest settings caller desk =
+    IsDesk desk → (id : ℕ) → request_at (view settings caller desk) id ≡ None → is_shown settings caller desk id ≡ false
+
+-- The rows of a request's people tell who may show it.
+abbrev pub ShowsByWatchers : Settings → List ℕ → Request → Type 0
+ShowsByWatchers settings person request =
+    may_show_by settings person request.row (watchers_of request) ≡ may_show settings person (standing request)

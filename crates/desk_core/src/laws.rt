@@ -2,8 +2,8 @@
 
 ghost use Rattle.std.specs.Prelude.{ℕ, List};
 ghost use Rattle.settings_core.specs.declared.settings.Settings.{Settings};
-ghost use Rattle.desk_core.specs.Desk.{Desk};
-ghost use Rattle.desk_core.specs.Laws.{KeepsDependencyLaw, KeepsHistory, KeepsOwnerLaw, KeepsStatusLaw};
+ghost use Rattle.desk_core.specs.Desk.{Desk, Request};
+ghost use Rattle.desk_core.specs.Laws.{HidesTheRest, KeepsDependencyLaw, KeepsHistory, KeepsOwnerLaw, KeepsStatusLaw, RefusesAsMissing, ShowsByWatchers, TellsDueMoments, TellsOfTheView};
 ghost use Rattle.desk_core.specs.declared.command.Command.{Command};
 
 /// A request stays, and so do the entries of its history.
@@ -30,4 +30,29 @@ pub fn status_law()
 pub fn dependency_law()
     ensures { (settings : Settings) (at : ℕ) (caller : List ℕ) (command : Command) (desk : Desk)
         → KeepsDependencyLaw settings at caller command desk }
+{}
+
+/// A request that the caller may not show is refused as one that isn't there, whatever the command that names it.
+pub fn hidden_law()
+    ensures { (settings : Settings) (at : ℕ) (caller : List ℕ) (command : Command) (desk : Desk)
+        → RefusesAsMissing settings at caller command desk }
+{}
+
+/// A due moment in an answer is that of its request, by the level that it has.
+pub fn due_law()
+    ensures { (settings : Settings) (at : ℕ) (caller : List ℕ) (command : Command) (desk : Desk)
+        → TellsDueMoments settings at caller command desk }
+{}
+
+/// What comes of a reading command is told of the caller's view of the desk alone. A request outside the view isn't
+/// there, or the caller may not show it.
+pub fn view_law()
+    ensures inside { (settings : Settings) (at : ℕ) (caller : List ℕ) (command : Command) (desk : Desk)
+        → TellsOfTheView settings at caller command desk }
+    ensures outside { (settings : Settings) (caller : List ℕ) (desk : Desk) → HidesTheRest settings caller desk }
+{}
+
+/// The rows of a request's people tell who may show it.
+pub fn roles_law()
+    ensures { (settings : Settings) (person : List ℕ) (request : Request) → ShowsByWatchers settings person request }
 {}
