@@ -6,4 +6,6 @@ pub mod Hours
 pub mod Least
 pub mod Limit
 pub mod Moment
+pub mod Probes
+pub mod Spans
 pub mod Zone

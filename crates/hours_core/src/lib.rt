@@ -7,12 +7,16 @@ mod calendar;
 mod counting;
 mod date;
 mod fault;
+mod holidays;
 mod level;
 mod moment;
+mod search;
+mod spans;
 mod week;
 mod zone;
 
 pub use calendar::Calendar;
+pub use spans::Probes;
 pub use date::{date_of, minute_text};
 pub use fault::HoursFault;
 pub use level::{Level, Limit};
@@ -20,5 +24,5 @@ pub use moment::{END, Minute, START};
 pub use week::Intervals;
 pub use zone::Zone;
 
-#[cfg(test)]
-mod tests;
+
+
