@@ -7,5 +7,6 @@ pub mod Least
 pub mod Limit
 pub mod Moment
 pub mod Probes
+pub mod Schedule
 pub mod Spans
 pub mod Zone

@@ -10,6 +10,7 @@ mod fault;
 mod holidays;
 mod level;
 mod moment;
+mod schedule;
 mod search;
 mod spans;
 mod week;
