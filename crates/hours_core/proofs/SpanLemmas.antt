@@ -15,14 +15,14 @@ within a b m low high = rw (le-leb a m low, lt-ltb m b high) refl
 pub under : (a b m : ℕ) → m < a → is_within m (a, b) ≡ false
 under a b m h = rw (lt-leb a m h) refl
 
-and-false : (x : Bool) → (x && false) ≡ false
+pub and-false : (x : Bool) → (x && false) ≡ false
 and-false true = refl
 and-false false = refl
 
 pub over : (a b m : ℕ) → b ≤ m → is_within m (a, b) ≡ false
 over a b m h = rw (le-ltb m b h) (and-false (nat_le a m))
 
-or-false : (x : Bool) → (x || false) ≡ x
+pub or-false : (x : Bool) → (x || false) ≡ x
 or-false true = refl
 or-false false = refl
 

@@ -1,4 +1,4 @@
-ghost use Rattle.std.specs.Prelude.{◌≡◌, ◌<◌, ◌≤◌, ◌+◌, ◌-◌, ◌&&◌, ◌||◌, ℕ, true, IfOk, OnOk};
+ghost use Rattle.std.specs.Prelude.{◌≡◌, ◌<◌, ◌≤◌, ◌+◌, ◌-◌, ◌&&◌, ◌||◌, ℕ, true, pos, neg_ℤ, ◌+ℤ◌, ◌≤ℤ◌, IfOk, OnOk};
 ghost use Rattle.std.specs.List.{list_all, list_any};
 ghost use Rattle.hours_core.specs.Date.{date_of_day};
 ghost use Rattle.hours_core.specs.Hours as spec;
@@ -86,7 +86,7 @@ impl Schedule {
         let offset = self.zone.offset_at(from);
         let mut point = from;
         while point < to {
-            let local = (point as i64 + offset) as u32;
+            let local = shifted(point, offset);
             let midnight = point - local % DAY;
             let next = to.min(midnight + DAY);
             add_day(spans, self.intervals_on(local / DAY), midnight, point, next)?;
@@ -107,6 +107,14 @@ impl Schedule {
             intervals_of(self.week.as_slice(), day)
         }
     }
+}
+
+/// The minute with the offset added.
+fn shifted(m: u32, offset: i64) -> u32
+    requires { (first_minute ≤ m) × (m ≤ end_minute) × (neg_ℤ (pos 1439) ≤ℤ offset) × (offset ≤ℤ pos 1439) }
+    ensures { pos result ≡ pos m +ℤ offset }
+{
+    (m as i64 + offset) as u32
 }
 
 /// Whether the day is in one of the years.

@@ -1,4 +1,4 @@
-ghost use Rattle.std.specs.Prelude.{◌≡◌, ◌≢◌, ◌⊎◌, ◌<◌, ◌≤◌, ◌+◌, ℕ, ℤ, true, ◌&&◌, length, pos, ◌+ℤ◌, ◌≤ℤ◌, neg_ℤ, IfOk, IfErr};
+ghost use Rattle.std.specs.Prelude.{◌≡◌, ◌≢◌, ◌⊎◌, ◌<◌, ◌≤◌, ◌+◌, ℕ, ℤ, true, ◌&&◌, length, pos, ◌+ℤ◌, ◌≤ℤ◌, neg_ℤ, IsOk, IfOk, IfErr};
 ghost use Rattle.std.specs.List.{list_all};
 ghost use Rattle.hours_core.specs.Moment.{end_minute};
 ghost use Rattle.hours_core.specs.Zone as spec;
@@ -39,6 +39,7 @@ impl Zone {
     pub fn build(alloc: Global, first: i64, changes: &[(i64, i64)]) -> Result<Zone, HoursFault>
         ensures ok { IfOk result (λ z. spec.zone_of first changes.now ≡ Ok z) }
         ensures err { IfErr result (λ e. e ≢ HoursFault.NoMemory → spec.zone_of first changes.now ≡ Err e) }
+        ensures memory { IfErr result (λ e. e ≡ HoursFault.NoMemory → IsOk (spec.zone_of first changes.now)) }
     {
         if !(is_offset(first) && have_offsets(changes)) {
             return Err(HoursFault::BadOffset);
