@@ -1,14 +1,12 @@
 -- The span that a search finds, and what is counted up to it.
-use Rattle.std.proofs.Common.{◌≡◌, ℕ, zero, suc, ◌+◌, ◌-◌, ◌<◌, ◌≤◌, Bool, true, false, ◌||◌, List, [], ◌∷◌, Option, Some, None, MatchOption, min, max, if◌then◌else◌, inl, inr, refl, sym, ap, ◌∙◌, arith}
+use Rattle.std.proofs.Common.{◌≡◌, ℕ, zero, suc, ◌+◌, ◌-◌, ◌<◌, ◌≤◌, Bool, true, false, List, [], ◌∷◌, Option, Some, None, MatchOption, max, if◌then◌else◌, inl, inr, refl, ap, ◌∙◌, arith}
 use Rattle.std.specs.List.{find}
-use Rattle.std.specs.Option.{option_map}
 use Rattle.std.proofs.lemmas.Bool.{cases_lt, lt-ltb, le-ltb, le-leb, lt-leb, ne_eqb, eq-eqb}
 use Rattle.hours_core.specs.Counting.{count_of_next, count, has_passed}
-use Rattle.hours_core.specs.Hours.{is_within}
-use Rattle.hours_core.specs.Least.{least, NoneHolds, IsLeast}
+use Rattle.hours_core.specs.Least.{NoneHolds, IsLeast}
 use Rattle.hours_core.specs.Moment.{first_minute, end_minute}
 use Rattle.hours_core.specs.Probes.{reaches}
-use Rattle.hours_core.specs.Spans.{is_in, is_held, minutes_of, AreSpans, held_before}
+use Rattle.hours_core.specs.Spans.{is_held, minutes_of, AreSpans, held_before}
 use Rattle.hours_core.specs.declared.search.Mark.TheVariants.{EndsAfter, Counts}
 use Rattle.hours_core.specs.declared.spans.Span.{Span}
 use Rattle.hours_core.proofs.LeastLemmas.{same_least, count-start}
@@ -29,7 +27,7 @@ none_late e b (x ∷ xs) m h k =
     let to = h.2 in
     rw (over x.start x.end m (omega arith)) (none_late (x.end + 1) (b + minutes_of x) xs m h.4 k)
 
-none_before : (e b : ℕ) (xs : List Span) (m : ℕ) → AreSpans e b xs → m ≤ e → held_before xs m ≡ 0
+pub none_before : (e b : ℕ) (xs : List Span) (m : ℕ) → AreSpans e b xs → m ≤ e → held_before xs m ≡ 0
 none_before e b [] m h k = refl
 none_before e b (x ∷ xs) m h k =
     let start = h.0 in
@@ -87,8 +85,8 @@ first_is e b (x ∷ xs) m h =
       | inr late ↦
           rw (le-ltb m x.end late)
           (same_least (is_held xs) (is_held (x ∷ xs)) m end_minute (opening_of m (find (reaches (EndsAfter m)) xs))
-            (λ k low. rw (over x.start x.end k (omega arith)) refl)
-            (first_is (x.end + 1) (b + minutes_of x) xs m h.4))
+          (λ k low. rw (over x.start x.end k (omega arith)) refl)
+          (first_is (x.end + 1) (b + minutes_of x) xs m h.4))
     ]
 
 option_weaker : {X : Type 0} (o : Option X) {P P' : Type 0} {Q Q' : X → Type 0} → (P → P') → ((x : X) → Q x → Q' x) → MatchOption o P Q → MatchOption o P' Q'
@@ -98,7 +96,7 @@ option_weaker (Some x) f g h = g x h
 -- how many minutes before m are held, by the span that a search finds
 pub passed_is : (e b : ℕ) (xs : List Span) (m : ℕ) → AreSpans e b xs
     → MatchOption (find (reaches (EndsAfter m)) xs) ((y : ℕ) → m ≤ y → held_before xs y ≡ held_before xs m)
-        (λ s. (s.before + (m - s.start) ≡ b + held_before xs m) × (s.before + (m - s.start) ≤ b + (m - e)))
+    (λ s. (s.before + (m - s.start) ≡ b + held_before xs m) × (s.before + (m - s.start) ≤ b + (m - e)))
 passed_is e b [] m h = λ y k. refl
 passed_is e b (x ∷ xs) m h =
     let start = h.0 in
@@ -111,9 +109,9 @@ passed_is e b (x ∷ xs) m h =
       | inr late ↦
           rw (le-ltb m x.end late)
           (option_weaker (find (reaches (EndsAfter m)) xs)
-            (λ all y k. omega (arith, all y k))
-            (λ s r. (omega (arith, r.0), omega (arith, r.1)))
-            (passed_is (x.end + 1) (b + minutes_of x) xs m h.4))
+          (λ all y k. omega (arith, all y k))
+          (λ s r. (omega (arith, r.0), omega (arith, r.1)))
+          (passed_is (x.end + 1) (b + minutes_of x) xs m h.4))
     ]
 
 -- where a number of minutes ends: in this span
@@ -169,9 +167,9 @@ end_is e b (x ∷ xs) target h some =
       | inl more ↦
           rw (lt-leb target (x.before + minutes_of x) more)
           (option_weaker (find (reaches (Counts target)) xs)
-            (λ all m. omega (arith, all m))
-            (λ s r. later_ends e b x xs target s h r)
-            (end_is (x.end + 1) (b + minutes_of x) xs target h.4 (omega arith)))
+          (λ all m. omega (arith, all m))
+          (λ s r. later_ends e b x xs target s h r)
+          (end_is (x.end + 1) (b + minutes_of x) xs target h.4 (omega arith)))
     ]
 
 -- fewer minutes have passed than are asked for

@@ -1,5 +1,5 @@
 -- What halving finds among days that don't fall.
-use Rattle.std.proofs.Common.{◌≡◌, ℕ, zero, suc, ◌+◌, ◌<◌, ◌≤◌, Bool, true, false, ◌||◌, ◌==◌, List, [], ◌∷◌, length, get_or, Result, Ok, Err, MatchResult, inl, inr, refl, sym, ap, ◌∙◌, arith, eq-eqb}
+use Rattle.std.proofs.Common.{◌≡◌, ℕ, suc, ◌<◌, ◌≤◌, Bool, false, ◌==◌, List, [], ◌∷◌, length, get_or, Result, Ok, Err, MatchResult, inl, inr, refl, sym, arith, eq-eqb}
 use Rattle.std.specs.List.{list_any}
 use Rattle.std.specs.List.Sorted.{IsBinarySearchResult, IsNonDecreasing}
 use Rattle.std.specs.Ordering.{nat_cmp}
@@ -20,10 +20,10 @@ by_place : (day : ℕ) (xs : List ℕ) (r : Result ℕ ℕ)
 by_place day xs (Ok i) h = sym (list_any_at (λ holiday. holiday == day) xs i 0 h.0 (eq-eqb _ _ h.1))
 by_place day xs (Err i) h =
     sym (none_at (λ holiday. holiday == day) xs (λ k within. ne_eqb _ _ (λ e.
-      elim (cases_lt k i) [
-        | inl before ↦ omega (arith, h.1 k before)
-        | inr from ↦ omega (arith, h.2 k from within)
-      ])))
+    elim (cases_lt k i) [
+      | inl before ↦ omega (arith, h.1 k before)
+      | inr from ↦ omega (arith, h.2 k from within)
+    ])))
 
 pub found : (day : ℕ) (xs : List ℕ) (r : Result ℕ ℕ) → IsBinarySearchResult (λ y. nat_cmp y day) xs r → IsNonDecreasing xs
     → is_ok r ≡ list_any (λ holiday. holiday == day) xs

@@ -94,9 +94,9 @@ only_least p a b (Some n) (Some m) h k =
     elim (cases_order n m) [
       | inl same ↦ ap Some same
       | inr other ↦ elim other [
-          | inl less ↦ absurd (both_ways (p n) (k.3 n h.0 less) h.2)
-          | inr more ↦ absurd (both_ways (p m) (h.3 m k.0 more) k.2)
-        ]
+        | inl less ↦ absurd (both_ways (p n) (k.3 n h.0 less) h.2)
+        | inr more ↦ absurd (both_ways (p m) (h.3 m k.0 more) k.2)
+      ]
     ]
 
 pub is_least : (p : ℕ → Bool) (a b : ℕ) (r : Option ℕ) → IsLeast p a b r → r ≡ least p a b

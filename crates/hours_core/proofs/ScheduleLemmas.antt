@@ -1,13 +1,13 @@
 -- How the intervals of local days become spans of moments.
-use Rattle.std.proofs.Common.{◌≡◌, ℕ, zero, suc, ◌+◌, ◌-◌, ◌*◌, ◌/◌, ◌%◌, ◌<◌, ◌≤◌, Bool, true, false, not, ◌&&◌, ◌||◌, ◌==◌, nat_le, nat_lt, List, [], ◌∷◌, min, max, ℤ, pos, ◌+ℤ◌, unsigned_abs, inl, inr, refl, sym, ap, ◌∙◌, arith}
+use Rattle.std.proofs.Common.{◌≡◌, ℕ, ◌+◌, ◌-◌, ◌*◌, ◌/◌, ◌%◌, ◌<◌, ◌≤◌, Bool, true, false, ◌&&◌, ◌||◌, ◌==◌, nat_le, nat_lt, List, [], ◌∷◌, min, max, ℤ, pos, ◌+ℤ◌, unsigned_abs, inl, inr, refl, sym, ◌∙◌, arith}
 use Rattle.std.specs.List.{list_any}
 use Rattle.std.proofs.lemmas.Bool.{cases_lt, lt-ltb, le-ltb, le-leb, lt-leb, and_parts, leb-true, ltb-true}
 use Rattle.std.proofs.lemmas.Int.{ints}
 use Rattle.hours_core.specs.Hours.{Hours, is_open, is_open_on, is_within, are_intervals}
-use Rattle.hours_core.specs.Moment.{first_minute, end_minute, is_moment}
+use Rattle.hours_core.specs.Moment.{first_minute, end_minute}
 use Rattle.hours_core.specs.Schedule.{HoldBefore}
 use Rattle.hours_core.specs.Spans.{is_held, end_of}
-use Rattle.hours_core.specs.Zone.{Offsets, local_minute, offset_at}
+use Rattle.hours_core.specs.Zone.{Offsets, local_minute}
 use Rattle.hours_core.specs.declared.spans.Span.{Span}
 use Rattle.hours_core.proofs.SpanLemmas.{within, under, over, and-false, or-false}
 
@@ -19,9 +19,9 @@ inside midnight from to s e m h low high =
     elim (cases_lt (m - midnight) s) [
       | inl before ↦ rw (under s e (m - midnight) before, under a b m (omega arith)) refl
       | inr begun ↦ elim (cases_lt (m - midnight) e) [
-          | inl still ↦ rw (within s e (m - midnight) begun still, within a b m (omega arith) (omega arith)) refl
-          | inr after ↦ rw (over s e (m - midnight) after, over a b m (omega arith)) refl
-        ]
+        | inl still ↦ rw (within s e (m - midnight) begun still, within a b m (omega arith) (omega arith)) refl
+        | inr after ↦ rw (over s e (m - midnight) after, over a b m (omega arith)) refl
+      ]
     ]
 
 -- the part of a local interval that lies between two minutes
@@ -33,9 +33,9 @@ clipped midnight from to s e m h =
     elim (cases_lt m from) [
       | inl early ↦ rw (under from to m early, under a b m (omega arith)) refl
       | inr low ↦ elim (cases_lt m to) [
-          | inr late ↦ rw (over from to m late, over a b m (omega arith)) refl
-          | inl high ↦ rw (within from to m low high) (inside midnight from to s e m h low high)
-        ]
+        | inr late ↦ rw (over from to m late, over a b m (omega arith)) refl
+        | inl high ↦ rw (within from to m low high) (inside midnight from to s e m h low high)
+      ]
     ]
 
 -- one interval more
@@ -87,12 +87,12 @@ held_more hours point next midnight day intervals old new before low begins orde
         | inl early ↦
             rw (grown m, before.held m, under point next m early, lt-ltb m point early, lt-ltb m next (omega arith)) (or-false (is_open hours m))
         | inr from ↦ elim (cases_lt m next) [
-            | inl inside ↦
-                rw (grown m, before.held m, within point next m from inside, le-ltb m point from, lt-ltb m next inside)
-                (opens (m - midnight) ∙ sym (open_at hours m day (m - midnight) (omega arith) (omega arith) (omega arith) (clock m from inside)))
-            | inr late ↦
-                rw (grown m, before.held m, over point next m late, le-ltb m point from, le-ltb m next late) refl
-          ]
+          | inl inside ↦
+              rw (grown m, before.held m, within point next m from inside, le-ltb m point from, lt-ltb m next inside)
+              (opens (m - midnight) ∙ sym (open_at hours m day (m - midnight) (omega arith) (omega arith) (omega arith) (clock m from inside)))
+          | inr late ↦
+              rw (grown m, before.held m, over point next m late, le-ltb m point from, le-ltb m next late) refl
+        ]
       ];
   last = last;
 }

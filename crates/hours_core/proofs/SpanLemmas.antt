@@ -1,6 +1,5 @@
 -- What a list of spans holds when one is added at its end.
-use Rattle.std.proofs.Common.{◌≡◌, ℕ, zero, suc, ◌+◌, ◌-◌, ◌^◌, ◌<◌, ◌≤◌, Bool, true, false, ◌&&◌, ◌||◌, nat_le, nat_lt, List, [], ◌∷◌, ◌++◌, length, inl, inr, refl, sym, ap, ◌∙◌, arith}
-use Rattle.std.specs.List.{list_any}
+use Rattle.std.proofs.Common.{◌≡◌, ℕ, ◌+◌, ◌^◌, ◌<◌, ◌≤◌, Bool, true, false, ◌&&◌, ◌||◌, nat_le, List, [], ◌∷◌, ◌++◌, length, inl, inr, refl, sym, ap, ◌∙◌, arith}
 use Rattle.std.proofs.lemmas.Bool.{cases_lt, lt-ltb, le-ltb, le-leb, lt-leb}
 use Rattle.std.proofs.lemmas.List.Folds.{list_any-append}
 use Rattle.hours_core.specs.Hours.{is_within}
@@ -38,14 +37,14 @@ joined a b e m h k =
           let p : m < b = omega arith in
           rw (under a e m before, under a b m before, under b e m p) refl
       | inr from ↦ elim (cases_lt m b) [
-          | inl early ↦
-              let p : m < e = omega arith in
-              rw (within a e m from p, within a b m from early) refl
-          | inr late ↦ elim (cases_lt m e) [
-              | inl inside ↦ rw (within a e m from inside, within b e m late inside, over a b m late) refl
-              | inr after ↦ rw (over a e m after, over a b m late, over b e m after) refl
-            ]
+        | inl early ↦
+            let p : m < e = omega arith in
+            rw (within a e m from p, within a b m from early) refl
+        | inr late ↦ elim (cases_lt m e) [
+          | inl inside ↦ rw (within a e m from inside, within b e m late inside, over a b m late) refl
+          | inr after ↦ rw (over a e m after, over a b m late, over b e m after) refl
         ]
+      ]
     ]
 
 -- the least start that the next span may have, and its total

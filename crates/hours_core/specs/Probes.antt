@@ -1,5 +1,5 @@
 -- What a search for a span looks for, and how many spans it may read.
-use Rattle.std.specs.Prelude.{ℕ, ◌+◌, ◌*◌, ◌≤◌, Bool, nat_le, nat_lt, List, length, min, max}
+use Rattle.std.specs.Prelude.{ℕ, ◌+◌, Bool, nat_le, nat_lt, length, min, max}
 use Rattle.std.specs.Int.Digits.{digits_of}
 use Rattle.hours_core.specs.Spans.{minutes_of}
 use Rattle.hours_core.specs.declared.search.Mark.{Mark}

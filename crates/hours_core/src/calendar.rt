@@ -1,6 +1,7 @@
 ghost use Rattle.std.specs.Prelude.{◌≡◌, ◌≢◌, None, Some, IfOk, OnOk, IfErr};
-ghost use Rattle.hours_core.specs.Calendar.{HasHours};
+ghost use Rattle.hours_core.specs.Calendar.{HasHours, spans_of};
 ghost use Rattle.hours_core.specs.Hours as spec;
+ghost use Rattle.hours_core.specs.Runs.{AreRuns};
 
 use crate::fault::HoursFault;
 use crate::schedule::Schedule;
@@ -32,6 +33,8 @@ impl Calendar {
         ensures valid { OnOk result (spec.calendar_fault week.now years ≡ None) }
         ensures hours { IfOk result
             (λ c. HasHours c (record { zone = zone; week = week.now; holidays = holidays.now; years = years })) }
+        ensures runs { IfOk result
+            (λ c. AreRuns (spec.is_open (record { zone = zone; week = week.now; holidays = holidays.now; years = years })) (spans_of c)) }
         ensures err { IfErr result (λ e. e ≢ HoursFault.NoMemory → spec.calendar_fault week.now years ≡ Some e) }
         ensures memory { IfErr result (λ e. e ≡ HoursFault.NoMemory → spec.calendar_fault week.now years ≡ None) }
     {

@@ -17,13 +17,10 @@ mod week;
 mod zone;
 
 pub use calendar::Calendar;
-pub use spans::Probes;
 pub use date::{date_of, minute_text};
 pub use fault::HoursFault;
 pub use level::{Level, Limit};
 pub use moment::{END, Minute, START};
+pub use spans::Probes;
 pub use week::Intervals;
 pub use zone::Zone;
-
-
-

@@ -3,6 +3,7 @@ ghost use Rattle.std.specs.List.{list_all, list_any};
 ghost use Rattle.hours_core.specs.Date.{date_of_day};
 ghost use Rattle.hours_core.specs.Hours as spec;
 ghost use Rattle.hours_core.specs.Moment.{first_minute, end_minute};
+ghost use Rattle.hours_core.specs.Runs.{AreRuns};
 ghost use Rattle.hours_core.specs.Schedule.{HoldBefore};
 ghost use Rattle.hours_core.specs.Spans.{is_held, end_of};
 ghost use Rattle.hours_core.specs.Zone.{offset_at};
@@ -61,9 +62,9 @@ impl Schedule {
         })
     }
 
-    /// The spans of the minutes that are open.
+    /// The runs of open minutes, found by changes of the zone, days and intervals.
     pub fn spans(&self, alloc: Global) -> Result<Spans, AllocError>
-        ensures { IfOk result (λ spans. (m : ℕ) → is_held spans m ≡ spec.is_open self.now m) }
+        ensures { IfOk result (AreRuns (spec.is_open self.now)) }
     {
         let mut spans = Spans::new(alloc);
         let mut from = START;
@@ -72,6 +73,7 @@ impl Schedule {
             self.add_steady(&mut spans, from, to)?;
             from = to;
         }
+        spans.shrink();
         Ok(spans)
     }
 

@@ -111,9 +111,21 @@ impl Spans {
                 let before = last.before + (last.end - last.start);
                 Span { start, end, before }
             }
-            None => Span { start, end, before: 0 },
+            None => Span {
+                start,
+                end,
+                before: 0,
+            },
         };
         self.items.push(span)?;
         Ok(())
+    }
+
+    /// Gives back the memory that no span needs.
+    pub fn shrink(&mut self)
+        ensures same { self.new ≡ self.old }
+        ensures spans { AreSpans first_minute 0 self.new }
+    {
+        self.items.shrink_to_fit();
     }
 }

@@ -34,12 +34,15 @@ impl Zone {
     /// A zone whose local time is that many minutes before or after UTC, until each change, a minute and the offset that
     /// holds from there on, has its turn.
     ///
-    /// Refused are an offset of a day or more, a change outside of 0 to `END` or not after the one before, over 400
-    /// changes, in this order, and want of memory.
+    /// Refused are an offset of a day or more (`BadOffset`), a change outside of 0 to `END` or not after the one before
+    /// (`ChangesOutOfOrder`), and more than 400 changes (`TooManyChanges`), in this order. `NoMemory` comes only in place
+    /// of a zone, where memory for its changes is refused, never of a fault.
     pub fn build(alloc: Global, first: i64, changes: &[(i64, i64)]) -> Result<Zone, HoursFault>
         ensures ok { IfOk result (λ z. spec.zone_of first changes.now ≡ Ok z) }
         ensures err { IfErr result (λ e. e ≢ HoursFault.NoMemory → spec.zone_of first changes.now ≡ Err e) }
         ensures memory { IfErr result (λ e. e ≡ HoursFault.NoMemory → IsOk (spec.zone_of first changes.now)) }
+        ensures offsets { IfOk result
+            (λ z. (m : ℕ) → spec.IsOffsetAt first changes.now m (spec.offset_at z.first z.changes m)) }
     {
         if !(is_offset(first) && have_offsets(changes)) {
             return Err(HoursFault::BadOffset);

@@ -1,4 +1,4 @@
-use Rattle.std.proofs.Common.{◌≡◌, ℕ, ◌+◌, ◌-◌, ◌<◌, ◌≤◌, ◌&&◌, ◌||◌, true, drop, take, get_or, max, length, suc, refl, sym, ap, ◌∙◌, arith, drop-cons, add-one}
+use Rattle.std.proofs.Common.{◌≡◌, ℕ, ◌+◌, ◌-◌, ◌<◌, ◌≤◌, ◌||◌, true, drop, take, get_or, max, suc, ◌∙◌, arith, drop-cons, add-one}
 use Rattle.std.specs.List.{list_any}
 use Rattle.std.proofs.lemmas.List.Folds.{list_any_more}
 use Rattle.hours_core.specs.Hours.{is_within, are_intervals}
@@ -50,8 +50,12 @@ loop-interval-preserved c =
       last = (last c).0;
       held = λ m.
           grown c m
-          ∙ rw (i.held m, c.max-start.ensures, c.min-end.ensures,
-              clipped c.args.midnight c.args.from c.args.to (interval_of c).0 (interval_of c).1 m c.requires.moments.1,
-              list_any_more (is_within (m - c.args.midnight)) xs k (0, 0) c.loop-interval-test.true)
-            (one_more (is_held c.args.spans.now m) (is_within m (c.args.from, c.args.to)) (list_any (is_within (m - c.args.midnight)) (take k xs)) (is_within (m - c.args.midnight) (interval_of c)));
+          ∙ rw (
+            i.held m,
+            c.max-start.ensures,
+            c.min-end.ensures,
+            clipped c.args.midnight c.args.from c.args.to (interval_of c).0 (interval_of c).1 m c.requires.moments.1,
+            list_any_more (is_within (m - c.args.midnight)) xs k (0, 0) c.loop-interval-test.true,
+          )
+          (one_more (is_held c.args.spans.now m) (is_within m (c.args.from, c.args.to)) (list_any (is_within (m - c.args.midnight)) (take k xs)) (is_within (m - c.args.midnight) (interval_of c)));
     }

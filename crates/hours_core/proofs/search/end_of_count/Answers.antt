@@ -1,6 +1,6 @@
-use Rattle.std.proofs.Common.{◌≡◌, ℕ, ◌+◌, ◌<◌, ◌≤◌, Some, sym, ◌∙◌, arith}
-use Rattle.hours_core.specs.Moment.{first_minute, end_minute}
-use Rattle.hours_core.specs.Spans.{is_held, held_before}
+use Rattle.std.proofs.Common.{◌+◌, ◌<◌, arith}
+use Rattle.hours_core.specs.Moment.{first_minute}
+use Rattle.hours_core.specs.Spans.{is_held}
 use Rattle.hours_core.proofs.CountLemmas.{at_once, none_passes, IsEnd, end_is, passes}
 use Rattle.hours_core.proofs.search.end_of_count.Goals as goal
 

@@ -1,4 +1,4 @@
-use Rattle.std.proofs.Common.{◌≡◌, ◌+◌, ◌∙◌, arith}
+use Rattle.std.proofs.Common.{arith}
 use Rattle.hours_core.specs.Moment.{first_minute}
 use Rattle.hours_core.proofs.CountLemmas.{passed_is}
 use Rattle.hours_core.proofs.search.minutes_before.Goals as goal

@@ -1,4 +1,4 @@
-use Rattle.std.proofs.Common.{◌≡◌, ℤ, pos, take, get_or, arith, rules, FitsSigned, w64}
+use Rattle.std.proofs.Common.{ℤ, pos, take, get_or, arith, rules, FitsSigned, w64}
 use Rattle.std.proofs.lemmas.Int.{to_z-of_z}
 use Rattle.std.proofs.lemmas.List.{take_more}
 use Rattle.hours_core.proofs.ZoneLemmas.{steady_more}
@@ -16,5 +16,5 @@ loop-change-preserved c =
       steady = λ first later low high.
           rw (take_more c.args.changes.now c.loop-change.change-index (pos 0, pos 0) c.loop-change-test.true)
           (steady_more first (take c.loop-change.change-index c.args.changes.now) change c.args.m later c.earlier-next.result
-            (i.steady first later low (omega (arith, c.earlier-next.ensures.range))) low high settled);
+          (i.steady first later low (omega (arith, c.earlier-next.ensures.range))) low high settled);
     }

@@ -1,4 +1,4 @@
-use Rattle.std.proofs.Common.{◌≡◌, ◌+◌, Some, None, arith}
+use Rattle.std.proofs.Common.{Some, arith}
 use Rattle.hours_core.specs.Calendar.{opens, spans_of}
 use Rattle.hours_core.specs.Moment.{end_minute}
 use Rattle.hours_core.proofs.LeastLemmas.{is_least}

@@ -1,4 +1,4 @@
-use Rattle.std.proofs.Common.{◌≡◌, ◌<◌, ◌≤◌, inl, inr, sym, arith}
+use Rattle.std.proofs.Common.{inl, inr, sym, arith}
 use Rattle.std.proofs.lemmas.Bool.{cases_lt}
 use Rattle.hours_core.specs.Calendar.{opens}
 use Rattle.hours_core.specs.Moment.{end_minute}

@@ -1,4 +1,4 @@
-use Rattle.std.proofs.Common.{◌≡◌, arith}
+use Rattle.std.proofs.Common.{arith}
 use Rattle.hours_core.specs.Calendar.{spans_of}
 use Rattle.hours_core.proofs.SpanLemmas.{spans_fit}
 use Rattle.hours_core.proofs.calendar.Calendar.spans.Goals as goal

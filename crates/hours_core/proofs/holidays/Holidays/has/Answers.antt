@@ -1,4 +1,4 @@
-use Rattle.std.proofs.Common.{◌≡◌, ◌∙◌}
+use Rattle.std.proofs.Common.{◌∙◌}
 use Rattle.hours_core.proofs.HolidayLemmas.{found}
 use Rattle.hours_core.proofs.holidays.Holidays.has.Goals as goal
 

@@ -1,4 +1,4 @@
-use Rattle.std.proofs.Common.{◌≡◌, ◌==◌, ℕ, sym, ap, ◌∙◌}
+use Rattle.std.proofs.Common.{◌==◌, ℕ, sym, ap, ◌∙◌}
 use Rattle.std.specs.List.{list_any}
 use Rattle.std.proofs.lemmas.List.Sorted.{IsNonDecreasingBy-from_sort, list_any-IsPermutation}
 use Rattle.hours_core.proofs.holidays.Holidays.new.Goals as goal

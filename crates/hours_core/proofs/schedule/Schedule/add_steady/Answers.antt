@@ -1,4 +1,5 @@
-use Rattle.std.proofs.Common.{◌≡◌, ℕ, ◌+◌, ◌-◌, ◌*◌, ◌/◌, ◌%◌, ◌<◌, ◌≤◌, pos, ◌+ℤ◌, unsigned_abs, sym, ap, ◌∙◌, arith}
+use Rattle.std.proofs.Common.{◌≡◌, ℕ, ◌+◌, ◌-◌, ◌*◌, ◌/◌, ◌%◌, ◌<◌, ◌≤◌, pos, ◌+ℤ◌, sym, ap, ◌∙◌, arith}
+use Rattle.std.proofs.lemmas.Int.{ints}
 use Rattle.hours_core.specs.Hours.{Hours}
 use Rattle.hours_core.specs.Zone.{offset_at, local_minute}
 use Rattle.hours_core.proofs.ScheduleLemmas.{held_more, clock_at}
@@ -12,7 +13,8 @@ clock c m from before =
     let i = c.loop-point.invariant in
     let same = c.requires.steady m (omega (arith, i.from)) before in
     let first = c.offset_at-offset.ensures.offset ∙ ap (λ (h : Hours). offset_at h.zone.first h.zone.changes c.args.from) c.self.view_is in
-    rw (same ∙ sym first) (clock_at c.loop-point.point c.shifted-local.result m c.offset_at-offset.result c.shifted-local.ensures from (omega (arith, i.from, c.requires.moments)))
+    let shown : pos c.shifted-local.result ≡ pos c.loop-point.point +ℤ c.offset_at-offset.result = omega (arith, ints, c.shifted-local.ensures, c.offset_at-offset.ensures.range) in
+    rw (same ∙ sym first) (clock_at c.loop-point.point c.shifted-local.result m c.offset_at-offset.result shown from (omega (arith, i.from, c.requires.moments)))
 
 pub loop-point-preserved : goal.loop-point-preserved
 loop-point-preserved c =

@@ -1,4 +1,4 @@
-use Rattle.std.proofs.Common.{◌≡◌, ◌≤◌, ◌-◌}
+use Rattle.std.proofs.Common.{◌≤◌, ◌-◌}
 use Rattle.hours_core.specs.Schedule.{HoldBefore}
 use Rattle.hours_core.proofs.schedule.Schedule.add_steady.Given as goal
 

@@ -1,4 +1,3 @@
-use Rattle.std.proofs.Common.{◌≡◌}
 use Rattle.hours_core.proofs.ScheduleLemmas.{same_holidays}
 use Rattle.hours_core.proofs.schedule.Schedule.new.Goals as goal
 

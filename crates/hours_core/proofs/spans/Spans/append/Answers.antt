@@ -1,7 +1,6 @@
-use Rattle.std.proofs.Common.{◌≡◌, ◌≢◌, ℕ, ◌+◌, ◌<◌, ◌≤◌, [], ◌∷◌, ◌++◌, length, sym, ap, ◌∙◌, arith, refl}
+use Rattle.std.proofs.Common.{◌≡◌, ◌<◌, length, arith}
 use Rattle.std.proofs.lemmas.Grind.{common_steps}
 use Rattle.hours_core.specs.Moment.{first_minute}
-use Rattle.hours_core.specs.Spans.{AreSpans, end_of}
 use Rattle.hours_core.proofs.SpanLemmas.{before_small, last, end_of-last, Appends, first_added, lengthened, added}
 use Rattle.hours_core.proofs.spans.Spans.append.Goals as goal
 use Rattle.hours_core.proofs.spans.Spans.append.Goals.{in-Some, in-Some-2+in_ok-push-in-Some-2, in-None}
