@@ -1,5 +1,5 @@
-use hours_core::{HoursFault, Minute};
-use std::alloc::AllocError;
+use hours_core::Minute;
+use std::alloc::{AllocError, AllocFailed};
 use std::io;
 
 /// Why the cases end.
@@ -18,15 +18,15 @@ impl From<AllocError> for Failure {
     }
 }
 
-impl From<io::Error> for Failure {
-    fn from(error: io::Error) -> Failure {
-        Failure::Io(error)
+impl<T: Drop> From<AllocFailed<T>> for Failure {
+    fn from(_refused: AllocFailed<T>) -> Failure {
+        Failure::Memory
     }
 }
 
-impl From<HoursFault> for Failure {
-    fn from(_fault: HoursFault) -> Failure {
-        Failure::BadLine
+impl From<io::Error> for Failure {
+    fn from(error: io::Error) -> Failure {
+        Failure::Io(error)
     }
 }
 
