@@ -1,4 +1,4 @@
-use crate::words::{Failure, count, halves, minute_of_day, number};
+use crate::words::{Failure, halves, minute_of_day, number};
 use hours_core::{Calendar, HoursFault, Intervals, Zone};
 use std::alloc::{AllocError, Global};
 
@@ -62,7 +62,7 @@ impl Parts {
             if !change.is_empty() {
                 let (minutes, offset) = halves(change, ':')?;
                 let (from, to) = range(minutes)?;
-                for minute in from..to {
+                for minute in from..=to {
                     self.changes.push((minute, number(offset)?))?;
                 }
             }
@@ -90,13 +90,13 @@ impl Parts {
     }
 }
 
-/// `FIRST..END`, or a number alone.
+/// The first and the last number of `FIRST..END`, or of a number alone.
 fn range(word: &str) -> Result<(i64, i64), Failure> {
     match word.split_once("..") {
-        Some((first, end)) => Ok((number(first)?, number(end)?)),
+        Some((first, end)) => Ok((number(first)?, number(end)?.saturating_sub(1))),
         None => {
             let only = number(word)?;
-            Ok((only, only.saturating_add(1)))
+            Ok((only, only))
         }
     }
 }
@@ -126,15 +126,9 @@ fn days(alloc: Global, rest: &str) -> Result<Vec<u32>, Failure> {
     let mut days = Vec::new(alloc);
     for word in rest.split(' ') {
         if !word.is_empty() {
-            let (first, end) = word.split_once("..").unwrap_or((word, ""));
-            let first = count(first)?;
-            let end = if end.is_empty() {
-                first.saturating_add(1)
-            } else {
-                count(end)?
-            };
-            for day in first..end {
-                days.push(day)?;
+            let (first, last) = range(word)?;
+            for day in first..=last {
+                days.push(u32::try_from(day).map_err(|_| Failure::BadLine)?)?;
             }
         }
     }
