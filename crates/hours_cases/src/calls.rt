@@ -103,8 +103,8 @@ fn probes_at(calendar: &Calendar, minute: Minute) -> (u32, u32) {
     (first.count(), add.count())
 }
 
-/// Writes whether at each minute from the first to before the second both calls read a span, the first at most as many
-/// as the third word says and the other at most twice as many.
+/// Writes whether at each minute from the first to before the second both calls read a span, the
+/// first at most as many as the third word says and the other at most twice as many.
 fn bounded(rt: &impl Print, calendar: &Calendar, line: &str, words: &str) -> Result<(), Failure> {
     let (from, rest) = halves(words, ' ')?;
     let (to, most) = halves(rest, ' ')?;
@@ -120,8 +120,9 @@ fn bounded(rt: &impl Print, calendar: &Calendar, line: &str, words: &str) -> Res
     Ok(())
 }
 
-/// Goes over the minute of the day that the first word says, from one day to before another. Writes at how many of them
-/// a span begins, and whether each call reads at least as many spans as the last word says at one of these.
+/// Goes over the minute of the day that the first word says, from one day to before another. Writes
+/// at how many of them a span begins, and whether each call reads at least as many spans as the
+/// last word says at one of these.
 fn greatest(rt: &impl Print, calendar: &Calendar, line: &str, words: &str) -> Result<(), Failure> {
     let (opening, rest) = halves(words, ' ')?;
     let (from, rest) = halves(rest, ' ')?;

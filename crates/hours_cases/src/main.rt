@@ -1,7 +1,9 @@
-//! Cases of opening hours: each line of the standard input is a call, and is written again with its answer.
+//! Cases of opening hours: each line of the standard input is a call, and is written again with its
+//! answer.
 //!
-//! The lines `zone`, `week`, `holidays` and `years` give the parts of a calendar, and `build` makes it, which the calls
-//! after it are asked of. An empty line and one that begins with `#` are no calls. A line that isn't understood ends all.
+//! The lines `zone`, `week`, `holidays` and `years` give the parts of a calendar, and `build` makes
+//! it, which the calls after it are asked of. An empty line and one that begins with `#` are no
+//! calls. A line that isn't understood ends all.
 #![tactic(auto)]
 
 mod calls;

@@ -53,7 +53,8 @@ impl Parts {
         Ok(true)
     }
 
-    /// Takes the first offset, and changes as `MINUTE:OFFSET`, or `FIRST..END:OFFSET` for one at each minute.
+    /// Takes the first offset, and changes as `MINUTE:OFFSET`, or `FIRST..END:OFFSET` for one at
+    /// each minute.
     fn take_zone(&mut self, alloc: Global, rest: &str) -> Result<(), Failure> {
         let (first, changes) = rest.split_once(' ').unwrap_or((rest, ""));
         self.first = number(first)?;

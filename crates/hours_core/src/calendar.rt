@@ -17,12 +17,14 @@ pub struct Calendar {
 }
 
 impl Calendar {
-    /// A calendar that is open in the intervals of each day of the week, from Sunday on, in the zone's time, from the
-    /// first to the last year, but not on holidays. These are days since 1970-01-01 in local time, in any order.
+    /// A calendar that is open in the intervals of each day of the week, from Sunday on, in the
+    /// zone's time, from the first to the last year, but not on holidays. These are days since
+    /// 1970-01-01 in local time, in any order.
     ///
-    /// Refused are intervals that are empty, out of order, past the day's end or more than four a day (`BadInterval`),
-    /// and years that are not from 2000 to 2099 or of which the first is after the last (`BadYears`), in this order.
-    /// `NoMemory` comes only in place of a calendar, where memory for its spans is refused, never of a fault.
+    /// Refused are intervals that are empty, out of order, past the day's end or more than four a
+    /// day (`BadInterval`), and years that are not from 2000 to 2099 or of which the first is after
+    /// the last (`BadYears`), in this order. `NoMemory` comes only in place of a calendar, where
+    /// memory for its spans is refused, never of a fault.
     pub fn build(
         alloc: Global,
         zone: Zone,
@@ -31,12 +33,16 @@ impl Calendar {
         years: (i64, i64),
     ) -> Result<Calendar, HoursFault>
         ensures valid { OnOk result (spec.calendar_fault week.now years ≡ None) }
-        ensures hours { IfOk result
-            (λ c. HasHours c (record { zone = zone; week = week.now; holidays = holidays.now; years = years })) }
-        ensures runs { IfOk result
-            (λ c. AreRuns (spec.is_open (record { zone = zone; week = week.now; holidays = holidays.now; years = years })) (spans_of c)) }
-        ensures err { IfErr result (λ e. e ≢ HoursFault.NoMemory → spec.calendar_fault week.now years ≡ Some e) }
-        ensures memory { IfErr result (λ e. e ≡ HoursFault.NoMemory → spec.calendar_fault week.now years ≡ None) }
+        ensures hours { IfOk result (λ c. HasHours c
+            (record { zone = zone; week = week.now; holidays = holidays.now; years = years })) }
+        ensures runs { IfOk result (λ c. AreRuns
+            (spec.is_open
+            (record { zone = zone; week = week.now; holidays = holidays.now; years = years }))
+            (spans_of c)) }
+        ensures err { IfErr result
+            (λ e. e ≢ HoursFault.NoMemory → spec.calendar_fault week.now years ≡ Some e) }
+        ensures memory { IfErr result
+            (λ e. e ≡ HoursFault.NoMemory → spec.calendar_fault week.now years ≡ None) }
     {
         if !is_week(week) {
             return Err(HoursFault::BadInterval);

@@ -28,7 +28,8 @@ impl Calendar {
         }
     }
 
-    /// The first open minute from this one on, or `None` where there is none before the end of all moments.
+    /// The first open minute from this one on, or `None` where there is none before the end of all
+    /// moments.
     pub fn first_open(&self, m: Minute) -> Option<Minute>
         ensures first { result ≡ first_of (opens self.now) m }
         ensures least { IsLeast (opens self.now) m end_minute result }
@@ -36,8 +37,9 @@ impl Calendar {
         self.first_open_counted(m, &mut Probes::new())
     }
 
-    /// The same as `first_open`. For each span that it reads the count of the probes grows by one: by at least one where
-    /// there is a span, and by at most one more than the number of binary digits of `spans`.
+    /// The same as `first_open`. For each span that it reads the count of the probes grows by one:
+    /// by at least one where there is a span, and by at most one more than the number of binary
+    /// digits of `spans`.
     pub fn first_open_counted(&self, m: Minute, probes: &mut Probes) -> Option<Minute>
         ensures first { result ≡ first_of (opens self.now) m }
         ensures least { IsLeast (opens self.now) m end_minute result }
@@ -48,8 +50,8 @@ impl Calendar {
         Some(Minute::at(first))
     }
 
-    /// The first minute before which `n` open minutes have passed from this one on, or `None` where so many aren't left
-    /// before the end of all moments.
+    /// The first minute before which `n` open minutes have passed from this one on, or `None` where
+    /// so many aren't left before the end of all moments.
     pub fn add_open(&self, m: Minute, n: u32) -> Option<Minute>
         ensures end { result ≡ add_of (opens self.now) m n }
         ensures least { IsLeast (has_passed (opens self.now) m n) m (end_minute + 1) result }
@@ -57,8 +59,9 @@ impl Calendar {
         self.add_open_counted(m, n, &mut Probes::new())
     }
 
-    /// The same as `add_open`. For each span that it reads the count of the probes grows by one: by at least one where
-    /// `n` isn't 0 and there is a span, and by at most twice what `first_open_counted` adds at most.
+    /// The same as `add_open`. For each span that it reads the count of the probes grows by one: by
+    /// at least one where `n` isn't 0 and there is a span, and by at most twice what
+    /// `first_open_counted` adds at most.
     pub fn add_open_counted(&self, m: Minute, n: u32, probes: &mut Probes) -> Option<Minute>
         ensures end { result ≡ add_of (opens self.now) m n }
         ensures least { IsLeast (has_passed (opens self.now) m n) m (end_minute + 1) result }

@@ -4,7 +4,8 @@ ghost use Rattle.hours_core.specs.Fault.{number_of, name_of};
 use std::alloc::AllocError;
 use thiserror::Error;
 
-/// Why a zone or a calendar isn't built. Where several apply, the one with the least number is answered.
+/// Why a zone or a calendar isn't built. Where several apply, the one with the least number is
+/// answered.
 #[derive(Clone, Copy, Debug, PartialEq, Eq, Error)]
 pub enum HoursFault {
     /// An offset of a day or more.
@@ -13,7 +14,8 @@ pub enum HoursFault {
     /// A change's minute isn't from 0 to the end of all moments, or isn't after the one before.
     #[error("a change is before 1970, after 2100-01-01 00:00 or not after the change before it")]
     ChangesOutOfOrder = 2,
-    /// An interval is empty, passes the day's end or begins before the end of the one before, or a day has over four.
+    /// An interval is empty, passes the day's end or begins before the end of the one before, or a
+    /// day has over four.
     #[error("an interval is empty, out of order or past 24:00, or a day has more than four")]
     BadInterval = 3,
     /// A year isn't from 2000 to 2099, or the first is after the last.

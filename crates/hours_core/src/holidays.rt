@@ -24,8 +24,9 @@ impl Model for Holidays {
 impl Holidays {
     /// The days of the list, which come in any order.
     pub fn new(alloc: Global, days: &[u32]) -> Result<Holidays, AllocError>
-        ensures { IfOk result (λ h. (day : ℕ) →
-            list_any (λ holiday. holiday == day) h ≡ list_any (λ holiday. holiday == day) days.now) }
+        ensures { IfOk result (λ h. (day : ℕ)
+            → list_any (λ holiday. holiday == day) h
+            ≡ list_any (λ holiday. holiday == day) days.now) }
     {
         let mut days = Vec::from_slice(alloc, days)?;
         days.sort_unstable();

@@ -1,4 +1,5 @@
-//! Opening hours to the minute: moments, their dates and texts, calendars of opening hours, and when a limit is due.
+//! Opening hours to the minute: moments, their dates and texts, calendars of opening hours, and
+//! when a limit is due.
 //!
 //! A moment is a whole number of minutes since 1970-01-01 00:00 UTC.
 #![tactic(auto)]

@@ -1,4 +1,5 @@
-ghost use Rattle.std.specs.Prelude.{◌≡◌, ◌<◌, ◌≤◌, ◌+◌, ◌-◌, ◌&&◌, ◌||◌, ℕ, true, pos, neg_ℤ, ◌+ℤ◌, ◌≤ℤ◌, IfOk, OnOk};
+ghost use Rattle.std.specs.Prelude.{◌≡◌, ◌<◌, ◌≤◌, ◌+◌, ◌-◌, ◌&&◌, ◌||◌, ℕ, true};
+ghost use Rattle.std.specs.Prelude.{pos, neg_ℤ, ◌+ℤ◌, ◌≤ℤ◌, IfOk, OnOk};
 ghost use Rattle.std.specs.List.{list_all, list_any};
 ghost use Rattle.hours_core.specs.Date.{date_of_day};
 ghost use Rattle.hours_core.specs.Hours as spec;
@@ -17,8 +18,8 @@ use crate::zone::Zone;
 use std::alloc::{AllocError, Global};
 use std::marker::Model;
 
-/// Opening hours as they are given: in a zone's time by days of the week, from the first to the last year, but not on
-/// holidays.
+/// Opening hours as they are given: in a zone's time by days of the week, from the first to the
+/// last year, but not on holidays.
 #[derive(Debug, Drop)]
 pub struct Schedule {
     zone: Zone,
@@ -34,7 +35,8 @@ impl Model for Schedule {
 
     ghost Value = { Hours };
 
-    ghost view = { λ s. record { zone = s.zone; week = s.week.items; holidays = s.holidays; years = s.years } };
+    ghost view = { λ s.
+        record { zone = s.zone; week = s.week.items; holidays = s.holidays; years = s.years } };
 
     ghost invariant = { λ s. list_all is_day s.week.items ≡ true };
 }
@@ -49,8 +51,8 @@ impl Schedule {
         years: (i64, i64),
     ) -> Result<Schedule, AllocError>
         requires { list_all spec.is_day week.now ≡ true }
-        ensures { IfOk result (λ s. (m : ℕ) → spec.is_open s m
-            ≡ spec.is_open (record { zone = zone; week = week.now; holidays = holidays.now; years = years }) m) }
+        ensures { IfOk result (λ s. (m : ℕ) → spec.is_open s m ≡ spec.is_open
+            (record { zone = zone; week = week.now; holidays = holidays.now; years = years }) m) }
     {
         let week = copy_of(alloc, week)?;
         let holidays = Holidays::new(alloc, holidays)?;
@@ -81,7 +83,8 @@ impl Schedule {
     fn add_steady(&self, spans: &mut Spans, from: u32, to: u32) -> Result<(), AllocError>
         requires moments { (first_minute ≤ from) × (from ≤ to) × (to ≤ end_minute) }
         requires steady { (m : ℕ) → from ≤ m → m < to
-            → offset_at self.now.zone.first self.now.zone.changes m ≡ offset_at self.now.zone.first self.now.zone.changes from }
+            → offset_at self.now.zone.first self.now.zone.changes m
+            ≡ offset_at self.now.zone.first self.now.zone.changes from }
         requires before { HoldBefore self.now from spans.old }
         ensures { OnOk result (HoldBefore self.now to spans.new) }
     {
@@ -100,7 +103,8 @@ impl Schedule {
     /// The intervals of a local day: none on a holiday and outside of the years.
     fn intervals_on(&self, day: u32) -> &[(u16, u16)]
         requires { day ≤ 60000 }
-        ensures open { (minute : ℕ) → list_any (spec.is_within minute) result.now ≡ spec.is_open_on self.now day minute }
+        ensures open { (minute : ℕ)
+            → list_any (spec.is_within minute) result.now ≡ spec.is_open_on self.now day minute }
         ensures intervals { spec.are_intervals 0 result.now ≡ true }
     {
         if self.holidays.has(day) || !is_between(self.years, day) {
@@ -113,7 +117,8 @@ impl Schedule {
 
 /// The minute with the offset added.
 fn shifted(m: u32, offset: i64) -> u32
-    requires { (first_minute ≤ m) × (m ≤ end_minute) × (neg_ℤ (pos 1439) ≤ℤ offset) × (offset ≤ℤ pos 1439) }
+    requires { (first_minute ≤ m) × (m ≤ end_minute)
+        × (neg_ℤ (pos 1439) ≤ℤ offset) × (offset ≤ℤ pos 1439) }
     ensures { pos result ≡ pos m +ℤ offset }
 {
     (m as i64 + offset) as u32
@@ -128,7 +133,8 @@ fn is_between(years: (i64, i64), day: u32) -> bool
     years.0 <= year && year <= years.1
 }
 
-/// Adds the minutes of a local day's intervals that lie from `from` to before `to`. The day begins at `midnight`.
+/// Adds the minutes of a local day's intervals that lie from `from` to before `to`. The day begins
+/// at `midnight`.
 fn add_day(
     spans: &mut Spans,
     intervals: &[(u16, u16)],
@@ -140,7 +146,9 @@ fn add_day(
     requires moments { (first_minute ≤ from) × (midnight ≤ from) × (from ≤ to) × (to ≤ end_minute) }
     requires after { end_of first_minute spans.old ≤ from }
     ensures held { OnOk result ((m : ℕ) → is_held spans.new m
-        ≡ (is_held spans.old m || (spec.is_within m (from, to) && list_any (spec.is_within (m - midnight)) intervals.now))) }
+        ≡ (is_held spans.old m
+        || (spec.is_within m (from, to)
+        && list_any (spec.is_within (m - midnight)) intervals.now))) }
     ensures end { OnOk result (end_of first_minute spans.new ≤ to) }
 {
     for interval in intervals {

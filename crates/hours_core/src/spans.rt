@@ -1,4 +1,5 @@
-ghost use Rattle.std.specs.Prelude.{◌≡◌, ◌<◌, ◌≤◌, ℕ, ◌+◌, ◌||◌, [], length, slice_index_or, min, OnOk};
+ghost use Rattle.std.specs.Prelude.{◌≡◌, ◌<◌, ◌≤◌, ℕ, ◌+◌, ◌||◌, [], length, min, OnOk};
+ghost use Rattle.std.specs.Prelude.{slice_index_or};
 ghost use Rattle.hours_core.specs.Hours.{is_within};
 ghost use Rattle.hours_core.specs.Moment.{first_minute, end_minute};
 ghost use Rattle.hours_core.specs.Spans.{is_held, AreSpans, end_of};
@@ -6,7 +7,8 @@ ghost use Rattle.hours_core.specs.Spans.{is_held, AreSpans, end_of};
 use std::alloc::{AllocError, Global};
 use std::marker::Model;
 
-/// A run of open minutes, from its start to before its end, and the number of open minutes before it.
+/// A run of open minutes, from its start to before its end, and the number of open minutes before
+/// it.
 #[derive(Clone, Copy, Debug)]
 pub struct Span {
     pub start: u32,
@@ -94,7 +96,8 @@ impl Spans {
         self.items[index]
     }
 
-    /// Adds the minutes from `start` to before `end`, which come after all others or touch the last ones.
+    /// Adds the minutes from `start` to before `end`, which come after all others or touch the last
+    /// ones.
     pub fn append(&mut self, start: u32, end: u32) -> Result<(), AllocError>
         requires from { first_minute ≤ start }
         requires after { end_of first_minute self.old ≤ start }

@@ -5,7 +5,8 @@ ghost use Rattle.hours_core.specs.Hours as spec;
 use std::alloc::{AllocError, Global};
 use text_core::Sequence;
 
-/// The intervals of a day in order, from their start to before their end, in minutes of the local day.
+/// The intervals of a day in order, from their start to before their end, in minutes of the local
+/// day.
 pub type Intervals = Sequence<(u16, u16)>;
 
 /// The most intervals of a day.

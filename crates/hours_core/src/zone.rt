@@ -1,4 +1,5 @@
-ghost use Rattle.std.specs.Prelude.{◌≡◌, ◌≢◌, ◌⊎◌, ◌<◌, ◌≤◌, ◌+◌, ℕ, ℤ, true, ◌&&◌, length, pos, ◌+ℤ◌, ◌≤ℤ◌, neg_ℤ, IsOk, IfOk, IfErr};
+ghost use Rattle.std.specs.Prelude.{◌≡◌, ◌≢◌, ◌⊎◌, ◌<◌, ◌≤◌, ◌+◌, ℕ, ℤ, true, ◌&&◌, length};
+ghost use Rattle.std.specs.Prelude.{pos, ◌+ℤ◌, ◌≤ℤ◌, neg_ℤ, IsOk, IfOk, IfErr};
 ghost use Rattle.std.specs.List.{list_all};
 ghost use Rattle.hours_core.specs.Moment.{end_minute};
 ghost use Rattle.hours_core.specs.Zone as spec;
@@ -27,22 +28,26 @@ impl Model for Zone {
 
     ghost view = { λ z. record { first = z.first; changes = z.changes.items } };
 
-    ghost invariant = { λ z. (is_offset z.first && list_all (λ change. is_offset change.1) z.changes.items) ≡ true };
+    ghost invariant = { λ z.
+        (is_offset z.first && list_all (λ change. is_offset change.1) z.changes.items) ≡ true };
 }
 
 impl Zone {
-    /// A zone whose local time is that many minutes before or after UTC, until each change, a minute and the offset that
-    /// holds from there on, has its turn.
+    /// A zone whose local time is that many minutes before or after UTC, until each change, a
+    /// minute and the offset that holds from there on, has its turn.
     ///
-    /// Refused are an offset of a day or more (`BadOffset`), a change outside of 0 to `END` or not after the one before
-    /// (`ChangesOutOfOrder`), and more than 400 changes (`TooManyChanges`), in this order. `NoMemory` comes only in place
-    /// of a zone, where memory for its changes is refused, never of a fault.
+    /// Refused are an offset of a day or more (`BadOffset`), a change outside of 0 to `END` or not
+    /// after the one before (`ChangesOutOfOrder`), and more than 400 changes (`TooManyChanges`), in
+    /// this order. `NoMemory` comes only in place of a zone, where memory for its changes is
+    /// refused, never of a fault.
     pub fn build(alloc: Global, first: i64, changes: &[(i64, i64)]) -> Result<Zone, HoursFault>
         ensures ok { IfOk result (λ z. spec.zone_of first changes.now ≡ Ok z) }
-        ensures err { IfErr result (λ e. e ≢ HoursFault.NoMemory → spec.zone_of first changes.now ≡ Err e) }
-        ensures memory { IfErr result (λ e. e ≡ HoursFault.NoMemory → IsOk (spec.zone_of first changes.now)) }
-        ensures offsets { IfOk result
-            (λ z. (m : ℕ) → spec.IsOffsetAt first changes.now m (spec.offset_at z.first z.changes m)) }
+        ensures err { IfErr result
+            (λ e. e ≢ HoursFault.NoMemory → spec.zone_of first changes.now ≡ Err e) }
+        ensures memory { IfErr result
+            (λ e. e ≡ HoursFault.NoMemory → IsOk (spec.zone_of first changes.now)) }
+        ensures offsets { IfOk result (λ z. (m : ℕ)
+            → spec.IsOffsetAt first changes.now m (spec.offset_at z.first z.changes m)) }
     {
         if !(is_offset(first) && have_offsets(changes)) {
             return Err(HoursFault::BadOffset);
@@ -70,7 +75,8 @@ impl Zone {
         requires { m < end_minute }
         ensures range { (m < result) × (result ≤ end_minute) }
         ensures steady { (later : ℕ) → m ≤ later → later < result
-            → spec.offset_at self.now.first self.now.changes later ≡ spec.offset_at self.now.first self.now.changes m }
+            → spec.offset_at self.now.first self.now.changes later
+            ≡ spec.offset_at self.now.first self.now.changes m }
     {
         next_change(self.changes.as_slice(), m)
     }
@@ -105,7 +111,8 @@ fn earlier(next: u32, change: i64, m: u32) -> u32
 
 /// The offset of the last change at or before the minute, or the first.
 fn offset_at(first: i64, changes: &[(i64, i64)], m: u32) -> i64
-    requires { (spec.is_offset first && list_all (λ change. spec.is_offset change.1) changes.now) ≡ true }
+    requires { (spec.is_offset first
+        && list_all (λ change. spec.is_offset change.1) changes.now) ≡ true }
     ensures offset { result ≡ spec.offset_at first changes.now m }
     ensures range { (neg_ℤ (pos 1439) ≤ℤ result) × (result ≤ℤ pos 1439) }
 {
