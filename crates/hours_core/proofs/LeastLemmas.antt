@@ -1,6 +1,6 @@
 -- The least number with a property in a range, and counts, step by step.
-use Rattle.std.proofs.Common.{◌≡◌, ℕ, zero, suc, ◌+◌, ◌-◌, ◌<◌, ◌≤◌, Bool, true, false, if◌then◌else◌, Option, Some, None, inl, inr, refl, add-zero, subst, sym, ◌∙◌, arith}
-use Rattle.std.proofs.lemmas.Bool.{cases_eq, cases_lt}
+use Rattle.std.proofs.Common.{◌≡◌, ℕ, zero, suc, ◌+◌, ◌-◌, ◌<◌, ◌≤◌, Bool, true, false, ◌==◌, if◌then◌else◌, Option, Some, None, inl, inr, refl, add-zero, ap, subst, sym, ◌∙◌, arith}
+use Rattle.std.proofs.lemmas.Bool.{cases_eq, cases_lt, cases_order, both_ways, eq-eqb, ne_eqb}
 use Rattle.hours_core.specs.Least.{least_of_next, least, NoneHolds, IsLeast}
 use Rattle.hours_core.specs.Counting.{count_of_next, count}
 
@@ -76,3 +76,40 @@ count-closed opens a b h e = count-step opens a b h ∙ rw e (add-zero (count op
 -- an answer that is the least is what it is called
 pub law : (holds : ℕ → Bool) (a b : ℕ) (r : Option ℕ) → r ≡ least holds a b → IsLeast holds a b r
 law holds a b r e = let P : Option ℕ → Type 0 = λ o. IsLeast holds a b o in subst P (sym e) (least_is holds a b)
+
+none_same : (p q : ℕ → Bool) (a b : ℕ) → ((k : ℕ) → a ≤ k → q k ≡ p k) → NoneHolds p a b → NoneHolds q a b
+none_same p q a b same none k low high = same k low ∙ none k low high
+
+-- two properties that agree from a on have the same least number
+pub same_least : (p q : ℕ → Bool) (a b : ℕ) (r : Option ℕ) → ((k : ℕ) → a ≤ k → q k ≡ p k) → IsLeast p a b r → IsLeast q a b r
+same_least p q a b None same h = none_same p q a b same h
+same_least p q a b (Some n) same h = (h.0, h.1, same n h.0 ∙ h.2, none_same p q a n same h.3)
+
+-- there is only one least number
+pub only_least : (p : ℕ → Bool) (a b : ℕ) (r s : Option ℕ) → IsLeast p a b r → IsLeast p a b s → r ≡ s
+only_least p a b None None h k = refl
+only_least p a b None (Some n) h k = absurd (both_ways (p n) (h n k.0 k.1) k.2)
+only_least p a b (Some n) None h k = absurd (both_ways (p n) (k n h.0 h.1) h.2)
+only_least p a b (Some n) (Some m) h k =
+    elim (cases_order n m) [
+      | inl same ↦ ap Some same
+      | inr other ↦ elim other [
+        | inl less ↦ absurd (both_ways (p n) (k.3 n h.0 less) h.2)
+        | inr more ↦ absurd (both_ways (p m) (h.3 m k.0 more) k.2)
+      ]
+    ]
+
+pub is_least : (p : ℕ → Bool) (a b : ℕ) (r : Option ℕ) → IsLeast p a b r → r ≡ least p a b
+is_least p a b r h = only_least p a b r (least p a b) h (least_is p a b)
+
+-- a number has the property where it is the least from there on
+pub least_here : (p : ℕ → Bool) (a b n : ℕ) → IsLeast p a b (Some n) → (n == a) ≡ p a
+least_here p a b n h =
+    elim (cases_eq n a) [
+      | inl same ↦
+          let here : p a ≡ true = rw (← same) h.2 in
+          eq-eqb n a same ∙ sym here
+      | inr other ↦
+          let low = h.0 in
+          ne_eqb n a other ∙ sym (h.3 a (omega arith) (omega arith))
+    ]

@@ -1,9 +1,10 @@
 -- The offset that holds is one of the zone's.
-use Rattle.std.proofs.Common.{◌≡◌, ℕ, Bool, true, false, ◌&&◌, List, [], ◌∷◌, ◌<◌, length, drop, get_or, suc, ℤ, pos, neg_ℤ, int_le, ◌≤ℤ◌, if◌then◌else◌, refl, ap, drop-cons}
+use Rattle.std.proofs.Common.{◌≡◌, ℕ, Bool, true, false, ◌&&◌, List, [], ◌∷◌, ◌++◌, ◌<◌, ◌≤◌, ◌⊎◌, inl, inr, sym, ◌∙◌, arith, length, drop, get_or, suc, ℤ, pos, neg_ℤ, int_le, int_lt, ◌≤ℤ◌, ◌<ℤ◌, if◌then◌else◌, refl, ap, drop-cons}
 use Rattle.std.specs.List.{list_all}
 use Rattle.std.specs.Int.Signed.{le_z_yes}
 use Rattle.std.proofs.lemmas.Float.{T_from_true}
-use Rattle.hours_core.specs.Zone.{offset_at, offset_after, is_offset}
+use Rattle.std.proofs.lemmas.Int.{ints, by_lt_z}
+use Rattle.hours_core.specs.Zone.{offset_at, offset_after, is_offset, comes_after, IsOffsetAt}
 
 and-left : (a b : Bool) → (a && b) ≡ true → a ≡ true
 and-left true b e = refl
@@ -39,3 +40,54 @@ pub offset_at-bounds : (first : ℤ) (changes : List (ℤ × ℤ)) (m : ℕ) →
     → (neg_ℤ (pos 1439) ≤ℤ offset_at first changes m) × (offset_at first changes m ≤ℤ pos 1439)
 offset_at-bounds first changes m h =
     bounds _ (offset_in first changes m (and-left (is_offset first) _ h) (and-right (is_offset first) _ h))
+
+-- the last change decides where it comes, and else those before
+pub offset_at-last : (first : ℤ) (changes : List (ℤ × ℤ)) (change : ℤ × ℤ) (m : ℕ)
+    → offset_at first (changes ++ change ∷ []) m ≡ offset_after (offset_at first changes m) change m
+offset_at-last first [] change m = refl
+offset_at-last first (other ∷ changes) change m = offset_at-last (offset_after first other m) changes change m
+
+int_le-true : (a b : ℤ) → a ≤ℤ b → int_le a b ≡ true
+int_le-true a b h = grind (arith, ints)
+
+int_le-false : (a b : ℤ) → b <ℤ a → int_le a b ≡ false
+int_le-false a b h = grind (arith, ints)
+
+-- a change that comes for both minutes or for none leaves them with one offset
+steady_after : (a b : ℤ) (change : ℤ × ℤ) (m later next : ℕ) → a ≡ b → m ≤ later → later < next → (change.0 ≤ℤ pos m) ⊎ (pos next ≤ℤ change.0)
+    → offset_after a change later ≡ offset_after b change m
+steady_after a b change m later next e low high (inl come) =
+    let comes : change.0 ≤ℤ pos later = omega (arith, ints) in
+    rw (int_le-true change.0 (pos later) comes, int_le-true change.0 (pos m) come) refl
+steady_after a b change m later next e low high (inr not_yet) =
+    let after : pos later <ℤ change.0 = omega (arith, ints) in
+    let before : pos m <ℤ change.0 = omega (arith, ints) in
+    rw (int_le-false change.0 (pos later) after, int_le-false change.0 (pos m) before) e
+
+pub steady_more : (first : ℤ) (changes : List (ℤ × ℤ)) (change : ℤ × ℤ) (m later next : ℕ) → offset_at first changes later ≡ offset_at first changes m
+    → m ≤ later → later < next → (change.0 ≤ℤ pos m) ⊎ (pos next ≤ℤ change.0)
+    → offset_at first (changes ++ change ∷ []) later ≡ offset_at first (changes ++ change ∷ []) m
+steady_more first changes change m later next e low high settled =
+    offset_at-last first changes change later
+    ∙ steady_after (offset_at first changes later) (offset_at first changes m) change m later next e low high settled
+    ∙ sym (offset_at-last first changes change m)
+
+later_of_all : (m : ℕ) (change : ℤ × ℤ) (changes : List (ℤ × ℤ)) → pos m <ℤ change.0 → list_all (comes_after m) changes ≡ true
+    → list_all (comes_after m) (change ∷ changes) ≡ true
+later_of_all m change changes h rest =
+    let here : int_lt (pos m) change.0 ≡ true = grind (arith, ints) in
+    rw here rest
+
+-- the fold over the changes is the offset of the last one at or before the minute
+pub last_change : (first : ℤ) (changes : List (ℤ × ℤ)) (m : ℕ) → IsOffsetAt first changes m (offset_at first changes m)
+last_change first [] m = inl (refl, refl)
+last_change first (change ∷ changes) m =
+    by_lt_z (pos m) change.0
+    (λ before. rw (int_le-false change.0 (pos m) before) (elim (last_change first changes m) [
+      | inl none ↦ inl (none.0, later_of_all m change changes before none.1)
+      | inr some ↦ inr (change ∷ some.0, some.1, some.2, ap (λ (cs : List (ℤ × ℤ)). change ∷ cs) some.3, some.4, some.5, some.6)
+    ]))
+    (λ come. rw (int_le-true change.0 (pos m) come) (elim (last_change change.1 changes m) [
+      | inl none ↦ inr ([], change, changes, refl, none.0, come, none.1)
+      | inr some ↦ inr (change ∷ some.0, some.1, some.2, ap (λ (cs : List (ℤ × ℤ)). change ∷ cs) some.3, some.4, some.5, some.6)
+    ]))

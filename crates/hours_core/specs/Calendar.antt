@@ -1,15 +1,17 @@
 -- What a calendar answers, whatever it keeps.
-use Rattle.std.specs.Prelude.{◌≡◌, ℕ, Bool}
+use Rattle.std.specs.Prelude.{◌≡◌, ℕ, Bool, List}
 use Rattle.hours_core.specs.Hours.{Hours, is_open}
+use Rattle.hours_core.specs.Spans.{is_held}
 use Rattle.hours_core.specs.declared.calendar.Calendar.{Calendar}
+use Rattle.hours_core.specs.declared.spans.Span.{Span}
 
--- the parts that the calendar keeps
-abbrev hours_of : Calendar → Hours
-hours_of c = record { zone = c.zone; week = c.week.items; holidays = c.holidays.items; years = c.years }
+-- the opening spans of the calendar
+unfoldable pub spans_of : Calendar → List Span
+spans_of c = c.spans
 
--- whether the calendar is open at a minute
+-- whether the calendar is open at a minute: a span holds it
 unfoldable pub opens : Calendar → ℕ → Bool
-opens c m = is_open (hours_of c) m
+opens c m = is_held c.spans m
 
 -- the calendar has these opening hours
 abbrev pub HasHours : Calendar → Hours → Type 0

@@ -6,4 +6,8 @@ pub mod Hours
 pub mod Least
 pub mod Limit
 pub mod Moment
+pub mod Probes
+pub mod Runs
+pub mod Schedule
+pub mod Spans
 pub mod Zone

@@ -1,5 +1,5 @@
 -- Local time: an offset in minutes that changes at given minutes.
-use Rattle.std.specs.Prelude.{ℕ, Bool, true, not, ◌&&◌, List, [], ◌∷◌, length, nat_lt, ℤ, pos, neg_ℤ, ◌+ℤ◌, int_le, unsigned_abs, if◌then◌else◌, Result, Ok, Err}
+use Rattle.std.specs.Prelude.{◌≡◌, ◌⊎◌, ℕ, Bool, true, not, ◌&&◌, List, [], ◌∷◌, ◌++◌, length, nat_lt, ℤ, pos, neg_ℤ, ◌+ℤ◌, ◌≤ℤ◌, int_le, int_lt, unsigned_abs, if◌then◌else◌, Result, Ok, Err}
 use Rattle.std.specs.List.{list_all}
 use Rattle.hours_core.specs.Moment.{end_minute}
 use Rattle.hours_core.specs.declared.fault.HoursFault.{HoursFault}
@@ -40,3 +40,14 @@ zone_of first changes =
     else (if not (are_in_order (pos 0) changes) then Err ChangesOutOfOrder
     else (if nat_lt 400 (length changes) then Err TooManyChanges
     else Ok (record { first = first; changes = changes })))
+
+-- a change comes after the minute
+abbrev pub comes_after : ℕ → ℤ × ℤ → Bool
+comes_after m change = int_lt (pos m) change.0
+
+-- the offset of a minute: that of the last change at or before it, or the first where every change comes later
+abbrev pub IsOffsetAt : ℤ → List (ℤ × ℤ) → ℕ → ℤ → Type 0
+IsOffsetAt first changes m offset =
+    ((offset ≡ first) × (list_all (comes_after m) changes ≡ true))
+    ⊎ ((earlier : List (ℤ × ℤ)) × (change : ℤ × ℤ) × (later : List (ℤ × ℤ))
+    × (changes ≡ earlier ++ change ∷ later) × (offset ≡ change.1) × (change.0 ≤ℤ pos m) × (list_all (comes_after m) later ≡ true))

@@ -1,47 +1,74 @@
-ghost use Rattle.std.specs.Prelude.{◌≡◌, ◌+◌};
-ghost use Rattle.hours_core.specs.Calendar.{opens};
+ghost use Rattle.std.specs.Prelude.{◌≡◌, ◌+◌, ◌*◌, ◌<◌, ◌≤◌, length};
+ghost use Rattle.hours_core.specs.Calendar.{opens, spans_of};
 ghost use Rattle.hours_core.specs.Counting.{first_of, add_of, has_passed};
 ghost use Rattle.hours_core.specs.Least.{IsLeast};
 ghost use Rattle.hours_core.specs.Moment.{end_minute};
+ghost use Rattle.hours_core.specs.Probes.{most_probes, at_least};
 
 use crate::calendar::Calendar;
-use crate::moment::{END, Minute};
+use crate::moment::Minute;
+use crate::search::{end_of_count, first_held};
+use crate::spans::Probes;
 
 impl Calendar {
-    /// The first open minute from this one on, or `None` where there is none before the end of all moments.
+    /// How many opening spans there are: runs of open minutes that no other open minute touches.
+    pub fn spans(&self) -> u32
+        ensures { result ≡ length (spans_of self.now) }
+    {
+        self.spans.len() as u32
+    }
+
+    /// Whether the calendar is open at the minute.
+    pub fn is_open(&self, m: Minute) -> bool
+        ensures { result ≡ opens self.now m }
+    {
+        match first_held(&self.spans, m.get(), &mut Probes::new()) {
+            Some(first) => first == m.get(),
+            None => false,
+        }
+    }
+
+    /// The first open minute from this one on, or `None` where there is none before the end of all
+    /// moments.
     pub fn first_open(&self, m: Minute) -> Option<Minute>
         ensures first { result ≡ first_of (opens self.now) m }
         ensures least { IsLeast (opens self.now) m end_minute result }
     {
-        for number in m.get()..END {
-            let minute = Minute::at(number);
-            if self.is_open(minute) {
-                return Some(minute);
-            }
-        }
-        None
+        self.first_open_counted(m, &mut Probes::new())
     }
 
-    /// The first minute before which `n` open minutes have passed from this one on, or `None` where so many aren't left
-    /// before the end of all moments.
+    /// The same as `first_open`. For each span that it reads the count of the probes grows by one:
+    /// by at least one where there is a span, and by at most one more than the number of binary
+    /// digits of `spans`.
+    pub fn first_open_counted(&self, m: Minute, probes: &mut Probes) -> Option<Minute>
+        ensures first { result ≡ first_of (opens self.now) m }
+        ensures least { IsLeast (opens self.now) m end_minute result }
+        ensures most { probes.new ≤ probes.old + most_probes (length (spans_of self.now)) }
+        ensures some { 0 < length (spans_of self.now) → at_least probes.old 1 ≤ probes.new }
+    {
+        let first = first_held(&self.spans, m.get(), probes)?;
+        Some(Minute::at(first))
+    }
+
+    /// The first minute before which `n` open minutes have passed from this one on, or `None` where
+    /// so many aren't left before the end of all moments.
     pub fn add_open(&self, m: Minute, n: u32) -> Option<Minute>
         ensures end { result ≡ add_of (opens self.now) m n }
         ensures least { IsLeast (has_passed (opens self.now) m n) m (end_minute + 1) result }
     {
-        let mut left = n;
-        for number in m.get()..END {
-            let end = Minute::at(number);
-            if left == 0 {
-                return Some(end);
-            }
-            if self.is_open(end) {
-                left -= 1;
-            }
-        }
-        if left == 0 {
-            Some(Minute::at(END))
-        } else {
-            None
-        }
+        self.add_open_counted(m, n, &mut Probes::new())
+    }
+
+    /// The same as `add_open`. For each span that it reads the count of the probes grows by one: by
+    /// at least one where `n` isn't 0 and there is a span, and by at most twice what
+    /// `first_open_counted` adds at most.
+    pub fn add_open_counted(&self, m: Minute, n: u32, probes: &mut Probes) -> Option<Minute>
+        ensures end { result ≡ add_of (opens self.now) m n }
+        ensures least { IsLeast (has_passed (opens self.now) m n) m (end_minute + 1) result }
+        ensures most { probes.new ≤ probes.old + 2 * most_probes (length (spans_of self.now)) }
+        ensures some { 0 < n → 0 < length (spans_of self.now) → at_least probes.old 1 ≤ probes.new }
+    {
+        let end = end_of_count(&self.spans, m.get(), n, probes)?;
+        Some(Minute::at(end))
     }
 }

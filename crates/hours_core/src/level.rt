@@ -31,11 +31,12 @@ pub struct Level {
 }
 
 impl Level {
-    /// When a limit on what follows the minute `from` is due by the calendar's hours, or `None` where that isn't before or
-    /// at `END`. The time begins with `from` or, unless the level starts immediately, with the first open minute from
-    /// there on.
+    /// When a limit on what follows the minute `from` is due by the calendar's hours, or `None`
+    /// where that isn't before or at `END`. The time begins with `from` or, unless the level starts
+    /// immediately, with the first open minute from there on.
     pub fn limit_due(&self, calendar: &Calendar, from: Minute, limit: Limit) -> Option<Minute>
-        ensures { result ≡ spec.limit_due (opens calendar.now) self.now.start_immediately from limit }
+        ensures { result
+            ≡ spec.limit_due (opens calendar.now) self.now.start_immediately from limit }
     {
         let begin = self.begin(calendar, from)?;
         match limit {

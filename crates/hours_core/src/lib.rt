@@ -1,4 +1,5 @@
-//! Opening hours to the minute: moments, their dates and texts, calendars of opening hours, and when a limit is due.
+//! Opening hours to the minute: moments, their dates and texts, calendars of opening hours, and
+//! when a limit is due.
 //!
 //! A moment is a whole number of minutes since 1970-01-01 00:00 UTC.
 #![tactic(auto)]
@@ -7,8 +8,12 @@ mod calendar;
 mod counting;
 mod date;
 mod fault;
+mod holidays;
 mod level;
 mod moment;
+mod schedule;
+mod search;
+mod spans;
 mod week;
 mod zone;
 
@@ -17,8 +22,6 @@ pub use date::{date_of, minute_text};
 pub use fault::HoursFault;
 pub use level::{Level, Limit};
 pub use moment::{END, Minute, START};
+pub use spans::Probes;
 pub use week::Intervals;
 pub use zone::Zone;
-
-#[cfg(test)]
-mod tests;

@@ -30,8 +30,8 @@ impl Model for Minute {
 }
 
 impl Minute {
-    /// The minute with this number of minutes since 1970-01-01 00:00 UTC, or `None` where that isn't from `START` to
-    /// `END`.
+    /// The minute with this number of minutes since 1970-01-01 00:00 UTC, or `None` where that
+    /// isn't from `START` to `END`.
     pub fn new(n: u32) -> Option<Minute>
         ensures { result ≡ (if is_due_moment n then Some n else None) }
     {

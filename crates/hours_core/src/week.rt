@@ -1,11 +1,12 @@
-ghost use Rattle.std.specs.Prelude.{◌≡◌, ◌≤◌, IfOk};
-ghost use Rattle.std.specs.List.{list_all, list_any};
+ghost use Rattle.std.specs.Prelude.{◌≡◌, ◌≤◌, true, IfOk};
+ghost use Rattle.std.specs.List.{list_all};
 ghost use Rattle.hours_core.specs.Hours as spec;
 
 use std::alloc::{AllocError, Global};
 use text_core::Sequence;
 
-/// The intervals of a day in order, from their start to before their end, in minutes of the local day.
+/// The intervals of a day in order, from their start to before their end, in minutes of the local
+/// day.
 pub type Intervals = Sequence<(u16, u16)>;
 
 /// The most intervals of a day.
@@ -53,20 +54,16 @@ pub fn copy_of(alloc: Global, week: &[Intervals]) -> Result<Vec<Intervals>, Allo
     Ok(days)
 }
 
-/// Whether a minute of a local day is in an interval of its weekday.
-pub fn has_interval_at(week: &[Intervals], day: u32, minute: u32) -> bool
-    requires { day ≤ 60000 }
-    ensures { result ≡ list_any (spec.is_within minute) (spec.intervals_on week.now day) }
+/// The intervals of a local day, by its weekday.
+pub fn intervals_of(week: &[Intervals], day: u32) -> &[(u16, u16)]
+    requires week { list_all spec.is_day week.now ≡ true }
+    requires day { day ≤ 60000 }
+    ensures value { result.now ≡ spec.intervals_on week.now day }
+    ensures intervals { spec.are_intervals 0 result.now ≡ true }
 {
     // day 0 was a Thursday, and the week begins with Sunday
     match week.get(((day + 4) % 7) as usize) {
-        Some(intervals) => is_in_one(intervals.as_slice(), minute),
-        None => false,
+        Some(intervals) => intervals.as_slice(),
+        None => &[],
     }
-}
-
-fn is_in_one(intervals: &[(u16, u16)], minute: u32) -> bool
-    ensures { result ≡ list_any (spec.is_within minute) intervals.now }
-{
-    intervals.iter().any(|interval| interval.0 as u32 <= minute && minute < interval.1 as u32)
 }

@@ -1,10 +1,11 @@
-ghost use Rattle.std.specs.Prelude.{◌≡◌, ◌≢◌, ◌≤◌, ◌+◌, true, ◌&&◌, length, pos, ◌+ℤ◌, ◌≤ℤ◌, neg_ℤ, IfOk, IfErr};
+ghost use Rattle.std.specs.Prelude.{◌≡◌, ◌≢◌, ◌⊎◌, ◌<◌, ◌≤◌, ◌+◌, ℕ, ℤ, true, ◌&&◌, length};
+ghost use Rattle.std.specs.Prelude.{pos, ◌+ℤ◌, ◌≤ℤ◌, neg_ℤ, IsOk, IfOk, IfErr};
 ghost use Rattle.std.specs.List.{list_all};
 ghost use Rattle.hours_core.specs.Moment.{end_minute};
 ghost use Rattle.hours_core.specs.Zone as spec;
 
 use crate::fault::HoursFault;
-use crate::moment::{END, Minute};
+use crate::moment::END;
 use std::alloc::Global;
 use std::marker::Model;
 
@@ -27,18 +28,26 @@ impl Model for Zone {
 
     ghost view = { λ z. record { first = z.first; changes = z.changes.items } };
 
-    ghost invariant = { λ z. (is_offset z.first && list_all (λ change. is_offset change.1) z.changes.items) ≡ true };
+    ghost invariant = { λ z.
+        (is_offset z.first && list_all (λ change. is_offset change.1) z.changes.items) ≡ true };
 }
 
 impl Zone {
-    /// A zone whose local time is that many minutes before or after UTC, until each change, a minute and the offset that
-    /// holds from there on, has its turn.
+    /// A zone whose local time is that many minutes before or after UTC, until each change, a
+    /// minute and the offset that holds from there on, has its turn.
     ///
-    /// Refused are an offset of a day or more, a change outside of 0 to `END` or not after the one before, over 400
-    /// changes, in this order, and want of memory.
+    /// Refused are an offset of a day or more (`BadOffset`), a change outside of 0 to `END` or not
+    /// after the one before (`ChangesOutOfOrder`), and more than 400 changes (`TooManyChanges`), in
+    /// this order. `NoMemory` comes only in place of a zone, where memory for its changes is
+    /// refused, never of a fault.
     pub fn build(alloc: Global, first: i64, changes: &[(i64, i64)]) -> Result<Zone, HoursFault>
         ensures ok { IfOk result (λ z. spec.zone_of first changes.now ≡ Ok z) }
-        ensures err { IfErr result (λ e. e ≢ HoursFault.NoMemory → spec.zone_of first changes.now ≡ Err e) }
+        ensures err { IfErr result
+            (λ e. e ≢ HoursFault.NoMemory → spec.zone_of first changes.now ≡ Err e) }
+        ensures memory { IfErr result
+            (λ e. e ≡ HoursFault.NoMemory → IsOk (spec.zone_of first changes.now)) }
+        ensures offsets { IfOk result (λ z. (m : ℕ)
+            → spec.IsOffsetAt first changes.now m (spec.offset_at z.first z.changes m)) }
     {
         if !(is_offset(first) && have_offsets(changes)) {
             return Err(HoursFault::BadOffset);
@@ -53,19 +62,57 @@ impl Zone {
         Ok(Zone { first, changes })
     }
 
-    /// The minute that a clock of the zone shows, counted as moments are.
-    pub(crate) fn local_minute(&self, m: Minute) -> u32
-        ensures minute { result ≡ spec.local_minute self.now m }
-        ensures range { result ≤ end_minute + 1439 }
+    /// The minutes by which local time is before or after UTC at the minute.
+    pub(crate) fn offset_at(&self, m: u32) -> i64
+        ensures offset { result ≡ spec.offset_at self.now.first self.now.changes m }
+        ensures range { (neg_ℤ (pos 1439) ≤ℤ result) × (result ≤ℤ pos 1439) }
     {
-        let number = m.get();
-        (number as i64 + offset_at(self.first, self.changes.as_slice(), number)) as u32
+        offset_at(self.first, self.changes.as_slice(), m)
+    }
+
+    /// A minute up to which the offset of this one stays.
+    pub(crate) fn steady_until(&self, m: u32) -> u32
+        requires { m < end_minute }
+        ensures range { (m < result) × (result ≤ end_minute) }
+        ensures steady { (later : ℕ) → m ≤ later → later < result
+            → spec.offset_at self.now.first self.now.changes later
+            ≡ spec.offset_at self.now.first self.now.changes m }
+    {
+        next_change(self.changes.as_slice(), m)
+    }
+}
+
+/// The minute of the first change after this one, or `END`.
+fn next_change(changes: &[(i64, i64)], m: u32) -> u32
+    requires { m < end_minute }
+    ensures range { (m < result) × (result ≤ end_minute) }
+    ensures steady { (first : ℤ) (later : ℕ) → m ≤ later → later < result
+        → spec.offset_at first changes.now later ≡ spec.offset_at first changes.now m }
+{
+    let mut next = END;
+    for change in changes {
+        next = earlier(next, change.0, m);
+    }
+    next
+}
+
+/// The minute of the change where it comes after `m` and before `next`, else `next`.
+fn earlier(next: u32, change: i64, m: u32) -> u32
+    requires { m < next }
+    ensures range { (m < result) × (result ≤ next) }
+    ensures settled { (change ≤ℤ pos m) ⊎ (pos result ≤ℤ change) }
+{
+    if change <= m as i64 || next as i64 <= change {
+        next
+    } else {
+        change as u32
     }
 }
 
 /// The offset of the last change at or before the minute, or the first.
 fn offset_at(first: i64, changes: &[(i64, i64)], m: u32) -> i64
-    requires { (spec.is_offset first && list_all (λ change. spec.is_offset change.1) changes.now) ≡ true }
+    requires { (spec.is_offset first
+        && list_all (λ change. spec.is_offset change.1) changes.now) ≡ true }
     ensures offset { result ≡ spec.offset_at first changes.now m }
     ensures range { (neg_ℤ (pos 1439) ≤ℤ result) × (result ≤ℤ pos 1439) }
 {

@@ -1,16 +1,22 @@
-use Rattle.std.proofs.Common.{rules}
+use Rattle.std.proofs.Common.{inl, inr, sym, arith}
+use Rattle.std.proofs.lemmas.Bool.{cases_lt}
 use Rattle.hours_core.specs.Calendar.{opens}
-use Rattle.hours_core.specs.Hours.{is_open}
+use Rattle.hours_core.specs.Moment.{end_minute}
+use Rattle.hours_core.specs.Spans.{is_held}
+use Rattle.hours_core.proofs.LeastLemmas.{least_here}
 use Rattle.hours_core.proofs.calendar.Calendar.is_open.Goals as goal
 
-pub returns-then-not-is_among : goal.returns-then-not-is_among
-unfolding opens is_open
-returns-then-not-is_among c = search rules
+pub returns-in-Some : goal.returns-in-Some
+unfolding opens
+returns-in-Some c =
+    let first = rw c.get.ensures.number at c.in-Some.ensures.least in
+    rw c.get-in-Some.ensures.number (least_here (is_held c.args.self.now.spans) c.args.m end_minute c.in-Some.first first)
 
-pub returns-else-not-is_among : goal.returns-else-not-is_among
-unfolding opens is_open
-returns-else-not-is_among c = search rules
-
-pub returns-else-is_moment : goal.returns-else-is_moment
-unfolding opens is_open
-returns-else-is_moment c = search rules
+pub returns-in-None : goal.returns-in-None
+unfolding opens
+returns-in-None c =
+    let none = rw c.get.ensures.number at c.in-None.ensures.least in
+    elim (cases_lt c.args.m end_minute) [
+      | inl early ↦ sym (none c.args.m (omega arith) early)
+      | inr late ↦ sym (c.in-None.ensures.end c.args.m late)
+    ]

@@ -1,0 +1,134 @@
+ghost use Rattle.std.specs.Prelude.{◌≡◌, ◌<◌, ◌≤◌, ℕ, ◌+◌, ◌||◌, [], length, min, OnOk};
+ghost use Rattle.std.specs.Prelude.{slice_index_or};
+ghost use Rattle.hours_core.specs.Hours.{is_within};
+ghost use Rattle.hours_core.specs.Moment.{first_minute, end_minute};
+ghost use Rattle.hours_core.specs.Spans.{is_held, AreSpans, end_of};
+
+use std::alloc::{AllocError, Global};
+use std::marker::Model;
+
+/// A run of open minutes, from its start to before its end, and the number of open minutes before
+/// it.
+#[derive(Clone, Copy, Debug)]
+pub struct Span {
+    pub start: u32,
+    pub end: u32,
+    pub before: u32,
+}
+
+/// The runs of open minutes in order, with at least a minute between two of them.
+///
+/// A span is read only by `read`, which counts.
+#[derive(Debug, Drop)]
+pub struct Spans {
+    items: Vec<Span>,
+}
+
+impl Model for Spans {
+    ghost use Rattle.std.specs.Prelude.{List};
+    ghost use Rattle.hours_core.specs.Moment.{first_minute};
+    ghost use Rattle.hours_core.specs.Spans.{AreSpans};
+    ghost use Rattle.hours_core.specs.declared.spans.Span.{Span};
+
+    ghost Value = { List Span };
+
+    ghost view = { λ s. s.items.items };
+
+    ghost invariant = { λ s. AreSpans first_minute 0 s.items.items };
+}
+
+/// How many spans were read, up to the greatest `u32`.
+#[derive(Debug, Drop)]
+pub struct Probes {
+    count: u32,
+}
+
+impl Model for Probes {
+    ghost use Rattle.std.specs.Prelude.{ℕ};
+
+    ghost Value = { ℕ };
+
+    ghost view = { λ p. p.count };
+}
+
+impl Probes {
+    /// No span was read.
+    pub fn new() -> Probes
+        ensures { result ≡ 0 }
+    {
+        Probes { count: 0 }
+    }
+
+    /// How many spans were read, up to the greatest `u32`.
+    pub fn count(&self) -> u32
+        ensures { result ≡ self.now }
+    {
+        self.count
+    }
+}
+
+impl Spans {
+    /// No span.
+    pub fn new(alloc: Global) -> Spans
+        ensures { result ≡ [] }
+    {
+        Spans {
+            items: Vec::new(alloc),
+        }
+    }
+
+    /// How many spans there are.
+    pub fn len(&self) -> usize
+        ensures number { result ≡ length self.now }
+        ensures spans { AreSpans first_minute 0 self.now }
+    {
+        self.items.len()
+    }
+
+    /// The span at the index, which counts as one more.
+    pub fn read(&self, index: usize, probes: &mut Probes) -> Span
+        requires { index < length self.now }
+        ensures span { (other : Span) → result ≡ slice_index_or self.now index other }
+        ensures counted { probes.new ≡ min (probes.old + 1) u32.MAX }
+        ensures kept { probes.old ≤ probes.new }
+    {
+        probes.count = probes.count.saturating_add(1);
+        self.items[index]
+    }
+
+    /// Adds the minutes from `start` to before `end`, which come after all others or touch the last
+    /// ones.
+    pub fn append(&mut self, start: u32, end: u32) -> Result<(), AllocError>
+        requires from { first_minute ≤ start }
+        requires after { end_of first_minute self.old ≤ start }
+        requires some { start < end }
+        requires to { end ≤ end_minute }
+        ensures held { OnOk result
+            ((m : ℕ) → is_held self.new m ≡ (is_held self.old m || is_within m (start, end))) }
+        ensures end { OnOk result (end_of first_minute self.new ≡ end) }
+    {
+        let span = match self.items.pop() {
+            Some(last) if last.end == start => Span { end, ..last },
+            Some(last) => {
+                self.items.push(last)?;
+                let before = last.before + (last.end - last.start);
+                Span { start, end, before }
+            }
+            None => Span {
+                start,
+                end,
+                before: 0,
+            },
+        };
+        self.items.push(span)?;
+        Ok(())
+    }
+
+    /// Gives back the memory that no span needs.
+    pub fn shrink(&mut self)
+        ensures same { self.new ≡ self.old }
+        ensures spans { AreSpans first_minute 0 self.new }
+    {
+        self.items.shrink_to_fit();
+    }
+}
