@@ -1,0 +1,6 @@
+pub use Rattle.rights_core.specs.Right
+pub mod Values
+pub mod PeopleParts
+pub mod LifecycleParts
+pub mod CalendarParts
+pub mod LevelParts
