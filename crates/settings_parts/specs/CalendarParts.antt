@@ -4,6 +4,7 @@ use Rattle.toml.specs.Data.{Members}
 use Rattle.hours_core.specs.Hours.{Hours}
 use Rattle.settings_form.specs.TextForms.{day_of, interval_of}
 use Rattle.settings_parts.specs.Values.{integer_at, texts_at, pair_at, pairs_at}
+use Rattle.settings_parts.specs.declared.calendar.CalendarParts.{CalendarParts}
 
 -- the intervals at a day of the week
 abbrev pub intervals_at : List ℕ → Members → List (ℕ × ℕ)
@@ -23,4 +24,14 @@ hours_of ms =
       week = week_of ms;
       holidays = map day_of (texts_at (codes "holidays") ms);
       years = unwrap_or (pair_at (codes "years") ms) (pos 2000, pos 2099);
+    }
+
+-- the opening hours of the parts that a calendar is built of
+abbrev pub hours_stated : CalendarParts → Hours
+hours_stated p =
+    record {
+      zone = record { first = p.offset; changes = p.changes.items };
+      week = p.week;
+      holidays = p.holidays.items;
+      years = p.years;
     }

@@ -1,4 +1,3 @@
-pub use Rattle.rights_core.specs.Right
 pub mod Values
 pub mod PeopleParts
 pub mod LifecycleParts

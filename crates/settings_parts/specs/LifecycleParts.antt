@@ -1,6 +1,6 @@
 -- The parts of a lifecycle.
 use Rattle.std.specs.Prelude.{ℕ, List, [], ◌∷◌, ◌++◌, map, unwrap_or, codes}
-use Rattle.toml.specs.Data.{Members, no_members, member, as_str}
+use Rattle.toml.specs.Data.{Data, Members, no_members, member, as_str}
 use Rattle.lifecycle_core.specs.Standard.{move_to}
 use Rattle.lifecycle_core.specs.declared.parts.Move.{Move}
 use Rattle.lifecycle_core.specs.declared.parts.MoveRight.{MoveRight}
@@ -13,11 +13,13 @@ abbrev pub moves_in : Members → List Move
 moves_in no_members = []
 moves_in (member k d ms) = map (move_to k) (texts_of d) ++ moves_in ms
 
+abbrev pub right_at : List ℕ → Data → MoveRight
+right_at k d = record { from = before_space k; to = after_space (after_space k); right = unwrap_or (as_str d) [] }
+
 -- the rights of a table, whose keys are two statuses with an arrow between them
 abbrev pub rights_in : Members → List MoveRight
 rights_in no_members = []
-rights_in (member k d ms) =
-    record { from = before_space k; to = after_space (after_space k); right = unwrap_or (as_str d) [] } ∷ rights_in ms
+rights_in (member k d ms) = right_at k d ∷ rights_in ms
 
 -- the parts of the lifecycle that a table states
 abbrev pub lifecycle_of : Members → Parts

@@ -1,5 +1,5 @@
 -- The persons, groups, grants and tokens of a settings text.
-use Rattle.std.specs.Prelude.{ℕ, ◌||◌, Bool, List, [], ◌∷◌, ◌++◌, map, drop, Option, Some, None, is_some, unwrap_or, codes, if◌then◌else◌}
+use Rattle.std.specs.Prelude.{ℕ, ◌||◌, Bool, List, [], ◌∷◌, ◌++◌, map, drop, length, Option, Some, None, is_some, unwrap_or, codes, if◌then◌else◌}
 use Rattle.std.specs.Str.{bytes_eq}
 use Rattle.toml.specs.Data.{Data, Items, no_items, item, Members, no_members, member, get_member, as_str}
 use Rattle.rights_core.specs.Right.{super_user}
@@ -13,6 +13,14 @@ use Rattle.settings_form.specs.TextForms.{begins}
 use Rattle.settings_parts.specs.Values.{text_at, texts_at, texts_of, members_of, table_at, items_at}
 use Rattle.settings_parts.specs.declared.people.Token.{Token}
 
+-- what follows in a text, where it begins so
+abbrev pub after : List ℕ → List ℕ → Option (List ℕ)
+after text start = if begins text start then Some (drop (length start) text) else None
+
+abbrev pub named_subject : Option (List ℕ) → Option (List ℕ) → Subject
+named_subject (Some person) group = subject.Person person
+named_subject None group = subject.Group (unwrap_or group [])
+
 -- whom a grant is for
 abbrev pub subject_of : List ℕ → Subject
 subject_of to =
@@ -21,15 +29,17 @@ subject_of to =
     else (if bytes_eq to (codes "role:requestor") then subject.Role Requestor
     else (if bytes_eq to (codes "role:cc") then subject.Role Cc
     else (if bytes_eq to (codes "role:admincc") then subject.Role AdminCc
-    else (if begins to (codes "person:") then subject.Person (drop 7 to)
-    else subject.Group (drop 6 to))))))
+    else named_subject (after to (codes "person:")) (after to (codes "group:"))))))
 
-abbrev pub grant_of : List ℕ → Option (List ℕ) → List ℕ → Grant
-grant_of to queue right = record { right = right; subject = subject_of to; queue = queue }
+abbrev pub grant_of : Subject → Option (List ℕ) → List ℕ → Grant
+grant_of subject queue right = record { right = right; subject = subject; queue = queue }
 
 -- one grant for each right
 abbrev pub grants_at : Members → List Grant
-grants_at ms = map (grant_of (unwrap_or (text_at (codes "to") ms) []) (text_at (codes "queue") ms)) (texts_at (codes "rights") ms)
+grants_at ms =
+    map
+    (grant_of (subject_of (unwrap_or (text_at (codes "to") ms) [])) (text_at (codes "queue") ms))
+    (texts_at (codes "rights") ms)
 
 -- the grants of a list of tables
 abbrev pub grants_in : Items → List Grant

@@ -1,7 +1,7 @@
 -- The values of a settings text that has no fault of form. Of a value of another kind these words give nothing, and
 -- that is never asked of such a text.
-use Rattle.std.specs.Prelude.{ℕ, ℤ, Bool, List, [], ◌∷◌, Option, Some, None, option_and_then, unwrap_or}
-use Rattle.toml.specs.Data.{Data, integer, array, table, Items, no_items, item, Members, no_members, get_member, as_str, as_integer, as_bool}
+use Rattle.std.specs.Prelude.{ℕ, ℤ, Bool, List, [], ◌∷◌, Option, Some, None, option_and_then}
+use Rattle.toml.specs.Data.{Data, array, table, Items, no_items, item, Members, no_members, get_member, as_str, as_integer, as_bool}
 
 -- the text at a key, and the integer, and the choice
 abbrev pub text_at : List ℕ → Members → Option (List ℕ)
@@ -36,8 +36,12 @@ abbrev pub texts_at : List ℕ → Members → List (List ℕ)
 texts_at k ms = texts_of_some (get_member k ms)
 
 -- a list of two integers
+abbrev pub both : Option ℤ → Option ℤ → Option (ℤ × ℤ)
+both (Some a) (Some b) = Some (a, b)
+both _ _ = None
+
 abbrev pub two_of : Items → Option (ℤ × ℤ)
-two_of (item (integer a) (item (integer b) no_items)) = Some (a, b)
+two_of (item d (item e no_items)) = both (as_integer d) (as_integer e)
 two_of _ = None
 
 abbrev pub pair_of : Data → Option (ℤ × ℤ)

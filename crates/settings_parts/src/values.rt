@@ -1,8 +1,8 @@
 //! The values at the keys of a table.
 
-ghost use Rattle.std.specs.Prelude.{◌≡◌, IfOk};
-ghost use Rattle.std.specs.Option.{option_map, option_map_or};
-ghost use Rattle.toml.specs.Data.{Members, no_members, no_items};
+ghost use Rattle.std.specs.Prelude.{◌≡◌, [], IfOk, is_some, unwrap_or};
+ghost use Rattle.std.specs.Option.{option_map_or};
+ghost use Rattle.toml.specs.Data.{no_members, no_items, as_str, get_member};
 ghost use Rattle.toml.specs.View.{view, array_view, table_view};
 ghost use Rattle.settings_parts.specs.Values as spec;
 
@@ -11,6 +11,13 @@ use std::alloc::{AllocError, Global};
 use text_core::{Text, Texts};
 use toml::value::Array;
 use toml::{Table, Value};
+
+/// Whether the key is there.
+pub fn has_key(table: &Table, key: &str) -> bool
+    ensures { result ≡ is_some (get_member key.now (table_view table.now)) }
+{
+    value_at(table, key).is_some()
+}
 
 /// The text at a key, if there is one.
 pub fn text_at(alloc: Global, table: &Table, key: &str) -> Result<Option<Text>, AllocError>
@@ -22,6 +29,26 @@ pub fn text_at(alloc: Global, table: &Table, key: &str) -> Result<Option<Text>, 
             None => Ok(None),
         },
         None => Ok(None),
+    }
+}
+
+/// The text at a key, empty where there is none.
+pub fn text_or_empty(alloc: Global, table: &Table, key: &str) -> Result<Text, AllocError>
+    ensures { IfOk result (λ t. t ≡ unwrap_or (spec.text_at key.now (table_view table.now)) []) }
+{
+    match text_at(alloc, table, key)? {
+        Some(text) => Ok(text),
+        None => Text::new(alloc, ""),
+    }
+}
+
+/// The text of a value, empty where it is none.
+pub fn text_of(alloc: Global, value: &Value) -> Result<Text, AllocError>
+    ensures { IfOk result (λ t. t ≡ unwrap_or (as_str (view value.now)) []) }
+{
+    match value.as_str() {
+        Some(text) => Text::new(alloc, text),
+        None => Text::new(alloc, ""),
     }
 }
 
