@@ -1,5 +1,5 @@
 -- The settings of a text, or its least fault.
-use Rattle.std.specs.Prelude.{◌≡◌, ℕ, Bool, true, not, ◌&&◌, List, Option, Some, None, codes, if◌then◌else◌}
+use Rattle.std.specs.Prelude.{◌≡◌, ◌⊎◌, ℕ, Bool, true, not, ◌&&◌, List, Option, Some, None, codes, if◌then◌else◌}
 use Rattle.std.specs.List.{list_all}
 use Rattle.std.specs.Option.{option_map, option_map_or, option_or}
 use Rattle.toml.specs.Data.{Members}
@@ -78,5 +78,6 @@ IsSettingsOf bytes settings = (ms : Members) × IsTree bytes ms × (fault_of ms 
 
 -- the bytes have this fault: no tree, or a tree whose least fault it is
 abbrev pub IsFaultOf : List ℕ → SettingsFault → Type 0
-IsFaultOf bytes NotToml = (ms : Members) → IsTree bytes ms → ⊥
-IsFaultOf bytes fault = (ms : Members) × IsTree bytes ms × (fault_of ms ≡ Some fault)
+IsFaultOf bytes fault =
+    ((fault ≡ NotToml) × ((ms : Members) → IsTree bytes ms → ⊥))
+    ⊎ ((ms : Members) × IsTree bytes ms × (fault_of ms ≡ Some fault))
