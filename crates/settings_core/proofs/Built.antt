@@ -1,5 +1,5 @@
 -- Settings that are built of a tree are those that it states.
-use Rattle.std.proofs.Common.{◌≡◌, ℕ, List, ap}
+use Rattle.std.proofs.Common.{ap}
 use Rattle.toml.specs.Data.{Members}
 use Rattle.settings_core.specs.Built.{IsBuilt}
 use Rattle.settings_core.specs.Calendars.{calendars_of}

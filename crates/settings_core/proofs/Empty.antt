@@ -1,5 +1,5 @@
 -- The settings of no bytes.
-use Rattle.std.proofs.Common.{◌≡◌, ◌≢◌, [], Option, Some, None, Result, Ok, Err, refl, subst, rules}
+use Rattle.std.proofs.Common.{◌≡◌, ◌≢◌, [], Some, None, Result, Ok, Err, refl, subst, rules}
 use Rattle.std.specs.Result.{IfOk, IfErr}
 use Rattle.toml.specs.Data.{Members, no_members}
 use Rattle.toml.specs.Parse.{parse_document}

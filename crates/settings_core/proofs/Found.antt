@@ -1,10 +1,8 @@
 -- Calendars under their names.
-use Rattle.std.proofs.Common.{◌≡◌, ℕ, Bool, true, false, cond, List, [], ◌∷◌, ◌++◌, Option, Some, None, find, refl, sym, subst, append-nil, if◌then◌else◌}
+use Rattle.std.proofs.Common.{◌≡◌, ℕ, Bool, true, false, cond, List, [], ◌∷◌, ◌++◌, Option, Some, find, sym, subst, append-nil, if◌then◌else◌}
 use Rattle.std.specs.Option.{option_map}
 use Rattle.std.specs.Str.{bytes_eq}
 use Rattle.hours_core.specs.Calendar.{HasHours}
-use Rattle.hours_core.specs.Hours.{Hours}
-use Rattle.hours_core.specs.declared.calendar.Calendar.{Calendar}
 use Rattle.settings_core.specs.Calendars.{NamedHours, HaveHours, HasHoursIfAny, hours_under}
 use Rattle.settings_core.specs.declared.named.NamedCalendar.{NamedCalendar}
 

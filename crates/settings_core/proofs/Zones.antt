@@ -1,5 +1,5 @@
 -- A calendar of its parts.
-use Rattle.std.proofs.Common.{◌≡◌, ℕ, Bool, true, false, not, List, Option, Some, None, Result, Ok, Err, sym, subst, if◌then◌else◌, ℤ}
+use Rattle.std.proofs.Common.{◌≡◌, ℕ, Bool, true, false, not, List, None, Result, Ok, Err, sym, subst, if◌then◌else◌, ℤ}
 use Rattle.std.specs.Option.{option_or}
 use Rattle.std.specs.Result.{IfOk, OnOk, result_err}
 use Rattle.hours_core.specs.Calendar.{HasHours}

@@ -6,7 +6,7 @@ use Rattle.std.specs.Str.{bytes_eq}
 use Rattle.toml.specs.Data.{Members, no_members, member, get_member}
 use Rattle.hours_core.specs.Calendar.{HasHours}
 use Rattle.hours_core.specs.Hours.{Hours, calendar_fault}
-use Rattle.hours_core.specs.Zone.{Offsets, zone_of}
+use Rattle.hours_core.specs.Zone.{zone_of}
 use Rattle.hours_core.specs.declared.calendar.Calendar.{Calendar}
 use Rattle.hours_core.specs.declared.fault.HoursFault.{HoursFault}
 use Rattle.settings_parts.specs.CalendarParts.{hours_of}

@@ -1,8 +1,8 @@
 -- The levels of a settings text.
-use Rattle.std.specs.Prelude.{ℕ, Bool, true, ◌&&◌, ◌||◌, List, [], ◌∷◌, Option, is_some, find, codes}
+use Rattle.std.specs.Prelude.{ℕ, Bool, true, ◌&&◌, List, [], ◌∷◌, Option, find, codes}
 use Rattle.std.specs.Option.{option_map}
 use Rattle.std.specs.Str.{bytes_eq}
-use Rattle.toml.specs.Data.{Members, no_members, member, get_member}
+use Rattle.toml.specs.Data.{Members, no_members, member}
 use Rattle.hours_core.specs.declared.level.Level.{Level}
 use Rattle.settings_parts.specs.LevelParts.{level_of, has_limits}
 use Rattle.settings_parts.specs.Values.{members_of, table_at}

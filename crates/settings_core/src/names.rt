@@ -18,7 +18,9 @@ use toml::Table;
 pub fn knows_rights(lifecycles: &[NamedLifecycle], grants: &[Grant]) -> bool
     ensures { result ≡ spec.knows_rights lifecycles.now grants.now }
 {
-    grants.iter().all(|g| knows_right(lifecycles, g.right.as_str()))
+    grants
+        .iter()
+        .all(|g| knows_right(lifecycles, g.right.as_str()))
 }
 
 fn knows_right(lifecycles: &[NamedLifecycle], right: &str) -> bool
@@ -37,7 +39,9 @@ fn name_right(lifecycles: &[NamedLifecycle], right: &str) -> bool
 pub fn knows_calendars(table: &Table, levels: &[NamedLevel]) -> bool
     ensures { result ≡ spec.knows_calendars (members_at (codes "calendar") (table_view table.now)) levels.now }
 {
-    levels.iter().all(|l| knows_calendar(table, l.level.calendar.as_str()))
+    levels
+        .iter()
+        .all(|l| knows_calendar(table, l.level.calendar.as_str()))
 }
 
 fn knows_calendar(table: &Table, name: &str) -> bool

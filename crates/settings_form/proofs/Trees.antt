@@ -1,5 +1,5 @@
 -- Walks of a map's entries beside walks of the members that they stand for.
-use Rattle.std.proofs.Common.{◌≡◌, ◌++◌, ℕ, Result, Ok, Err, append_assoc, ◌<◌, ◌≤◌, false, length, arith, List, [], ◌∷◌, String, Global, string_bytes, is_none, refl}
+use Rattle.std.proofs.Common.{◌≡◌, ◌<◌, ◌≤◌, false, length, arith, List, [], ◌∷◌, String, Global, string_bytes, is_none, refl}
 use Rattle.std.specs.List.{list_any}
 use Rattle.std.specs.Map.{keys_of}
 use Rattle.toml.specs.declared.value.Value.{Value}

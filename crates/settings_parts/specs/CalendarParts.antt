@@ -1,5 +1,5 @@
 -- The parts of a calendar.
-use Rattle.std.specs.Prelude.{ℕ, ℤ, pos, List, [], ◌∷◌, map, unwrap_or, codes}
+use Rattle.std.specs.Prelude.{ℕ, pos, List, [], ◌∷◌, map, unwrap_or, codes}
 use Rattle.toml.specs.Data.{Members}
 use Rattle.hours_core.specs.Hours.{Hours}
 use Rattle.settings_form.specs.TextForms.{day_of, interval_of}

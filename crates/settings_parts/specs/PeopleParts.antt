@@ -1,7 +1,7 @@
 -- The persons, groups, grants and tokens of a settings text.
 use Rattle.std.specs.Prelude.{ℕ, ◌||◌, Bool, List, [], ◌∷◌, ◌++◌, map, drop, length, Option, Some, None, is_some, unwrap_or, codes, if◌then◌else◌}
 use Rattle.std.specs.Str.{bytes_eq}
-use Rattle.toml.specs.Data.{Data, Items, no_items, item, Members, no_members, member, get_member, as_str}
+use Rattle.toml.specs.Data.{Items, no_items, item, Members, no_members, member, get_member, as_str}
 use Rattle.rights_core.specs.Right.{super_user}
 use Rattle.rights_core.specs.declared.grant.Grant.{Grant}
 use Rattle.rights_core.specs.declared.grant.Subject.{Subject}

@@ -14,11 +14,7 @@ use text_core::{Sequence, Text};
 use toml::{Table, Value};
 
 /// Moves from a status to each of these.
-fn push_moves(
-    from: &Text,
-    statuses: &[Text],
-    found: &mut Vec<Move>,
-) -> Result<(), AllocError>
+fn push_moves(from: &Text, statuses: &[Text], found: &mut Vec<Move>) -> Result<(), AllocError>
     ensures { IfOk result (λ _. found.new.items ≡ found.old.items ++ map (move_to from.now) statuses.now) }
 {
     for to in statuses {

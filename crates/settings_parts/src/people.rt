@@ -6,7 +6,9 @@ ghost use Rattle.std.specs.Option.{option_copied};
 ghost use Rattle.settings_parts.specs.PeopleParts as spec;
 ghost use Rattle.settings_parts.specs.Values.{text_at as text_at_key, table_at as members_at, items_at};
 
-use crate::values::{array_at, has_key, table_at, text_at, text_of, text_or_empty, texts_at, texts_of};
+use crate::values::{
+    array_at, has_key, table_at, text_at, text_of, text_or_empty, texts_at, texts_of,
+};
 use rights_core::{Grant, Group, Parts, Role, Subject, right};
 use std::alloc::{AllocError, Global};
 use text_core::{Sequence, Text, Texts};

@@ -1,4 +1,4 @@
-use Rattle.std.proofs.Common.{◌≡◌, arith, ◌++◌, ◌∷◌, [], List, append_assoc, string_bytes, subst, sym, rules, ◌∙◌}
+use Rattle.std.proofs.Common.{◌≡◌, ◌++◌, ◌∷◌, [], List, append_assoc, string_bytes, subst, sym, rules, ◌∙◌}
 use Rattle.toml.specs.View.{view}
 use Rattle.settings_parts.specs.CalendarParts.{hours_of}
 use Rattle.settings_parts.specs.Values.{members_of}

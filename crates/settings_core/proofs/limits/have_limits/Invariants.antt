@@ -1,4 +1,4 @@
-use Rattle.std.proofs.Common.{◌≡◌, ◌++◌, List}
+use Rattle.std.proofs.Common.{◌≡◌}
 use Rattle.toml.specs.View.{members_view}
 use Rattle.settings_core.specs.Levels.{have_limits}
 use Rattle.settings_core.proofs.limits.have_limits.Given as goal

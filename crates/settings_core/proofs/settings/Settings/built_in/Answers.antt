@@ -1,5 +1,4 @@
-use Rattle.std.proofs.Common.{◌≡◌, ap}
-use Rattle.toml.specs.Data.{no_members}
+use Rattle.std.proofs.Common.{ap}
 use Rattle.toml.specs.View.{members_view, table_view}
 use Rattle.settings_core.proofs.Empty.{settings_of_empty, only_memory}
 use Rattle.settings_core.proofs.settings.Settings.built_in.Goals as goal
