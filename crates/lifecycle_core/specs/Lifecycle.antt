@@ -45,6 +45,10 @@ abbrev pub right_of_entry : Parts → List ℕ → List ℕ → Option (List ℕ
 right_of_entry lifecycle from to =
     option_map (λ e. e.right) (find (λ e. bytes_eq e.from from && bytes_eq e.to to) lifecycle.rights)
 
+-- an entry is of this right
+abbrev pub names_right : Parts → List ℕ → Bool
+names_right lifecycle right = list_any (λ e. bytes_eq e.right right) lifecycle.rights
+
 -- the right of a move for which there is no entry
 abbrev pub usual_right : List ℕ → List ℕ
 usual_right to = if bytes_eq to (codes "deleted") then codes "DeleteTicket" else codes "ModifyTicket"

@@ -121,6 +121,17 @@ impl Lifecycle {
             .unwrap_or(usual_right(to))
     }
 
+    /// Whether an entry gives this right to a move.
+    pub fn names_right(&self, right: &str) -> bool
+        ensures { result ≡ words.names_right self.now right.now }
+    {
+        self.parts
+            .rights
+            .as_slice()
+            .iter()
+            .any(|entry| entry.right.as_str() == right)
+    }
+
     /// The first active status, in the order of their list, to which a request may move from the status.
     pub fn reopen_to(&self, from: &str) -> Option<&str>
         ensures { option_copied result ≡ words.reopening_target self.now from.now }

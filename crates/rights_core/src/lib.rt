@@ -20,6 +20,3 @@ pub use grant::{Grant, Subject};
 pub use parts::{Group, Parts};
 pub use people::People;
 pub use role::{Role, Roles};
-
-#[cfg(test)]
-mod tests;

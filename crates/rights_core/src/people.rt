@@ -59,6 +59,13 @@ impl People {
         }
     }
 
+    /// The persons, groups and grants that the people were built from.
+    pub fn parts(&self) -> &Parts
+        ensures { result.now ≡ self.now }
+    {
+        &self.parts
+    }
+
     /// Whether there is a person of this name.
     pub fn knows(&self, person: &str) -> bool
         ensures { result ≡ words.knows self.now person.now }

@@ -4,6 +4,12 @@ pub use Rattle.lifecycle_core.specs.Lifecycle
 pub use Rattle.lifecycle_core.specs.Standard
 pub use Rattle.rights_core.specs.People
 pub use Rattle.rights_core.specs.Right
-pub mod BuiltIn
+pub mod Built
+pub mod Calendars
 pub mod Fault
+pub mod Lifecycles
+pub mod Levels
+pub mod Names
+pub mod Reading
 pub mod Settings
+pub mod Tokens

@@ -1,17 +1,20 @@
-//! The settings that a desk runs by.
+//! The settings that a desk runs by, as a text in TOML states them.
 //!
-//! The built-in settings know one person, `root`, who holds every right, one lifecycle and one calendar, both named
-//! `default`, and no level. Others are made of their parts.
+//! A text has the keys that the tables of `settings_form` list. Where it is silent, settings know one person, `root`,
+//! who holds every right, one lifecycle and one calendar, both named `default`, and no level.
 #![tactic(auto)]
 
+mod calendars;
 pub mod fault;
+mod levels;
+mod lifecycles;
+mod limits;
 pub mod named;
+mod names;
+mod people;
 pub mod settings;
-mod standard;
+mod tokens;
 
 pub use fault::SettingsFault;
 pub use named::{NamedCalendar, NamedLevel, NamedLifecycle};
 pub use settings::Settings;
-
-#[cfg(test)]
-mod tests;

@@ -1,96 +1,73 @@
-ghost use Rattle.std.specs.Prelude.{◌≡◌, ◌≤◌, map, true, IfOk, IfErr};
-ghost use Rattle.std.specs.Option.{option_map};
-ghost use Rattle.settings_core.specs.Settings.{are_distinct, people_of, lifecycle_named, calendar_named, level_named, knows_calendars, request_limit, entry_limit};
-ghost use Rattle.settings_core.specs.BuiltIn.{IsBuiltIn};
+ghost use Rattle.std.specs.Prelude.{◌≡◌, ◌≢◌, [], None, Some, IfOk, IfErr};
+ghost use Rattle.std.specs.Option.{option_copied, option_map, option_or};
+ghost use Rattle.toml.specs.View.{table_view};
+ghost use Rattle.settings_core.specs.Built.{IsBuilt};
+ghost use Rattle.settings_core.specs.Names.{knows_names as knows_names_in};
+ghost use Rattle.settings_core.specs.Reading as spec;
+ghost use Rattle.settings_core.specs.Reading.{IsSettingsOf, IsFaultOf, IsStated};
+ghost use Rattle.settings_core.specs.Settings as words;
 
+use crate::calendars::calendars_of;
 use crate::fault::SettingsFault;
+use crate::levels::levels_of;
+use crate::lifecycles::lifecycles_of;
+use crate::limits::{MAX_ENTRIES, MAX_REQUESTS, count_at, has_limits};
 use crate::named::{NamedCalendar, NamedLevel, NamedLifecycle};
-use crate::standard;
+use crate::names::{knows_calendars, knows_persons, knows_rights};
+use crate::people::people_of;
+use crate::tokens::are_tokens;
 use hours_core::{Calendar, Level};
 use lifecycle_core::Lifecycle;
 use rights_core::People;
+use settings_form::text::table_of;
+use settings_parts::people::{Token, tokens_of};
 use std::alloc::Global;
 use text_core::Sequence;
+use toml::Table;
 
-/// The most requests that settings may allow.
-pub const MAX_REQUESTS: u32 = 1_000_000;
-
-/// The most entries in a request's history that settings may allow.
-pub const MAX_ENTRIES: u32 = 10_000;
-
-/// The people, the lifecycles, the calendars, the levels and the limits of a desk.
+/// The people, the lifecycles, the calendars, the levels, the tokens and the limits of a desk.
 #[derive(Debug, Drop)]
 pub struct Settings {
     people: People,
     lifecycles: Sequence<NamedLifecycle>,
     calendars: Sequence<NamedCalendar>,
     levels: Sequence<NamedLevel>,
+    tokens: Sequence<Token>,
     max_requests: u32,
     max_entries: u32,
 }
 
 impl Settings {
-    /// The settings that hold without a text: the person `root` with every right, the lifecycle `default`, the
-    /// calendar `default`, no level, and 1,000,000 requests with 10,000 entries each. The only fault is `NoMemory`.
-    pub fn built_in(alloc: Global) -> Result<Settings, SettingsFault>
-        ensures ok { IfOk result IsBuiltIn }
-        ensures err { IfErr result (λ fault. fault ≡ SettingsFault.NoMemory) }
+    /// The settings that a text states, or its fault with the least number.
+    ///
+    /// The inner fault of a calendar or a lifecycle is that of the first one by byte order of names that has any.
+    pub fn read(alloc: Global, bytes: &[u8]) -> Result<Settings, SettingsFault>
+        ensures ok { IfOk result (IsSettingsOf bytes.now) }
+        ensures err { IfErr result (λ e. e ≢ SettingsFault.NoMemory → IsFaultOf bytes.now e) }
     {
-        Ok(Settings {
-            people: standard::people(alloc)?,
-            lifecycles: Sequence::from(vec![in alloc; NamedLifecycle::standard(alloc)?]?),
-            calendars: Sequence::from(vec![in alloc; NamedCalendar::standard(alloc)?]?),
-            levels: Sequence::from(Vec::new(alloc)),
-            max_requests: MAX_REQUESTS,
-            max_entries: MAX_ENTRIES,
-        })
+        let table = table_of(alloc, bytes)?;
+        stated(alloc, &table)
     }
 
-    /// The settings of these parts. Names of one kind differ, the calendar of each level is among the calendars,
-    /// there may be 1 to 1,000,000 requests, and each has room for 1 to 10,000 entries.
-    pub fn of_parts(
-        people: People,
-        lifecycles: Sequence<NamedLifecycle>,
-        calendars: Sequence<NamedCalendar>,
-        levels: Sequence<NamedLevel>,
-        max_requests: u32,
-        max_entries: u32,
-    ) -> Settings
-        requires lifecycles { are_distinct (map (λ l. l.name) lifecycles) ≡ true }
-        requires calendars { are_distinct (map (λ c. c.name) calendars) ≡ true }
-        requires levels { are_distinct (map (λ l. l.name) levels) ≡ true }
-        requires known { knows_calendars calendars levels ≡ true }
-        requires requests { (1 ≤ max_requests) × (max_requests ≤ 1000000) }
-        requires entries { (1 ≤ max_entries) × (max_entries ≤ 10000) }
-        ensures { result ≡ record {
-          people = people;
-          lifecycles = lifecycles;
-          calendars = calendars;
-          levels = levels;
-          max_requests = max_requests;
-          max_entries = max_entries;
-        } }
+    /// The settings of the empty text: the person `root` with every right, the lifecycle `default`, the calendar
+    /// `default`, no level, no token, and 1,000,000 requests with 10,000 entries each. The only fault is `NoMemory`.
+    pub fn built_in(alloc: Global) -> Result<Settings, SettingsFault>
+        ensures ok { IfOk result (IsSettingsOf []) }
+        ensures err { IfErr result (λ e. e ≡ SettingsFault.NoMemory) }
     {
-        Settings {
-            people,
-            lifecycles,
-            calendars,
-            levels,
-            max_requests,
-            max_entries,
-        }
+        stated(alloc, &Table::new(alloc))
     }
 
     /// The persons, their groups and their rights.
     pub fn people(&self) -> &People
-        ensures { result.now ≡ people_of self.now }
+        ensures { result.now ≡ words.people_of self.now }
     {
         &self.people
     }
 
     /// The lifecycle of this name, if there is one.
     pub fn lifecycle(&self, name: &str) -> Option<&Lifecycle>
-        ensures { option_map (λ l. l.now) result ≡ lifecycle_named self.now name.now }
+        ensures { option_map (λ l. l.now) result ≡ words.lifecycle_named self.now name.now }
     {
         self.lifecycles
             .as_slice()
@@ -101,7 +78,7 @@ impl Settings {
 
     /// The calendar of this name, if there is one.
     pub fn calendar(&self, name: &str) -> Option<&Calendar>
-        ensures { option_map (λ c. c.now) result ≡ calendar_named self.now name.now }
+        ensures { option_map (λ c. c.now) result ≡ words.calendar_named self.now name.now }
     {
         self.calendars
             .as_slice()
@@ -112,7 +89,7 @@ impl Settings {
 
     /// The level of this name, if there is one.
     pub fn level(&self, name: &str) -> Option<&Level>
-        ensures { option_map (λ l. l.now) result ≡ level_named self.now name.now }
+        ensures { option_map (λ l. l.now) result ≡ words.level_named self.now name.now }
     {
         self.levels
             .as_slice()
@@ -121,17 +98,88 @@ impl Settings {
             .map(|level| &level.level)
     }
 
+    /// The person of this token, if there is one.
+    pub fn person_of_token(&self, token: &str) -> Option<&str>
+        ensures { option_copied result ≡ words.person_of_token self.now token.now }
+    {
+        self.tokens
+            .as_slice()
+            .iter()
+            .find(|t| t.token.as_str() == token)
+            .map(|t| t.person.as_str())
+    }
+
     /// How many requests the desk may have.
     pub fn max_requests(&self) -> u32
-        ensures { result ≡ request_limit self.now }
+        ensures { result ≡ words.request_limit self.now }
     {
         self.max_requests
     }
 
     /// How many entries the history of a request may have.
     pub fn max_entries(&self) -> u32
-        ensures { result ≡ entry_limit self.now }
+        ensures { result ≡ words.entry_limit self.now }
     {
         self.max_entries
     }
+}
+
+/// The settings that a table without a fault of form states, or its fault with the least number.
+fn stated(alloc: Global, table: &Table) -> Result<Settings, SettingsFault>
+    ensures ok { IfOk result (λ s. (spec.table_fault (table_view table.now) ≡ None) × IsStated (table_view table.now) s) }
+    ensures err { IfErr result (λ e. e ≢ SettingsFault.NoMemory → spec.table_fault (table_view table.now) ≡ Some e) }
+{
+    let settings = built(alloc, table)?;
+    match late_fault(table, &settings) {
+        Some(fault) => Err(fault),
+        None => Ok(settings),
+    }
+}
+
+/// The settings of a table by the lower builds, whose names, tokens and limits may still have a fault.
+fn built(alloc: Global, table: &Table) -> Result<Settings, SettingsFault>
+    ensures ok { IfOk result (λ s. (spec.build_fault (table_view table.now) ≡ None) × IsBuilt (table_view table.now) s) }
+    ensures err { IfErr result (λ e. e ≢ SettingsFault.NoMemory → spec.build_fault (table_view table.now) ≡ Some e) }
+{
+    let calendars = calendars_of(alloc, table)?;
+    let lifecycles = lifecycles_of(alloc, table)?;
+    let people = people_of(alloc, table)?;
+    let levels = levels_of(alloc, table)?;
+    let tokens = tokens_of(alloc, table)?;
+    Ok(Settings {
+        people,
+        lifecycles: Sequence::from(lifecycles),
+        calendars: Sequence::from(calendars),
+        levels: Sequence::from(levels),
+        tokens: Sequence::from(tokens),
+        max_requests: count_at(table, "max_requests", MAX_REQUESTS),
+        max_entries: count_at(table, "max_entries", MAX_ENTRIES),
+    })
+}
+
+/// The least fault of names, tokens and limits.
+fn late_fault(table: &Table, settings: &Settings) -> Option<SettingsFault>
+    requires { IsBuilt (table_view table.now) settings.now }
+    ensures { result ≡ spec.late_fault (table_view table.now) }
+{
+    if !knows_names(table, settings) {
+        Some(SettingsFault::UnknownName)
+    } else if !are_tokens(settings.tokens.as_slice()) {
+        Some(SettingsFault::BadToken)
+    } else if !has_limits(table) {
+        Some(SettingsFault::BadLimit)
+    } else {
+        None
+    }
+}
+
+/// Whether granted rights, the levels' calendars and the tokens' persons are known.
+fn knows_names(table: &Table, settings: &Settings) -> bool
+    requires { IsBuilt (table_view table.now) settings.now }
+    ensures { result ≡ knows_names_in (table_view table.now) }
+{
+    let grants = settings.people.parts().grants.as_slice();
+    knows_rights(settings.lifecycles.as_slice(), grants)
+        && knows_calendars(table, settings.levels.as_slice())
+        && knows_persons(&settings.people, settings.tokens.as_slice())
 }

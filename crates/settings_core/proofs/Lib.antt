@@ -1,0 +1,5 @@
+pub mod Built
+pub mod Empty
+pub mod Faults
+pub mod Found
+pub mod Zones

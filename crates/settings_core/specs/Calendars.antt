@@ -1,0 +1,78 @@
+-- The calendars of a settings text.
+use Rattle.std.specs.Prelude.{◌≡◌, ℕ, List, [], ◌∷◌, ◌++◌, Option, Some, None, is_some, find, pos, codes, if◌then◌else◌}
+use Rattle.std.specs.Option.{option_map, option_or}
+use Rattle.std.specs.Result.{result_err}
+use Rattle.std.specs.Str.{bytes_eq}
+use Rattle.toml.specs.Data.{Members, no_members, member, get_member}
+use Rattle.hours_core.specs.Calendar.{HasHours}
+use Rattle.hours_core.specs.Hours.{Hours, calendar_fault}
+use Rattle.hours_core.specs.Zone.{zone_of}
+use Rattle.hours_core.specs.declared.calendar.Calendar.{Calendar}
+use Rattle.hours_core.specs.declared.fault.HoursFault.{HoursFault}
+use Rattle.settings_parts.specs.CalendarParts.{hours_of}
+use Rattle.settings_parts.specs.Values.{members_of, table_at}
+use Rattle.settings_core.specs.declared.named.NamedCalendar.{NamedCalendar}
+
+-- opening hours under a name
+pub record NamedHours : Type 0 where
+  pub name : List ℕ
+  pub hours : Hours
+
+-- the opening hours of that name in a list
+abbrev pub hours_under : List ℕ → List NamedHours → Option Hours
+hours_under name calendars = option_map (λ c. c.hours) (find (λ c. bytes_eq c.name name) calendars)
+
+-- the opening hours of a table
+abbrev pub hours_in : Members → List NamedHours
+hours_in no_members = []
+hours_in (member k d ms) = record { name = k; hours = hours_of (members_of d) } ∷ hours_in ms
+
+-- the least fault of opening hours, that of the zone before that of the calendar
+abbrev pub hours_fault : Hours → Option HoursFault
+hours_fault hours =
+    option_or (result_err (zone_of hours.zone.first hours.zone.changes)) (calendar_fault hours.week hours.years)
+
+-- the fault of the first calendar, by byte order of names, that has one
+abbrev pub fault_in : Members → Option HoursFault
+fault_in no_members = None
+fault_in (member k d ms) = option_or (hours_fault (hours_of (members_of d))) (fault_in ms)
+
+-- from 09:00 to 18:00
+abbrev pub working_day : List (ℕ × ℕ)
+working_day = (540, 1080) ∷ []
+
+-- Monday to Friday in UTC, from 2000 to 2099
+abbrev pub standard_hours : Hours
+standard_hours =
+    record {
+      zone = record { first = pos 0; changes = [] };
+      week = [] ∷ working_day ∷ working_day ∷ working_day ∷ working_day ∷ working_day ∷ [] ∷ [];
+      holidays = [];
+      years = (pos 2000, pos 2099);
+    }
+
+abbrev pub standard_calendar : NamedHours
+standard_calendar = record { name = codes "default"; hours = standard_hours }
+
+-- the opening hours of a table, and the calendar `default` where the table has none of that name
+abbrev pub with_standard : Members → List NamedHours
+with_standard ms = hours_in ms ++ (if is_some (get_member (codes "default") ms) then [] else standard_calendar ∷ [])
+
+-- the calendars of a text
+abbrev pub calendars_of : Members → List NamedHours
+calendars_of ms = with_standard (table_at (codes "calendar") ms)
+
+abbrev pub calendars_fault : Members → Option HoursFault
+calendars_fault ms = fault_in (table_at (codes "calendar") ms)
+
+-- there are both or neither, and the calendar has these opening hours
+abbrev pub HasHoursIfAny : Option Calendar → Option Hours → Type 0
+HasHoursIfAny None None = Unit {0}
+HasHoursIfAny (Some calendar) (Some hours) = HasHours calendar hours
+HasHoursIfAny _ _ = ⊥
+
+-- one by one the calendars have these names and opening hours
+abbrev pub HaveHours : List NamedCalendar → List NamedHours → Type 0
+HaveHours [] [] = Unit {0}
+HaveHours (c ∷ cs) (h ∷ hs) = (c.name ≡ h.name) × HasHours c.calendar h.hours × HaveHours cs hs
+HaveHours _ _ = ⊥

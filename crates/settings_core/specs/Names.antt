@@ -1,0 +1,42 @@
+-- Which names of a settings text are known.
+use Rattle.std.specs.Prelude.{ℕ, Bool, ◌&&◌, ◌||◌, List, is_some, codes}
+use Rattle.std.specs.List.{list_all, list_any}
+use Rattle.std.specs.Str.{bytes_eq}
+use Rattle.toml.specs.Data.{Members, get_member}
+use Rattle.lifecycle_core.specs.Lifecycle.{names_right}
+use Rattle.rights_core.specs.People.{is_among, knows}
+use Rattle.rights_core.specs.Right.{standard_rights}
+use Rattle.rights_core.specs.declared.grant.Grant.{Grant}
+use Rattle.rights_core.specs.declared.parts.Parts.{Parts}
+use Rattle.settings_parts.specs.PeopleParts.{people_in}
+use Rattle.settings_parts.specs.Values.{table_at}
+use Rattle.settings_parts.specs.declared.people.Token.{Token}
+use Rattle.settings_core.specs.Levels.{levels_of}
+use Rattle.settings_core.specs.Lifecycles.{lifecycles_of}
+use Rattle.settings_core.specs.Tokens.{tokens_of}
+use Rattle.settings_core.specs.declared.named.NamedLevel.{NamedLevel}
+use Rattle.settings_core.specs.declared.named.NamedLifecycle.{NamedLifecycle}
+
+-- a right is standard, or the rights of a lifecycle name it
+abbrev pub knows_right : List NamedLifecycle → List ℕ → Bool
+knows_right lifecycles right =
+    is_among standard_rights right || list_any (λ l. names_right l.lifecycle right) lifecycles
+
+abbrev pub knows_rights : List NamedLifecycle → List Grant → Bool
+knows_rights lifecycles grants = list_all (λ g. knows_right lifecycles g.right) grants
+
+-- a table of calendars has the calendar, or it is the calendar `default`
+abbrev pub knows_calendar : Members → List ℕ → Bool
+knows_calendar ms name = bytes_eq name (codes "default") || is_some (get_member name ms)
+
+abbrev pub knows_calendars : Members → List NamedLevel → Bool
+knows_calendars ms levels = list_all (λ l. knows_calendar ms l.level.calendar) levels
+
+abbrev pub knows_persons : Parts → List Token → Bool
+knows_persons people tokens = list_all (λ t. knows people t.person) tokens
+
+-- the granted rights, the levels' calendars and the tokens' persons are known
+abbrev pub knows_names : Members → Bool
+knows_names ms =
+    knows_rights (lifecycles_of ms) (people_in ms).grants
+    && knows_calendars (table_at (codes "calendar") ms) (levels_of ms) && knows_persons (people_in ms) (tokens_of ms)

@@ -1,0 +1,122 @@
+//! The calendars of a settings text.
+
+ghost use Rattle.std.specs.Prelude.{◌≡◌, ◌≢◌, None, Some, IfOk, IfErr};
+ghost use Rattle.toml.specs.View.{view, table_view};
+ghost use Rattle.hours_core.specs.Calendar.{HasHours};
+ghost use Rattle.settings_parts.specs.CalendarParts.{hours_of, hours_stated};
+ghost use Rattle.settings_parts.specs.Values.{members_of};
+ghost use Rattle.settings_core.specs.Calendars as spec;
+
+use crate::named::{NamedCalendar, STANDARD};
+use hours_core::{Calendar, HoursFault, Intervals, Zone};
+use settings_parts::calendar::{CalendarParts, YEARS, calendar_of};
+use settings_parts::values::{has_key, table_at, table_of};
+use std::alloc::{AllocError, Global};
+use text_core::Text;
+use toml::{Table, Value};
+
+/// The calendars of a settings text by name, and the calendar `default` where it has none of that name.
+pub fn calendars_of(alloc: Global, table: &Table) -> Result<Vec<NamedCalendar>, HoursFault>
+    ensures ok { IfOk result (λ v. (spec.calendars_fault (table_view table.now) ≡ None) × spec.HaveHours v.items (spec.calendars_of (table_view table.now))) }
+    ensures err { IfErr result (λ e. e ≢ HoursFault.NoMemory → spec.calendars_fault (table_view table.now) ≡ Some e) }
+{
+    match table_at(table, "calendar") {
+        Some(calendars) => with_standard(alloc, calendars),
+        None => with_standard(alloc, &Table::new(alloc)),
+    }
+}
+
+/// The calendars of a table, and the calendar `default` where it has none of that name.
+fn with_standard(alloc: Global, table: &Table) -> Result<Vec<NamedCalendar>, HoursFault>
+    ensures ok { IfOk result (λ v. (spec.fault_in (table_view table.now) ≡ None) × spec.HaveHours v.items (spec.with_standard (table_view table.now))) }
+    ensures err { IfErr result (λ e. e ≢ HoursFault.NoMemory → spec.fault_in (table_view table.now) ≡ Some e) }
+{
+    let mut calendars = calendars_in(alloc, table)?;
+    if !has_key(table, STANDARD) {
+        let standard = NamedCalendar {
+            name: Text::new(alloc, STANDARD)?,
+            calendar: standard_calendar(alloc)?,
+        };
+        calendars.push(standard).map_err(AllocError::from)?;
+    }
+    Ok(calendars)
+}
+
+/// The calendars of a table.
+fn calendars_in(alloc: Global, table: &Table) -> Result<Vec<NamedCalendar>, HoursFault>
+    ensures ok { IfOk result (λ v. (spec.fault_in (table_view table.now) ≡ None) × spec.HaveHours v.items (spec.hours_in (table_view table.now))) }
+    ensures err { IfErr result (λ e. e ≢ HoursFault.NoMemory → spec.fault_in (table_view table.now) ≡ Some e) }
+{
+    let mut found = Vec::new(alloc);
+    for (name, value) in table.iter() {
+        let calendar = built(alloc, value)?;
+        let name = Text::new(alloc, name.as_str())?;
+        found
+            .push(NamedCalendar { name, calendar })
+            .map_err(AllocError::from)?;
+    }
+    Ok(found)
+}
+
+/// The calendar of a table.
+fn built(alloc: Global, value: &Value) -> Result<Calendar, HoursFault>
+    ensures ok { IfOk result (λ c. (spec.hours_fault (hours_of (members_of (view value.now))) ≡ None) × HasHours c (hours_of (members_of (view value.now)))) }
+    ensures err { IfErr result (λ e. e ≢ HoursFault.NoMemory → spec.hours_fault (hours_of (members_of (view value.now))) ≡ Some e) }
+{
+    match table_of(value) {
+        Some(table) => built_of(alloc, table),
+        None => built_of(alloc, &Table::new(alloc)),
+    }
+}
+
+fn built_of(alloc: Global, table: &Table) -> Result<Calendar, HoursFault>
+    ensures ok { IfOk result (λ c. (spec.hours_fault (hours_of (table_view table.now)) ≡ None) × HasHours c (hours_of (table_view table.now))) }
+    ensures err { IfErr result (λ e. e ≢ HoursFault.NoMemory → spec.hours_fault (hours_of (table_view table.now)) ≡ Some e) }
+{
+    calendar_from(alloc, &calendar_of(alloc, table)?)
+}
+
+/// The calendar of its parts, or their least fault, that of the zone first.
+fn calendar_from(alloc: Global, parts: &CalendarParts) -> Result<Calendar, HoursFault>
+    ensures ok { IfOk result (λ c. (spec.hours_fault (hours_stated parts.now) ≡ None) × HasHours c (hours_stated parts.now)) }
+    ensures err { IfErr result (λ e. e ≢ HoursFault.NoMemory → spec.hours_fault (hours_stated parts.now) ≡ Some e) }
+{
+    let zone = Zone::build(alloc, parts.offset, parts.changes.as_slice())?;
+    let holidays = parts.holidays.as_slice();
+    Calendar::build(alloc, zone, &parts.week, holidays, parts.years)
+}
+
+/// Monday to Friday from 09:00 to 18:00 UTC, from 2000 to 2099. The only fault is `NoMemory`.
+fn standard_calendar(alloc: Global) -> Result<Calendar, HoursFault>
+    ensures ok { IfOk result (λ c. HasHours c spec.standard_hours) }
+    ensures err { IfErr result (λ e. e ≡ HoursFault.NoMemory) }
+{
+    calendar_from(alloc, &standard_parts(alloc)?)
+}
+
+fn standard_parts(alloc: Global) -> Result<CalendarParts, AllocError>
+    ensures { IfOk result (λ p. hours_stated p ≡ spec.standard_hours) }
+{
+    Ok(CalendarParts {
+        offset: 0,
+        changes: Vec::new(alloc),
+        week: [
+            Intervals::from(Vec::new(alloc)),
+            working_day(alloc)?,
+            working_day(alloc)?,
+            working_day(alloc)?,
+            working_day(alloc)?,
+            working_day(alloc)?,
+            Intervals::from(Vec::new(alloc)),
+        ],
+        holidays: Vec::new(alloc),
+        years: YEARS,
+    })
+}
+
+/// From 09:00 to 18:00.
+fn working_day(alloc: Global) -> Result<Intervals, AllocError>
+    ensures { IfOk result (λ day. day ≡ spec.working_day) }
+{
+    Ok(Intervals::from(vec![in alloc; (540, 1080)]?))
+}

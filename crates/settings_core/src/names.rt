@@ -1,0 +1,67 @@
+//! Whether the names of a settings text are known.
+
+ghost use Rattle.std.specs.Prelude.{◌≡◌, codes, is_some};
+ghost use Rattle.std.specs.List.{list_any};
+ghost use Rattle.toml.specs.Data.{get_member};
+ghost use Rattle.toml.specs.View.{table_view};
+ghost use Rattle.lifecycle_core.specs.Lifecycle.{names_right};
+ghost use Rattle.settings_parts.specs.Values.{table_at as members_at};
+ghost use Rattle.settings_core.specs.Names as spec;
+
+use crate::named::{NamedLevel, NamedLifecycle, STANDARD};
+use rights_core::{Grant, People, right};
+use settings_parts::people::Token;
+use settings_parts::values::{has_key, table_at};
+use toml::Table;
+
+/// Whether each granted right is standard or named in the rights of a lifecycle.
+pub fn knows_rights(lifecycles: &[NamedLifecycle], grants: &[Grant]) -> bool
+    ensures { result ≡ spec.knows_rights lifecycles.now grants.now }
+{
+    grants
+        .iter()
+        .all(|g| knows_right(lifecycles, g.right.as_str()))
+}
+
+fn knows_right(lifecycles: &[NamedLifecycle], right: &str) -> bool
+    ensures { result ≡ spec.knows_right lifecycles.now right.now }
+{
+    right::is_standard(right) || name_right(lifecycles, right)
+}
+
+fn name_right(lifecycles: &[NamedLifecycle], right: &str) -> bool
+    ensures { result ≡ list_any (λ l. names_right l.lifecycle right.now) lifecycles.now }
+{
+    lifecycles.iter().any(|l| l.lifecycle.names_right(right))
+}
+
+/// Whether the calendar of each level is one of the text's, or the calendar `default`.
+pub fn knows_calendars(table: &Table, levels: &[NamedLevel]) -> bool
+    ensures { result ≡ spec.knows_calendars (members_at (codes "calendar") (table_view table.now)) levels.now }
+{
+    levels
+        .iter()
+        .all(|l| knows_calendar(table, l.level.calendar.as_str()))
+}
+
+fn knows_calendar(table: &Table, name: &str) -> bool
+    ensures { result ≡ spec.knows_calendar (members_at (codes "calendar") (table_view table.now)) name.now }
+{
+    name == STANDARD || has_calendar(table, name)
+}
+
+fn has_calendar(table: &Table, name: &str) -> bool
+    ensures { result ≡ is_some (get_member name.now (members_at (codes "calendar") (table_view table.now))) }
+{
+    match table_at(table, "calendar") {
+        Some(calendars) => has_key(calendars, name),
+        None => false,
+    }
+}
+
+/// Whether the person of each token is known.
+pub fn knows_persons(people: &People, tokens: &[Token]) -> bool
+    ensures { result ≡ spec.knows_persons people.now tokens.now }
+{
+    tokens.iter().all(|t| people.knows(t.person.as_str()))
+}

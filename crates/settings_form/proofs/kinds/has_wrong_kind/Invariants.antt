@@ -1,0 +1,10 @@
+use Rattle.std.proofs.Common.{◌≡◌}
+use Rattle.toml.specs.View.{members_view}
+use Rattle.settings_form.specs.Kinds.{has_wrong_kind}
+use Rattle.settings_form.proofs.kinds.has_wrong_kind.Given as goal
+
+abbrev pub invariant-loop-key : goal.invariant-loop-key
+invariant-loop-key l =
+    (goal.iterator-loop-key).can_next l.key-iterator ×
+    (goal.iterator-loop-key).is_finite l.key-iterator ×
+    (has_wrong_kind l.place (members_view l.key-iterator) ≡ has_wrong_kind l.place (members_view l.table.entries))

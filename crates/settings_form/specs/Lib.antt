@@ -1,0 +1,5 @@
+pub mod Form
+pub mod TextForms
+pub mod Kinds
+pub mod Walk
+pub mod Text

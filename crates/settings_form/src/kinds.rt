@@ -1,0 +1,186 @@
+ghost use Rattle.std.specs.Prelude.{◌≡◌, not, is_none, ◌&&◌, string_bytes, option_map, map};
+ghost use Rattle.std.specs.List.{list_any};
+ghost use Rattle.std.specs.BTreeMap.{keys as map_keys};
+ghost use Rattle.toml.specs.Data.{get_member};
+ghost use Rattle.toml.specs.View.{view, array_view, table_view};
+ghost use Rattle.settings_form.specs.Form as form;
+ghost use Rattle.settings_form.specs.Kinds as kinds;
+
+use crate::form::{Item, Keys, Kind, Place, Row, TextForm, keys_at, kind_of};
+use crate::text_forms::has_form;
+use toml::value::Array;
+use toml::{Table, Value};
+
+fn is_text(form: TextForm, value: &Value) -> bool
+    ensures { result ≡ kinds.is_text form (view value.now) }
+{
+    match value.as_str() {
+        Some(text) => has_form(form, text),
+        None => false,
+    }
+}
+
+fn is_integer(value: &Value) -> bool
+    ensures { result ≡ kinds.is_integer (view value.now) }
+{
+    value.is_integer()
+}
+
+fn is_boolean(value: &Value) -> bool
+    ensures { result ≡ kinds.is_boolean (view value.now) }
+{
+    value.is_bool()
+}
+
+fn is_table(value: &Value) -> bool
+    ensures { result ≡ kinds.is_table (view value.now) }
+{
+    value.as_table().is_some()
+}
+
+fn are_two(list: &Array) -> bool
+    ensures { result ≡ kinds.are_two (array_view list.now) }
+{
+    match list.as_slice() {
+        [first, second] => is_integer(first) && is_integer(second),
+        _ => false,
+    }
+}
+
+fn is_pair(value: &Value) -> bool
+    ensures { result ≡ kinds.is_pair (view value.now) }
+{
+    match value.as_array() {
+        Some(list) => are_two(list),
+        None => false,
+    }
+}
+
+fn is_item(item: Item, value: &Value) -> bool
+    ensures { result ≡ kinds.is_item item (view value.now) }
+{
+    match item {
+        Item::Integer => is_integer(value),
+        Item::Boolean => is_boolean(value),
+        Item::Text(form) => is_text(form, value),
+        Item::Pair => is_pair(value),
+        Item::Table(_) => is_table(value),
+    }
+}
+
+fn are_items(item: Item, list: &Array) -> bool
+    ensures { result ≡ kinds.are_items item (array_view list.now) }
+{
+    for value in list {
+        if !is_item(item, value) {
+            return false;
+        }
+    }
+    true
+}
+
+/// Whether the value is of the kind, no table inside it looked into.
+fn has_kind(kind: Kind, value: &Value) -> bool
+    ensures { result ≡ kinds.has_kind kind (view value.now) }
+{
+    match kind {
+        Kind::One(item) => is_item(item, value),
+        Kind::Many(item) => match value.as_array() {
+            Some(list) => are_items(item, list),
+            None => false,
+        },
+    }
+}
+
+fn is_key(keys: Keys, key: &str) -> bool
+    ensures { result ≡ kinds.is_key (form.keys_of keys) key.now }
+{
+    match keys {
+        Keys::Listed(_) => true,
+        Keys::OneOf(_) => true,
+        Keys::Free(form, _) => has_form(form, key),
+    }
+}
+
+fn is_right_at(place: Place, key: &str, value: &Value) -> bool
+    ensures { result ≡ kinds.is_right_at place key.now (view value.now) }
+{
+    is_key(keys_at(place), key)
+        && match kind_of(place, key) {
+            Some(kind) => has_kind(kind, value),
+            None => true,
+        }
+}
+
+fn has_any_unknown(place: Place, table: &Table) -> bool
+    ensures { result ≡ list_any (λ k. is_none (form.kind_of place (string_bytes k))) (map_keys table.now) }
+{
+    table
+        .keys()
+        .any(|key| kind_of(place, key.as_str()).is_none())
+}
+
+/// Whether a table of the place has a key that its form does not have.
+pub fn has_unknown_key(place: Place, table: &Table) -> bool
+    ensures { result ≡ kinds.has_unknown_key place (table_view table.now) }
+{
+    has_any_unknown(place, table)
+}
+
+/// The value at a key.
+pub fn value_at<'a>(table: &'a Table, key: &str) -> Option<&'a Value>
+    ensures { option_map (λ v. view v.now) result ≡ get_member key.now (table_view table.now) }
+{
+    table.get(key)
+}
+
+fn lacks(table: &Table, key: &str) -> bool
+    ensures { result ≡ kinds.lacks_at key.now (table_view table.now) }
+{
+    value_at(table, key).is_none()
+}
+
+fn lacks_one(rows: &[Row], table: &Table) -> bool
+    ensures { result ≡ kinds.lacks_one (map form.field_of rows.now) (table_view table.now) }
+{
+    for row in rows {
+        if row.1 && lacks(table, row.0) {
+            return true;
+        }
+    }
+    false
+}
+
+fn lacks_all(rows: &[Row], table: &Table) -> bool
+    ensures { result ≡ kinds.lacks_all (map form.field_of rows.now) (table_view table.now) }
+{
+    for row in rows {
+        if !lacks(table, row.0) {
+            return false;
+        }
+    }
+    true
+}
+
+/// Whether a table of the place lacks a key that it must have.
+pub fn lacks_key(place: Place, table: &Table) -> bool
+    ensures { result ≡ kinds.lacks_key place (table_view table.now) }
+{
+    match keys_at(place) {
+        Keys::Listed(rows) => lacks_one(rows, table),
+        Keys::OneOf(rows) => lacks_all(rows, table),
+        Keys::Free(_, _) => false,
+    }
+}
+
+/// Whether a table of the place has a value of another kind, or a key of another form.
+pub fn has_wrong_kind(place: Place, table: &Table) -> bool
+    ensures { result ≡ kinds.has_wrong_kind place (table_view table.now) }
+{
+    for (key, value) in table.iter() {
+        if !is_right_at(place, key.as_str(), value) {
+            return true;
+        }
+    }
+    false
+}

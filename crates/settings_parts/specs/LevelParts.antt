@@ -1,0 +1,65 @@
+-- A level, and which limits it may have.
+use Rattle.std.specs.Prelude.{ℕ, ℤ, pos, int_le, unsigned_abs, Bool, true, false, ◌&&◌, List, [], Option, Some, None, is_some, unwrap_or, option_and_then, codes, if◌then◌else◌}
+use Rattle.std.specs.Option.{option_map, option_map_or}
+use Rattle.toml.specs.Data.{Members, get_member, as_table}
+use Rattle.hours_core.specs.declared.level.Level.{Level}
+use Rattle.hours_core.specs.declared.level.Limit.{Limit}
+use Rattle.hours_core.specs.declared.level.Limit.TheVariants.{RealMinutes, BusinessMinutes}
+use Rattle.settings_parts.specs.Values.{text_at, integer_at, boolean_at}
+
+-- from 1 to the most
+abbrev pub is_from_one : ℕ → ℤ → Bool
+is_from_one most z = int_le (pos 1) z && int_le z (pos most)
+
+-- a number from 1 to the most
+abbrev pub number_up_to : ℕ → ℤ → ℕ
+number_up_to most z = if is_from_one most z then unsigned_abs z else 0
+
+-- the most minutes of a limit, a year of them
+abbrev pub most_minutes : ℕ
+most_minutes = 525600
+
+abbrev pub minutes_of : Option ℤ → ℕ
+minutes_of minutes = option_map_or (number_up_to most_minutes) minutes 0
+
+-- the limit that a table states in real minutes or in business minutes
+abbrev pub limit_of : Members → Limit
+limit_of ms =
+    if is_some (integer_at (codes "real_minutes") ms)
+    then RealMinutes (minutes_of (integer_at (codes "real_minutes") ms))
+    else BusinessMinutes (minutes_of (integer_at (codes "business_minutes") ms))
+
+-- a table states one number of minutes, and it is from 1 to the most
+abbrev pub are_minutes : Option ℤ → Option ℤ → Bool
+are_minutes (Some z) None = is_from_one most_minutes z
+are_minutes None (Some z) = is_from_one most_minutes z
+are_minutes _ _ = false
+
+abbrev pub is_limit : Members → Bool
+is_limit ms = are_minutes (integer_at (codes "real_minutes") ms) (integer_at (codes "business_minutes") ms)
+
+abbrev pub limit_table : List ℕ → Members → Option Members
+limit_table k ms = option_and_then as_table (get_member k ms)
+
+-- the limit at a key
+abbrev pub limit_at : List ℕ → Members → Option Limit
+limit_at k ms = option_map limit_of (limit_table k ms)
+
+abbrev pub has_limit_at : List ℕ → Members → Bool
+has_limit_at k ms = option_map_or is_limit (limit_table k ms) true
+
+-- each limit that the level has is one
+abbrev pub has_limits : Members → Bool
+has_limits ms =
+    has_limit_at (codes "response") ms && has_limit_at (codes "keep_in_loop") ms && has_limit_at (codes "resolve") ms
+
+-- the level that a table states
+abbrev pub level_of : Members → Level
+level_of ms =
+    record {
+      calendar = unwrap_or (text_at (codes "calendar") ms) [];
+      start_immediately = unwrap_or (boolean_at (codes "start_immediately") ms) false;
+      response = limit_at (codes "response") ms;
+      keep_in_loop = limit_at (codes "keep_in_loop") ms;
+      resolve = limit_at (codes "resolve") ms;
+    }

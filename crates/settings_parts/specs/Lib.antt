@@ -1,0 +1,5 @@
+pub mod Values
+pub mod PeopleParts
+pub mod LifecycleParts
+pub mod CalendarParts
+pub mod LevelParts

@@ -1,0 +1,123 @@
+//! Levels and their limits.
+
+ghost use Rattle.std.specs.Prelude.{◌≡◌, ◌≤◌, IfOk};
+ghost use Rattle.std.specs.Option.{option_map};
+ghost use Rattle.toml.specs.View.{table_view};
+ghost use Rattle.settings_parts.specs.LevelParts as spec;
+
+use crate::values::{boolean_at, integer_at, text_or_empty};
+use hours_core::{Level, Limit};
+use settings_form::kinds::value_at;
+use std::alloc::{AllocError, Global};
+use toml::Table;
+
+/// The most minutes of a limit: a year.
+const MOST_MINUTES: u32 = 525_600;
+
+/// Whether the number is from 1 to the most.
+pub fn is_from_one(most: u32, number: i64) -> bool
+    ensures { result ≡ spec.is_from_one most number }
+{
+    1 <= number && number <= most as i64
+}
+
+/// The number where it is from 1 to the most.
+pub fn number_up_to(most: u32, number: i64) -> u32
+    ensures { result ≡ spec.number_up_to most number }
+{
+    if 1 <= number && number <= most as i64 {
+        number as u32
+    } else {
+        0
+    }
+}
+
+fn minutes_of(minutes: Option<i64>) -> u32
+    ensures { result ≡ spec.minutes_of minutes }
+{
+    match minutes {
+        Some(number) => number_up_to(MOST_MINUTES, number),
+        None => 0,
+    }
+}
+
+/// The limit that a table states.
+fn limit_of(table: &Table) -> Limit
+    ensures { result ≡ spec.limit_of (table_view table.now) }
+{
+    let real = integer_at(table, "real_minutes");
+    if real.is_some() {
+        Limit::RealMinutes(minutes_of(real))
+    } else {
+        Limit::BusinessMinutes(minutes_of(integer_at(table, "business_minutes")))
+    }
+}
+
+fn are_minutes(real: Option<i64>, business: Option<i64>) -> bool
+    ensures { result ≡ spec.are_minutes real business }
+{
+    match (real, business) {
+        (Some(minutes), None) => is_from_one(MOST_MINUTES, minutes),
+        (None, Some(minutes)) => is_from_one(MOST_MINUTES, minutes),
+        _ => false,
+    }
+}
+
+/// Whether a table states one limit, from 1 minute to a year of them.
+fn is_limit(table: &Table) -> bool
+    ensures { result ≡ spec.is_limit (table_view table.now) }
+{
+    are_minutes(
+        integer_at(table, "real_minutes"),
+        integer_at(table, "business_minutes"),
+    )
+}
+
+fn limit_table<'a>(table: &'a Table, key: &str) -> Option<&'a Table>
+    ensures { option_map (λ t. table_view t.now) result ≡ spec.limit_table key.now (table_view table.now) }
+{
+    match value_at(table, key) {
+        Some(value) => value.as_table(),
+        None => None,
+    }
+}
+
+fn limit_at(table: &Table, key: &str) -> Option<Limit>
+    ensures { result ≡ spec.limit_at key.now (table_view table.now) }
+{
+    match limit_table(table, key) {
+        Some(limit) => Some(limit_of(limit)),
+        None => None,
+    }
+}
+
+fn has_limit_at(table: &Table, key: &str) -> bool
+    ensures { result ≡ spec.has_limit_at key.now (table_view table.now) }
+{
+    match limit_table(table, key) {
+        Some(limit) => is_limit(limit),
+        None => true,
+    }
+}
+
+/// Whether each limit of a level's table has one unit, and from 1 minute to a year of them.
+pub fn has_limits(table: &Table) -> bool
+    ensures { result ≡ spec.has_limits (table_view table.now) }
+{
+    has_limit_at(table, "response")
+        && has_limit_at(table, "keep_in_loop")
+        && has_limit_at(table, "resolve")
+}
+
+/// The level that a table states.
+pub fn level_of(alloc: Global, table: &Table) -> Result<Level, AllocError>
+    ensures { IfOk result (λ l. l ≡ spec.level_of (table_view table.now)) }
+{
+    Ok(Level {
+        calendar: text_or_empty(alloc, table, "calendar")?,
+        start_immediately: boolean_at(table, "start_immediately").unwrap_or(false),
+        response: limit_at(table, "response"),
+        keep_in_loop: limit_at(table, "keep_in_loop"),
+        resolve: limit_at(table, "resolve"),
+    })
+}

@@ -1,0 +1,8 @@
+//! The parts of settings, as a text without a fault of form states them.
+#![tactic(auto)]
+
+pub mod calendar;
+pub mod level;
+pub mod lifecycle;
+pub mod people;
+pub mod values;
