@@ -8,6 +8,3 @@ pub mod texts;
 pub use queues::queues_text;
 pub use shown::show_text;
 pub use texts::{answer_text, refusal_text};
-
-#[cfg(test)]
-mod tests;

@@ -17,7 +17,7 @@ allowed id = record (new_rule id) { action = Some Set }
 abbrev pub several : Text → Rule
 several id = record (new_rule id) { action = Some Append }
 
--- a word behind two hyphens and the name
+-- a word after two hyphens and the name
 abbrev pub option : Text → Rule
 option id = record (new_rule id) { long = Some id; action = Some Set }
 
