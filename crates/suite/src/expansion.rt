@@ -53,9 +53,9 @@ fn put_repeated(
     text: &str,
 ) -> Result<(), AllocError> {
     for time in 0..times {
-        let number = format!(in alloc; "{}", u64::from(time) + 1)?;
         for (i, piece) in text.split('@').enumerate() {
             if i > 0 {
+                let number = format!(in alloc; "{}", u64::from(time) + 1)?;
                 script.extend_from_slice(number.as_bytes())?;
             }
             script.extend_from_slice(piece.as_bytes())?;

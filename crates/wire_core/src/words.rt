@@ -109,11 +109,7 @@ fn after_escaped(word: String, character: char) -> Result<Place, WordsFault>
 }
 
 /// The place after a character that follows a closing quote.
-fn after_closed(
-    words: &mut Vec<String>,
-    word: String,
-    character: char,
-) -> Result<Place, WordsFault>
+fn after_closed(words: &mut Vec<String>, word: String, character: char) -> Result<Place, WordsFault>
     ensures ok { (text : List ℕ) → IfOk result (λ p. after (map string_bytes words.old.items)
         (spec.word_of (string_bytes word) (spec.closed (character ∷ text))) ≡ after (map string_bytes words.new.items) (read_at p text)) }
     ensures bad { (text : List ℕ) → result ≡ Err WordsFault.BadQuote → spec.closed (character ∷ text) ≡ None }
