@@ -1,9 +1,7 @@
-//! Tests that go through the whole desk, from the bytes of a script to what it prints.
+//! Scripts over readers and writers that do less than they could, or fail.
 #![tactic(auto)]
 
 #[cfg(test)]
 mod faults;
-#[cfg(test)]
-mod scripts;
 #[cfg(test)]
 mod streams;

@@ -1,7 +1,7 @@
 //! Readers and writers that do less than they could.
 use std::io::{Error, ErrorKind, Read, Result, Write};
 
-/// A reader that gives one byte at a time, and fails after so many reads, if told to.
+/// A reader that gives one byte at a time, and fails after a number of reads, if told to.
 #[derive(Drop)]
 pub struct Slow<'b> {
     pub bytes: &'b [u8],
@@ -41,22 +41,6 @@ impl Read for Endless {
         }
         buf[0] = b'#';
         Ok(1)
-    }
-}
-
-/// A reader that never ends, and gives as many bytes as there is room for.
-#[derive(Drop)]
-pub struct Filling {
-    pub given: usize,
-}
-
-impl Read for Filling {
-    fn read(&mut self, buf: &mut [u8]) -> Result<usize> {
-        for place in buf.iter_mut() {
-            *place = b'#';
-        }
-        self.given = self.given.saturating_add(buf.len());
-        Ok(buf.len())
     }
 }
 

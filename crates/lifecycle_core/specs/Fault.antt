@@ -4,7 +4,8 @@ use Rattle.std.specs.Option.{option_or}
 use Rattle.std.specs.List.{list_all, list_any}
 use Rattle.std.specs.Str.{bytes_eq}
 use Rattle.text_core.specs.Form.{is_name, is_right_name}
-use Rattle.lifecycle_core.specs.Lifecycle.{any_status, is_among, is_status, may_create, statuses}
+use Rattle.text_core.specs.Texts.{repeats_text}
+use Rattle.lifecycle_core.specs.Lifecycle.{any_status, is_status, may_create, statuses}
 use Rattle.lifecycle_core.specs.declared.fault.LifecycleFault.{LifecycleFault}
 use Rattle.lifecycle_core.specs.declared.fault.LifecycleFault.TheVariants.{BadName, Repeated, NoInitial, NoActive, UnknownStatus, SelfMove, BadOnCreate, NoMemory}
 use Rattle.lifecycle_core.specs.declared.parts.Move.{Move}
@@ -37,11 +38,6 @@ has_right_name entry = is_right_name entry.right
 -- all statuses are names, and all rights right's names
 abbrev pub has_names : Parts → Bool
 has_names parts = list_all is_name (statuses parts) && list_all has_right_name parts.rights
-
--- a text stands again further on in the list
-abbrev pub repeats_text : List (List ℕ) → Bool
-repeats_text [] = false
-repeats_text (text ∷ rest) = is_among rest text || repeats_text rest
 
 -- an entry of the list is for the same pair
 abbrev pub has_entry : List MoveRight → MoveRight → Bool

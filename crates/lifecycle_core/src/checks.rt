@@ -3,10 +3,11 @@ ghost use Rattle.std.specs.List.{list_all, list_any};
 ghost use Rattle.lifecycle_core.specs.Lifecycle as words;
 ghost use Rattle.lifecycle_core.specs.Fault as faults;
 ghost use Rattle.text_core.specs.Form.{is_name as is_name_of};
+ghost use Rattle.text_core.specs.Texts as texts;
 
 use crate::fault::LifecycleFault;
 use crate::parts::{ANY_STATUS, Move, MoveRight, Parts};
-use text_core::{Text, is_name, is_right_name};
+use text_core::{Text, is_name, is_right_name, repeats_text, shares_text};
 
 /// The fault with the least number that applies to the parts.
 #[tactic(auto, unfolding(crate::specs::Fault::fault_of))]
@@ -26,27 +27,18 @@ pub(crate) fn fault_of(parts: &Parts) -> Option<LifecycleFault>
         Some(LifecycleFault::UnknownStatus)
     } else if has_self_move(parts.moves.as_slice()) {
         Some(LifecycleFault::SelfMove)
-    } else if !is_among(parts.create.as_slice(), parts.on_create.as_str()) {
+    } else if !parts.create.contains(parts.on_create.as_str()) {
         Some(LifecycleFault::BadOnCreate)
     } else {
         None
     }
 }
 
-/// Whether the text is one of the list.
-pub(crate) fn is_among(texts: &[Text], text: &str) -> bool
-    ensures { result ≡ words.is_among texts.now text.now }
-{
-    texts.iter().any(|t| t.as_str() == text)
-}
-
 /// Whether the text is a status of one of the three lists.
 fn is_status(parts: &Parts, text: &str) -> bool
     ensures { result ≡ words.is_status parts.now text.now }
 {
-    is_among(parts.initial.as_slice(), text)
-        || is_among(parts.active.as_slice(), text)
-        || is_among(parts.inactive.as_slice(), text)
+    parts.initial.contains(text) || parts.active.contains(text) || parts.inactive.contains(text)
 }
 
 /// Whether all statuses are names, and all rights right's names.
@@ -80,9 +72,9 @@ fn has_repeats(parts: &Parts) -> bool
     repeats_status(parts) || repeats_pair(parts.rights.as_slice())
 }
 
-#[tactic(auto, using(crate::proofs::Repeats::repeats_in_three))]
+#[tactic(auto, using(text_core::proofs::Repeats::repeats_in_three))]
 fn repeats_status(parts: &Parts) -> bool
-    ensures { result ≡ faults.repeats_text (words.statuses parts.now) }
+    ensures { result ≡ texts.repeats_text (words.statuses parts.now) }
 {
     let initial = parts.initial.as_slice();
     let active = parts.active.as_slice();
@@ -93,25 +85,6 @@ fn repeats_status(parts: &Parts) -> bool
         || repeats_text(inactive)
         || shares_text(initial, inactive)
         || shares_text(active, inactive)
-}
-
-/// Whether the list names a text twice.
-fn repeats_text(texts: &[Text]) -> bool
-    ensures { result ≡ faults.repeats_text texts.now }
-{
-    for (i, text) in texts.iter().enumerate() {
-        if is_among(&texts[i + 1..], text.as_str()) {
-            return true;
-        }
-    }
-    false
-}
-
-/// Whether a text of the first list is in the second too.
-fn shares_text(texts: &[Text], others: &[Text]) -> bool
-    ensures { result ≡ list_any (words.is_among others.now) texts.now }
-{
-    texts.iter().any(|t| is_among(others, t.as_str()))
 }
 
 /// Whether two entries are for one pair of statuses.

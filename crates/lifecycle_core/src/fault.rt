@@ -1,23 +1,24 @@
 use std::alloc::AllocError;
+use thiserror::Error;
 
 /// Why parts make no lifecycle. Where several faults apply, the one with the least number is answered.
-#[derive(Clone, Copy, Debug, PartialEq, Eq)]
+#[derive(Clone, Copy, Debug, Error, PartialEq, Eq)]
 pub enum LifecycleFault {
-    /// A status of the three lists is no name, or a right no right's name.
+    #[error("a status must be a name, and a right 1 to 32 letters")]
     BadName = 1,
-    /// A status is named twice over the three lists, or two entries give the right of one pair.
+    #[error("each status stands once over the three lists, and each pair of statuses has one right")]
     Repeated = 2,
-    /// No status is initial.
+    #[error("at least one status must be initial")]
     NoInitial = 3,
-    /// No status is active.
+    #[error("at least one status must be active")]
     NoActive = 4,
-    /// The status on create, a creatable one, or one of a move or a right's entry is none of the lifecycle's.
+    #[error("on_create, create, moves and rights may name only statuses of the three lists, and rights `*`")]
     UnknownStatus = 5,
-    /// A move leads from a status to itself.
+    #[error("a move must lead from a status to another one")]
     SelfMove = 6,
-    /// The status on create isn't creatable.
+    #[error("the status on_create must be one of create")]
     BadOnCreate = 7,
-    /// Memory was refused.
+    #[error("out of memory")]
     NoMemory = 8,
 }
 

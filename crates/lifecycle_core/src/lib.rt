@@ -13,6 +13,3 @@ mod standard;
 pub use fault::LifecycleFault;
 pub use lifecycle::{Class, Lifecycle};
 pub use parts::{ANY_STATUS, Move, MoveRight, Parts};
-
-#[cfg(test)]
-mod tests;

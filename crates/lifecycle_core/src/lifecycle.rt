@@ -33,11 +33,15 @@ pub struct Lifecycle {
 }
 
 impl Model for Lifecycle {
+    ghost use Rattle.std.specs.Prelude.{◌≡◌, None};
+    ghost use Rattle.lifecycle_core.specs.Fault.{fault_of};
     ghost use Rattle.lifecycle_core.specs.declared.parts.Parts.{Parts};
 
     ghost Value = { Parts };
 
     ghost view = { λ l. l.parts };
+
+    ghost invariant = { λ l. fault_of l.parts ≡ None };
 }
 
 impl Lifecycle {
@@ -76,11 +80,11 @@ impl Lifecycle {
         ensures class { result ≡ words.class_of self.now status.now }
         ensures known { is_some result ≡ words.is_status self.now status.now }
     {
-        if checks::is_among(self.parts.initial.as_slice(), status) {
+        if self.parts.initial.contains(status) {
             Some(Class::Initial)
-        } else if checks::is_among(self.parts.active.as_slice(), status) {
+        } else if self.parts.active.contains(status) {
             Some(Class::Active)
-        } else if checks::is_among(self.parts.inactive.as_slice(), status) {
+        } else if self.parts.inactive.contains(status) {
             Some(Class::Inactive)
         } else {
             None
@@ -91,7 +95,7 @@ impl Lifecycle {
     pub fn may_create(&self, status: &str) -> bool
         ensures { result ≡ words.may_create self.now status.now }
     {
-        checks::is_among(self.parts.create.as_slice(), status)
+        self.parts.create.contains(status)
     }
 
     /// Whether a request may move from the one status to the other.
@@ -144,9 +148,11 @@ impl Lifecycle {
         None
     }
 
-    /// The status of a request that is created without one.
+    /// The status of a request that is created without one. The parts of every lifecycle have no fault, so it is one
+    /// of those in which a request may be created.
     pub fn on_create(&self) -> &str
-        ensures { result.now ≡ self.now.on_create }
+        ensures status { result.now ≡ self.now.on_create }
+        ensures sound { fault_of self.now ≡ None }
     {
         self.parts.on_create.as_str()
     }

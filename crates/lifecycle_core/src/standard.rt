@@ -12,16 +12,16 @@ pub(crate) fn default_parts(alloc: Global) -> Result<Parts, AllocError>
     ensures ok { IfOk result (λ p. p ≡ words.default_lifecycle) }
     ensures sound { fault_of words.default_lifecycle ≡ None }
 {
-    let statuses = texts_of(
+    let statuses = Texts::new(
         alloc,
         &["new", "open", "stalled", "resolved", "rejected", "deleted"],
     )?;
     Ok(Parts {
-        initial: texts_of(alloc, &["new"])?,
-        active: texts_of(alloc, &["open", "stalled"])?,
-        inactive: texts_of(alloc, &["resolved", "rejected", "deleted"])?,
+        initial: Texts::new(alloc, &["new"])?,
+        active: Texts::new(alloc, &["open", "stalled"])?,
+        inactive: Texts::new(alloc, &["resolved", "rejected", "deleted"])?,
         on_create: Text::new(alloc, "new")?,
-        create: texts_of(alloc, &["new", "open", "resolved"])?,
+        create: Texts::new(alloc, &["new", "open", "resolved"])?,
         moves: every_move(alloc, statuses.as_slice())?,
         rights: default_rights(alloc)?,
     })
@@ -46,16 +46,6 @@ fn right_of(alloc: Global, from: &str, to: &str, right: &str) -> Result<MoveRigh
         to: Text::new(alloc, to)?,
         right: Text::new(alloc, right)?,
     })
-}
-
-fn texts_of(alloc: Global, names: &[&str]) -> Result<Texts, AllocError>
-    ensures { IfOk result (λ t. t ≡ map (λ n. n.now) names.now) }
-{
-    let mut texts = Vec::with_capacity(alloc, names.len())?;
-    for name in names {
-        texts.push(Text::new(alloc, name)?)?;
-    }
-    Ok(Texts::from(texts))
 }
 
 /// The moves between any two different statuses.

@@ -1,15 +1,19 @@
 -- Columns: texts of a width, and a space between two columns. Widths count characters.
-use Rattle.std.specs.Prelude.{ℕ, ◌-◌, ◌^◌, false, List, [], ◌++◌, codes, decimal}
-use Rattle.std.specs.Fmt.{format_spec, padded, padded_integral}
+use Rattle.std.specs.Prelude.{ℕ, ◌-◌, List, [], ◌∷◌, ◌++◌, codes}
+use Rattle.std.specs.Fmt.{char_count}
+use Rattle.std.specs.List.{repeat}
 
--- the text at the left of so many places, the others spaces; a longer text stands whole
+abbrev pub spaces : ℕ → List ℕ
+spaces n = repeat n (32 ∷ [])
+
+-- the text at the left of a column of this width; a longer text stands whole
 abbrev pub left : ℕ → List ℕ → List ℕ
-left width text = padded (format_spec 32 1 0 width (2 ^ 64 - 1)) text
+left width text = text ++ spaces (width - char_count text)
 
--- the number in digits at the right of so many places, the others spaces
-abbrev pub right : ℕ → ℕ → List ℕ
-right width number = padded_integral (format_spec 32 3 0 width (2 ^ 64 - 1)) false [] (decimal number)
+-- and at its right
+abbrev pub right : ℕ → List ℕ → List ℕ
+right width text = spaces (width - char_count text) ++ text
 
--- a column, and what follows after a space
+-- a column, and what comes after a space
 abbrev pub then : List ℕ → List ℕ → List ℕ
 then column rest = column ++ (codes " " ++ rest)

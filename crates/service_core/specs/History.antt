@@ -1,5 +1,5 @@
 -- The text of a history: a line for each entry.
-use Rattle.std.specs.Prelude.{ℕ, ◌==◌, List, [], ◌∷◌, ◌++◌, codes, encode_utf8, if◌then◌else◌}
+use Rattle.std.specs.Prelude.{ℕ, ◌==◌, List, [], ◌∷◌, ◌++◌, codes, decimal, encode_utf8, if◌then◌else◌}
 use Rattle.std.specs.List.{flat_map}
 use Rattle.std.specs.Str.{chars}
 use Rattle.hours_core.specs.Date.{text_of_minute}
@@ -44,7 +44,7 @@ entry_words kind head body = spaced (kind_word kind) (told kind head body)
 
 -- a number, a moment and a person, each with a space after it
 unfoldable pub columns : ℕ → List ℕ → List ℕ → List ℕ
-columns number moment person = spaced (right 5 number) (spaced moment (left 20 person ++ codes " "))
+columns number moment person = spaced (right 5 (decimal number)) (spaced moment (left 20 person ++ codes " "))
 
 -- its number, its moment, who did it, and what
 unfoldable pub entry_line : Entry → List ℕ

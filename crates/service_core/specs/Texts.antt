@@ -20,21 +20,21 @@ use Rattle.service_core.specs.Words.{or_dash}
 unfoldable pub line : List ℕ → List ℕ → List ℕ
 line label value = label ++ (codes ": " ++ (value ++ codes "\n"))
 
-abbrev pub behind_space : List ℕ → List ℕ
-behind_space text = codes " " ++ text
+abbrev pub after_space : List ℕ → List ℕ
+after_space text = codes " " ++ text
 
--- the texts, each but the first behind a space, or a dash for none
+-- the texts, each but the first after a space, or a dash for none
 abbrev pub listed : List (List ℕ) → List ℕ
 listed [] = codes "-"
-listed (first ∷ rest) = first ++ flat_map behind_space rest
+listed (first ∷ rest) = first ++ flat_map after_space rest
 
-abbrev pub behind_number : ℕ → List ℕ
-behind_number n = behind_space (decimal n)
+abbrev pub after_number : ℕ → List ℕ
+after_number n = after_space (decimal n)
 
 -- the same of numbers in digits
 abbrev pub numbers : List ℕ → List ℕ
 numbers [] = codes "-"
-numbers (first ∷ rest) = decimal first ++ flat_map behind_number rest
+numbers (first ∷ rest) = decimal first ++ flat_map after_number rest
 
 -- the owner, or `Nobody`
 abbrev pub or_nobody : Option (List ℕ) → List ℕ
@@ -91,12 +91,12 @@ answer_text (answer.Queues queues) = queues_text queues
 answer_text (answer.Shown shown) = show_text shown
 answer_text (answer.History entries) = history_text entries
 
--- a refusal's number and name, and what stands behind them
+-- a refusal's number and name, and what comes after them
 abbrev pub refused_text : Refusal → List ℕ → List ℕ
 refused_text refusal rest =
     codes "refused " ++ (decimal (number_of refusal) ++ (codes " " ++ (name_of refusal ++ (rest ++ codes "\n"))))
 
--- the right that is lacking stands behind the name
+-- the right that is lacking comes after the name
 abbrev pub right_text : Refusal → List ℕ
 right_text (Denied right) = codes " " ++ right
 right_text other = []

@@ -143,10 +143,10 @@ fn put_listed(out: &mut String, texts: &[Text]) -> Result<(), AllocError>
     put_more(out, rest)
 }
 
-/// Each of the texts behind a space.
+/// Each of the texts after a space.
 fn put_more(out: &mut String, texts: &[Text]) -> Result<(), AllocError>
     ensures { OnOk result (string_bytes out.new
-        ≡ string_bytes out.old ++ flat_map text.behind_space texts.now) }
+        ≡ string_bytes out.old ++ flat_map text.after_space texts.now) }
 {
     for text in texts {
         let shown = text.as_str();
@@ -176,10 +176,10 @@ fn put_numbered(out: &mut String, ids: &[u32]) -> Result<(), AllocError>
     put_more_numbers(out, rest)
 }
 
-/// Each of the numbers behind a space.
+/// Each of the numbers after a space.
 fn put_more_numbers(out: &mut String, ids: &[u32]) -> Result<(), AllocError>
     ensures { OnOk result (string_bytes out.new
-        ≡ string_bytes out.old ++ flat_map text.behind_number ids.now) }
+        ≡ string_bytes out.old ++ flat_map text.after_number ids.now) }
 {
     for id in ids {
         let shown = *id;

@@ -26,7 +26,7 @@ fn created_text(alloc: Global, id: u32) -> Result<String, AllocError>
     format!(in alloc; "request {id}\n")
 }
 
-/// The text of a refusal: `refused N Name`, with the right that is lacking behind `Denied`.
+/// The text of a refusal: `refused N Name`, with the right that is lacking after `Denied`.
 pub fn refusal_text(alloc: Global, refusal: &Refusal) -> Result<String, AllocError>
     ensures { IfOk result (λ t. string_bytes t ≡ text.refusal_text refusal.now) }
 {

@@ -6,10 +6,9 @@
 mod form;
 mod sequence;
 mod text;
+mod texts;
 
 pub use form::{is_name, is_right_name, is_subject, is_text};
-pub use sequence::{Sequence, Texts};
+pub use sequence::Sequence;
 pub use text::Text;
-
-#[cfg(test)]
-mod tests;
+pub use texts::{Texts, is_among, repeats_text, shares_text};

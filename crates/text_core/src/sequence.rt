@@ -1,6 +1,5 @@
 ghost use Rattle.std.specs.Prelude.{◌≡◌, ◌==◌, length};
 
-use crate::text::Text;
 use std::marker::Model;
 
 /// Values in order, which contracts see as a list.
@@ -10,9 +9,6 @@ use std::marker::Model;
 pub struct Sequence<T> {
     inner: Vec<T>,
 }
-
-/// Texts in order.
-pub type Texts = Sequence<Text>;
 
 impl<T> Model for Sequence<T> {
     ghost use Rattle.std.specs.Prelude.{List};

@@ -13,6 +13,6 @@ read_at (Quoted word) text = word_of (string_bytes word) (quoted text)
 read_at (Escaped word) text = word_of (string_bytes word) (escaped text)
 read_at (Closed word) text = word_of (string_bytes word) (closed text)
 
--- those words, behind the words had before
-abbrev pub behind : List (List ℕ) → Option (List (List ℕ)) → Option (List (List ℕ))
-behind had rest = option_map (λ ws. had ++ ws) rest
+-- those words, after the words had before
+abbrev pub after : List (List ℕ) → Option (List (List ℕ)) → Option (List (List ℕ))
+after had rest = option_map (λ ws. had ++ ws) rest

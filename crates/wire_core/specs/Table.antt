@@ -21,7 +21,7 @@ several id = record (new_rule id) { action = Some Append }
 abbrev pub flag : Text → ℕ → Rule
 flag id letter = record (new_rule id) { short = Some letter; action = Some SetTrue }
 
--- a word behind two hyphens and the name
+-- a word after two hyphens and the name
 abbrev pub option : Text → Rule
 option id = record (new_rule id) { long = Some id; action = Some Set }
 

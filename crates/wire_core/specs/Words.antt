@@ -19,7 +19,7 @@ word_of bytes rest = option_map (λ r. (bytes ++ r.0) ∷ r.1) rest
 abbrev pub ended : Option (List (List ℕ)) → Option Rest
 ended words = option_map (λ ws. ([], ws)) words
 
--- what a character behind a backslash stands for
+-- what a character after a backslash stands for
 abbrev pub meant : ℕ → Option ℕ
 meant c =
     if c == 34 then Some 34 else if c == 92 then Some 92 else if c == 110 then Some 10 else if c == 116 then Some 9 else None
@@ -46,12 +46,12 @@ abbrev mutual
   quoted [] = None
   quoted (c ∷ cs) = if c == 34 then closed cs else if c == 92 then escaped cs else onto (encode_utf8 c) (quoted cs)
 
-  -- within quotes behind a backslash
+  -- within quotes after a backslash
   pub escaped : List ℕ → Option Rest
   escaped [] = None
   escaped (c ∷ cs) = meant_onto (meant c) (quoted cs)
 
-  -- behind the closing quote, where a space or the end has to come
+  -- after the closing quote, where a space or the end has to come
   pub closed : List ℕ → Option Rest
   closed [] = ended (Some [])
   closed (c ∷ cs) = if c == 32 then ended (between cs) else None

@@ -3,29 +3,30 @@ ghost use Rattle.wire_core.specs.Faults.{number_of, name_of};
 ghost use Rattle.wire_core.specs.declared.fault.WordsFault.TheVariants.{NoMemory};
 
 use std::alloc::{AllocError, AllocFailed};
+use thiserror::Error;
 
 /// Why a line has no words, or its words are no command.
-#[derive(Clone, Copy, Debug, PartialEq, Eq)]
+#[derive(Clone, Copy, Debug, Error, PartialEq, Eq)]
 pub enum WordsFault {
-    /// A quote that isn't closed, or stands where none may, or a backslash before another character than it may.
+    #[error("quotes hold a whole word, and a backslash in them stands before a quote, a backslash, `n` or `t`")]
     BadQuote = 1,
-    /// The words are no command.
+    #[error("the words must be those of a command")]
     BadWords = 2,
-    /// Memory is wanting.
+    #[error("out of memory")]
     NoMemory = 3,
 }
 
 impl WordsFault {
-    /// The fault's number, from 1 to 3.
-    pub fn number(&self) -> u8
-        ensures { result ≡ number_of self.now }
+    /// The fault's number, 1 to 3.
+    pub fn number(self) -> u8
+        ensures { result ≡ number_of self }
     {
-        *self as u8
+        self as u8
     }
 
-    /// The fault's name.
-    pub fn name(&self) -> &'static str
-        ensures { result.now ≡ name_of self.now }
+    /// The fault's name, as the variant is written.
+    pub fn name(self) -> &'static str
+        ensures { result.now ≡ name_of self }
     {
         match self {
             WordsFault::BadQuote => "BadQuote",

@@ -12,6 +12,3 @@ pub use command::command_of_words;
 pub use fault::WordsFault;
 pub use number::number_of_word;
 pub use words::words_of;
-
-#[cfg(test)]
-mod tests;

@@ -99,18 +99,7 @@ pub(crate) fn requestors(alloc: Global, matches: &ArgMatches<'_>) -> Result<Text
     ensures { IfOk result (λ texts. texts ≡ requestors_of (rows_of (found_of matches.now))) }
 {
     match all(matches, "requestor") {
-        Some(words) => texts(alloc, words),
+        Some(words) => Texts::new(alloc, words),
         None => Ok(Texts::from(Vec::new(alloc))),
     }
-}
-
-/// Copies of the words.
-fn texts(alloc: Global, words: &[&str]) -> Result<Texts, AllocError>
-    ensures { IfOk result (λ texts. texts ≡ map (λ w. w.now) words.now) }
-{
-    let mut texts = Vec::with_capacity(alloc, words.len())?;
-    for word in words {
-        texts.push(Text::new(alloc, word)?)?;
-    }
-    Ok(Texts::from(texts))
 }

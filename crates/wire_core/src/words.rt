@@ -1,6 +1,6 @@
 ghost use Rattle.std.specs.Prelude.{◌≡◌, ◌≢◌, ℕ, List, [], ◌∷◌, ◌++◌, Err, Some, None, map, string_bytes, encode_utf8, IfOk, IfErr, OnOk, Option};
 ghost use Rattle.wire_core.specs.Words as spec;
-ghost use Rattle.wire_core.specs.Reader.{read_at, behind};
+ghost use Rattle.wire_core.specs.Reader.{read_at, after};
 
 use crate::fault::WordsFault;
 use std::alloc::{AllocError, Global};
@@ -8,7 +8,7 @@ use std::alloc::{AllocError, Global};
 /// The words of a line. They stand apart by one or more spaces; a word in quotes may hold spaces, and in it `\"`,
 /// `\\`, `\n` and `\t` stand for the quote, the backslash, a line feed and a tab.
 ///
-/// `BadQuote` where another character stands behind such a backslash, a quote isn't closed or isn't followed by a
+/// `BadQuote` where another character comes after such a backslash, a quote isn't closed or isn't followed by a
 /// space or the end, or a word that doesn't begin with a quote has one.
 pub fn words_of(alloc: Global, line: &str) -> Result<Vec<String>, WordsFault>
     ensures ok { IfOk result (λ ws. spec.words_of line.now ≡ Some (map string_bytes ws.items)) }
@@ -18,7 +18,7 @@ pub fn words_of(alloc: Global, line: &str) -> Result<Vec<String>, WordsFault>
     let mut words = Vec::new(alloc);
     let mut place = Place::Between;
     for character in line.chars() {
-        place = place_behind(alloc, &mut words, place, character)?;
+        place = place_after(alloc, &mut words, place, character)?;
     }
     finish(&mut words, place)?;
     Ok(words)
@@ -33,35 +33,35 @@ enum Place {
     Bare(String),
     /// Within quotes.
     Quoted(String),
-    /// Within quotes behind a backslash.
+    /// Within quotes after a backslash.
     Escaped(String),
-    /// Behind the closing quote.
+    /// After the closing quote.
     Closed(String),
 }
 
-/// The place behind a character. A word that it ends is put to the words.
-fn place_behind(
+/// The place after a character. A word that it ends is put to the words.
+fn place_after(
     alloc: Global,
     words: &mut Vec<String>,
     place: Place,
     character: char,
 ) -> Result<Place, WordsFault>
-    ensures ok { (text : List ℕ) → IfOk result (λ p. behind (map string_bytes words.old.items) (read_at place (character ∷ text))
-        ≡ behind (map string_bytes words.new.items) (read_at p text)) }
+    ensures ok { (text : List ℕ) → IfOk result (λ p. after (map string_bytes words.old.items) (read_at place (character ∷ text))
+        ≡ after (map string_bytes words.new.items) (read_at p text)) }
     ensures bad { (text : List ℕ) → result ≡ Err WordsFault.BadQuote → read_at place (character ∷ text) ≡ None }
     ensures kinds { IfErr result (λ e. e ≢ WordsFault.NoMemory → e ≡ WordsFault.BadQuote) }
 {
     match place {
-        Place::Between => Ok(behind_space(alloc, character)?),
-        Place::Bare(word) => behind_bare(words, word, character),
-        Place::Quoted(word) => Ok(behind_quoted(word, character)?),
-        Place::Escaped(word) => Ok(behind_escaped(word, character)?),
-        Place::Closed(word) => behind_closed(words, word, character),
+        Place::Between => Ok(after_space(alloc, character)?),
+        Place::Bare(word) => after_bare(words, word, character),
+        Place::Quoted(word) => Ok(after_quoted(word, character)?),
+        Place::Escaped(word) => Ok(after_escaped(word, character)?),
+        Place::Closed(word) => after_closed(words, word, character),
     }
 }
 
-/// The place behind a character between words.
-fn behind_space(alloc: Global, character: char) -> Result<Place, AllocError>
+/// The place after a character between words.
+fn after_space(alloc: Global, character: char) -> Result<Place, AllocError>
     ensures { (text : List ℕ) → IfOk result (λ p. spec.between (character ∷ text) ≡ read_at p text) }
 {
     match character {
@@ -71,10 +71,10 @@ fn behind_space(alloc: Global, character: char) -> Result<Place, AllocError>
     }
 }
 
-/// The place behind a character in a word without quotes.
-fn behind_bare(words: &mut Vec<String>, word: String, character: char) -> Result<Place, WordsFault>
-    ensures ok { (text : List ℕ) → IfOk result (λ p. behind (map string_bytes words.old.items)
-        (spec.word_of (string_bytes word) (spec.bare (character ∷ text))) ≡ behind (map string_bytes words.new.items) (read_at p text)) }
+/// The place after a character in a word without quotes.
+fn after_bare(words: &mut Vec<String>, word: String, character: char) -> Result<Place, WordsFault>
+    ensures ok { (text : List ℕ) → IfOk result (λ p. after (map string_bytes words.old.items)
+        (spec.word_of (string_bytes word) (spec.bare (character ∷ text))) ≡ after (map string_bytes words.new.items) (read_at p text)) }
     ensures bad { (text : List ℕ) → result ≡ Err WordsFault.BadQuote → spec.bare (character ∷ text) ≡ None }
     ensures kinds { IfErr result (λ e. e ≢ WordsFault.NoMemory → e ≡ WordsFault.BadQuote) }
 {
@@ -85,8 +85,8 @@ fn behind_bare(words: &mut Vec<String>, word: String, character: char) -> Result
     }
 }
 
-/// The place behind a character within quotes.
-fn behind_quoted(word: String, character: char) -> Result<Place, AllocError>
+/// The place after a character within quotes.
+fn after_quoted(word: String, character: char) -> Result<Place, AllocError>
     ensures { (text : List ℕ) → IfOk result (λ p. spec.word_of (string_bytes word) (spec.quoted (character ∷ text)) ≡ read_at p text) }
 {
     match character {
@@ -96,8 +96,8 @@ fn behind_quoted(word: String, character: char) -> Result<Place, AllocError>
     }
 }
 
-/// The place behind a character that stands behind a backslash.
-fn behind_escaped(word: String, character: char) -> Result<Place, WordsFault>
+/// The place after a character that stands after a backslash.
+fn after_escaped(word: String, character: char) -> Result<Place, WordsFault>
     ensures ok { (text : List ℕ) → IfOk result (λ p. spec.word_of (string_bytes word) (spec.escaped (character ∷ text)) ≡ read_at p text) }
     ensures bad { (text : List ℕ) → result ≡ Err WordsFault.BadQuote → spec.escaped (character ∷ text) ≡ None }
     ensures kinds { IfErr result (λ e. e ≢ WordsFault.NoMemory → e ≡ WordsFault.BadQuote) }
@@ -108,14 +108,10 @@ fn behind_escaped(word: String, character: char) -> Result<Place, WordsFault>
     }
 }
 
-/// The place behind a character that follows a closing quote.
-fn behind_closed(
-    words: &mut Vec<String>,
-    word: String,
-    character: char,
-) -> Result<Place, WordsFault>
-    ensures ok { (text : List ℕ) → IfOk result (λ p. behind (map string_bytes words.old.items)
-        (spec.word_of (string_bytes word) (spec.closed (character ∷ text))) ≡ behind (map string_bytes words.new.items) (read_at p text)) }
+/// The place after a character that follows a closing quote.
+fn after_closed(words: &mut Vec<String>, word: String, character: char) -> Result<Place, WordsFault>
+    ensures ok { (text : List ℕ) → IfOk result (λ p. after (map string_bytes words.old.items)
+        (spec.word_of (string_bytes word) (spec.closed (character ∷ text))) ≡ after (map string_bytes words.new.items) (read_at p text)) }
     ensures bad { (text : List ℕ) → result ≡ Err WordsFault.BadQuote → spec.closed (character ∷ text) ≡ None }
     ensures kinds { IfErr result (λ e. e ≢ WordsFault.NoMemory → e ≡ WordsFault.BadQuote) }
 {
@@ -126,7 +122,7 @@ fn behind_closed(
     }
 }
 
-/// What a character behind a backslash stands for.
+/// What a character after a backslash stands for.
 fn meant(character: char) -> Option<char>
     ensures { result ≡ spec.meant character }
 {
@@ -143,8 +139,8 @@ fn meant(character: char) -> Option<char>
 #[tactic(auto, using(crate::proofs::Reading::word_ends))]
 fn ended(words: &mut Vec<String>, word: String) -> Result<Place, AllocError>
     ensures { (rest : Option (List (List ℕ))) → IfOk result (λ p. (p ≡ Place.Between)
-        × (behind (map string_bytes words.old.items) (spec.word_of (string_bytes word) (spec.ended rest))
-        ≡ behind (map string_bytes words.new.items) rest)) }
+        × (after (map string_bytes words.old.items) (spec.word_of (string_bytes word) (spec.ended rest))
+        ≡ after (map string_bytes words.new.items) rest)) }
 {
     words.push(word)?;
     Ok(Place::Between)
@@ -162,7 +158,7 @@ fn with(mut word: String, character: char) -> Result<String, AllocError>
 
 /// At the end of the line, the word that is read is put to the words.
 fn finish(words: &mut Vec<String>, place: Place) -> Result<(), WordsFault>
-    ensures ok { OnOk result (behind (map string_bytes words.old.items) (read_at place []) ≡ Some (map string_bytes words.new.items)) }
+    ensures ok { OnOk result (after (map string_bytes words.old.items) (read_at place []) ≡ Some (map string_bytes words.new.items)) }
     ensures bad { result ≡ Err WordsFault.BadQuote → read_at place [] ≡ None }
     ensures kinds { IfErr result (λ e. e ≢ WordsFault.NoMemory → e ≡ WordsFault.BadQuote) }
 {

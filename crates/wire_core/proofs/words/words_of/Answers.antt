@@ -4,7 +4,7 @@ use Rattle.std.proofs.lemmas.Iterator.{YieldsList-from_chars}
 use Rattle.std.proofs.lemmas.Iterator.Consumers.{YieldsList-turn, YieldsList-end}
 use Rattle.std.proofs.lemmas.List.{drop_more, drop_all, length_push}
 use Rattle.std.specs.Str.{chars}
-use Rattle.wire_core.specs.Reader.{behind}
+use Rattle.wire_core.specs.Reader.{after}
 use Rattle.wire_core.specs.declared.fault.WordsFault.TheVariants.{BadQuote}
 use Rattle.wire_core.proofs.words.words_of.Goals as goal
 
@@ -25,7 +25,7 @@ returns-in_err-place-clause-bad c e =
     let l = left _ _ _ t in
     let same : c.in_err-place.field-0.0 ≡ BadQuote = search rules in
     let bad = c.in_err-place.ensures.bad (drop (length c.loop-character.yielded + 1) (chars c.args.line.now)) (ap (λ f. Err f) same) in
-    let none = ap (behind (map string_bytes c.loop-character.words.items)) bad in
+    let none = ap (after (map string_bytes c.loop-character.words.items)) bad in
     rw l at (sym c.loop-character.invariant) ∙ none
 
 pub returns-in_err-finish-clause-bad : goal.returns-in_err-finish-clause-bad
@@ -34,7 +34,7 @@ returns-in_err-finish-clause-bad c e =
     let l = drop_all (length c.loop-character.yielded) (chars c.args.line.now) (omega (arith, t.1)) in
     let same : c.in_err-finish.field-0.0 ≡ BadQuote = search rules in
     let bad = c.in_err-finish.ensures.bad (ap (λ f. Err f) same) in
-    let none = ap (behind (map string_bytes c.loop-character.words.items)) bad in
+    let none = ap (after (map string_bytes c.loop-character.words.items)) bad in
     rw l at (sym c.loop-character.invariant) ∙ none
 
 pub returns-clause-ok : goal.returns-clause-ok

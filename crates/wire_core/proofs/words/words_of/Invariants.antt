@@ -2,9 +2,9 @@
 use Rattle.std.proofs.Common.{◌≡◌, length, drop, map, string_bytes}
 use Rattle.std.specs.Str.{chars}
 use Rattle.wire_core.specs.Words.{words_of}
-use Rattle.wire_core.specs.Reader.{read_at, behind}
+use Rattle.wire_core.specs.Reader.{read_at, after}
 use Rattle.wire_core.proofs.words.words_of.Given as goal
 
 abbrev pub invariant-loop-character : goal.invariant-loop-character
 invariant-loop-character l =
-    behind (map string_bytes l.words.items) (read_at l.place (drop (length l.yielded) (chars l.line))) ≡ words_of l.line
+    after (map string_bytes l.words.items) (read_at l.place (drop (length l.yielded) (chars l.line))) ≡ words_of l.line

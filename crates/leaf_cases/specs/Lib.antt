@@ -1,0 +1,1 @@
+-- the cases have no definitions of their own

@@ -1,0 +1,1 @@
+-- the suite has no definitions of its own

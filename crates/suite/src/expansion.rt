@@ -1,0 +1,65 @@
+use std::alloc::{AllocError, Global};
+
+/// A text that scripts name.
+#[derive(Clone, Copy)]
+pub struct Named<'t> {
+    pub name: &'t str,
+    pub text: &'t str,
+}
+
+/// The script of a text whose words in `<<` and `>>` stand for others.
+pub fn expanded(alloc: Global, named: &[Named<'_>], text: &str) -> Result<Vec<u8>, AllocError> {
+    let mut script = Vec::new(alloc);
+    for piece in text.split("<<") {
+        match piece.split_once(">>") {
+            Some(("end", _)) => return Ok(script),
+            Some((word, plain)) => {
+                put_word(alloc, &mut script, named, word)?;
+                script.extend_from_slice(plain.as_bytes())?;
+            }
+            None => script.extend_from_slice(piece.as_bytes())?,
+        }
+    }
+    Ok(script)
+}
+
+/// Adds what a word stands for, or nothing for a word that stands for nothing.
+fn put_word(
+    alloc: Global,
+    script: &mut Vec<u8>,
+    named: &[Named<'_>],
+    word: &str,
+) -> Result<(), AllocError> {
+    if let Some((times, text)) = word.split_once('*') {
+        return put_repeated(alloc, script, times.parse().unwrap_or(0), text);
+    }
+    if let Some(byte) = word.strip_prefix("byte ") {
+        script.push(byte.parse().unwrap_or(0))?;
+        return Ok(());
+    }
+    for text in named {
+        if text.name == word {
+            script.extend_from_slice(text.text.as_bytes())?;
+        }
+    }
+    Ok(())
+}
+
+/// Adds a text so many times, with the number of the time, from 1, for each `@`.
+fn put_repeated(
+    alloc: Global,
+    script: &mut Vec<u8>,
+    times: u32,
+    text: &str,
+) -> Result<(), AllocError> {
+    for time in 0..times {
+        for (i, piece) in text.split('@').enumerate() {
+            if i > 0 {
+                let number = format!(in alloc; "{}", u64::from(time) + 1)?;
+                script.extend_from_slice(number.as_bytes())?;
+            }
+            script.extend_from_slice(piece.as_bytes())?;
+        }
+    }
+    Ok(())
+}
