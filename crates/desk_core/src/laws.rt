@@ -1,9 +1,12 @@
 //! What holds of every step, whoever asks for what.
 
-ghost use Rattle.std.specs.Prelude.{ℕ, List};
+ghost use Rattle.std.specs.Prelude.{◌≡◌, ℕ, true, List};
 ghost use Rattle.settings_core.specs.declared.settings.Settings.{Settings};
 ghost use Rattle.desk_core.specs.Desk.{Desk};
+ghost use Rattle.desk_core.specs.IsDesk.{names_rise};
 ghost use Rattle.desk_core.specs.Laws.{KeepsDependencyLaw, KeepsHistory, KeepsOwnerLaw, KeepsStatusLaw};
+ghost use Rattle.desk_core.specs.Names.{in_order};
+ghost use Rattle.desk_core.specs.Rights.{is_among};
 ghost use Rattle.desk_core.specs.declared.command.Command.{Command};
 
 /// A request stays, and so do the entries of its history.
@@ -30,4 +33,10 @@ pub fn status_law()
 pub fn dependency_law()
     ensures { (settings : Settings) (at : ℕ) (caller : List ℕ) (command : Command) (desk : Desk)
         → KeepsDependencyLaw settings at caller command desk }
+{}
+
+/// Names in order rise by their bytes, and they are the same names.
+pub fn order_law()
+    ensures rises { (names : List (List ℕ)) → names_rise (in_order names) ≡ true }
+    ensures same { (names : List (List ℕ)) (name : List ℕ) → is_among (in_order names) name ≡ is_among names name }
 {}
