@@ -1,5 +1,6 @@
 pub mod Applied
 pub mod Depends
+pub mod DeskLaw
 pub mod Goes
 pub mod Kept
 pub mod OrderLaw

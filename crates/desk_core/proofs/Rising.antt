@@ -1,6 +1,7 @@
 -- Lists that rise: with one more at its place, with some taken away, and with a name in order.
 use Rattle.std.proofs.Common.{◌≡◌, ◌∙◌, ℕ, Bool, true, false, ◌&&◌, ◌||◌, cond, List, [], ◌∷◌, filter, fold, refl, ap, sym, subst}
 use Rattle.std.proofs.lemmas.Bool.{and_from, and_parts, cond_both}
+use Rattle.std.specs.Cmp.{IsTotalOrder}
 use Rattle.std.specs.Cmp.Lexicographic.{nat_list_cmp_total, texts_ties}
 use Rattle.std.specs.List.{list_all}
 use Rattle.std.specs.Ordering.{is_lt, is_eq, match_ordering, ordering_reverse}
@@ -74,28 +75,30 @@ filtered_rises lower test (y ∷ ys) goes_on rises =
       | false ↦ rest
     ]
 
-abbrev pub is_lower_name : List ℕ → List ℕ → Bool
-is_lower_name a b = is_lt (text_order a b)
-
 lesser : (o : Ordering) → is_lt o ≡ true → o ≡ Less
 lesser Less e = refl
 lesser Equal e = cc
 lesser Greater e = cc
 
-pub names_go_on : IsTransitive is_lower_name
-names_go_on x y z one two =
-    ap is_lt (nat_list_cmp_total.trans x y z (lesser (text_order x y) one) (lesser (text_order y z) two))
+pub orders_go_on : {X : Type 0} {R : X → X → Ordering} → IsTotalOrder R → IsTransitive (λ a b. is_lt (R a b))
+orders_go_on {R = R} order x y z one two = ap is_lt (order.trans x y z (lesser (R x y) one) (lesser (R y z) two))
 
--- of two names one comes first, unless they are one
-pub names_apart : (a b : List ℕ) → bytes_eq a b ≡ false → (is_lower_name b a || is_lower_name a b) ≡ true
-names_apart a b differ =
-    let tie : is_eq (text_order a b) ≡ false = sym (texts_ties a b) ∙ differ in
-    elim (text_order a b) as (λ o. text_order b a ≡ ordering_reverse o → is_eq o ≡ false
-    → (is_lt (text_order b a) || is_lt o) ≡ true) [
+-- where the order tells two apart, one comes before the other
+pub orders_part : {X : Type 0} {R : X → X → Ordering} → IsTotalOrder R → (a b : X) → is_eq (R a b) ≡ false
+    → (is_lt (R b a) || is_lt (R a b)) ≡ true
+orders_part {R = R} order a b differ =
+    elim (R a b) as (λ o. R b a ≡ ordering_reverse o → is_eq o ≡ false → (is_lt (R b a) || is_lt o) ≡ true) [
       | Less ↦ λ back other. rw back refl
       | Equal ↦ λ back other. cc
       | Greater ↦ λ back other. rw back refl
-    ] (nat_list_cmp_total.antisymm b a) tie
+    ] (order.antisymm b a) differ
+
+abbrev pub is_lower_name : List ℕ → List ℕ → Bool
+is_lower_name a b = is_lt (text_order a b)
+
+-- of two names one comes first, unless they are one
+pub names_part : (a b : List ℕ) → bytes_eq a b ≡ false → (is_lower_name b a || is_lower_name a b) ≡ true
+names_part a b differ = orders_part nat_list_cmp_total a b (sym (texts_ties a b) ∙ differ)
 
 first_named : (y : List ℕ) (ys : List (List ℕ)) (x : List ℕ) → is_lower_name y x ≡ true
     → comes_first is_lower_name y ys ≡ true → comes_first is_lower_name y (with_name ys x) ≡ true
@@ -126,4 +129,4 @@ all_named_rise [] start rises = rises
 all_named_rise (name ∷ names) start rises = all_named_rise names (with_name start name) (named_rises start name rises)
 
 pub unnamed_rises : (names : List (List ℕ)) (name : List ℕ) → names_rise names ≡ true → names_rise (without_name names name) ≡ true
-unnamed_rises names name rises = filtered_rises is_lower_name _ names names_go_on rises
+unnamed_rises names name rises = filtered_rises is_lower_name _ names (orders_go_on nat_list_cmp_total) rises

@@ -2,8 +2,8 @@
 
 ghost use Rattle.std.specs.Prelude.{◌≡◌, ℕ, true, List};
 ghost use Rattle.settings_core.specs.declared.settings.Settings.{Settings};
-ghost use Rattle.desk_core.specs.Desk.{Desk};
-ghost use Rattle.desk_core.specs.IsDesk.{names_rise};
+ghost use Rattle.desk_core.specs.Desk.{Desk, empty_desk};
+ghost use Rattle.desk_core.specs.IsDesk.{IsDesk, StaysDesk, names_rise};
 ghost use Rattle.desk_core.specs.Laws.{KeepsDependencyLaw, KeepsHistory, KeepsOwnerLaw, KeepsStatusLaw};
 ghost use Rattle.desk_core.specs.Names.{in_order};
 ghost use Rattle.desk_core.specs.Rights.{is_among};
@@ -33,6 +33,13 @@ pub fn status_law()
 pub fn dependency_law()
     ensures { (settings : Settings) (at : ℕ) (caller : List ℕ) (command : Command) (desk : Desk)
         → KeepsDependencyLaw settings at caller command desk }
+{}
+
+/// The empty desk is one, and every step leaves one.
+pub fn desk_law()
+    ensures empty { IsDesk empty_desk }
+    ensures step { (settings : Settings) (at : ℕ) (caller : List ℕ) (command : Command) (desk : Desk)
+        → StaysDesk settings at caller command desk }
 {}
 
 /// Names in order rise by their bytes, and they are the same names.
