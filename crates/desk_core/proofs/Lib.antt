@@ -1,6 +1,7 @@
 pub mod Applied
 pub mod Depends
 pub mod DeskLaw
+pub mod Every
 pub mod Goes
 pub mod Kept
 pub mod OrderLaw

@@ -1,6 +1,6 @@
 -- Lists that rise: with one more at its place, with some taken away, and with a name in order.
-use Rattle.std.proofs.Common.{◌≡◌, ◌∙◌, ℕ, Bool, true, false, ◌&&◌, ◌||◌, cond, List, [], ◌∷◌, filter, fold, refl, ap, sym, subst}
-use Rattle.std.proofs.lemmas.Bool.{and_from, and_parts, cond_both}
+use Rattle.std.proofs.Common.{◌≡◌, ◌∙◌, ℕ, Bool, true, false, ◌||◌, cond, List, [], ◌∷◌, filter, fold, refl, ap, sym}
+use Rattle.std.proofs.lemmas.Bool.{and_from, and_parts}
 use Rattle.std.specs.Cmp.{IsTotalOrder}
 use Rattle.std.specs.Cmp.Lexicographic.{nat_list_cmp_total, texts_ties}
 use Rattle.std.specs.List.{list_all}
@@ -11,7 +11,7 @@ use Rattle.std.specs.declared.cmp.Ordering.TheVariants.{Less, Equal, Greater}
 use Rattle.desk_core.specs.Change.{without_name}
 use Rattle.desk_core.specs.Desk.{placed}
 use Rattle.desk_core.specs.IsDesk.{comes_first, is_rising, names_rise}
-use Rattle.desk_core.specs.Names.{in_order, text_order, with_name}
+use Rattle.desk_core.specs.Names.{text_order, with_name}
 
 -- one that comes after y is placed in a list before which y comes
 first_placed : {X : Type 0} (lower : X → X → Bool) (y : X) (ys : List X) (x : X) → lower y x ≡ true

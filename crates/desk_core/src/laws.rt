@@ -35,7 +35,7 @@ pub fn dependency_law()
         → KeepsDependencyLaw settings at caller command desk }
 {}
 
-/// The empty desk is one, and every step leaves one.
+/// The empty desk is well formed, and every command leaves a well-formed desk well formed.
 pub fn desk_law()
     ensures empty { IsDesk empty_desk }
     ensures step { (settings : Settings) (at : ℕ) (caller : List ℕ) (command : Command) (desk : Desk)

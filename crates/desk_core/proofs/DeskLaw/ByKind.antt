@@ -1,5 +1,5 @@
 -- The change of a command that isn't refused fits the desk, by the kind of the command.
-use Rattle.std.proofs.Common.{◌≡◌, ◌∙◌, ℕ, ◌+◌, ◌==◌, Bool, true, false, not, ◌&&◌, ◌||◌, cond, List, [], ◌∷◌, ◌++◌, find, length, Option, Some, None, refl, ap, sym, subst, arith}
+use Rattle.std.proofs.Common.{◌≡◌, ◌∙◌, ℕ, ◌+◌, ◌==◌, Bool, true, false, not, ◌||◌, cond, List, [], ◌∷◌, ◌++◌, find, length, Option, Some, None, refl, ap, sym, subst, arith}
 use Rattle.std.proofs.lemmas.Bool.{and_from, and_parts, or_right}
 use Rattle.std.proofs.lemmas.List.Folds.{list_all-append}
 use Rattle.std.specs.List.{list_all}
@@ -7,27 +7,25 @@ use Rattle.std.specs.Option.{is_none, is_some, option_map}
 use Rattle.hours_core.specs.Moment.{is_moment}
 use Rattle.settings_core.specs.Settings.{knows}
 use Rattle.settings_core.specs.declared.settings.Settings.{Settings}
-use Rattle.desk_core.proofs.DeskLaw.Entries.{counts_above, counts_below, counts_found}
+use Rattle.desk_core.proofs.DeskLaw.Entries.{counts_apart, counts_found}
 use Rattle.desk_core.proofs.DeskLaw.Fitting.{Appends, FilesNext, Fits, FollowOn, LinksAnew, OpensNew, StaysInQueue, has_count}
+use Rattle.desk_core.proofs.Every.{every_found}
 use Rattle.desk_core.proofs.Goes.{NoneHolds, none_holds, number_found, passed, rest_passes}
-use Rattle.desk_core.specs.Change.{filed, no_change}
+use Rattle.desk_core.specs.Change.{no_change}
 use Rattle.desk_core.specs.Commands.{plan_of}
-use Rattle.desk_core.specs.Commands.Create as create
 use Rattle.desk_core.specs.Commands.Reply as reply
 use Rattle.desk_core.specs.Condition.{Condition, first_holding}
 use Rattle.desk_core.specs.Desk.{Desk, Request, queue_at, request_at}
-use Rattle.desk_core.specs.Facts.{facts_on_queue, standing, standing_at}
-use Rattle.desk_core.specs.IsDesk.{IsDesk, are_numbered, ids}
+use Rattle.desk_core.specs.Facts.{facts_on_queue, standing}
+use Rattle.desk_core.specs.IsDesk.{IsDesk}
 use Rattle.desk_core.specs.Links.{has_link, link}
 use Rattle.desk_core.specs.Plan.{Call, Plan, OnDesk, OnQueue, OnRequest, Nothing, Dependencies, Another, another_shown, besides_on, change_by, change_of_request, conditions_by, is_bad_text, is_missing, on_shown, seen_by}
 use Rattle.desk_core.specs.Step.{call, facts_of, guard}
 use Rattle.desk_core.specs.declared.change.Change.{Change}
 use Rattle.desk_core.specs.declared.command.Command.{Command}
 use Rattle.desk_core.specs.declared.command.Command.TheVariants.{OpenQueue, Create, Reply, Link, Queues, Show, History}
-use Rattle.desk_core.specs.declared.facts.Facts.{Facts}
 use Rattle.desk_core.specs.declared.facts.Standing.{Standing}
 use Rattle.desk_core.specs.declared.refusal.Refusal.TheVariants.{UnknownCaller, BadMoment, BadText, NotFound}
-use Rattle.desk_core.specs.declared.rows.Entry.{Entry}
 
 -- what a plan changes meets this, where the plan's conditions let it pass
 abbrev Meets : (Desk → Change → Type 0) → Desk → Plan → Type 0
@@ -88,16 +86,6 @@ files desk (Create queue subject status requestors) = λ call none. (refl, some_
 files desk Queues = tt
 files desk other = λ call r there same none. tt
 
--- what holds of each holds of the one that is found
-holds_of : {X : Type 0} (test look : X → Bool) (xs : List X) (x : X) → list_all test xs ≡ true → find look xs ≡ Some x → test x ≡ true
-holds_of test look [] x all there = cc
-holds_of {X} test look (y ∷ ys) x all there =
-    let parts = and_parts (test y) (list_all test ys) all in
-    elim (look y) as (λ b. cond b (Some y) (find look ys) ≡ Some x → test x ≡ true) [
-      | true ↦ λ one. let is : y ≡ x = cc in subst (λ (z : X). test z ≡ true) is parts.0
-      | false ↦ λ further. holds_of test look ys x parts.1 further
-    ] there
-
 no_row : (desk : Desk) → StaysInQueue desk None
 no_row desk = ([], refl, λ e. cc)
 
@@ -107,7 +95,7 @@ stays desk is (OpenQueue name lifecycle level) = λ call none. no_row desk
 stays desk is (Create queue subject status requestors) = λ call none. no_row desk
 stays desk is Queues = tt
 stays desk is other = λ call r there same none.
-    (r.row.queue, refl, λ e. holds_of (λ x. is_some (queue_at desk x.row.queue)) _ desk.requests r is.filed_in there)
+    (r.row.queue, refl, λ e. every_found (λ x. is_some (queue_at desk x.row.queue)) _ desk.requests r is.filed_in there)
 
 shown_there : (call : Call) (o : Option Request) → is_missing call (option_map standing o) ≡ false → is_some o ≡ true
 shown_there call None shown = cc
@@ -121,8 +109,8 @@ links desk Queues = tt
 links desk (Link id kind other) = λ call r there same none. (
   subst (λ (n : ℕ). has_link desk (link n kind other) ≡ false) same none.1.1.0,
   and_from (is_some (request_at desk r.row.id)) (is_some (request_at desk other))
-  (ap is_some (subst (λ (n : ℕ). request_at desk n ≡ Some r) same there))
-  (shown_there call (request_at desk other) none.0),
+      (ap is_some (subst (λ (n : ℕ). request_at desk n ≡ Some r) same there))
+      (shown_there call (request_at desk other) none.0),
 )
 links desk other = λ call r there same none. tt
 
@@ -132,7 +120,7 @@ second_follows call on None = tt
 second_follows call on (Some status) = (refl, (refl, tt))
 
 nothing_noted : (desk : Desk) → IsDesk desk → Appends desk no_change
-nothing_noted desk is = (0, (0, (counts_below 0 0 1 desk.requests (omega arith) is.requests, tt)))
+nothing_noted desk is = (0, (0, (counts_apart 0 0 1 desk.requests (λ m from to same. omega arith) is.requests, tt)))
 
 -- no other request has the number of the one that is found
 lone : (desk : Desk) (r : Request) (id : ℕ) → IsDesk desk → request_at desk id ≡ Some r → id ≡ r.row.id
@@ -144,13 +132,18 @@ lone desk r id is there same =
 appends : (desk : Desk) → IsDesk desk → (command : Command) → Meets Appends desk (plan_of command)
 appends desk is (OpenQueue name lifecycle level) = λ call none. nothing_noted desk is
 appends desk is (Create queue subject status requestors) = λ call none.
-    let id = length desk.requests + 1 in
-    (id, (0, (
-      list_all-append (has_count id 0) desk.requests _
-      ∙ and_from (list_all (has_count id 0) desk.requests) _ (counts_above id 0 1 desk.requests (omega arith) is.requests)
-      (and_from (not (id == id) || true) true (or_right (not (id == id)) true refl) refl),
-      (refl, (refl, tt)),
-    )))
+    let id = length desk.requests + 1 in (
+      id,
+      (
+        0,
+        (
+          list_all-append (has_count id 0) desk.requests _
+              ∙ and_from (list_all (has_count id 0) desk.requests) _ (counts_apart id 0 1 desk.requests (λ m from to same. omega arith) is.requests)
+              (and_from (not (id == id) || true) true (or_right (not (id == id)) true refl) refl),
+          (refl, (refl, tt)),
+        ),
+      ),
+    )
 appends desk is Queues = tt
 appends desk is (Show id) = λ call r there same none. (r.row.id, (length r.entries, (lone desk r id is there same, tt)))
 appends desk is (History id) = λ call r there same none. (r.row.id, (length r.entries, (lone desk r id is there same, tt)))

@@ -6,13 +6,13 @@ use Rattle.std.specs.List.{list_all}
 use Rattle.desk_core.proofs.DeskLaw.Fitting.{Appends, FollowOn, has_count}
 use Rattle.desk_core.proofs.DeskLaw.Numbers.{numbered_more}
 use Rattle.desk_core.proofs.DeskLaw.Stages.{HoldsAtPersons, HoldsAtRow, all_with_links, with_links}
+use Rattle.desk_core.proofs.Every.{every_both, every_mapped, every_so}
 use Rattle.desk_core.specs.Change.{applied, entry_put, filed, request_filed, with_entry}
 use Rattle.desk_core.specs.Desk.{Desk, Request, revised_at}
 use Rattle.desk_core.specs.IsDesk.{are_numbered, has_its_entries}
 use Rattle.desk_core.specs.declared.change.Change.{Change}
 use Rattle.desk_core.specs.declared.rows.Entry.{Entry}
 use Rattle.desk_core.specs.declared.rows.RequestRow.{RequestRow}
-use Rattle.desk_core.specs.declared.rows.WatchRole.{WatchRole}
 use Rattle.desk_core.specs.declared.rows.WatchRole.TheVariants.{Requestor, Cc, AdminCc}
 
 -- a test of a request's number and entries
@@ -31,20 +31,6 @@ at_persons test AdminCc f keeps r holds = holds
 -- the entries of a request are its own and numbered, and if it has the number they are so many
 abbrev is_ready : ℕ → ℕ → Request → Bool
 is_ready id count r = has_its_entries r && has_count id count r
-
-all_both : {X : Type 0} (one two : X → Bool) (xs : List X) → list_all one xs ≡ true → list_all two xs ≡ true
-    → list_all (λ x. one x && two x) xs ≡ true
-all_both one two [] first second = refl
-all_both one two (x ∷ xs) first second =
-    let a = and_parts (one x) (list_all one xs) first in
-    let b = and_parts (two x) (list_all two xs) second in
-    and_from (one x && two x) (list_all (λ y. one y && two y) xs) (and_from (one x) (two x) a.0 b.0) (all_both one two xs a.1 b.1)
-
-all_first : {X : Type 0} (one two : X → Bool) (xs : List X) → list_all (λ x. one x && two x) xs ≡ true → list_all one xs ≡ true
-all_first one two [] all = refl
-all_first one two (x ∷ xs) all =
-    let parts = and_parts (one x && two x) (list_all (λ y. one y && two y) xs) all in
-    and_from (one x) (list_all one xs) (and_parts (one x) (two x) parts.0).0 (all_first one two xs parts.1)
 
 count_is : (b : Bool) (m n : ℕ) → b ≡ true → (not b || m == n) ≡ true → m ≡ n
 count_is true m n e h = eqb-true m n h
@@ -72,26 +58,18 @@ one_noted e count r next ready =
           (or_left (not (r.row.id == e.id)) (length r.entries == (count + 1)) (not_from_false (r.row.id == e.id) other))
     ] refl
 
-each_noted : (e : Entry) (count : ℕ) (xs : List Request) → e.number ≡ count + 1 → list_all (is_ready e.id count) xs ≡ true
-    → list_all (is_ready e.id (count + 1)) (map (revised_at e.id (with_entry e)) xs) ≡ true
-each_noted e count [] next ready = refl
-each_noted e count (r ∷ rs) next ready =
-    let parts = and_parts (is_ready e.id count r) (list_all (is_ready e.id count) rs) ready in
-    and_from (is_ready e.id (count + 1) (revised_at e.id (with_entry e) r))
-    (list_all (is_ready e.id (count + 1)) (map (revised_at e.id (with_entry e)) rs))
-    (one_noted e count r next parts.0) (each_noted e count rs next parts.1)
-
 -- entries that follow on keep each request's entries its own and numbered
 all_noted : (id count next seen : ℕ) (entries : List Entry) (desk : Desk) → seen + 1 ≡ count + next → FollowOn id count next entries
     → list_all (is_ready id seen) desk.requests ≡ true → list_all has_its_entries (fold entry_put desk entries).requests ≡ true
-all_noted id count next seen [] desk sum follow ready = all_first has_its_entries (has_count id seen) desk.requests ready
+all_noted id count next seen [] desk sum follow ready = every_so (is_ready id seen) has_its_entries desk.requests (λ r h. (and_parts (has_its_entries r) (has_count id seen r) h).0) ready
 all_noted id count next seen (e ∷ es) desk sum follow ready =
     let its : list_all (is_ready e.id seen) desk.requests ≡ true =
     subst (λ (n : ℕ). list_all (is_ready n seen) desk.requests ≡ true) (sym follow.0) ready in
     let number : e.number ≡ seen + 1 = omega (arith, follow.1.0) in
     all_noted id count (next + 1) (seen + 1) es (entry_put desk e) (omega (arith, sum)) follow.1.1
     (subst (λ (n : ℕ). list_all (is_ready n (seen + 1)) (entry_put desk e).requests ≡ true) follow.0
-    (each_noted e seen desk.requests number its))
+    (every_mapped (is_ready e.id seen) (is_ready e.id (seen + 1)) (revised_at e.id (with_entry e)) desk.requests
+    (λ r h. one_noted e seen r number h) its))
 
 when_filed : (o : Option RequestRow) (desk : Desk) → list_all has_its_entries desk.requests ≡ true
     → list_all has_its_entries (request_filed o desk).requests ≡ true
@@ -108,7 +86,7 @@ entries_follow change desk appends own =
     let owns = λ (n : ℕ) (es : List Entry). list_all (λ e. e.id == n) es && are_numbered 1 (map (λ e. e.number) es) in
     let counts = λ (n : ℕ) (es : List Entry). not (n == id) || length es == count in
     all_noted id count 1 count change.entries linked refl appends.1.1.1
-    (all_both has_its_entries (has_count id count) linked.requests
+    (every_both has_its_entries (has_count id count) linked.requests
     (all_with_links has_its_entries change desk (at_row owns change.row) (at_persons owns) (when_filed change.filed desk own))
     (all_with_links (has_count id count) change desk (at_row counts change.row) (at_persons counts) appends.1.1.0))
 
@@ -116,25 +94,16 @@ other_number : (id count : ℕ) (r : Request) → (r.row.id ≡ id → ⊥) → 
 other_number id count r differs =
     or_left (not (r.row.id == id)) (length r.entries == count) (not_from_false (r.row.id == id) (ne_eqb r.row.id id differs))
 
--- none of the requests has a number below the first one's
-pub counts_below : (id count n : ℕ) (xs : List Request) → id < n → are_numbered n (map (λ r. r.row.id) xs) ≡ true
-    → list_all (has_count id count) xs ≡ true
-counts_below id count n [] below numbered = refl
-counts_below id count n (y ∷ ys) below numbered =
+-- where none of the requests has the number
+pub counts_apart : (id count n : ℕ) (xs : List Request) → ((m : ℕ) → n ≤ m → m < n + length xs → m ≡ id → ⊥)
+    → are_numbered n (map (λ r. r.row.id) xs) ≡ true → list_all (has_count id count) xs ≡ true
+counts_apart id count n [] apart numbered = refl
+counts_apart id count n (y ∷ ys) apart numbered =
     let parts = and_parts (y.row.id == n) (are_numbered (n + 1) (map (λ r. r.row.id) ys)) numbered in
     let number : y.row.id ≡ n = eqb-true y.row.id n parts.0 in
     and_from (has_count id count y) (list_all (has_count id count) ys)
-    (other_number id count y (λ e. omega arith)) (counts_below id count (n + 1) ys (omega arith) parts.1)
-
--- or above the last one's
-pub counts_above : (id count n : ℕ) (xs : List Request) → n + length xs ≤ id → are_numbered n (map (λ r. r.row.id) xs) ≡ true
-    → list_all (has_count id count) xs ≡ true
-counts_above id count n [] above numbered = refl
-counts_above id count n (y ∷ ys) above numbered =
-    let parts = and_parts (y.row.id == n) (are_numbered (n + 1) (map (λ r. r.row.id) ys)) numbered in
-    let number : y.row.id ≡ n = eqb-true y.row.id n parts.0 in
-    and_from (has_count id count y) (list_all (has_count id count) ys)
-    (other_number id count y (λ e. omega arith)) (counts_above id count (n + 1) ys (omega arith) parts.1)
+    (other_number id count y (λ same. apart n (omega arith) (omega arith) (sym number ∙ same)))
+    (counts_apart id count (n + 1) ys (λ m from to same. apart m (omega arith) (omega arith) same) parts.1)
 
 -- the request that is found is the only one of its number
 pub counts_found : (id n : ℕ) (xs : List Request) (r : Request) → are_numbered n (map (λ x. x.row.id) xs) ≡ true
@@ -151,7 +120,7 @@ counts_found id n (y ∷ ys) r numbered there =
           let its : y.row.id ≡ id = eqb-true y.row.id id same in
           and_from (has_count id count y) (list_all (has_count id count) ys)
           (or_right (not (y.row.id == id)) (length y.entries == count) (eq-eqb (length y.entries) count (ap (λ (x : Request). length x.entries) is)))
-          (counts_below id count (n + 1) ys (omega arith) parts.1)
+          (counts_apart id count (n + 1) ys (λ m from to is_its. omega arith) parts.1)
       | false ↦ λ other further.
           and_from (has_count id count y) (list_all (has_count id count) ys)
           (or_left (not (y.row.id == id)) (length y.entries == count) (not_from_false (y.row.id == id) other))

@@ -1,5 +1,5 @@
 -- The links rise, and both ends of each are there.
-use Rattle.std.proofs.Common.{◌≡◌, ◌∙◌, ℕ, ◌==◌, Bool, true, false, not, ◌&&◌, ◌||◌, cond, List, [], ◌∷◌, filter, Option, Some, None, refl, ap, sym, subst}
+use Rattle.std.proofs.Common.{◌≡◌, ◌∙◌, ℕ, ◌==◌, Bool, true, false, not, ◌&&◌, ◌||◌, cond, List, [], ◌∷◌, filter, Option, Some, None, refl, ap, sym}
 use Rattle.std.proofs.lemmas.Bool.{and_from, and_parts, or_parts}
 use Rattle.std.proofs.lemmas.Cmp.{nat_cmp_total, on_total, then_total}
 use Rattle.std.specs.Bool.{nat_lt}
@@ -12,6 +12,7 @@ use Rattle.std.specs.declared.cmp.Ordering.TheVariants.{Less, Equal, Greater}
 use Rattle.desk_core.proofs.Applied.{left_by}
 use Rattle.desk_core.proofs.DeskLaw.Fitting.{LinksAnew, has_ends}
 use Rattle.desk_core.proofs.DeskLaw.Stages.{links_after}
+use Rattle.desk_core.proofs.Every.{every_filtered, every_placed, every_so}
 use Rattle.desk_core.proofs.Rising.{IsTransitive, filtered_rises, is_apart, orders_go_on, orders_part, placed_rises}
 use Rattle.desk_core.specs.Change.{applied, link_put, link_taken}
 use Rattle.desk_core.specs.Desk.{Desk, Request, placed, request_at}
@@ -135,48 +136,20 @@ ends_stay change desk l there =
     (still_there change desk l.source (request_at desk l.source) refl parts.0)
     (still_there change desk l.target (request_at desk l.target) refl parts.1)
 
-all_stay : (change : Change) (desk : Desk) (links : List LinkRow) → list_all (has_ends desk) links ≡ true
-    → list_all (has_ends (applied change desk)) links ≡ true
-all_stay change desk [] there = refl
-all_stay change desk (l ∷ ls) there =
-    let parts = and_parts (has_ends desk l) (list_all (has_ends desk) ls) there in
-    and_from (has_ends (applied change desk) l) (list_all (has_ends (applied change desk)) ls)
-    (ends_stay change desk l parts.0) (all_stay change desk ls parts.1)
-
-all_placed : {X : Type 0} (test : X → Bool) (lower : X → X → Bool) (xs : List X) (x : X) → test x ≡ true → list_all test xs ≡ true
-    → list_all test (placed lower xs x) ≡ true
-all_placed test lower [] x one all = and_from (test x) true one refl
-all_placed test lower (y ∷ ys) x one all =
-    let parts = and_parts (test y) (list_all test ys) all in
-    elim (lower x y) as (λ b. list_all test (cond b (x ∷ y ∷ ys) (y ∷ placed lower ys x)) ≡ true) [
-      | true ↦ and_from (test x) (list_all test (y ∷ ys)) one all
-      | false ↦
-          and_from (test y) (list_all test (placed lower ys x)) parts.0 (all_placed test lower ys x one parts.1)
-    ]
-
-all_filtered : {X : Type 0} (test keep : X → Bool) (xs : List X) → list_all test xs ≡ true → list_all test (filter keep xs) ≡ true
-all_filtered test keep [] all = refl
-all_filtered test keep (x ∷ xs) all =
-    let parts = and_parts (test x) (list_all test xs) all in
-    let rest = all_filtered test keep xs parts.1 in
-    elim (keep x) as (λ b. list_all test (cond b (x ∷ filter keep xs) (filter keep xs)) ≡ true) [
-      | true ↦ and_from (test x) (list_all test (filter keep xs)) parts.0 rest
-      | false ↦ rest
-    ]
-
 ends_put : (o : Option LinkRow) (desk : Desk) → LinksAnew desk o → list_all (has_ends desk) desk.links ≡ true
     → list_all (has_ends desk) (link_put o desk).links ≡ true
 ends_put None desk anew there = there
-ends_put (Some link) desk anew there = all_placed (has_ends desk) is_lower_link desk.links link anew.1 there
+ends_put (Some link) desk anew there = every_placed (has_ends desk) is_lower_link desk.links link anew.1 there
 
 all_taken : (test : LinkRow → Bool) (o : Option LinkRow) (desk : Desk) → list_all test desk.links ≡ true
     → list_all test (link_taken o desk).links ≡ true
 all_taken test None desk all = all
-all_taken test (Some link) desk all = all_filtered test (λ l. not (is_link link l)) desk.links all
+all_taken test (Some link) desk all = every_filtered test (λ l. not (is_link link l)) desk.links all
 
 pub ends_there : (change : Change) (desk : Desk) → LinksAnew desk change.linked → list_all (has_ends desk) desk.links ≡ true
     → list_all (has_ends (applied change desk)) (applied change desk).links ≡ true
 ends_there change desk anew there =
     ap (list_all (has_ends (applied change desk))) (links_after change desk)
-    ∙ all_stay change desk (link_taken change.unlinked (link_put change.linked desk)).links
+    ∙ every_so (has_ends desk) (has_ends (applied change desk)) (link_taken change.unlinked (link_put change.linked desk)).links
+    (ends_stay change desk)
     (all_taken (has_ends desk) change.unlinked (link_put change.linked desk) (ends_put change.linked desk anew there))

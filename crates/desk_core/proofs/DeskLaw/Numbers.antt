@@ -1,5 +1,5 @@
 -- The requests stay numbered from 1.
-use Rattle.std.proofs.Common.{◌≡◌, ◌∙◌, ℕ, ◌+◌, ◌==◌, Bool, true, false, ◌&&◌, List, [], ◌∷◌, ◌++◌, map, fold, length, Option, Some, None, refl, ap, sym, subst, arith}
+use Rattle.std.proofs.Common.{◌≡◌, ◌∙◌, ℕ, ◌+◌, ◌==◌, true, List, [], ◌∷◌, ◌++◌, map, fold, length, Option, Some, None, refl, ap, sym, arith}
 use Rattle.std.proofs.lemmas.Bool.{and_from, and_parts, eq-eqb, eqb-true}
 use Rattle.desk_core.proofs.Applied.{Grown, KeepsNumber, grown_by_entry, grown_in_role, number_kept}
 use Rattle.desk_core.proofs.DeskLaw.Fitting.{FilesNext}

@@ -1,5 +1,5 @@
 -- The queues rise, and the queue of each request is there.
-use Rattle.std.proofs.Common.{◌≡◌, ◌∙◌, ℕ, ◌==◌, Bool, true, false, ◌&&◌, ◌||◌, cond, List, [], ◌∷◌, find, Option, Some, None, refl, ap, sym, subst}
+use Rattle.std.proofs.Common.{◌≡◌, ◌∙◌, ℕ, Bool, true, false, ◌&&◌, ◌||◌, cond, List, [], ◌∷◌, find, Option, Some, None, refl, ap}
 use Rattle.std.proofs.lemmas.Bool.{and_from, and_parts}
 use Rattle.std.proofs.lemmas.List.Folds.{list_all-append}
 use Rattle.std.specs.List.{list_all}
@@ -7,6 +7,7 @@ use Rattle.std.specs.Option.{is_some}
 use Rattle.std.specs.Str.{bytes_eq}
 use Rattle.desk_core.proofs.DeskLaw.Fitting.{FilesNext, OpensNew, StaysInQueue, queue_in}
 use Rattle.desk_core.proofs.DeskLaw.Stages.{HoldsAtPersons, HoldsAtRow, all_revised, all_with_links, by_all, queues_after, with_links}
+use Rattle.desk_core.proofs.Every.{every_so}
 use Rattle.desk_core.proofs.Rising.{is_apart, names_part, placed_rises}
 use Rattle.desk_core.specs.Change.{applied, entry_put, filed, queue_put, request_filed, with_entry}
 use Rattle.desk_core.specs.Desk.{Desk, Request, has_lower_name, placed, queue_at}
@@ -14,7 +15,6 @@ use Rattle.desk_core.specs.IsDesk.{is_rising}
 use Rattle.desk_core.specs.declared.change.Change.{Change}
 use Rattle.desk_core.specs.declared.rows.QueueRow.{QueueRow}
 use Rattle.desk_core.specs.declared.rows.RequestRow.{RequestRow}
-use Rattle.desk_core.specs.declared.rows.WatchRole.{WatchRole}
 use Rattle.desk_core.specs.declared.rows.WatchRole.TheVariants.{Requestor, Cc, AdminCc}
 
 -- there is a queue of that name among these
@@ -72,14 +72,6 @@ stays_open (Some queue) desk name there = still_found has_lower_name desk.queues
 abbrev is_in : List QueueRow → Request → Bool
 is_in queues r = has_queue queues r.row.queue
 
-all_in_more : (o : Option QueueRow) (desk : Desk) (xs : List Request) → list_all (is_in desk.queues) xs ≡ true
-    → list_all (is_in (queue_put o desk).queues) xs ≡ true
-all_in_more o desk [] all = refl
-all_in_more o desk (r ∷ rs) all =
-    let parts = and_parts (is_in desk.queues r) (list_all (is_in desk.queues) rs) all in
-    and_from (is_in (queue_put o desk).queues r) (list_all (is_in (queue_put o desk).queues) rs)
-    (stays_open o desk r.row.queue parts.0) (all_in_more o desk rs parts.1)
-
 filed_in : (o : Option RequestRow) (desk : Desk) → FilesNext desk o → list_all (is_in desk.queues) desk.requests ≡ true
     → list_all (is_in desk.queues) (request_filed o desk).requests ≡ true
 filed_in None desk next all = all
@@ -111,4 +103,5 @@ each_in_queue change desk next stays all =
     (all_with_links test change desk
     (at_row queues change.row stays.0 stays.1 (λ e. stays_open change.queue desk stays.0 (stays.2 e)))
     (at_persons queues)
-    (all_in_more change.queue desk (request_filed change.filed desk).requests (filed_in change.filed desk next all)))
+    (every_so (is_in desk.queues) test (request_filed change.filed desk).requests
+    (λ r there. stays_open change.queue desk r.row.queue there) (filed_in change.filed desk next all)))

@@ -1,7 +1,8 @@
 -- A change step by step: what it leaves alone, and what holds of each request after it.
-use Rattle.std.proofs.Common.{◌≡◌, ◌∙◌, ℕ, ◌==◌, Bool, true, false, not, ◌&&◌, cond, List, [], ◌∷◌, ◌++◌, map, filter, fold, Option, Some, None, refl, ap, sym, subst}
+use Rattle.std.proofs.Common.{◌≡◌, ◌∙◌, ℕ, ◌==◌, Bool, true, false, not, cond, List, [], ◌∷◌, ◌++◌, map, filter, fold, Option, Some, None, refl, ap}
 use Rattle.std.proofs.lemmas.Bool.{and_from, and_parts}
 use Rattle.std.specs.List.{list_all}
+use Rattle.desk_core.proofs.Every.{every_mapped}
 use Rattle.desk_core.proofs.Rising.{named_rises, unnamed_rises}
 use Rattle.desk_core.specs.Change.{applied, entry_put, filed, in_role, link_put, link_taken, person_put, person_taken, queue_put, request_filed, row_set, with_row}
 use Rattle.desk_core.specs.Desk.{Desk, Request, placed, revised_at}
@@ -12,7 +13,6 @@ use Rattle.desk_core.specs.declared.rows.LinkRow.{LinkRow}
 use Rattle.desk_core.specs.declared.rows.QueueRow.{QueueRow}
 use Rattle.desk_core.specs.declared.rows.RequestRow.{RequestRow}
 use Rattle.desk_core.specs.declared.rows.WatchRole.{WatchRole}
-use Rattle.desk_core.specs.declared.rows.Watcher.{Watcher}
 
 -- what each step keeps all of them keep
 pub by_all : {X : Type 0} (P : Desk → Type 0) (step : Desk → X → Desk) → ((desk : Desk) (x : X) → P desk → P (step desk x))
@@ -115,15 +115,12 @@ filed_alike (Some row) a b same = ap (λ l. l ++ filed row ∷ []) same
 pub all_revised : (test : Request → Bool) (id : ℕ) (f : Request → Request) (xs : List Request)
     → ((r : Request) → (r.row.id == id) ≡ true → test r ≡ true → test (f r) ≡ true)
     → list_all test xs ≡ true → list_all test (map (revised_at id f) xs) ≡ true
-all_revised test id f [] keeps all = refl
-all_revised test id f (y ∷ ys) keeps all =
-    let parts = and_parts (test y) (list_all test ys) all in
-    and_from (test (revised_at id f y)) (list_all test (map (revised_at id f) ys))
-    (elim (y.row.id == id) as (λ b. (y.row.id == id) ≡ b → test (cond b (f y) y) ≡ true) [
-      | true ↦ λ e. keeps y e parts.0
-      | false ↦ λ e. parts.0
-    ] refl)
-    (all_revised test id f ys keeps parts.1)
+all_revised test id f xs keeps all =
+    every_mapped test test (revised_at id f) xs
+    (λ r h. elim (r.row.id == id) as (λ b. (r.row.id == id) ≡ b → test (cond b (f r) r) ≡ true) [
+      | true ↦ λ e. keeps r e h
+      | false ↦ λ e. h
+    ] refl) all
 
 -- the test holds of a request with this row in place of its own
 abbrev pub HoldsAtRow : (Request → Bool) → Option RequestRow → Type 0
