@@ -1,6 +1,5 @@
 -- A change step by step: what it leaves alone, and what holds of each request after it.
 use Rattle.std.proofs.Common.{◌≡◌, ◌∙◌, ℕ, ◌==◌, Bool, true, false, not, cond, List, [], ◌∷◌, ◌++◌, map, filter, fold, Option, Some, None, refl, ap}
-use Rattle.std.proofs.lemmas.Bool.{and_from, and_parts}
 use Rattle.std.specs.List.{list_all}
 use Rattle.desk_core.proofs.Every.{every_mapped}
 use Rattle.desk_core.proofs.Rising.{named_rises, unnamed_rises}
