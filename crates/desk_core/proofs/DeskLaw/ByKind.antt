@@ -117,10 +117,11 @@ links desk other = λ call r there same none. tt
 second_follows : (call : Call) (on : Standing) (move : Option (List ℕ))
     → FollowOn on.row.id on.entry_count 2 (reply.second_entry call on move)
 second_follows call on None = tt
-second_follows call on (Some status) = (refl, (refl, tt))
+second_follows call on (Some status) = (refl, refl, tt)
 
-nothing_noted : (desk : Desk) → IsDesk desk → Appends desk no_change
-nothing_noted desk is = (0, (0, (counts_apart 0 0 1 desk.requests (λ m from to same. omega arith) is.requests, tt)))
+-- no request has the number 0
+none_of_zero : (desk : Desk) → IsDesk desk → list_all (has_count 0 0) desk.requests ≡ true
+none_of_zero desk is = counts_apart 0 0 1 desk.requests (λ m from to same. omega arith) is.requests
 
 -- no other request has the number of the one that is found
 lone : (desk : Desk) (r : Request) (id : ℕ) → IsDesk desk → request_at desk id ≡ Some r → id ≡ r.row.id
@@ -130,27 +131,33 @@ lone desk r id is there same =
 
 -- the entries of a command follow on those of its request
 appends : (desk : Desk) → IsDesk desk → (command : Command) → Meets Appends desk (plan_of command)
-appends desk is (OpenQueue name lifecycle level) = λ call none. nothing_noted desk is
+appends desk is (OpenQueue name lifecycle level) = λ call none.
+    record { id = 0; count = 0; counted = none_of_zero desk is; follow = tt }
 appends desk is (Create queue subject status requestors) = λ call none.
-    let id = length desk.requests + 1 in (
-      id,
-      (
-        0,
-        (
-          list_all-append (has_count id 0) desk.requests _
-              ∙ and_from (list_all (has_count id 0) desk.requests) _ (counts_apart id 0 1 desk.requests (λ m from to same. omega arith) is.requests)
-              (and_from (not (id == id) || true) true (or_right (not (id == id)) true refl) refl),
-          (refl, (refl, tt)),
-        ),
-      ),
-    )
+    let id = length desk.requests + 1 in
+    record {
+      id = id;
+      count = 0;
+      counted = list_all-append (has_count id 0) desk.requests _
+          ∙ and_from (list_all (has_count id 0) desk.requests) _
+          (counts_apart id 0 1 desk.requests (λ m from to same. omega arith) is.requests)
+          (and_from (not (id == id) || true) true (or_right (not (id == id)) true refl) refl);
+      follow = (refl, refl, tt);
+    }
 appends desk is Queues = tt
-appends desk is (Show id) = λ call r there same none. (r.row.id, (length r.entries, (lone desk r id is there same, tt)))
-appends desk is (History id) = λ call r there same none. (r.row.id, (length r.entries, (lone desk r id is there same, tt)))
+appends desk is (Show id) = λ call r there same none.
+    record { id = r.row.id; count = length r.entries; counted = lone desk r id is there same; follow = tt }
+appends desk is (History id) = λ call r there same none.
+    record { id = r.row.id; count = length r.entries; counted = lone desk r id is there same; follow = tt }
 appends desk is (Reply id text) = λ call r there same none.
-    (r.row.id, (length r.entries, (lone desk r id is there same, (refl, (refl, second_follows call (standing r) _)))))
+    record {
+      id = r.row.id;
+      count = length r.entries;
+      counted = lone desk r id is there same;
+      follow = (refl, refl, second_follows call (standing r) _);
+    }
 appends desk is other = λ call r there same none.
-    (r.row.id, (length r.entries, (lone desk r _ is there same, (refl, (refl, tt)))))
+    record { id = r.row.id; count = length r.entries; counted = lone desk r _ is there same; follow = (refl, refl, tt) }
 
 -- the change of a command that isn't refused fits
 pub change_fits : (s : Settings) (at : ℕ) (caller : List ℕ) (command : Command) (desk : Desk) → IsDesk desk
@@ -164,5 +171,6 @@ change_fits s at caller command desk is free =
       files = by_plan (λ d change. FilesNext d change.filed) asks plan front desk tt (files desk command) free;
       stays = by_plan (λ d change. StaysInQueue d change.row) asks plan front desk (no_row desk) (stays desk is command) free;
       links = by_plan (λ d change. LinksAnew d change.linked) asks plan front desk tt (links desk command) free;
-      appends = by_plan Appends asks plan front desk (nothing_noted desk is) (appends desk is command) free;
+      appends = by_plan Appends asks plan front desk (record { id = 0; count = 0; counted = none_of_zero desk is; follow = tt })
+          (appends desk is command) free;
     }

@@ -61,12 +61,14 @@ one_noted e count r next ready =
 -- entries that follow on keep each request's entries its own and numbered
 all_noted : (id count next seen : ℕ) (entries : List Entry) (desk : Desk) → seen + 1 ≡ count + next → FollowOn id count next entries
     → list_all (is_ready id seen) desk.requests ≡ true → list_all has_its_entries (fold entry_put desk entries).requests ≡ true
-all_noted id count next seen [] desk sum follow ready = every_so (is_ready id seen) has_its_entries desk.requests (λ r h. (and_parts (has_its_entries r) (has_count id seen r) h).0) ready
+all_noted id count next seen [] desk sum follow ready =
+    every_so (is_ready id seen) has_its_entries desk.requests
+    (λ r h. (and_parts (has_its_entries r) (has_count id seen r) h).0) ready
 all_noted id count next seen (e ∷ es) desk sum follow ready =
     let its : list_all (is_ready e.id seen) desk.requests ≡ true =
     subst (λ (n : ℕ). list_all (is_ready n seen) desk.requests ≡ true) (sym follow.0) ready in
-    let number : e.number ≡ seen + 1 = omega (arith, follow.1.0) in
-    all_noted id count (next + 1) (seen + 1) es (entry_put desk e) (omega (arith, sum)) follow.1.1
+    let number : e.number ≡ seen + 1 = omega (arith, follow.1) in
+    all_noted id count (next + 1) (seen + 1) es (entry_put desk e) (omega (arith, sum)) follow.2
     (subst (λ (n : ℕ). list_all (is_ready n (seen + 1)) (entry_put desk e).requests ≡ true) follow.0
     (every_mapped (is_ready e.id seen) (is_ready e.id (seen + 1)) (revised_at e.id (with_entry e)) desk.requests
     (λ r h. one_noted e seen r number h) its))
@@ -80,15 +82,15 @@ when_filed (Some row) desk own =
 pub entries_follow : (change : Change) (desk : Desk) → Appends desk change → list_all has_its_entries desk.requests ≡ true
     → list_all has_its_entries (applied change desk).requests ≡ true
 entries_follow change desk appends own =
-    let id = appends.0 in
-    let count = appends.1.0 in
+    let id = appends.id in
+    let count = appends.count in
     let linked = with_links change desk in
     let owns = λ (n : ℕ) (es : List Entry). list_all (λ e. e.id == n) es && are_numbered 1 (map (λ e. e.number) es) in
     let counts = λ (n : ℕ) (es : List Entry). not (n == id) || length es == count in
-    all_noted id count 1 count change.entries linked refl appends.1.1.1
+    all_noted id count 1 count change.entries linked refl appends.follow
     (every_both has_its_entries (has_count id count) linked.requests
     (all_with_links has_its_entries change desk (at_row owns change.row) (at_persons owns) (when_filed change.filed desk own))
-    (all_with_links (has_count id count) change desk (at_row counts change.row) (at_persons counts) appends.1.1.0))
+    (all_with_links (has_count id count) change desk (at_row counts change.row) (at_persons counts) appends.counted))
 
 other_number : (id count : ℕ) (r : Request) → (r.row.id ≡ id → ⊥) → has_count id count r ≡ true
 other_number id count r differs =

@@ -43,17 +43,18 @@ LinksAnew desk (Some link) = (has_link desk link ≡ false) × (has_ends desk li
 -- the entries are of one request, and numbered on after so many
 abbrev pub FollowOn : ℕ → ℕ → ℕ → List Entry → Type 0
 FollowOn id count next [] = Unit {0}
-FollowOn id count next (e ∷ es) = (e.id ≡ id) × ((e.number ≡ count + next) × FollowOn id count (next + 1) es)
+FollowOn id count next (e ∷ es) = (e.id ≡ id) × (e.number ≡ count + next) × FollowOn id count (next + 1) es
 
 -- the request of that number has so many entries
 abbrev pub has_count : ℕ → ℕ → Request → Bool
 has_count id count r = not (r.row.id == id) || length r.entries == count
 
 -- the entries are of one request, and follow on those that it has
-abbrev pub Appends : Desk → Change → Type 0
-Appends desk change =
-    (id : ℕ) × ((count : ℕ) × ((list_all (has_count id count) (request_filed change.filed desk).requests ≡ true)
-    × FollowOn id count 1 change.entries))
+pub record Appends (desk : Desk) (change : Change) : Type 0 where
+  pub id : ℕ
+  pub count : ℕ
+  pub counted : list_all (has_count id count) (request_filed change.filed desk).requests ≡ true
+  pub follow : FollowOn id count 1 change.entries
 
 pub record Fits (desk : Desk) (change : Change) : Type 0 where
   pub opens : OpensNew desk change.queue

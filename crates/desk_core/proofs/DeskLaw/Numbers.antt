@@ -3,7 +3,7 @@ use Rattle.std.proofs.Common.{◌≡◌, ◌∙◌, ℕ, ◌+◌, ◌==◌, true
 use Rattle.std.proofs.lemmas.Bool.{and_from, and_parts, eq-eqb, eqb-true}
 use Rattle.desk_core.proofs.Applied.{Grown, KeepsNumber, grown_by_entry, grown_in_role, number_kept}
 use Rattle.desk_core.proofs.DeskLaw.Fitting.{FilesNext}
-use Rattle.desk_core.proofs.DeskLaw.Stages.{by_all, requests_linked, requests_opened, requests_unlinked, with_links, with_persons, with_rows}
+use Rattle.desk_core.proofs.DeskLaw.Stages.{by_all, filed_alike, requests_linked, requests_opened, requests_unlinked, with_links, with_persons, with_rows}
 use Rattle.desk_core.specs.Change.{applied, entry_put, filed, link_put, person_put, person_taken, queue_put, request_filed, row_set, with_row}
 use Rattle.desk_core.specs.Desk.{Desk, Request, revised_at, with_revised}
 use Rattle.desk_core.specs.IsDesk.{are_numbered, ids}
@@ -54,12 +54,9 @@ numbered_filed None desk next numbered = numbered
 numbered_filed (Some row) desk next numbered =
     numbered_more (λ r. r.row.id) 1 desk.requests (filed row) numbered (omega (arith, next.0))
 
-filed_alike : (o : Option RequestRow) (a b : Desk) → a.requests ≡ b.requests → ids (request_filed o a) ≡ ids (request_filed o b)
-filed_alike None a b same = ap (map (λ r. r.row.id)) same
-filed_alike (Some row) a b same = ap (λ l. map (λ r. r.row.id) (l ++ filed row ∷ [])) same
-
 pub stay_numbered : (change : Change) (desk : Desk) → FilesNext desk change.filed → are_numbered 1 (ids desk) ≡ true
     → are_numbered 1 (ids (applied change desk)) ≡ true
 stay_numbered change desk next numbered =
-    ap (are_numbered 1) (ids_after change desk ∙ filed_alike change.filed _ desk (requests_opened change.queue desk))
+    ap (are_numbered 1) (ids_after change desk
+    ∙ ap (map (λ r. r.row.id)) (filed_alike change.filed _ desk (requests_opened change.queue desk)))
     ∙ numbered_filed change.filed desk next numbered

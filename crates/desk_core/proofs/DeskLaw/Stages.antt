@@ -106,7 +106,7 @@ pub requests_unlinked : (o : Option LinkRow) (desk : Desk) → (link_taken o des
 requests_unlinked None desk = refl
 requests_unlinked (Some link) desk = refl
 
-filed_alike : (o : Option RequestRow) (a b : Desk) → a.requests ≡ b.requests → (request_filed o a).requests ≡ (request_filed o b).requests
+pub filed_alike : (o : Option RequestRow) (a b : Desk) → a.requests ≡ b.requests → (request_filed o a).requests ≡ (request_filed o b).requests
 filed_alike None a b same = same
 filed_alike (Some row) a b same = ap (λ l. l ++ filed row ∷ []) same
 
