@@ -39,7 +39,7 @@ pub none_holds : (conditions : List Condition) → first_holding conditions ≡ 
 none_holds [] e = tt
 none_holds (c ∷ rest) e = let both = passed c rest e in (both.0, none_holds rest both.1)
 
-rest_passes : (xs ys : List Condition) → first_holding (xs ++ ys) ≡ None → first_holding ys ≡ None
+pub rest_passes : (xs ys : List Condition) → first_holding (xs ++ ys) ≡ None → first_holding ys ≡ None
 rest_passes [] ys e = e
 rest_passes (x ∷ xs) ys e = rest_passes xs ys (passed x (xs ++ ys) e).1
 

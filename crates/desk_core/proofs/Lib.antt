@@ -1,10 +1,14 @@
 pub mod Applied
 pub mod AsMissing
 pub mod Depends
+pub mod DeskLaw
 pub mod DueLaw
+pub mod Every
 pub mod Goes
 pub mod Kept
+pub mod OrderLaw
 pub mod Placing
+pub mod Rising
 pub mod Roles
 pub mod Unchanged
 pub mod ViewLaw

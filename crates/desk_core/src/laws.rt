@@ -1,9 +1,12 @@
 //! What holds of every step, whoever asks for what.
 
-ghost use Rattle.std.specs.Prelude.{ℕ, List};
+ghost use Rattle.std.specs.Prelude.{◌≡◌, ℕ, true, List};
 ghost use Rattle.settings_core.specs.declared.settings.Settings.{Settings};
-ghost use Rattle.desk_core.specs.Desk.{Desk, Request};
+ghost use Rattle.desk_core.specs.Desk.{Desk, Request, empty_desk};
+ghost use Rattle.desk_core.specs.IsDesk.{IsDesk, StaysDesk, names_rise};
 ghost use Rattle.desk_core.specs.Laws.{HidesTheRest, KeepsDependencyLaw, KeepsHistory, KeepsOwnerLaw, KeepsStatusLaw, RefusesAsMissing, ShowsByWatchers, TellsDueMoments, TellsOfTheView};
+ghost use Rattle.desk_core.specs.Names.{in_order};
+ghost use Rattle.desk_core.specs.Rights.{is_among};
 ghost use Rattle.desk_core.specs.declared.command.Command.{Command};
 
 /// A request stays, and so do the entries of its history.
@@ -55,4 +58,17 @@ pub fn view_law()
 /// The rows of a request's people tell who may show it.
 pub fn roles_law()
     ensures { (settings : Settings) (person : List ℕ) (request : Request) → ShowsByWatchers settings person request }
+{}
+
+/// The empty desk is well formed, and every command leaves a well-formed desk well formed.
+pub fn desk_law()
+    ensures empty { IsDesk empty_desk }
+    ensures step { (settings : Settings) (at : ℕ) (caller : List ℕ) (command : Command) (desk : Desk)
+        → StaysDesk settings at caller command desk }
+{}
+
+/// Names in order rise by their bytes, and they are the same names.
+pub fn order_law()
+    ensures rises { (names : List (List ℕ)) → names_rise (in_order names) ≡ true }
+    ensures same { (names : List (List ℕ)) (name : List ℕ) → is_among (in_order names) name ≡ is_among names name }
 {}
