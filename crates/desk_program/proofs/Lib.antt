@@ -1,4 +1,5 @@
 pub mod Bytes
+pub mod Digits
 pub mod Endings
 pub mod Failing
 pub mod Lists

@@ -2,9 +2,14 @@
 use Rattle.std.proofs.Common.{◌≡◌, ◌∙◌, ◌⊎◌, ℕ, zero, suc, ◌+◌, ◌-◌, ◌==◌, ◌<◌, ◌≤◌, Bool, true, false, ◌&&◌, cond, List, [], ◌∷◌, ◌++◌, length, map, find, Option, Some, None, inl, inr, refl, ap, sym, subst, arith}
 use Rattle.std.proofs.lemmas.Bool.{eqb-true}
 use Rattle.std.proofs.lemmas.Bool.Decides.{eqb_tells}
+use Rattle.std.specs.List.{slice_get, slice_set}
+use Rattle.std.specs.Option.{option_map}
 use Rattle.service_core.specs.Desk.{Request, revised_at}
 use Rattle.service_core.specs.IsDesk.{are_numbered}
 use Rattle.desk_program.proofs.OneRequest.{both}
+use Rattle.desk_program.specs.Numbered.{numbers_of}
+use Rattle.desk_program.specs.Rows.{request_of}
+use Rattle.desk_program.specs.declared.rows.records.Record.{Record}
 
 abbrev ids_of : List Request → List ℕ
 ids_of requests = map (λ r. r.row.id) requests
@@ -53,3 +58,55 @@ revised_alike n id f g (x ∷ xs) e same =
           let rest = revised_alike (n + 1) id f g xs parts.1 (λ r h. same r (rw other.0 h)) in
           rw other.0 (ap (λ l. x ∷ l) rest)
     ]
+
+-- the numbers of records are those of their requests
+pub ids_are : (xs : List Record) → ids_of (map request_of xs) ≡ numbers_of xs
+ids_are [] = refl
+ids_are (x ∷ xs) = ap (λ ns. x.row.id ∷ ns) (ids_are xs)
+
+-- a record is found by its number where it stands
+pub found_at : (n : ℕ) (xs : List Record) → are_numbered n (numbers_of xs) ≡ true → (k : ℕ)
+    → find (λ r. r.row.id == n + k) (map request_of xs) ≡ option_map request_of (slice_get xs k)
+found_at n [] e k = refl
+found_at n (x ∷ xs) e zero =
+    let parts = both (x.row.id == n) (are_numbered (n + 1) (numbers_of xs)) e in rw parts.0 refl
+found_at n (x ∷ xs) e (suc k) =
+    let parts = both (x.row.id == n) (are_numbered (n + 1) (numbers_of xs)) e in
+    elim (eqb_tells x.row.id (n + suc k)) [
+      | inl same ↦ absurd (omega (arith, same.1, eqb-true x.row.id n parts.0))
+      | inr other ↦
+          let there : n + 1 + k ≡ n + suc k = omega arith in
+          rw other.0
+          (ap (λ (m : ℕ). find (λ r. r.row.id == m) (map request_of xs)) (sym there) ∙ found_at (n + 1) xs parts.1 k)
+    ]
+
+-- the record of that number, if there is one, gets another in its place
+pub set_at : (n : ℕ) (xs : List Record) → are_numbered n (numbers_of xs) ≡ true → (k : ℕ) → k < length xs → (f : Request → Request)
+    → (was new : Record) → slice_get xs k ≡ Some was → request_of new ≡ f (request_of was)
+    → map request_of (slice_set xs k new) ≡ map (revised_at (n + k) f) (map request_of xs)
+set_at n [] e k low f was new there made = absurd (omega (arith, low))
+set_at n (x ∷ xs) e zero low f was new there made =
+    let parts = both (x.row.id == n) (are_numbered (n + 1) (numbers_of xs)) e in
+    let one : x ≡ was = cc in
+    let gone = absent (n + 1) n (map request_of xs) (ap (are_numbered (n + 1)) (ids_are xs) ∙ parts.1) (omega arith) in
+    rw (parts.0, stays_absent n f (map request_of xs) gone)
+    (ap (λ r. r ∷ map request_of xs) (made ∙ ap (λ (r : Record). f (request_of r)) (sym one)))
+set_at n (x ∷ xs) e (suc k) low f was new there made =
+    let parts = both (x.row.id == n) (are_numbered (n + 1) (numbers_of xs)) e in
+    elim (eqb_tells x.row.id (n + suc k)) [
+      | inl same ↦ absurd (omega (arith, same.1, eqb-true x.row.id n parts.0))
+      | inr other ↦
+          let next : n + 1 + k ≡ n + suc k = omega arith in
+          rw other.0
+          (ap (λ rest. request_of x ∷ rest)
+          (set_at (n + 1) xs parts.1 k (omega (arith, low)) f was new there made
+          ∙ ap (λ (m : ℕ). map (revised_at m f) (map request_of xs)) next))
+    ]
+
+-- and the numbers stay, where the new one has the number of the old one
+pub numbers_set : (xs : List Record) (k : ℕ) (was new : Record) → slice_get xs k ≡ Some was → new.row.id ≡ was.row.id
+    → numbers_of (slice_set xs k new) ≡ numbers_of xs
+numbers_set [] k was new there same = refl
+numbers_set (x ∷ xs) zero was new there same =
+    let one : x ≡ was = cc in ap (λ n. n ∷ numbers_of xs) (same ∙ ap (λ (r : Record). r.row.id) (sym one))
+numbers_set (x ∷ xs) (suc k) was new there same = ap (λ ns. x.row.id ∷ ns) (numbers_set xs k was new there same)

@@ -1,6 +1,7 @@
 //! The desk's program: a script over a desk in memory.
 #![tactic(auto)]
 
+mod fault_lines;
 mod input;
 mod line;
 mod output;
