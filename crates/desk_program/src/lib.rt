@@ -6,7 +6,6 @@ mod input;
 mod line;
 mod output;
 mod reads;
-mod rows;
 mod script;
 mod writes;
 

@@ -2,7 +2,7 @@ ghost use Rattle.std.specs.Prelude.{◌≡◌, ◌≤◌, ◌+◌, ℕ, Bool, fa
 ghost use Rattle.std.specs.Str.Lines.{lines};
 ghost use Rattle.service_core.specs.Desk.{empty_desk};
 ghost use Rattle.desk_program.specs.Input as form;
-ghost use Rattle.desk_program.specs.Rows.{desk_of};
+ghost use Rattle.desk_rows.specs.Rows.{desk_of};
 ghost use Rattle.desk_program.specs.Script as script;
 ghost use Rattle.desk_program.specs.Written.{Ends, Takes};
 
@@ -11,7 +11,7 @@ use crate::input::{InputFault, parts_of, take_input};
 use crate::line::answer_line;
 use crate::output::put;
 use crate::reads::Reads;
-use crate::rows::Rows;
+use desk_rows::Rows;
 use crate::writes::Writes;
 use settings_core::{Settings, SettingsFault};
 use std::alloc::Global;
