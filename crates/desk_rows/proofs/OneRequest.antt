@@ -15,7 +15,7 @@ use Rattle.desk_core.specs.Desk.{Desk, Request, revised_at, with_revised}
 use Rattle.desk_rows.specs.LinkList.{links_after, links_without}
 use Rattle.desk_rows.specs.People.{Become, put_person, take_person, with_people}
 use Rattle.desk_rows.specs.Revised.{revised}
-use Rattle.desk_rows.specs.Shapes.{are_entries_of, are_of, opens_only}
+use Rattle.desk_rows.specs.Shapes.{are_entries_of, are_of, has_no_links, has_no_people, opens_only}
 use Rattle.desk_rows.specs.declared.people.People.{People}
 
 pub both : (a b : Bool) → (a && b) ≡ true → (a ≡ true) × (b ≡ true)
@@ -35,18 +35,18 @@ pub opens_alone : (change : Change) (desk : Desk) → opens_only change ≡ true
 opens_alone change desk e =
     let a = both (is_none change.filed) _ e in
     let b = both (is_none change.row) _ a.1 in
-    let c = both (length change.put == 0) _ b.1 in
-    let d = both (length change.taken == 0) _ c.1 in
-    let f = both (is_none change.linked) _ d.1 in
-    let g = both (is_none change.unlinked) _ f.1 in
+    let c = both (has_no_people change) _ b.1 in
+    let d = both (length change.put == 0) _ c.0 in
+    let f = both (has_no_links change) _ c.1 in
+    let g = both (is_none change.linked) _ f.0 in
     rw (
       no_option change.filed a.0,
       no_option change.row b.0,
-      no_elements change.put c.0,
-      no_elements change.taken d.0,
-      no_option change.linked f.0,
-      no_option change.unlinked g.0,
-      no_elements change.entries g.1,
+      no_elements change.put d.0,
+      no_elements change.taken d.1,
+      no_option change.linked g.0,
+      no_option change.unlinked g.1,
+      no_elements change.entries f.1,
     ) refl
 
 -- what becomes of a request with a number keeps the number

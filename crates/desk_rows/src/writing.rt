@@ -169,36 +169,51 @@ fn take_link(links: &mut Vec<LinkRow>, link: Option<LinkRow>)
 fn opens_only(change: &Change) -> bool
     ensures { result ≡ shapes.opens_only change.now }
 {
-    change.filed.is_none()
-        && change.row.is_none()
-        && change.put.is_empty()
-        && change.taken.is_empty()
-        && change.linked.is_none()
-        && change.unlinked.is_none()
-        && change.entries.is_empty()
+    change.filed.is_none() && change.row.is_none() && is_still(change)
+}
+
+/// Whether no person, link or entry is in a change.
+fn is_still(change: &Change) -> bool
+    ensures { result ≡ shapes.is_still change.now }
+{
+    has_no_people(change) && has_no_links(change) && change.entries.is_empty()
+}
+
+fn has_no_people(change: &Change) -> bool
+    ensures { result ≡ shapes.has_no_people change.now }
+{
+    change.put.is_empty() && change.taken.is_empty()
+}
+
+fn has_no_links(change: &Change) -> bool
+    ensures { result ≡ shapes.has_no_links change.now }
+{
+    change.linked.is_none() && change.unlinked.is_none()
 }
 
 /// Whether a change files a request with this number, and all persons and entries are its own.
 fn files_only(id: usize, change: &Change) -> bool
     ensures { result ≡ shapes.files_only id change.now }
 {
-    change.queue.is_none()
-        && files(id, change)
-        && change.row.is_none()
-        && are_of(id, &change.put)
-        && change.taken.is_empty()
-        && change.linked.is_none()
-        && change.unlinked.is_none()
-        && are_entries_of(id, &change.entries)
+    change.queue.is_none() && change.row.is_none() && files(id, change) && puts_only(id, change)
 }
 
 fn files(id: usize, change: &Change) -> bool
-    ensures { result ≡ option_map_or (λ r. r.id == id) change.now.filed false }
+    ensures { result ≡ shapes.files id change.now }
 {
     match &change.filed {
         Some(row) => row.id as usize == id,
         None => false,
     }
+}
+
+fn puts_only(id: usize, change: &Change) -> bool
+    ensures { result ≡ shapes.puts_only id change.now }
+{
+    are_of(id, &change.put)
+        && change.taken.is_empty()
+        && has_no_links(change)
+        && are_entries_of(id, &change.entries)
 }
 
 /// Whether a change opens and files nothing, and its row, all persons and all entries are of the request with this
@@ -209,18 +224,22 @@ fn revises_only(id: u32, change: &Change) -> bool
     change.queue.is_none()
         && change.filed.is_none()
         && has_row_of(id, change)
-        && are_of(id as usize, &change.put)
-        && are_of(id as usize, &change.taken)
-        && are_entries_of(id as usize, &change.entries)
+        && changes_only(id as usize, change)
 }
 
 fn has_row_of(id: u32, change: &Change) -> bool
-    ensures { result ≡ option_map_or (λ r. r.id == id) change.now.row true }
+    ensures { result ≡ shapes.has_row_of id change.now }
 {
     match &change.row {
         Some(row) => row.id == id,
         None => true,
     }
+}
+
+fn changes_only(id: usize, change: &Change) -> bool
+    ensures { result ≡ shapes.changes_only id change.now }
+{
+    are_of(id, &change.put) && are_of(id, &change.taken) && are_entries_of(id, &change.entries)
 }
 
 fn are_of(id: usize, watchers: &Sequence<Watcher>) -> bool

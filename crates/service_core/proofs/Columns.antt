@@ -2,7 +2,7 @@
 use Rattle.std.proofs.Common.{◌≡◌, ℕ, ◌-◌, ◌^◌, ◌≤◌, ◌==◌, Bool, true, false, cond, List, [], ◌∷◌, length, decimal, refl, arith, append-nil}
 use Rattle.std.proofs.lemmas.Str.{encode_ascii}
 use Rattle.std.specs.Fmt.{is_char_start, take_chars, char_count, padded, padded_integral, format_spec}
-use Rattle.service_core.specs.Columns.{left, right}
+use Rattle.service_core.specs.Columns.{left, right, right_number}
 
 -- a text that isn't cut, whether its first byte begins a character or not
 either : (starts none : Bool) (b : ℕ) (shorter same text : List ℕ)
@@ -37,7 +37,7 @@ right-padded width text short =
 
 -- a number in digits
 pub number-padded : (width number : ℕ)
-    → padded_integral (format_spec 32 3 0 width (2 ^ 64 - 1)) false [] (decimal number) ≡ right width (decimal number)
+    → padded_integral (format_spec 32 3 0 width (2 ^ 64 - 1)) false [] (decimal number) ≡ right_number width number
 unfolding padded_integral char_count
 number-padded width number =
     let m = width - length (decimal number) in

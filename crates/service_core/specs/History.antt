@@ -1,12 +1,12 @@
 -- The text of a history: a line for each entry.
-use Rattle.std.specs.Prelude.{ℕ, ◌==◌, List, [], ◌∷◌, ◌++◌, codes, decimal, encode_utf8, if◌then◌else◌}
+use Rattle.std.specs.Prelude.{ℕ, ◌==◌, List, [], ◌∷◌, ◌++◌, codes, encode_utf8, if◌then◌else◌}
 use Rattle.std.specs.List.{flat_map}
 use Rattle.std.specs.Str.{chars}
 use Rattle.hours_core.specs.Date.{text_of_minute}
 use Rattle.desk_core.specs.declared.rows.Entry.{Entry}
 use Rattle.desk_core.specs.declared.rows.EntryKind.{EntryKind}
 use Rattle.desk_core.specs.declared.rows.EntryKind.TheVariants as kind
-use Rattle.service_core.specs.Columns.{left, right, then as spaced}
+use Rattle.service_core.specs.Columns.{left, right_number, then as spaced}
 
 -- a backslash, a line feed and a tab as a backslash with another backslash, `n` and `t`; any other character as it is
 abbrev pub escape : ℕ → List ℕ
@@ -44,7 +44,7 @@ entry_words kind head body = spaced (kind_word kind) (told kind head body)
 
 -- a number, a moment and a person, each with a space after it
 unfoldable pub columns : ℕ → List ℕ → List ℕ → List ℕ
-columns number moment person = spaced (right 5 (decimal number)) (spaced moment (left 20 person ++ codes " "))
+columns number moment person = spaced (right_number 5 number) (spaced moment (left 20 person ++ codes " "))
 
 -- its number, its moment, who did it, and what
 unfoldable pub entry_line : Entry → List ℕ
