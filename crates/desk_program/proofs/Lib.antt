@@ -1,10 +1,8 @@
 pub mod Bytes
+pub mod Digits
 pub mod Endings
 pub mod Failing
-pub mod Lists
 pub mod Marker
-pub mod Numbering
-pub mod OneRequest
 pub mod Parting
 pub mod Printing
 pub mod Stays

@@ -2,12 +2,12 @@
 use Rattle.std.specs.Prelude.{◌≡◌, ◌≢◌, ◌≤◌, ◌<◌, ◌⊎◌, ℕ, Bool, true, ◌==◌, ◌||◌, List, [], ◌∷◌, ◌++◌, take, drop, length, Option, Some, None, Result, Ok, Err, codes, if◌then◌else◌}
 use Rattle.std.specs.Io.KnownBytes.{Consumes}
 use Rattle.std.specs.Option.{option_map}
-use Rattle.std.specs.List.{All, list_all}
+use Rattle.std.specs.List.{All}
 use Rattle.std.specs.Str.{bytes_eq, is_utf8}
 use Rattle.std.specs.Str.Lines.{lines}
-use Rattle.settings_core.specs.BuiltIn.{IsBuiltIn}
+use Rattle.settings_core.specs.Reading.{IsFaultOf, IsSettingsOf}
 use Rattle.settings_core.specs.declared.fault.SettingsFault.{SettingsFault}
-use Rattle.settings_core.specs.declared.fault.SettingsFault.TheVariants.{UnknownKey, NoMemory}
+use Rattle.settings_core.specs.declared.fault.SettingsFault.TheVariants.{NoMemory}
 use Rattle.settings_core.specs.declared.settings.Settings.{Settings}
 use Rattle.desk_program.specs.declared.input.InputFault.{InputFault}
 use Rattle.desk_program.specs.declared.input.InputFault.TheVariants.{NoMarker, TooLong, NotUtf8}
@@ -87,12 +87,7 @@ abbrev pub IsScript : List ℕ → Result Script InputFault → Type 0
 IsScript input script =
     ((input_limit < length input) × (script ≡ Err TooLong)) ⊎ ((length input ≤ input_limit) × IsScriptIn input script)
 
--- a space, a tab, a carriage return or a line feed
-abbrev pub is_blank : ℕ → Bool
-is_blank b = (b == 32) || (b == 9) || (b == 13) || (b == 10)
-
--- What reading settings gives: the built-in ones for a blank text, unless memory for them is wanting. No other text is
--- known for now.
+-- What reading settings gives: those that a text states, or its least fault; or out of memory.
 abbrev pub GivesSettings : List ℕ → Result Settings SettingsFault → Type 0
-GivesSettings text (Ok settings) = (list_all is_blank text ≡ true) × IsBuiltIn settings
-GivesSettings text (Err fault) = fault ≡ (if list_all is_blank text then NoMemory else UnknownKey)
+GivesSettings text (Ok settings) = IsSettingsOf text settings
+GivesSettings text (Err fault) = (fault ≡ NoMemory) ⊎ IsFaultOf text fault

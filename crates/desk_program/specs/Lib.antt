@@ -1,11 +1,5 @@
 pub use Rattle.service_core.specs.Texts
 pub mod Calls
 pub mod Input
-pub mod LinkList
-pub mod Numbered
-pub mod People
-pub mod Revised
-pub mod Rows
 pub mod Script
-pub mod Shapes
 pub mod Written

@@ -86,10 +86,20 @@ input_fault_text TooLong = codes "input: too long\n"
 input_fault_text NotUtf8 = codes "input: not UTF-8\n"
 input_fault_text Read = codes "input: read\n"
 
+-- a number and a name, each after a space
+abbrev pub numbered : ℕ → List ℕ → List ℕ
+numbered number name = codes " " ++ (decimal number ++ (codes " " ++ name))
+
+-- the same of the fault inside one, if there is one
+abbrev pub inner_text : Option (ℕ × List ℕ) → List ℕ
+inner_text None = []
+inner_text (Some inner) = numbered inner.0 inner.1
+
 -- the line of a fault of the settings
 abbrev pub settings_fault_text : SettingsFault → List ℕ
 settings_fault_text fault =
-    codes "settings: " ++ (decimal (settings.number_of fault) ++ (codes " " ++ (settings.name_of fault ++ codes "\n")))
+    codes "settings:" ++ (numbered (settings.number_of fault) (settings.name_of fault)
+    ++ (inner_text (settings.inner_of fault) ++ codes "\n"))
 
 -- the text and the status of an input that couldn't be read whole, or for which memory was wanting
 abbrev pub IsUnread : List ℕ → ℕ → Type 0

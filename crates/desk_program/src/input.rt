@@ -1,7 +1,6 @@
 ghost use Rattle.std.specs.Prelude.{◌≡◌, ◌≢◌, ◌≤◌, ◌<◌, ◌+◌, ◌-◌, ◌++◌, List, ℕ, Ok, Err, true, length, IfOk, IfErr, IfSome};
 ghost use Rattle.std.specs.Option.{option_map};
 ghost use Rattle.std.specs.Io.KnownBytes.{Consumes, IsAtEnd};
-ghost use Rattle.std.specs.List.{list_all};
 ghost use Rattle.desk_program.specs.Input as form;
 
 use crate::reads::Reads;
@@ -144,11 +143,4 @@ fn after_marker(text: &[u8]) -> Option<&[u8]>
     } else {
         None
     }
-}
-
-/// Whether all of a text is spaces, tabs, carriage returns and line feeds.
-pub(crate) fn is_blank(text: &[u8]) -> bool
-    ensures { result ≡ list_all form.is_blank text.now }
-{
-    text.iter().all(|b| *b == b' ' || *b == b'\t' || *b == b'\r' || *b == b'\n')
 }

@@ -1,11 +1,11 @@
 //! The desk's program: a script over a desk in memory.
 #![tactic(auto)]
 
+mod fault_lines;
 mod input;
 mod line;
 mod output;
 mod reads;
-mod rows;
 mod script;
 mod writes;
 

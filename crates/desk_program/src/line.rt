@@ -2,10 +2,10 @@ ghost use Rattle.std.specs.Prelude.{◌≡◌, ◌+◌, ◌≤◌, ◌++◌, ℕ
 ghost use Rattle.std.specs.String.{string_capacity, string_len};
 ghost use Rattle.service_core.specs.Step.{Outcome, Steps};
 ghost use Rattle.service_core.specs.Texts.{created_text, outcome_text};
-ghost use Rattle.desk_program.specs.Rows.{desk_of};
+ghost use Rattle.desk_rows.specs.Rows.{desk_of};
 ghost use Rattle.desk_program.specs.Script.{LinePrints, said, said_by, is_passed_over, is_comment};
 
-use crate::rows::Rows;
+use desk_rows::Rows;
 use desk_core::{Answer, Command};
 use itoa::Buffer;
 use service_core::{history_text, queues_text, refusal_text, show_text};

@@ -2,15 +2,16 @@ ghost use Rattle.std.specs.Prelude.{◌≡◌, ◌≤◌, ◌+◌, ℕ, Bool, fa
 ghost use Rattle.std.specs.Str.Lines.{lines};
 ghost use Rattle.service_core.specs.Desk.{empty_desk};
 ghost use Rattle.desk_program.specs.Input as form;
-ghost use Rattle.desk_program.specs.Rows.{desk_of};
+ghost use Rattle.desk_rows.specs.Rows.{desk_of};
 ghost use Rattle.desk_program.specs.Script as script;
 ghost use Rattle.desk_program.specs.Written.{Ends, Takes};
 
-use crate::input::{InputFault, is_blank, parts_of, take_input};
+use crate::fault_lines::{input_fault_text, settings_fault_text};
+use crate::input::{InputFault, parts_of, take_input};
 use crate::line::answer_line;
 use crate::output::put;
 use crate::reads::Reads;
-use crate::rows::Rows;
+use desk_rows::Rows;
 use crate::writes::Writes;
 use settings_core::{Settings, SettingsFault};
 use std::alloc::Global;
@@ -141,15 +142,11 @@ fn run_parts<W: Write>(alloc: Global, settings: &[u8], commands: &str, writer: &
     }
 }
 
-/// The settings of a text: for now a blank text alone has settings, the built-in ones. Otherwise `UnknownKey`.
+/// The settings of a text, or its least fault.
 fn settings_of(alloc: Global, text: &[u8]) -> Result<Settings, SettingsFault>
     ensures { form.GivesSettings text.now result }
 {
-    if is_blank(text) {
-        Settings::built_in(alloc)
-    } else {
-        Err(SettingsFault::UnknownKey)
-    }
+    Settings::read(alloc, text)
 }
 
 /// Writes what each line prints, after its command is done, on an empty desk. A write that fails ends the run.
@@ -199,26 +196,4 @@ fn end<W: Write>(writer: &mut W, line: &str, status: u8) -> Printed
     let mut writes = Writes::new();
     put(writer, &mut writes, line.as_bytes());
     Printed::new(status, writes)
-}
-
-/// The line of a fault of the input.
-fn input_fault_text(fault: InputFault) -> &'static str
-    ensures { result.now ≡ script.input_fault_text fault }
-{
-    match fault {
-        InputFault::NoMarker => "input: no %% line\n",
-        InputFault::TooLong => "input: too long\n",
-        InputFault::NotUtf8 => "input: not UTF-8\n",
-        InputFault::Read => "input: read\n",
-    }
-}
-
-/// The line of a fault of the settings.
-fn settings_fault_text(fault: SettingsFault) -> &'static str
-    ensures { result.now ≡ script.settings_fault_text fault }
-{
-    match fault {
-        SettingsFault::UnknownKey => "settings: 2 UnknownKey\n",
-        SettingsFault::NoMemory => "settings: 11 NoMemory\n",
-    }
 }

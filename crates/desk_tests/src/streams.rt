@@ -44,7 +44,8 @@ impl Read for Endless {
     }
 }
 
-/// A writer that takes a byte at a time, but for one write that fails, or takes none. It would take more afterwards.
+/// A writer that takes a byte at a time, but for one write that fails, or takes none. It would take
+/// more afterwards.
 #[derive(Drop)]
 pub struct Faltering {
     pub taken: Vec<u8>,

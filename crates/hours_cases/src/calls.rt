@@ -1,8 +1,5 @@
 use crate::words::{Failure, count, halves, moment};
-use hours_core::{
-    Calendar, Level, Limit, Minute, Probes, date_of, minute_text,
-};
-
+use hours_core::{Calendar, Level, Limit, Minute, Probes, date_of, minute_text};
 use text_core::Text;
 
 /// Writes the line and the answer of the call that it spells.
@@ -66,7 +63,10 @@ fn show_date(rt: &impl Print, line: &str, minute: Minute) -> Result<(), Failure>
 
 fn show_text(rt: &impl Print, line: &str, minute: Minute) -> Result<(), Failure> {
     let text = minute_text(minute);
-    println!(rt; "{line}: {}", str::from_utf8(text.as_slice()).unwrap_or("?"))?;
+    println!(rt;
+        "{line}: {}",
+        str::from_utf8(text.as_slice()).unwrap_or("?")
+    )?;
     Ok(())
 }
 

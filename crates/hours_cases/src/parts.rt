@@ -87,7 +87,13 @@ impl Parts {
 
     fn calendar(&self, alloc: Global) -> Result<Calendar, HoursFault> {
         let zone = Zone::build(alloc, self.first, self.changes.as_slice())?;
-        Calendar::build(alloc, zone, &self.week, self.holidays.as_slice(), self.years)
+        Calendar::build(
+            alloc,
+            zone,
+            &self.week,
+            self.holidays.as_slice(),
+            self.years,
+        )
     }
 }
 

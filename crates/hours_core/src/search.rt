@@ -23,9 +23,7 @@ impl Mark {
     {
         match self {
             Mark::EndsAfter(minute) => minute < span.end,
-            Mark::Counts(minutes) => {
-                minutes <= span.before as u64 + (span.end as u64).saturating_sub(span.start as u64)
-            }
+            Mark::Counts(minutes) => minutes <= span.before as u64 + span.minutes() as u64,
         }
     }
 }

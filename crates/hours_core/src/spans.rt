@@ -2,7 +2,7 @@ ghost use Rattle.std.specs.Prelude.{◌≡◌, ◌<◌, ◌≤◌, ℕ, ◌+◌,
 ghost use Rattle.std.specs.Prelude.{slice_index_or};
 ghost use Rattle.hours_core.specs.Hours.{is_within};
 ghost use Rattle.hours_core.specs.Moment.{first_minute, end_minute};
-ghost use Rattle.hours_core.specs.Spans.{is_held, AreSpans, end_of};
+ghost use Rattle.hours_core.specs.Spans.{is_held, minutes_of, AreSpans, end_of};
 
 use std::alloc::{AllocError, Global};
 use std::marker::Model;
@@ -14,6 +14,15 @@ pub struct Span {
     pub start: u32,
     pub end: u32,
     pub before: u32,
+}
+
+impl Span {
+    /// How many minutes the span has.
+    pub fn minutes(self) -> u32
+        ensures { result ≡ minutes_of self }
+    {
+        self.end.saturating_sub(self.start)
+    }
 }
 
 /// The runs of open minutes in order, with at least a minute between two of them.
@@ -111,7 +120,7 @@ impl Spans {
             Some(last) if last.end == start => Span { end, ..last },
             Some(last) => {
                 self.items.push(last)?;
-                let before = last.before + (last.end - last.start);
+                let before = last.before + last.minutes();
                 Span { start, end, before }
             }
             None => Span {

@@ -6,7 +6,7 @@ use text_core::{
 use wire_core::number_of_word;
 
 /// The answer to a call on texts, where it is one.
-pub fn form_answer(
+pub(crate) fn form_answer(
     alloc: Global,
     call: &str,
     words: &[String],
@@ -56,7 +56,7 @@ fn truth(holds: bool) -> &'static str {
 }
 
 /// The texts between the spaces.
-pub fn texts_of(alloc: Global, line: &str) -> Result<Texts, AllocError> {
+pub(crate) fn texts_of(alloc: Global, line: &str) -> Result<Texts, AllocError> {
     let mut texts = Vec::new(alloc);
     for word in line.split(' ') {
         if !word.is_empty() {
@@ -75,7 +75,8 @@ fn repeated(alloc: Global, times: &str, text: &str) -> Result<String, AllocError
     Ok(repeated)
 }
 
-/// Where the character with that code may stand: in subjects, and so in texts too, in texts alone, or in none.
+/// Where the character with that code may stand: in subjects, and so in texts too, in texts alone,
+/// or in none.
 fn character_answer(alloc: Global, code: &str) -> Result<&'static str, AllocError> {
     let mut text = String::new(alloc);
     let Some(character) = char::from_u32(number_of_word(code).unwrap_or(u32::MAX)) else {

@@ -3,8 +3,9 @@ use lifecycle_core::{Class, Lifecycle, LifecycleFault, Move, MoveRight, Parts};
 use std::alloc::{AllocError, Global};
 use text_core::{Sequence, Text};
 
-/// The answer to a call on lifecycles: `lifecycle` and `default` build one, and the others ask about it.
-pub fn lifecycle_answer(
+/// The answer to a call on lifecycles: `lifecycle` and `default` build one, and the others ask
+/// about it.
+pub(crate) fn lifecycle_answer(
     alloc: Global,
     lifecycle: &mut Option<Lifecycle>,
     call: &str,
@@ -12,10 +13,10 @@ pub fn lifecycle_answer(
 ) -> Result<String, AllocError> {
     match (call, words) {
         ("default", []) => keep(alloc, lifecycle, Lifecycle::default_lifecycle(alloc)),
-        ("lifecycle", _) => {
-            let parts = parts_of(alloc, words)?;
-            keep(alloc, lifecycle, Lifecycle::build(alloc, &parts))
-        }
+        ("lifecycle", _) => match parts_of(alloc, words)? {
+            Some(parts) => keep(alloc, lifecycle, Lifecycle::build(alloc, &parts)),
+            None => String::from_str(alloc, "no parts"),
+        },
         _ => match lifecycle {
             Some(lifecycle) => String::from_str(alloc, asked(lifecycle, call, words)),
             None => String::from_str(alloc, "no lifecycle"),
@@ -68,19 +69,22 @@ fn yes_or_no(holds: bool) -> &'static str {
     if holds { "yes" } else { "no" }
 }
 
-/// The parts that seven words spell: the initial, active and inactive statuses, the status on create, those for
-/// creation, the moves, each as `new>open`, and the rights, each as `new>open:ModifyTicket`.
-fn parts_of(alloc: Global, words: &[String]) -> Result<Parts, AllocError> {
-    let word = |place: usize| words.get(place).map(|w| w.as_str()).unwrap_or("");
-    Ok(Parts {
-        initial: texts_of(alloc, word(0))?,
-        active: texts_of(alloc, word(1))?,
-        inactive: texts_of(alloc, word(2))?,
-        on_create: Text::new(alloc, word(3))?,
-        create: texts_of(alloc, word(4))?,
-        moves: moves_of(alloc, word(5))?,
-        rights: rights_of(alloc, word(6))?,
-    })
+/// The parts that seven words spell: the initial, active and inactive statuses, the status on
+/// create, those for creation, the moves, each as `new>open`, and the rights, each as
+/// `new>open:ModifyTicket`.
+fn parts_of(alloc: Global, words: &[String]) -> Result<Option<Parts>, AllocError> {
+    let [initial, active, inactive, on_create, create, moves, rights] = words else {
+        return Ok(None);
+    };
+    Ok(Some(Parts {
+        initial: texts_of(alloc, initial.as_str())?,
+        active: texts_of(alloc, active.as_str())?,
+        inactive: texts_of(alloc, inactive.as_str())?,
+        on_create: Text::new(alloc, on_create.as_str())?,
+        create: texts_of(alloc, create.as_str())?,
+        moves: moves_of(alloc, moves.as_str())?,
+        rights: rights_of(alloc, rights.as_str())?,
+    }))
 }
 
 fn moves_of(alloc: Global, line: &str) -> Result<Sequence<Move>, AllocError> {

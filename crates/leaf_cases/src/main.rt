@@ -1,8 +1,8 @@
-//! Cases of the crates below the desk: each line of the standard input is a call with its arguments, and is printed
-//! with the call's answer.
+//! Cases of the crates below the desk: each line of the standard input is a call with its
+//! arguments, and is printed with the call's answer.
 //!
-//! The first word names the call; the words after it are read as those of a command. An empty line, or one that begins
-//! with `#`, is printed as it stands.
+//! The first word names the call; the words after it are read as those of a command. An empty line,
+//! or one that begins with `#`, is printed as it stands.
 #![tactic(auto)]
 
 mod forms;

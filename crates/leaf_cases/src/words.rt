@@ -2,7 +2,7 @@ use std::alloc::{AllocError, Global};
 use wire_core::{WordsFault, command_of_words, words_of};
 
 /// The words of a line, each in `<` and `>`, or its fault.
-pub fn words_answer(alloc: Global, line: &str) -> Result<String, AllocError> {
+pub(crate) fn words_answer(alloc: Global, line: &str) -> Result<String, AllocError> {
     match words_of(alloc, line) {
         Ok(words) => {
             let mut answer = format!(in alloc; "{}", words.len())?;
@@ -18,7 +18,7 @@ pub fn words_answer(alloc: Global, line: &str) -> Result<String, AllocError> {
 }
 
 /// Whether the words of a line spell a command, or the fault.
-pub fn command_answer(alloc: Global, line: &str) -> Result<String, AllocError> {
+pub(crate) fn command_answer(alloc: Global, line: &str) -> Result<String, AllocError> {
     let spelled = match words_of(alloc, line) {
         Ok(words) => command_of_words(alloc, words.as_slice()),
         Err(fault) => Err(fault),

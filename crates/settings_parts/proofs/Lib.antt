@@ -1,2 +1,4 @@
 pub mod Lists
 pub mod Prefixes
+pub mod Restored
+pub mod Right

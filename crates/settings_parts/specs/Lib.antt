@@ -3,3 +3,4 @@ pub mod PeopleParts
 pub mod LifecycleParts
 pub mod CalendarParts
 pub mod LevelParts
+pub mod Whole

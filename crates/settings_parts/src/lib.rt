@@ -2,6 +2,7 @@
 #![tactic(auto)]
 
 pub mod calendar;
+pub mod laws;
 pub mod level;
 pub mod lifecycle;
 pub mod people;

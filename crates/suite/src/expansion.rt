@@ -2,13 +2,17 @@ use std::alloc::{AllocError, Global};
 
 /// A text that scripts name.
 #[derive(Clone, Copy)]
-pub struct Named<'t> {
-    pub name: &'t str,
-    pub text: &'t str,
+pub(crate) struct Named<'t> {
+    pub(crate) name: &'t str,
+    pub(crate) text: &'t str,
 }
 
 /// The script of a text whose words in `<<` and `>>` stand for others.
-pub fn expanded(alloc: Global, named: &[Named<'_>], text: &str) -> Result<Vec<u8>, AllocError> {
+pub(crate) fn expanded(
+    alloc: Global,
+    named: &[Named<'_>],
+    text: &str,
+) -> Result<Vec<u8>, AllocError> {
     let mut script = Vec::new(alloc);
     for piece in text.split("<<") {
         match piece.split_once(">>") {

@@ -1,8 +1,8 @@
-//! The suite of scripts: runs each script of the standard input, over a desk of its own, and prints what it printed
-//! and its status.
+//! The suite of scripts: runs each script of the standard input, over a desk of its own, and prints
+//! what it printed and its status.
 //!
-//! A line `=== NAME` begins a script, which goes up to the next such line or the end. In a script words in `<<` and
-//! `>>` stand for others:
+//! A line `=== NAME` begins a script, which goes up to the next such line or the end. In a script
+//! words in `<<` and `>>` stand for others:
 //!
 //! - `<<3*TEXT>>` for the text three times, in which `@` is the number of the time, from 1,
 //! - `<<byte 255>>` for that byte,

@@ -1,5 +1,5 @@
 -- where there is no memory for what is shown, the desk stayed as it was
-use Rattle.desk_program.specs.Rows.{desk_of}
+use Rattle.desk_rows.specs.Rows.{desk_of}
 use Rattle.desk_program.proofs.Failing.{on_err}
 use Rattle.desk_program.proofs.Stays.{history_stays, queues_stay, shown_stays}
 use Rattle.desk_program.proofs.line.answer_command.Goals as goal

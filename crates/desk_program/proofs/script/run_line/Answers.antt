@@ -1,7 +1,7 @@
 -- a line for which memory was wanting is left out of the run
 use Rattle.std.proofs.Common.{subst, sym}
 use Rattle.service_core.specs.Desk.{Desk}
-use Rattle.desk_program.specs.Rows.{desk_of}
+use Rattle.desk_rows.specs.Rows.{desk_of}
 use Rattle.desk_program.specs.Script.{LinePrints, said, unavailable_text}
 use Rattle.desk_program.proofs.Printing.{unavailable_prints}
 use Rattle.desk_program.proofs.script.run_line.Goals as goal

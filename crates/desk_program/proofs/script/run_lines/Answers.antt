@@ -5,7 +5,7 @@ use Rattle.std.proofs.lemmas.Iterator.Splits.{YieldsList-from_lines}
 use Rattle.std.proofs.lemmas.List.{length_push, take_all}
 use Rattle.std.specs.Str.Lines.{lines}
 use Rattle.service_core.specs.Desk.{empty_desk}
-use Rattle.desk_program.specs.Rows.{desk_of}
+use Rattle.desk_rows.specs.Rows.{desk_of}
 use Rattle.desk_program.specs.Written.{Takes}
 use Rattle.desk_program.proofs.Bytes.{appends_more}
 use Rattle.desk_program.proofs.Printing.{Prints, cut_short, run_more, run_of, run_on}

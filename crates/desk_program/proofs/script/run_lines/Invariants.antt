@@ -3,7 +3,7 @@ use Rattle.std.proofs.Common.{◌≡◌, ◌≤◌, ℕ, false, List, length, ta
 use Rattle.std.specs.Io.KnownBytes.{Appends}
 use Rattle.std.specs.Str.Lines.{lines}
 use Rattle.service_core.specs.Desk.{empty_desk}
-use Rattle.desk_program.specs.Rows.{desk_of}
+use Rattle.desk_rows.specs.Rows.{desk_of}
 use Rattle.desk_program.proofs.Printing.{Prints}
 use Rattle.desk_program.proofs.script.run_lines.Given as goal
 

@@ -5,11 +5,6 @@ use Rattle.hours_core.proofs.SpanLemmas.{before_small, last, end_of-last, Append
 use Rattle.hours_core.proofs.spans.Spans.append.Goals as goal
 use Rattle.hours_core.proofs.spans.Spans.append.Goals.{in-Some, in-Some-2+in_ok-push-in-Some-2, in-None}
 
-pub overflow_sub-before : goal.overflow_sub-before
-overflow_sub-before c =
-    let h = rw c.in-Some.ensures.items at c.self.invariant in
-    omega (arith, (last first_minute 0 c.pop.new.self.items c.in-Some.last h).some)
-
 pub overflow_add-before : goal.overflow_add-before
 overflow_add-before c =
     let h = rw c.in-Some.ensures.items at c.self.invariant in
@@ -29,7 +24,7 @@ appends c =
           let h = rw w.in-Some.ensures.items at c.self.invariant in
           let after = rw (← c.self.view_is, w.in-Some.ensures.items, end_of-last) at c.requires.after in
           let gap : w.in-Some.last.end < c.args.start = omega (arith, w.if-last-start.false, after) in
-          rw (c.in_ok-push.ensures.items, w.self-inside-is, w.span-is, w.in_ok-push-in-Some-2.ensures.items, w.in-Some.ensures.items)
+          rw (c.in_ok-push.ensures.items, w.self-inside-is, w.span-is, w.minutes.ensures, w.in_ok-push-in-Some-2.ensures.items, w.in-Some.ensures.items)
           (added c.pop.new.self.items w.in-Some.last c.args.start c.args.end h gap c.requires.some c.requires.to)
       | in-None w ↦
           let none : length c.pop.new.self.items ≡ 0 = grind (arith, common_steps, w.in-None.ensures.cases.1) in

@@ -1,0 +1,10 @@
+-- the people after the watchers so far
+use Rattle.std.proofs.Common.{◌≡◌, fold, take}
+use Rattle.desk_core.specs.Desk.{Request}
+use Rattle.desk_rows.specs.People.{take_person, with_people}
+use Rattle.desk_rows.proofs.people.People.without_all.Given as goal
+
+abbrev pub invariant-loop-watcher : goal.invariant-loop-watcher
+invariant-loop-watcher l =
+    (request : Request)
+    → with_people l.people request ≡ fold take_person (with_people l.fn.self request) (take l.watcher-index l.watchers)

@@ -1,0 +1,26 @@
+-- What becomes of the people of a request.
+use Rattle.std.specs.Prelude.{◌≡◌, List, [], fold}
+use Rattle.desk_core.specs.Change.{in_role, without_name}
+use Rattle.desk_core.specs.Desk.{Request}
+use Rattle.desk_core.specs.Names.{with_name}
+use Rattle.desk_core.specs.declared.rows.Watcher.{Watcher}
+use Rattle.desk_rows.specs.declared.people.People.{People}
+
+abbrev pub nobody : People
+nobody = record { requestors = []; cc = []; admin_cc = [] }
+
+-- the request with these people
+abbrev pub with_people : People → Request → Request
+with_people people request =
+    record request { requestors = people.requestors; cc = people.cc; admin_cc = people.admin_cc }
+
+abbrev pub put_person : Request → Watcher → Request
+put_person request w = in_role w.role (λ names. with_name names w.person) request
+
+abbrev pub take_person : Request → Watcher → Request
+take_person request w = in_role w.role (λ names. without_name names w.person) request
+
+-- whatever else a request has, its people become the new ones where the old ones are put and taken so
+abbrev pub Become : People → People → List Watcher → List Watcher → Type 0
+Become old new put taken =
+    (request : Request) → with_people new request ≡ fold take_person (fold put_person (with_people old request) put) taken

@@ -1,0 +1,73 @@
+ghost use Rattle.std.specs.Prelude.{◌≡◌, IfOk};
+ghost use Rattle.std.specs.Option.{option_map};
+ghost use Rattle.desk_core.specs.Desk.{empty_desk, queue_at, request_at};
+ghost use Rattle.desk_core.specs.Step.{Steps};
+ghost use Rattle.desk_rows.specs.Rows.{desk_of, request_of};
+
+use crate::records::{Record, Records};
+use desk_core::{Answer, Command, LinkRow, QueueRow, Refusal, decide};
+use settings_core::Settings;
+use std::alloc::{AllocError, Global};
+use text_core::Text;
+
+/// A desk in memory: its queues in the order of their names, its requests in that of their numbers, and its links in
+/// that of their sources, kinds and targets.
+#[derive(Drop)]
+pub struct Rows {
+    pub(crate) queues: Vec<QueueRow>,
+    pub(crate) records: Records,
+    pub(crate) links: Vec<LinkRow>,
+}
+
+impl Rows {
+    /// A desk without queues and requests.
+    pub fn new(alloc: Global) -> Rows
+        ensures { desk_of result ≡ empty_desk }
+    {
+        Rows {
+            queues: Vec::new(alloc),
+            records: Records::new(alloc),
+            links: Vec::new(alloc),
+        }
+    }
+
+    /// One command by a caller at a moment: its answer, or the refusal that is called for. `Unavailable` leaves the
+    /// desk as it was, as any refusal does.
+    pub fn step(
+        &mut self,
+        alloc: Global,
+        settings: &Settings,
+        at: u32,
+        caller: &str,
+        command: &Command,
+    ) -> Result<Answer, Refusal>
+        ensures { Steps settings.now at caller.now command.now (desk_of self.old) result (desk_of self.new) }
+    {
+        let facts = self.facts_for(alloc, command)?;
+        let change = decide(alloc, settings, at, caller, &facts, command)?;
+        let answer = self.answer_to(alloc, settings, at, caller, command)?;
+        self.apply(alloc, change)?;
+        Ok(answer)
+    }
+
+    /// The queue of this name, if there is one.
+    pub(crate) fn queue(&self, name: &Text) -> Option<&QueueRow>
+        ensures { option_map (λ q. q.now) result ≡ queue_at (desk_of self.now) name.now }
+    {
+        self.queues.iter().find(|q| q.name == *name)
+    }
+
+    /// The request with this number, if there is one.
+    pub(crate) fn request(&self, id: u32) -> Option<&Record>
+        ensures { option_map (λ r. request_of r.now) result ≡ request_at (desk_of self.now) id }
+    {
+        self.records.at(id)
+    }
+}
+
+/// A count of rows. Memory for more rows than this type counts is refused.
+pub(crate) fn count(rows: usize) -> Result<u32, AllocError>
+    ensures { IfOk result (λ n. n ≡ rows) }
+{
+    u32::try_from(rows).map_err(|_| AllocError)
+}

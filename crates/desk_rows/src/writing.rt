@@ -1,0 +1,236 @@
+ghost use Rattle.std.specs.Prelude.{◌≡◌, ◌==◌, ◌+◌, ◌<◌, true, false, length, find, vec_len, vec_capacity, Some, IfOk, OnOk, OnErr};
+ghost use Rattle.std.specs.List.{list_all, position_from};
+ghost use Rattle.std.specs.Option.{option_map_or};
+ghost use Rattle.std.specs.Ordering.{is_lt};
+ghost use Rattle.desk_core.specs.Change.{applied};
+ghost use Rattle.desk_core.specs.Desk.{has_lower_name, placed};
+ghost use Rattle.desk_core.specs.Links.{is_lower_link};
+ghost use Rattle.desk_core.specs.Names.{text_order};
+ghost use Rattle.desk_rows.specs.LinkList.{links_after, links_without};
+ghost use Rattle.desk_rows.specs.People.{Become};
+ghost use Rattle.desk_rows.specs.Rows.{desk_of, requests_of};
+ghost use Rattle.desk_rows.specs.Shapes as shapes;
+ghost use Rattle.desk_rows.specs.declared.records.Record.{Record};
+
+use crate::desk::Rows;
+use crate::people::People;
+use crate::records::Record;
+use desk_core::{Change, Entry, LinkRow, QueueRow, Watcher, is_link, is_lower_link};
+use std::alloc::{AllocError, Global};
+use text_core::{Sequence, Text};
+
+impl Rows {
+    /// Makes a change. Out of memory leaves all as it was, and so does a change of several requests, which no command
+    /// makes.
+    pub(crate) fn apply(&mut self, alloc: Global, change: Change) -> Result<(), AllocError>
+        ensures ok { OnOk result (desk_of self.new ≡ applied change (desk_of self.old)) }
+        ensures err { OnErr result (desk_of self.new ≡ desk_of self.old) }
+    {
+        let id = request_in(&change);
+        if opens_only(&change) {
+            self.open(change)
+        } else if files_only(self.records.len() + 1, &change) {
+            self.file(alloc, change)
+        } else if revises_only(id, &change) {
+            self.revise(alloc, id, change)
+        } else {
+            Err(AllocError)
+        }
+    }
+
+    /// Opens a queue, if one is given.
+    fn open(&mut self, change: Change) -> Result<(), AllocError>
+        requires { shapes.opens_only change ≡ true }
+        ensures ok { OnOk result (desk_of self.new ≡ applied change (desk_of self.old)) }
+        ensures err { OnErr result (desk_of self.new ≡ desk_of self.old) }
+    {
+        match change.queue {
+            Some(queue) => put_queue(&mut self.queues, queue),
+            None => Ok(()),
+        }
+    }
+
+    /// Files a request.
+    fn file(&mut self, alloc: Global, change: Change) -> Result<(), AllocError>
+        requires { shapes.files_only (length (requests_of self.old.records) + 1) change ≡ true }
+        ensures ok { OnOk result (desk_of self.new ≡ applied change (desk_of self.old)) }
+        ensures err { OnErr result (desk_of self.new ≡ desk_of self.old) }
+    {
+        let Some(row) = change.filed else {
+            return Err(AllocError);
+        };
+        let people = People::none(alloc).after(alloc, change.put.as_slice(), &[])?;
+        self.records.file(Record {
+            row,
+            people,
+            entries: change.entries.into_vec(),
+        })
+    }
+
+    /// Changes the request with this number, if it is there, and the links. Where a link is to be put, there is room
+    /// for it before anything changes.
+    fn revise(&mut self, alloc: Global, id: u32, change: Change) -> Result<(), AllocError>
+        requires { shapes.revises_only id change ≡ true }
+        ensures ok { OnOk result (desk_of self.new ≡ applied change (desk_of self.old)) }
+        ensures err { OnErr result (desk_of self.new ≡ desk_of self.old) }
+    {
+        self.links.reserve(1)?;
+        let people = self.people_after(alloc, id, &change.put, &change.taken)?;
+        let entries = change.entries.into_vec();
+        self.records.revise(id, change.row, people, entries)?;
+        put_link(&mut self.links, change.linked);
+        take_link(&mut self.links, change.unlinked);
+        Ok(())
+    }
+}
+
+impl Rows {
+    /// The people of the request with this number after some are put into roles and others taken out; nobody, where it
+    /// isn't there.
+    fn people_after(
+        &self,
+        alloc: Global,
+        id: u32,
+        put: &Sequence<Watcher>,
+        taken: &Sequence<Watcher>,
+    ) -> Result<People, AllocError>
+        ensures { IfOk result (λ people. (request : Record)
+            → find (λ r. r.row.id == id) self.now.records.inner.items ≡ Some request
+            → Become request.people people put.now taken.now) }
+    {
+        match self.request(id) {
+            Some(request) => request
+                .people
+                .after(alloc, put.as_slice(), taken.as_slice()),
+            None => Ok(People::none(alloc)),
+        }
+    }
+}
+
+/// A number that a change of one request is about: that of its first entry, or of its row.
+fn request_in(change: &Change) -> u32 {
+    match (change.entries.as_slice(), &change.row) {
+        ([first, ..], _) => first.id,
+        ([], Some(row)) => row.id,
+        ([], None) => 0,
+    }
+}
+
+/// Puts a queue before the first with a greater name.
+fn put_queue(queues: &mut Vec<QueueRow>, queue: QueueRow) -> Result<(), AllocError>
+    ensures ok { OnOk result (queues.new.items ≡ placed has_lower_name queues.old.items queue) }
+    ensures err { OnErr result (queues.new.items ≡ queues.old.items) }
+{
+    match first_above_name(queues.as_slice(), &queue.name) {
+        Some(place) => queues.insert(place, queue)?,
+        None => queues.push(queue)?,
+    }
+    Ok(())
+}
+
+/// Where the first queue with a greater name is, if there is one.
+fn first_above_name(queues: &[QueueRow], name: &Text) -> Option<usize>
+    ensures { result ≡ position_from (λ q. is_lt (text_order name.now q.name)) 0 queues.now }
+{
+    queues.iter().position(|q| *name < q.name)
+}
+
+/// Puts a link, if one is given, before the first that comes after it. There has to be room for it.
+fn put_link(links: &mut Vec<LinkRow>, link: Option<LinkRow>)
+    requires { vec_len links.old < vec_capacity links.old }
+    ensures { links.new.items ≡ links_after link links.old.items }
+{
+    let Some(link) = link else {
+        return;
+    };
+    match first_above_link(links.as_slice(), &link) {
+        Some(place) => links.insert(place, link).unwrap(),
+        None => links.push(link).unwrap(),
+    }
+}
+
+/// Where the first link is that comes after this one, if there is one.
+fn first_above_link(links: &[LinkRow], link: &LinkRow) -> Option<usize>
+    ensures { result ≡ position_from (is_lower_link link.now) 0 links.now }
+{
+    links.iter().position(|other| is_lower_link(link, other))
+}
+
+/// Takes a link out, if one is given.
+fn take_link(links: &mut Vec<LinkRow>, link: Option<LinkRow>)
+    ensures { links.new.items ≡ links_without link links.old.items }
+{
+    if let Some(link) = link {
+        links.retain(|other| !is_link(&link, other));
+    }
+}
+
+/// Whether a change opens a queue at most.
+fn opens_only(change: &Change) -> bool
+    ensures { result ≡ shapes.opens_only change.now }
+{
+    change.filed.is_none()
+        && change.row.is_none()
+        && change.put.is_empty()
+        && change.taken.is_empty()
+        && change.linked.is_none()
+        && change.unlinked.is_none()
+        && change.entries.is_empty()
+}
+
+/// Whether a change files a request with this number, and all persons and entries are its own.
+fn files_only(id: usize, change: &Change) -> bool
+    ensures { result ≡ shapes.files_only id change.now }
+{
+    change.queue.is_none()
+        && files(id, change)
+        && change.row.is_none()
+        && are_of(id, &change.put)
+        && change.taken.is_empty()
+        && change.linked.is_none()
+        && change.unlinked.is_none()
+        && are_entries_of(id, &change.entries)
+}
+
+fn files(id: usize, change: &Change) -> bool
+    ensures { result ≡ option_map_or (λ r. r.id == id) change.now.filed false }
+{
+    match &change.filed {
+        Some(row) => row.id as usize == id,
+        None => false,
+    }
+}
+
+/// Whether a change opens and files nothing, and its row, all persons and all entries are of the request with this
+/// number.
+fn revises_only(id: u32, change: &Change) -> bool
+    ensures { result ≡ shapes.revises_only id change.now }
+{
+    change.queue.is_none()
+        && change.filed.is_none()
+        && has_row_of(id, change)
+        && are_of(id as usize, &change.put)
+        && are_of(id as usize, &change.taken)
+        && are_entries_of(id as usize, &change.entries)
+}
+
+fn has_row_of(id: u32, change: &Change) -> bool
+    ensures { result ≡ option_map_or (λ r. r.id == id) change.now.row true }
+{
+    match &change.row {
+        Some(row) => row.id == id,
+        None => true,
+    }
+}
+
+fn are_of(id: usize, watchers: &Sequence<Watcher>) -> bool
+    ensures { result ≡ shapes.are_of id watchers.now }
+{
+    watchers.as_slice().iter().all(|w| w.id as usize == id)
+}
+
+fn are_entries_of(id: usize, entries: &Sequence<Entry>) -> bool
+    ensures { result ≡ shapes.are_entries_of id entries.now }
+{
+    entries.as_slice().iter().all(|e| e.id as usize == id)
+}
