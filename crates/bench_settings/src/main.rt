@@ -150,7 +150,7 @@ fn measure(
 }
 
 /// The sizes that the words give.
-fn sizes(rt: &(impl AllocGlobal + std::rt::Env)) -> Result<Sizes, Failure> {
+fn sizes_of_words(rt: &(impl AllocGlobal + std::rt::Env)) -> Result<Sizes, Failure> {
     let mut sizes = [0; 4];
     let mut count = 0;
     for word in env::args(rt)?.skip(1) {
@@ -174,6 +174,6 @@ fn sizes(rt: &(impl AllocGlobal + std::rt::Env)) -> Result<Sizes, Failure> {
 }
 
 fn main(rt: HostRuntime) -> Result<(), Failure> {
-    let sizes = sizes(&rt)?;
+    let sizes = sizes_of_words(&rt)?;
     measure(&rt, sizes)
 }
