@@ -100,7 +100,11 @@ fn push_grant(
     sizes: Sizes,
     number: usize,
 ) -> Result<(), AllocError> {
-    let group = if sizes.groups == 0 { 0 } else { number % sizes.groups };
+    let group = if sizes.groups == 0 {
+        0
+    } else {
+        number % sizes.groups
+    };
     let name = right::STANDARD[number % 16];
     let head = format!(in rt.alloc(); "[[grant]]\nto=\"group:g{group}\"\nrights=[\"{name}\"]\n")?;
     text.push_str(head.as_str())?;
@@ -115,7 +119,11 @@ fn push_grant(
 fn ask(rt: &impl AllocGlobal, settings: &Settings, sizes: Sizes) -> Result<usize, AllocError> {
     let mut held = 0_usize;
     for number in 0..QUESTIONS {
-        let person = if sizes.persons == 0 { 0 } else { number % sizes.persons };
+        let person = if sizes.persons == 0 {
+            0
+        } else {
+            number % sizes.persons
+        };
         let queue = number / 7 % QUEUES;
         let person = format!(in rt.alloc(); "p{person}")?;
         let queue = format!(in rt.alloc(); "q{queue}")?;
@@ -128,10 +136,7 @@ fn ask(rt: &impl AllocGlobal, settings: &Settings, sizes: Sizes) -> Result<usize
     Ok(held)
 }
 
-fn measure(
-    rt: &(impl AllocGlobal + Clock + Print + Eprint),
-    sizes: Sizes,
-) -> Result<(), Failure> {
+fn measure(rt: &(impl AllocGlobal + Clock + Print + Eprint), sizes: Sizes) -> Result<(), Failure> {
     let text = text_of(rt, sizes)?;
     let bytes = text.as_str().as_bytes();
     let start = Instant::now(rt)?;
@@ -145,7 +150,10 @@ fn measure(
     let asked = start.elapsed(rt)?.as_micros();
     let length = bytes.len();
     println!(rt; "{length} bytes: {held} of {QUESTIONS} held")?;
-    eprintln!(rt; "{length} bytes read {} times in {read} us, asked in {asked} us", sizes.reads)?;
+    eprintln!(rt;
+        "{length} bytes read {} times in {read} us, asked in {asked} us",
+        sizes.reads
+    )?;
     Ok(())
 }
 
