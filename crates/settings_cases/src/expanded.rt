@@ -24,12 +24,7 @@ fn push_counted(alloc: Global, whole: &mut String, counted: &str) -> Result<(), 
     Ok(())
 }
 
-fn push_line(
-    alloc: Global,
-    whole: &mut String,
-    line: &str,
-    number: u32,
-) -> Result<(), AllocError> {
+fn push_line(alloc: Global, whole: &mut String, line: &str, number: u32) -> Result<(), AllocError> {
     for c in line.chars() {
         match c {
             '#' => push_number(alloc, whole, u64::from(number))?,

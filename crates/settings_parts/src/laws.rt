@@ -12,5 +12,4 @@ ghost use Rattle.settings_parts.specs.Whole.{IsRight, restored};
 pub fn whole_law()
     ensures right { (ms : Members) → form_fault ms ≡ None → IsRight ms }
     ensures whole { (kind : Kind) (d : Data) → has_kind kind d ≡ true → restored kind d ≡ d }
-{
-}
+{}

@@ -1,0 +1,1 @@
+-- the program has no definitions of its own
