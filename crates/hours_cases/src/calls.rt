@@ -11,6 +11,7 @@ pub fn answer(
     let (call, words) = halves(line, ' ')?;
     match call {
         "minute" => show(rt, line, Minute::new(count(words)?)),
+        "in_order" => in_order(rt, line, words),
         "date" => show_date(rt, line, moment(words)?),
         "text" => show_text(rt, line, moment(words)?),
         _ => match calendar {
@@ -52,6 +53,13 @@ fn show(rt: &impl Print, line: &str, minute: Option<Minute>) -> Result<(), Failu
         Some(minute) => println!(rt; "{line}: {}", minute.get())?,
         None => println!(rt; "{line}: -")?,
     }
+    Ok(())
+}
+
+/// Writes whether the first of two minutes is before the second.
+fn in_order(rt: &impl Print, line: &str, words: &str) -> Result<(), Failure> {
+    let (earlier, later) = halves(words, ' ')?;
+    println!(rt; "{line}: {}", moment(earlier)? < moment(later)?)?;
     Ok(())
 }
 
