@@ -2,8 +2,9 @@
 use Rattle.std.proofs.Common.{◌≡◌, ◌∙◌, ◌⊎◌, ℕ, zero, suc, ◌+◌, ◌-◌, ◌==◌, ◌<◌, ◌≤◌, Bool, true, false, ◌&&◌, cond, List, [], ◌∷◌, ◌++◌, length, map, find, Option, Some, None, inl, inr, refl, ap, sym, subst, arith}
 use Rattle.std.proofs.lemmas.Bool.{eqb-true}
 use Rattle.std.proofs.lemmas.Bool.Decides.{eqb_tells}
-use Rattle.std.specs.List.{slice_get, slice_set}
+use Rattle.std.specs.List.{slice_index_or, slice_set}
 use Rattle.std.specs.Option.{option_map}
+use Rattle.desk_core.proofs.DeskLaw.Numbers.{numbered_more}
 use Rattle.desk_core.specs.Desk.{Request, revised_at}
 use Rattle.desk_core.specs.IsDesk.{are_numbered}
 use Rattle.desk_rows.proofs.OneRequest.{both}
@@ -64,49 +65,75 @@ pub ids_are : (xs : List Record) → ids_of (map request_of xs) ≡ numbers_of x
 ids_are [] = refl
 ids_are (x ∷ xs) = ap (λ ns. x.row.id ∷ ns) (ids_are xs)
 
--- a record is found by its number where it stands
-pub found_at : (n : ℕ) (xs : List Record) → are_numbered n (numbers_of xs) ≡ true → (k : ℕ)
-    → find (λ r. r.row.id == n + k) (map request_of xs) ≡ option_map request_of (slice_get xs k)
-found_at n [] e k = refl
-found_at n (x ∷ xs) e zero =
-    let parts = both (x.row.id == n) (are_numbered (n + 1) (numbers_of xs)) e in rw parts.0 refl
-found_at n (x ∷ xs) e (suc k) =
+-- the record at the place of a number gets another in its place
+pub set_at : (n id : ℕ) (xs : List Record) → are_numbered n (numbers_of xs) ≡ true → (k : ℕ) → id ≡ n + k → k < length xs
+    → (f : Request → Request) (was new : Record) → was ≡ slice_index_or xs k was → request_of new ≡ f (request_of was)
+    → map request_of (slice_set xs k new) ≡ map (revised_at id f) (map request_of xs)
+set_at n id [] e k same low f was new there made = absurd (omega (arith, low))
+set_at n id (x ∷ xs) e zero same low f was new there made =
     let parts = both (x.row.id == n) (are_numbered (n + 1) (numbers_of xs)) e in
-    elim (eqb_tells x.row.id (n + suc k)) [
-      | inl same ↦ absurd (omega (arith, same.1, eqb-true x.row.id n parts.0))
+    let first : id ≡ n = omega (arith, same) in
+    let here : (x.row.id == id) ≡ true = ap (λ (m : ℕ). x.row.id == m) first ∙ parts.0 in
+    let gone = absent (n + 1) id (map request_of xs) (ap (are_numbered (n + 1)) (ids_are xs) ∙ parts.1) (omega (arith, first)) in
+    rw (here, stays_absent id f (map request_of xs) gone)
+    (ap (λ r. r ∷ map request_of xs) (made ∙ ap (λ (r : Record). f (request_of r)) there))
+set_at n id (x ∷ xs) e (suc k) same low f was new there made =
+    let parts = both (x.row.id == n) (are_numbered (n + 1) (numbers_of xs)) e in
+    elim (eqb_tells x.row.id id) [
+      | inl here ↦ absurd (omega (arith, same, here.1, eqb-true x.row.id n parts.0))
       | inr other ↦
-          let there : n + 1 + k ≡ n + suc k = omega arith in
-          rw other.0
-          (ap (λ (m : ℕ). find (λ r. r.row.id == m) (map request_of xs)) (sym there) ∙ found_at (n + 1) xs parts.1 k)
-    ]
-
--- the record of that number, if there is one, gets another in its place
-pub set_at : (n : ℕ) (xs : List Record) → are_numbered n (numbers_of xs) ≡ true → (k : ℕ) → k < length xs → (f : Request → Request)
-    → (was new : Record) → slice_get xs k ≡ Some was → request_of new ≡ f (request_of was)
-    → map request_of (slice_set xs k new) ≡ map (revised_at (n + k) f) (map request_of xs)
-set_at n [] e k low f was new there made = absurd (omega (arith, low))
-set_at n (x ∷ xs) e zero low f was new there made =
-    let parts = both (x.row.id == n) (are_numbered (n + 1) (numbers_of xs)) e in
-    let one : x ≡ was = cc in
-    let gone = absent (n + 1) n (map request_of xs) (ap (are_numbered (n + 1)) (ids_are xs) ∙ parts.1) (omega arith) in
-    rw (parts.0, stays_absent n f (map request_of xs) gone)
-    (ap (λ r. r ∷ map request_of xs) (made ∙ ap (λ (r : Record). f (request_of r)) (sym one)))
-set_at n (x ∷ xs) e (suc k) low f was new there made =
-    let parts = both (x.row.id == n) (are_numbered (n + 1) (numbers_of xs)) e in
-    elim (eqb_tells x.row.id (n + suc k)) [
-      | inl same ↦ absurd (omega (arith, same.1, eqb-true x.row.id n parts.0))
-      | inr other ↦
-          let next : n + 1 + k ≡ n + suc k = omega arith in
           rw other.0
           (ap (λ rest. request_of x ∷ rest)
-          (set_at (n + 1) xs parts.1 k (omega (arith, low)) f was new there made
-          ∙ ap (λ (m : ℕ). map (revised_at m f) (map request_of xs)) next))
+          (set_at (n + 1) id xs parts.1 k (omega (arith, same)) (omega (arith, low)) f was new there made))
     ]
 
 -- and the numbers stay, where the new one has the number of the old one
-pub numbers_set : (xs : List Record) (k : ℕ) (was new : Record) → slice_get xs k ≡ Some was → new.row.id ≡ was.row.id
+pub numbers_set : (xs : List Record) (k : ℕ) (was new : Record) → was ≡ slice_index_or xs k was → new.row.id ≡ was.row.id
     → numbers_of (slice_set xs k new) ≡ numbers_of xs
 numbers_set [] k was new there same = refl
 numbers_set (x ∷ xs) zero was new there same =
-    let one : x ≡ was = cc in ap (λ n. n ∷ numbers_of xs) (same ∙ ap (λ (r : Record). r.row.id) (sym one))
+    ap (λ n. n ∷ numbers_of xs) (same ∙ ap (λ (r : Record). r.row.id) there)
 numbers_set (x ∷ xs) (suc k) was new there same = ap (λ ns. x.row.id ∷ ns) (numbers_set xs k was new there same)
+
+-- the record at a place has the number of the place
+pub number_at : (n : ℕ) (xs : List Record) → are_numbered n (numbers_of xs) ≡ true → (k : ℕ) → k < length xs → (was : Record)
+    → was ≡ slice_index_or xs k was → was.row.id ≡ n + k
+number_at n [] e k low was there = absurd (omega (arith, low))
+number_at n (x ∷ xs) e zero low was there =
+    let parts = both (x.row.id == n) (are_numbered (n + 1) (numbers_of xs)) e in
+    let first : x.row.id ≡ n = eqb-true x.row.id n parts.0 in
+    let same : was.row.id ≡ x.row.id = ap (λ (r : Record). r.row.id) there in
+    omega (arith, first, same)
+number_at n (x ∷ xs) e (suc k) low was there =
+    let parts = both (x.row.id == n) (are_numbered (n + 1) (numbers_of xs)) e in
+    let rest = number_at (n + 1) xs parts.1 k (omega (arith, low)) was there in
+    omega (arith, rest)
+
+pub as_many : (xs : List Record) → length (map request_of xs) ≡ length xs
+as_many [] = refl
+as_many (x ∷ xs) = omega (arith, as_many xs)
+
+-- no record has the number 0, or one after the last
+pub none_at_zero : (xs : List Record) → are_numbered 1 (numbers_of xs) ≡ true → (id : ℕ) → id ≡ 0
+    → find (λ r. r.row.id == id) (map request_of xs) ≡ None
+none_at_zero xs e id none = absent 1 id (map request_of xs) (ap (are_numbered 1) (ids_are xs) ∙ e) (omega (arith, none))
+
+pub none_after : (xs : List Record) → are_numbered 1 (numbers_of xs) ≡ true → (id : ℕ) → length xs < id
+    → find (λ r. r.row.id == id) (map request_of xs) ≡ None
+none_after xs e id high =
+    absent_after 1 id (map request_of xs) (ap (are_numbered 1) (ids_are xs) ∙ e) (omega (arith, high, as_many xs))
+
+-- with the next number at the end they are numbered
+pub numbered_or : (b : Bool) (xs ys : List Record) (x : Record) → ys ≡ cond b (xs ++ x ∷ []) xs
+    → are_numbered 1 (numbers_of xs) ≡ true → x.row.id ≡ length xs + 1 → are_numbered 1 (numbers_of ys) ≡ true
+numbered_or true xs ys x e numbered next =
+    ap (λ (l : List Record). are_numbered 1 (numbers_of l)) e
+    ∙ numbered_more (λ (r : Record). r.row.id) 1 xs x numbered (omega (arith, next))
+numbered_or false xs ys x e numbered next = ap (λ (l : List Record). are_numbered 1 (numbers_of l)) e ∙ numbered
+
+-- where the request stays, all stay
+pub stays_set : (xs : List Record) (k : ℕ) (was new : Record) → was ≡ slice_index_or xs k was → request_of new ≡ request_of was
+    → map request_of (slice_set xs k new) ≡ map request_of xs
+stays_set [] k was new there same = refl
+stays_set (x ∷ xs) zero was new there same = ap (λ r. r ∷ map request_of xs) (same ∙ ap request_of there)
+stays_set (x ∷ xs) (suc k) was new there same = ap (λ rest. request_of x ∷ rest) (stays_set xs k was new there same)

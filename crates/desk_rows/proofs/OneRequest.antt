@@ -1,5 +1,5 @@
 -- What a change of one request does to the desk.
-use Rattle.std.proofs.Common.{◌≡◌, ◌∙◌, ℕ, ◌+◌, ◌==◌, Bool, true, false, ◌&&◌, cond, List, [], ◌∷◌, ◌++◌, length, map, fold, find, Option, Some, None, is_none, refl, ap, sym, append_assoc, append-nil}
+use Rattle.std.proofs.Common.{◌≡◌, ◌∙◌, ℕ, ◌+◌, ◌==◌, Bool, true, false, ◌&&◌, cond, List, [], ◌∷◌, ◌++◌, length, map, fold, find, Option, Some, None, is_none, refl, ap, sym, append_assoc, append-nil, arith}
 use Rattle.std.proofs.lemmas.Bool.{eqb-true}
 use Rattle.std.specs.List.{list_all}
 use Rattle.std.specs.Option.{option_map_or}
@@ -28,7 +28,7 @@ no_option (Some x) e = cc
 
 pub no_elements : {A : Type 0} (xs : List A) → (length xs == 0) ≡ true → xs ≡ []
 no_elements [] e = refl
-no_elements (x ∷ xs) e = cc
+no_elements (x ∷ xs) e = absurd (omega (arith, eqb-true (length (x ∷ xs)) 0 e))
 
 -- only a queue is opened
 pub opens_alone : (change : Change) (desk : Desk) → opens_only change ≡ true → applied change desk ≡ queue_put change.queue desk

@@ -1,5 +1,6 @@
-ghost use Rattle.std.specs.Prelude.{◌≡◌, filter, map, IfOk};
+ghost use Rattle.std.specs.Prelude.{◌≡◌, ◌||◌, not, filter, map, IfOk};
 ghost use Rattle.desk_core.specs.Due.{due_on};
+ghost use Rattle.desk_core.specs.Facts.{standing};
 ghost use Rattle.desk_core.specs.Reading as reading;
 ghost use Rattle.desk_core.specs.Rights as rights;
 ghost use Rattle.desk_rows.specs.Rows.{desk_of, request_of};
@@ -217,13 +218,36 @@ impl Record {
     ) -> Result<Sequence<Entry>, AllocError>
         ensures { IfOk result (λ told. told ≡ reading.entries_told settings.now caller.now (request_of self.now)) }
     {
-        let comments = self.standing()?.has_comments_for(settings, caller);
-        let mut told = Vec::new(alloc);
-        for entry in &self.entries {
-            if !entry.kind.is_comment() || comments {
-                told.push(entry.clone()?)?;
-            }
-        }
-        Ok(Sequence::from(told))
+        let comments = self.has_comments_for(settings, caller)?;
+        told(alloc, self.entries.as_slice(), comments)
     }
+
+    /// Whether the caller may see its comments.
+    fn has_comments_for(&self, settings: &Settings, caller: &str) -> Result<bool, AllocError>
+        ensures { IfOk result (λ has. has
+            ≡ rights.may_show_comments settings.now caller.now (standing (request_of self.now))) }
+    {
+        let on = self.standing()?;
+        Ok(on.has_comments_for(settings, caller))
+    }
+}
+
+/// The entries, without the comments or with them.
+fn told(alloc: Global, entries: &[Entry], comments: bool) -> Result<Sequence<Entry>, AllocError>
+    ensures { IfOk result (λ told. told ≡ filter (λ e. not (reading.is_comment e.kind) || comments) entries.now) }
+{
+    let mut told = Vec::new(alloc);
+    for entry in entries {
+        if is_told(entry, comments) {
+            told.push(entry.clone()?)?;
+        }
+    }
+    Ok(Sequence::from(told))
+}
+
+/// Whether an entry is told to one who may see comments or not.
+fn is_told(entry: &Entry, comments: bool) -> bool
+    ensures { result ≡ (not (reading.is_comment entry.now.kind) || comments) }
+{
+    !entry.kind.is_comment() || comments
 }

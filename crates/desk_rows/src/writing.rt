@@ -1,10 +1,10 @@
-ghost use Rattle.std.specs.Prelude.{◌≡◌, ◌==◌, ◌+◌, ◌<◌, true, false, length, find, vec_len, vec_capacity, Some, IfOk, OnOk, OnErr};
+ghost use Rattle.std.specs.Prelude.{◌≡◌, ◌==◌, ◌+◌, ◌<◌, true, false, not, length, filter, find, vec_len, vec_capacity, Some, IfOk, OnOk, OnErr};
 ghost use Rattle.std.specs.List.{list_all, position_from};
 ghost use Rattle.std.specs.Option.{option_map_or};
 ghost use Rattle.std.specs.Ordering.{is_lt};
 ghost use Rattle.desk_core.specs.Change.{applied};
 ghost use Rattle.desk_core.specs.Desk.{has_lower_name, placed};
-ghost use Rattle.desk_core.specs.Links.{is_lower_link};
+ghost use Rattle.desk_core.specs.Links.{is_link, is_lower_link};
 ghost use Rattle.desk_core.specs.Names.{text_order};
 ghost use Rattle.desk_rows.specs.LinkList.{links_after, links_without};
 ghost use Rattle.desk_rows.specs.People.{Become};
@@ -78,8 +78,8 @@ impl Rows {
         let people = self.people_after(alloc, id, &change.put, &change.taken)?;
         let entries = change.entries.into_vec();
         self.records.revise(id, change.row, people, entries)?;
-        put_link(&mut self.links, change.linked);
-        take_link(&mut self.links, change.unlinked);
+        put_linked(&mut self.links, change.linked);
+        take_linked(&mut self.links, change.unlinked);
         Ok(())
     }
 }
@@ -135,14 +135,22 @@ fn first_above_name(queues: &[QueueRow], name: &Text) -> Option<usize>
     queues.iter().position(|q| *name < q.name)
 }
 
-/// Puts a link, if one is given, before the first that comes after it. There has to be room for it.
-fn put_link(links: &mut Vec<LinkRow>, link: Option<LinkRow>)
+/// Puts a link, if one is given. There has to be room for it.
+fn put_linked(links: &mut Vec<LinkRow>, link: Option<LinkRow>)
     requires { vec_len links.old < vec_capacity links.old }
     ensures { links.new.items ≡ links_after link links.old.items }
 {
-    let Some(link) = link else {
-        return;
-    };
+    match link {
+        Some(link) => put_link(links, link),
+        None => {}
+    }
+}
+
+/// Puts a link before the first that comes after it. There has to be room for it.
+fn put_link(links: &mut Vec<LinkRow>, link: LinkRow)
+    requires { vec_len links.old < vec_capacity links.old }
+    ensures { links.new.items ≡ placed is_lower_link links.old.items link }
+{
     match first_above_link(links.as_slice(), &link) {
         Some(place) => links.insert(place, link).unwrap(),
         None => links.push(link).unwrap(),
@@ -157,12 +165,19 @@ fn first_above_link(links: &[LinkRow], link: &LinkRow) -> Option<usize>
 }
 
 /// Takes a link out, if one is given.
-fn take_link(links: &mut Vec<LinkRow>, link: Option<LinkRow>)
+fn take_linked(links: &mut Vec<LinkRow>, link: Option<LinkRow>)
     ensures { links.new.items ≡ links_without link links.old.items }
 {
-    if let Some(link) = link {
-        links.retain(|other| !is_link(&link, other));
+    match link {
+        Some(link) => take_link(links, link),
+        None => {}
     }
+}
+
+fn take_link(links: &mut Vec<LinkRow>, link: LinkRow)
+    ensures { links.new.items ≡ filter (λ l. not (is_link link l)) links.old.items }
+{
+    links.retain(|other| !is_link(&link, other));
 }
 
 /// Whether a change opens a queue at most.

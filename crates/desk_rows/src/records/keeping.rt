@@ -1,4 +1,4 @@
-ghost use Rattle.std.specs.Prelude.{◌≡◌, ◌==◌, ◌+◌, ◌++◌, ◌∷◌, [], length, map, find, IfOk, OnOk, OnErr, Some, None, true, ◌-◌, if◌then◌else◌};
+ghost use Rattle.std.specs.Prelude.{◌≡◌, ◌==◌, ◌+◌, ◌++◌, ◌∷◌, [], length, map, find, ◌<◌, IfOk, IfSome, IfNone, OnOk, OnErr, Some, None, true};
 ghost use Rattle.std.specs.Option.{option_map, option_map_or};
 ghost use Rattle.desk_core.specs.Desk.{Request, revised_at};
 ghost use Rattle.desk_core.specs.Facts as facts;
@@ -27,6 +27,29 @@ impl Record {
     }
 }
 
+impl Record {
+    /// The request gets the row, if one is given, the people, and more entries.
+    fn become_other(
+        &mut self,
+        row: Option<RequestRow>,
+        people: People,
+        entries: Vec<Entry>,
+    ) -> Result<(), AllocError>
+        requires { option_map_or (λ r. r.id == self.old.row.id) row true ≡ true }
+        ensures ok { OnOk result (request_of self.new ≡ revised row people entries.items (request_of self.old)) }
+        ensures err { OnErr result (request_of self.new ≡ request_of self.old) }
+        ensures number { self.new.row.id ≡ self.old.row.id }
+    {
+        let mut entries = entries;
+        self.entries.append(&mut entries)?;
+        self.people = people;
+        if let Some(row) = row {
+            self.row = row;
+        }
+        Ok(())
+    }
+}
+
 impl Records {
     /// No request.
     pub(crate) fn new(alloc: Global) -> Records
@@ -48,8 +71,7 @@ impl Records {
     pub(crate) fn at(&self, id: u32) -> Option<&Record>
         ensures { option_map (λ r. request_of r.now) result ≡ find (λ r. r.row.id == id) (requests_of self.now) }
     {
-        let place = place_of(id)?;
-        self.inner.get(place)
+        find_request(self.inner.as_slice(), id)
     }
 
     /// A request that is filed, which has the next number.
@@ -75,29 +97,30 @@ impl Records {
         ensures ok { OnOk result (requests_of self.new ≡ map (revised_at id (revised row people entries.items)) (requests_of self.old)) }
         ensures err { OnErr result (requests_of self.new ≡ requests_of self.old) }
     {
-        let mut entries = entries;
-        let Some(place) = place_of(id) else {
-            return Ok(());
-        };
-        if place >= self.inner.len() {
-            return Ok(());
+        match self.place_of(id) {
+            Some(place) => self.inner[place].become_other(row, people, entries),
+            None => Ok(()),
         }
-        let request = &mut self.inner[place];
-        request.entries.append(&mut entries)?;
-        request.people = people;
-        if let Some(row) = row {
-            request.row = row;
+    }
+
+    /// The place of the request with this number, if there is one.
+    fn place_of(&self, id: u32) -> Option<usize>
+        ensures some { IfSome result (λ place. (place < length self.now.inner.items) × (id ≡ place + 1)) }
+        ensures none { IfNone result (find (λ r. r.row.id == id) (requests_of self.now) ≡ None) }
+    {
+        if id == 0 {
+            None
+        } else if id as usize > self.inner.len() {
+            None
+        } else {
+            Some(id as usize - 1)
         }
-        Ok(())
     }
 }
 
-/// The place of the request with this number, if a request may have it.
-fn place_of(id: u32) -> Option<usize>
-    ensures { result ≡ (if id == 0 then None else Some (id - 1)) }
+/// The first request with this number, if there is one.
+fn find_request(requests: &[Record], id: u32) -> Option<&Record>
+    ensures { option_map (λ r. r.now) result ≡ find (λ r. r.row.id == id) requests.now }
 {
-    match id {
-        0 => None,
-        _ => Some(id as usize - 1),
-    }
+    requests.iter().find(|r| r.row.id == id)
 }
