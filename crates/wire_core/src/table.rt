@@ -159,9 +159,7 @@ fn flag_argument<'a>(alloc: Global, id: &'a str, letter: char) -> Arg<'a>
     ensures rule { rule_of result ≡ flag id.entry.now letter }
     ensures local { result.global ≡ false }
 {
-    Arg::new(alloc, id)
-        .short(letter)
-        .action(ArgAction::SetTrue)
+    Arg::new(alloc, id).short(letter).action(ArgAction::SetTrue)
 }
 
 fn option_argument<'a>(alloc: Global, id: &'a str) -> Arg<'a>
