@@ -1,10 +1,7 @@
 -- What is printed where a script doesn't come to its commands.
-use Rattle.std.proofs.Common.{◌≡◌, ◌≢◌, ◌<◌, inl, inr, ℕ, List, [], length, Option, Some, None, IfSome, Result, Ok, Err, refl, sym, subst}
-use Rattle.settings_core.specs.declared.fault.SettingsFault.{SettingsFault}
-use Rattle.settings_core.specs.declared.fault.SettingsFault.TheVariants.{UnknownKey, NoMemory}
-use Rattle.settings_core.specs.declared.settings.Settings.{Settings}
+use Rattle.std.proofs.Common.{◌≡◌, ◌≢◌, ◌<◌, inl, inr, ℕ, List, [], length, Option, Some, None, IfSome, Err, refl}
 use Rattle.desk_program.specs.Input.{input_limit}
-use Rattle.desk_program.specs.Script.{IsOutput, IsRun, input_fault_text, settings_fault_text}
+use Rattle.desk_program.specs.Script.{IsOutput, input_fault_text}
 use Rattle.desk_program.specs.declared.input.InputFault.{InputFault}
 use Rattle.desk_program.specs.declared.input.InputFault.TheVariants.{NoMarker, TooLong, NotUtf8, Read}
 

@@ -2,6 +2,7 @@ pub mod Bytes
 pub mod Digits
 pub mod Endings
 pub mod Failing
+pub mod Given
 pub mod Marker
 pub mod Parting
 pub mod Printing

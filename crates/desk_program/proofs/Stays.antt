@@ -1,5 +1,5 @@
 -- A command that shows something leaves the desk as it was, and so may be left out of a run.
-use Rattle.std.proofs.Common.{◌≡◌, ◌∙◌, inl, inr, ℕ, ◌+◌, List, Option, Some, None, Ok, refl, subst, sym, ap}
+use Rattle.std.proofs.Common.{◌≡◌, ◌∙◌, inl, inr, ℕ, ◌+◌, List, Option, Some, None, Ok, refl, subst, sym}
 use Rattle.std.specs.Prelude.{⊤}
 use Rattle.settings_core.specs.declared.settings.Settings.{Settings}
 use Rattle.desk_core.specs.declared.answer.Answer.{Answer}

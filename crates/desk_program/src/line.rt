@@ -5,8 +5,8 @@ ghost use Rattle.service_core.specs.Texts.{created_text, outcome_text};
 ghost use Rattle.desk_rows.specs.Rows.{desk_of};
 ghost use Rattle.desk_program.specs.Script.{LinePrints, said, said_by, is_passed_over, is_comment};
 
-use desk_rows::Rows;
 use desk_core::{Answer, Command};
+use desk_rows::Rows;
 use itoa::Buffer;
 use service_core::{history_text, queues_text, refusal_text, show_text};
 use settings_core::Settings;

@@ -1,5 +1,5 @@
 -- what settings were given, and what was printed of them
-use Rattle.std.proofs.Common.{Ok, Err, refl}
+use Rattle.std.proofs.Common.{Err, refl}
 use Rattle.desk_program.proofs.script.run_parts.Goals as goal
 
 pub returns-in-Err : goal.returns-in-Err
