@@ -1,5 +1,6 @@
 pub use Rattle.desk_core.specs.Desk
 pub use Rattle.desk_core.specs.Step
+pub mod Dependencies
 pub mod LinkList
 pub mod Numbered
 pub mod People

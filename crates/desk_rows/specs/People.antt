@@ -9,6 +9,9 @@ use Rattle.desk_rows.specs.declared.people.People.{People}
 abbrev pub nobody : People
 nobody = record { requestors = []; cc = []; admin_cc = [] }
 
+abbrev pub people_of : Request → People
+people_of request = record { requestors = request.requestors; cc = request.cc; admin_cc = request.admin_cc }
+
 -- the request with these people
 abbrev pub with_people : People → Request → Request
 with_people people request =

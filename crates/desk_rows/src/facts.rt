@@ -1,5 +1,6 @@
 ghost use Rattle.std.specs.Prelude.{◌≡◌, ◌++◌, ◌==◌, ◌&&◌, filter, option_and_then, IfOk, OnOk};
-ghost use Rattle.std.specs.Option.{option_to_list};
+ghost use Rattle.std.specs.List.{flat_map};
+ghost use Rattle.desk_rows.specs.Dependencies.{dependency_by};
 ghost use Rattle.desk_core.specs.Desk.{queue_at, request_at};
 ghost use Rattle.desk_core.specs.Facts as facts;
 ghost use Rattle.desk_core.specs.Links.{has_link};
@@ -146,13 +147,25 @@ impl Rows {
     }
 
     /// What a request depends on.
+    #[tactic(auto, unfolding(crate::specs::Dependencies::dependency_by))]
     fn dependencies_of(&self, alloc: Global, id: u32) -> Result<Sequence<Dependency>, AllocError>
         ensures { IfOk result (λ found. found ≡ facts.dependencies_of (desk_of self.now) id) }
     {
         let links = self.dependency_links(alloc, id)?;
+        self.dependencies_by(alloc, links.as_slice())
+    }
+
+    /// The requests to which the links lead, as those that another one depends on.
+    fn dependencies_by(
+        &self,
+        alloc: Global,
+        links: &[LinkRow],
+    ) -> Result<Sequence<Dependency>, AllocError>
+        ensures { IfOk result (λ found. found ≡ flat_map (dependency_by (desk_of self.now)) links.now) }
+    {
         let mut found = Vec::new(alloc);
-        for link in links.as_slice() {
-            self.put_dependency(&mut found, link.target)?;
+        for link in links {
+            self.put_dependency(&mut found, link)?;
         }
         Ok(Sequence::from(found))
     }
@@ -170,12 +183,12 @@ impl Rows {
         Ok(links)
     }
 
-    /// The request with this number as something that another one depends on, if it and its queue are there.
-    fn put_dependency(&self, found: &mut Vec<Dependency>, id: u32) -> Result<(), AllocError>
-        ensures { OnOk result (found.new.items ≡ found.old.items ++ option_to_list (option_and_then
-            (facts.as_dependency (desk_of self.now)) (request_at (desk_of self.now) id))) }
+    /// The request to which a link leads, if it and its queue are there.
+    #[tactic(auto, unfolding(crate::specs::Dependencies::dependency_by))]
+    fn put_dependency(&self, found: &mut Vec<Dependency>, link: &LinkRow) -> Result<(), AllocError>
+        ensures { OnOk result (found.new.items ≡ found.old.items ++ dependency_by (desk_of self.now) link.now) }
     {
-        let Some(request) = self.request(id) else {
+        let Some(request) = self.request(link.target) else {
             return Ok(());
         };
         let Some(queue) = self.queue(&request.row.queue) else {

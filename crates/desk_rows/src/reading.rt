@@ -8,7 +8,8 @@ ghost use Rattle.desk_rows.specs.Rows.{desk_of, request_of};
 use crate::desk::{Rows, count};
 use crate::records::Record;
 use desk_core::{
-    Answer, Command, Entry, LinkKind, LinkRow, Links, QueueRow, Shown, due_of, is_kind, sees_queue,
+    Answer, Command, Entry, LinkKind, LinkRow, Links, QueueRow, Shown, Standing, due_of, is_kind,
+    sees_queue,
 };
 use hours_core::Minute;
 use settings_core::Settings;
@@ -88,15 +89,9 @@ impl Rows {
         ensures { IfOk result (λ shown. shown
             ≡ reading.shown_of settings.now caller.now (desk_of self.now) (request_of request.now)) }
     {
-        let people = request.people.copy()?;
-        Ok(Shown {
-            row: request.row.clone()?,
-            requestors: people.requestors,
-            cc: people.cc,
-            admin_cc: people.admin_cc,
-            due: self.due_on(settings, request),
-            links: self.links_of(alloc, settings, caller, request.row.id)?,
-        })
+        let due = self.due_on(settings, request);
+        let links = self.links_of(alloc, settings, caller, request.row.id)?;
+        Ok(shown_with(request.standing()?, due, links))
     }
 
     /// When the request is due, if its queue is there.
@@ -133,6 +128,27 @@ impl Rows {
             refers_to: reader.linked_from(LinkKind::RefersTo, id)?,
             referred_to_by: reader.linked_to(LinkKind::RefersTo, id)?,
         })
+    }
+}
+
+/// What is shown of a request that is due then and has these links.
+fn shown_with(on: Standing, due: Option<Minute>, links: Links) -> Shown
+    ensures { result ≡ record {
+      row = on.row;
+      requestors = on.requestors;
+      cc = on.cc;
+      admin_cc = on.admin_cc;
+      due = due;
+      links = links;
+    } }
+{
+    Shown {
+        row: on.row,
+        requestors: on.requestors,
+        cc: on.cc,
+        admin_cc: on.admin_cc,
+        due,
+        links,
     }
 }
 

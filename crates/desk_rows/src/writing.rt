@@ -1,21 +1,22 @@
-ghost use Rattle.std.specs.Prelude.{◌≡◌, ◌==◌, ◌+◌, ◌<◌, true, false, not, length, filter, find, vec_len, vec_capacity, Some, IfOk, OnOk, OnErr};
+ghost use Rattle.std.specs.Prelude.{◌≡◌, ◌==◌, ◌+◌, ◌<◌, true, false, not, length, filter, find, vec_len, vec_capacity, Some, None, [], IfOk, OnOk, OnErr};
 ghost use Rattle.std.specs.List.{list_all, position_from};
 ghost use Rattle.std.specs.Option.{option_map_or};
 ghost use Rattle.std.specs.Ordering.{is_lt};
-ghost use Rattle.desk_core.specs.Change.{applied};
-ghost use Rattle.desk_core.specs.Desk.{has_lower_name, placed};
+ghost use Rattle.desk_core.specs.Change.{applied, filed};
+ghost use Rattle.desk_core.specs.Desk.{Request, has_lower_name, placed, request_at, with_request};
 ghost use Rattle.desk_core.specs.Links.{is_link, is_lower_link};
 ghost use Rattle.desk_core.specs.Names.{text_order};
 ghost use Rattle.desk_rows.specs.LinkList.{links_after, links_without};
-ghost use Rattle.desk_rows.specs.People.{Become};
+ghost use Rattle.desk_rows.specs.People.{Become, nobody, people_of};
+ghost use Rattle.desk_rows.specs.Revised.{revised};
 ghost use Rattle.desk_rows.specs.Rows.{desk_of, requests_of};
 ghost use Rattle.desk_rows.specs.Shapes as shapes;
-ghost use Rattle.desk_rows.specs.declared.records.Record.{Record};
+ghost use Rattle.desk_rows.specs.declared.people.People.{People};
 
 use crate::desk::Rows;
 use crate::people::People;
 use crate::records::Record;
-use desk_core::{Change, Entry, LinkRow, QueueRow, Watcher, is_link, is_lower_link};
+use desk_core::{Change, Entry, LinkRow, QueueRow, RequestRow, Watcher, is_link, is_lower_link};
 use std::alloc::{AllocError, Global};
 use text_core::{Sequence, Text};
 
@@ -44,7 +45,17 @@ impl Rows {
         ensures ok { OnOk result (desk_of self.new ≡ applied change (desk_of self.old)) }
         ensures err { OnErr result (desk_of self.new ≡ desk_of self.old) }
     {
-        match change.queue {
+        let Change {
+            queue,
+            filed: _,
+            row: _,
+            put: _,
+            taken: _,
+            linked: _,
+            unlinked: _,
+            entries: _,
+        } = change;
+        match queue {
             Some(queue) => put_queue(&mut self.queues, queue),
             None => Ok(()),
         }
@@ -56,14 +67,41 @@ impl Rows {
         ensures ok { OnOk result (desk_of self.new ≡ applied change (desk_of self.old)) }
         ensures err { OnErr result (desk_of self.new ≡ desk_of self.old) }
     {
-        let Some(row) = change.filed else {
-            return Err(AllocError);
-        };
-        let people = People::none(alloc).after(alloc, change.put.as_slice(), &[])?;
+        let Change {
+            queue: _,
+            filed,
+            row: _,
+            put,
+            taken: _,
+            linked: _,
+            unlinked: _,
+            entries,
+        } = change;
+        match filed {
+            Some(row) => self.file_row(alloc, row, put, entries),
+            None => Err(AllocError),
+        }
+    }
+
+    /// Files a request with these people, who are put into their roles one by one, and these entries.
+    fn file_row(
+        &mut self,
+        alloc: Global,
+        row: RequestRow,
+        put: Sequence<Watcher>,
+        entries: Sequence<Entry>,
+    ) -> Result<(), AllocError>
+        requires { row.id ≡ length (requests_of self.old.records) + 1 }
+        ensures ok { OnOk result ((people : People) × Become nobody people put []
+            × (desk_of self.new ≡ with_request (desk_of self.old) (revised None people entries (filed row)))) }
+        ensures err { OnErr result (desk_of self.new ≡ desk_of self.old) }
+    {
+        let people = People::none(alloc).after(alloc, put.as_slice(), &[])?;
+        let entries = entries.into_vec();
         self.records.file(Record {
             row,
             people,
-            entries: change.entries.into_vec(),
+            entries,
         })
     }
 
@@ -75,7 +113,7 @@ impl Rows {
         ensures err { OnErr result (desk_of self.new ≡ desk_of self.old) }
     {
         self.links.reserve(1)?;
-        let people = self.people_after(alloc, id, &change.put, &change.taken)?;
+        let people = self.people_after(alloc, id, change.put.as_slice(), change.taken.as_slice())?;
         let entries = change.entries.into_vec();
         self.records.revise(id, change.row, people, entries)?;
         put_linked(&mut self.links, change.linked);
@@ -91,12 +129,11 @@ impl Rows {
         &self,
         alloc: Global,
         id: u32,
-        put: &Sequence<Watcher>,
-        taken: &Sequence<Watcher>,
+        put: &[Watcher],
+        taken: &[Watcher],
     ) -> Result<People, AllocError>
-        ensures { IfOk result (λ people. (request : Record)
-            → find (λ r. r.row.id == id) self.now.records.inner.items ≡ Some request
-            → Become request.people people put.now taken.now) }
+        ensures { IfOk result (λ people. (there : Request) → request_at (desk_of self.now) id ≡ Some there
+            → Become (people_of there) people put.now taken.now) }
     {
         match self.request(id) {
             Some(request) => request
