@@ -1,3 +1,5 @@
 pub mod Lists
 pub mod Numbering
 pub mod OneRequest
+pub mod Retained
+pub mod WholeChange

@@ -7,3 +7,4 @@ pub mod People
 pub mod Revised
 pub mod Rows
 pub mod Shapes
+pub mod Showing

@@ -4,6 +4,7 @@ ghost use Rattle.desk_core.specs.Facts.{standing};
 ghost use Rattle.desk_core.specs.Reading as reading;
 ghost use Rattle.desk_core.specs.Rights as rights;
 ghost use Rattle.desk_rows.specs.Rows.{desk_of, request_of};
+ghost use Rattle.desk_rows.specs.Showing.{shown_with};
 
 use crate::desk::{Rows, count};
 use crate::records::Record;
@@ -133,14 +134,7 @@ impl Rows {
 
 /// What is shown of a request that is due then and has these links.
 fn shown_with(on: Standing, due: Option<Minute>, links: Links) -> Shown
-    ensures { result ≡ record {
-      row = on.row;
-      requestors = on.requestors;
-      cc = on.cc;
-      admin_cc = on.admin_cc;
-      due = due;
-      links = links;
-    } }
+    ensures { result ≡ shown_with on due links }
 {
     Shown {
         row: on.row,

@@ -136,9 +136,7 @@ impl Rows {
             → Become (people_of there) people put.now taken.now) }
     {
         match self.request(id) {
-            Some(request) => request
-                .people
-                .after(alloc, put.as_slice(), taken.as_slice()),
+            Some(request) => request.people.after(alloc, put, taken),
             None => Ok(People::none(alloc)),
         }
     }
