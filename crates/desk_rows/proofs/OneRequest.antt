@@ -32,6 +32,7 @@ no_elements (x ∷ xs) e = absurd (omega (arith, eqb-true (length (x ∷ xs)) 0 
 
 -- only a queue is opened
 pub opens_alone : (change : Change) (desk : Desk) → opens_only change ≡ true → applied change desk ≡ queue_put change.queue desk
+unfolding opens_only
 opens_alone change desk e =
     let a = both (is_none change.filed) _ e in
     let b = both (is_none change.row) _ a.1 in

@@ -24,6 +24,7 @@ pub revises_alone : (change : Change) (desk : Desk) (id : ℕ) (people : People)
     → ((there : Request) → request_at desk id ≡ Some there → Become (people_of there) people change.put change.taken)
     → applied change desk
     ≡ record desk { requests = map (revised_at id (revised change.row people change.entries)) desk.requests; links = links_without change.unlinked (links_after change.linked desk.links) }
+unfolding revises_only
 revises_alone change desk id people only numbered become =
     let a = both (is_none change.queue) _ only in
     let b = both (is_none change.filed) _ a.1 in
@@ -58,6 +59,7 @@ filed_last desk id f x gone here =
 pub files_alone : (change : Change) (desk : Desk) (row : RequestRow) (people : People) (id : ℕ) → id ≡ length desk.requests + 1
     → files_only id change ≡ true → change.filed ≡ Some row → are_numbered 1 (ids desk) ≡ true
     → Become nobody people change.put [] → applied change desk ≡ with_request desk (revised None people change.entries (filed row))
+unfolding files_only
 files_alone change desk row people id next only is numbered become =
     let a = both (is_none change.queue) _ only in
     let b = both (is_none change.row) _ a.1 in

@@ -23,7 +23,7 @@ abbrev pub is_still : Change → Bool
 is_still change = has_no_people change && (has_no_links change && length change.entries == 0)
 
 -- no request, person, link or entry is in it
-abbrev pub opens_only : Change → Bool
+unfoldable pub opens_only : Change → Bool
 opens_only change = is_none change.filed && (is_none change.row && is_still change)
 
 abbrev pub files : ℕ → Change → Bool
@@ -35,7 +35,7 @@ puts_only id change =
     are_of id change.put && (length change.taken == 0 && (has_no_links change && are_entries_of id change.entries))
 
 -- a request with this number is filed, and all persons and entries are its own
-abbrev pub files_only : ℕ → Change → Bool
+unfoldable pub files_only : ℕ → Change → Bool
 files_only id change = is_none change.queue && (is_none change.row && (files id change && puts_only id change))
 
 abbrev pub has_row_of : ℕ → Change → Bool
@@ -47,6 +47,6 @@ changes_only id change =
     are_of id change.put && (are_of id change.taken && are_entries_of id change.entries)
 
 -- nothing is opened or filed, and the row, all persons and all entries are those of the request with this number
-abbrev pub revises_only : ℕ → Change → Bool
+unfoldable pub revises_only : ℕ → Change → Bool
 revises_only id change =
     is_none change.queue && (is_none change.filed && (has_row_of id change && changes_only id change))

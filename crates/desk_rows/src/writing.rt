@@ -40,6 +40,7 @@ impl Rows {
     }
 
     /// Opens a queue, if one is given.
+    #[tactic(auto, unfolding(crate::specs::Shapes::opens_only))]
     fn open(&mut self, change: Change) -> Result<(), AllocError>
         requires { shapes.opens_only change ≡ true }
         ensures ok { OnOk result (desk_of self.new ≡ applied change (desk_of self.old)) }
@@ -62,6 +63,7 @@ impl Rows {
     }
 
     /// Files a request.
+    #[tactic(auto, unfolding(crate::specs::Shapes::files_only))]
     fn file(&mut self, alloc: Global, change: Change) -> Result<(), AllocError>
         requires { shapes.files_only (length (requests_of self.old.records) + 1) change ≡ true }
         ensures ok { OnOk result (desk_of self.new ≡ applied change (desk_of self.old)) }
@@ -107,6 +109,7 @@ impl Rows {
 
     /// Changes the request with this number, if it is there, and the links. Where a link is to be put, there is room
     /// for it before anything changes.
+    #[tactic(auto, unfolding(crate::specs::Shapes::revises_only))]
     fn revise(&mut self, alloc: Global, id: u32, change: Change) -> Result<(), AllocError>
         requires { shapes.revises_only id change ≡ true }
         ensures ok { OnOk result (desk_of self.new ≡ applied change (desk_of self.old)) }
@@ -216,6 +219,7 @@ fn take_link(links: &mut Vec<LinkRow>, link: LinkRow)
 }
 
 /// Whether a change opens a queue at most.
+#[tactic(auto, unfolding(crate::specs::Shapes::opens_only))]
 fn opens_only(change: &Change) -> bool
     ensures { result ≡ shapes.opens_only change.now }
 {
@@ -242,6 +246,7 @@ fn has_no_links(change: &Change) -> bool
 }
 
 /// Whether a change files a request with this number, and all persons and entries are its own.
+#[tactic(auto, unfolding(crate::specs::Shapes::files_only))]
 fn files_only(id: usize, change: &Change) -> bool
     ensures { result ≡ shapes.files_only id change.now }
 {
@@ -268,6 +273,7 @@ fn puts_only(id: usize, change: &Change) -> bool
 
 /// Whether a change opens and files nothing, and its row, all persons and all entries are of the request with this
 /// number.
+#[tactic(auto, unfolding(crate::specs::Shapes::revises_only))]
 fn revises_only(id: u32, change: &Change) -> bool
     ensures { result ≡ shapes.revises_only id change.now }
 {
