@@ -1,11 +1,13 @@
-ghost use Rattle.std.specs.Prelude.{◌≡◌, IfOk};
+ghost use Rattle.std.specs.Prelude.{◌≡◌, ◌≢◌, IfErr, IfOk, None, Some};
 ghost use Rattle.std.specs.Option.{option_map};
 ghost use Rattle.desk_core.specs.Desk.{empty_desk, queue_at, request_at};
-ghost use Rattle.desk_core.specs.Step.{Steps};
+ghost use Rattle.desk_core.specs.Change.{applied};
+ghost use Rattle.desk_core.specs.Reading.{answer_of};
+ghost use Rattle.desk_core.specs.Step.{Steps, effect, guard};
 ghost use Rattle.desk_rows.specs.Rows.{desk_of, request_of};
 
 use crate::records::{Record, Records};
-use desk_core::{Answer, Command, LinkRow, QueueRow, Refusal, decide};
+use desk_core::{Answer, Change, Command, LinkRow, QueueRow, Refusal, decide};
 use settings_core::Settings;
 use std::alloc::{AllocError, Global};
 use text_core::Text;
@@ -43,8 +45,46 @@ impl Rows {
     ) -> Result<Answer, Refusal>
         ensures { Steps settings.now at caller.now command.now (desk_of self.old) result (desk_of self.new) }
     {
-        let facts = self.facts_for(alloc, command)?;
-        let change = decide(alloc, settings, at, caller, &facts, command)?;
+        match self.decided(alloc, settings, at, caller, command) {
+            Ok(change) => self.done(alloc, settings, at, caller, command, change),
+            Err(refusal) => Err(refusal),
+        }
+    }
+
+    /// What is decided of a command on this desk.
+    fn decided(
+        &self,
+        alloc: Global,
+        settings: &Settings,
+        at: u32,
+        caller: &str,
+        command: &Command,
+    ) -> Result<Change, Refusal>
+        ensures accepts { IfOk result (λ change. (guard settings.now at caller.now command.now (desk_of self.now) ≡ None)
+            × (applied change (desk_of self.now) ≡ effect settings.now at caller.now command.now (desk_of self.now))) }
+        ensures refuses { IfErr result (λ refusal. refusal ≢ Refusal.Unavailable
+            → guard settings.now at caller.now command.now (desk_of self.now) ≡ Some refusal) }
+    {
+        match self.facts_for(alloc, command) {
+            Ok(facts) => decide(alloc, settings, at, caller, &facts, command),
+            Err(_) => Err(Refusal::Unavailable),
+        }
+    }
+
+    /// Makes the change of a command that isn't refused, and answers it.
+    fn done(
+        &mut self,
+        alloc: Global,
+        settings: &Settings,
+        at: u32,
+        caller: &str,
+        command: &Command,
+        change: Change,
+    ) -> Result<Answer, Refusal>
+        ensures ok { IfOk result (λ answer. (answer ≡ answer_of settings.now at caller.now command.now (desk_of self.old))
+            × (desk_of self.new ≡ applied change (desk_of self.old))) }
+        ensures err { IfErr result (λ refusal. (refusal ≡ Refusal.Unavailable) × (desk_of self.new ≡ desk_of self.old)) }
+    {
         let answer = self.answer_to(alloc, settings, at, caller, command)?;
         self.apply(alloc, change)?;
         Ok(answer)
