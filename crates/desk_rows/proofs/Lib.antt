@@ -2,4 +2,5 @@ pub mod Lists
 pub mod Numbering
 pub mod OneRequest
 pub mod Retained
+pub mod Stepping
 pub mod WholeChange

@@ -33,6 +33,7 @@ impl Rows {
         }
     }
 
+    #[tactic(none)]
     /// One command by a caller at a moment: its answer, or the refusal that is called for. `Unavailable` leaves the
     /// desk as it was, as any refusal does.
     pub fn step(
@@ -51,6 +52,7 @@ impl Rows {
         }
     }
 
+    #[tactic(none)]
     /// What is decided of a command on this desk.
     fn decided(
         &self,
