@@ -1,5 +1,6 @@
 -- Which bytes are a name, a right's name, a subject, or the text of a reply or a comment.
-use Rattle.std.specs.Prelude.{ℕ, Bool, false, not, ◌&&◌, ◌||◌, List, [], ◌∷◌, length, nat_le, nat_lt, ◌==◌}
+use Rattle.std.specs.Prelude.{ℕ, Bool, false, not, ◌&&◌, ◌||◌, ◌==◌, nat_le, nat_lt}
+use Rattle.std.specs.Prelude.{List, [], ◌∷◌, length}
 use Rattle.std.specs.List.{list_all}
 use Rattle.std.specs.Str.{chars}
 
@@ -25,7 +26,8 @@ is_name_byte b = is_small_letter b || is_digit b || (b == 45) || (b == 95)
 -- 1 to 20 bytes that names have, the first a letter
 abbrev pub is_name : List ℕ → Bool
 is_name [] = false
-is_name (first ∷ rest) = is_small_letter first && nat_le (length (first ∷ rest)) 20 && list_all is_name_byte rest
+is_name (first ∷ rest) =
+    is_small_letter first && nat_le (length (first ∷ rest)) 20 && list_all is_name_byte rest
 
 -- 1 to 32 letters
 abbrev pub is_right_name : List ℕ → Bool
@@ -45,9 +47,11 @@ is_printed_or_break c = not (is_control c) || (c == 10) || (c == 9)
 -- 1 to 200 characters, none a control character
 abbrev pub is_subject : List ℕ → Bool
 is_subject text =
-    nat_le 1 (length (chars text)) && nat_le (length (chars text)) 200 && list_all is_printed (chars text)
+    nat_le 1 (length (chars text)) && nat_le (length (chars text)) 200
+    && list_all is_printed (chars text)
 
 -- 1 to 20,000 characters, no control characters but line feed and tab
 abbrev pub is_text : List ℕ → Bool
 is_text text =
-    nat_le 1 (length (chars text)) && nat_le (length (chars text)) 20000 && list_all is_printed_or_break (chars text)
+    nat_le 1 (length (chars text)) && nat_le (length (chars text)) 20000
+    && list_all is_printed_or_break (chars text)

@@ -3,7 +3,8 @@ ghost use Rattle.std.specs.List.{list_all};
 ghost use Rattle.std.specs.Str.{chars};
 ghost use Rattle.text_core.specs.Form as form;
 
-/// The most bytes of a name of a person, a group, a queue, a status, a lifecycle, a calendar or a level.
+/// The most bytes of a name of a person, a group, a queue, a status, a lifecycle, a calendar or a
+/// level.
 pub const MAX_NAME_BYTES: usize = 20;
 
 /// The most letters of a right's name.
@@ -15,7 +16,8 @@ pub const MAX_SUBJECT_CHARACTERS: usize = 200;
 /// The most characters of the text of a reply or a comment.
 pub const MAX_TEXT_CHARACTERS: usize = 20_000;
 
-/// Whether the text is a name: 1 to 20 bytes of `a` to `z`, `0` to `9`, `-` and `_`, the first a letter.
+/// Whether the text is a name: 1 to 20 bytes of `a` to `z`, `0` to `9`, `-` and `_`, the first a
+/// letter.
 pub fn is_name(text: &str) -> bool
     ensures { result ≡ form.is_name text.now }
 {
@@ -43,8 +45,8 @@ pub fn is_subject(text: &str) -> bool
     1 <= length && length <= MAX_SUBJECT_CHARACTERS && is_on_one_line(text)
 }
 
-/// Whether the text is one of a reply or a comment: 1 to 20,000 characters, where the only control characters of
-/// ASCII are the line feed and the tab.
+/// Whether the text is one of a reply or a comment: 1 to 20,000 characters, where the only control
+/// characters of ASCII are the line feed and the tab.
 pub fn is_text(text: &str) -> bool
     ensures { result ≡ form.is_text text.now }
 {

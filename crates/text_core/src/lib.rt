@@ -1,6 +1,7 @@
 //! Texts, lists, and the tests for a name, a right's name, a subject and a text.
 //!
-//! Every crate of the desk stands on this one, so that a text is the list of its bytes in each contract.
+//! Every crate of the desk stands on this one, so that a text is the list of its bytes in each
+//! contract.
 #![tactic(auto)]
 
 mod form;

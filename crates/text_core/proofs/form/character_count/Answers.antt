@@ -5,4 +5,5 @@ use Rattle.text_core.proofs.form.character_count.Goals as goal
 
 pub returns : goal.returns
 returns c =
-    count_from_yields_List c.chars.result c.count.result c.count.ensures.ran (YieldsList-from_chars c.args.text.now c.utf8.text c.chars.ensures.rest)
+    let yields = YieldsList-from_chars c.args.text.now c.utf8.text c.chars.ensures.rest in
+    count_from_yields_List c.chars.result c.count.result c.count.ensures.ran yields
