@@ -1,9 +1,13 @@
 -- The day number of a date, and the date of a day number.
-use Rattle.std.proofs.Common.{◌≡◌, Bool, true, false, ◌==◌, ◌||◌, nat_lt, if◌then◌else◌, rules, ℕ, zero, suc, ◌+◌, ◌<◌, ◌≤◌, ℤ, pos, negsuc, ◌<ℤ◌, ◌≤ℤ◌, inl, refl, sym, ap, ◌∙◌, arith}
+use Rattle.std.proofs.Common.{◌≡◌, Bool, true, false, ◌==◌, ◌||◌, nat_lt}
+use Rattle.std.proofs.Common.{if◌then◌else◌, rules, ℕ, zero, suc, ◌+◌, ◌<◌, ◌≤◌, ℤ}
+use Rattle.std.proofs.Common.{pos, negsuc, ◌<ℤ◌, ◌≤ℤ◌, inl, refl, sym, ap, ◌∙◌, arith}
 use Rattle.std.proofs.lemmas.Bool.{ltb-true, ltb-false}
 use Rattle.jiff.specs.Types.{Date}
 use Rattle.jiff.specs.Words.{epoch_day, days_in_month, IsYmd, IsYear, is_leap_year}
-use Rattle.jiff.proofs.Family.{epoch_day-lt, epoch_day_injective, days_from_civil-day, days_from_civil-next_month, days_from_civil-next_year, days_from_civil-max}
+use Rattle.jiff.proofs.Family.{epoch_day-lt, epoch_day_injective}
+use Rattle.jiff.proofs.Family.{days_from_civil-day, days_from_civil-next_month}
+use Rattle.jiff.proofs.Family.{days_from_civil-next_year, days_from_civil-max}
 use Rattle.jiff.proofs.OnLiterals.{jiff_on_literals}
 use Rattle.jiff.proofs.SpanFacts.{signed_arith}
 use Rattle.hours_core.specs.Date.{date_of_day, next_date, IsDateOfDay}

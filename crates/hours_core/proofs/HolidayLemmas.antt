@@ -1,5 +1,7 @@
 -- What halving finds among days that don't fall.
-use Rattle.std.proofs.Common.{◌≡◌, ℕ, suc, ◌<◌, ◌≤◌, Bool, false, ◌==◌, List, [], ◌∷◌, length, get_or, Result, Ok, Err, MatchResult, inl, inr, refl, sym, arith, eq-eqb}
+use Rattle.std.proofs.Common.{◌≡◌, ℕ, suc, ◌<◌, ◌≤◌, Bool, false, ◌==◌, List}
+use Rattle.std.proofs.Common.{[], ◌∷◌, length, get_or, Result, Ok, Err}
+use Rattle.std.proofs.Common.{MatchResult, inl, inr, refl, sym, arith, eq-eqb}
 use Rattle.std.specs.List.{list_any}
 use Rattle.std.specs.List.Sorted.{IsBinarySearchResult, IsNonDecreasing}
 use Rattle.std.specs.Ordering.{nat_cmp}

@@ -1,5 +1,7 @@
 -- The least number with a property in a range, and counts, step by step.
-use Rattle.std.proofs.Common.{◌≡◌, ℕ, zero, suc, ◌+◌, ◌-◌, ◌<◌, ◌≤◌, Bool, true, false, ◌==◌, if◌then◌else◌, Option, Some, None, inl, inr, refl, add-zero, ap, subst, sym, ◌∙◌, arith}
+use Rattle.std.proofs.Common.{◌≡◌, ℕ, zero, suc, ◌+◌, ◌-◌, ◌<◌, ◌≤◌, Bool, true}
+use Rattle.std.proofs.Common.{false, ◌==◌, if◌then◌else◌, Option, Some, None, inl}
+use Rattle.std.proofs.Common.{inr, refl, add-zero, ap, subst, sym, ◌∙◌, arith}
 use Rattle.std.proofs.lemmas.Bool.{cases_eq, cases_lt, cases_order, both_ways, eq-eqb, ne_eqb}
 use Rattle.hours_core.specs.Least.{least_of_next, least, NoneHolds, IsLeast}
 use Rattle.hours_core.specs.Counting.{count_of_next, count}

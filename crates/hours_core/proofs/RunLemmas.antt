@@ -1,5 +1,6 @@
 -- Spans in order are the runs of the minutes that they hold.
-use Rattle.std.proofs.Common.{◌≡◌, ℕ, zero, suc, ◌+◌, ◌<◌, ◌≤◌, Bool, List, [], ◌∷◌, length, get_or, refl, subst, ◌∙◌, arith}
+use Rattle.std.proofs.Common.{◌≡◌, ℕ, zero, suc, ◌+◌, ◌<◌, ◌≤◌, Bool, List, []}
+use Rattle.std.proofs.Common.{◌∷◌, length, get_or, refl, subst, ◌∙◌, arith}
 use Rattle.std.proofs.Math.Path.{fun_ext}
 use Rattle.hours_core.specs.Counting.{count}
 use Rattle.hours_core.specs.Moment.{first_minute}

@@ -1,5 +1,7 @@
 -- The offset that holds is one of the zone's.
-use Rattle.std.proofs.Common.{◌≡◌, ℕ, Bool, true, false, ◌&&◌, List, [], ◌∷◌, ◌++◌, ◌<◌, ◌≤◌, ◌⊎◌, inl, inr, sym, ◌∙◌, arith, length, drop, get_or, suc, ℤ, pos, neg_ℤ, int_le, int_lt, ◌≤ℤ◌, ◌<ℤ◌, if◌then◌else◌, refl, ap, drop-cons}
+use Rattle.std.proofs.Common.{◌≡◌, ℕ, Bool, true, false, ◌&&◌, List, [], ◌∷◌, ◌++◌, ◌<◌, ◌≤◌, ◌⊎◌}
+use Rattle.std.proofs.Common.{inl, inr, sym, ◌∙◌, arith, length, drop, get_or, suc, ℤ, pos, neg_ℤ}
+use Rattle.std.proofs.Common.{int_le, int_lt, ◌≤ℤ◌, ◌<ℤ◌, if◌then◌else◌, refl, ap, drop-cons}
 use Rattle.std.specs.List.{list_all}
 use Rattle.std.specs.Int.Signed.{le_z_yes}
 use Rattle.std.proofs.lemmas.Float.{T_from_true}

@@ -1,7 +1,9 @@
 -- The number and the name by which each fault is told.
 use Rattle.std.specs.Prelude.{ℕ, List, codes}
 use Rattle.hours_core.specs.declared.fault.HoursFault.{HoursFault}
-use Rattle.hours_core.specs.declared.fault.HoursFault.TheVariants.{BadOffset, ChangesOutOfOrder, BadInterval, BadYears, TooManyChanges, NoMemory}
+use Rattle.hours_core.specs.declared.fault.HoursFault.TheVariants.{BadOffset, ChangesOutOfOrder}
+use Rattle.hours_core.specs.declared.fault.HoursFault.TheVariants.{BadInterval, BadYears}
+use Rattle.hours_core.specs.declared.fault.HoursFault.TheVariants.{TooManyChanges, NoMemory}
 
 abbrev pub number_of : HoursFault → ℕ
 number_of BadOffset = 1

@@ -1,5 +1,7 @@
 -- Opening hours: which minutes are open.
-use Rattle.std.specs.Prelude.{ℕ, ◌+◌, ◌/◌, ◌%◌, Bool, true, not, ◌&&◌, ◌==◌, List, [], ◌∷◌, length, nat_le, nat_lt, ℤ, pos, int_le, slice_get, unwrap_or, if◌then◌else◌, Option, Some, None}
+use Rattle.std.specs.Prelude.{ℕ, ◌+◌, ◌/◌, ◌%◌, Bool, true, not, ◌&&◌, ◌==◌, List, []}
+use Rattle.std.specs.Prelude.{◌∷◌, length, nat_le, nat_lt, ℤ, pos, int_le, slice_get}
+use Rattle.std.specs.Prelude.{unwrap_or, if◌then◌else◌, Option, Some, None}
 use Rattle.std.specs.List.{list_all, list_any}
 use Rattle.hours_core.specs.Date.{date_of_day}
 use Rattle.hours_core.specs.Moment.{is_moment}

@@ -1,5 +1,6 @@
 -- The least number with a property, in a range.
-use Rattle.std.specs.Prelude.{◌≡◌, ℕ, zero, suc, ◌+◌, ◌-◌, ◌<◌, ◌≤◌, Bool, true, false, if◌then◌else◌, Option, Some, None}
+use Rattle.std.specs.Prelude.{◌≡◌, ℕ, zero, suc, ◌+◌, ◌-◌, ◌<◌, ◌≤◌, Bool}
+use Rattle.std.specs.Prelude.{true, false, if◌then◌else◌, Option, Some, None}
 
 -- the least of so many numbers from the first on, or none
 unfoldable pub least_of_next : (ℕ → Bool) → ℕ → ℕ → Option ℕ

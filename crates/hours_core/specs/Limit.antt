@@ -1,5 +1,6 @@
 -- When the time that a level allows for is over.
-use Rattle.std.specs.Prelude.{ℕ, ◌+◌, Bool, true, false, nat_le, if◌then◌else◌, Option, Some, None, option_and_then}
+use Rattle.std.specs.Prelude.{ℕ, ◌+◌, Bool, true, false, nat_le, if◌then◌else◌}
+use Rattle.std.specs.Prelude.{Option, Some, None, option_and_then}
 use Rattle.hours_core.specs.Counting.{first_of, add_of}
 use Rattle.hours_core.specs.Moment.{end_minute}
 use Rattle.hours_core.specs.declared.level.Limit.{Limit}

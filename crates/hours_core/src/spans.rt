@@ -1,5 +1,5 @@
-ghost use Rattle.std.specs.Prelude.{◌≡◌, ◌<◌, ◌≤◌, ℕ, ◌+◌, ◌||◌, [], length, min, OnOk};
-ghost use Rattle.std.specs.Prelude.{slice_index_or};
+ghost use Rattle.std.specs.Prelude.{◌≡◌, ◌<◌, ◌≤◌, ℕ, ◌+◌, ◌||◌, []};
+ghost use Rattle.std.specs.Prelude.{length, min, OnOk, slice_index_or};
 ghost use Rattle.hours_core.specs.Hours.{is_within};
 ghost use Rattle.hours_core.specs.Moment.{first_minute, end_minute};
 ghost use Rattle.hours_core.specs.Spans.{is_held, minutes_of, AreSpans, end_of};

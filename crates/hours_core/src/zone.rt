@@ -1,5 +1,5 @@
-ghost use Rattle.std.specs.Prelude.{◌≡◌, ◌≢◌, ◌⊎◌, ◌<◌, ◌≤◌, ◌+◌, ℕ, ℤ, true, ◌&&◌, length};
-ghost use Rattle.std.specs.Prelude.{pos, ◌+ℤ◌, ◌≤ℤ◌, neg_ℤ, IsOk, IfOk, IfErr};
+ghost use Rattle.std.specs.Prelude.{◌≡◌, ◌≢◌, ◌⊎◌, ◌<◌, ◌≤◌, ◌+◌, ℕ, ℤ, true, ◌&&◌};
+ghost use Rattle.std.specs.Prelude.{length, pos, ◌+ℤ◌, ◌≤ℤ◌, neg_ℤ, IsOk, IfOk, IfErr};
 ghost use Rattle.std.specs.List.{list_all};
 ghost use Rattle.hours_core.specs.Moment.{end_minute};
 ghost use Rattle.hours_core.specs.Zone as spec;

@@ -1,5 +1,6 @@
 -- Which parts make no lifecycle, and the numbers and names of their faults.
-use Rattle.std.specs.Prelude.{ℕ, Bool, false, not, ◌&&◌, ◌||◌, List, [], ◌∷◌, length, ◌==◌, Option, Some, None, codes, if◌then◌else◌}
+use Rattle.std.specs.Prelude.{ℕ, Bool, false, not, ◌&&◌, ◌||◌, List, [], ◌∷◌, length}
+use Rattle.std.specs.Prelude.{◌==◌, Option, Some, None, codes, if◌then◌else◌}
 use Rattle.std.specs.Option.{option_or}
 use Rattle.std.specs.List.{list_all, list_any}
 use Rattle.std.specs.Str.{bytes_eq}
@@ -7,7 +8,10 @@ use Rattle.text_core.specs.Form.{is_name, is_right_name}
 use Rattle.text_core.specs.Texts.{repeats_text}
 use Rattle.lifecycle_core.specs.Lifecycle.{any_status, is_status, may_create, statuses}
 use Rattle.lifecycle_core.specs.declared.fault.LifecycleFault.{LifecycleFault}
-use Rattle.lifecycle_core.specs.declared.fault.LifecycleFault.TheVariants.{BadName, Repeated, NoInitial, NoActive, UnknownStatus, SelfMove, BadOnCreate, NoMemory}
+use Rattle.lifecycle_core.specs.declared.fault.LifecycleFault.TheVariants.{BadName, Repeated}
+use Rattle.lifecycle_core.specs.declared.fault.LifecycleFault.TheVariants.{NoInitial, NoActive}
+use Rattle.lifecycle_core.specs.declared.fault.LifecycleFault.TheVariants.{UnknownStatus, SelfMove}
+use Rattle.lifecycle_core.specs.declared.fault.LifecycleFault.TheVariants.{BadOnCreate, NoMemory}
 use Rattle.lifecycle_core.specs.declared.parts.Move.{Move}
 use Rattle.lifecycle_core.specs.declared.parts.MoveRight.{MoveRight}
 use Rattle.lifecycle_core.specs.declared.parts.Parts.{Parts}

@@ -1,5 +1,6 @@
 -- What a lifecycle says of statuses, moves and their rights. A lifecycle is its parts, a status the list of its bytes.
-use Rattle.std.specs.Prelude.{ℕ, Bool, ◌&&◌, List, ◌++◌, Option, Some, None, find, unwrap_or, codes, if◌then◌else◌}
+use Rattle.std.specs.Prelude.{ℕ, Bool, ◌&&◌, List, ◌++◌, Option, Some}
+use Rattle.std.specs.Prelude.{None, find, unwrap_or, codes, if◌then◌else◌}
 use Rattle.std.specs.Option.{option_map}
 use Rattle.std.specs.List.{list_any}
 use Rattle.std.specs.Str.{bytes_eq}

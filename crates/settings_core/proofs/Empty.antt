@@ -4,13 +4,21 @@ use Rattle.std.specs.Result.{IfOk, IfErr}
 use Rattle.toml.specs.Data.{Members, no_members}
 use Rattle.toml.specs.Parse.{parse_document}
 use Rattle.toml.proofs.OnLiterals.{toml_on_literals}
-use Rattle.rights_core.specs.Right.{see_queue, create_ticket, show_ticket, show_ticket_comments, modify_ticket, reply_to_ticket, comment_on_ticket, own_ticket, take_ticket, steal_ticket, reassign_ticket, delete_ticket, watch, watch_as_admin_cc, admin_queue, super_user, standard_rights}
+use Rattle.rights_core.specs.Right.{see_queue, create_ticket, show_ticket}
+use Rattle.rights_core.specs.Right.{show_ticket_comments, modify_ticket, reply_to_ticket}
+use Rattle.rights_core.specs.Right.{comment_on_ticket, own_ticket, take_ticket, steal_ticket}
+use Rattle.rights_core.specs.Right.{reassign_ticket, delete_ticket, watch, watch_as_admin_cc}
+use Rattle.rights_core.specs.Right.{admin_queue, super_user, standard_rights}
 use Rattle.rights_core.specs.RightsFaults.{fault_of as rights_fault_of}
 use Rattle.settings_form.specs.Text.{IsTree}
 use Rattle.settings_core.specs.Reading.{table_fault, IsStated, IsSettingsOf}
 use Rattle.settings_core.specs.declared.settings.Settings.{Settings}
 use Rattle.settings_core.specs.declared.fault.SettingsFault.{SettingsFault}
-use Rattle.settings_core.specs.declared.fault.SettingsFault.TheVariants.{NotToml, UnknownKey, Missing, WrongKind, Hours, Lifecycle, Rights, UnknownName, BadToken, BadLimit, NoMemory}
+use Rattle.settings_core.specs.declared.fault.SettingsFault.TheVariants.{NotToml, UnknownKey}
+use Rattle.settings_core.specs.declared.fault.SettingsFault.TheVariants.{Missing, WrongKind}
+use Rattle.settings_core.specs.declared.fault.SettingsFault.TheVariants.{Hours, Lifecycle, Rights}
+use Rattle.settings_core.specs.declared.fault.SettingsFault.TheVariants.{UnknownName, BadToken}
+use Rattle.settings_core.specs.declared.fault.SettingsFault.TheVariants.{BadLimit, NoMemory}
 
 parsed : parse_document [] ≡ Some no_members
 unfolding toml_on_literals

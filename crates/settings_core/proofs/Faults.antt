@@ -3,7 +3,7 @@ use Rattle.std.proofs.Common.{◌≡◌, ◌≢◌, Option, Some, None, refl, sy
 use Rattle.std.specs.Option.{option_map, option_or}
 use Rattle.toml.specs.Data.{Members}
 use Rattle.settings_form.specs.Walk.{form_fault}
-use Rattle.settings_form.specs.declared.walk.FormFault.{FormFault}
+use Rattle.settings_form.specs.declared.fault.FormFault.{FormFault}
 use Rattle.hours_core.specs.declared.fault.HoursFault.{HoursFault}
 use Rattle.hours_core.specs.declared.fault.HoursFault.TheVariants as in_hours
 use Rattle.lifecycle_core.specs.declared.fault.LifecycleFault.{LifecycleFault}
@@ -13,7 +13,8 @@ use Rattle.rights_core.specs.declared.fault.RightsFault.TheVariants as in_rights
 use Rattle.settings_core.specs.Fault.{of_form, of_hours, of_lifecycle, of_rights}
 use Rattle.settings_core.specs.Reading.{build_fault, late_fault, table_fault, fault_of}
 use Rattle.settings_core.specs.declared.fault.SettingsFault.{SettingsFault}
-use Rattle.settings_core.specs.declared.fault.SettingsFault.TheVariants.{Hours, Lifecycle, Rights, NoMemory}
+use Rattle.settings_core.specs.declared.fault.SettingsFault.TheVariants.{Hours, Lifecycle}
+use Rattle.settings_core.specs.declared.fault.SettingsFault.TheVariants.{Rights, NoMemory}
 
 hours_kept : (e : HoursFault) → of_hours e ≢ NoMemory → (e ≢ in_hours.NoMemory) × (of_hours e ≡ Hours e)
 hours_kept in_hours.BadOffset n = (λ e. cc, refl)

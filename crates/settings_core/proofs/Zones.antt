@@ -1,5 +1,6 @@
 -- A calendar of its parts.
-use Rattle.std.proofs.Common.{◌≡◌, ℕ, Bool, true, false, not, List, None, Result, Ok, Err, sym, subst, if◌then◌else◌, ℤ}
+use Rattle.std.proofs.Common.{◌≡◌, ℕ, Bool, true, false, not, List, None}
+use Rattle.std.proofs.Common.{Result, Ok, Err, sym, subst, if◌then◌else◌, ℤ}
 use Rattle.std.specs.Option.{option_or}
 use Rattle.std.specs.Result.{IfOk, OnOk, result_err}
 use Rattle.hours_core.specs.Calendar.{HasHours}
@@ -7,7 +8,8 @@ use Rattle.hours_core.specs.Hours.{Hours, calendar_fault}
 use Rattle.hours_core.specs.Zone.{Offsets, zone_of}
 use Rattle.hours_core.specs.declared.calendar.Calendar.{Calendar}
 use Rattle.hours_core.specs.declared.fault.HoursFault.{HoursFault}
-use Rattle.hours_core.specs.declared.fault.HoursFault.TheVariants.{BadOffset, ChangesOutOfOrder, TooManyChanges}
+use Rattle.hours_core.specs.declared.fault.HoursFault.TheVariants.{BadOffset, ChangesOutOfOrder}
+use Rattle.hours_core.specs.declared.fault.HoursFault.TheVariants.{TooManyChanges}
 use Rattle.settings_core.specs.Calendars.{hours_fault}
 
 by_tests : (a b c : Bool) (whole zone : Offsets)

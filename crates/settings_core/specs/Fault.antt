@@ -9,12 +9,16 @@ use Rattle.lifecycle_core.specs.declared.fault.LifecycleFault.TheVariants as in_
 use Rattle.rights_core.specs.RightsFaults as rights
 use Rattle.rights_core.specs.declared.fault.RightsFault.{RightsFault}
 use Rattle.rights_core.specs.declared.fault.RightsFault.TheVariants as in_rights
-use Rattle.settings_form.specs.declared.walk.FormFault.{FormFault}
-use Rattle.settings_form.specs.declared.walk.FormFault.TheVariants as form
-use Rattle.settings_form.specs.declared.text.TextFault.{TextFault}
-use Rattle.settings_form.specs.declared.text.TextFault.TheVariants as in_text
+use Rattle.settings_form.specs.declared.fault.FormFault.{FormFault}
+use Rattle.settings_form.specs.declared.fault.FormFault.TheVariants as form
+use Rattle.settings_form.specs.declared.fault.TextFault.{TextFault}
+use Rattle.settings_form.specs.declared.fault.TextFault.TheVariants as in_text
 use Rattle.settings_core.specs.declared.fault.SettingsFault.{SettingsFault}
-use Rattle.settings_core.specs.declared.fault.SettingsFault.TheVariants.{NotToml, UnknownKey, Missing, WrongKind, Hours, Lifecycle, Rights, UnknownName, BadToken, BadLimit, NoMemory}
+use Rattle.settings_core.specs.declared.fault.SettingsFault.TheVariants.{NotToml, UnknownKey}
+use Rattle.settings_core.specs.declared.fault.SettingsFault.TheVariants.{Missing, WrongKind}
+use Rattle.settings_core.specs.declared.fault.SettingsFault.TheVariants.{Hours, Lifecycle, Rights}
+use Rattle.settings_core.specs.declared.fault.SettingsFault.TheVariants.{UnknownName, BadToken}
+use Rattle.settings_core.specs.declared.fault.SettingsFault.TheVariants.{BadLimit, NoMemory}
 
 abbrev pub number_of : SettingsFault → ℕ
 number_of NotToml = 1

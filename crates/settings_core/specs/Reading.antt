@@ -1,5 +1,6 @@
 -- The settings of a text, or its least fault.
-use Rattle.std.specs.Prelude.{◌≡◌, ◌⊎◌, ℕ, Bool, true, not, ◌&&◌, List, Option, Some, None, codes, if◌then◌else◌}
+use Rattle.std.specs.Prelude.{◌≡◌, ◌⊎◌, ℕ, Bool, true, not, ◌&&◌, List}
+use Rattle.std.specs.Prelude.{Option, Some, None, codes, if◌then◌else◌}
 use Rattle.std.specs.List.{list_all}
 use Rattle.std.specs.Option.{option_map, option_map_or, option_or}
 use Rattle.toml.specs.Data.{Members}
@@ -14,10 +15,13 @@ use Rattle.settings_core.specs.Fault.{of_form}
 use Rattle.settings_core.specs.Levels.{have_limits, level_under, levels_of}
 use Rattle.settings_core.specs.Lifecycles.{lifecycle_under, lifecycles_fault, lifecycles_of}
 use Rattle.settings_core.specs.Names.{knows_names}
-use Rattle.settings_core.specs.Settings.{people_of, lifecycle_named, calendar_named, level_named, person_of_token, request_limit, entry_limit}
+use Rattle.settings_core.specs.Settings.{people_of, lifecycle_named, calendar_named, level_named}
+use Rattle.settings_core.specs.Settings.{person_of_token, request_limit, entry_limit}
 use Rattle.settings_core.specs.Tokens.{is_token, person_under, tokens_of}
 use Rattle.settings_core.specs.declared.fault.SettingsFault.{SettingsFault}
-use Rattle.settings_core.specs.declared.fault.SettingsFault.TheVariants.{NotToml, Hours, Lifecycle, Rights, UnknownName, BadToken, BadLimit}
+use Rattle.settings_core.specs.declared.fault.SettingsFault.TheVariants.{NotToml, Hours, Lifecycle}
+use Rattle.settings_core.specs.declared.fault.SettingsFault.TheVariants.{Rights, UnknownName}
+use Rattle.settings_core.specs.declared.fault.SettingsFault.TheVariants.{BadToken, BadLimit}
 use Rattle.settings_core.specs.declared.settings.Settings.{Settings}
 
 -- a number at a key, from 1 to the most, which is the number of a text without the key

@@ -1,13 +1,13 @@
 ghost use Rattle.std.specs.Prelude.{◌≡◌};
 ghost use Rattle.std.specs.Option.{option_map};
-ghost use Rattle.settings_core.specs.Fault.{number_of, name_of, inner_of, of_text, of_hours, of_lifecycle, of_rights};
+ghost use Rattle.settings_core.specs.Fault.{number_of, name_of, inner_of, of_text};
+ghost use Rattle.settings_core.specs.Fault.{of_hours, of_lifecycle, of_rights};
 ghost use Rattle.settings_core.specs.declared.fault.SettingsFault.TheVariants.{NoMemory};
 
 use hours_core::HoursFault;
 use lifecycle_core::LifecycleFault;
 use rights_core::RightsFault;
-use settings_form::text::TextFault;
-use settings_form::walk::FormFault;
+use settings_form::fault::{FormFault, TextFault};
 use std::alloc::AllocError;
 use thiserror::Error;
 

@@ -1,14 +1,16 @@
 -- Walks of a map's entries beside walks of the members that they stand for.
-use Rattle.std.proofs.Common.{◌≡◌, ◌<◌, ◌≤◌, false, length, arith, List, [], ◌∷◌, String, Global, string_bytes, is_none, refl}
+use Rattle.std.proofs.Common.{◌≡◌, ◌<◌, ◌≤◌, false, length, arith, List, []}
+use Rattle.std.proofs.Common.{◌∷◌, String, Global, string_bytes, refl}
 use Rattle.std.specs.List.{list_any}
 use Rattle.std.specs.Map.{keys_of}
 use Rattle.toml.specs.declared.value.Value.{Value}
 use Rattle.toml.specs.View.{items_view, members_view}
 use Rattle.settings_form.specs.declared.form.Place.{Place}
-use Rattle.settings_form.specs.Form.{kind_of}
-use Rattle.settings_form.specs.Kinds.{has_unknown_key, are_two}
+use Rattle.settings_form.specs.Kinds.{has_unknown_key, is_unknown, are_two}
 
-pub unknown_keys : (p : Place) (es : List (String Global × Value)) → list_any (λ k. is_none (kind_of p (string_bytes k))) (keys_of es) ≡ has_unknown_key p (members_view es)
+pub unknown_keys : (p : Place) (es : List (String Global × Value))
+    → list_any (λ k. is_unknown p (string_bytes k)) (keys_of es)
+    ≡ has_unknown_key p (members_view es)
 unknown_keys p [] = refl
 unknown_keys p (e ∷ es) = rw (unknown_keys p es)
 

@@ -1,10 +1,15 @@
 -- The form of a settings text: the keys of its tables, and what stands at each.
-use Rattle.std.specs.Prelude.{ℕ, Bool, true, false, List, [], ◌∷◌, map, Option, Some, None, codes, if◌then◌else◌}
+use Rattle.std.specs.Prelude.{ℕ, Bool, true, false, List, [], ◌∷◌, map}
+use Rattle.std.specs.Prelude.{Option, Some, None, codes, if◌then◌else◌}
 use Rattle.std.specs.Str.{bytes_eq}
 use Rattle.settings_form.specs.declared.form.Place.{Place}
-use Rattle.settings_form.specs.declared.form.Place.TheVariants.{Top, Groups, Grant, Tokens, Lifecycles, Lifecycle, Transitions, RightNames, Calendars, Calendar, Levels, Level, Limit}
+use Rattle.settings_form.specs.declared.form.Place.TheVariants.{Top, Groups, Grant, Tokens}
+use Rattle.settings_form.specs.declared.form.Place.TheVariants.{Lifecycles, Lifecycle, Transitions}
+use Rattle.settings_form.specs.declared.form.Place.TheVariants.{RightNames, Calendars, Calendar}
+use Rattle.settings_form.specs.declared.form.Place.TheVariants.{Levels, Level, Limit}
 use Rattle.settings_form.specs.declared.form.TextForm.{TextForm}
-use Rattle.settings_form.specs.declared.form.TextForm.TheVariants.{Any, Name, To, RightKey, Day, Interval}
+use Rattle.settings_form.specs.declared.form.TextForm.TheVariants.{Any, Name, To, RightKey}
+use Rattle.settings_form.specs.declared.form.TextForm.TheVariants.{Day, Interval}
 use Rattle.settings_form.specs.declared.form.Item.TheVariants.{Integer, Boolean, Text, Pair, Table}
 use Rattle.settings_form.specs.declared.form.Kind.{Kind}
 use Rattle.settings_form.specs.declared.form.Kind.TheVariants.{One, Many}
@@ -18,7 +23,7 @@ pub record Field : Type 0 where
   pub is_required : Bool
   pub kind : Kind
 
--- these keys alone; these alone and at least one of them; any keys of a form, with one kind of value
+-- these keys alone; these alone and at least one of them; any keys of a form, all with one kind
 pub data Keys : Type 0 where
   listed : List Field → Keys
   one_of : List Field → Keys

@@ -1,6 +1,8 @@
 -- Whether a value is of a kind, no table inside it looked into.
-use Rattle.std.specs.Prelude.{ℕ, Bool, true, false, not, ◌&&◌, ◌||◌, List, [], ◌∷◌, Option, Some, None, is_none}
-use Rattle.toml.specs.Data.{Data, string, integer, boolean, array, table, Items, no_items, item, Members, no_members, member, get_member}
+use Rattle.std.specs.Prelude.{ℕ, Bool, true, false, not, ◌&&◌, ◌||◌}
+use Rattle.std.specs.Prelude.{List, [], ◌∷◌, Option, Some, None, is_none}
+use Rattle.toml.specs.Data.{Data, string, integer, boolean, array, table, Items}
+use Rattle.toml.specs.Data.{no_items, item, Members, no_members, member, get_member}
 use Rattle.settings_form.specs.declared.form.Place.{Place}
 use Rattle.settings_form.specs.declared.form.TextForm.{TextForm}
 use Rattle.settings_form.specs.declared.form.Item.{Item}
@@ -68,10 +70,14 @@ has_kind_if_known (Some kind) d = has_kind kind d
 abbrev pub is_right_at : Place → List ℕ → Data → Bool
 is_right_at p k d = is_key (keys p) k && has_kind_if_known (kind_of p k) d
 
+-- the form of the place doesn't have the key
+abbrev pub is_unknown : Place → List ℕ → Bool
+is_unknown p k = is_none (kind_of p k)
+
 -- a table of the place has a key that its form does not have
 abbrev pub has_unknown_key : Place → Members → Bool
 has_unknown_key p no_members = false
-has_unknown_key p (member k d ms) = is_none (kind_of p k) || has_unknown_key p ms
+has_unknown_key p (member k d ms) = is_unknown p k || has_unknown_key p ms
 
 abbrev pub lacks_at : List ℕ → Members → Bool
 lacks_at k ms = is_none (get_member k ms)

@@ -1,3 +1,4 @@
+pub mod Fault
 pub mod Form
 pub mod TextForms
 pub mod Kinds

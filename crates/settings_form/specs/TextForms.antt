@@ -1,22 +1,29 @@
 -- The forms of texts.
-use Rattle.std.specs.Prelude.{ℕ, ◌+◌, ◌-◌, ◌*◌, ◌==◌, eqb, nat_le, Bool, true, false, not, ◌&&◌, ◌||◌, if◌then◌else◌, List, [], ◌∷◌, length, slice_index, codes, pos, unsigned_abs}
+use Rattle.std.specs.Prelude.{ℕ, ◌+◌, ◌-◌, ◌*◌, ◌==◌, eqb, nat_le, Bool, true}
+use Rattle.std.specs.Prelude.{false, not, ◌&&◌, ◌||◌, if◌then◌else◌, List, []}
+use Rattle.std.specs.Prelude.{◌∷◌, length, slice_index, codes, pos, unsigned_abs}
 use Rattle.std.specs.Str.{bytes_eq}
 use Rattle.std.specs.List.{starts_with, list_any, before_first, after_first}
 use Rattle.jiff.specs.Words.{days_in_month}
 use Rattle.jiff_core.specs.Calendar.{days_from_civil}
 use Rattle.text_core.specs.Form as text
 use Rattle.settings_form.specs.declared.form.TextForm.{TextForm}
-use Rattle.settings_form.specs.declared.form.TextForm.TheVariants.{Any, Name, To, RightKey, Day, Interval}
+use Rattle.settings_form.specs.declared.form.TextForm.TheVariants.{Any, Name, To, RightKey}
+use Rattle.settings_form.specs.declared.form.TextForm.TheVariants.{Day, Interval}
 
 abbrev pub is_role : List ℕ → Bool
-is_role s = bytes_eq s (codes "role:owner") || bytes_eq s (codes "role:requestor") || bytes_eq s (codes "role:cc") || bytes_eq s (codes "role:admincc")
+is_role s =
+    bytes_eq s (codes "role:owner") || bytes_eq s (codes "role:requestor")
+    || bytes_eq s (codes "role:cc") || bytes_eq s (codes "role:admincc")
 
 abbrev pub begins : List ℕ → List ℕ → Bool
 begins s start = starts_with eqb s start
 
 -- whom a grant is for
 abbrev pub is_to : List ℕ → Bool
-is_to s = bytes_eq s (codes "everyone") || is_role s || begins s (codes "person:") || begins s (codes "group:")
+is_to s =
+    bytes_eq s (codes "everyone") || is_role s
+    || begins s (codes "person:") || begins s (codes "group:")
 
 abbrev pub is_space : ℕ → Bool
 is_space b = eqb b 32
@@ -33,7 +40,9 @@ is_word s = nat_le 1 (length s) && not (list_any is_space s)
 
 -- two words, and between them an arrow with one space on each side
 abbrev pub is_right_key : List ℕ → Bool
-is_right_key s = is_word (before_space s) && bytes_eq (before_space (after_space s)) (codes "->") && is_word (after_space (after_space s))
+is_right_key s =
+    is_word (before_space s) && bytes_eq (before_space (after_space s)) (codes "->")
+    && is_word (after_space (after_space s))
 
 -- the byte is the pattern's, or a digit where that is '0'
 abbrev pub is_like : ℕ → ℕ → Bool
@@ -52,7 +61,8 @@ two s i = (slice_index s i - 48) * 10 + (slice_index s (i + 1) - 48)
 -- a day of 2000 to 2099
 abbrev pub is_date : ℕ → ℕ → ℕ → Bool
 is_date y m d =
-    nat_le 2000 y && nat_le y 2099 && nat_le 1 m && nat_le m 12 && nat_le 1 d && nat_le d (days_in_month (pos y) m)
+    nat_le 2000 y && nat_le y 2099 && nat_le 1 m && nat_le m 12
+    && nat_le 1 d && nat_le d (days_in_month (pos y) m)
 
 -- the number of a day, where 1970-01-01 is day 0
 abbrev pub day_number : ℕ → ℕ → ℕ → ℕ
@@ -73,7 +83,8 @@ abbrev pub is_time : ℕ → ℕ → Bool
 is_time h m = (nat_le h 23 && nat_le m 59) || ((h == 24) && (m == 0))
 
 abbrev pub is_interval : List ℕ → Bool
-is_interval s = fits (codes "00:00-00:00") s && is_time (two s 0) (two s 3) && is_time (two s 6) (two s 9)
+is_interval s =
+    fits (codes "00:00-00:00") s && is_time (two s 0) (two s 3) && is_time (two s 6) (two s 9)
 
 -- the minute of a time, counted from 00:00
 abbrev pub minute_of : ℕ → ℕ → ℕ

@@ -1,4 +1,4 @@
--- The faults of form of a whole settings text: those of each table that stands where a table belongs.
+-- The faults of form of a whole settings text: those of each table that stands where one belongs.
 use Rattle.std.specs.Prelude.{Bool, false, ◌||◌, Option, Some, None, if◌then◌else◌}
 use Rattle.toml.specs.Data.{Data, array, table, Items, no_items, item, Members, no_members, member}
 use Rattle.settings_form.specs.declared.form.Place.{Place}
@@ -6,8 +6,8 @@ use Rattle.settings_form.specs.declared.form.Place.TheVariants.{Top}
 use Rattle.settings_form.specs.declared.form.Item.TheVariants.{Table}
 use Rattle.settings_form.specs.declared.form.Kind.{Kind}
 use Rattle.settings_form.specs.declared.form.Kind.TheVariants.{One, Many}
-use Rattle.settings_form.specs.declared.walk.FormFault.{FormFault}
-use Rattle.settings_form.specs.declared.walk.FormFault.TheVariants.{UnknownKey, Missing, WrongKind}
+use Rattle.settings_form.specs.declared.fault.FormFault.{FormFault}
+use Rattle.settings_form.specs.declared.fault.FormFault.TheVariants.{UnknownKey, Missing, WrongKind}
 use Rattle.settings_form.specs.Form.{kind_of}
 use Rattle.settings_form.specs.Kinds.{has_unknown_key, lacks_key, has_wrong_kind}
 

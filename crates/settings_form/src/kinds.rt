@@ -1,4 +1,4 @@
-ghost use Rattle.std.specs.Prelude.{◌≡◌, not, is_none, ◌&&◌, string_bytes, option_map, map};
+ghost use Rattle.std.specs.Prelude.{◌≡◌, string_bytes, option_map, map};
 ghost use Rattle.std.specs.List.{list_any};
 ghost use Rattle.std.specs.BTreeMap.{keys as map_keys};
 ghost use Rattle.toml.specs.Data.{get_member};
@@ -113,7 +113,7 @@ fn is_right_at(place: Place, key: &str, value: &Value) -> bool
 }
 
 fn has_any_unknown(place: Place, table: &Table) -> bool
-    ensures { result ≡ list_any (λ k. is_none (form.kind_of place (string_bytes k))) (map_keys table.now) }
+    ensures { result ≡ list_any (λ k. kinds.is_unknown place (string_bytes k)) (map_keys table.now) }
 {
     table
         .keys()

@@ -2,6 +2,7 @@
 #![tactic(auto)]
 
 mod dates;
+pub mod fault;
 pub mod form;
 pub mod kinds;
 pub mod text;

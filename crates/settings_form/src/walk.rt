@@ -2,18 +2,11 @@ ghost use Rattle.std.specs.Prelude.{◌≡◌};
 ghost use Rattle.toml.specs.View.{view, array_view, table_view};
 ghost use Rattle.settings_form.specs.Walk as walk;
 
+use crate::fault::FormFault;
 use crate::form::{Item, Kind, Place, kind_of};
 use crate::kinds::{has_unknown_key, has_wrong_kind, lacks_key};
 use toml::value::Array;
 use toml::{Table, Value};
-
-/// A fault of form.
-#[derive(Clone, Copy, Debug)]
-pub enum FormFault {
-    UnknownKey,
-    Missing,
-    WrongKind,
-}
 
 /// Whether a table of the place has the fault itself.
 fn has_itself(fault: FormFault, place: Place, table: &Table) -> bool

@@ -1,8 +1,10 @@
 -- A value of its kind is made again of what is read of it.
 use Rattle.std.proofs.Common.{◌≡◌, Bool, true, false, ◌&&◌, refl, ap}
 use Rattle.std.proofs.lemmas.Bool.{and_parts}
-use Rattle.toml.specs.Data.{Data, string, integer, float, boolean, datetime, array, table, Items, no_items, item}
-use Rattle.settings_form.specs.Kinds.{has_kind, is_item, is_text, is_integer, is_pair, are_items, are_two}
+use Rattle.toml.specs.Data.{Data, string, integer, float, boolean}
+use Rattle.toml.specs.Data.{datetime, array, table, Items, no_items, item}
+use Rattle.settings_form.specs.Kinds.{has_kind, is_item, is_text, is_integer}
+use Rattle.settings_form.specs.Kinds.{is_pair, are_items, are_two}
 use Rattle.settings_form.specs.TextForms.{has_form}
 use Rattle.settings_form.specs.declared.form.TextForm.{TextForm}
 use Rattle.settings_form.specs.declared.form.Place.{Place}

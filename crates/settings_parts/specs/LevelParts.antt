@@ -1,5 +1,7 @@
 -- A level, and which limits it may have.
-use Rattle.std.specs.Prelude.{ℕ, ℤ, pos, int_le, unsigned_abs, Bool, true, false, ◌&&◌, List, [], Option, Some, None, is_some, unwrap_or, option_and_then, codes, if◌then◌else◌}
+use Rattle.std.specs.Prelude.{ℕ, ℤ, pos, int_le, unsigned_abs, Bool, true, false}
+use Rattle.std.specs.Prelude.{◌&&◌, List, [], Option, Some, None, is_some}
+use Rattle.std.specs.Prelude.{unwrap_or, option_and_then, codes, if◌then◌else◌}
 use Rattle.std.specs.Option.{option_map, option_map_or}
 use Rattle.toml.specs.Data.{Members, get_member, as_table}
 use Rattle.hours_core.specs.declared.level.Level.{Level}

@@ -4,7 +4,8 @@ ghost use Rattle.std.specs.Prelude.{◌≡◌, ◌++◌, [], IfOk, map, unwrap_o
 ghost use Rattle.toml.specs.View.{array_view, table_view};
 ghost use Rattle.std.specs.Option.{option_copied};
 ghost use Rattle.settings_parts.specs.PeopleParts as spec;
-ghost use Rattle.settings_parts.specs.Values.{text_at as text_at_key, table_at as members_at, items_at};
+ghost use Rattle.settings_parts.specs.Values.{text_at as text_at_key};
+ghost use Rattle.settings_parts.specs.Values.{table_at as members_at, items_at};
 
 use crate::values::{
     array_at, has_key, table_at, text_at, text_of, text_or_empty, texts_at, texts_of,

@@ -1,4 +1,5 @@
-use Rattle.std.proofs.Common.{◌≡◌, ◌++◌, ◌∷◌, [], List, append_assoc, string_bytes, subst, sym, rules, ◌∙◌}
+use Rattle.std.proofs.Common.{◌≡◌, ◌++◌, ◌∷◌, [], List, append_assoc}
+use Rattle.std.proofs.Common.{string_bytes, subst, sym, rules, ◌∙◌}
 use Rattle.toml.specs.View.{view}
 use Rattle.settings_parts.specs.CalendarParts.{hours_of}
 use Rattle.settings_parts.specs.Values.{members_of}

@@ -4,7 +4,8 @@ use Rattle.settings_core.specs.Calendars.{HaveHours, hours_in, standard_calendar
 use Rattle.settings_core.specs.declared.named.NamedCalendar.{NamedCalendar}
 use Rattle.settings_core.proofs.Found.{none_more, one_more_if}
 use Rattle.settings_core.proofs.calendars.with_standard.Goals as goal
-use Rattle.settings_core.proofs.calendars.with_standard.Goals.{then-not-has_key+in_ok-new+in_ok-standard_calendar+in_ok-map_err, else-not-has_key}
+use Rattle.settings_core.proofs.calendars.with_standard.Goals.{then-not-has_key+in_ok-new+in_ok-standard_calendar+in_ok-map_err}
+use Rattle.settings_core.proofs.calendars.with_standard.Goals.{else-not-has_key}
 
 pub returns-clause-ok : goal.returns-clause-ok
 returns-clause-ok c =

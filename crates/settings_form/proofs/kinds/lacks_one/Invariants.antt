@@ -5,4 +5,6 @@ use Rattle.settings_form.specs.Kinds.{lacks_one}
 use Rattle.settings_form.proofs.kinds.lacks_one.Given as goal
 
 abbrev pub invariant-loop-row : goal.invariant-loop-row
-invariant-loop-row l = lacks_one (map field_of (drop l.row-index l.rows)) (table_view l.table) ≡ lacks_one (map field_of l.rows) (table_view l.table)
+invariant-loop-row l =
+    lacks_one (map field_of (drop l.row-index l.rows)) (table_view l.table)
+    ≡ lacks_one (map field_of l.rows) (table_view l.table)

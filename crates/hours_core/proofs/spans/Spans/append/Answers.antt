@@ -1,9 +1,11 @@
 use Rattle.std.proofs.Common.{◌≡◌, ◌<◌, length, arith}
 use Rattle.std.proofs.lemmas.Grind.{common_steps}
 use Rattle.hours_core.specs.Moment.{first_minute}
-use Rattle.hours_core.proofs.SpanLemmas.{before_small, last, end_of-last, Appends, first_added, lengthened, added}
+use Rattle.hours_core.proofs.SpanLemmas.{before_small, last, end_of-last}
+use Rattle.hours_core.proofs.SpanLemmas.{Appends, first_added, lengthened, added}
 use Rattle.hours_core.proofs.spans.Spans.append.Goals as goal
-use Rattle.hours_core.proofs.spans.Spans.append.Goals.{in-Some, in-Some-2+in_ok-push-in-Some-2, in-None}
+use Rattle.hours_core.proofs.spans.Spans.append.Goals.{in-Some, in-Some-2+in_ok-push-in-Some-2}
+use Rattle.hours_core.proofs.spans.Spans.append.Goals.{in-None}
 
 pub overflow_add-before : goal.overflow_add-before
 overflow_add-before c =
