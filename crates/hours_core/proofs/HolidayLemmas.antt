@@ -10,14 +10,17 @@ use Rattle.std.proofs.lemmas.Bool.{cases_lt, ne_eqb}
 use Rattle.std.proofs.lemmas.List.Folds.{list_any_at}
 use Rattle.std.proofs.lemmas.List.Sorted.{searched}
 
-none_at : (p : ℕ → Bool) (xs : List ℕ) → ((k : ℕ) → k < length xs → p (get_or xs k 0) ≡ false) → list_any p xs ≡ false
+none_at : (p : ℕ → Bool) (xs : List ℕ) → ((k : ℕ) → k < length xs → p (get_or xs k 0) ≡ false)
+    → list_any p xs ≡ false
 none_at p [] none = refl
 none_at p (x ∷ xs) none =
     let here = none 0 (omega arith) in
     rw here (none_at p xs (λ k h. none (suc k) (omega arith)))
 
 by_place : (day : ℕ) (xs : List ℕ) (r : Result ℕ ℕ)
-    → MatchResult r (λ i. (i < length xs) × (get_or xs i 0 ≡ day)) (λ i. (i ≤ length xs) × ((k : ℕ) → k < i → get_or xs k 0 < day) × ((k : ℕ) → i ≤ k → k < length xs → day < get_or xs k 0))
+    → MatchResult r (λ i. (i < length xs) × (get_or xs i 0 ≡ day))
+    (λ i. (i ≤ length xs) × ((k : ℕ) → k < i → get_or xs k 0 < day)
+    × ((k : ℕ) → i ≤ k → k < length xs → day < get_or xs k 0))
     → is_ok r ≡ list_any (λ holiday. holiday == day) xs
 by_place day xs (Ok i) h = sym (list_any_at (λ holiday. holiday == day) xs i 0 h.0 (eq-eqb _ _ h.1))
 by_place day xs (Err i) h =
@@ -27,6 +30,8 @@ by_place day xs (Err i) h =
       | inr from ↦ omega (arith, h.2 k from within)
     ])))
 
-pub found : (day : ℕ) (xs : List ℕ) (r : Result ℕ ℕ) → IsBinarySearchResult (λ y. nat_cmp y day) xs r → IsNonDecreasing xs
+pub found : (day : ℕ) (xs : List ℕ) (r : Result ℕ ℕ)
+    → IsBinarySearchResult (λ y. nat_cmp y day) xs r → IsNonDecreasing xs
     → is_ok r ≡ list_any (λ holiday. holiday == day) xs
-found day xs r h rises = by_place day xs r (searched xs day r h (λ i j low high. rises i j 0 low high))
+found day xs r h rises =
+    by_place day xs r (searched xs day r h (λ i j low high. rises i j 0 low high))

@@ -22,14 +22,18 @@ inside midnight from to s e m h low high =
     elim (cases_lt (m - midnight) s) [
       | inl before ↦ rw (under s e (m - midnight) before, under a b m (omega arith)) refl
       | inr begun ↦ elim (cases_lt (m - midnight) e) [
-        | inl still ↦ rw (within s e (m - midnight) begun still, within a b m (omega arith) (omega arith)) refl
+        | inl still ↦ rw (
+          within s e (m - midnight) begun still,
+          within a b m (omega arith) (omega arith),
+        ) refl
         | inr after ↦ rw (over s e (m - midnight) after, over a b m (omega arith)) refl
       ]
     ]
 
 -- the part of a local interval that lies between two minutes
 pub clipped : (midnight from to s e m : ℕ) → midnight ≤ from
-    → is_within m (max from (midnight + s), min to (midnight + e)) ≡ (is_within m (from, to) && is_within (m - midnight) (s, e))
+    → is_within m (max from (midnight + s), min to (midnight + e))
+    ≡ (is_within m (from, to) && is_within (m - midnight) (s, e))
 clipped midnight from to s e m h =
     let a = max from (midnight + s) in
     let b = min to (midnight + e) in
@@ -42,7 +46,8 @@ clipped midnight from to s e m h =
     ]
 
 -- one interval more
-pub one_more : (old between some more : Bool) → ((old || (between && some)) || (between && more)) ≡ (old || (between && (some || more)))
+pub one_more : (old between some more : Bool)
+    → ((old || (between && some)) || (between && more)) ≡ (old || (between && (some || more)))
 one_more true between some more = refl
 one_more false true some more = refl
 one_more false false some more = refl
@@ -56,16 +61,21 @@ nothing_more a b m false h =
       | inr from ↦ rw (over a b m (omega arith)) refl
     ]
 
-pub next_interval : (e : ℕ) (interval : ℕ × ℕ) (intervals : List (ℕ × ℕ)) → are_intervals e (interval ∷ intervals) ≡ true
-    → (e ≤ interval.0) × (interval.0 < interval.1) × (interval.1 ≤ 1440) × (are_intervals interval.1 intervals ≡ true)
+pub next_interval : (e : ℕ) (interval : ℕ × ℕ) (intervals : List (ℕ × ℕ))
+    → are_intervals e (interval ∷ intervals) ≡ true
+    → (e ≤ interval.0) × (interval.0 < interval.1) × (interval.1 ≤ 1440)
+    × (are_intervals interval.1 intervals ≡ true)
 next_interval e interval intervals h =
-    let p = and_parts (nat_le e interval.0 && nat_lt interval.0 interval.1 && nat_le interval.1 1440) (are_intervals interval.1 intervals) h in
-    let q = and_parts (nat_le e interval.0 && nat_lt interval.0 interval.1) (nat_le interval.1 1440) p.0 in
+    let p = and_parts (nat_le e interval.0 && nat_lt interval.0 interval.1
+    && nat_le interval.1 1440) (are_intervals interval.1 intervals) h in
+    let q = and_parts (nat_le e interval.0 && nat_lt interval.0 interval.1)
+    (nat_le interval.1 1440) p.0 in
     let r = and_parts (nat_le e interval.0) (nat_lt interval.0 interval.1) q.0 in
     (leb-true _ _ r.0, ltb-true _ _ r.1, leb-true _ _ q.1, p.1)
 
 -- a minute of a local day is open where the day's intervals hold it
-open_at : (hours : Hours) (m day minute : ℕ) → first_minute ≤ m → m < end_minute → minute < 1440 → local_minute hours.zone m ≡ day * 1440 + minute
+open_at : (hours : Hours) (m day minute : ℕ) → first_minute ≤ m → m < end_minute → minute < 1440
+    → local_minute hours.zone m ≡ day * 1440 + minute
     → is_open hours m ≡ is_open_on hours day minute
 unfolding is_open
 open_at hours m day minute low high small e =
@@ -77,28 +87,54 @@ and-true : (a b : Bool) → a ≡ b → a ≡ (true && b)
 and-true a b e = e
 
 -- a stretch of a local day more
-pub held_more : (hours : Hours) (point next midnight day : ℕ) (intervals : List (ℕ × ℕ)) (old new : List Span) → HoldBefore hours point old
-    → first_minute ≤ point → midnight ≤ point → point ≤ next → next ≤ midnight + 1440 → next ≤ end_minute
+pub held_more : (hours : Hours) (point next midnight day : ℕ) (intervals : List (ℕ × ℕ))
+    (old new : List Span) → HoldBefore hours point old
+    → first_minute ≤ point → midnight ≤ point → point ≤ next → next ≤ midnight + 1440
+    → next ≤ end_minute
     → ((m : ℕ) → point ≤ m → m < next → local_minute hours.zone m ≡ day * 1440 + (m - midnight))
     → ((minute : ℕ) → list_any (is_within minute) intervals ≡ is_open_on hours day minute)
-    → ((m : ℕ) → is_held new m ≡ (is_held old m || (is_within m (point, next) && list_any (is_within (m - midnight)) intervals)))
+    → ((m : ℕ) → is_held new m
+    ≡ (is_held old m || (is_within m (point, next)
+    && list_any (is_within (m - midnight)) intervals)))
     → end_of first_minute new ≤ next
     → HoldBefore hours next new
-held_more hours point next midnight day intervals old new before low begins order short high clock opens grown last = record {
-  held = λ m.
-      elim (cases_lt m point) [
-        | inl early ↦
-            rw (grown m, before.held m, under point next m early, lt-ltb m point early, lt-ltb m next (omega arith)) (or-false (is_open hours m))
-        | inr from ↦ elim (cases_lt m next) [
-          | inl inside ↦
-              rw (grown m, before.held m, within point next m from inside, le-ltb m point from, lt-ltb m next inside)
-              (opens (m - midnight) ∙ sym (open_at hours m day (m - midnight) (omega arith) (omega arith) (omega arith) (clock m from inside)))
-          | inr late ↦
-              rw (grown m, before.held m, over point next m late, le-ltb m point from, le-ltb m next late) refl
-        ]
-      ];
-  last = last;
-}
+held_more hours point next midnight day intervals old new before low begins order short high clock
+    opens grown last = record {
+      held = λ m.
+          elim (cases_lt m point) [
+            | inl early ↦
+                rw (
+                  grown m,
+                  before.held m,
+                  under point next m early,
+                  lt-ltb m point early,
+                  lt-ltb m next (omega arith),
+                ) (or-false (is_open hours m))
+            | inr from ↦ elim (cases_lt m next) [
+              | inl inside ↦
+                  rw (
+                    grown m,
+                    before.held m,
+                    within point next m from inside,
+                    le-ltb m point from,
+                    lt-ltb m next inside,
+                  )
+                  (opens (m - midnight)
+                  ∙ sym
+                  (open_at hours m day (m - midnight) (omega arith) (omega arith) (omega arith)
+                  (clock m from inside)))
+              | inr late ↦
+                  rw (
+                    grown m,
+                    before.held m,
+                    over point next m late,
+                    le-ltb m point from,
+                    le-ltb m next late,
+                  ) refl
+            ]
+          ];
+      last = last;
+    }
 
 -- before the first moment nothing is open
 pub none_yet : (hours : Hours) → HoldBefore hours first_minute []
@@ -113,23 +149,33 @@ none_yet hours = record {
 }
 
 -- before the end of all moments everything is
-pub all_held : (hours : Hours) (point m : ℕ) (spans : List Span) → HoldBefore hours point spans → end_minute ≤ point → is_held spans m ≡ is_open hours m
+pub all_held : (hours : Hours) (point m : ℕ) (spans : List Span) → HoldBefore hours point spans
+    → end_minute ≤ point → is_held spans m ≡ is_open hours m
 unfolding is_open
 all_held hours point m spans before h =
     elim (cases_lt m point) [
       | inl early ↦ before.held m ∙ rw (lt-ltb m point early) refl
-      | inr late ↦ before.held m ∙ rw (le-ltb m point late, le-ltb m end_minute (omega arith), and-false (nat_le first_minute m)) refl
+      | inr late ↦ before.held m
+          ∙ rw (
+            le-ltb m point late,
+            le-ltb m end_minute (omega arith),
+            and-false (nat_le first_minute m),
+          ) refl
     ]
 
 -- the order of holidays, and how often each is named, doesn't matter
-pub same_holidays : (zone : Offsets) (week : List (List (ℕ × ℕ))) (years : ℤ × ℤ) (xs ys : List ℕ) (m : ℕ)
-    → ((day : ℕ) → list_any (λ holiday. holiday == day) xs ≡ list_any (λ holiday. holiday == day) ys)
-    → is_open (record { zone = zone; week = week; holidays = xs; years = years }) m ≡ is_open (record { zone = zone; week = week; holidays = ys; years = years }) m
+pub same_holidays : (zone : Offsets) (week : List (List (ℕ × ℕ))) (years : ℤ × ℤ) (xs ys : List ℕ)
+    (m : ℕ)
+    → ((day : ℕ) → list_any (λ holiday. holiday == day) xs
+    ≡ list_any (λ holiday. holiday == day) ys)
+    → is_open (record { zone = zone; week = week; holidays = xs; years = years }) m
+    ≡ is_open (record { zone = zone; week = week; holidays = ys; years = years }) m
 unfolding is_open
 same_holidays zone week years xs ys m same = rw (same (local_minute zone m / 1440)) refl
 
 -- the local minute of a later moment with the same offset
-pub clock_at : (point local m : ℕ) (offset : ℤ) → pos local ≡ pos point +ℤ offset → point ≤ m → 1440 ≤ point
+pub clock_at : (point local m : ℕ) (offset : ℤ) → pos local ≡ pos point +ℤ offset → point ≤ m
+    → 1440 ≤ point
     → unsigned_abs (pos m +ℤ offset) ≡ local / 1440 * 1440 + (m - (point - local % 1440))
 clock_at point local m offset e low day =
     let moved : pos m +ℤ offset ≡ pos (local + (m - point)) = omega (arith, ints) in

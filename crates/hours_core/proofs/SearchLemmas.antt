@@ -19,36 +19,49 @@ abbrev pub Rises : (Span → Bool) → List Span → Type 0
 Rises p [] = Unit {0}
 Rises p (x ∷ xs) = (p x ≡ true → list_all p xs ≡ true) × Rises p xs
 
-all_end : (m e b : ℕ) (xs : List Span) → AreSpans e b xs → m < e → list_all (reaches (EndsAfter m)) xs ≡ true
+all_end : (m e b : ℕ) (xs : List Span) → AreSpans e b xs → m < e
+    → list_all (reaches (EndsAfter m)) xs ≡ true
 all_end m e b [] h k = refl
 all_end m e b (x ∷ xs) h k =
     let start = h.0 in
     let some = h.1 in
-    rw (lt-ltb m x.end (omega arith), all_end m (x.end + 1) (b + minutes_of x) xs h.4 (omega arith)) refl
+    rw (lt-ltb m x.end (omega arith), all_end m (x.end + 1) (b + minutes_of x) xs h.4 (omega arith))
+    refl
 
-all_count : (n e b : ℕ) (xs : List Span) → AreSpans e b xs → n ≤ b → list_all (reaches (Counts n)) xs ≡ true
+all_count : (n e b : ℕ) (xs : List Span) → AreSpans e b xs → n ≤ b
+    → list_all (reaches (Counts n)) xs ≡ true
 all_count n e b [] h k = refl
 all_count n e b (x ∷ xs) h k =
     let before = h.3 in
-    rw (le-leb n (x.before + minutes_of x) (omega arith), all_count n (x.end + 1) (b + minutes_of x) xs h.4 (omega arith)) refl
+    rw (
+      le-leb n (x.before + minutes_of x) (omega arith),
+      all_count n (x.end + 1) (b + minutes_of x) xs h.4 (omega arith),
+    ) refl
 
 ends_rise : (m e b : ℕ) (xs : List Span) → AreSpans e b xs → Rises (reaches (EndsAfter m)) xs
 ends_rise m e b [] h = tt
-ends_rise m e b (x ∷ xs) h =
-    (λ t. all_end m (x.end + 1) (b + minutes_of x) xs h.4 (omega (arith, ltb-true m x.end t)), ends_rise m (x.end + 1) (b + minutes_of x) xs h.4)
+ends_rise m e b (x ∷ xs) h = (
+  λ t. all_end m (x.end + 1) (b + minutes_of x) xs h.4 (omega (arith, ltb-true m x.end t)),
+  ends_rise m (x.end + 1) (b + minutes_of x) xs h.4,
+)
 
 counts_rise : (n e b : ℕ) (xs : List Span) → AreSpans e b xs → Rises (reaches (Counts n)) xs
 counts_rise n e b [] h = tt
 counts_rise n e b (x ∷ xs) h =
-    let before = h.3 in
-    (λ t. all_count n (x.end + 1) (b + minutes_of x) xs h.4 (omega (arith, leb-true n (x.before + minutes_of x) t)), counts_rise n (x.end + 1) (b + minutes_of x) xs h.4)
+    let before = h.3 in (
+      λ t. all_count n (x.end + 1) (b + minutes_of x) xs h.4
+          (omega (arith, leb-true n (x.before + minutes_of x) t)),
+      counts_rise n (x.end + 1) (b + minutes_of x) xs h.4,
+    )
 
-pub marks_rise : (mark : Mark) (e b : ℕ) (xs : List Span) → AreSpans e b xs → Rises (reaches mark) xs
+pub marks_rise : (mark : Mark) (e b : ℕ) (xs : List Span) → AreSpans e b xs
+    → Rises (reaches mark) xs
 marks_rise (EndsAfter m) e b xs h = ends_rise m e b xs h
 marks_rise (Counts n) e b xs h = counts_rise n e b xs h
 
 -- the spans before one that doesn't reach the mark don't either
-not_before : (p : Span → Bool) (x : Span) (xs : List Span) (i : ℕ) (t : Bool) → p x ≡ t → (p x ≡ true → list_all p xs ≡ true) → i ≤ length xs
+not_before : (p : Span → Bool) (x : Span) (xs : List Span) (i : ℕ) (t : Bool) → p x ≡ t
+    → (p x ≡ true → list_all p xs ≡ true) → i ≤ length xs
     → ((k : ℕ) (d : Span) → k + 1 ≡ suc i → p (get_or (x ∷ xs) k d) ≡ false) → p x ≡ false
 not_before p x xs i false e rises within below = e
 not_before p x xs zero true e rises within below = below 0 x (omega arith)
@@ -57,7 +70,8 @@ not_before p x xs (suc j) true e rises within below =
     absurd (both_ways (list_all p xs) (list_all_at p xs j x (omega arith) none) (rises e))
 
 pub found_at : (p : Span → Bool) (xs : List Span) (i : ℕ) → Rises p xs → i ≤ length xs
-    → ((k : ℕ) (d : Span) → k + 1 ≡ i → p (get_or xs k d) ≡ false) → ((d : Span) → i < length xs → p (get_or xs i d) ≡ true)
+    → ((k : ℕ) (d : Span) → k + 1 ≡ i → p (get_or xs k d) ≡ false)
+    → ((d : Span) → i < length xs → p (get_or xs i d) ≡ true)
     → find p xs ≡ slice_get xs i
 found_at p [] i rises within below above = sym (slice_get_past [] i (omega arith))
 found_at p (x ∷ xs) zero rises within below above =
@@ -65,7 +79,8 @@ found_at p (x ∷ xs) zero rises within below above =
     rw here refl
 found_at p (x ∷ xs) (suc i) rises within below above =
     let not_here = not_before p x xs i (p x) refl rises.0 (omega arith) below in
-    rw not_here (found_at p xs i rises.1 (omega arith) (λ k d e. below (suc k) d (omega arith)) (λ d h. above d (omega arith)))
+    rw not_here (found_at p xs i rises.1 (omega arith) (λ k d e. below (suc k) d (omega arith))
+    (λ d h. above d (omega arith)))
 
 -- a number is less than the power of its digits
 below_power : (n : ℕ) → n < 2 ^ halvings n
@@ -75,7 +90,8 @@ below_power n =
     rw (number_digits_of 2 n two) at small
 
 pub halvings_rise : (a b : ℕ) → a ≤ b → halvings a ≤ halvings b
-halvings_rise a b h = length-digits_of-le 2 (halvings b) a (omega arith) (omega (arith, below_power b))
+halvings_rise a b h =
+    length-digits_of-le 2 (halvings b) a (omega arith) (omega (arith, below_power b))
 
 -- one probe leaves at most half
 pub halved : (n left : ℕ) → 0 < n → left ≤ n / 2 → halvings left + 1 ≤ halvings n

@@ -6,7 +6,8 @@ use Rattle.hours_core.specs.Moment.{end_minute}
 -- how many of so many minutes from the first on are open
 unfoldable pub count_of_next : (ℕ → Bool) → ℕ → ℕ → ℕ
 count_of_next opens first zero = 0
-count_of_next opens first (suc n) = count_of_next opens first n + (if opens (first + n) then 1 else 0)
+count_of_next opens first (suc n) =
+    count_of_next opens first n + (if opens (first + n) then 1 else 0)
 
 -- how many minutes from a to before b are open
 abbrev pub count : (ℕ → Bool) → ℕ → ℕ → ℕ

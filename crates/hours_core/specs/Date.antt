@@ -15,7 +15,8 @@ unfoldable pub date_of_day : ℕ → ℕ × ℕ × ℕ
 date_of_day zero = (1970, 1, 1)
 date_of_day (suc n) = next_date (date_of_day n)
 
--- a year, month and day are those of the calendar's date with this day number, where 1970-01-01 is day 0
+-- a year, month and day are those of the calendar's date with this day number, where 1970-01-01 is
+-- day 0
 abbrev pub IsDateOfDay : ℕ → ℕ × ℕ × ℕ → Type 0
 IsDateOfDay n r =
     (d : Date) × (d.year ≡ pos r.0) × (d.month ≡ r.1) × (d.day ≡ r.2) × (epoch_day d ≡ pos n)

@@ -9,8 +9,8 @@ use Rattle.hours_core.specs.Zone.{Offsets, local_minute}
 use Rattle.hours_core.specs.declared.fault.HoursFault.{HoursFault}
 use Rattle.hours_core.specs.declared.fault.HoursFault.TheVariants.{BadInterval, BadYears}
 
--- the parts of a calendar: intervals of each day of the week from Sunday on, in minutes of the local day; local days that
--- are holidays; the first and the last year
+-- the parts of a calendar: intervals of each day of the week from Sunday on, in minutes of the
+-- local day; local days that are holidays; the first and the last year
 pub record Hours : Type 0 where
   pub zone : Offsets
   pub week : List (List (ℕ × ℕ))
@@ -28,7 +28,8 @@ is_within minute interval = nat_le interval.0 minute && nat_lt minute interval.1
 abbrev pub is_between : ℤ × ℤ → ℕ → Bool
 is_between years year = int_le years.0 (pos year) && int_le (pos year) years.1
 
--- a minute of a local day is in an interval of its weekday, and the day is no holiday and in a year of the calendar
+-- a minute of a local day is in an interval of its weekday, and the day is no holiday and in a year
+-- of the calendar
 abbrev pub is_open_on : Hours → ℕ → ℕ → Bool
 is_open_on hours day minute =
     list_any (is_within minute) (intervals_on hours.week day)
@@ -41,11 +42,13 @@ is_open hours m =
     let local = local_minute hours.zone m in
     is_moment m && is_open_on hours (local / 1440) (local % 1440)
 
--- the intervals begin at a minute of the day or later, each after the end of the one before, and end with the day
+-- the intervals begin at a minute of the day or later, each after the end of the one before, and
+-- end with the day
 abbrev pub are_intervals : ℕ → List (ℕ × ℕ) → Bool
 are_intervals earliest [] = true
 are_intervals earliest (interval ∷ intervals) =
-    nat_le earliest interval.0 && nat_lt interval.0 interval.1 && nat_le interval.1 1440 && are_intervals interval.1 intervals
+    nat_le earliest interval.0 && nat_lt interval.0 interval.1 && nat_le interval.1 1440
+    && are_intervals interval.1 intervals
 
 -- at most four
 abbrev pub is_day : List (ℕ × ℕ) → Bool

@@ -6,7 +6,8 @@ use Rattle.hours_core.specs.Moment.{first_minute}
 use Rattle.hours_core.specs.Spans.{AreSpans, is_held}
 use Rattle.hours_core.specs.declared.spans.Span.{Span}
 
--- the minutes of a span are open, those that touch it are not, and as many are open before it as it says
+-- the minutes of a span are open, those that touch it are not, and as many are open before it as it
+-- says
 pub record IsRun (opens : ℕ → Bool) (span : Span) : Type 0 where
   pub some : span.start < span.end
   pub inside : (m : ℕ) → span.start ≤ m → m < span.end → opens m ≡ true

@@ -17,11 +17,13 @@ is_held spans m = list_any (is_in m) spans
 abbrev pub minutes_of : Span → ℕ
 minutes_of span = span.end - span.start
 
--- the spans begin at a minute or later, each with a gap after the one before, and each has the number of minutes before it
+-- the spans begin at a minute or later, each with a gap after the one before, and each has the
+-- number of minutes before it
 abbrev pub AreSpans : ℕ → ℕ → List Span → Type 0
 AreSpans earliest before [] = Unit {0}
 AreSpans earliest before (span ∷ spans) =
-    (earliest ≤ span.start) × (span.start < span.end) × (span.end ≤ end_minute) × (span.before ≡ before)
+    (earliest ≤ span.start) × (span.start < span.end) × (span.end ≤ end_minute)
+    × (span.before ≡ before)
     × AreSpans (span.end + 1) (before + minutes_of span) spans
 
 -- where the last span ends, or what was given

@@ -8,7 +8,8 @@ use Rattle.hours_core.specs.declared.fault.HoursFault.{HoursFault}
 use Rattle.hours_core.specs.declared.fault.HoursFault.TheVariants.{BadOffset, ChangesOutOfOrder}
 use Rattle.hours_core.specs.declared.fault.HoursFault.TheVariants.{TooManyChanges}
 
--- the offset before all changes, and the changes in order: the minute of each, and the offset from there on
+-- the offset before all changes, and the changes in order: the minute of each, and the offset from
+-- there on
 pub record Offsets : Type 0 where
   pub first : ℤ
   pub changes : List (ℤ × ℤ)
@@ -34,7 +35,8 @@ is_offset z = int_le (neg_ℤ (pos 1439)) z && int_le z (pos 1439)
 abbrev pub are_in_order : ℤ → List (ℤ × ℤ) → Bool
 are_in_order earliest [] = true
 are_in_order earliest (change ∷ changes) =
-    int_le earliest change.0 && int_le change.0 (pos end_minute) && are_in_order (change.0 +ℤ pos 1) changes
+    int_le earliest change.0 && int_le change.0 (pos end_minute)
+    && are_in_order (change.0 +ℤ pos 1) changes
 
 -- the zone of these parts, or their least fault
 abbrev pub zone_of : ℤ → List (ℤ × ℤ) → Result Offsets HoursFault
@@ -48,9 +50,11 @@ zone_of first changes =
 abbrev pub comes_after : ℕ → ℤ × ℤ → Bool
 comes_after m change = int_lt (pos m) change.0
 
--- the offset of a minute: that of the last change at or before it, or the first where every change comes later
+-- the offset of a minute: that of the last change at or before it, or the first where every change
+-- comes later
 abbrev pub IsOffsetAt : ℤ → List (ℤ × ℤ) → ℕ → ℤ → Type 0
 IsOffsetAt first changes m offset =
     ((offset ≡ first) × (list_all (comes_after m) changes ≡ true))
     ⊎ ((earlier : List (ℤ × ℤ)) × (change : ℤ × ℤ) × (later : List (ℤ × ℤ))
-    × (changes ≡ earlier ++ change ∷ later) × (offset ≡ change.1) × (change.0 ≤ℤ pos m) × (list_all (comes_after m) later ≡ true))
+    × (changes ≡ earlier ++ change ∷ later) × (offset ≡ change.1) × (change.0 ≤ℤ pos m)
+    × (list_all (comes_after m) later ≡ true))

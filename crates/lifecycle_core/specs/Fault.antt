@@ -43,9 +43,13 @@ has_right_name entry = is_right_name entry.right
 abbrev pub has_names : Parts → Bool
 has_names parts = list_all is_name (statuses parts) && list_all has_right_name parts.rights
 
+-- the two entries are for the same pair of statuses
+abbrev pub is_same_pair : MoveRight → MoveRight → Bool
+is_same_pair entry other = bytes_eq other.from entry.from && bytes_eq other.to entry.to
+
 -- an entry of the list is for the same pair
 abbrev pub has_entry : List MoveRight → MoveRight → Bool
-has_entry rights entry = list_any (λ other. bytes_eq other.from entry.from && bytes_eq other.to entry.to) rights
+has_entry rights entry = list_any (is_same_pair entry) rights
 
 -- a pair has a further entry later in the list
 abbrev pub repeats_pair : List MoveRight → Bool

@@ -1,4 +1,5 @@
--- What a lifecycle says of statuses, moves and their rights. A lifecycle is its parts, a status the list of its bytes.
+-- What a lifecycle says of statuses, moves and their rights. A lifecycle is its parts, a status the
+-- list of its bytes.
 use Rattle.std.specs.Prelude.{ℕ, Bool, ◌&&◌, List, ◌++◌, Option, Some}
 use Rattle.std.specs.Prelude.{None, find, unwrap_or, codes, if◌then◌else◌}
 use Rattle.std.specs.Option.{option_map}
@@ -28,7 +29,8 @@ abbrev pub may_create : Parts → List ℕ → Bool
 may_create lifecycle status = is_among lifecycle.create status
 
 abbrev pub may_move : Parts → List ℕ → List ℕ → Bool
-may_move lifecycle from to = list_any (λ m. bytes_eq m.from from && bytes_eq m.to to) lifecycle.moves
+may_move lifecycle from to =
+    list_any (λ m. bytes_eq m.from from && bytes_eq m.to to) lifecycle.moves
 
 -- the first active status, in their order, to which a move from this one is allowed
 abbrev pub reopening_target : Parts → List ℕ → Option (List ℕ)
@@ -41,7 +43,8 @@ any_status = codes "*"
 -- the right of the entry for just these two, if there is one
 abbrev pub right_of_entry : Parts → List ℕ → List ℕ → Option (List ℕ)
 right_of_entry lifecycle from to =
-    option_map (λ e. e.right) (find (λ e. bytes_eq e.from from && bytes_eq e.to to) lifecycle.rights)
+    option_map (λ e. e.right)
+    (find (λ e. bytes_eq e.from from && bytes_eq e.to to) lifecycle.rights)
 
 -- an entry is of this right
 abbrev pub names_right : Parts → List ℕ → Bool
@@ -49,9 +52,11 @@ names_right lifecycle right = list_any (λ e. bytes_eq e.right right) lifecycle.
 
 -- the right of a move for which there is no entry
 abbrev pub usual_right : List ℕ → List ℕ
-usual_right to = if bytes_eq to (codes "deleted") then codes "DeleteTicket" else codes "ModifyTicket"
+usual_right to =
+    if bytes_eq to (codes "deleted") then codes "DeleteTicket" else codes "ModifyTicket"
 
--- that of the first entry found: for the two statuses, for any and `to`, for `from` and any, for any and any
+-- that of the first entry found: for the two statuses, for any and `to`, for `from` and any, for
+-- any and any
 unfoldable pub right_of_move : Parts → List ℕ → List ℕ → List ℕ
 right_of_move lifecycle from to =
     unwrap_or (right_of_entry lifecycle from to)

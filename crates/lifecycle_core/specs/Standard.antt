@@ -33,6 +33,7 @@ default_lifecycle =
       create = codes "new" ∷ codes "open" ∷ codes "resolved" ∷ [];
       moves =
           every_move
-          (codes "new" ∷ codes "open" ∷ codes "stalled" ∷ codes "resolved" ∷ codes "rejected" ∷ codes "deleted" ∷ []);
+          (codes "new" ∷ codes "open" ∷ codes "stalled" ∷ codes "resolved" ∷ codes "rejected"
+          ∷ codes "deleted" ∷ []);
       rights = default_rights;
     }

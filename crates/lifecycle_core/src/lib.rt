@@ -1,7 +1,8 @@
-//! Lifecycles: the statuses of a request, the moves between them, and the right that each move asks for.
+//! Lifecycles: the statuses of a request, the moves between them, and the right that each move asks
+//! for.
 //!
-//! A lifecycle is built from its parts, which are looked through for faults first. What it answers afterwards takes
-//! no memory.
+//! A lifecycle is built from its parts, which are looked through for faults first. What it answers
+//! afterwards takes no memory.
 #![tactic(auto)]
 
 mod checks;

@@ -3,6 +3,7 @@ ghost use Rattle.std.specs.Option.{option_copied};
 ghost use Rattle.lifecycle_core.specs.Lifecycle as words;
 ghost use Rattle.lifecycle_core.specs.Fault.{fault_of};
 ghost use Rattle.lifecycle_core.specs.Standard.{default_lifecycle};
+ghost use Rattle.lifecycle_core.specs.declared.fault.LifecycleFault.TheVariants.{NoMemory};
 
 use crate::fault::LifecycleFault;
 use crate::parts::{ANY_STATUS, Parts};
@@ -47,11 +48,12 @@ impl Model for Lifecycle {
 impl Lifecycle {
     /// The lifecycle of the parts, or the first fault that applies to them, by number.
     ///
-    /// `NoMemory` comes only in place of a lifecycle, where its copy of the parts is refused memory, never of a fault.
+    /// `NoMemory` comes only in place of a lifecycle, where its copy of the parts is refused
+    /// memory, never of a fault.
     pub fn build(alloc: Global, parts: &Parts) -> Result<Lifecycle, LifecycleFault>
         ensures ok { IfOk result (λ l. (fault_of parts.now ≡ None) × (l ≡ parts.now)) }
-        ensures err { IfErr result (λ e. e ≢ LifecycleFault.NoMemory → fault_of parts.now ≡ Some e) }
-        ensures memory { IfErr result (λ e. e ≡ LifecycleFault.NoMemory → fault_of parts.now ≡ None) }
+        ensures err { IfErr result (λ e. e ≢ NoMemory → fault_of parts.now ≡ Some e) }
+        ensures memory { IfErr result (λ e. e ≡ NoMemory → fault_of parts.now ≡ None) }
     {
         match checks::fault_of(parts) {
             Some(fault) => Err(fault),
@@ -61,14 +63,15 @@ impl Lifecycle {
         }
     }
 
-    /// The lifecycle `default`: `new` is initial, `open` and `stalled` are active, `resolved`, `rejected` and
-    /// `deleted` inactive. A request is created as `new`, `open` or `resolved`, without a status as `new`, and moves
-    /// between any two different statuses. A move to `deleted` asks for `DeleteTicket`, any other for `ModifyTicket`.
+    /// The lifecycle `default`: `new` is initial, `open` and `stalled` are active, `resolved`,
+    /// `rejected` and `deleted` inactive. A request is created as `new`, `open` or `resolved`,
+    /// without a status as `new`, and moves between any two different statuses. A move to `deleted`
+    /// asks for `DeleteTicket`, any other for `ModifyTicket`.
     ///
     /// The only fault is `NoMemory`.
     pub fn default_lifecycle(alloc: Global) -> Result<Lifecycle, LifecycleFault>
         ensures ok { IfOk result (λ l. l ≡ default_lifecycle) }
-        ensures err { IfErr result (λ e. e ≡ LifecycleFault.NoMemory) }
+        ensures err { IfErr result (λ e. e ≡ NoMemory) }
     {
         Ok(Lifecycle {
             parts: standard::default_parts(alloc)?,
@@ -109,9 +112,9 @@ impl Lifecycle {
             .any(|m| m.from.as_str() == from && m.to.as_str() == to)
     }
 
-    /// The right that a move asks for: that of the entry for the two statuses, for any status and `to`, for `from`
-    /// and any status, or for any two, whichever is found first. Without such an entry it is `DeleteTicket` where
-    /// `to` is `deleted`, and `ModifyTicket` otherwise.
+    /// The right that a move asks for: that of the entry for the two statuses, for any status and
+    /// `to`, for `from` and any status, or for any two, whichever is found first. Without such an
+    /// entry it is `DeleteTicket` where `to` is `deleted`, and `ModifyTicket` otherwise.
     ///
     /// It answers for any two texts, also for a status and itself.
     #[tactic(auto, unfolding(crate::specs::Lifecycle::right_of_move))]
@@ -136,7 +139,8 @@ impl Lifecycle {
             .any(|entry| entry.right.as_str() == right)
     }
 
-    /// The first active status, in the order of their list, to which a request may move from the status.
+    /// The first active status, in the order of their list, to which a request may move from the
+    /// status.
     pub fn reopen_to(&self, from: &str) -> Option<&str>
         ensures { option_copied result ≡ words.reopening_target self.now from.now }
     {
@@ -148,8 +152,8 @@ impl Lifecycle {
         None
     }
 
-    /// The status of a request that is created without one. The parts of every lifecycle have no fault, so it is one
-    /// of those in which a request may be created.
+    /// The status of a request that is created without one. The parts of every lifecycle have no
+    /// fault, so it is one of those in which a request may be created.
     pub fn on_create(&self) -> &str
         ensures status { result.now ≡ self.now.on_create }
         ensures sound { fault_of self.now ≡ None }

@@ -66,7 +66,8 @@ fn add_moves(
     from: &str,
     statuses: &[Text],
 ) -> Result<(), AllocError>
-    ensures { IfOk result (λ _. moves.new.items ≡ moves.old.items ++ words.moves_from statuses.now from.now) }
+    ensures { IfOk result (λ _. moves.new.items
+        ≡ moves.old.items ++ words.moves_from statuses.now from.now) }
 {
     for to in statuses {
         if to.as_str() != from {

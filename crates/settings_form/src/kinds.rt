@@ -113,7 +113,8 @@ fn is_right_at(place: Place, key: &str, value: &Value) -> bool
 }
 
 fn has_any_unknown(place: Place, table: &Table) -> bool
-    ensures { result ≡ list_any (λ k. kinds.is_unknown place (string_bytes k)) (map_keys table.now) }
+    ensures { result
+        ≡ list_any (λ k. kinds.is_unknown place (string_bytes k)) (map_keys table.now) }
 {
     table
         .keys()

@@ -26,7 +26,8 @@ one_boolean : (d : Data) → has_kind (One Boolean) d ≡ true → restored (One
 one_boolean (boolean b) h = refl
 one_boolean _ h = cc
 
-one_table : (p : Place) (d : Data) → has_kind (One (Table p)) d ≡ true → restored (One (Table p)) d ≡ d
+one_table : (p : Place) (d : Data) → has_kind (One (Table p)) d ≡ true
+    → restored (One (Table p)) d ≡ d
 one_table p (table ms) h = refl
 one_table p _ h = cc
 
@@ -46,7 +47,8 @@ one_pair : (d : Data) → is_pair d ≡ true → restored (One Pair) d ≡ d
 one_pair (array ds) h = pair_of_items ds h
 one_pair _ h = cc
 
-texts_again : (form : TextForm) (ds : Items) → are_items (Text form) ds ≡ true → text_items (texts_in ds) ≡ ds
+texts_again : (form : TextForm) (ds : Items) → are_items (Text form) ds ≡ true
+    → text_items (texts_in ds) ≡ ds
 texts_again form no_items h = refl
 texts_again form (item (string s) ds) h =
     let parts = and_parts (is_text form (string s)) (are_items (Text form) ds) h in
@@ -58,9 +60,12 @@ tables_again p no_items h = refl
 tables_again p (item (table ms) ds) h = ap (item (table ms)) (tables_again p ds h)
 tables_again p (item d ds) h = cc
 
-pair_before : (d e : Data) (ds : Items) → is_integer d ≡ true → is_integer e ≡ true → pair_items (pairs_in ds) ≡ ds
-    → pair_items (pairs_in (item (array (item d (item e no_items))) ds)) ≡ item (array (item d (item e no_items))) ds
-pair_before (integer a) (integer b) ds h k rest = ap (item (array (item (integer a) (item (integer b) no_items)))) rest
+pair_before : (d e : Data) (ds : Items) → is_integer d ≡ true → is_integer e ≡ true
+    → pair_items (pairs_in ds) ≡ ds
+    → pair_items (pairs_in (item (array (item d (item e no_items))) ds))
+    ≡ item (array (item d (item e no_items))) ds
+pair_before (integer a) (integer b) ds h k rest =
+    ap (item (array (item (integer a) (item (integer b) no_items)))) rest
 pair_before (integer a) _ ds h k rest = cc
 pair_before _ e ds h k rest = cc
 

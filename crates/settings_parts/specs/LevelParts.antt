@@ -38,7 +38,8 @@ are_minutes None (Some z) = is_from_one most_minutes z
 are_minutes _ _ = false
 
 abbrev pub is_limit : Members → Bool
-is_limit ms = are_minutes (integer_at (codes "real_minutes") ms) (integer_at (codes "business_minutes") ms)
+is_limit ms =
+    are_minutes (integer_at (codes "real_minutes") ms) (integer_at (codes "business_minutes") ms)
 
 abbrev pub limit_table : List ℕ → Members → Option Members
 limit_table k ms = option_and_then as_table (get_member k ms)
@@ -53,7 +54,8 @@ has_limit_at k ms = option_map_or is_limit (limit_table k ms) true
 -- each limit that the level has is one
 abbrev pub has_limits : Members → Bool
 has_limits ms =
-    has_limit_at (codes "response") ms && has_limit_at (codes "keep_in_loop") ms && has_limit_at (codes "resolve") ms
+    has_limit_at (codes "response") ms && has_limit_at (codes "keep_in_loop") ms
+    && has_limit_at (codes "resolve") ms
 
 -- the level that a table states
 abbrev pub level_of : Members → Level

@@ -22,6 +22,10 @@ abbrev pub named_subject : Option (List ℕ) → Option (List ℕ) → Subject
 named_subject (Some person) group = subject.Person person
 named_subject None group = subject.Group (unwrap_or group [])
 
+-- the person or the group that a grant is for
+abbrev pub subject_named : List ℕ → Subject
+subject_named to = named_subject (after to (codes "person:")) (after to (codes "group:"))
+
 -- whom a grant is for
 abbrev pub subject_of : List ℕ → Subject
 subject_of to =
@@ -30,7 +34,7 @@ subject_of to =
     else (if bytes_eq to (codes "role:requestor") then subject.Role Requestor
     else (if bytes_eq to (codes "role:cc") then subject.Role Cc
     else (if bytes_eq to (codes "role:admincc") then subject.Role AdminCc
-    else named_subject (after to (codes "person:")) (after to (codes "group:"))))))
+    else subject_named to))))
 
 abbrev pub grant_of : Subject → Option (List ℕ) → List ℕ → Grant
 grant_of subject queue right = record { right = right; subject = subject; queue = queue }
@@ -52,6 +56,13 @@ abbrev pub groups_in : Members → List Group
 groups_in no_members = []
 groups_in (member k d ms) = record { name = k; members = texts_of d } ∷ groups_in ms
 
+-- the groups and the grants of a text
+abbrev pub groups_of : Members → List Group
+groups_of ms = groups_in (table_at (codes "groups") ms)
+
+abbrev pub grants_of : Members → List Grant
+grants_of ms = grants_in (items_at (codes "grant") ms)
+
 -- one of the keys that speak of people is there
 abbrev pub has_people : Members → Bool
 has_people ms =
@@ -69,8 +80,8 @@ abbrev pub people_stated : Members → Parts
 people_stated ms =
     record {
       persons = texts_at (codes "persons") ms;
-      groups = groups_in (table_at (codes "groups") ms);
-      grants = grants_in (items_at (codes "grant") ms);
+      groups = groups_of ms;
+      grants = grants_of ms;
     }
 
 -- the people of a text, who are `root` alone where it doesn't speak of people
@@ -81,3 +92,7 @@ people_in ms = if has_people ms then people_stated ms else root_alone
 abbrev pub tokens_in : Members → List Token
 tokens_in no_members = []
 tokens_in (member k d ms) = record { token = k; person = unwrap_or (as_str d) [] } ∷ tokens_in ms
+
+-- the tokens of a text
+abbrev pub tokens_of : Members → List Token
+tokens_of ms = tokens_in (table_at (codes "tokens") ms)

@@ -1,5 +1,5 @@
--- The values of a settings text that has no fault of form. Of a value of another kind these words give nothing, and
--- that is never asked of such a text.
+-- The values of a settings text that has no fault of form. Of a value of another kind these words
+-- give nothing, and that is never asked of such a text.
 use Rattle.std.specs.Prelude.{ℕ, ℤ, Bool, List, [], ◌∷◌, Option, Some, None, option_and_then}
 use Rattle.toml.specs.Data.{Data, array, table, Items, no_items, item, Members}
 use Rattle.toml.specs.Data.{no_members, get_member, as_str, as_integer, as_bool}

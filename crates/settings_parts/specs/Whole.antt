@@ -1,4 +1,5 @@
--- A text without a fault of form has the form through and through, and the words that read its values lose nothing.
+-- A text without a fault of form has the form through and through, and the words that read its
+-- values lose nothing.
 use Rattle.std.specs.Prelude.{◌≡◌, ℕ, ℤ, Bool, true, false, List, [], ◌∷◌, Option, Some, None}
 use Rattle.std.specs.Option.{option_map_or}
 use Rattle.toml.specs.Data.{Data, string, integer, boolean, array, table, Items, no_items}
@@ -22,7 +23,8 @@ abbrev mutual
   -- each member of the table is right, and so are the tables inside
   pub AreRight : Place → Members → Type 0
   AreRight p no_members = Unit {0}
-  AreRight p (member k d ms) = ((kind : Kind) × IsRightAt p k d kind × IsRightInside kind d) × AreRight p ms
+  AreRight p (member k d ms) =
+      ((kind : Kind) × IsRightAt p k d kind × IsRightInside kind d) × AreRight p ms
 
   pub IsRightInside : Kind → Data → Type 0
   IsRightInside (One (Table p)) (table ms) = (lacks_key p ms ≡ false) × AreRight p ms

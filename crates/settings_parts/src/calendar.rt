@@ -1,11 +1,10 @@
 //! The parts of a calendar.
 
-ghost use Rattle.std.specs.Prelude.{◌≡◌, IfOk, codes, map};
+ghost use Rattle.std.specs.Prelude.{◌≡◌, IfOk, map};
 ghost use Rattle.toml.specs.View.{table_view};
 ghost use Rattle.hours_core.specs.Hours.{Hours};
 ghost use Rattle.settings_form.specs.TextForms.{day_of as day_in, interval_of as interval_in};
 ghost use Rattle.settings_parts.specs.CalendarParts as spec;
-ghost use Rattle.settings_parts.specs.Values.{texts_at as texts_under};
 
 use crate::values::{integer_at, pair_at, pairs_at, texts_at};
 use hours_core::Intervals;
@@ -51,7 +50,7 @@ fn intervals_of(alloc: Global, texts: &[Text]) -> Result<Vec<(u16, u16)>, AllocE
 
 /// The days that are holidays.
 fn holidays_at(alloc: Global, table: &Table) -> Result<Vec<u32>, AllocError>
-    ensures { IfOk result (λ v. v.items ≡ map day_in (texts_under (codes "holidays") (table_view table.now))) }
+    ensures { IfOk result (λ v. v.items ≡ spec.holidays_of (table_view table.now)) }
 {
     let texts = texts_at(alloc, table, "holidays")?;
     days_of(alloc, texts.as_slice())

@@ -74,7 +74,8 @@ fn is_limit(table: &Table) -> bool
 }
 
 fn limit_table<'a>(table: &'a Table, key: &str) -> Option<&'a Table>
-    ensures { option_map (λ t. table_view t.now) result ≡ spec.limit_table key.now (table_view table.now) }
+    ensures { option_map (λ t. table_view t.now) result
+        ≡ spec.limit_table key.now (table_view table.now) }
 {
     match value_at(table, key) {
         Some(value) => value.as_table(),

@@ -1,10 +1,9 @@
 //! The parts of a lifecycle.
 
-ghost use Rattle.std.specs.Prelude.{◌≡◌, ◌++◌, IfOk, map, codes};
+ghost use Rattle.std.specs.Prelude.{◌≡◌, ◌++◌, IfOk, map};
 ghost use Rattle.toml.specs.View.{view, table_view};
 ghost use Rattle.lifecycle_core.specs.Standard.{move_to};
 ghost use Rattle.settings_parts.specs.LifecycleParts as spec;
-ghost use Rattle.settings_parts.specs.Values.{table_at as members_at};
 
 use crate::values::{table_at, text_of, text_or_empty, texts_at, texts_of};
 use lifecycle_core::{Move, MoveRight, Parts};
@@ -15,7 +14,8 @@ use toml::{Table, Value};
 
 /// Moves from a status to each of these.
 fn push_moves(from: &Text, statuses: &[Text], found: &mut Vec<Move>) -> Result<(), AllocError>
-    ensures { IfOk result (λ _. found.new.items ≡ found.old.items ++ map (move_to from.now) statuses.now) }
+    ensures { IfOk result (λ _. found.new.items
+        ≡ found.old.items ++ map (move_to from.now) statuses.now) }
 {
     for to in statuses {
         found.push(Move {
@@ -40,7 +40,7 @@ fn moves_in(alloc: Global, table: &Table) -> Result<Vec<Move>, AllocError>
 }
 
 fn moves_of(alloc: Global, table: &Table) -> Result<Vec<Move>, AllocError>
-    ensures { IfOk result (λ v. v.items ≡ spec.moves_in (members_at (codes "transitions") (table_view table.now))) }
+    ensures { IfOk result (λ v. v.items ≡ spec.moves_of (table_view table.now)) }
 {
     match table_at(table, "transitions") {
         Some(moves) => moves_in(alloc, moves),
@@ -73,7 +73,7 @@ fn rights_in(alloc: Global, table: &Table) -> Result<Vec<MoveRight>, AllocError>
 }
 
 fn rights_of(alloc: Global, table: &Table) -> Result<Vec<MoveRight>, AllocError>
-    ensures { IfOk result (λ v. v.items ≡ spec.rights_in (members_at (codes "rights") (table_view table.now))) }
+    ensures { IfOk result (λ v. v.items ≡ spec.rights_of (table_view table.now)) }
 {
     match table_at(table, "rights") {
         Some(rights) => rights_in(alloc, rights),

@@ -4,8 +4,6 @@ ghost use Rattle.std.specs.Prelude.{◌≡◌, ◌++◌, [], IfOk, map, unwrap_o
 ghost use Rattle.toml.specs.View.{array_view, table_view};
 ghost use Rattle.std.specs.Option.{option_copied};
 ghost use Rattle.settings_parts.specs.PeopleParts as spec;
-ghost use Rattle.settings_parts.specs.Values.{text_at as text_at_key};
-ghost use Rattle.settings_parts.specs.Values.{table_at as members_at, items_at};
 
 use crate::values::{
     array_at, has_key, table_at, text_at, text_of, text_or_empty, texts_at, texts_of,
@@ -60,7 +58,7 @@ fn subject_of(alloc: Global, to: &str) -> Result<Subject, AllocError>
 
 /// The person or the group that a grant is for.
 fn named_subject(alloc: Global, to: &str) -> Result<Subject, AllocError>
-    ensures { IfOk result (λ s. s ≡ spec.named_subject (spec.after to.now (codes "person:")) (spec.after to.now (codes "group:"))) }
+    ensures { IfOk result (λ s. s ≡ spec.subject_named to.now) }
 {
     match after(to, PERSON) {
         Some(name) => Ok(Subject::Person(Text::new(alloc, name)?)),
@@ -84,7 +82,8 @@ fn push_grants(
     rights: &[Text],
     found: &mut Vec<Grant>,
 ) -> Result<(), AllocError>
-    ensures { IfOk result (λ _. found.new.items ≡ found.old.items ++ map (spec.grant_of subject.now queue.now) rights.now) }
+    ensures { IfOk result (λ _. found.new.items
+        ≡ found.old.items ++ map (spec.grant_of subject.now queue.now) rights.now) }
 {
     for right in rights {
         found.push(Grant {
@@ -97,7 +96,8 @@ fn push_grants(
 }
 
 fn add_grants(alloc: Global, table: &Table, found: &mut Vec<Grant>) -> Result<(), AllocError>
-    ensures { IfOk result (λ _. found.new.items ≡ found.old.items ++ spec.grants_at (table_view table.now)) }
+    ensures { IfOk result (λ _. found.new.items
+        ≡ found.old.items ++ spec.grants_at (table_view table.now)) }
 {
     let to = text_or_empty(alloc, table, "to")?;
     let subject = subject_of(alloc, to.as_str())?;
@@ -120,7 +120,7 @@ fn grants_in(alloc: Global, list: &Array) -> Result<Vec<Grant>, AllocError>
 }
 
 fn grants_of(alloc: Global, table: &Table) -> Result<Vec<Grant>, AllocError>
-    ensures { IfOk result (λ v. v.items ≡ spec.grants_in (items_at (codes "grant") (table_view table.now))) }
+    ensures { IfOk result (λ v. v.items ≡ spec.grants_of (table_view table.now)) }
 {
     match array_at(table, "grant") {
         Some(list) => grants_in(alloc, list),
@@ -143,7 +143,7 @@ fn groups_in(alloc: Global, table: &Table) -> Result<Vec<Group>, AllocError>
 }
 
 fn groups_of(alloc: Global, table: &Table) -> Result<Vec<Group>, AllocError>
-    ensures { IfOk result (λ v. v.items ≡ spec.groups_in (members_at (codes "groups") (table_view table.now))) }
+    ensures { IfOk result (λ v. v.items ≡ spec.groups_of (table_view table.now)) }
 {
     match table_at(table, "groups") {
         Some(groups) => groups_in(alloc, groups),
@@ -184,7 +184,8 @@ fn people_stated(alloc: Global, table: &Table) -> Result<Parts, AllocError>
     })
 }
 
-/// The persons, groups and grants of a settings text: `root` alone, who holds every right, where it has none of them.
+/// The persons, groups and grants of a settings text: `root` alone, who holds every right, where it
+/// has none of them.
 pub fn people_in(alloc: Global, table: &Table) -> Result<Parts, AllocError>
     ensures { IfOk result (λ p. p ≡ spec.people_in (table_view table.now)) }
 {
@@ -211,7 +212,7 @@ fn tokens_in(alloc: Global, table: &Table) -> Result<Vec<Token>, AllocError>
 
 /// The tokens of a settings text.
 pub fn tokens_of(alloc: Global, table: &Table) -> Result<Vec<Token>, AllocError>
-    ensures { IfOk result (λ v. v.items ≡ spec.tokens_in (members_at (codes "tokens") (table_view table.now))) }
+    ensures { IfOk result (λ v. v.items ≡ spec.tokens_of (table_view table.now)) }
 {
     match table_at(table, "tokens") {
         Some(tokens) => tokens_in(alloc, tokens),

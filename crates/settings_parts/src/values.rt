@@ -168,7 +168,8 @@ pub fn pairs_at(alloc: Global, table: &Table, key: &str) -> Result<Vec<(i64, i64
 
 /// The list at a key, if there is one.
 pub fn array_at<'a>(table: &'a Table, key: &str) -> Option<&'a Array>
-    ensures { option_map_or (λ a. array_view a.now) result no_items ≡ spec.items_at key.now (table_view table.now) }
+    ensures { option_map_or (λ a. array_view a.now) result no_items
+        ≡ spec.items_at key.now (table_view table.now) }
 {
     match value_at(table, key) {
         Some(value) => value.as_array(),
@@ -178,14 +179,16 @@ pub fn array_at<'a>(table: &'a Table, key: &str) -> Option<&'a Array>
 
 /// The table of a value, if it is one.
 pub fn table_of(value: &Value) -> Option<&Table>
-    ensures { option_map_or (λ t. table_view t.now) result no_members ≡ spec.members_of (view value.now) }
+    ensures { option_map_or (λ t. table_view t.now) result no_members
+        ≡ spec.members_of (view value.now) }
 {
     value.as_table()
 }
 
 /// The table at a key, if there is one.
 pub fn table_at<'a>(table: &'a Table, key: &str) -> Option<&'a Table>
-    ensures { option_map_or (λ t. table_view t.now) result no_members ≡ spec.table_at key.now (table_view table.now) }
+    ensures { option_map_or (λ t. table_view t.now) result no_members
+        ≡ spec.table_at key.now (table_view table.now) }
 {
     match value_at(table, key) {
         Some(value) => table_of(value),

@@ -20,7 +20,8 @@ returns-clause-year c =
     let only = simp to_z-of_z at c.days.ensures in
     let z = epoch_day-first c.date.result c.date.ensures in
     let e = c.in-Ok.ensures.value ∙ date_add-days c.date.result c.args.day c.days.result only in
-    year_from_first c.date.result c.in-Ok.found c.date.ensures (rw (e, z) (omega (arith, signed_arith)))
+    year_from_first c.date.result c.in-Ok.found c.date.ensures
+    (rw (e, z) (omega (arith, signed_arith)))
 
 pub unreachable-requires : goal.unreachable-requires
 unreachable-requires c =
@@ -28,6 +29,7 @@ unreachable-requires c =
     let only = simp to_z-of_z at c.days.ensures in
     let z = epoch_day-first c.date.result c.date.ensures in
     let can = can_add-days c.date.result c.args.day c.days.result only in
-    let fits : IsEpochDay (epoch_day c.date.result +ℤ c.args.day) = rw z (omega (arith, signed_arith), omega (arith, signed_arith)) in
+    let fits : IsEpochDay (epoch_day c.date.result +ℤ c.args.day) =
+    rw z (omega (arith, signed_arith), omega (arith, signed_arith)) in
     let bad = c.in-Err.ensures.succeeds.1 (can.1 fits) in
     cc

@@ -4,8 +4,13 @@ use Rattle.hours_core.proofs.DateLemmas.{only}
 use Rattle.hours_core.proofs.date.date_of_day.Goals as goal
 
 pub returns-clause-calendar : goal.returns-clause-calendar
-returns-clause-calendar c =
-    (c.civil_date-found.result, omega (arith, ints), omega (arith, ints), omega (arith, ints), omega (arith, ints, c.civil_date-found.ensures.number))
+returns-clause-calendar c = (
+  c.civil_date-found.result,
+  omega (arith, ints),
+  omega (arith, ints),
+  omega (arith, ints),
+  omega (arith, ints, c.civil_date-found.ensures.number),
+)
 
 pub returns-clause-counted : goal.returns-clause-counted
 returns-clause-counted c = only c.args.day _ (omega (arith)) (returns-clause-calendar c)

@@ -13,29 +13,43 @@ interval_of : goal.Joined-start-end → ℕ × ℕ
 interval_of c = get_or c.args.intervals.now c.loop-interval.interval-index (0, 0)
 
 -- the interval in turn, and those after it
-ordered : (c : goal.Joined-start-end) → (c.loop-interval.invariant.after.0 ≤ (interval_of c).0) × ((interval_of c).0 < (interval_of c).1) × ((interval_of c).1 ≤ 1440)
-    × (are_intervals (interval_of c).1 (drop (suc c.loop-interval.interval-index) c.args.intervals.now) ≡ true)
+ordered : (c : goal.Joined-start-end)
+    → (c.loop-interval.invariant.after.0 ≤ (interval_of c).0)
+    × ((interval_of c).0 < (interval_of c).1) × ((interval_of c).1 ≤ 1440)
+    × (are_intervals (interval_of c).1
+    (drop (suc c.loop-interval.interval-index) c.args.intervals.now) ≡ true)
 unfolding interval_of
 ordered c =
     let all = c.loop-interval.invariant.after.1 in
-    let h = rw (drop-cons c.args.intervals.now c.loop-interval.interval-index (0, 0) c.loop-interval-test.true) at all in
-    next_interval c.loop-interval.invariant.after.0 (interval_of c) (drop (suc c.loop-interval.interval-index) c.args.intervals.now) h
+    let h = rw (drop-cons c.args.intervals.now c.loop-interval.interval-index
+    (0, 0) c.loop-interval-test.true) at all in
+    next_interval c.loop-interval.invariant.after.0 (interval_of c)
+    (drop (suc c.loop-interval.interval-index) c.args.intervals.now) h
 
-grown : (c : goal.Joined-start-end) (m : ℕ) → is_held c.if-start-end.spans m ≡ (is_held c.loop-interval.spans m || is_within m (c.max-start.result, c.min-end.result))
+grown : (c : goal.Joined-start-end) (m : ℕ)
+    → is_held c.if-start-end.spans m
+    ≡ (is_held c.loop-interval.spans m || is_within m (c.max-start.result, c.min-end.result))
 grown c m =
     elim c.if-start-end.branch [
       | then-start-end+in_ok-append w ↦ rw w.spans-is (w.in_ok-append.ensures.held m)
-      | else-start-end w ↦ rw w.spans-is (nothing_more c.max-start.result c.min-end.result m (is_held c.loop-interval.spans m) w.if-start-end.false)
+      | else-start-end w ↦
+          rw w.spans-is (nothing_more c.max-start.result c.min-end.result m
+          (is_held c.loop-interval.spans m) w.if-start-end.false)
     ]
 
 last : (c : goal.Joined-start-end) → (end_of first_minute c.if-start-end.spans ≤ c.args.to)
-    × (end_of first_minute c.if-start-end.spans ≤ max c.args.from (c.args.midnight + (interval_of c).1))
+    × (end_of first_minute c.if-start-end.spans
+    ≤ max c.args.from (c.args.midnight + (interval_of c).1))
 unfolding interval_of
 last c =
     let i = c.loop-interval.invariant in
     let o = ordered c in
     elim c.if-start-end.branch [
-      | then-start-end+in_ok-append w ↦ rw w.spans-is (omega (arith, w.in_ok-append.ensures.end), omega (arith, w.in_ok-append.ensures.end))
+      | then-start-end+in_ok-append w ↦
+          rw w.spans-is (
+            omega (arith, w.in_ok-append.ensures.end),
+            omega (arith, w.in_ok-append.ensures.end),
+          )
       | else-start-end w ↦ rw w.spans-is (omega (arith, i.last), omega (arith, i.after.2, o.0, o.1))
     ]
 
@@ -55,8 +69,11 @@ loop-interval-preserved c =
             i.held m,
             c.max-start.ensures,
             c.min-end.ensures,
-            clipped c.args.midnight c.args.from c.args.to (interval_of c).0 (interval_of c).1 m c.requires.moments.1,
+            clipped c.args.midnight c.args.from c.args.to (interval_of c).0
+                (interval_of c).1 m c.requires.moments.1,
             list_any_more (is_within (m - c.args.midnight)) xs k (0, 0) c.loop-interval-test.true,
           )
-          (one_more (is_held c.args.spans.now m) (is_within m (c.args.from, c.args.to)) (list_any (is_within (m - c.args.midnight)) (take k xs)) (is_within (m - c.args.midnight) (interval_of c)));
+          (one_more (is_held c.args.spans.now m) (is_within m (c.args.from, c.args.to))
+          (list_any (is_within (m - c.args.midnight)) (take k xs))
+          (is_within (m - c.args.midnight) (interval_of c)));
     }

@@ -12,5 +12,7 @@ invariant-loop-interval l = record {
       × (end_of first_minute l.spans ≤ max l.from (l.midnight + earliest));
   last : end_of first_minute l.spans ≤ l.to;
   held : (m : ℕ) → is_held l.spans m
-      ≡ (is_held l.fn.spans m || (spec.is_within m (l.from, l.to) && list_any (spec.is_within (m - l.midnight)) (take l.interval-index l.intervals)));
+      ≡ (is_held l.fn.spans m
+      || (spec.is_within m (l.from, l.to)
+      && list_any (spec.is_within (m - l.midnight)) (take l.interval-index l.intervals)));
 }

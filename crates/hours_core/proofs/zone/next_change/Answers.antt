@@ -14,7 +14,10 @@ loop-change-preserved c =
       from = c.earlier-next.ensures.range.0;
       to = omega (arith, c.earlier-next.ensures.range, i.to);
       steady = λ first later low high.
-          rw (take_more c.args.changes.now c.loop-change.change-index (pos 0, pos 0) c.loop-change-test.true)
-          (steady_more first (take c.loop-change.change-index c.args.changes.now) change c.args.m later c.earlier-next.result
-          (i.steady first later low (omega (arith, c.earlier-next.ensures.range))) low high settled);
+          rw (take_more c.args.changes.now c.loop-change.change-index
+          (pos 0, pos 0) c.loop-change-test.true)
+          (steady_more first (take c.loop-change.change-index c.args.changes.now) change c.args.m
+          later c.earlier-next.result
+          (i.steady first later low (omega (arith, c.earlier-next.ensures.range))) low high
+          settled);
     }

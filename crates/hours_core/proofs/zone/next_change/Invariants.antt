@@ -9,5 +9,6 @@ invariant-loop-change l = record {
   from : l.m < l.next;
   to : l.next ≤ end_minute;
   steady : (first : ℤ) (later : ℕ) → l.m ≤ later → later < l.next
-      → spec.offset_at first (take l.change-index l.changes) later ≡ spec.offset_at first (take l.change-index l.changes) l.m;
+      → spec.offset_at first (take l.change-index l.changes) later
+      ≡ spec.offset_at first (take l.change-index l.changes) l.m;
 }

@@ -4,4 +4,5 @@ use Rattle.lifecycle_core.specs.Standard.{moves_from}
 use Rattle.lifecycle_core.proofs.standard.every_move.Given as goal
 
 abbrev pub invariant-loop-from : goal.invariant-loop-from
-invariant-loop-from l = l.moves.items ≡ flat_map (moves_from l.statuses) (take l.from-index l.statuses)
+invariant-loop-from l =
+    l.moves.items ≡ flat_map (moves_from l.statuses) (take l.from-index l.statuses)

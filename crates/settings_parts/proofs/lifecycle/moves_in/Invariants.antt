@@ -7,4 +7,5 @@ abbrev pub invariant-loop-from : goal.invariant-loop-from
 invariant-loop-from l =
     (goal.iterator-loop-from).can_next l.from-iterator ×
     (goal.iterator-loop-from).is_finite l.from-iterator ×
-    (l.found.items ++ moves_in (members_view l.from-iterator) ≡ moves_in (members_view l.table.entries))
+    (l.found.items ++ moves_in (members_view l.from-iterator)
+    ≡ moves_in (members_view l.table.entries))

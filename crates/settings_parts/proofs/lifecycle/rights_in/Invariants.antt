@@ -7,4 +7,5 @@ abbrev pub invariant-loop-key : goal.invariant-loop-key
 invariant-loop-key l =
     (goal.iterator-loop-key).can_next l.key-iterator ×
     (goal.iterator-loop-key).is_finite l.key-iterator ×
-    (l.found.items ++ rights_in (members_view l.key-iterator) ≡ rights_in (members_view l.table.entries))
+    (l.found.items ++ rights_in (members_view l.key-iterator)
+    ≡ rights_in (members_view l.table.entries))

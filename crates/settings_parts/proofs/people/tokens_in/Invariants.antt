@@ -7,4 +7,5 @@ abbrev pub invariant-loop-token : goal.invariant-loop-token
 invariant-loop-token l =
     (goal.iterator-loop-token).can_next l.token-iterator ×
     (goal.iterator-loop-token).is_finite l.token-iterator ×
-    (l.found.items ++ tokens_in (members_view l.token-iterator) ≡ tokens_in (members_view l.table.entries))
+    (l.found.items ++ tokens_in (members_view l.token-iterator)
+    ≡ tokens_in (members_view l.table.entries))

@@ -13,7 +13,8 @@ returns-in_err-end-clause-least c =
 
 pub returns-in_err-end-clause-end : goal.returns-in_err-end-clause-end
 returns-in_err-end-clause-end c =
-    is_least (has_passed (opens c.args.self.now) c.args.m c.args.n) c.args.m (end_minute + 1) c.from_residual.result (returns-in_err-end-clause-least c)
+    is_least (has_passed (opens c.args.self.now) c.args.m c.args.n) c.args.m
+    (end_minute + 1) c.from_residual.result (returns-in_err-end-clause-least c)
 
 pub returns-in_err-end-clause-most : goal.returns-in_err-end-clause-most
 unfolding spans_of
@@ -31,7 +32,8 @@ returns-clause-least c =
 
 pub returns-clause-end : goal.returns-clause-end
 returns-clause-end c =
-    is_least (has_passed (opens c.args.self.now) c.args.m c.args.n) c.args.m (end_minute + 1) (Some c.at.result) (returns-clause-least c)
+    is_least (has_passed (opens c.args.self.now) c.args.m c.args.n) c.args.m (end_minute + 1)
+    (Some c.at.result) (returns-clause-least c)
 
 pub returns-clause-most : goal.returns-clause-most
 unfolding spans_of

@@ -10,4 +10,5 @@ returns-clause-hours c = λ m. sym (c.in_ok-spans.ensures.all m) ∙ c.in_ok-sch
 
 pub returns-clause-runs : goal.returns-clause-runs
 unfolding spans_of
-returns-clause-runs c = let P : (ℕ → Bool) → Type 0 = λ p. AreRuns p c.in_ok-spans.spans in subst P (fun_ext c.in_ok-schedule.ensures) c.in_ok-spans.ensures
+returns-clause-runs c = let P : (ℕ → Bool) → Type 0 = λ p. AreRuns p c.in_ok-spans.spans in
+    subst P (fun_ext c.in_ok-schedule.ensures) c.in_ok-spans.ensures

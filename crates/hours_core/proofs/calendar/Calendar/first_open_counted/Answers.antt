@@ -12,7 +12,8 @@ returns-in_err-first-clause-least c =
 
 pub returns-in_err-first-clause-first : goal.returns-in_err-first-clause-first
 returns-in_err-first-clause-first c =
-    is_least (opens c.args.self.now) c.args.m end_minute c.from_residual.result (returns-in_err-first-clause-least c)
+    is_least (opens c.args.self.now) c.args.m end_minute c.from_residual.result
+    (returns-in_err-first-clause-least c)
 
 pub returns-in_err-first-clause-most : goal.returns-in_err-first-clause-most
 unfolding spans_of
@@ -29,7 +30,8 @@ returns-clause-least c =
     rw c.at.ensures found
 
 pub returns-clause-first : goal.returns-clause-first
-returns-clause-first c = is_least (opens c.args.self.now) c.args.m end_minute (Some c.at.result) (returns-clause-least c)
+returns-clause-first c =
+    is_least (opens c.args.self.now) c.args.m end_minute (Some c.at.result) (returns-clause-least c)
 
 pub returns-clause-most : goal.returns-clause-most
 unfolding spans_of

@@ -10,7 +10,8 @@ pub returns-in-Some : goal.returns-in-Some
 unfolding opens
 returns-in-Some c =
     let first = rw c.get.ensures.number at c.in-Some.ensures.least in
-    rw c.get-in-Some.ensures.number (least_here (is_held c.args.self.now.spans) c.args.m end_minute c.in-Some.first first)
+    rw c.get-in-Some.ensures.number
+    (least_here (is_held c.args.self.now.spans) c.args.m end_minute c.in-Some.first first)
 
 pub returns-in-None : goal.returns-in-None
 unfolding opens

@@ -16,4 +16,5 @@ returns c =
     let order = rw c.shrink.ensures.same at c.shrink.ensures.spans in
     rw c.shrink.ensures.same
     (are_runs (is_open c.args.self.now) c.loop-from.spans order
-    (λ m. all_held c.args.self.now c.loop-from.from m c.loop-from.spans c.loop-from.invariant.before c.loop-from-test.false))
+    (λ m. all_held c.args.self.now c.loop-from.from m c.loop-from.spans c.loop-from.invariant.before
+    c.loop-from-test.false))

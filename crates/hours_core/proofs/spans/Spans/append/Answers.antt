@@ -14,24 +14,38 @@ overflow_add-before c =
     let before = before_small c.pop.new.self.items c.in-Some.last h in
     omega (arith, some, before)
 
-appends : (c : goal.In_ok-push) → Appends c.self.inside.items.items c.push-2.new.self.items c.args.start c.args.end
+appends : (c : goal.In_ok-push)
+    → Appends c.self.inside.items.items c.push-2.new.self.items c.args.start c.args.end
 appends c =
     elim c.match-pop.branch [
       | in-Some w ↦
           let h = rw w.in-Some.ensures.items at c.self.invariant in
           let t = w.if-last-start.true in
           rw (c.in_ok-push.ensures.items, w.self-inside-is, w.span-is, w.in-Some.ensures.items)
-          (lengthened c.pop.new.self.items w.in-Some.last c.args.start c.args.end h t c.requires.some c.requires.to)
+          (lengthened c.pop.new.self.items w.in-Some.last c.args.start c.args.end h t
+          c.requires.some c.requires.to)
       | in-Some-2+in_ok-push-in-Some-2 w ↦
           let h = rw w.in-Some.ensures.items at c.self.invariant in
-          let after = rw (← c.self.view_is, w.in-Some.ensures.items, end_of-last) at c.requires.after in
-          let gap : w.in-Some.last.end < c.args.start = omega (arith, w.if-last-start.false, after) in
-          rw (c.in_ok-push.ensures.items, w.self-inside-is, w.span-is, w.minutes.ensures, w.in_ok-push-in-Some-2.ensures.items, w.in-Some.ensures.items)
-          (added c.pop.new.self.items w.in-Some.last c.args.start c.args.end h gap c.requires.some c.requires.to)
+          let after = rw (← c.self.view_is, w.in-Some.ensures.items, end_of-last)
+          at c.requires.after in
+          let gap : w.in-Some.last.end < c.args.start =
+          omega (arith, w.if-last-start.false, after) in
+          rw (
+            c.in_ok-push.ensures.items,
+            w.self-inside-is,
+            w.span-is,
+            w.minutes.ensures,
+            w.in_ok-push-in-Some-2.ensures.items,
+            w.in-Some.ensures.items,
+          )
+          (added c.pop.new.self.items w.in-Some.last c.args.start c.args.end h gap c.requires.some
+          c.requires.to)
       | in-None w ↦
-          let none : length c.pop.new.self.items ≡ 0 = grind (arith, common_steps, w.in-None.ensures.cases.1) in
+          let none : length c.pop.new.self.items ≡ 0 =
+          grind (arith, common_steps, w.in-None.ensures.cases.1) in
           rw (c.in_ok-push.ensures.items, w.self-inside-is, w.span-is, w.in-None.ensures.items)
-          (first_added c.pop.new.self.items c.args.start c.args.end none c.requires.from c.requires.some c.requires.to)
+          (first_added c.pop.new.self.items c.args.start c.args.end none c.requires.from
+          c.requires.some c.requires.to)
     ]
 
 pub invariant_of-self-2 : goal.invariant_of-self-2
