@@ -28,7 +28,9 @@ empty_tree : IsTree [] no_members
 empty_tree = (search rules, parsed)
 
 no_fault : table_fault no_members ≡ None
-unfolding rights_fault_of standard_rights see_queue create_ticket show_ticket show_ticket_comments modify_ticket reply_to_ticket comment_on_ticket own_ticket take_ticket steal_ticket reassign_ticket delete_ticket watch watch_as_admin_cc admin_queue super_user
+unfolding rights_fault_of standard_rights see_queue create_ticket show_ticket show_ticket_comments
+    modify_ticket reply_to_ticket comment_on_ticket own_ticket take_ticket steal_ticket
+    reassign_ticket delete_ticket watch watch_as_admin_cc admin_queue super_user
 no_fault = refl
 
 -- where there is no fault, out of memory is the only answer but settings

@@ -13,7 +13,9 @@ use Rattle.hours_core.specs.declared.fault.HoursFault.TheVariants.{TooManyChange
 use Rattle.settings_core.specs.Calendars.{hours_fault}
 
 by_tests : (a b c : Bool) (whole zone : Offsets)
-    → (if not a then Err BadOffset else (if not b then Err ChangesOutOfOrder else (if c then Err TooManyChanges else Ok whole))) ≡ Ok zone
+    → (if not a then Err BadOffset
+    else (if not b then Err ChangesOutOfOrder else (if c then Err TooManyChanges else Ok whole)))
+    ≡ Ok zone
     → whole ≡ zone
 by_tests true true false whole zone e = cc
 by_tests true true true whole zone e = cc
@@ -26,17 +28,21 @@ zone_is : (first : ℤ) (changes : List (ℤ × ℤ)) (zone : Offsets) → zone_
 zone_is first changes zone e = by_tests _ _ _ (record { first = first; changes = changes }) zone e
 
 abbrev of : Offsets → List (List (ℕ × ℕ)) → List ℕ → ℤ × ℤ → Hours
-of zone week holidays years = record { zone = zone; week = week; holidays = holidays; years = years }
+of zone week holidays years =
+    record { zone = zone; week = week; holidays = holidays; years = years }
 
-pub from_parts : (r : Result Calendar HoursFault) (first : ℤ) (changes : List (ℤ × ℤ)) (zone : Offsets)
+pub from_parts : (r : Result Calendar HoursFault) (first : ℤ) (changes : List (ℤ × ℤ))
+    (zone : Offsets)
     (week : List (List (ℕ × ℕ))) (holidays : List ℕ) (years : ℤ × ℤ)
     → zone_of first changes ≡ Ok zone
     → OnOk r (calendar_fault week years ≡ None)
     → IfOk r (λ c. HasHours c (of zone week holidays years))
-    → IfOk r (λ c. (hours_fault (of (record { first = first; changes = changes }) week holidays years) ≡ None)
+    → IfOk r (λ c. (hours_fault
+    (of (record { first = first; changes = changes }) week holidays years) ≡ None)
     × HasHours c (of (record { first = first; changes = changes }) week holidays years))
 from_parts (Err e) first changes zone week holidays years built valid hours = tt
 from_parts (Ok c) first changes zone week holidays years built valid hours =
-    let P : Result Offsets HoursFault → Type 0 = λ z. option_or (result_err z) (calendar_fault week years) ≡ None in
+    let P : Result Offsets HoursFault → Type 0 =
+    λ z. option_or (result_err z) (calendar_fault week years) ≡ None in
     let Q : Offsets → Type 0 = λ z. HasHours c (of z week holidays years) in
     (subst P (sym built) valid, subst Q (sym (zone_is first changes zone built)) hours)

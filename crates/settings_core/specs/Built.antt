@@ -1,12 +1,11 @@
 -- What settings hold that are built of a tree.
 use Rattle.std.specs.Prelude.{◌≡◌, codes}
 use Rattle.toml.specs.Data.{Members}
-use Rattle.settings_parts.specs.PeopleParts.{people_in}
+use Rattle.settings_parts.specs.PeopleParts.{people_in, tokens_of}
 use Rattle.settings_core.specs.Calendars.{calendars_of, HaveHours}
 use Rattle.settings_core.specs.Levels.{levels_of}
 use Rattle.settings_core.specs.Lifecycles.{lifecycles_of}
 use Rattle.settings_core.specs.Reading.{count_at}
-use Rattle.settings_core.specs.Tokens.{tokens_of}
 use Rattle.settings_core.specs.declared.settings.Settings.{Settings}
 
 -- each list holds the parts of the tree in their order

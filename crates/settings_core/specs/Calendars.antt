@@ -31,7 +31,8 @@ hours_in (member k d ms) = record { name = k; hours = hours_of (members_of d) } 
 -- the least fault of opening hours, that of the zone before that of the calendar
 abbrev pub hours_fault : Hours → Option HoursFault
 hours_fault hours =
-    option_or (result_err (zone_of hours.zone.first hours.zone.changes)) (calendar_fault hours.week hours.years)
+    option_or (result_err (zone_of hours.zone.first hours.zone.changes))
+    (calendar_fault hours.week hours.years)
 
 -- the fault of the first calendar, by byte order of names, that has one
 abbrev pub fault_in : Members → Option HoursFault
@@ -57,14 +58,20 @@ standard_calendar = record { name = codes "default"; hours = standard_hours }
 
 -- the opening hours of a table, and the calendar `default` where the table has none of that name
 abbrev pub with_standard : Members → List NamedHours
-with_standard ms = hours_in ms ++ (if is_some (get_member (codes "default") ms) then [] else standard_calendar ∷ [])
+with_standard ms =
+    hours_in ms
+    ++ (if is_some (get_member (codes "default") ms) then [] else standard_calendar ∷ [])
+
+-- the tables of a text's calendars
+abbrev pub calendar_tables : Members → Members
+calendar_tables ms = table_at (codes "calendar") ms
 
 -- the calendars of a text
 abbrev pub calendars_of : Members → List NamedHours
-calendars_of ms = with_standard (table_at (codes "calendar") ms)
+calendars_of ms = with_standard (calendar_tables ms)
 
 abbrev pub calendars_fault : Members → Option HoursFault
-calendars_fault ms = fault_in (table_at (codes "calendar") ms)
+calendars_fault ms = fault_in (calendar_tables ms)
 
 -- there are both or neither, and the calendar has these opening hours
 abbrev pub HasHoursIfAny : Option Calendar → Option Hours → Type 0
@@ -77,3 +84,11 @@ abbrev pub HaveHours : List NamedCalendar → List NamedHours → Type 0
 HaveHours [] [] = Unit {0}
 HaveHours (c ∷ cs) (h ∷ hs) = (c.name ≡ h.name) × HasHours c.calendar h.hours × HaveHours cs hs
 HaveHours _ _ = ⊥
+
+-- a calendar of these opening hours, which have no fault
+abbrev pub IsCalendarOf : Hours → Calendar → Type 0
+IsCalendarOf hours calendar = (hours_fault hours ≡ None) × HasHours calendar hours
+
+-- the calendars of a text, none of which has a fault
+abbrev pub AreCalendarsOf : Members → List NamedCalendar → Type 0
+AreCalendarsOf ms calendars = (calendars_fault ms ≡ None) × HaveHours calendars (calendars_of ms)

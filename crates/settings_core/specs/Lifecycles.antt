@@ -1,5 +1,5 @@
 -- The lifecycles of a settings text.
-use Rattle.std.specs.Prelude.{ℕ, List, [], ◌∷◌, ◌++◌, Option, None}
+use Rattle.std.specs.Prelude.{◌≡◌, ℕ, List, [], ◌∷◌, ◌++◌, Option, None}
 use Rattle.std.specs.Prelude.{is_some, find, codes, if◌then◌else◌}
 use Rattle.std.specs.Option.{option_map, option_or}
 use Rattle.std.specs.Str.{bytes_eq}
@@ -14,12 +14,14 @@ use Rattle.settings_core.specs.declared.named.NamedLifecycle.{NamedLifecycle}
 
 -- the lifecycle of that name in a list
 abbrev pub lifecycle_under : List ℕ → List NamedLifecycle → Option Parts
-lifecycle_under name lifecycles = option_map (λ l. l.lifecycle) (find (λ l. bytes_eq l.name name) lifecycles)
+lifecycle_under name lifecycles =
+    option_map (λ l. l.lifecycle) (find (λ l. bytes_eq l.name name) lifecycles)
 
 -- the lifecycles of a table
 abbrev pub lifecycles_in : Members → List NamedLifecycle
 lifecycles_in no_members = []
-lifecycles_in (member k d ms) = record { name = k; lifecycle = lifecycle_of (members_of d) } ∷ lifecycles_in ms
+lifecycles_in (member k d ms) =
+    record { name = k; lifecycle = lifecycle_of (members_of d) } ∷ lifecycles_in ms
 
 -- the fault of the first lifecycle, by byte order of names, that has one
 abbrev pub fault_in : Members → Option LifecycleFault
@@ -31,7 +33,9 @@ standard_lifecycle = record { name = codes "default"; lifecycle = default_lifecy
 
 -- the lifecycles of a table, and the lifecycle `default` where the table has none of that name
 abbrev pub with_standard : Members → List NamedLifecycle
-with_standard ms = lifecycles_in ms ++ (if is_some (get_member (codes "default") ms) then [] else standard_lifecycle ∷ [])
+with_standard ms =
+    lifecycles_in ms
+    ++ (if is_some (get_member (codes "default") ms) then [] else standard_lifecycle ∷ [])
 
 -- the lifecycles of a text
 abbrev pub lifecycles_of : Members → List NamedLifecycle
@@ -39,3 +43,11 @@ lifecycles_of ms = with_standard (table_at (codes "lifecycle") ms)
 
 abbrev pub lifecycles_fault : Members → Option LifecycleFault
 lifecycles_fault ms = fault_in (table_at (codes "lifecycle") ms)
+
+-- a lifecycle of these parts, which have no fault
+abbrev pub IsLifecycleOf : Parts → Parts → Type 0
+IsLifecycleOf parts lifecycle = (fault_of parts ≡ None) × (lifecycle ≡ parts)
+
+-- the lifecycles of a text, none of which has a fault
+abbrev pub AreLifecyclesOf : Members → List NamedLifecycle → Type 0
+AreLifecyclesOf ms lifecycles = (lifecycles_fault ms ≡ None) × (lifecycles ≡ lifecycles_of ms)

@@ -8,12 +8,11 @@ use Rattle.rights_core.specs.People.{is_among, knows}
 use Rattle.rights_core.specs.Right.{standard_rights}
 use Rattle.rights_core.specs.declared.grant.Grant.{Grant}
 use Rattle.rights_core.specs.declared.parts.Parts.{Parts}
-use Rattle.settings_parts.specs.PeopleParts.{people_in}
-use Rattle.settings_parts.specs.Values.{table_at}
+use Rattle.settings_parts.specs.PeopleParts.{people_in, tokens_of}
 use Rattle.settings_parts.specs.declared.people.Token.{Token}
+use Rattle.settings_core.specs.Calendars.{calendar_tables}
 use Rattle.settings_core.specs.Levels.{levels_of}
 use Rattle.settings_core.specs.Lifecycles.{lifecycles_of}
-use Rattle.settings_core.specs.Tokens.{tokens_of}
 use Rattle.settings_core.specs.declared.named.NamedLevel.{NamedLevel}
 use Rattle.settings_core.specs.declared.named.NamedLifecycle.{NamedLifecycle}
 
@@ -25,9 +24,12 @@ knows_right lifecycles right =
 abbrev pub knows_rights : List NamedLifecycle → List Grant → Bool
 knows_rights lifecycles grants = list_all (λ g. knows_right lifecycles g.right) grants
 
--- a table of calendars has the calendar, or it is the calendar `default`
+-- a text has the calendar, or it is the calendar `default`
+abbrev pub has_calendar : Members → List ℕ → Bool
+has_calendar ms name = is_some (get_member name (calendar_tables ms))
+
 abbrev pub knows_calendar : Members → List ℕ → Bool
-knows_calendar ms name = bytes_eq name (codes "default") || is_some (get_member name ms)
+knows_calendar ms name = bytes_eq name (codes "default") || has_calendar ms name
 
 abbrev pub knows_calendars : Members → List NamedLevel → Bool
 knows_calendars ms levels = list_all (λ l. knows_calendar ms l.level.calendar) levels
@@ -39,4 +41,4 @@ knows_persons people tokens = list_all (λ t. knows people t.person) tokens
 abbrev pub knows_names : Members → Bool
 knows_names ms =
     knows_rights (lifecycles_of ms) (people_in ms).grants
-    && knows_calendars (table_at (codes "calendar") ms) (levels_of ms) && knows_persons (people_in ms) (tokens_of ms)
+    && knows_calendars ms (levels_of ms) && knows_persons (people_in ms) (tokens_of ms)

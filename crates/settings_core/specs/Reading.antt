@@ -8,7 +8,7 @@ use Rattle.rights_core.specs.RightsFaults as rights
 use Rattle.settings_form.specs.Text.{IsTree}
 use Rattle.settings_form.specs.Walk.{form_fault}
 use Rattle.settings_parts.specs.LevelParts.{is_from_one, number_up_to}
-use Rattle.settings_parts.specs.PeopleParts.{people_in}
+use Rattle.settings_parts.specs.PeopleParts.{people_in, tokens_of}
 use Rattle.settings_parts.specs.Values.{integer_at, table_at}
 use Rattle.settings_core.specs.Calendars.{calendars_fault, calendars_of, hours_under, HasHoursIfAny}
 use Rattle.settings_core.specs.Fault.{of_form}
@@ -17,7 +17,7 @@ use Rattle.settings_core.specs.Lifecycles.{lifecycle_under, lifecycles_fault, li
 use Rattle.settings_core.specs.Names.{knows_names}
 use Rattle.settings_core.specs.Settings.{people_of, lifecycle_named, calendar_named, level_named}
 use Rattle.settings_core.specs.Settings.{person_of_token, request_limit, entry_limit}
-use Rattle.settings_core.specs.Tokens.{is_token, person_under, tokens_of}
+use Rattle.settings_core.specs.Tokens.{is_token, person_under}
 use Rattle.settings_core.specs.declared.fault.SettingsFault.{SettingsFault}
 use Rattle.settings_core.specs.declared.fault.SettingsFault.TheVariants.{NotToml, Hours, Lifecycle}
 use Rattle.settings_core.specs.declared.fault.SettingsFault.TheVariants.{Rights, UnknownName}
@@ -69,8 +69,10 @@ fault_of ms = option_or (option_map of_form (form_fault ms)) (table_fault ms)
 -- the settings that a tree states, part by part
 pub record IsStated (ms : Members) (settings : Settings) : Type 0 where
   pub people : people_of settings ≡ people_in ms
-  pub lifecycles : (name : List ℕ) → lifecycle_named settings name ≡ lifecycle_under name (lifecycles_of ms)
-  pub calendars : (name : List ℕ) → HasHoursIfAny (calendar_named settings name) (hours_under name (calendars_of ms))
+  pub lifecycles : (name : List ℕ)
+      → lifecycle_named settings name ≡ lifecycle_under name (lifecycles_of ms)
+  pub calendars : (name : List ℕ)
+      → HasHoursIfAny (calendar_named settings name) (hours_under name (calendars_of ms))
   pub levels : (name : List ℕ) → level_named settings name ≡ level_under name (levels_of ms)
   pub tokens : (token : List ℕ) → person_of_token settings token ≡ person_under token (tokens_of ms)
   pub requests : request_limit settings ≡ count_at (codes "max_requests") 1000000 ms
@@ -78,7 +80,8 @@ pub record IsStated (ms : Members) (settings : Settings) : Type 0 where
 
 -- the bytes are a text of these settings: a tree without a fault that states them
 abbrev pub IsSettingsOf : List ℕ → Settings → Type 0
-IsSettingsOf bytes settings = (ms : Members) × IsTree bytes ms × (fault_of ms ≡ None) × IsStated ms settings
+IsSettingsOf bytes settings =
+    (ms : Members) × IsTree bytes ms × (fault_of ms ≡ None) × IsStated ms settings
 
 -- the bytes have this fault: no tree, or a tree whose least fault it is
 abbrev pub IsFaultOf : List ℕ → SettingsFault → Type 0

@@ -26,7 +26,8 @@ lifecycle_named settings name = lifecycle_under name settings.lifecycles
 
 -- the calendar of that name, if there is one
 abbrev pub calendar_named : Settings → List ℕ → Option Calendar
-calendar_named settings name = option_map (λ c. c.calendar) (find (λ c. bytes_eq c.name name) settings.calendars)
+calendar_named settings name =
+    option_map (λ c. c.calendar) (find (λ c. bytes_eq c.name name) settings.calendars)
 
 -- the level of that name, if there is one
 abbrev pub level_named : Settings → List ℕ → Option Level

@@ -1,12 +1,9 @@
 -- Tokens, and the persons whom they stand for.
-use Rattle.std.specs.Prelude.{ℕ, Bool, ◌&&◌, ◌||◌, ◌==◌, List, length, nat_le, Option, find, codes}
+use Rattle.std.specs.Prelude.{ℕ, Bool, ◌&&◌, ◌||◌, ◌==◌, List, length, nat_le, Option, find}
 use Rattle.std.specs.List.{list_all}
 use Rattle.std.specs.Option.{option_map}
 use Rattle.std.specs.Str.{bytes_eq}
 use Rattle.text_core.specs.Form.{is_letter, is_digit}
-use Rattle.toml.specs.Data.{Members}
-use Rattle.settings_parts.specs.PeopleParts.{tokens_in}
-use Rattle.settings_parts.specs.Values.{table_at}
 use Rattle.settings_parts.specs.declared.people.Token.{Token}
 
 -- the person of a token in a list
@@ -20,7 +17,3 @@ is_token_byte b = is_letter b || is_digit b || (b == 45) || (b == 95)
 -- 16 to 64 of them
 abbrev pub is_token : List ℕ → Bool
 is_token text = nat_le 16 (length text) && nat_le (length text) 64 && list_all is_token_byte text
-
--- the tokens of a text
-abbrev pub tokens_of : Members → List Token
-tokens_of ms = tokens_in (table_at (codes "tokens") ms)

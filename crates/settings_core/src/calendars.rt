@@ -3,6 +3,7 @@
 ghost use Rattle.std.specs.Prelude.{◌≡◌, ◌≢◌, None, Some, IfOk, IfErr};
 ghost use Rattle.toml.specs.View.{view, table_view};
 ghost use Rattle.hours_core.specs.Calendar.{HasHours};
+ghost use Rattle.hours_core.specs.declared.fault.HoursFault.TheVariants.{NoMemory};
 ghost use Rattle.settings_parts.specs.CalendarParts.{hours_of, hours_stated};
 ghost use Rattle.settings_parts.specs.Values.{members_of};
 ghost use Rattle.settings_core.specs.Calendars as spec;
@@ -15,10 +16,12 @@ use std::alloc::{AllocError, Global};
 use text_core::Text;
 use toml::{Table, Value};
 
-/// The calendars of a settings text by name, and the calendar `default` where it has none of that name.
+/// The calendars of a settings text by name, and the calendar `default` where it has none of that
+/// name.
 pub fn calendars_of(alloc: Global, table: &Table) -> Result<Vec<NamedCalendar>, HoursFault>
-    ensures ok { IfOk result (λ v. (spec.calendars_fault (table_view table.now) ≡ None) × spec.HaveHours v.items (spec.calendars_of (table_view table.now))) }
-    ensures err { IfErr result (λ e. e ≢ HoursFault.NoMemory → spec.calendars_fault (table_view table.now) ≡ Some e) }
+    ensures ok { IfOk result (λ v. spec.AreCalendarsOf (table_view table.now) v.items) }
+    ensures err { IfErr result (λ e. e ≢ NoMemory
+        → spec.calendars_fault (table_view table.now) ≡ Some e) }
 {
     match table_at(table, "calendar") {
         Some(calendars) => with_standard(alloc, calendars),
@@ -28,8 +31,9 @@ pub fn calendars_of(alloc: Global, table: &Table) -> Result<Vec<NamedCalendar>, 
 
 /// The calendars of a table, and the calendar `default` where it has none of that name.
 fn with_standard(alloc: Global, table: &Table) -> Result<Vec<NamedCalendar>, HoursFault>
-    ensures ok { IfOk result (λ v. (spec.fault_in (table_view table.now) ≡ None) × spec.HaveHours v.items (spec.with_standard (table_view table.now))) }
-    ensures err { IfErr result (λ e. e ≢ HoursFault.NoMemory → spec.fault_in (table_view table.now) ≡ Some e) }
+    ensures ok { IfOk result (λ v. (spec.fault_in (table_view table.now) ≡ None)
+        × spec.HaveHours v.items (spec.with_standard (table_view table.now))) }
+    ensures err { IfErr result (λ e. e ≢ NoMemory → spec.fault_in (table_view table.now) ≡ Some e) }
 {
     let mut calendars = calendars_in(alloc, table)?;
     if !has_key(table, STANDARD) {
@@ -44,8 +48,9 @@ fn with_standard(alloc: Global, table: &Table) -> Result<Vec<NamedCalendar>, Hou
 
 /// The calendars of a table.
 fn calendars_in(alloc: Global, table: &Table) -> Result<Vec<NamedCalendar>, HoursFault>
-    ensures ok { IfOk result (λ v. (spec.fault_in (table_view table.now) ≡ None) × spec.HaveHours v.items (spec.hours_in (table_view table.now))) }
-    ensures err { IfErr result (λ e. e ≢ HoursFault.NoMemory → spec.fault_in (table_view table.now) ≡ Some e) }
+    ensures ok { IfOk result (λ v. (spec.fault_in (table_view table.now) ≡ None)
+        × spec.HaveHours v.items (spec.hours_in (table_view table.now))) }
+    ensures err { IfErr result (λ e. e ≢ NoMemory → spec.fault_in (table_view table.now) ≡ Some e) }
 {
     let mut found = Vec::new(alloc);
     for (name, value) in table.iter() {
@@ -60,8 +65,9 @@ fn calendars_in(alloc: Global, table: &Table) -> Result<Vec<NamedCalendar>, Hour
 
 /// The calendar of a table.
 fn built(alloc: Global, value: &Value) -> Result<Calendar, HoursFault>
-    ensures ok { IfOk result (λ c. (spec.hours_fault (hours_of (members_of (view value.now))) ≡ None) × HasHours c (hours_of (members_of (view value.now)))) }
-    ensures err { IfErr result (λ e. e ≢ HoursFault.NoMemory → spec.hours_fault (hours_of (members_of (view value.now))) ≡ Some e) }
+    ensures ok { IfOk result (spec.IsCalendarOf (hours_of (members_of (view value.now)))) }
+    ensures err { IfErr result (λ e. e ≢ NoMemory
+        → spec.hours_fault (hours_of (members_of (view value.now))) ≡ Some e) }
 {
     match table_of(value) {
         Some(table) => built_of(alloc, table),
@@ -70,16 +76,18 @@ fn built(alloc: Global, value: &Value) -> Result<Calendar, HoursFault>
 }
 
 fn built_of(alloc: Global, table: &Table) -> Result<Calendar, HoursFault>
-    ensures ok { IfOk result (λ c. (spec.hours_fault (hours_of (table_view table.now)) ≡ None) × HasHours c (hours_of (table_view table.now))) }
-    ensures err { IfErr result (λ e. e ≢ HoursFault.NoMemory → spec.hours_fault (hours_of (table_view table.now)) ≡ Some e) }
+    ensures ok { IfOk result (spec.IsCalendarOf (hours_of (table_view table.now))) }
+    ensures err { IfErr result (λ e. e ≢ NoMemory
+        → spec.hours_fault (hours_of (table_view table.now)) ≡ Some e) }
 {
     calendar_from(alloc, &calendar_of(alloc, table)?)
 }
 
 /// The calendar of its parts, or their least fault, that of the zone first.
 fn calendar_from(alloc: Global, parts: &CalendarParts) -> Result<Calendar, HoursFault>
-    ensures ok { IfOk result (λ c. (spec.hours_fault (hours_stated parts.now) ≡ None) × HasHours c (hours_stated parts.now)) }
-    ensures err { IfErr result (λ e. e ≢ HoursFault.NoMemory → spec.hours_fault (hours_stated parts.now) ≡ Some e) }
+    ensures ok { IfOk result (spec.IsCalendarOf (hours_stated parts.now)) }
+    ensures err { IfErr result (λ e. e ≢ NoMemory
+        → spec.hours_fault (hours_stated parts.now) ≡ Some e) }
 {
     let zone = Zone::build(alloc, parts.offset, parts.changes.as_slice())?;
     let holidays = parts.holidays.as_slice();
@@ -89,7 +97,7 @@ fn calendar_from(alloc: Global, parts: &CalendarParts) -> Result<Calendar, Hours
 /// Monday to Friday from 09:00 to 18:00 UTC, from 2000 to 2099. The only fault is `NoMemory`.
 fn standard_calendar(alloc: Global) -> Result<Calendar, HoursFault>
     ensures ok { IfOk result (λ c. HasHours c spec.standard_hours) }
-    ensures err { IfErr result (λ e. e ≡ HoursFault.NoMemory) }
+    ensures err { IfErr result (λ e. e ≡ NoMemory) }
 {
     calendar_from(alloc, &standard_parts(alloc)?)
 }

@@ -11,7 +11,8 @@ use settings_form::fault::{FormFault, TextFault};
 use std::alloc::AllocError;
 use thiserror::Error;
 
-/// Why a text states no settings. Where several faults apply, the one with the least number is answered.
+/// Why a text states no settings. Where several faults apply, the one with the least number is
+/// answered.
 #[derive(Clone, Copy, Debug, PartialEq, Eq, Error)]
 pub enum SettingsFault {
     /// The bytes are no TOML.
@@ -21,28 +22,29 @@ pub enum SettingsFault {
     #[error("a table has a key that settings don't have")]
     UnknownKey,
     /// A required key is absent, or a limit has neither unit.
-    #[error("a table lacks a key that it must have")]
+    #[error("a table lacks a key that it must have, or a limit lacks both units")]
     Missing,
     /// A value, or a key that is free, is of another kind or form.
-    #[error("a value is of another kind or form than its key allows")]
+    #[error("a value, or a key of one's own, is of another kind or form than is allowed there")]
     WrongKind,
     /// A calendar has a fault.
-    #[error("a calendar has offsets, changes, intervals or years that it can't have")]
+    #[error("in a calendar: {0}")]
     Hours(HoursFault),
     /// A lifecycle has a fault.
-    #[error("a lifecycle has statuses, moves or rights that it can't have")]
+    #[error("in a lifecycle: {0}")]
     Lifecycle(LifecycleFault),
     /// The persons, groups and grants have a fault.
-    #[error("persons, groups and grants have names that they can't have, or name one that isn't there")]
+    #[error("among persons, groups and grants: {0}")]
     Rights(RightsFault),
     /// A granted right, a level's calendar or a token's person isn't known.
     #[error("a granted right, a level's calendar or a token's person isn't known")]
     UnknownName,
     /// A token isn't 16 to 64 letters, digits, `-` and `_`.
-    #[error("a token isn't 16 to 64 letters, digits, `-` and `_`")]
+    #[error("a token must be 16 to 64 letters, digits, `-` and `_`")]
     BadToken,
-    /// A limit has both units or isn't from 1 to 525,600, or the most requests or entries are out of range.
-    #[error("a limit is out of its range, or has both units")]
+    /// A limit has both units or isn't from 1 to 525,600, or the most requests or entries are out
+    /// of range.
+    #[error("limits are 1 to 525,600 minutes in one unit, 1,000,000 requests, 10,000 entries")]
     BadLimit,
     /// Memory was refused.
     #[error("out of memory")]

@@ -1,7 +1,8 @@
 //! The settings that a desk runs by, as a text in TOML states them.
 //!
-//! A text has the keys that the tables of `settings_form` list. Where it is silent, settings know one person, `root`,
-//! who holds every right, one lifecycle and one calendar, both named `default`, and no level.
+//! A text has the keys that the tables of `settings_form` list. Where it is silent, settings know
+//! one person, `root`, who holds every right, one lifecycle and one calendar, both named `default`,
+//! and no level.
 #![tactic(auto)]
 
 mod calendars;

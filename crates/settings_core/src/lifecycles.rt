@@ -3,6 +3,7 @@
 ghost use Rattle.std.specs.Prelude.{◌≡◌, ◌≢◌, None, Some, IfOk, IfErr};
 ghost use Rattle.toml.specs.View.{view, table_view};
 ghost use Rattle.lifecycle_core.specs.Fault.{fault_of};
+ghost use Rattle.lifecycle_core.specs.declared.fault.LifecycleFault.TheVariants.{NoMemory};
 ghost use Rattle.settings_parts.specs.LifecycleParts.{lifecycle_of as parts_in};
 ghost use Rattle.settings_parts.specs.Values.{members_of};
 ghost use Rattle.settings_core.specs.Lifecycles as spec;
@@ -15,10 +16,12 @@ use std::alloc::{AllocError, Global};
 use text_core::Text;
 use toml::{Table, Value};
 
-/// The lifecycles of a settings text by name, and the lifecycle `default` where it has none of that name.
+/// The lifecycles of a settings text by name, and the lifecycle `default` where it has none of that
+/// name.
 pub fn lifecycles_of(alloc: Global, table: &Table) -> Result<Vec<NamedLifecycle>, LifecycleFault>
-    ensures ok { IfOk result (λ v. (spec.lifecycles_fault (table_view table.now) ≡ None) × (v.items ≡ spec.lifecycles_of (table_view table.now))) }
-    ensures err { IfErr result (λ e. e ≢ LifecycleFault.NoMemory → spec.lifecycles_fault (table_view table.now) ≡ Some e) }
+    ensures ok { IfOk result (λ v. spec.AreLifecyclesOf (table_view table.now) v.items) }
+    ensures err { IfErr result (λ e. e ≢ NoMemory
+        → spec.lifecycles_fault (table_view table.now) ≡ Some e) }
 {
     match table_at(table, "lifecycle") {
         Some(lifecycles) => with_standard(alloc, lifecycles),
@@ -28,8 +31,9 @@ pub fn lifecycles_of(alloc: Global, table: &Table) -> Result<Vec<NamedLifecycle>
 
 /// The lifecycles of a table, and the lifecycle `default` where it has none of that name.
 fn with_standard(alloc: Global, table: &Table) -> Result<Vec<NamedLifecycle>, LifecycleFault>
-    ensures ok { IfOk result (λ v. (spec.fault_in (table_view table.now) ≡ None) × (v.items ≡ spec.with_standard (table_view table.now))) }
-    ensures err { IfErr result (λ e. e ≢ LifecycleFault.NoMemory → spec.fault_in (table_view table.now) ≡ Some e) }
+    ensures ok { IfOk result (λ v. (spec.fault_in (table_view table.now) ≡ None)
+        × (v.items ≡ spec.with_standard (table_view table.now))) }
+    ensures err { IfErr result (λ e. e ≢ NoMemory → spec.fault_in (table_view table.now) ≡ Some e) }
 {
     let mut lifecycles = lifecycles_in(alloc, table)?;
     if !has_key(table, STANDARD) {
@@ -44,8 +48,9 @@ fn with_standard(alloc: Global, table: &Table) -> Result<Vec<NamedLifecycle>, Li
 
 /// The lifecycles of a table.
 fn lifecycles_in(alloc: Global, table: &Table) -> Result<Vec<NamedLifecycle>, LifecycleFault>
-    ensures ok { IfOk result (λ v. (spec.fault_in (table_view table.now) ≡ None) × (v.items ≡ spec.lifecycles_in (table_view table.now))) }
-    ensures err { IfErr result (λ e. e ≢ LifecycleFault.NoMemory → spec.fault_in (table_view table.now) ≡ Some e) }
+    ensures ok { IfOk result (λ v. (spec.fault_in (table_view table.now) ≡ None)
+        × (v.items ≡ spec.lifecycles_in (table_view table.now))) }
+    ensures err { IfErr result (λ e. e ≢ NoMemory → spec.fault_in (table_view table.now) ≡ Some e) }
 {
     let mut found = Vec::new(alloc);
     for (name, value) in table.iter() {
@@ -60,8 +65,9 @@ fn lifecycles_in(alloc: Global, table: &Table) -> Result<Vec<NamedLifecycle>, Li
 
 /// The lifecycle of a table.
 fn built(alloc: Global, value: &Value) -> Result<Lifecycle, LifecycleFault>
-    ensures ok { IfOk result (λ l. (fault_of (parts_in (members_of (view value.now))) ≡ None) × (l ≡ parts_in (members_of (view value.now)))) }
-    ensures err { IfErr result (λ e. e ≢ LifecycleFault.NoMemory → fault_of (parts_in (members_of (view value.now))) ≡ Some e) }
+    ensures ok { IfOk result (spec.IsLifecycleOf (parts_in (members_of (view value.now)))) }
+    ensures err { IfErr result (λ e. e ≢ NoMemory
+        → fault_of (parts_in (members_of (view value.now))) ≡ Some e) }
 {
     match table_of(value) {
         Some(table) => built_of(alloc, table),
@@ -70,8 +76,9 @@ fn built(alloc: Global, value: &Value) -> Result<Lifecycle, LifecycleFault>
 }
 
 fn built_of(alloc: Global, table: &Table) -> Result<Lifecycle, LifecycleFault>
-    ensures ok { IfOk result (λ l. (fault_of (parts_in (table_view table.now)) ≡ None) × (l ≡ parts_in (table_view table.now))) }
-    ensures err { IfErr result (λ e. e ≢ LifecycleFault.NoMemory → fault_of (parts_in (table_view table.now)) ≡ Some e) }
+    ensures ok { IfOk result (spec.IsLifecycleOf (parts_in (table_view table.now))) }
+    ensures err { IfErr result (λ e. e ≢ NoMemory
+        → fault_of (parts_in (table_view table.now)) ≡ Some e) }
 {
     let parts = lifecycle_of(alloc, table)?;
     Lifecycle::build(alloc, &parts)

@@ -15,7 +15,8 @@ use toml::{Table, Value};
 /// The most requests that settings may allow, and how many they allow without a text.
 pub const MAX_REQUESTS: u32 = 1_000_000;
 
-/// The most entries in a request's history that settings may allow, and how many they allow without a text.
+/// The most entries in a request's history that settings may allow, and how many they allow without
+/// a text.
 pub const MAX_ENTRIES: u32 = 10_000;
 
 /// The number at a key, from 1 to the most, or the most where it is absent.

@@ -1,11 +1,9 @@
 //! Whether the names of a settings text are known.
 
-ghost use Rattle.std.specs.Prelude.{◌≡◌, codes, is_some};
+ghost use Rattle.std.specs.Prelude.{◌≡◌};
 ghost use Rattle.std.specs.List.{list_any};
-ghost use Rattle.toml.specs.Data.{get_member};
 ghost use Rattle.toml.specs.View.{table_view};
 ghost use Rattle.lifecycle_core.specs.Lifecycle.{names_right};
-ghost use Rattle.settings_parts.specs.Values.{table_at as members_at};
 ghost use Rattle.settings_core.specs.Names as spec;
 
 use crate::named::{NamedLevel, NamedLifecycle, STANDARD};
@@ -37,7 +35,7 @@ fn name_right(lifecycles: &[NamedLifecycle], right: &str) -> bool
 
 /// Whether the calendar of each level is one of the text's, or the calendar `default`.
 pub fn knows_calendars(table: &Table, levels: &[NamedLevel]) -> bool
-    ensures { result ≡ spec.knows_calendars (members_at (codes "calendar") (table_view table.now)) levels.now }
+    ensures { result ≡ spec.knows_calendars (table_view table.now) levels.now }
 {
     levels
         .iter()
@@ -45,13 +43,13 @@ pub fn knows_calendars(table: &Table, levels: &[NamedLevel]) -> bool
 }
 
 fn knows_calendar(table: &Table, name: &str) -> bool
-    ensures { result ≡ spec.knows_calendar (members_at (codes "calendar") (table_view table.now)) name.now }
+    ensures { result ≡ spec.knows_calendar (table_view table.now) name.now }
 {
     name == STANDARD || has_calendar(table, name)
 }
 
 fn has_calendar(table: &Table, name: &str) -> bool
-    ensures { result ≡ is_some (get_member name.now (members_at (codes "calendar") (table_view table.now))) }
+    ensures { result ≡ spec.has_calendar (table_view table.now) name.now }
 {
     match table_at(table, "calendar") {
         Some(calendars) => has_key(calendars, name),

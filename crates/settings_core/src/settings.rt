@@ -6,6 +6,7 @@ ghost use Rattle.settings_core.specs.Names.{knows_names as knows_names_in};
 ghost use Rattle.settings_core.specs.Reading as spec;
 ghost use Rattle.settings_core.specs.Reading.{IsSettingsOf, IsFaultOf, IsStated};
 ghost use Rattle.settings_core.specs.Settings as words;
+ghost use Rattle.settings_core.specs.declared.fault.SettingsFault.TheVariants.{NoMemory};
 
 use crate::calendars::calendars_of;
 use crate::fault::SettingsFault;
@@ -40,20 +41,22 @@ pub struct Settings {
 impl Settings {
     /// The settings that a text states, or its fault with the least number.
     ///
-    /// The inner fault of a calendar or a lifecycle is that of the first one by byte order of names that has any.
+    /// The inner fault of a calendar or a lifecycle is that of the first one by byte order of names
+    /// that has any.
     pub fn read(alloc: Global, bytes: &[u8]) -> Result<Settings, SettingsFault>
         ensures ok { IfOk result (IsSettingsOf bytes.now) }
-        ensures err { IfErr result (λ e. e ≢ SettingsFault.NoMemory → IsFaultOf bytes.now e) }
+        ensures err { IfErr result (λ e. e ≢ NoMemory → IsFaultOf bytes.now e) }
     {
         let table = table_of(alloc, bytes)?;
         stated(alloc, &table)
     }
 
-    /// The settings of the empty text: the person `root` with every right, the lifecycle `default`, the calendar
-    /// `default`, no level, no token, and 1,000,000 requests with 10,000 entries each. The only fault is `NoMemory`.
+    /// The settings of the empty text: the person `root` with every right, the lifecycle `default`,
+    /// the calendar `default`, no level, no token, and 1,000,000 requests with 10,000 entries each.
+    /// The only fault is `NoMemory`.
     pub fn built_in(alloc: Global) -> Result<Settings, SettingsFault>
         ensures ok { IfOk result (IsSettingsOf []) }
-        ensures err { IfErr result (λ e. e ≡ SettingsFault.NoMemory) }
+        ensures err { IfErr result (λ e. e ≡ NoMemory) }
     {
         stated(alloc, &Table::new(alloc))
     }
@@ -126,8 +129,10 @@ impl Settings {
 
 /// The settings that a table without a fault of form states, or its fault with the least number.
 fn stated(alloc: Global, table: &Table) -> Result<Settings, SettingsFault>
-    ensures ok { IfOk result (λ s. (spec.table_fault (table_view table.now) ≡ None) × IsStated (table_view table.now) s) }
-    ensures err { IfErr result (λ e. e ≢ SettingsFault.NoMemory → spec.table_fault (table_view table.now) ≡ Some e) }
+    ensures ok { IfOk result (λ s. (spec.table_fault (table_view table.now) ≡ None)
+        × IsStated (table_view table.now) s) }
+    ensures err { IfErr result (λ e. e ≢ NoMemory
+        → spec.table_fault (table_view table.now) ≡ Some e) }
 {
     let settings = built(alloc, table)?;
     match late_fault(table, &settings) {
@@ -136,10 +141,13 @@ fn stated(alloc: Global, table: &Table) -> Result<Settings, SettingsFault>
     }
 }
 
-/// The settings of a table by the lower builds, whose names, tokens and limits may still have a fault.
+/// The settings of a table by the lower builds, whose names, tokens and limits may still have a
+/// fault.
 fn built(alloc: Global, table: &Table) -> Result<Settings, SettingsFault>
-    ensures ok { IfOk result (λ s. (spec.build_fault (table_view table.now) ≡ None) × IsBuilt (table_view table.now) s) }
-    ensures err { IfErr result (λ e. e ≢ SettingsFault.NoMemory → spec.build_fault (table_view table.now) ≡ Some e) }
+    ensures ok { IfOk result (λ s. (spec.build_fault (table_view table.now) ≡ None)
+        × IsBuilt (table_view table.now) s) }
+    ensures err { IfErr result (λ e. e ≢ NoMemory
+        → spec.build_fault (table_view table.now) ≡ Some e) }
 {
     let calendars = calendars_of(alloc, table)?;
     let lifecycles = lifecycles_of(alloc, table)?;

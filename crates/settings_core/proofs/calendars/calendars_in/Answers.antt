@@ -11,14 +11,24 @@ use Rattle.settings_core.proofs.calendars.calendars_in.Goals as goal
 pub loop-name-preserved : goal.loop-name-preserved
 loop-name-preserved c =
     let before = c.loop-name.invariant.2 in
-    let next : NamedHours = record { name = string_bytes c.in-Some.name.now; hours = hours_of (members_of (view c.in-Some.value.now)) } in
-    let named : NamedCalendar = record { name = c.in_ok-name.name; calendar = c.in_ok-calendar.calendar } in
+    let next : NamedHours =
+    record {
+      name = string_bytes c.in-Some.name.now;
+      hours = hours_of (members_of (view c.in-Some.value.now));
+    } in
+    let named : NamedCalendar =
+    record { name = c.in_ok-name.name; calendar = c.in_ok-calendar.calendar } in
     let pushed : c.push.new.self.items ≡ c.loop-name.found.items ++ named ∷ [] = search rules in
     let P : List NamedCalendar → Type 0 = λ xs. HaveHours xs (before.0 ++ next ∷ []) in
-    let all = one_more c.loop-name.found.items before.0 named next before.1 (c.in_ok-name.ensures ∙ c.as_str.ensures.value) c.in_ok-calendar.ensures.ok.1 in
+    let all = one_more c.loop-name.found.items before.0 named next before.1
+    (c.in_ok-name.ensures ∙ c.as_str.ensures.value) c.in_ok-calendar.ensures.ok.1 in
     let faults = rw c.in-Some.ensures.steps at c.loop-name.invariant.3 in (
       tt,
       tt,
-      (before.0 ++ next ∷ [], subst P (sym pushed) all, rw append_assoc (rw c.in-Some.ensures.steps at before.2)),
+      (
+        before.0 ++ next ∷ [],
+        subst P (sym pushed) all,
+        rw append_assoc (rw c.in-Some.ensures.steps at before.2),
+      ),
       rw c.in_ok-calendar.ensures.ok.0 at faults,
     )

@@ -8,5 +8,5 @@ invariant-loop-name l =
     (goal.iterator-loop-name).can_next l.name-iterator ×
     (goal.iterator-loop-name).is_finite l.name-iterator ×
     ((before : List NamedHours) × HaveHours l.found.items before
-    × (before ++ hours_in (members_view l.name-iterator) ≡ hours_in (members_view l.table.entries))) ×
-    (fault_in (members_view l.name-iterator) ≡ fault_in (members_view l.table.entries))
+    × (before ++ hours_in (members_view l.name-iterator) ≡ hours_in (members_view l.table.entries)))
+    × (fault_in (members_view l.name-iterator) ≡ fault_in (members_view l.table.entries))

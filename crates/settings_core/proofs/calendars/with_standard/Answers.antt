@@ -14,13 +14,18 @@ returns-clause-ok c =
       c.in_ok-calendars.ensures.ok.0,
       elim c.if-not-has_key.branch [
         | then-not-has_key+in_ok-new+in_ok-standard_calendar+in_ok-map_err w ↦
-            let named : NamedCalendar = record { name = w.in_ok-new.field-0; calendar = w.in_ok-standard_calendar.field-0 } in
-            let pushed : w.push.new.self.items ≡ c.in_ok-calendars.calendars.items ++ named ∷ [] = search rules in
+            let named : NamedCalendar =
+            record { name = w.in_ok-new.field-0; calendar = w.in_ok-standard_calendar.field-0 } in
+            let pushed : w.push.new.self.items ≡ c.in_ok-calendars.calendars.items ++ named ∷ [] =
+            search rules in
             let whole = ap (λ v. v.items) w.calendars-is ∙ pushed in
             subst P (sym whole)
-            (one_more_if _ c.in_ok-calendars.calendars.items (hours_in ms) named standard_calendar (sym c.has_key.ensures ∙ w.if-not-has_key.true) c.in_ok-calendars.ensures.ok.1 w.in_ok-new.ensures w.in_ok-standard_calendar.ensures.ok)
+            (one_more_if _ c.in_ok-calendars.calendars.items (hours_in ms) named standard_calendar
+            (sym c.has_key.ensures ∙ w.if-not-has_key.true) c.in_ok-calendars.ensures.ok.1
+            w.in_ok-new.ensures w.in_ok-standard_calendar.ensures.ok)
         | else-not-has_key w ↦
             subst P (sym (ap (λ v. v.items) w.calendars-is))
-            (none_more _ c.in_ok-calendars.calendars.items (hours_in ms) standard_calendar (sym c.has_key.ensures ∙ w.if-not-has_key.false) c.in_ok-calendars.ensures.ok.1)
+            (none_more _ c.in_ok-calendars.calendars.items (hours_in ms) standard_calendar
+            (sym c.has_key.ensures ∙ w.if-not-has_key.false) c.in_ok-calendars.ensures.ok.1)
       ],
     )

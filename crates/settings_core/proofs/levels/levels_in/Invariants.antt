@@ -7,4 +7,5 @@ abbrev pub invariant-loop-name : goal.invariant-loop-name
 invariant-loop-name l =
     (goal.iterator-loop-name).can_next l.name-iterator ×
     (goal.iterator-loop-name).is_finite l.name-iterator ×
-    (l.found.items ++ levels_in (members_view l.name-iterator) ≡ levels_in (members_view l.table.entries))
+    (l.found.items ++ levels_in (members_view l.name-iterator)
+    ≡ levels_in (members_view l.table.entries))

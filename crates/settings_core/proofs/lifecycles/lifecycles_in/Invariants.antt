@@ -7,5 +7,6 @@ abbrev pub invariant-loop-name : goal.invariant-loop-name
 invariant-loop-name l =
     (goal.iterator-loop-name).can_next l.name-iterator ×
     (goal.iterator-loop-name).is_finite l.name-iterator ×
-    (l.found.items ++ lifecycles_in (members_view l.name-iterator) ≡ lifecycles_in (members_view l.table.entries)) ×
+    (l.found.items ++ lifecycles_in (members_view l.name-iterator)
+    ≡ lifecycles_in (members_view l.table.entries)) ×
     (fault_in (members_view l.name-iterator) ≡ fault_in (members_view l.table.entries))

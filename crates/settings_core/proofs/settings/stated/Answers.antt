@@ -6,5 +6,7 @@ use Rattle.settings_core.proofs.settings.stated.Goals as goal
 
 pub returns-in-None-clause-ok : goal.returns-in-None-clause-ok
 returns-in-None-clause-ok c =
-    let ms = table_view c.args.table.now in
-    (none_of_either ms c.in_ok-settings.ensures.ok.0 (sym c.in-None.ensures), stated ms _ c.in_ok-settings.ensures.ok.1)
+    let ms = table_view c.args.table.now in (
+      none_of_either ms c.in_ok-settings.ensures.ok.0 (sym c.in-None.ensures),
+      stated ms _ c.in_ok-settings.ensures.ok.1,
+    )

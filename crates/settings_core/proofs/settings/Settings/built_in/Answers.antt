@@ -4,7 +4,11 @@ use Rattle.settings_core.proofs.Empty.{settings_of_empty, only_memory}
 use Rattle.settings_core.proofs.settings.Settings.built_in.Goals as goal
 
 pub returns-clause-ok : goal.returns-clause-ok
-returns-clause-ok c = settings_of_empty c.stated.result (table_view c.new.result) (ap members_view c.new.ensures.empty) c.stated.ensures.ok
+returns-clause-ok c =
+    settings_of_empty c.stated.result (table_view c.new.result)
+    (ap members_view c.new.ensures.empty) c.stated.ensures.ok
 
 pub returns-clause-err : goal.returns-clause-err
-returns-clause-err c = only_memory c.stated.result (table_view c.new.result) (ap members_view c.new.ensures.empty) c.stated.ensures.err
+returns-clause-err c =
+    only_memory c.stated.result (table_view c.new.result)
+    (ap members_view c.new.ensures.empty) c.stated.ensures.err

@@ -8,4 +8,6 @@ pub returns-clause-err : goal.returns-clause-err
 returns-clause-err c =
     let tree = c.in_ok-table.ensures.ok in
     let ms = table_view c.in_ok-table.table in
-    IfErr-weaker c.stated.result _ _ (λ e found other. inr (ms, tree.0, fault_after ms (Some e) tree.1 (found other))) c.stated.ensures.err
+    IfErr-weaker c.stated.result _ _
+    (λ e found other. inr (ms, tree.0, fault_after ms (Some e) tree.1 (found other)))
+    c.stated.ensures.err
