@@ -4,8 +4,6 @@ use Rattle.settings_core.specs.Calendars.{HaveHours, hours_in, standard_calendar
 use Rattle.settings_core.specs.declared.named.NamedCalendar.{NamedCalendar}
 use Rattle.settings_core.proofs.Found.{none_more, one_more_if}
 use Rattle.settings_core.proofs.calendars.with_standard.Goals as goal
-use Rattle.settings_core.proofs.calendars.with_standard.Goals.{then-not-has_key+in_ok-new+in_ok-standard_calendar+in_ok-map_err}
-use Rattle.settings_core.proofs.calendars.with_standard.Goals.{else-not-has_key}
 
 pub returns-clause-ok : goal.returns-clause-ok
 returns-clause-ok c =
@@ -13,7 +11,7 @@ returns-clause-ok c =
     let P : List NamedCalendar → Type 0 = λ xs. HaveHours xs (with_standard ms) in (
       c.in_ok-calendars.ensures.ok.0,
       elim c.if-not-has_key.branch [
-        | then-not-has_key+in_ok-new+in_ok-standard_calendar+in_ok-map_err w ↦
+        | goal.then-not-has_key+in_ok-new+in_ok-standard_calendar+in_ok-map_err w ↦
             let named : NamedCalendar =
             record { name = w.in_ok-new.field-0; calendar = w.in_ok-standard_calendar.field-0 } in
             let pushed : w.push.new.self.items ≡ c.in_ok-calendars.calendars.items ++ named ∷ [] =
@@ -23,7 +21,7 @@ returns-clause-ok c =
             (one_more_if _ c.in_ok-calendars.calendars.items (hours_in ms) named standard_calendar
             (sym c.has_key.ensures ∙ w.if-not-has_key.true) c.in_ok-calendars.ensures.ok.1
             w.in_ok-new.ensures w.in_ok-standard_calendar.ensures.ok)
-        | else-not-has_key w ↦
+        | goal.else-not-has_key w ↦
             subst P (sym (ap (λ v. v.items) w.calendars-is))
             (none_more _ c.in_ok-calendars.calendars.items (hours_in ms) standard_calendar
             (sym c.has_key.ensures ∙ w.if-not-has_key.false) c.in_ok-calendars.ensures.ok.1)
