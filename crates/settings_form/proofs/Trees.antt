@@ -1,12 +1,12 @@
 -- Walks of a map's entries beside walks of the members that they stand for.
-use Rattle.std.proofs.Common.{◌≡◌, ◌<◌, ◌≤◌, false, length, arith, List, []}
+use Rattle.std.proofs.Common.{◌≡◌, ◌≢◌, None, length, List, []}
 use Rattle.std.proofs.Common.{◌∷◌, String, Global, string_bytes, refl}
 use Rattle.std.specs.List.{list_any}
 use Rattle.std.specs.Map.{keys_of}
 use Rattle.toml.specs.declared.value.Value.{Value}
 use Rattle.toml.specs.View.{items_view, members_view}
 use Rattle.settings_form.specs.declared.form.Place.{Place}
-use Rattle.settings_form.specs.Kinds.{has_unknown_key, is_unknown, are_two}
+use Rattle.settings_form.specs.Kinds.{has_unknown_key, is_unknown, two_of}
 
 pub unknown_keys : (p : Place) (es : List (String Global × Value))
     → list_any (λ k. is_unknown p (string_bytes k)) (keys_of es)
@@ -14,13 +14,8 @@ pub unknown_keys : (p : Place) (es : List (String Global × Value))
 unknown_keys p [] = refl
 unknown_keys p (e ∷ es) = rw (unknown_keys p es)
 
-pub not_two_below : (vs : List Value) → length vs < 2 → false ≡ are_two (items_view vs)
-not_two_below [] h = refl
-not_two_below (v ∷ []) h = refl
-not_two_below (v ∷ w ∷ vs) h = absurd (omega arith)
-
-pub not_two_above : (vs : List Value) → 3 ≤ length vs → false ≡ are_two (items_view vs)
-not_two_above [] h = refl
-not_two_above (v ∷ []) h = refl
-not_two_above (v ∷ w ∷ []) h = absurd (omega arith)
-not_two_above (v ∷ w ∷ x ∷ vs) h = refl
+pub not_two : (vs : List Value) → length vs ≢ 2 → None ≡ two_of (items_view vs)
+not_two [] h = refl
+not_two (v ∷ []) h = refl
+not_two (v ∷ w ∷ []) h = absurd (h refl)
+not_two (v ∷ w ∷ x ∷ vs) h = refl

@@ -24,13 +24,18 @@ abbrev pub is_table : Data → Bool
 is_table (table ms) = true
 is_table _ = false
 
-abbrev pub are_two : Items → Bool
-are_two (item d (item e no_items)) = is_integer d && is_integer e
-are_two _ = false
+-- the two items of a list of two
+abbrev pub two_of : Items → Option (Data × Data)
+two_of (item d (item e no_items)) = Some (d, e)
+two_of _ = None
+
+abbrev pub are_integers : Option (Data × Data) → Bool
+are_integers None = false
+are_integers (Some pair) = is_integer pair.0 && is_integer pair.1
 
 -- a list of two integers
 abbrev pub is_pair : Data → Bool
-is_pair (array ds) = are_two ds
+is_pair (array ds) = are_integers (two_of ds)
 is_pair _ = false
 
 abbrev pub is_boolean : Data → Bool

@@ -38,12 +38,25 @@ fn is_table(value: &Value) -> bool
     value.as_table().is_some()
 }
 
-fn are_two(list: &Array) -> bool
-    ensures { result ≡ kinds.are_two (array_view list.now) }
+/// The two values of a list of two.
+pub fn two_of(list: &Array) -> Option<(&Value, &Value)>
+    ensures { option_map (λ p. (view p.0.now, view p.1.now)) result
+        ≡ kinds.two_of (array_view list.now) }
 {
-    match list.as_slice() {
-        [first, second] => is_integer(first) && is_integer(second),
-        _ => false,
+    let values = list.as_slice();
+    if values.len() == 2 {
+        Some((&values[0], &values[1]))
+    } else {
+        None
+    }
+}
+
+fn are_integers(list: &Array) -> bool
+    ensures { result ≡ kinds.are_integers (kinds.two_of (array_view list.now)) }
+{
+    match two_of(list) {
+        Some((first, second)) => is_integer(first) && is_integer(second),
+        None => false,
     }
 }
 
@@ -51,7 +64,7 @@ fn is_pair(value: &Value) -> bool
     ensures { result ≡ kinds.is_pair (view value.now) }
 {
     match value.as_array() {
-        Some(list) => are_two(list),
+        Some(list) => are_integers(list),
         None => false,
     }
 }

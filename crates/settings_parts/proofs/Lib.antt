@@ -1,4 +1,3 @@
-pub mod Lists
 pub mod Prefixes
 pub mod Restored
 pub mod Right

@@ -4,7 +4,7 @@ use Rattle.std.proofs.lemmas.Bool.{and_parts}
 use Rattle.toml.specs.Data.{Data, string, integer, float, boolean}
 use Rattle.toml.specs.Data.{datetime, array, table, Items, no_items, item}
 use Rattle.settings_form.specs.Kinds.{has_kind, is_item, is_text, is_integer}
-use Rattle.settings_form.specs.Kinds.{is_pair, are_items, are_two}
+use Rattle.settings_form.specs.Kinds.{is_pair, are_items, are_integers, two_of}
 use Rattle.settings_form.specs.TextForms.{has_form}
 use Rattle.settings_form.specs.declared.form.TextForm.{TextForm}
 use Rattle.settings_form.specs.declared.form.Place.{Place}
@@ -37,7 +37,7 @@ two (integer a) (integer b) h k = refl
 two (integer a) _ h k = cc
 two _ e h k = cc
 
-pair_of_items : (ds : Items) → are_two ds ≡ true → restored (One Pair) (array ds) ≡ array ds
+pair_of_items : (ds : Items) → are_integers (two_of ds) ≡ true → restored (One Pair) (array ds) ≡ array ds
 pair_of_items (item d (item e no_items)) h =
     let parts = and_parts (is_integer d) (is_integer e) h in
     two d e parts.0 parts.1

@@ -3,6 +3,7 @@
 use Rattle.std.specs.Prelude.{ℕ, ℤ, Bool, List, [], ◌∷◌, Option, Some, None, option_and_then}
 use Rattle.toml.specs.Data.{Data, array, table, Items, no_items, item, Members}
 use Rattle.toml.specs.Data.{no_members, get_member, as_str, as_integer, as_bool}
+use Rattle.settings_form.specs.Kinds.{two_of}
 
 -- the text at a key, and the integer, and the choice
 abbrev pub text_at : List ℕ → Members → Option (List ℕ)
@@ -41,12 +42,11 @@ abbrev pub both : Option ℤ → Option ℤ → Option (ℤ × ℤ)
 both (Some a) (Some b) = Some (a, b)
 both _ _ = None
 
-abbrev pub two_of : Items → Option (ℤ × ℤ)
-two_of (item d (item e no_items)) = both (as_integer d) (as_integer e)
-two_of _ = None
+abbrev pub integers_of : Data × Data → Option (ℤ × ℤ)
+integers_of pair = both (as_integer pair.0) (as_integer pair.1)
 
 abbrev pub pair_of : Data → Option (ℤ × ℤ)
-pair_of (array ds) = two_of ds
+pair_of (array ds) = option_and_then integers_of (two_of ds)
 pair_of _ = None
 
 abbrev pub pair_at : List ℕ → Members → Option (ℤ × ℤ)

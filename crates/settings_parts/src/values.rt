@@ -1,12 +1,13 @@
 //! The values at the keys of a table.
 
-ghost use Rattle.std.specs.Prelude.{◌≡◌, [], IfOk, is_some, unwrap_or};
+ghost use Rattle.std.specs.Prelude.{◌≡◌, [], IfOk, is_some, unwrap_or, option_and_then};
 ghost use Rattle.std.specs.Option.{option_map_or};
 ghost use Rattle.toml.specs.Data.{no_members, no_items, as_str, get_member};
 ghost use Rattle.toml.specs.View.{view, array_view, table_view};
+ghost use Rattle.settings_form.specs.Kinds.{two_of};
 ghost use Rattle.settings_parts.specs.Values as spec;
 
-use settings_form::kinds::value_at;
+use settings_form::kinds::{two_of, value_at};
 use std::alloc::{AllocError, Global};
 use text_core::{Text, Texts};
 use toml::value::Array;
@@ -105,12 +106,12 @@ pub fn texts_at(alloc: Global, table: &Table, key: &str) -> Result<Texts, AllocE
     }
 }
 
-fn two_of(list: &Array) -> Option<(i64, i64)>
-    ensures { result ≡ spec.two_of (array_view list.now) }
+fn integers_of(list: &Array) -> Option<(i64, i64)>
+    ensures { result ≡ option_and_then spec.integers_of (two_of (array_view list.now)) }
 {
-    match list.as_slice() {
-        [first, second] => both(first.as_integer(), second.as_integer()),
-        _ => None,
+    match two_of(list) {
+        Some((first, second)) => both(first.as_integer(), second.as_integer()),
+        None => None,
     }
 }
 
@@ -128,7 +129,7 @@ fn pair_of(value: &Value) -> Option<(i64, i64)>
     ensures { result ≡ spec.pair_of (view value.now) }
 {
     match value.as_array() {
-        Some(list) => two_of(list),
+        Some(list) => integers_of(list),
         None => None,
     }
 }
