@@ -1,18 +1,17 @@
 -- A value of its kind is made again of what is read of it.
-use Rattle.std.proofs.Common.{◌≡◌, Bool, true, false, ◌&&◌, refl, ap}
+use Rattle.std.proofs.Common.{◌≡◌, true, ◌&&◌, refl, ap}
 use Rattle.std.proofs.lemmas.Bool.{and_parts}
-use Rattle.toml.specs.Data.{Data, string, integer, float, boolean}
-use Rattle.toml.specs.Data.{datetime, array, table, Items, no_items, item}
-use Rattle.settings_form.specs.Kinds.{has_kind, is_item, is_text, is_integer}
+use Rattle.toml.specs.Data.{Data, string, integer, boolean}
+use Rattle.toml.specs.Data.{array, table, Items, no_items, item}
+use Rattle.settings_form.specs.Kinds.{has_kind, is_text, is_integer}
 use Rattle.settings_form.specs.Kinds.{is_pair, are_items, are_integers, two_of}
-use Rattle.settings_form.specs.TextForms.{has_form}
 use Rattle.settings_form.specs.declared.form.TextForm.{TextForm}
 use Rattle.settings_form.specs.declared.form.Place.{Place}
 use Rattle.settings_form.specs.declared.form.Item.TheVariants.{Integer, Boolean, Text, Pair, Table}
 use Rattle.settings_form.specs.declared.form.Kind.{Kind}
 use Rattle.settings_form.specs.declared.form.Kind.TheVariants.{One, Many}
-use Rattle.settings_parts.specs.Values.{texts_in, pairs_in, both, pair_of}
-use Rattle.settings_parts.specs.Whole.{restored, text_items, pair_items, pair_data, table_items}
+use Rattle.settings_parts.specs.Values.{texts_in, pairs_in}
+use Rattle.settings_parts.specs.Whole.{restored, text_items, pair_items, table_items}
 
 one_text : (form : TextForm) (d : Data) → is_text form d ≡ true → restored (One (Text form)) d ≡ d
 one_text form (string s) h = refl

@@ -1,17 +1,17 @@
 -- Where no walk finds a fault of form, the text is right through and through.
-use Rattle.std.proofs.Common.{◌≡◌, ℕ, Bool, true, false, not, ◌&&◌, ◌||◌, List, Option}
-use Rattle.std.proofs.Common.{Some, None, refl, sym, subst, is_none, if◌then◌else◌}
-use Rattle.std.proofs.lemmas.Bool.{and_parts, or_parts, cases_Bool}
-use Rattle.toml.specs.Data.{Data, string, integer, float, boolean, datetime, array}
+use Rattle.std.proofs.Common.{◌≡◌, ℕ, Bool, true, false, not, List, Option}
+use Rattle.std.proofs.Common.{Some, None, refl, subst, is_none, if◌then◌else◌}
+use Rattle.std.proofs.lemmas.Bool.{and_parts, or_parts}
+use Rattle.toml.specs.Data.{Data, array}
 use Rattle.toml.specs.Data.{table, Items, no_items, item, Members, no_members, member}
 use Rattle.settings_form.specs.Form.{keys, kind_of}
-use Rattle.settings_form.specs.Kinds.{has_kind, has_kind_if_known, has_unknown_key}
-use Rattle.settings_form.specs.Kinds.{has_wrong_kind, is_key, is_right_at, lacks_key}
+use Rattle.settings_form.specs.Kinds.{has_kind_if_known, has_unknown_key}
+use Rattle.settings_form.specs.Kinds.{has_wrong_kind, is_key, is_right_at}
 use Rattle.settings_form.specs.Walk.{has_at, has_fault, has_in_items}
 use Rattle.settings_form.specs.Walk.{has_inside, has_itself, form_fault}
 use Rattle.settings_form.specs.declared.form.Place.{Place}
 use Rattle.settings_form.specs.declared.form.Place.TheVariants.{Top}
-use Rattle.settings_form.specs.declared.form.Item.TheVariants.{Integer, Boolean, Text, Pair, Table}
+use Rattle.settings_form.specs.declared.form.Item.TheVariants.{Table}
 use Rattle.settings_form.specs.declared.form.Kind.{Kind}
 use Rattle.settings_form.specs.declared.form.Kind.TheVariants.{One, Many}
 use Rattle.settings_form.specs.declared.fault.FormFault.{FormFault}

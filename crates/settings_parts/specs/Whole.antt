@@ -1,6 +1,6 @@
 -- A text without a fault of form has the form through and through, and the words that read its
 -- values lose nothing.
-use Rattle.std.specs.Prelude.{◌≡◌, ℕ, ℤ, Bool, true, false, List, [], ◌∷◌, Option, Some, None}
+use Rattle.std.specs.Prelude.{◌≡◌, ℕ, ℤ, true, false, List, [], ◌∷◌, Some}
 use Rattle.std.specs.Option.{option_map_or}
 use Rattle.toml.specs.Data.{Data, string, integer, boolean, array, table, Items, no_items}
 use Rattle.toml.specs.Data.{item, Members, no_members, member, as_str, as_integer, as_bool}
