@@ -17,6 +17,11 @@ pub record Hours : Type 0 where
   pub holidays : List ℕ
   pub years : ℤ × ℤ
 
+-- the opening hours of these parts
+abbrev pub hours_of : Offsets → List (List (ℕ × ℕ)) → List ℕ → ℤ × ℤ → Hours
+hours_of zone week holidays years =
+    record { zone = zone; week = week; holidays = holidays; years = years }
+
 -- the intervals of a local day, where day 0 was a Thursday
 abbrev pub intervals_on : List (List (ℕ × ℕ)) → ℕ → List (ℕ × ℕ)
 intervals_on week day = unwrap_or (slice_get week ((day + 4) % 7)) []

@@ -1,7 +1,6 @@
 ghost use Rattle.std.specs.Prelude.{◌≡◌, ◌≢◌, None, Some, IfOk, OnOk, IfErr};
-ghost use Rattle.hours_core.specs.Calendar.{HasHours, spans_of};
+ghost use Rattle.hours_core.specs.Calendar.{KeepsHours};
 ghost use Rattle.hours_core.specs.Hours as spec;
-ghost use Rattle.hours_core.specs.Runs.{AreRuns};
 
 use crate::fault::HoursFault;
 use crate::schedule::Schedule;
@@ -33,12 +32,8 @@ impl Calendar {
         years: (i64, i64),
     ) -> Result<Calendar, HoursFault>
         ensures valid { OnOk result (spec.calendar_fault week.now years ≡ None) }
-        ensures hours { IfOk result (λ c. HasHours c
-            (record { zone = zone; week = week.now; holidays = holidays.now; years = years })) }
-        ensures runs { IfOk result (λ c. AreRuns
-            (spec.is_open
-            (record { zone = zone; week = week.now; holidays = holidays.now; years = years }))
-            (spans_of c)) }
+        ensures hours { IfOk result
+            (KeepsHours (spec.hours_of zone week.now holidays.now years)) }
         ensures err { IfErr result
             (λ e. e ≢ HoursFault.NoMemory → spec.calendar_fault week.now years ≡ Some e) }
         ensures memory { IfErr result

@@ -3,14 +3,14 @@ use Rattle.std.proofs.Common.{◌≡◌, ℕ, Bool, true, false, not, List, None
 use Rattle.std.proofs.Common.{Result, Ok, Err, sym, subst, if◌then◌else◌, ℤ}
 use Rattle.std.specs.Option.{option_or}
 use Rattle.std.specs.Result.{IfOk, OnOk, result_err}
-use Rattle.hours_core.specs.Calendar.{HasHours}
-use Rattle.hours_core.specs.Hours.{Hours, calendar_fault}
+use Rattle.hours_core.specs.Calendar.{HasHours, KeepsHours}
+use Rattle.hours_core.specs.Hours.{hours_of, calendar_fault}
 use Rattle.hours_core.specs.Zone.{Offsets, zone_of}
 use Rattle.hours_core.specs.declared.calendar.Calendar.{Calendar}
 use Rattle.hours_core.specs.declared.fault.HoursFault.{HoursFault}
 use Rattle.hours_core.specs.declared.fault.HoursFault.TheVariants.{BadOffset, ChangesOutOfOrder}
 use Rattle.hours_core.specs.declared.fault.HoursFault.TheVariants.{TooManyChanges}
-use Rattle.settings_core.specs.Calendars.{hours_fault}
+use Rattle.settings_core.specs.Calendars.{IsCalendarOf}
 
 by_tests : (a b c : Bool) (whole zone : Offsets)
     → (if not a then Err BadOffset
@@ -27,22 +27,17 @@ zone_is : (first : ℤ) (changes : List (ℤ × ℤ)) (zone : Offsets) → zone_
     → record { first = first; changes = changes } ≡ zone
 zone_is first changes zone e = by_tests _ _ _ (record { first = first; changes = changes }) zone e
 
-abbrev of : Offsets → List (List (ℕ × ℕ)) → List ℕ → ℤ × ℤ → Hours
-of zone week holidays years =
-    record { zone = zone; week = week; holidays = holidays; years = years }
-
 pub from_parts : (r : Result Calendar HoursFault) (first : ℤ) (changes : List (ℤ × ℤ))
     (zone : Offsets)
     (week : List (List (ℕ × ℕ))) (holidays : List ℕ) (years : ℤ × ℤ)
     → zone_of first changes ≡ Ok zone
     → OnOk r (calendar_fault week years ≡ None)
-    → IfOk r (λ c. HasHours c (of zone week holidays years))
-    → IfOk r (λ c. (hours_fault
-    (of (record { first = first; changes = changes }) week holidays years) ≡ None)
-    × HasHours c (of (record { first = first; changes = changes }) week holidays years))
+    → IfOk r (KeepsHours (hours_of zone week holidays years))
+    → IfOk r (IsCalendarOf
+    (hours_of (record { first = first; changes = changes }) week holidays years))
 from_parts (Err e) first changes zone week holidays years built valid hours = tt
 from_parts (Ok c) first changes zone week holidays years built valid hours =
     let P : Result Offsets HoursFault → Type 0 =
     λ z. option_or (result_err z) (calendar_fault week years) ≡ None in
-    let Q : Offsets → Type 0 = λ z. HasHours c (of z week holidays years) in
-    (subst P (sym built) valid, subst Q (sym (zone_is first changes zone built)) hours)
+    let Q : Offsets → Type 0 = λ z. HasHours c (hours_of z week holidays years) in
+    (subst P (sym built) valid, subst Q (sym (zone_is first changes zone built)) hours.0)

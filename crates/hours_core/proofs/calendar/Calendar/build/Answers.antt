@@ -5,10 +5,9 @@ use Rattle.hours_core.specs.Runs.{AreRuns}
 use Rattle.hours_core.proofs.calendar.Calendar.build.Goals as goal
 
 pub returns-clause-hours : goal.returns-clause-hours
-unfolding opens
-returns-clause-hours c = λ m. sym (c.in_ok-spans.ensures.all m) ∙ c.in_ok-schedule.ensures m
-
-pub returns-clause-runs : goal.returns-clause-runs
-unfolding spans_of
-returns-clause-runs c = let P : (ℕ → Bool) → Type 0 = λ p. AreRuns p c.in_ok-spans.spans in
-    subst P (fun_ext c.in_ok-schedule.ensures) c.in_ok-spans.ensures
+unfolding opens spans_of
+returns-clause-hours c =
+    let P : (ℕ → Bool) → Type 0 = λ p. AreRuns p c.in_ok-spans.spans in (
+      λ m. sym (c.in_ok-spans.ensures.all m) ∙ c.in_ok-schedule.ensures m,
+      subst P (fun_ext c.in_ok-schedule.ensures) c.in_ok-spans.ensures,
+    )
