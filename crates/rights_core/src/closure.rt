@@ -3,10 +3,9 @@ ghost use Rattle.std.specs.Bool.{OnTrue, OnFalse};
 ghost use Rattle.std.specs.List.{list_any};
 ghost use Rattle.rights_core.specs.Closure as words;
 
-use crate::checks;
 use crate::parts::Group;
 use std::alloc::{AllocError, Global};
-use text_core::Sequence;
+use text_core::{Sequence, is_among};
 
 /// For each group, the places of the groups that it lists.
 pub(crate) fn nested(alloc: Global, groups: &[Group]) -> Result<Vec<Sequence<usize>>, AllocError>
@@ -29,7 +28,7 @@ fn listed_places(
     let members = group.members.as_slice();
     let mut places = Vec::new(alloc);
     for (place, other) in groups.iter().enumerate() {
-        if checks::is_among(members, other.name.as_str()) {
+        if is_among(members, other.name.as_str()) {
             places.push(place)?;
         }
     }

@@ -4,13 +4,12 @@ ghost use Rattle.rights_core.specs.Index.{IsGrantsByRight, grants_under, is_mean
 ghost use Rattle.rights_core.specs.People as words;
 ghost use Rattle.rights_core.specs.Right.{super_user};
 
-use crate::checks;
 use crate::grant::{Grant, Subject};
 use crate::right::SUPER_USER;
 use crate::role::Roles;
 use std::alloc::{AllocError, Global};
 use std::collections::BTreeMap;
-use text_core::Text;
+use text_core::{Text, is_among};
 
 /// The grants of each right.
 pub(crate) type GrantsByRight = BTreeMap<String, Vec<Grant>>;
@@ -74,7 +73,7 @@ fn is_meant(subject: &Subject, person: &str, groups: &[Text], roles: Roles) -> b
     match subject {
         Subject::Everyone => true,
         Subject::Person(name) => name.as_str() == person,
-        Subject::Group(name) => checks::is_among(groups, name.as_str()),
+        Subject::Group(name) => is_among(groups, name.as_str()),
         Subject::Role(role) => roles.has(*role),
     }
 }

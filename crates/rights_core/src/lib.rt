@@ -6,6 +6,7 @@
 
 mod checks;
 mod closure;
+mod directory;
 mod fault;
 mod grant;
 mod grants;

@@ -4,10 +4,10 @@ ghost use Rattle.rights_core.specs.Index.{IsMemberships};
 ghost use Rattle.rights_core.specs.People as words;
 
 use crate::parts::Group;
-use crate::{checks, closure};
+use crate::closure;
 use std::alloc::{AllocError, Global};
 use std::collections::BTreeMap;
-use text_core::{Sequence, Text, Texts};
+use text_core::{Sequence, Text, Texts, is_among};
 
 /// The names of the groups that each person is a member of.
 pub(crate) type Memberships = BTreeMap<String, Texts>;
@@ -52,7 +52,7 @@ fn direct(alloc: Global, groups: &[Group], person: &str) -> Result<Vec<bool>, Al
 {
     groups
         .iter()
-        .map(|g| checks::is_among(g.members.as_slice(), person))
+        .map(|g| is_among(g.members.as_slice(), person))
         .collect(alloc)
 }
 

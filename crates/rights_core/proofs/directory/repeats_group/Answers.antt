@@ -1,9 +1,10 @@
 use Rattle.std.proofs.Common.{◌≡◌, ◌+◌, ◌-◌, true, false, ◌||◌, List, drop, take, length, arith, sym, ap, ◌∙◌}
 use Rattle.std.proofs.lemmas.Grind.{common_steps}
 use Rattle.rights_core.specs.declared.parts.Group.{Group}
-use Rattle.rights_core.specs.RightsFaults.{group_names, has_group, repeats_text}
+use Rattle.rights_core.specs.RightsFaults.{group_names, has_group}
+use Rattle.text_core.specs.Texts.{repeats_text}
 use Rattle.rights_core.proofs.Repeats.{repeats_from}
-use Rattle.rights_core.proofs.checks.repeats_group.Goals as goal
+use Rattle.rights_core.proofs.directory.repeats_group.Goals as goal
 
 pub returns-then-has_group : goal.returns-then-has_group
 returns-then-has_group c =
