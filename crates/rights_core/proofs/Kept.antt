@@ -1,11 +1,16 @@
 -- What people keep, and the words that it answers.
-use Rattle.std.proofs.Common.{◌≡◌, ℕ, ◌+◌, ◌<◌, Bool, true, false, cond, ◌&&◌, ◌||◌, List, [], ◌∷◌, length, get_or, take, filter, Option, Some, None, refl, sym, ap, ◌∙◌, ⊎_elim}
-use Rattle.std.specs.Prelude.{String, Vec, is_some, unwrap_or, ◌↔◌, IsTrue}
+use Rattle.std.proofs.Common.{◌≡◌, ℕ, ◌+◌, ◌<◌, Bool, true, false, cond, ◌&&◌, ◌||◌, List, [], ◌∷◌, length, get_or, take, filter, Option, Some, None, refl, sym, ap, append-nil, ◌∙◌, ⊎_elim}
+use Rattle.std.specs.Prelude.{String, Vec, is_some, unwrap_or, ◌↔◌, IsTrue, if◌then◌else◌, ◌++◌}
 use Rattle.std.specs.BTreeMap.{BTreeMap, get_by_text}
+use Rattle.std.specs.Cmp.Lexicographic.{nat_list_eq_equiv}
+use Rattle.std.specs.HashMap as hash
+use Rattle.std.specs.HashMap.{HashMap}
+use Rattle.std.specs.Option.{option_map_or}
 use Rattle.std.specs.List.{list_any}
 use Rattle.std.specs.Map.{update}
 use Rattle.std.specs.Str.{bytes_eq}
-use Rattle.std.proofs.lemmas.Bool.{and_from, and_parts, cases_Bool}
+use Rattle.std.proofs.lemmas.Bool.{and_from, and_parts, cases_Bool, or_left, or_right}
+use Rattle.std.proofs.lemmas.List.Elements.{filter_more}
 use Rattle.std.proofs.lemmas.List.Folds.{list_any_more}
 use Rattle.std.proofs.lemmas.Slice.Eq.{bytes_eq-Decides}
 use Rattle.rights_core.specs.declared.grant.Grant.{Grant}
@@ -14,11 +19,12 @@ use Rattle.rights_core.specs.declared.grant.Subject.TheVariants as subject
 use Rattle.rights_core.specs.declared.parts.Group.{Group}
 use Rattle.rights_core.specs.declared.parts.Parts.{Parts}
 use Rattle.rights_core.specs.declared.role.Roles.{Roles}
-use Rattle.rights_core.specs.Index.{IsMemberships, IsGrantsByRight, grants_under, is_meant_in, meets}
+use Rattle.rights_core.specs.Index.{IsMemberships, IsGrantsByRight, grants_to, grants_under, is_meant_in}
+use Rattle.rights_core.specs.Index.{is_of, meets, meets_to, meets_under, subject_name}
 use Rattle.rights_core.specs.People.{is_among, knows, leads, is_member, IsChain, holds, gives, covers, is_meant}
 use Rattle.rights_core.specs.Right.{super_user}
 use Rattle.rights_core.proofs.Chains.{leads_along, chain_within}
-use Rattle.rights_core.proofs.Lists.{any_same, any_filtered}
+use Rattle.rights_core.proofs.Lists.{any_by_name, any_filtered, any_never, any_same}
 
 -- one more person, with the groups that lead there
 pub one_more_person : {Y : Type 0} (persons : List (List ℕ)) (groups : List Group) (i : ℕ) (person : List ℕ) (names : List (List ℕ))
@@ -135,26 +141,116 @@ meant_kept people person names roles same (subject.Person name) = refl
 meant_kept people person names roles same (subject.Group name) = same name
 meant_kept people person names roles same (subject.Role role) = refl
 
+-- one more grant
+pub grant_more : (old new : List ℕ → List ℕ → List Grant) (grants : List Grant) (i : ℕ) (grant : Grant)
+    → i < length grants
+    → grant ≡ get_or grants i grant
+    → ((r n : List ℕ) → new r n ≡ (if is_of r n grant then old r n ++ grant ∷ [] else old r n))
+    → ((r n : List ℕ) → old r n ≡ filter (is_of r n) (take i grants))
+    → (r n : List ℕ)
+    → new r n ≡ filter (is_of r n) (take (i + 1) grants)
+grant_more old new grants i grant inside here puts before r n =
+    puts r n
+    ∙ ap (λ gs. if is_of r n grant then gs ++ grant ∷ [] else gs) (before r n)
+    ∙ one (is_of r n grant) (filter (is_of r n) (take i grants))
+    ∙ ap (λ g. filter (is_of r n) (take i grants) ++ cond (is_of r n g) (g ∷ []) []) here
+    ∙ sym (filter_more (is_of r n) grants i grant inside)
+  where
+    one : (b : Bool) (gs : List Grant)
+        → (if b then gs ++ grant ∷ [] else gs) ≡ gs ++ cond b (grant ∷ []) []
+    one true gs = refl
+    one false gs = sym (append-nil gs)
+
+-- whom a grant means stands under no name, the person's or a group's
+named_among : (person : List ℕ) (names : List (List ℕ)) (roles : Roles) (s : Subject)
+    → is_meant_in names person roles s ≡ true
+    → is_among ([] ∷ person ∷ names) (subject_name s) ≡ true
+named_among person names roles subject.Everyone meant = refl
+named_among person names roles (subject.Person name) meant =
+    or_right
+    (bytes_eq [] name)
+    (bytes_eq person name || is_among names name)
+    (or_left (bytes_eq person name) (is_among names name) (nat_list_eq_equiv.symm person name ∙ meant))
+named_among person names roles (subject.Group name) meant =
+    or_right
+    (bytes_eq [] name)
+    (bytes_eq person name || is_among names name)
+    (or_right (bytes_eq person name) (is_among names name) meant)
+named_among person names roles (subject.Role role) meant = refl
+
+-- what is kept for a right, if anything is
+any_kept : {Y Z S : Type 0} (p : Grant → Bool) (names : List (List ℕ)) (o : Option (HashMap (String Y) (Vec Grant Z) S))
+    → option_map_or (λ m. list_any (λ name. list_any p (grants_to m name)) names) o false
+    ≡ list_any (λ name. list_any p (option_map_or (λ m. grants_to m name) o [])) names
+any_kept p names (Some m) = refl
+any_kept p names None = sym (any_never names)
+
+-- so what is kept under these is all there is of the right
+under_right : {Y Z S T : Type 0} (grants : List Grant)
+    → (kept : HashMap (String Y) (HashMap (String Y) (Vec Grant Z) S) T)
+    → IsGrantsByRight grants kept
+    → (right queue person : List ℕ) (names : List (List ℕ)) (roles : Roles)
+    → meets_under kept right queue person names roles
+    ≡ list_any (λ g. bytes_eq right g.right && meets queue person names roles g) grants
+under_right grants kept sound right queue person names roles =
+    any_kept meet keys (hash.get_by_text kept right)
+    ∙ any_same
+    (λ name. list_any meet (grants_under kept right name))
+    (λ name. list_any (λ g. bytes_eq right g.right && meet g) (filter (λ g. bytes_eq name (subject_name g.subject)) grants))
+    (λ name.
+    ap (list_any meet) (sound right name)
+    ∙ any_filtered (is_of right name) meet grants
+    ∙ any_same
+    (λ g. is_of right name g && meet g)
+    (λ g. bytes_eq name (subject_name g.subject) && (bytes_eq right g.right && meet g))
+    (λ g. moved (bytes_eq right g.right) (bytes_eq name (subject_name g.subject)) (meet g))
+    grants
+    ∙ sym
+    (any_filtered
+    (λ g. bytes_eq name (subject_name g.subject))
+    (λ g. bytes_eq right g.right && meet g)
+    grants))
+    keys
+    ∙ any_by_name
+    (λ g. bytes_eq right g.right && meet g)
+    (λ g. subject_name g.subject)
+    keys
+    grants
+    (λ g passes.
+    let parts = and_parts (bytes_eq right g.right) (meet g) passes in
+    let meant = and_parts (covers g queue) (is_meant_in names person roles g.subject) parts.1 in
+    named_among person names roles g.subject meant.1)
+  where
+    meet : Grant → Bool
+    meet = meets queue person names roles
+
+    keys : List (List ℕ)
+    keys = [] ∷ person ∷ names
+
+    moved : (a b c : Bool) → ((a && b) && c) ≡ (b && (a && c))
+    moved true true c = refl
+    moved true false c = refl
+    moved false true c = refl
+    moved false false c = refl
+
 -- what the grants under the right and those under a super user's give a person whom the people know
-pub granted_kept : {Y Z : Type 0} (people : Parts) (kept : BTreeMap (String Y) (Vec Grant Z))
+pub granted_kept : {Y Z S T : Type 0} (people : Parts)
+    → (kept : HashMap (String Y) (HashMap (String Y) (Vec Grant Z) S) T)
     → IsGrantsByRight people.grants kept
     → (person right queue : List ℕ) (roles : Roles) (names : List (List ℕ))
     → true ≡ knows people person
     → ((group : List ℕ) → is_among names group ≡ is_member people person group)
-    → (list_any (meets queue person names roles) (grants_under kept right)
-    || list_any (meets queue person names roles) (grants_under kept super_user))
+    → (meets_under kept right queue person names roles || meets_under kept super_user queue person names roles)
     ≡ holds people person right queue roles
 unfolding holds
 granted_kept people kept sound person right queue roles names known same =
     let meet : Grant → Bool = meets queue person names roles in
-    ap (λ gs. list_any meet gs || list_any meet (grants_under kept super_user)) (sound right)
-    ∙ ap (λ gs. list_any meet (filter (λ g. bytes_eq right g.right) people.grants) || list_any meet gs) (sound super_user)
-    ∙ ap
-    (λ b. b || list_any meet (filter (λ g. bytes_eq super_user g.right) people.grants))
-    (any_filtered (λ g. bytes_eq right g.right) meet people.grants)
+    ap
+    (λ b. b || meets_under kept super_user queue person names roles)
+    (under_right people.grants kept sound right queue person names roles)
     ∙ ap
     (λ b. list_any (λ g. bytes_eq right g.right && meet g) people.grants || b)
-    (any_filtered (λ g. bytes_eq super_user g.right) meet people.grants)
+    (under_right people.grants kept sound super_user queue person names roles)
     ∙ any_either
     (λ g. bytes_eq right g.right && meet g)
     (λ g. bytes_eq super_user g.right && meet g)

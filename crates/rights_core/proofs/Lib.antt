@@ -1,6 +1,7 @@
+pub mod Around
 pub mod Chains
 pub mod Kept
+pub mod Listed
 pub mod Lists
 pub mod Marks
-pub mod Places
 pub mod Repeats

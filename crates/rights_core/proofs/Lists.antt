@@ -1,7 +1,10 @@
 -- Tests over lists.
-use Rattle.std.proofs.Common.{◌≡◌, ◌+◌, ◌<◌, ◌≤◌, Bool, true, false, cond, ◌||◌, ◌&&◌, ◌⊎◌, List, [], ◌∷◌, map, filter, refl, ap, inl, inr, ⊎_elim, arith}
+use Rattle.std.proofs.Common.{◌≡◌, ◌+◌, ◌<◌, ◌≤◌, Bool, true, false, cond, ◌||◌, ◌&&◌, ◌⊎◌, List, [], ◌∷◌, map, filter, refl, sym, ap, inl, inr, ⊎_elim, arith, ℕ, ◌∙◌}
 use Rattle.std.specs.List.{list_any, All, count_by}
-use Rattle.std.proofs.lemmas.Bool.{cases_Bool}
+use Rattle.std.proofs.lemmas.Bool.{and_from, and_parts, cases_Bool}
+use Rattle.std.proofs.lemmas.Bool.Decides.{same_from_decides}
+use Rattle.std.specs.Str.{bytes_eq}
+use Rattle.text_core.specs.Texts.{is_among}
 use Rattle.std.proofs.lemmas.List.Elements.{All-nil, All-cons}
 use Rattle.std.proofs.lemmas.List.Sums.{sum_by-cons}
 use Rattle.std.proofs.lemmas.List.Folds.{Any-from_list_any, list_any-from_Any}
@@ -65,3 +68,43 @@ same_or_more p q (x ∷ xs) weaker =
     (cases_Bool (p x)))
     (λ more. inr (omega (arith, one_at_most (p x) (q x) (weaker x), count_cons p x xs, count_cons q x xs)))
     (same_or_more p q xs weaker)
+
+pub any_never : {X : Type 0} (xs : List X) → list_any (λ _. false) xs ≡ false
+any_never [] = refl
+any_never (x ∷ xs) = any_never xs
+
+-- what passes a test has one of the names, so it is found under these
+pub any_by_name : {X : Type 0} (p : X → Bool) (name : X → List ℕ) (names : List (List ℕ)) (xs : List X)
+    → ((x : X) → p x ≡ true → is_among names (name x) ≡ true)
+    → list_any (λ n. list_any p (filter (λ x. bytes_eq n (name x)) xs)) names ≡ list_any p xs
+any_by_name p name names xs among =
+    same_from_decides
+    {P = list_any p xs ≡ true}
+    (list_any (λ n. list_any p (filter (λ x. bytes_eq n (name x)) xs)) names)
+    (list_any p xs) (
+      (λ found.
+          let at = Any-from_list_any (λ n. list_any p (filter (λ x. bytes_eq n (name x)) xs)) names found in
+          any_weaker
+          (λ x. bytes_eq at.1 (name x) && p x)
+          p
+          xs
+          (λ x passes. (and_parts (bytes_eq at.1 (name x)) (p x) passes).1)
+          (sym (any_filtered (λ x. bytes_eq at.1 (name x)) p xs) ∙ at.4)),
+      (λ found.
+          let at = Any-from_list_any p xs found in
+          let by = Any-from_list_any (λ n. bytes_eq n (name at.1)) names (among at.1 at.4) in
+          list_any-from_Any
+          (λ n. list_any p (filter (λ x. bytes_eq n (name x)) xs))
+          names (
+            by.0,
+            by.1,
+            by.2,
+            by.3,
+            any_filtered (λ x. bytes_eq by.1 (name x)) p xs
+            ∙ list_any-from_Any
+            (λ x. bytes_eq by.1 (name x) && p x)
+            xs
+            (at.0, at.1, at.2, at.3, and_from (bytes_eq by.1 (name at.1)) (p at.1) by.4 at.4),
+          )),
+    )
+    ((λ found. found), (λ found. found))

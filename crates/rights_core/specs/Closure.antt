@@ -1,29 +1,76 @@
--- Marks on places, where each place lists others.
-use Rattle.std.specs.Prelude.{ℕ, ◌<◌, Bool, false, not, List, [], length, map, filter, count_by, IsTrue}
-use Rattle.std.specs.List.{list_any, enumerate_from, slice_index_or}
+-- Which groups list a name, and which are reached from there by way of others.
+use Rattle.std.specs.Prelude.{◌≡◌, ℕ, ◌+◌, ◌<◌, Bool, true, false, not, ◌||◌, List, [], ◌++◌, length}
+use Rattle.std.specs.Prelude.{count_by, nat_eq, unwrap_or, String, Vec, IsTrue}
+use Rattle.std.specs.HashMap.{HashMap, get_by_text}
+use Rattle.std.specs.List.{list_any, slice_index_or}
+use Rattle.std.specs.Option.{option_map_or}
+use Rattle.std.specs.Str.{bytes_eq}
 use Rattle.rights_core.specs.declared.parts.Group.{Group}
-use Rattle.rights_core.specs.People.{is_among}
+use Rattle.rights_core.specs.People.{is_among, leads}
+
+abbrev pub no_group : Group
+no_group = record { name = []; members = [] }
+
+-- the name of the group at the place
+abbrev pub name_at : List Group → ℕ → List ℕ
+name_at groups place = (slice_index_or groups place no_group).name
+
+-- the group at the place lists the name
+abbrev pub lists_at : List Group → ℕ → List ℕ → Bool
+lists_at groups place name = is_among (slice_index_or groups place no_group).members name
+
+-- the place is one of these
+abbrev pub has_place : List ℕ → ℕ → Bool
+has_place places place = list_any (nat_eq place) places
+
+-- what is kept under the name
+abbrev pub places_under : {Y Z S : Type 0} → HashMap (String Y) (Vec ℕ Z) S → List ℕ → List ℕ
+places_under kept name = option_map_or (λ v. v.items) (get_by_text kept name) []
+
+-- under each name there are the places of the groups that list it
+abbrev pub IsListers : {Y Z S : Type 0} → List Group → HashMap (String Y) (Vec ℕ Z) S → Type 0
+IsListers groups kept =
+    (name : List ℕ) (place : ℕ) → has_place (places_under kept name) place ≡ lists_at groups place name
+
+-- a chain of groups leads from the group to the name, or it is that group's own
+abbrev pub reaches : List Group → List ℕ → List ℕ → Bool
+reaches groups name group = bytes_eq name group || leads groups name group
+
+-- at each group's place there are its name and those of the groups around it
+abbrev pub AreOuter : List Group → List (List (List ℕ)) → Type 0
+AreOuter groups outer =
+    (place : ℕ)
+    → place < length groups
+    → (group : List ℕ)
+    → is_among (slice_index_or outer place []) group ≡ reaches groups (name_at groups place) group
 
 -- the place is there, and marked
 abbrev pub is_marked : List Bool → ℕ → Bool
 is_marked marks place = slice_index_or marks place false
 
--- the places of the groups that the group lists
-abbrev pub listed_places : List Group → Group → List ℕ
-listed_places groups group = map (λ e. e.0) (filter (λ e. is_among group.members e.1.name) (enumerate_from 0 groups))
-
 abbrev pub unmarked_count : List Bool → ℕ
 unmarked_count marks = count_by not marks
-
--- a place that lists a place of the test passes it too
-abbrev pub IsClosed : List (List ℕ) → (ℕ → Bool) → Type 0
-IsClosed listed test =
-    (k : ℕ) → k < length listed → IsTrue (list_any test (slice_index_or listed k [])) → IsTrue (test k)
 
 -- what is marked passes the test
 abbrev pub AllMarkedPass : List Bool → (ℕ → Bool) → Type 0
 AllMarkedPass marks test = (k : ℕ) → IsTrue (is_marked marks k) → IsTrue (test k)
 
--- the names of the groups whose places are marked
-abbrev pub marked_names : List Group → List Bool → List (List ℕ)
-marked_names groups marks = map (λ e. e.1.name) (filter (λ e. is_marked marks e.0) (enumerate_from 0 groups))
+-- the names of what is marked have been found
+abbrev pub AreFound : List Group → List (List ℕ) → List Bool → Type 0
+AreFound groups found marks = AllMarkedPass marks (λ k. is_among found (name_at groups k))
+
+-- of the places, those that weren't marked are marked, and their names stand behind those found
+abbrev pub Marks : List Group → List ℕ → List (List ℕ) → List Bool → List (List ℕ) → List Bool → Type 0
+Marks groups places found marks found' marks' =
+    (length marks' ≡ length marks)
+    × (unmarked_count marks' + length found' ≡ unmarked_count marks + length found)
+    × ((more : List (List ℕ)) × (found' ≡ found ++ more))
+    × AllMarkedPass marks (is_marked marks')
+    × ((k : ℕ) → k < length marks → IsTrue (has_place places k) → IsTrue (is_marked marks' k))
+    × (AreFound groups found marks → AreFound groups found' marks')
+    × ((test : List ℕ → Bool)
+    → ((name : List ℕ) → IsTrue (is_among found name) → IsTrue (test name))
+    → ((k : ℕ) → IsTrue (has_place places k) → IsTrue (test (name_at groups k)))
+    → (name : List ℕ)
+    → IsTrue (is_among found' name)
+    → IsTrue (test name))

@@ -1,5 +1,6 @@
 pub use Rattle.text_core.specs.Form
 pub mod Closure
+pub mod Directory
 pub mod Index
 pub mod People
 pub mod Right

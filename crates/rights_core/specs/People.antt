@@ -12,13 +12,10 @@ use Rattle.rights_core.specs.declared.role.Role.{Role}
 use Rattle.rights_core.specs.declared.role.Role.TheVariants as role
 use Rattle.rights_core.specs.declared.role.Roles.{Roles}
 use Rattle.rights_core.specs.Right.{super_user}
+pub use Rattle.text_core.specs.Texts.{is_among}
 
 abbrev pub parts_of : List (List ℕ) → List Group → List Grant → Parts
 parts_of persons groups grants = record { persons = persons; groups = groups; grants = grants }
-
--- the text is one of the list
-abbrev pub is_among : List (List ℕ) → List ℕ → Bool
-is_among texts text = list_any (λ t. bytes_eq t text) texts
 
 -- there is a person of this name
 abbrev pub knows : Parts → List ℕ → Bool

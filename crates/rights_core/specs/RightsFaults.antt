@@ -1,12 +1,15 @@
 -- Which persons, groups and grants make no people, and the numbers and names of their faults.
-use Rattle.std.specs.Prelude.{ℕ, Bool, true, false, not, ◌&&◌, ◌||◌, List, [], ◌∷◌, ◌++◌, map, Option, Some, None, codes, if◌then◌else◌}
+use Rattle.std.specs.Prelude.{ℕ, Bool, true, false, not, ◌&&◌, ◌||◌, List, ◌++◌, map}
+use Rattle.std.specs.Prelude.{Option, Some, None, codes, if◌then◌else◌}
 use Rattle.std.specs.Option.{option_or, option_map_or}
 use Rattle.std.specs.List.{list_all, list_any}
 use Rattle.std.specs.Str.{bytes_eq}
 use Rattle.text_core.specs.Form.{is_name, is_right_name}
-use Rattle.rights_core.specs.People.{is_among}
+use Rattle.text_core.specs.Texts.{is_among, repeats_text}
 use Rattle.rights_core.specs.declared.fault.RightsFault.{RightsFault}
-use Rattle.rights_core.specs.declared.fault.RightsFault.TheVariants.{BadName, Repeated, UnknownMember, UnknownSubject, NoMemory}
+use Rattle.rights_core.specs.declared.fault.RightsFault.TheVariants.{BadName, Repeated}
+use Rattle.rights_core.specs.declared.fault.RightsFault.TheVariants.{UnknownMember, UnknownSubject}
+use Rattle.rights_core.specs.declared.fault.RightsFault.TheVariants.{NoMemory}
 use Rattle.rights_core.specs.declared.grant.Grant.{Grant}
 use Rattle.rights_core.specs.declared.grant.Subject.{Subject}
 use Rattle.rights_core.specs.declared.grant.Subject.TheVariants as subject
@@ -44,11 +47,6 @@ has_group groups name = list_any (λ g. bytes_eq g.name name) groups
 abbrev pub group_names : List Group → List (List ℕ)
 group_names groups = map (λ g. g.name) groups
 
--- a name stands again further on in the list
-abbrev pub repeats_text : List (List ℕ) → Bool
-repeats_text [] = false
-repeats_text (text ∷ rest) = is_among rest text || repeats_text rest
-
 -- persons and groups share one space of names, in which one name stands twice
 abbrev pub repeats_name : List (List ℕ) → List Group → Bool
 repeats_name persons groups = repeats_text (persons ++ group_names groups)
@@ -69,10 +67,18 @@ is_there persons groups (subject.Role _) = true
 abbrev pub when : RightsFault → Bool → Option RightsFault
 when fault applies = if applies then Some fault else None
 
+-- each group has known members
+abbrev pub knows_members : Parts → Bool
+knows_members parts = list_all (has_known_members parts.persons parts.groups) parts.groups
+
+-- each grant's subject is there
+abbrev pub knows_subjects : Parts → Bool
+knows_subjects parts = list_all (λ g. is_there parts.persons parts.groups g.subject) parts.grants
+
 -- the first fault that applies, by number
 unfoldable pub fault_of : Parts → Option RightsFault
 fault_of parts =
     option_or (when BadName (not (has_names parts)))
     (option_or (when Repeated (repeats_name parts.persons parts.groups))
-    (option_or (when UnknownMember (not (list_all (has_known_members parts.persons parts.groups) parts.groups)))
-    (when UnknownSubject (not (list_all (λ g. is_there parts.persons parts.groups g.subject) parts.grants)))))
+    (option_or (when UnknownMember (not (knows_members parts)))
+    (when UnknownSubject (not (knows_subjects parts)))))

@@ -1,34 +1,80 @@
-ghost use Rattle.std.specs.Prelude.{◌≡◌, ◌||◌, IfOk};
+ghost use Rattle.std.specs.Prelude.{◌≡◌, ◌&&◌, ◌||◌, ◌++◌, ◌∷◌, [], ℕ, List, if◌then◌else◌, IfOk, OnOk, string_bytes};
 ghost use Rattle.std.specs.List.{list_any};
-ghost use Rattle.rights_core.specs.Index.{IsGrantsByRight, grants_under, is_meant_in, meets};
-ghost use Rattle.rights_core.specs.People as words;
+ghost use Rattle.std.specs.Str.{bytes_eq};
+ghost use Rattle.rights_core.specs.Index as words;
+ghost use Rattle.rights_core.specs.Index.{IsGrantsByRight, is_meant_in, meets};
+ghost use Rattle.rights_core.specs.People.{covers as covers_queue};
 ghost use Rattle.rights_core.specs.Right.{super_user};
 
-use crate::checks;
 use crate::grant::{Grant, Subject};
 use crate::right::SUPER_USER;
 use crate::role::Roles;
 use std::alloc::{AllocError, Global};
-use std::collections::BTreeMap;
-use text_core::Text;
+use std::collections::HashMap;
+use text_core::{Text, is_among};
 
-/// The grants of each right.
-pub(crate) type GrantsByRight = BTreeMap<String, Vec<Grant>>;
+/// The grants of each right, each under the name of its person or group, and else under no name.
+pub(crate) type GrantsByRight = HashMap<String, GrantsByName>;
 
-/// The grants under their rights.
+type GrantsByName = HashMap<String, Vec<Grant>>;
+
+/// The grants under their rights and names.
 pub(crate) fn by_right(alloc: Global, grants: &[Grant]) -> Result<GrantsByRight, AllocError>
-    ensures { IfOk result (λ kept. IsGrantsByRight grants.now kept) }
+    ensures { IfOk result (IsGrantsByRight grants.now) }
 {
-    let mut kept: GrantsByRight = BTreeMap::new(alloc);
+    let mut kept: GrantsByRight = HashMap::new(alloc);
     for grant in grants {
-        let right = String::from_str(alloc, grant.right.as_str())?;
-        kept.entry(right)?.or_default().push(grant.clone()?)?;
+        let name = subject_name(&grant.subject);
+        put(alloc, &mut kept, grant.right.as_str(), name, grant.clone()?)?;
     }
     Ok(kept)
 }
 
-/// Whether a grant of the right, or of `SuperUser`, covers the queue and means the person, who is a member of the
-/// groups and has the roles.
+fn put(
+    alloc: Global,
+    kept: &mut GrantsByRight,
+    right: &str,
+    name: &str,
+    grant: Grant,
+) -> Result<(), AllocError>
+    ensures {
+        OnOk result ((r n : List ℕ) → words.grants_under kept.new r n
+            ≡ (if bytes_eq r right.now && bytes_eq n name.now
+            then words.grants_under kept.old r n ++ grant ∷ []
+            else words.grants_under kept.old r n))
+    }
+{
+    let right = String::from_str(alloc, right)?;
+    let name = String::from_str(alloc, name)?;
+    put_under(kept.entry(right)?.or_default(), name, grant)?;
+    Ok(())
+}
+
+fn put_under(kept: &mut GrantsByName, name: String, grant: Grant) -> Result<(), AllocError>
+    ensures {
+        OnOk result ((q : List ℕ) → words.grants_to kept.new q
+            ≡ (if bytes_eq q (string_bytes name) then words.grants_to kept.old q ++ grant ∷ []
+            else words.grants_to kept.old q))
+    }
+{
+    kept.entry(name)?.or_default().push(grant)?;
+    Ok(())
+}
+
+/// The name of the person or of the group, and else no name.
+fn subject_name(subject: &Subject) -> &str
+    ensures { result.now ≡ words.subject_name subject.now }
+{
+    match subject {
+        Subject::Person(name) => name.as_str(),
+        Subject::Group(name) => name.as_str(),
+        Subject::Everyone => "",
+        Subject::Role(_) => "",
+    }
+}
+
+/// Whether a grant of the right, or of `SuperUser`, covers the queue and means the person, who is a
+/// member of the groups and has the roles.
 #[tactic(auto, unfolding(crate::specs::Right::super_user))]
 pub(crate) fn give(
     kept: &GrantsByRight,
@@ -38,17 +84,77 @@ pub(crate) fn give(
     groups: &[Text],
     roles: Roles,
 ) -> bool
-    ensures { result ≡ (list_any (meets queue.now person.now groups.now roles) (grants_under kept.now right.now) || list_any (meets queue.now person.now groups.now roles) (grants_under kept.now super_user)) }
+    ensures {
+        result
+        ≡ (words.meets_under kept.now right.now queue.now person.now groups.now roles
+        || words.meets_under kept.now super_user queue.now person.now groups.now roles)
+    }
 {
-    meet(granted(kept, right), queue, person, groups, roles)
-        || meet(granted(kept, SUPER_USER), queue, person, groups, roles)
+    gives(kept, right, queue, person, groups, roles)
+        || gives(kept, SUPER_USER, queue, person, groups, roles)
 }
 
-/// The grants that are kept under the right.
-fn granted<'a>(kept: &'a GrantsByRight, right: &str) -> &'a [Grant]
-    ensures { result.now ≡ grants_under kept.now right.now }
+/// The same of the one right.
+fn gives(
+    kept: &GrantsByRight,
+    right: &str,
+    queue: &str,
+    person: &str,
+    groups: &[Text],
+    roles: Roles,
+) -> bool
+    ensures {
+        result ≡ words.meets_under kept.now right.now queue.now person.now groups.now roles
+    }
 {
-    kept.get(right).map_or(&[], |grants| grants.as_slice())
+    match kept.get(right) {
+        Some(given) => gives_to(given, queue, person, groups, roles),
+        None => false,
+    }
+}
+
+/// Whether one of the grants that are kept under no name, the person's or a group's covers the
+/// queue and means the person.
+fn gives_to(
+    given: &GrantsByName,
+    queue: &str,
+    person: &str,
+    groups: &[Text],
+    roles: Roles,
+) -> bool
+    ensures {
+        result ≡ words.meets_to given.now queue.now person.now groups.now roles
+    }
+{
+    meet(granted(given, ""), queue, person, groups, roles)
+        || meet(granted(given, person), queue, person, groups, roles)
+        || gives_to_groups(given, queue, person, groups, roles)
+}
+
+/// The same of those under a group's name.
+fn gives_to_groups(
+    given: &GrantsByName,
+    queue: &str,
+    person: &str,
+    groups: &[Text],
+    roles: Roles,
+) -> bool
+    ensures {
+        result ≡ list_any (λ name.
+            list_any (meets queue.now person.now groups.now roles) (words.grants_to given.now name))
+            groups.now
+    }
+{
+    groups
+        .iter()
+        .any(|g| meet(granted(given, g.as_str()), queue, person, groups, roles))
+}
+
+/// The grants that are kept under the name.
+fn granted<'a>(given: &'a GrantsByName, name: &str) -> &'a [Grant]
+    ensures { result.now ≡ words.grants_to given.now name.now }
+{
+    given.get(name).map_or(&[], |grants| grants.as_slice())
 }
 
 /// Whether one of the grants covers the queue and means the person.
@@ -60,7 +166,7 @@ fn meet(grants: &[Grant], queue: &str, person: &str, groups: &[Text], roles: Rol
 
 /// Whether the grant is for the queue, or for all.
 fn covers(grant: &Grant, queue: &str) -> bool
-    ensures { result ≡ words.covers grant.now queue.now }
+    ensures { result ≡ covers_queue grant.now queue.now }
 {
     match &grant.queue {
         Some(covered) => covered.as_str() == queue,
@@ -74,7 +180,7 @@ fn is_meant(subject: &Subject, person: &str, groups: &[Text], roles: Roles) -> b
     match subject {
         Subject::Everyone => true,
         Subject::Person(name) => name.as_str() == person,
-        Subject::Group(name) => checks::is_among(groups, name.as_str()),
+        Subject::Group(name) => is_among(groups, name.as_str()),
         Subject::Role(role) => roles.has(*role),
     }
 }

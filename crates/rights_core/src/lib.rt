@@ -5,11 +5,13 @@
 #![tactic(auto)]
 
 mod checks;
-mod closure;
+mod directory;
 mod fault;
 mod grant;
 mod grants;
+mod listers;
 mod memberships;
+mod outer;
 mod parts;
 mod people;
 pub mod right;

@@ -1,13 +1,14 @@
-ghost use Rattle.std.specs.Prelude.{◌≡◌, ℕ, List, IfOk, map};
-ghost use Rattle.rights_core.specs.Closure.{listed_places, marked_names as names_at_marks};
+ghost use Rattle.std.specs.Prelude.{◌≡◌, ◌++◌, ℕ, [], List, IfOk, OnOk};
+ghost use Rattle.std.specs.List.{list_any, slice_index_or};
 ghost use Rattle.rights_core.specs.Index.{IsMemberships};
-ghost use Rattle.rights_core.specs.People as words;
+ghost use Rattle.text_core.specs.Texts as words;
 
+use crate::listers::{listed, listers_of};
+use crate::outer::outer_of_groups;
 use crate::parts::Group;
-use crate::{checks, closure};
 use std::alloc::{AllocError, Global};
 use std::collections::BTreeMap;
-use text_core::{Sequence, Text, Texts};
+use text_core::{Text, Texts};
 
 /// The names of the groups that each person is a member of.
 pub(crate) type Memberships = BTreeMap<String, Texts>;
@@ -20,51 +21,38 @@ pub(crate) fn memberships(
 ) -> Result<Memberships, AllocError>
     ensures { IfOk result (λ m. IsMemberships persons.now groups.now m) }
 {
-    let nested = closure::nested(alloc, groups)?;
+    let listers = listers_of(alloc, groups)?;
+    let outer = outer_of_groups(alloc, groups, &listers)?;
     let mut kept: Memberships = BTreeMap::new(alloc);
     for person in persons {
         let person = person.as_str();
-        let names = groups_of(alloc, groups, nested.as_slice(), person)?;
+        let names = names_at(alloc, outer.as_slice(), listed(&listers, person))?;
         kept.insert(String::from_str(alloc, person)?, names)?;
     }
     Ok(kept)
 }
 
-/// The names of the groups from which a chain leads to the person.
-fn groups_of(
-    alloc: Global,
-    groups: &[Group],
-    nested: &[Sequence<usize>],
-    person: &str,
-) -> Result<Texts, AllocError>
-    requires { nested.now ≡ map (listed_places groups.now) groups.now }
-    ensures { IfOk result (λ t. (group : List ℕ) → words.is_among t group ≡ words.leads groups.now person.now group) }
-{
-    let mut marks = direct(alloc, groups, person)?;
-    let marks = marks.as_mut_slice();
-    closure::close(nested, marks);
-    marked_names(alloc, groups, marks)
-}
-
-/// Which of the groups list the person.
-fn direct(alloc: Global, groups: &[Group], person: &str) -> Result<Vec<bool>, AllocError>
-    ensures { IfOk result (λ m. m.items ≡ map (λ g. words.is_among g.members person.now) groups.now) }
-{
-    groups
-        .iter()
-        .map(|g| checks::is_among(g.members.as_slice(), person))
-        .collect(alloc)
-}
-
-/// The names of the groups whose place is marked.
-fn marked_names(alloc: Global, groups: &[Group], marks: &[bool]) -> Result<Texts, AllocError>
-    ensures { IfOk result (λ t. t ≡ names_at_marks groups.now marks.now) }
+/// The names that stand at the places, one after the other.
+fn names_at(alloc: Global, outer: &[Texts], places: &[usize]) -> Result<Texts, AllocError>
+    ensures {
+        IfOk result (λ names. (name : List ℕ) → words.is_among names name
+            ≡ list_any (λ k. words.is_among (slice_index_or outer.now k []) name) places.now)
+    }
 {
     let mut names = Vec::new(alloc);
-    for (place, group) in groups.iter().enumerate() {
-        if closure::is_marked(marks, place) {
-            names.push(group.name.clone()?)?;
+    for place in places {
+        if let Some(more) = outer.get(*place) {
+            append(&mut names, more.as_slice())?;
         }
     }
     Ok(Texts::from(names))
+}
+
+fn append(texts: &mut Vec<Text>, more: &[Text]) -> Result<(), AllocError>
+    ensures { OnOk result (texts.new.items ≡ texts.old.items ++ more.now) }
+{
+    for text in more {
+        texts.push(text.clone()?)?;
+    }
+    Ok(())
 }

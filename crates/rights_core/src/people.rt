@@ -11,7 +11,7 @@ use crate::parts::{Group, Parts};
 use crate::role::Roles;
 use std::alloc::Global;
 use std::marker::Model;
-use text_core::Text;
+use text_core::{Text, is_among};
 
 /// Persons, groups of them, and what they are granted.
 ///
@@ -49,7 +49,7 @@ impl People {
         ensures err { IfErr result (λ e. e ≢ RightsFault.NoMemory → fault_of (words.parts_of persons.now groups.now grants.now) ≡ Some e) }
         ensures memory { IfErr result (λ e. e ≡ RightsFault.NoMemory → fault_of (words.parts_of persons.now groups.now grants.now) ≡ None) }
     {
-        match checks::fault_of(persons, groups, grants) {
+        match checks::fault_of(alloc, persons, groups, grants) {
             Some(fault) => Err(fault),
             None => Ok(People {
                 parts: Parts::copied(alloc, persons, groups, grants)?,
@@ -79,7 +79,7 @@ impl People {
         ensures chain { IsTrue result ↔ (IsTrue (words.knows self.now person.now) × ((others : List (List ℕ)) × words.IsChain self.now.groups group.now others person.now)) }
     {
         match self.memberships.get(person) {
-            Some(groups) => checks::is_among(groups.as_slice(), group),
+            Some(groups) => is_among(groups.as_slice(), group),
             None => false,
         }
     }

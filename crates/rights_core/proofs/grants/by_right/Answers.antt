@@ -1,6 +1,22 @@
-use Rattle.std.proofs.Common.{arith}
-use Rattle.std.proofs.lemmas.Grind.{text_groups}
+use Rattle.std.proofs.Common.{◌≡◌, refl, rules, ◌∙◌}
+use Rattle.std.specs.Prelude.{if◌then◌else◌}
+use Rattle.std.specs.Str.{bytes_eq}
+use Rattle.rights_core.specs.declared.grant.Grant.{Grant}
+use Rattle.rights_core.specs.Index.{grants_under, subject_name}
+use Rattle.rights_core.proofs.Kept.{grant_more}
 use Rattle.rights_core.proofs.grants.by_right.Goals as goal
 
 pub loop-grant-preserved : goal.loop-grant-preserved
-loop-grant-preserved c = grind (arith, text_groups)
+loop-grant-preserved c =
+    let grant = c.grant-item.result in
+    let same : c.in_ok-clone.field-0 ≡ grant = search rules in
+    grant_more
+    (grants_under c.loop-grant.kept)
+    (grants_under c.put.new.kept)
+    c.args.grants.now
+    c.loop-grant.grant-index
+    grant
+    c.loop-grant-test.true
+    c.grant-item.is
+    (λ r n. c.in_ok-put.ensures r n ∙ rw (c.as_str.ensures, c.subject_name-name.ensures, same) refl)
+    c.loop-grant.invariant

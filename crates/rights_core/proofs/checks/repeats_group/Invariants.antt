@@ -1,6 +1,0 @@
-use Rattle.std.proofs.Common.{◌≡◌, drop}
-use Rattle.rights_core.specs.RightsFaults.{group_names, repeats_text}
-use Rattle.rights_core.proofs.checks.repeats_group.Given as goal
-
-abbrev pub invariant-loop-i : goal.invariant-loop-i
-invariant-loop-i l = repeats_text (group_names l.groups) ≡ repeats_text (group_names (drop l.i l.groups))

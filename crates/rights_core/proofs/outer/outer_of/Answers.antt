@@ -1,0 +1,48 @@
+use Rattle.std.proofs.Common.{◌≡◌, ◌<◌, ◌∷◌, [], ℕ, List, length, replicate, false, arith}
+use Rattle.std.proofs.Common.{ap, get_or, subst, sym, rules, ◌∙◌}
+use Rattle.std.proofs.lemmas.List.{get_or_default}
+use Rattle.text_core.specs.Texts.{is_among}
+use Rattle.rights_core.specs.Closure.{Marks, places_under}
+use Rattle.rights_core.proofs.Around.{IsSearch, search_start, search_more, search_done}
+use Rattle.rights_core.proofs.outer.outer_of.Goals as goal
+
+pub loop-next-init : goal.loop-next-init
+loop-next-init c =
+    let one : c.push.new.self.items ≡ c.args.name.now ∷ [] = search rules in
+    search_start c.args.groups.now c.args.name.now c.push.new.self.items c.as_mut_slice-marks.result.now one (search rules)
+
+pub loop-next-preserved : goal.loop-next-preserved
+loop-next-preserved c =
+    let groups = c.args.groups.now in
+    let kept = c.args.listers.now in
+    let found = c.loop-next.found.items in
+    let next = c.loop-next.next in
+    let inside : next < length found = omega (arith, c.loop-next-test.true, c.len.ensures) in
+    let looked : c.index.result.now ≡ get_or found next [] =
+    c.index.ensures ∙ get_or_default found next _ [] inside in
+    let here : c.as_str.result.now ≡ get_or found next [] = c.as_str.ensures ∙ looked in
+    let P : List ℕ → Type 0 =
+    λ places. Marks groups places found c.loop-next.marks c.mark.new.found.items c.mark.new.marks in
+    search_more
+    groups
+    kept
+    c.args.name.now
+    next
+    found
+    c.mark.new.found.items
+    c.loop-next.marks
+    c.mark.new.marks
+    c.requires
+    c.loop-next.invariant
+    inside
+    (subst P (c.listed-places.ensures ∙ ap (places_under kept) here) c.in_ok-mark.ensures)
+
+pub returns : goal.returns
+returns c =
+    λ group.
+    let found = c.loop-next.found.items in
+    let done : c.loop-next.next ≡ length found =
+    omega (arith, c.loop-next-test.false, c.len.ensures, c.loop-next.invariant.1) in
+    let P : ℕ → Type 0 = λ k. IsSearch c.args.groups.now c.args.name.now k found c.loop-next.marks in
+    ap (λ t. is_among t group) c.from.ensures
+    ∙ search_done c.args.groups.now c.args.name.now found c.loop-next.marks (subst P done c.loop-next.invariant) group
