@@ -12,7 +12,8 @@ use Rattle.desk_core.specs.declared.answer.Answer.TheVariants as answer
 use Rattle.desk_core.specs.declared.command.Command.{Command}
 use Rattle.desk_core.specs.declared.command.Command.TheVariants.{Show, History}
 
-told_of_shown : (s : Settings) (caller : List ℕ) (desk : Desk) (id : ℕ) (o : Option Request) → request_at desk id ≡ o
+told_of_shown : (s : Settings) (caller : List ℕ) (desk : Desk) (id : ℕ) (o : Option Request)
+    → request_at desk id ≡ o
     → All (IsDue s desk) (dues_told (of_request o (λ r. answer.Shown (shown_of s caller desk r))))
 told_of_shown s caller desk id None there = All-nil (IsDue s desk)
 told_of_shown s caller desk id (Some r) there =
@@ -24,7 +25,8 @@ told_of_history : (s : Settings) (caller : List ℕ) (desk : Desk) (o : Option R
 told_of_history s caller desk None = All-nil (IsDue s desk)
 told_of_history s caller desk (Some r) = All-nil (IsDue s desk)
 
-pub due_law : (s : Settings) (at : ℕ) (caller : List ℕ) (command : Command) (desk : Desk) → TellsDueMoments s at caller command desk
+pub due_law : (s : Settings) (at : ℕ) (caller : List ℕ) (command : Command) (desk : Desk)
+    → TellsDueMoments s at caller command desk
 due_law s at caller (Show id) desk = told_of_shown s caller desk id (request_at desk id) refl
 due_law s at caller (History id) desk = told_of_history s caller desk (request_at desk id)
 due_law s at caller other desk = All-nil (IsDue s desk)

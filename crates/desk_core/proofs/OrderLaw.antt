@@ -1,5 +1,6 @@
 -- Names in order rise, and are the same names.
-use Rattle.std.proofs.Common.{◌≡◌, ◌∙◌, ℕ, Bool, true, false, ◌||◌, List, [], ◌∷◌, fold, refl, ap, sym}
+use Rattle.std.proofs.Common.{◌≡◌, ◌∙◌, ℕ, Bool, true, false, ◌||◌, List, [], ◌∷◌, fold, refl, ap}
+use Rattle.std.proofs.Common.{sym}
 use Rattle.std.proofs.Math.Bool.{or-false}
 use Rattle.std.specs.Cmp.Lexicographic.{same_text, texts_ties}
 use Rattle.std.specs.Ordering.{is_eq, match_ordering}
@@ -8,7 +9,7 @@ use Rattle.std.specs.declared.cmp.Ordering.TheVariants.{Less, Equal, Greater}
 use Rattle.desk_core.proofs.Rising.{all_named_rise}
 use Rattle.desk_core.specs.IsDesk.{names_rise}
 use Rattle.desk_core.specs.Names.{in_order, text_order, with_name}
-use Rattle.desk_core.specs.Rights.{is_among}
+use Rattle.text_core.specs.Texts.{is_among}
 
 pub order_rises : (names : List (List ℕ)) → names_rise (in_order names) ≡ true
 order_rises names = all_named_rise names [] refl
@@ -54,5 +55,6 @@ among_all (x ∷ xs) start name =
     ∙ ap (λ b. is_among xs name || b) (among_named start x name)
     ∙ joined (is_among xs name) (bytes_eq x name) (is_among start name)
 
-pub order_keeps : (names : List (List ℕ)) (name : List ℕ) → is_among (in_order names) name ≡ is_among names name
+pub order_keeps : (names : List (List ℕ)) (name : List ℕ)
+    → is_among (in_order names) name ≡ is_among names name
 order_keeps names name = among_all names [] name ∙ or-false (is_among names name)

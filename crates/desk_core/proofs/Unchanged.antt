@@ -26,8 +26,10 @@ reads_nothing (History id) call facts reads = unread facts.request
 reads_nothing other call facts reads = absurd reads
 
 -- what is decided of a reading command changes nothing
-pub reads_on : (command : Command) (call : Call) (facts : Facts) (conditions : List Condition) (result : Result Change Refusal)
+pub reads_on : (command : Command) (call : Call) (facts : Facts) (conditions : List Condition)
+    (result : Result Change Refusal)
     → Decides result conditions (change_by call facts (plan_of command)) → IsReading command
     → IfOk result (λ change. change ≡ no_change)
-reads_on command call facts conditions (Ok change) decides reads = decides.0.1 ∙ reads_nothing command call facts reads
+reads_on command call facts conditions (Ok change) decides reads =
+    decides.0.1 ∙ reads_nothing command call facts reads
 reads_on command call facts conditions (Err refusal) decides reads = tt

@@ -14,7 +14,8 @@ use Rattle.desk_core.specs.Commands.Unlink as unlink
 use Rattle.desk_core.specs.Commands.Untake as untake
 use Rattle.desk_core.specs.Commands.Unwatch as unwatch
 use Rattle.desk_core.specs.Commands.Watch as watch
-use Rattle.desk_core.specs.Plan.{Plan, OnDesk, OnQueue, OnRequest, Nothing, Dependencies, Another, reading}
+use Rattle.desk_core.specs.Plan.{Plan, OnDesk, OnQueue, OnRequest, Nothing, Dependencies, Another}
+use Rattle.desk_core.specs.Plan.{reading}
 use Rattle.desk_core.specs.declared.command.Command.{Command}
 use Rattle.desk_core.specs.declared.command.Command.TheVariants as command
 pub mod Comment
@@ -34,17 +35,22 @@ pub mod Watch
 
 abbrev pub plan_of : Command → Plan
 plan_of (command.OpenQueue name lifecycle level) =
-    OnQueue name (open_queue.conditions name lifecycle level) (open_queue.change name lifecycle level)
+    OnQueue name (open_queue.conditions name lifecycle level)
+    (open_queue.change name lifecycle level)
 plan_of (command.Create queue subject status requestors) =
-    OnQueue queue (create.conditions queue subject status requestors) (create.change queue subject status requestors)
+    OnQueue queue (create.conditions queue subject status requestors)
+    (create.change queue subject status requestors)
 plan_of (command.SetStatus id status) =
     OnRequest id Dependencies None (set_status.conditions status) (set_status.change status)
 plan_of (command.Take id) = OnRequest id Nothing None take.conditions take.change
 plan_of (command.Steal id) = OnRequest id Nothing None steal.conditions steal.change
 plan_of (command.Untake id) = OnRequest id Nothing None untake.conditions untake.change
-plan_of (command.Give id person) = OnRequest id Nothing None (give.conditions person) (give.change person)
-plan_of (command.Reply id text) = OnRequest id Nothing (Some text) reply.conditions (reply.change text)
-plan_of (command.Comment id text) = OnRequest id Nothing (Some text) comment.conditions (comment.change text)
+plan_of (command.Give id person) =
+    OnRequest id Nothing None (give.conditions person) (give.change person)
+plan_of (command.Reply id text) =
+    OnRequest id Nothing (Some text) reply.conditions (reply.change text)
+plan_of (command.Comment id text) =
+    OnRequest id Nothing (Some text) comment.conditions (comment.change text)
 plan_of (command.Watch id role person) =
     OnRequest id Nothing None (watch.conditions role person) (watch.change role person)
 plan_of (command.Unwatch id role person) =
@@ -53,7 +59,8 @@ plan_of (command.Link id kind other) =
     OnRequest id (Another kind other) None (link.conditions other) (link.change kind other)
 plan_of (command.Unlink id kind other) =
     OnRequest id (Another kind other) None unlink.conditions (unlink.change kind other)
-plan_of (command.SetLevel id level) = OnRequest id Nothing None (set_level.conditions level) (set_level.change level)
+plan_of (command.SetLevel id level) =
+    OnRequest id Nothing None (set_level.conditions level) (set_level.change level)
 plan_of command.Queues = OnDesk
 plan_of (command.Show id) = reading id
 plan_of (command.History id) = reading id

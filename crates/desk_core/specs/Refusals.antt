@@ -1,7 +1,12 @@
 -- The number and the name of each refusal.
 use Rattle.std.specs.Prelude.{ℕ, List, codes}
 use Rattle.desk_core.specs.declared.refusal.Refusal.{Refusal}
-use Rattle.desk_core.specs.declared.refusal.Refusal.TheVariants.{UnknownCaller, BadMoment, BadText, NotFound, UnknownName, Denied, NoChange, NoTransition, OpenDependency, Owned, NotOwned, NotOwner, Exists, SelfLink, Full, Unavailable}
+use Rattle.desk_core.specs.declared.refusal.Refusal.TheVariants.{UnknownCaller, BadMoment, BadText}
+use Rattle.desk_core.specs.declared.refusal.Refusal.TheVariants.{NotFound, UnknownName, Denied}
+use Rattle.desk_core.specs.declared.refusal.Refusal.TheVariants.{NoChange, NoTransition}
+use Rattle.desk_core.specs.declared.refusal.Refusal.TheVariants.{OpenDependency, Owned, NotOwned}
+use Rattle.desk_core.specs.declared.refusal.Refusal.TheVariants.{NotOwner, Exists, SelfLink, Full}
+use Rattle.desk_core.specs.declared.refusal.Refusal.TheVariants.{Unavailable}
 
 abbrev pub number_of : Refusal → ℕ
 number_of UnknownCaller = 1

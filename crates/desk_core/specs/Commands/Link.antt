@@ -30,4 +30,5 @@ conditions other call facts on =
 
 abbrev pub change : LinkKind → ℕ → Call → Facts → Standing → Change
 change kind other call facts on =
-    linking (link on.row.id kind other) (entry_of call on 1 entry.Link (kind_word kind) (decimal other) ∷ [])
+    linking (link on.row.id kind other)
+    (entry_of call on 1 entry.Link (kind_word kind) (decimal other) ∷ [])
