@@ -1,15 +1,15 @@
 -- What a change leaves of a request that is there: it stays, with the change's row or its own, and
 -- with its entries before those that are appended.
-use Rattle.std.proofs.Common.{◌≡◌, ◌∙◌, ℕ, ◌==◌, Bool, true, false, cond, List, [], ◌∷◌, ◌++◌, map}
-use Rattle.std.proofs.Common.{fold, find, Option, Some, None, append_assoc, append-nil, refl, ap}
-use Rattle.std.proofs.Common.{sym}
+use Rattle.std.proofs.Common.{◌≡◌, ◌∙◌, ℕ, ◌==◌, Bool, true, false, cond, List}
+use Rattle.std.proofs.Common.{[], ◌∷◌, ◌++◌, map, fold, find, Option, Some}
+use Rattle.std.proofs.Common.{None, append_assoc, append-nil, refl, ap, sym}
 use Rattle.std.specs.Option.{option_map}
 use Rattle.std.proofs.lemmas.Bool.{eqb-true}
 use Rattle.std.proofs.lemmas.List.Folds.{find-append}
 use Rattle.std.specs.Option.{option_or}
-use Rattle.desk_core.specs.Change.{applied, entry_put, filed, in_role, link_put, link_taken}
-use Rattle.desk_core.specs.Change.{person_put, person_taken, queue_put, request_filed, row_set}
-use Rattle.desk_core.specs.Change.{with_entry, with_row}
+use Rattle.desk_core.specs.Change.{applied, entry_put, filed, in_role, link_put}
+use Rattle.desk_core.specs.Change.{link_taken, person_put, person_taken, queue_put}
+use Rattle.desk_core.specs.Change.{request_filed, row_set, with_entry, with_row}
 use Rattle.desk_core.specs.Desk.{Desk, Request, request_at, revised_at, with_request, with_revised}
 use Rattle.desk_core.specs.declared.change.Change.{Change}
 use Rattle.desk_core.specs.declared.rows.Entry.{Entry}

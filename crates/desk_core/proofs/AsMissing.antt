@@ -1,6 +1,6 @@
 -- A command that names a hidden request is refused as one that names a request that isn't there.
-use Rattle.std.proofs.Common.{◌≡◌, ◌⊎◌, ◌∙◌, ℕ, ◌≤◌, ◌==◌, Bool, true, false, not, cond, List, ◌∷◌}
-use Rattle.std.proofs.Common.{Option, Some, None, inl, inr, refl, ap, sym, arith}
+use Rattle.std.proofs.Common.{◌≡◌, ◌⊎◌, ◌∙◌, ℕ, ◌≤◌, ◌==◌, ◌||◌, Bool, true, false, not, cond}
+use Rattle.std.proofs.Common.{List, ◌∷◌, Option, Some, None, inl, inr, refl, ap, sym, arith}
 use Rattle.std.specs.Option.{option_map, option_map_or}
 use Rattle.std.proofs.Math.Bool.{or-false}
 use Rattle.std.proofs.lemmas.Bool.{eqb-true, or_cases}
@@ -11,19 +11,20 @@ use Rattle.desk_core.specs.Commands.{plan_of}
 use Rattle.desk_core.specs.Condition.{Condition, first_holding}
 use Rattle.desk_core.specs.Desk.{Desk, Request, request_at}
 use Rattle.desk_core.specs.Facts.{standing, standing_at}
-use Rattle.desk_core.specs.Laws.{RefusesAsMissing}
-use Rattle.desk_core.specs.Plan.{Call, Plan, OnDesk, OnQueue, OnRequest, Nothing, Dependencies}
-use Rattle.desk_core.specs.Plan.{Another, besides_on, conditions_by, is_bad_text, is_missing}
-use Rattle.desk_core.specs.Plan.{names_request, on_shown, seen_by}
+use Rattle.desk_core.specs.Laws.{RefusesAsMissing, names}
+use Rattle.desk_core.specs.Plan.{Call, Plan, OnDesk, OnQueue, OnRequest, Nothing}
+use Rattle.desk_core.specs.Plan.{Dependencies, Another, besides_on, conditions_by}
+use Rattle.desk_core.specs.Plan.{is_bad_text, is_missing, names_request, on_shown, seen_by}
 use Rattle.desk_core.specs.Reading.{answer_of}
 use Rattle.desk_core.specs.Refusals.{number_of}
 use Rattle.desk_core.specs.Rights.{may_show}
 use Rattle.desk_core.specs.Step.{call, outcome_unless}
 use Rattle.desk_core.specs.declared.command.Command.{Command}
+use Rattle.desk_core.specs.declared.command.Command.TheVariants.{Link, Unlink}
 use Rattle.desk_core.specs.declared.facts.Standing.{Standing}
 use Rattle.desk_core.specs.declared.refusal.Refusal.{Refusal}
-use Rattle.desk_core.specs.declared.refusal.Refusal.TheVariants.{UnknownCaller, BadMoment, BadText}
-use Rattle.desk_core.specs.declared.refusal.Refusal.TheVariants.{NotFound}
+use Rattle.desk_core.specs.declared.refusal.Refusal.TheVariants.{UnknownCaller, BadMoment}
+use Rattle.desk_core.specs.declared.refusal.Refusal.TheVariants.{BadText, NotFound}
 
 -- the refusal of a command on a request that isn't there, by whether the caller is unknown, the
 -- moment none and the text none
@@ -173,10 +174,20 @@ hidden_by_plan c (OnRequest asked (Another kind end) text conditions change) des
       | inr second ↦ hidden_second c asked end text besides desk id second hidden
     ]
 
+-- the plan of a command names the requests that the command names
+named_by_plan : (command : Command) (id : ℕ) → names command id ≡ true
+    → names_request (plan_of command) id ≡ true
+named_by_plan (Link asked kind other) id named =
+    ap (λ b. asked == id || b) (sym (or-false (other == id))) ∙ named
+named_by_plan (Unlink asked kind other) id named =
+    ap (λ b. asked == id || b) (sym (or-false (other == id))) ∙ named
+named_by_plan other id named = named
+
 pub hidden_law : (s : Settings) (at : ℕ) (caller : List ℕ) (command : Command) (desk : Desk)
     → RefusesAsMissing s at caller command desk
 hidden_law s at caller command desk id named hidden =
-    let by = hidden_by_plan (call s at caller) (plan_of command) desk id named
+    let by = hidden_by_plan (call s at caller) (plan_of command) desk id
+    (named_by_plan command id named)
     (missing_unless_shown s at caller (standing_at desk id) hidden) in (
       by.0,
       by.1,

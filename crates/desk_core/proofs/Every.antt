@@ -1,6 +1,6 @@
 -- What holds of every element of a list.
-use Rattle.std.proofs.Common.{◌≡◌, ◌∙◌, Bool, true, false, ◌&&◌, cond, List, [], ◌∷◌, map, filter}
-use Rattle.std.proofs.Common.{find, Some, refl, subst}
+use Rattle.std.proofs.Common.{◌≡◌, ◌∙◌, Bool, true, false, ◌&&◌, cond, List}
+use Rattle.std.proofs.Common.{[], ◌∷◌, map, filter, find, Some, refl, subst}
 use Rattle.std.proofs.lemmas.Bool.{and_from, and_parts}
 use Rattle.std.proofs.lemmas.List.Folds.{list_all-map}
 use Rattle.std.specs.List.{list_all}

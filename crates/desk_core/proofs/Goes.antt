@@ -11,19 +11,19 @@ use Rattle.desk_core.specs.Commands.{plan_of}
 use Rattle.desk_core.specs.Condition.{Condition, first_holding}
 use Rattle.desk_core.specs.Desk.{Desk, Request, queue_at, request_at}
 use Rattle.desk_core.specs.Facts.{queue_of, standing}
-use Rattle.desk_core.specs.Plan.{Call, Plan, OnDesk, OnQueue, OnRequest, Nothing, Dependencies}
-use Rattle.desk_core.specs.Plan.{Another, another_shown, besides_on, change_by, change_of_request}
-use Rattle.desk_core.specs.Plan.{conditions_by, is_bad_text, is_missing, of_request, on_shown}
-use Rattle.desk_core.specs.Plan.{seen_by}
-use Rattle.desk_core.specs.Step.{call, conditions_on, desk_after, desk_unless, effect, facts_of}
-use Rattle.desk_core.specs.Step.{guard}
+use Rattle.desk_core.specs.Plan.{Call, Plan, OnDesk, OnQueue, OnRequest, Nothing}
+use Rattle.desk_core.specs.Plan.{Dependencies, Another, another_shown, besides_on}
+use Rattle.desk_core.specs.Plan.{change_by, change_of_request, conditions_by}
+use Rattle.desk_core.specs.Plan.{is_bad_text, is_missing, of_request, on_shown, seen_by}
+use Rattle.desk_core.specs.Step.{call, conditions_on, desk_after}
+use Rattle.desk_core.specs.Step.{desk_unless, effect, facts_of, guard}
 use Rattle.desk_core.specs.declared.change.Change.{Change}
 use Rattle.desk_core.specs.declared.command.Command.{Command}
 use Rattle.desk_core.specs.declared.facts.Facts.{Facts}
 use Rattle.desk_core.specs.declared.facts.Standing.{Standing}
 use Rattle.desk_core.specs.declared.refusal.Refusal.{Refusal}
-use Rattle.desk_core.specs.declared.refusal.Refusal.TheVariants.{UnknownCaller, BadMoment, BadText}
-use Rattle.desk_core.specs.declared.refusal.Refusal.TheVariants.{NotFound}
+use Rattle.desk_core.specs.declared.refusal.Refusal.TheVariants.{UnknownCaller, BadMoment}
+use Rattle.desk_core.specs.declared.refusal.Refusal.TheVariants.{BadText, NotFound}
 use Rattle.desk_core.specs.declared.rows.QueueRow.{QueueRow}
 use Rattle.desk_core.specs.declared.rows.RequestRow.{RequestRow}
 
@@ -77,7 +77,7 @@ pub record Sets (s : Settings) (at : ℕ) (caller : List ℕ) (command : Command
     (before after : Request) : Type 0 where
   pub free : guard s at caller command desk ≡ None
   pub row : (change_by (call s at caller) (facts_of command desk) (plan_of command)).row
-  ≡ Some after.row
+      ≡ Some after.row
   pub same : before.row.id ≡ after.row.id
 
 own_or_new : (o : Option RequestRow) (old after : RequestRow) → after ≡ row_after o old
@@ -87,8 +87,11 @@ own_or_new (Some new) old after e =
     elim (old.id == new.id)
     as (λ b. (old.id == new.id) ≡ b → after ≡ cond b new old
     → (after ≡ old) ⊎ ((Some new ≡ Some after) × (old.id ≡ after.id))) [
-      | true ↦ λ t f. inr (ap (λ r. Some r) (sym f), eqb-true old.id new.id t
-      ∙ ap (λ (r : RequestRow). r.id) (sym f))
+      | true ↦ λ t f. inr (
+        ap (λ r. Some r) (sym f),
+        eqb-true old.id new.id t
+            ∙ ap (λ (r : RequestRow). r.id) (sym f),
+      )
       | false ↦ λ t f. inl f
     ] refl e
 

@@ -1,16 +1,16 @@
 -- Why the laws hold.
-use Rattle.std.proofs.Common.{◌≡◌, ◌≢◌, ◌⊎◌, ◌∙◌, ℕ, Bool, true, false, cond, List, [], ◌++◌, ◌||◌}
-use Rattle.std.proofs.Common.{◌&&◌, not, unwrap_or, Option, Some, None, inl, inr, refl, ap, sym}
-use Rattle.std.proofs.Common.{subst, append-nil}
+use Rattle.std.proofs.Common.{◌≡◌, ◌≢◌, ◌⊎◌, ◌∙◌, ℕ, Bool, true, false, cond, List}
+use Rattle.std.proofs.Common.{[], ◌++◌, ◌||◌, ◌&&◌, not, unwrap_or, Option, Some}
+use Rattle.std.proofs.Common.{None, inl, inr, refl, ap, sym, subst, append-nil}
 use Rattle.desk_core.specs.Desk.{queue_at}
 use Rattle.desk_core.specs.Facts.{standing}
 use Rattle.settings_core.specs.declared.settings.Settings.{Settings}
 use Rattle.desk_core.proofs.Applied.{left_by}
-use Rattle.desk_core.proofs.Goes.{Goes, found_passes, KeepsIds, NoneHolds, holding, none_holds}
-use Rattle.desk_core.proofs.Goes.{row_goes, set_by}
+use Rattle.desk_core.proofs.Goes.{Goes, found_passes, KeepsIds, NoneHolds}
+use Rattle.desk_core.proofs.Goes.{holding, none_holds, row_goes, set_by}
 use Rattle.desk_core.specs.Desk.{Desk, Request, request_at}
-use Rattle.desk_core.specs.Laws.{IsLawfulMove, KeepsHistory, KeepsOwnerLaw, KeepsStatusLaw, MayOwn}
-use Rattle.desk_core.specs.Laws.{SetsOwner}
+use Rattle.desk_core.specs.Laws.{IsLawfulMove, KeepsHistory, KeepsOwnerLaw}
+use Rattle.desk_core.specs.Laws.{KeepsStatusLaw, MayOwn, SetsOwner}
 use Rattle.desk_core.specs.Plan.{Call, change_by}
 use Rattle.desk_core.specs.Commands.{plan_of}
 use Rattle.rights_core.specs.Right.{own_ticket}
@@ -19,8 +19,8 @@ use Rattle.lifecycle_core.specs.Lifecycle.{may_move}
 use Rattle.lifecycle_core.specs.declared.parts.Parts.{Parts}
 use Rattle.desk_core.specs.Commands.Reply as reply
 use Rattle.desk_core.specs.Commands.SetStatus as set_status
-use Rattle.desk_core.specs.Lifecycles.{is_allowed, is_inactive, is_initial, lifecycle_of}
-use Rattle.desk_core.specs.Lifecycles.{reopening_of, right_of}
+use Rattle.desk_core.specs.Lifecycles.{is_allowed, is_inactive, is_initial}
+use Rattle.desk_core.specs.Lifecycles.{lifecycle_of, reopening_of, right_of}
 use Rattle.text_core.specs.Texts.{is_among}
 use Rattle.desk_core.specs.Commands.Steal as steal
 use Rattle.desk_core.specs.Commands.Take as take

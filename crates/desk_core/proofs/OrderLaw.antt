@@ -1,7 +1,7 @@
 -- Names in order rise, and are the same names.
-use Rattle.std.proofs.Common.{◌≡◌, ◌∙◌, ℕ, Bool, true, false, ◌||◌, List, [], ◌∷◌, fold, refl, ap}
-use Rattle.std.proofs.Common.{sym}
-use Rattle.std.proofs.Math.Bool.{or-false}
+use Rattle.std.proofs.Common.{◌≡◌, ◌∙◌, ℕ, Bool, true, false, ◌||◌}
+use Rattle.std.proofs.Common.{List, [], ◌∷◌, fold, refl, ap, sym}
+use Rattle.std.proofs.Math.Bool.{or-false, or_self_left}
 use Rattle.std.specs.Cmp.Lexicographic.{same_text, texts_ties}
 use Rattle.std.specs.Ordering.{is_eq, match_ordering}
 use Rattle.std.specs.Str.{bytes_eq}
@@ -25,10 +25,6 @@ joined true false c = refl
 joined false true c = refl
 joined false false c = refl
 
-twice : (a b : Bool) → (a || b) ≡ (a || (a || b))
-twice true b = refl
-twice false b = refl
-
 -- with a name in its place there is one more among the names, unless it was
 among_named : (names : List (List ℕ)) (added name : List ℕ)
     → is_among (with_name names added) name ≡ (bytes_eq added name || is_among names name)
@@ -40,7 +36,7 @@ among_named (y ∷ ys) added name =
       | Less ↦ λ e. refl
       | Equal ↦ λ e.
           let same : added ≡ y = same_text added y (sym (texts_ties added y ∙ ap is_eq e)) in
-          twice (bytes_eq y name) (is_among ys name)
+          sym (or_self_left (bytes_eq y name) (is_among ys name))
           ∙ ap (λ (n : List ℕ). bytes_eq n name || (bytes_eq y name || is_among ys name)) (sym same)
       | Greater ↦ λ e.
           ap (λ b. bytes_eq y name || b) (among_named ys added name)

@@ -1,6 +1,6 @@
 -- Lists that rise: with one more at its place, with some taken away, and with a name in order.
-use Rattle.std.proofs.Common.{◌≡◌, ◌∙◌, ℕ, Bool, true, false, ◌||◌, cond, List, [], ◌∷◌, filter}
-use Rattle.std.proofs.Common.{fold, refl, ap, sym}
+use Rattle.std.proofs.Common.{◌≡◌, ◌∙◌, ℕ, Bool, true, false, ◌||◌, cond}
+use Rattle.std.proofs.Common.{List, [], ◌∷◌, filter, fold, refl, ap, sym}
 use Rattle.std.proofs.lemmas.Bool.{and_from, and_parts}
 use Rattle.std.specs.Cmp.{IsTotalOrder}
 use Rattle.std.specs.Cmp.Lexicographic.{nat_list_cmp_total, texts_ties}

@@ -1,8 +1,9 @@
 -- The watchers of a request tell the roles on it.
-use Rattle.std.proofs.Common.{◌≡◌, ◌∙◌, ℕ, ◌==◌, Bool, true, false, ◌&&◌, ◌||◌, List, [], ◌∷◌, ◌++◌}
-use Rattle.std.proofs.Common.{map, refl, ap, inl, inr}
+use Rattle.std.proofs.Common.{◌≡◌, ◌∙◌, ℕ, ◌==◌, Bool, true, false, ◌&&◌}
+use Rattle.std.proofs.Common.{◌||◌, List, [], ◌∷◌, ◌++◌, map, refl, ap, sym}
 use Rattle.std.specs.Str.{bytes_eq}
-use Rattle.std.proofs.lemmas.Bool.Decides.{eqb_tells}
+use Rattle.std.proofs.Math.Bool.{and-false, and-or_distrib_left, or-false}
+use Rattle.std.proofs.lemmas.Bool.{eq-eqb}
 use Rattle.std.proofs.lemmas.List.Folds.{list_any-append}
 use Rattle.rights_core.specs.People.{holds}
 use Rattle.rights_core.specs.Right.{show_ticket}
@@ -20,19 +21,7 @@ use Rattle.desk_core.specs.declared.rows.WatchRole.{WatchRole}
 use Rattle.desk_core.specs.declared.rows.WatchRole.TheVariants.{Requestor, Cc, AdminCc}
 
 pub same_number : (n : ℕ) → (n == n) ≡ true
-same_number n = elim (eqb_tells n n) [ inl equal ↦ equal.0 | inr other ↦ absurd (other.1 refl) ]
-
-or_false : (b : Bool) → (b || false) ≡ b
-or_false true = refl
-or_false false = refl
-
-none_more : (b : Bool) → false ≡ (b && false)
-none_more true = refl
-none_more false = refl
-
-one_more : (b c d : Bool) → ((b && c) || (b && d)) ≡ (b && (c || d))
-one_more true c d = refl
-one_more false c d = refl
+same_number n = eq-eqb n n refl
 
 abbrev is_in : List ℕ → ℕ → WatchRole → Watcher → Bool
 is_in person id role w = w.id == id && (is_role role w.role && bytes_eq w.person person)
@@ -41,10 +30,10 @@ is_in person id role w = w.id == id && (is_role role w.role && bytes_eq w.person
 in_the_role : (person : List ℕ) (id : ℕ) (asked role : WatchRole) (names : List (List ℕ))
     → is_watching person id asked (map (watcher id role) names)
     ≡ (is_role asked role && is_among names person)
-in_the_role person id asked role [] = none_more (is_role asked role)
+in_the_role person id asked role [] = sym (and-false (is_role asked role))
 in_the_role person id asked role (name ∷ names) =
     rw (same_number id, in_the_role person id asked role names)
-    (one_more (is_role asked role) (bytes_eq name person) (is_among names person))
+    (sym (and-or_distrib_left (is_role asked role) (bytes_eq name person) (is_among names person)))
 
 -- in which of the three roles somebody is
 in_one : (person : List ℕ) (asked : WatchRole) (r : Request)
@@ -68,8 +57,8 @@ pub roles_kept : (person : List ℕ) (r : Request)
     → roles_among person r.row (watchers_of r) ≡ roles_on person (standing r)
 roles_kept person r =
     rw (
-      in_one person Requestor r ∙ or_false (is_among r.requestors person),
-      in_one person Cc r ∙ or_false (is_among r.cc person),
+      in_one person Requestor r ∙ or-false (is_among r.requestors person),
+      in_one person Cc r ∙ or-false (is_among r.cc person),
       in_one person AdminCc r,
     ) refl
 

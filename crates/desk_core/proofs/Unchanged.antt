@@ -2,10 +2,9 @@
 use Rattle.std.proofs.Common.{◌≡◌, ◌∙◌, ℕ, List, Option, Some, None, Result, Ok, Err, IfOk, refl}
 use Rattle.settings_core.specs.declared.settings.Settings.{Settings}
 use Rattle.desk_core.specs.Change.{no_change}
-use Rattle.desk_core.specs.Commands.{plan_of}
+use Rattle.desk_core.specs.Commands.{IsReading, plan_of}
 use Rattle.desk_core.specs.Condition.{Condition, Decides}
 use Rattle.desk_core.specs.Plan.{Call, change_by, change_of_request}
-use Rattle.desk_core.specs.Reading.{IsReading}
 use Rattle.desk_core.specs.declared.change.Change.{Change}
 use Rattle.desk_core.specs.declared.command.Command.{Command}
 use Rattle.desk_core.specs.declared.command.Command.TheVariants.{Queues, Show, History}

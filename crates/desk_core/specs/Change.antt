@@ -1,6 +1,6 @@
 -- What a change does to the desk.
-use Rattle.std.specs.Prelude.{ℕ, Bool, true, false, not, List, [], ◌∷◌, ◌++◌, Option, Some, None}
-use Rattle.std.specs.Prelude.{filter, fold}
+use Rattle.std.specs.Prelude.{ℕ, Bool, true, false, not, List, [], ◌∷◌}
+use Rattle.std.specs.Prelude.{◌++◌, Option, Some, None, filter, fold}
 use Rattle.std.specs.Str.{bytes_eq}
 use Rattle.desk_core.specs.Names.{with_name}
 use Rattle.desk_core.specs.Desk.{Desk, Request, placed, with_queue, with_request, with_revised}

@@ -1,7 +1,7 @@
 -- When a request is due: the least of the limits of its level that count, unless its status is
 -- inactive.
-use Rattle.std.specs.Prelude.{ℕ, Bool, true, false, nat_le, if◌then◌else◌, Option, Some, None}
-use Rattle.std.specs.Prelude.{option_and_then}
+use Rattle.std.specs.Prelude.{ℕ, Bool, true, false, nat_le, if◌then◌else◌}
+use Rattle.std.specs.Prelude.{Option, Some, None, option_and_then}
 use Rattle.hours_core.specs.Calendar.{opens}
 use Rattle.hours_core.specs.Limit.{limit_due}
 use Rattle.hours_core.specs.declared.level.Level.{Level}

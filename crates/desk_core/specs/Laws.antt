@@ -1,33 +1,36 @@
 -- The laws of one step: what holds of every command by every caller at every moment, whatever the
 -- desk.
-use Rattle.std.specs.Prelude.{◌≡◌, ◌≢◌, ℕ, ◌≤◌, ⊤, true, false, List, [], ◌∷◌, ◌++◌, Option, Some}
-use Rattle.std.specs.Prelude.{None, Err, All}
+use Rattle.std.specs.Prelude.{◌≡◌, ◌≢◌, ℕ, ◌≤◌, ◌==◌, ⊤, Bool, true, false}
+use Rattle.std.specs.Prelude.{List, [], ◌∷◌, ◌++◌, Option, Some, None, Err, All}
+use Rattle.std.specs.List.{list_any}
 use Rattle.lifecycle_core.specs.declared.parts.Parts.{Parts}
 use Rattle.rights_core.specs.Right.{own_ticket}
+use Rattle.settings_core.specs.Settings.{lifecycle_named}
 use Rattle.settings_core.specs.declared.settings.Settings.{Settings}
-use Rattle.desk_core.specs.Commands.SetStatus.{has_open_dependency}
+use Rattle.desk_core.specs.Commands.{IsReading, requests_named}
 use Rattle.desk_core.specs.Desk.{Desk, Request, queue_at, request_at}
-use Rattle.desk_core.specs.Commands.{plan_of}
 use Rattle.desk_core.specs.Due.{due_on}
-use Rattle.desk_core.specs.Facts.{dependencies_of, standing}
+use Rattle.desk_core.specs.Facts.{standing}
 use Rattle.desk_core.specs.IsDesk.{IsDesk}
-use Rattle.desk_core.specs.Lifecycles.{is_allowed, is_inactive, lifecycle_of, reopening_of}
-use Rattle.desk_core.specs.Lifecycles.{right_of}
-use Rattle.desk_core.specs.Plan.{names_request}
-use Rattle.desk_core.specs.Reading.{IsReading, answer_of, is_shown}
+use Rattle.desk_core.specs.Lifecycles.{is_allowed, is_inactive}
+use Rattle.desk_core.specs.Lifecycles.{lifecycle_of, reopening_of, right_of}
+use Rattle.desk_core.specs.Links.{has_link, link}
+use Rattle.desk_core.specs.Reading.{answer_of, is_shown}
 use Rattle.desk_core.specs.Refusals.{number_of}
 use Rattle.desk_core.specs.Rights.{holds_on, may_show}
 use Rattle.desk_core.specs.Step.{desk_after, outcome_of}
 use Rattle.desk_core.specs.View.{view}
 use Rattle.desk_core.specs.Watchers.{may_show_by, watchers_of}
 use Rattle.desk_core.specs.declared.answer.Answer.{Answer}
-use Rattle.desk_core.specs.declared.answer.Answer.TheVariants.{Shown}
+use Rattle.desk_core.specs.declared.answer.Answer.TheVariants as answer
 use Rattle.desk_core.specs.declared.command.Command.{Command}
-use Rattle.desk_core.specs.declared.command.Command.TheVariants.{SetStatus, Take, Steal, Untake}
-use Rattle.desk_core.specs.declared.command.Command.TheVariants.{Give, Reply}
+use Rattle.desk_core.specs.declared.command.Command.TheVariants.{SetStatus, Take, Steal}
+use Rattle.desk_core.specs.declared.command.Command.TheVariants.{Untake, Give, Reply}
 use Rattle.desk_core.specs.declared.facts.Standing.{Standing}
 use Rattle.desk_core.specs.declared.refusal.Refusal.{Refusal}
 use Rattle.desk_core.specs.declared.rows.Entry.{Entry}
+use Rattle.desk_core.specs.declared.rows.LinkKind.TheVariants.{DependsOn}
+use Rattle.desk_core.specs.declared.rows.QueueRow.{QueueRow}
 
 -- it holds of every command by every caller at every moment, on every desk
 abbrev pub AtEveryStep : (Settings → ℕ → List ℕ → Command → Desk → Type 0) → Type 0
@@ -42,7 +45,7 @@ KeepsHistory settings at caller command desk =
     → (after : Request) × (request_at (desk_after settings at caller command desk) id ≡ Some after)
     × ((added : List Entry) × (after.entries ≡ before.entries ++ added))
 
--- the command gives a request this owner
+-- the command gives a request this owner, or leaves it without one
 abbrev pub SetsOwner : List ℕ → Command → ℕ → Option (List ℕ) → Type 0
 SetsOwner caller (Take id) asked owner = (id ≡ asked) × (owner ≡ Some caller)
 SetsOwner caller (Steal id) asked owner = (id ≡ asked) × (owner ≡ Some caller)
@@ -54,8 +57,8 @@ abbrev pub MayOwn : Settings → Standing → Option (List ℕ) → Type 0
 MayOwn settings on None = ⊤
 MayOwn settings on (Some person) = holds_on settings person own_ticket on ≡ true
 
--- The owner law: where an owner changes, the command gives that owner, who holds OwnTicket before
--- the step.
+-- The owner law: where an owner changes, the command sets that owner, and a new one holds OwnTicket
+-- before the step.
 abbrev pub KeepsOwnerLaw : Settings → ℕ → List ℕ → Command → Desk → Type 0
 KeepsOwnerLaw settings at caller command desk =
     (id : ℕ) (before after : Request) → request_at desk id ≡ Some before
@@ -89,30 +92,46 @@ KeepsStatusLaw settings at caller command desk =
     → IsLawfulMove settings caller (lifecycle_of settings (queue_at desk before.row.queue)) command
     (standing before) after.row.status
 
+-- the command names the request with that number
+abbrev pub names : Command → ℕ → Bool
+names command id = list_any (λ n. n == id) (requests_named command)
+
 -- A request that the caller may not show is refused as one that isn't there, at either end of a
 -- link too, whatever the command that names it.
 abbrev pub RefusesAsMissing : Settings → ℕ → List ℕ → Command → Desk → Type 0
 RefusesAsMissing settings at caller command desk =
-    (id : ℕ) → names_request (plan_of command) id ≡ true → is_shown settings caller desk id ≡ false
+    (id : ℕ) → names command id ≡ true → is_shown settings caller desk id ≡ false
     → (refusal : Refusal) × (number_of refusal ≤ 4)
     × (outcome_of settings at caller command desk ≡ Err refusal)
     × ((other : Desk) → request_at other id ≡ None
     → outcome_of settings at caller command other ≡ Err refusal)
 
--- The dependency law: where a status changes to an inactive one, no request that this one depends
--- on is open.
+-- a dependency of the request that isn't inactive by the lifecycle of its own queue
+pub record IsOpenDependency (settings : Settings) (desk : Desk) (id : ℕ)
+    (other : Request) : Type 0 where
+  pub linked : has_link desk (link id DependsOn other.row.id) ≡ true
+  pub there : request_at desk other.row.id ≡ Some other
+  pub queue : QueueRow
+  pub filed_in : queue_at desk other.row.queue ≡ Some queue
+  pub is_open : is_inactive (lifecycle_named settings queue.lifecycle) other.row.status ≡ false
+
+-- The dependency law: where a status changes to an inactive one, the request has no open
+-- dependency.
 abbrev pub KeepsDependencyLaw : Settings → ℕ → List ℕ → Command → Desk → Type 0
 KeepsDependencyLaw settings at caller command desk =
     (id : ℕ) (before after : Request) → request_at desk id ≡ Some before
     → request_at (desk_after settings at caller command desk) id ≡ Some after
     → after.row.status ≢ before.row.status
     → is_inactive (lifecycle_of settings (queue_at desk before.row.queue)) after.row.status ≡ true
-    → has_open_dependency settings (dependencies_of desk before.row.id) ≡ false
+    → (other : Request) → IsOpenDependency settings desk before.row.id other → ⊥
 
 -- the due moments that an answer tells, each with the number of its request
 abbrev pub dues_told : Answer → List (ℕ × Option ℕ)
-dues_told (Shown shown) = (shown.row.id, shown.due) ∷ []
-dues_told other = []
+dues_told answer.Done = []
+dues_told (answer.Created id) = []
+dues_told (answer.Queues queues) = []
+dues_told (answer.Shown shown) = (shown.row.id, shown.due) ∷ []
+dues_told (answer.History entries) = []
 
 -- the request is there, and this is when it is due
 abbrev pub IsDue : Settings → Desk → ℕ × Option ℕ → Type 0

@@ -1,14 +1,14 @@
 -- What there is to a command: what it looks at, its conditions in their order, and its change.
-use Rattle.std.specs.Prelude.{ℕ, ◌==◌, Bool, true, false, not, ◌||◌, List, [], ◌∷◌, Option, Some}
-use Rattle.std.specs.Prelude.{None}
+use Rattle.std.specs.Prelude.{ℕ, ◌==◌, Bool, true, false, not, ◌||◌}
+use Rattle.std.specs.Prelude.{List, [], ◌∷◌, Option, Some, None}
 use Rattle.std.specs.Option.{option_map_or}
 use Rattle.text_core.specs.Form.{is_text}
 use Rattle.settings_core.specs.declared.settings.Settings.{Settings}
 use Rattle.desk_core.specs.Change.{no_change}
 use Rattle.desk_core.specs.Condition.{Condition}
 use Rattle.desk_core.specs.Desk.{Desk}
-use Rattle.desk_core.specs.Facts.{no_facts, facts_on_queue, facts_on_request, standing_at}
-use Rattle.desk_core.specs.Facts.{dependencies_of}
+use Rattle.desk_core.specs.Facts.{no_facts, facts_on_queue, facts_on_request}
+use Rattle.desk_core.specs.Facts.{standing_at, dependencies_of}
 use Rattle.desk_core.specs.Links.{has_link, link}
 use Rattle.desk_core.specs.Rights.{may_show}
 use Rattle.desk_core.specs.declared.change.Change.{Change}

@@ -1,6 +1,6 @@
 -- What a command answers, of the desk as it was before.
-use Rattle.std.specs.Prelude.{ℕ, ◌+◌, ◌==◌, ⊤, Bool, true, false, not, ◌&&◌, ◌||◌, List, filter}
-use Rattle.std.specs.Prelude.{map, Option, Some, None}
+use Rattle.std.specs.Prelude.{ℕ, ◌+◌, ◌==◌, ⊤, Bool, true, false, not, ◌&&◌}
+use Rattle.std.specs.Prelude.{◌||◌, List, filter, map, Option, Some, None}
 use Rattle.std.specs.Option.{option_map_or}
 use Rattle.settings_core.specs.declared.settings.Settings.{Settings}
 use Rattle.desk_core.specs.Desk.{Desk, Request, request_at, request_count}
@@ -13,7 +13,7 @@ use Rattle.desk_core.specs.declared.answer.Answer.TheVariants as answer
 use Rattle.desk_core.specs.declared.answer.Links.{Links}
 use Rattle.desk_core.specs.declared.answer.Shown as shown
 use Rattle.desk_core.specs.declared.command.Command.{Command}
-use Rattle.desk_core.specs.declared.command.Command.TheVariants.{Create, Queues, Show, History}
+use Rattle.desk_core.specs.declared.command.Command.TheVariants as command
 use Rattle.desk_core.specs.declared.rows.Entry.{Entry}
 use Rattle.desk_core.specs.declared.rows.EntryKind.{EntryKind}
 use Rattle.desk_core.specs.declared.rows.EntryKind.TheVariants.{Comment}
@@ -90,21 +90,14 @@ of_request (Some request) made = made request
 
 -- the answer of a command that isn't refused
 abbrev pub answer_of : Settings → ℕ → List ℕ → Command → Desk → Answer
-answer_of settings at caller (Create queue subject status requestors) desk =
+answer_of settings at caller (command.Create queue subject status requestors) desk =
     answer.Created (request_count desk + 1)
-answer_of settings at caller Queues desk =
+answer_of settings at caller command.Queues desk =
     answer.Queues (filter (sees_queue settings caller) desk.queues)
-answer_of settings at caller (Show id) desk =
+answer_of settings at caller (command.Show id) desk =
     of_request (request_at desk id)
     (λ request. answer.Shown (shown_of settings caller desk request))
-answer_of settings at caller (History id) desk =
+answer_of settings at caller (command.History id) desk =
     of_request (request_at desk id)
     (λ request. answer.History (entries_told settings caller request))
 answer_of settings at caller other desk = answer.Done
-
--- the command only reads
-abbrev pub IsReading : Command → Type 0
-IsReading Queues = ⊤
-IsReading (Show id) = ⊤
-IsReading (History id) = ⊤
-IsReading other = ⊥

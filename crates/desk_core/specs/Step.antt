@@ -15,8 +15,8 @@ use Rattle.desk_core.specs.declared.change.Change.{Change}
 use Rattle.desk_core.specs.declared.command.Command.{Command}
 use Rattle.desk_core.specs.declared.facts.Facts.{Facts}
 use Rattle.desk_core.specs.declared.refusal.Refusal.{Refusal}
-use Rattle.desk_core.specs.declared.refusal.Refusal.TheVariants.{UnknownCaller, BadMoment}
-use Rattle.desk_core.specs.declared.refusal.Refusal.TheVariants.{Unavailable}
+use Rattle.desk_core.specs.declared.refusal.Refusal.TheVariants.{UnknownCaller}
+use Rattle.desk_core.specs.declared.refusal.Refusal.TheVariants.{BadMoment, Unavailable}
 
 abbrev pub call : Settings → ℕ → List ℕ → Call
 call settings at caller = record { settings = settings; at = at; caller = caller }

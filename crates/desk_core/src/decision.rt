@@ -1,17 +1,16 @@
 ghost use Rattle.text_core.specs.Form.{is_text};
-ghost use Rattle.std.specs.Prelude.{◌||◌, ◌≡◌, ◌≢◌, ◌+◌, ◌^◌, ◌<◌, true, false, if◌then◌else◌};
-ghost use Rattle.std.specs.Prelude.{IfOk, IfErr, OnOk, None, Some};
+ghost use Rattle.std.specs.Prelude.{◌||◌, ◌≡◌, ◌≢◌, ◌+◌, ◌^◌, ◌<◌, true, false};
+ghost use Rattle.std.specs.Prelude.{if◌then◌else◌, IfOk, IfErr, OnOk, None, Some};
 ghost use Rattle.hours_core.specs.Moment.{is_moment};
+ghost use Rattle.rights_core.specs.Right.{own_ticket};
 ghost use Rattle.desk_core.specs.Change.{no_change};
-ghost use Rattle.desk_core.specs.Commands.{plan_of};
+ghost use Rattle.desk_core.specs.Commands.{plan_of, IsReading};
 ghost use Rattle.desk_core.specs.Condition.{Decides};
 ghost use Rattle.desk_core.specs.Context.{call_of};
-ghost use Rattle.desk_core.specs.Decision.{Accepts, Refuses};
+ghost use Rattle.desk_core.specs.Decision.{Accepts, FollowsPlan, Refuses};
 ghost use Rattle.desk_core.specs.Entries as entries;
 ghost use Rattle.desk_core.specs.Plan.{change_by, conditions_by, is_missing};
-ghost use Rattle.desk_core.specs.Reading.{IsReading};
 ghost use Rattle.desk_core.specs.Rights as rights;
-ghost use Rattle.desk_core.specs.Step.{call, conditions_on};
 
 use crate::change::Change;
 use crate::command::Command;
@@ -19,7 +18,7 @@ use crate::facts::{Facts, Standing};
 use crate::refusal::Refusal;
 use crate::rows::{Entry, EntryKind};
 use hours_core::{END, Minute};
-use rights_core::Roles;
+use rights_core::{Roles, right};
 use settings_core::Settings;
 use std::alloc::{AllocError, Global};
 use text_core::{Text, is_text};
@@ -56,6 +55,7 @@ pub fn decide(
 ) -> Result<Change, Refusal>
     ensures accepts { Accepts settings.now at caller.now facts.now command.now result }
     ensures refuses { Refuses settings.now at caller.now facts.now command.now result }
+    ensures planned { FollowsPlan settings.now at caller.now facts.now command.now result }
     ensures reads { IsReading command.now → IfOk result (λ change. change ≡ no_change) }
 {
     decide_on_facts(alloc, settings, at, caller, facts, command)
@@ -70,9 +70,7 @@ fn decide_on_facts(
     facts: &Facts,
     command: &Command,
 ) -> Result<Change, Refusal>
-    ensures { Decides result
-        (conditions_on (call settings.now at caller.now) facts.now command.now)
-        (change_by (call settings.now at caller.now) facts.now (plan_of command.now)) }
+    ensures { FollowsPlan settings.now at caller.now facts.now command.now result }
 {
     if !settings.people().knows(caller) {
         return Err(Refusal::UnknownCaller);
@@ -242,6 +240,22 @@ impl<'c> Context<'c> {
             Ok(())
         } else {
             Err(self.denied(right))
+        }
+    }
+
+    /// Refuses where the person may not own the request.
+    #[tactic(auto, unfolding(rights_core::specs::Right::own_ticket))]
+    fn ask_to_own(&self, person: &str, on: &Standing) -> Result<(), Refusal>
+        ensures ok { OnOk result (rights.holds_on
+            self.now.settings.now person.now own_ticket on.now ≡ true) }
+        ensures err { IfErr result (λ refusal. refusal ≢ Refusal.Unavailable
+            → (refusal ≡ Refusal.Denied own_ticket) × (rights.holds_on
+            self.now.settings.now person.now own_ticket on.now ≡ false)) }
+    {
+        if self.holds(person, right::OWN_TICKET, on) {
+            Ok(())
+        } else {
+            Err(self.denied(right::OWN_TICKET))
         }
     }
 

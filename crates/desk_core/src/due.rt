@@ -12,13 +12,13 @@ use settings_core::Settings;
 use text_core::Text;
 
 /// When a request of this queue is due: the least moment among the limits of its level that count.
-/// These are the limit to resolve it, since it was opened, and the limit of the turn, since the turn
-/// began: to respond, where it is the desk's, and to keep the requestor in the loop, where it is the
-/// requestor's.
+/// These are the limit to resolve it, since it was opened, and the limit of the turn, since the
+/// turn began: to respond, where it is the desk's, and to keep the requestor in the loop, where it
+/// is the requestor's.
 ///
 /// None where its status is inactive, where it has no level, where no limit that counts is over by
-/// 2100-01-01 00:00, and where the settings lack the queue's lifecycle, the status, the level or its
-/// calendar.
+/// 2100-01-01 00:00, and where the settings lack the queue's lifecycle, the status, the level or
+/// its calendar.
 pub fn due_of(settings: &Settings, queue: &QueueRow, request: &RequestRow) -> Option<Minute>
     ensures { result ≡ due.due_of settings.now queue.now request.now }
 {

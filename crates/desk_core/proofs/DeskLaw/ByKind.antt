@@ -1,6 +1,6 @@
 -- The change of a command that isn't refused fits the desk, by the kind of the command.
-use Rattle.std.proofs.Common.{◌≡◌, ◌∙◌, ℕ, ◌+◌, ◌==◌, true, false, not, ◌||◌, List, [], ◌∷◌, ◌++◌}
-use Rattle.std.proofs.Common.{length, Option, Some, None, refl, ap, sym, subst, arith}
+use Rattle.std.proofs.Common.{◌≡◌, ◌∙◌, ℕ, ◌+◌, ◌==◌, true, false, not, ◌||◌, List, [], ◌∷◌}
+use Rattle.std.proofs.Common.{◌++◌, length, Option, Some, None, refl, ap, sym, subst, arith}
 use Rattle.std.proofs.lemmas.Bool.{and_from, or_right}
 use Rattle.std.proofs.lemmas.List.Folds.{list_all-append}
 use Rattle.std.specs.List.{list_all}
@@ -9,8 +9,8 @@ use Rattle.hours_core.specs.Moment.{is_moment}
 use Rattle.settings_core.specs.Settings.{knows}
 use Rattle.settings_core.specs.declared.settings.Settings.{Settings}
 use Rattle.desk_core.proofs.DeskLaw.Entries.{counts_apart, counts_found}
-use Rattle.desk_core.proofs.DeskLaw.Fitting.{Appends, FilesNext, Fits, FollowOn, LinksAnew}
-use Rattle.desk_core.proofs.DeskLaw.Fitting.{OpensNew, StaysInQueue, has_count}
+use Rattle.desk_core.proofs.DeskLaw.Fitting.{Appends, FilesNext, Fits, FollowOn}
+use Rattle.desk_core.proofs.DeskLaw.Fitting.{LinksAnew, OpensNew, StaysInQueue, has_count}
 use Rattle.desk_core.proofs.Every.{every_found}
 use Rattle.desk_core.proofs.Goes.{NoneHolds, none_holds, number_found, passed, rest_passes}
 use Rattle.desk_core.specs.Change.{no_change}
@@ -27,11 +27,11 @@ use Rattle.desk_core.specs.Plan.{conditions_by, is_bad_text, is_missing, on_show
 use Rattle.desk_core.specs.Step.{call, facts_of, guard}
 use Rattle.desk_core.specs.declared.change.Change.{Change}
 use Rattle.desk_core.specs.declared.command.Command.{Command}
-use Rattle.desk_core.specs.declared.command.Command.TheVariants.{OpenQueue, Create, Reply, Link}
-use Rattle.desk_core.specs.declared.command.Command.TheVariants.{Queues, Show, History}
+use Rattle.desk_core.specs.declared.command.Command.TheVariants.{OpenQueue, Create, Reply}
+use Rattle.desk_core.specs.declared.command.Command.TheVariants.{Link, Queues, Show, History}
 use Rattle.desk_core.specs.declared.facts.Standing.{Standing}
-use Rattle.desk_core.specs.declared.refusal.Refusal.TheVariants.{UnknownCaller, BadMoment, BadText}
-use Rattle.desk_core.specs.declared.refusal.Refusal.TheVariants.{NotFound}
+use Rattle.desk_core.specs.declared.refusal.Refusal.TheVariants.{UnknownCaller, BadMoment}
+use Rattle.desk_core.specs.declared.refusal.Refusal.TheVariants.{BadText, NotFound}
 
 -- what a plan changes meets this, where the plan's conditions let it pass
 abbrev Meets : (Desk → Change → Type 0) → Desk → Plan → Type 0

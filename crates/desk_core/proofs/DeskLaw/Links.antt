@@ -1,6 +1,6 @@
 -- The links rise, and both ends of each are there.
-use Rattle.std.proofs.Common.{◌≡◌, ◌∙◌, ℕ, ◌==◌, Bool, true, false, not, ◌&&◌, ◌||◌, cond, List, []}
-use Rattle.std.proofs.Common.{◌∷◌, Option, Some, None, refl, ap, sym}
+use Rattle.std.proofs.Common.{◌≡◌, ◌∙◌, ℕ, ◌==◌, Bool, true, false, not, ◌&&◌, ◌||◌}
+use Rattle.std.proofs.Common.{cond, List, [], ◌∷◌, Option, Some, None, refl, ap, sym}
 use Rattle.std.proofs.lemmas.Bool.{and_from, and_parts, or_parts}
 use Rattle.std.proofs.lemmas.Cmp.{nat_cmp_total, on_total, then_total}
 use Rattle.std.specs.Bool.{nat_lt}
@@ -14,8 +14,8 @@ use Rattle.desk_core.proofs.Applied.{left_by}
 use Rattle.desk_core.proofs.DeskLaw.Fitting.{LinksAnew, has_ends}
 use Rattle.desk_core.proofs.DeskLaw.Stages.{links_after}
 use Rattle.desk_core.proofs.Every.{every_filtered, every_placed, every_so}
-use Rattle.desk_core.proofs.Rising.{IsTransitive, filtered_rises, is_apart, orders_go_on}
-use Rattle.desk_core.proofs.Rising.{orders_part, placed_rises}
+use Rattle.desk_core.proofs.Rising.{IsTransitive, filtered_rises, is_apart}
+use Rattle.desk_core.proofs.Rising.{orders_go_on, orders_part, placed_rises}
 use Rattle.desk_core.specs.Change.{applied, link_put, link_taken}
 use Rattle.desk_core.specs.Desk.{Desk, Request, request_at}
 use Rattle.desk_core.specs.IsDesk.{is_rising}

@@ -3,8 +3,8 @@ use Rattle.std.proofs.Common.{◌≡◌, ◌∙◌, true, ◌&&◌, [], ◌∷�
 use Rattle.std.proofs.lemmas.Bool.{and_from, and_parts}
 use Rattle.std.proofs.lemmas.List.Folds.{list_all-append}
 use Rattle.std.specs.List.{list_all}
-use Rattle.desk_core.proofs.DeskLaw.Stages.{HoldsAtPersons, HoldsAtRow, all_revised, all_with_links}
-use Rattle.desk_core.proofs.DeskLaw.Stages.{by_all, with_links}
+use Rattle.desk_core.proofs.DeskLaw.Stages.{HoldsAtPersons, HoldsAtRow, all_revised}
+use Rattle.desk_core.proofs.DeskLaw.Stages.{all_with_links, by_all, with_links}
 use Rattle.desk_core.specs.Change.{applied, entry_put, filed, request_filed, with_entry}
 use Rattle.desk_core.specs.Desk.{Desk}
 use Rattle.desk_core.specs.IsDesk.{names_rise, persons_rise}

@@ -1,14 +1,14 @@
 -- The queues rise, and the queue of each request is there.
-use Rattle.std.proofs.Common.{◌≡◌, ◌∙◌, ℕ, Bool, true, false, ◌&&◌, ◌||◌, cond, List, [], ◌∷◌, find}
-use Rattle.std.proofs.Common.{Option, Some, None, refl, ap}
+use Rattle.std.proofs.Common.{◌≡◌, ◌∙◌, ℕ, Bool, true, false, ◌&&◌, ◌||◌, cond}
+use Rattle.std.proofs.Common.{List, [], ◌∷◌, find, Option, Some, None, refl, ap}
 use Rattle.std.proofs.lemmas.Bool.{and_from}
 use Rattle.std.proofs.lemmas.List.Folds.{list_all-append}
 use Rattle.std.specs.List.{list_all}
 use Rattle.std.specs.Option.{is_some}
 use Rattle.std.specs.Str.{bytes_eq}
 use Rattle.desk_core.proofs.DeskLaw.Fitting.{FilesNext, OpensNew, StaysInQueue, queue_in}
-use Rattle.desk_core.proofs.DeskLaw.Stages.{HoldsAtPersons, HoldsAtRow, all_revised, all_with_links}
-use Rattle.desk_core.proofs.DeskLaw.Stages.{by_all, queues_after, with_links}
+use Rattle.desk_core.proofs.DeskLaw.Stages.{HoldsAtPersons, HoldsAtRow, all_revised}
+use Rattle.desk_core.proofs.DeskLaw.Stages.{all_with_links, by_all, queues_after, with_links}
 use Rattle.desk_core.proofs.Every.{every_so}
 use Rattle.desk_core.proofs.Rising.{is_apart, names_part, placed_rises}
 use Rattle.desk_core.specs.Change.{applied, entry_put, filed, queue_put, request_filed, with_entry}

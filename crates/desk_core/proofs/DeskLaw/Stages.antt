@@ -1,12 +1,12 @@
 -- A change step by step: what it leaves alone, and what holds of each request after it.
-use Rattle.std.proofs.Common.{◌≡◌, ◌∙◌, ℕ, ◌==◌, Bool, true, false, not, cond, List, [], ◌∷◌, ◌++◌}
-use Rattle.std.proofs.Common.{map, filter, fold, Option, Some, None, refl, ap}
+use Rattle.std.proofs.Common.{◌≡◌, ◌∙◌, ℕ, ◌==◌, Bool, true, false, not, cond, List, []}
+use Rattle.std.proofs.Common.{◌∷◌, ◌++◌, map, filter, fold, Option, Some, None, refl, ap}
 use Rattle.std.specs.List.{list_all}
 use Rattle.desk_core.proofs.Every.{every_mapped}
 use Rattle.desk_core.proofs.Rising.{named_rises, unnamed_rises}
-use Rattle.desk_core.specs.Change.{applied, entry_put, filed, in_role, link_put, link_taken}
-use Rattle.desk_core.specs.Change.{person_put, person_taken, queue_put, request_filed, row_set}
-use Rattle.desk_core.specs.Change.{with_row}
+use Rattle.desk_core.specs.Change.{applied, entry_put, filed, in_role, link_put}
+use Rattle.desk_core.specs.Change.{link_taken, person_put, person_taken}
+use Rattle.desk_core.specs.Change.{queue_put, request_filed, row_set, with_row}
 use Rattle.desk_core.specs.Desk.{Desk, Request, placed, revised_at}
 use Rattle.desk_core.specs.IsDesk.{names_rise}
 use Rattle.desk_core.specs.Links.{is_link, is_lower_link}

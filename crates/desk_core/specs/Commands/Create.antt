@@ -1,6 +1,6 @@
 -- Files a request.
-use Rattle.std.specs.Prelude.{ℕ, ◌+◌, Bool, not, ◌||◌, List, [], ◌∷◌, map, nat_le, Option, None, is_none}
-use Rattle.std.specs.Prelude.{option_and_then}
+use Rattle.std.specs.Prelude.{ℕ, ◌+◌, Bool, not, ◌||◌, List, [], ◌∷◌, map}
+use Rattle.std.specs.Prelude.{nat_le, Option, None, is_none, option_and_then}
 use Rattle.std.specs.List.{list_all}
 use Rattle.lifecycle_core.specs.declared.parts.Parts.{Parts}
 use Rattle.text_core.specs.Form.{is_subject}

@@ -10,8 +10,8 @@ use Rattle.desk_core.specs.Rights.{holds_on, owns}
 use Rattle.desk_core.specs.declared.change.Change.{Change}
 use Rattle.desk_core.specs.declared.facts.Facts.{Facts}
 use Rattle.desk_core.specs.declared.facts.Standing.{Standing}
-use Rattle.desk_core.specs.declared.refusal.Refusal.TheVariants.{UnknownName, Denied, NoChange}
-use Rattle.desk_core.specs.declared.refusal.Refusal.TheVariants.{Full}
+use Rattle.desk_core.specs.declared.refusal.Refusal.TheVariants.{UnknownName, Denied}
+use Rattle.desk_core.specs.declared.refusal.Refusal.TheVariants.{NoChange, Full}
 
 -- the caller owns the request, or may give away what others own
 abbrev pub may_give : Call → Standing → Bool

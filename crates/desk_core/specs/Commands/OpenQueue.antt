@@ -1,6 +1,6 @@
 -- Opens a queue.
-use Rattle.std.specs.Prelude.{ℕ, Bool, true, not, ◌||◌, List, [], ◌∷◌, nat_le, Option, Some}
-use Rattle.std.specs.Prelude.{is_some, is_none}
+use Rattle.std.specs.Prelude.{ℕ, Bool, true, not, ◌||◌, List, [], ◌∷◌}
+use Rattle.std.specs.Prelude.{nat_le, Option, Some, is_some, is_none}
 use Rattle.std.specs.Option.{option_map_or}
 use Rattle.text_core.specs.Form.{is_name}
 use Rattle.rights_core.specs.Right.{admin_queue}
@@ -12,8 +12,8 @@ use Rattle.desk_core.specs.Plan.{Call}
 use Rattle.desk_core.specs.Rights.{holds_on_queue}
 use Rattle.desk_core.specs.declared.change.Change.{Change}
 use Rattle.desk_core.specs.declared.facts.Facts.{Facts}
-use Rattle.desk_core.specs.declared.refusal.Refusal.TheVariants.{BadText, UnknownName, Denied}
-use Rattle.desk_core.specs.declared.refusal.Refusal.TheVariants.{Exists, Full}
+use Rattle.desk_core.specs.declared.refusal.Refusal.TheVariants.{BadText, UnknownName}
+use Rattle.desk_core.specs.declared.refusal.Refusal.TheVariants.{Denied, Exists, Full}
 
 -- no more queues than these are opened
 abbrev pub queue_limit : ℕ

@@ -8,8 +8,8 @@ use Rattle.settings_core.specs.declared.settings.Settings.{Settings}
 use Rattle.desk_core.specs.Change.{revising}
 use Rattle.desk_core.specs.Condition.{Condition}
 use Rattle.desk_core.specs.Entries.{entry_of, lacks_room}
-use Rattle.desk_core.specs.Lifecycles.{has_status, is_allowed, is_inactive, lifecycle_of}
-use Rattle.desk_core.specs.Lifecycles.{opens_anew, right_of}
+use Rattle.desk_core.specs.Lifecycles.{has_status, is_allowed, is_inactive}
+use Rattle.desk_core.specs.Lifecycles.{lifecycle_of, opens_anew, right_of}
 use Rattle.desk_core.specs.Plan.{Call}
 use Rattle.desk_core.specs.Rights.{holds_on}
 use Rattle.desk_core.specs.declared.change.Change.{Change}
@@ -38,7 +38,11 @@ conditions status call facts on =
     ∷ (Denied right, not (holds_on call.settings call.caller right on))
     ∷ (NoChange, bytes_eq on.row.status status)
     ∷ (NoTransition, not (is_allowed lifecycle on.row.status status))
-    ∷ (OpenDependency, is_inactive lifecycle status && has_open_dependency call.settings facts.dependencies)
+    ∷ (
+      OpenDependency,
+      is_inactive lifecycle status
+          && has_open_dependency call.settings facts.dependencies,
+    )
     ∷ (Full, lacks_room call on 1)
     ∷ []
 

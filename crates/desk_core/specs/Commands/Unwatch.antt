@@ -12,8 +12,8 @@ use Rattle.desk_core.specs.Watchers.{watcher}
 use Rattle.desk_core.specs.declared.change.Change.{Change}
 use Rattle.desk_core.specs.declared.facts.Facts.{Facts}
 use Rattle.desk_core.specs.declared.facts.Standing.{Standing}
-use Rattle.desk_core.specs.declared.refusal.Refusal.TheVariants.{UnknownName, Denied, NoChange}
-use Rattle.desk_core.specs.declared.refusal.Refusal.TheVariants.{Full}
+use Rattle.desk_core.specs.declared.refusal.Refusal.TheVariants.{UnknownName, Denied}
+use Rattle.desk_core.specs.declared.refusal.Refusal.TheVariants.{NoChange, Full}
 use Rattle.desk_core.specs.declared.rows.EntryKind.TheVariants as kind
 use Rattle.desk_core.specs.declared.rows.WatchRole.{WatchRole}
 

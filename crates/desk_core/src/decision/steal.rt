@@ -19,13 +19,13 @@ impl Context<'_> {
         Ok(self.giving_owner(Some(caller), on)?)
     }
 
-    #[tactic(auto, unfolding(rights_core::specs::Right::steal_ticket, rights_core::specs::Right::own_ticket))]
+    #[tactic(auto, unfolding(rights_core::specs::Right::steal_ticket))]
     fn ask_to_steal(&self, on: &Standing) -> Result<(), Refusal>
         ensures asks { PassesOn result stealing.conditions self.now on.now }
         ensures fits { OnOk result (on.now.entry_count + 1 < 2 ^ 32) }
     {
         self.ask(right::STEAL_TICKET, on)?;
-        self.ask(right::OWN_TICKET, on)?;
+        self.ask_to_own(self.caller, on)?;
         if on.is_owned_by(self.caller) {
             return Err(Refusal::NoChange);
         }

@@ -22,13 +22,13 @@ impl Context<'_> {
         Ok(self.giving_owner(Some(caller), on)?)
     }
 
-    #[tactic(auto, unfolding(rights_core::specs::Right::take_ticket, rights_core::specs::Right::own_ticket))]
+    #[tactic(auto, unfolding(rights_core::specs::Right::take_ticket))]
     fn ask_to_take(&self, on: &Standing) -> Result<(), Refusal>
         ensures asks { PassesOn result taking.conditions self.now on.now }
         ensures fits { OnOk result (on.now.entry_count + 1 < 2 ^ 32) }
     {
         self.ask(right::TAKE_TICKET, on)?;
-        self.ask(right::OWN_TICKET, on)?;
+        self.ask_to_own(self.caller, on)?;
         if on.is_owned_by(self.caller) {
             return Err(Refusal::NoChange);
         }
@@ -45,7 +45,8 @@ impl Context<'_> {
         on: &Standing,
     ) -> Result<Change, AllocError>
         requires { on.now.entry_count + 1 < 2 ^ 32 }
-        ensures { IfOk result (λ change. change ≡ taking.giving_owner owner (call_of self.now) on.now) }
+        ensures { IfOk result (λ change.
+            change ≡ taking.giving_owner owner (call_of self.now) on.now) }
     {
         let old = owner_word(self.alloc, &on.row.owner)?;
         let new = owner_word(self.alloc, &owner)?;
