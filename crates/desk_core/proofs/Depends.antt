@@ -16,7 +16,7 @@ use Rattle.lifecycle_core.specs.declared.lifecycle.Class.TheVariants.{Initial, A
 use Rattle.lifecycle_core.specs.declared.parts.Parts.{Parts}
 use Rattle.settings_core.specs.declared.settings.Settings.{Settings}
 use Rattle.desk_core.proofs.Goes.{Goes, NoneHolds, none_holds, row_goes, set_by}
-use Rattle.desk_core.proofs.Kept.{ids_kept, replied_to, status_in}
+use Rattle.desk_core.proofs.Kept.{history_law, ids_kept, replied_to, status_in}
 use Rattle.desk_core.specs.Commands.{plan_of}
 use Rattle.desk_core.specs.Commands.Reply as reply
 use Rattle.desk_core.specs.Commands.SetStatus as set_status
@@ -216,6 +216,10 @@ nothing_open s at caller command desk id before after was is differs inactive =
 
 pub dependency_law : (s : Settings) (at : ℕ) (caller : List ℕ) (command : Command) (desk : Desk)
     → KeepsDependencyLaw s at caller command desk
-dependency_law s at caller command desk id before after was is differs inactive =
-    none_open s desk before.row.id
-    (nothing_open s at caller command desk id before after was is differs inactive)
+dependency_law s at caller command desk id before was =
+    let kept = history_law s at caller command desk id before was in (
+      kept.0,
+      kept.1,
+      λ differs inactive. none_open s desk before.row.id
+          (nothing_open s at caller command desk id before kept.0 was kept.1 differs inactive),
+    )

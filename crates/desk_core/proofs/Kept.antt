@@ -26,7 +26,7 @@ use Rattle.desk_core.specs.Commands.Steal as steal
 use Rattle.desk_core.specs.Commands.Take as take
 use Rattle.desk_core.specs.Commands.Give as give
 use Rattle.desk_core.specs.Rights.{holds_on}
-use Rattle.desk_core.specs.Step.{call, desk_unless, effect, facts_of, guard}
+use Rattle.desk_core.specs.Step.{call, desk_after, desk_unless, effect, facts_of, guard}
 use Rattle.desk_core.specs.declared.command.Command.{Command}
 use Rattle.desk_core.specs.declared.command.Command.TheVariants.{OpenQueue, Create, SetStatus, Take}
 use Rattle.desk_core.specs.declared.command.Command.TheVariants.{Steal, Untake, Give, Reply, Queues}
@@ -110,9 +110,14 @@ owners_go (Untake id) = λ call facts on new same free sets.
 owners_go other = λ call facts on new same free sets.
     inl (sym (ap (λ o. owner_in o on.row.owner) sets))
 
-pub owner_law : (s : Settings) (at : ℕ) (caller : List ℕ) (command : Command) (desk : Desk)
-    → KeepsOwnerLaw s at caller command desk
-owner_law s at caller command desk id before after was is differs =
+-- an owner who is another one after the step is set by the command
+owner_changes : (s : Settings) (at : ℕ) (caller : List ℕ) (command : Command) (desk : Desk)
+    (id : ℕ) (before after : Request) → request_at desk id ≡ Some before
+    → request_at (desk_after s at caller command desk) id ≡ Some after
+    → after.row.owner ≢ before.row.owner
+    → SetsOwner caller command before.row.id after.row.owner
+    × MayOwn s (standing before) after.row.owner
+owner_changes s at caller command desk id before after was is differs =
     elim (set_by s at caller command desk id before after was is) [
       | inl kept ↦ absurd (differs (ap (λ (r : RequestRow). r.owner) kept))
       | inr sets ↦
@@ -122,6 +127,12 @@ owner_law s at caller command desk id before after was is differs =
             | inr gives ↦ gives
           ]
     ]
+
+pub owner_law : (s : Settings) (at : ℕ) (caller : List ℕ) (command : Command) (desk : Desk)
+    → KeepsOwnerLaw s at caller command desk
+owner_law s at caller command desk id before was =
+    let kept = history_law s at caller command desk id before was in
+    (kept.0, kept.1, owner_changes s at caller command desk id before kept.0 was kept.1)
 
 abbrev pub status_in : Option RequestRow → List ℕ → List ℕ
 status_in None status = status
@@ -188,9 +199,14 @@ statuses_go (Reply id text) = λ call facts on new same free sets.
 statuses_go other = λ call facts on new same free sets.
     inl (sym (ap (λ o. status_in o on.row.status) sets))
 
-pub status_law : (s : Settings) (at : ℕ) (caller : List ℕ) (command : Command) (desk : Desk)
-    → KeepsStatusLaw s at caller command desk
-status_law s at caller command desk id before after was is differs =
+-- a status that is another one after the step is that of a lawful move
+status_changes : (s : Settings) (at : ℕ) (caller : List ℕ) (command : Command) (desk : Desk)
+    (id : ℕ) (before after : Request) → request_at desk id ≡ Some before
+    → request_at (desk_after s at caller command desk) id ≡ Some after
+    → after.row.status ≢ before.row.status
+    → IsLawfulMove s caller (lifecycle_of s (queue_at desk before.row.queue)) command
+    (standing before) after.row.status
+status_changes s at caller command desk id before after was is differs =
     elim (set_by s at caller command desk id before after was is) [
       | inl kept ↦ absurd (differs (ap (λ (r : RequestRow). r.status) kept))
       | inr sets ↦
@@ -203,3 +219,9 @@ status_law s at caller command desk id before after was is differs =
                 (standing before) after.row.status) goes.1 moves
           ]
     ]
+
+pub status_law : (s : Settings) (at : ℕ) (caller : List ℕ) (command : Command) (desk : Desk)
+    → KeepsStatusLaw s at caller command desk
+status_law s at caller command desk id before was =
+    let kept = history_law s at caller command desk id before was in
+    (kept.0, kept.1, status_changes s at caller command desk id before kept.0 was kept.1)

@@ -38,12 +38,19 @@ AtEveryStep Holds =
     (settings : Settings) (at : ℕ) (caller : List ℕ) (command : Command) (desk : Desk)
     → Holds settings at caller command desk
 
+-- each request stays, and this holds of it as it was before the step and as it is after it
+abbrev pub EachStays : Settings → ℕ → List ℕ → Command → Desk → (Request → Request → Type 0)
+    → Type 0
+EachStays settings at caller command desk Holds =
+    (id : ℕ) (before : Request) → request_at desk id ≡ Some before
+    → (after : Request) × (request_at (desk_after settings at caller command desk) id ≡ Some after)
+    × Holds before after
+
 -- The history law: a request stays, and its old entries are a prefix of its new ones.
 abbrev pub KeepsHistory : Settings → ℕ → List ℕ → Command → Desk → Type 0
 KeepsHistory settings at caller command desk =
-    (id : ℕ) (before : Request) → request_at desk id ≡ Some before
-    → (after : Request) × (request_at (desk_after settings at caller command desk) id ≡ Some after)
-    × ((added : List Entry) × (after.entries ≡ before.entries ++ added))
+    EachStays settings at caller command desk (λ before after.
+    (added : List Entry) × (after.entries ≡ before.entries ++ added))
 
 -- the command gives a request this owner, or leaves it without one
 abbrev pub SetsOwner : List ℕ → Command → ℕ → Option (List ℕ) → Type 0
@@ -61,11 +68,10 @@ MayOwn settings on (Some person) = holds_on settings person own_ticket on ≡ tr
 -- before the step.
 abbrev pub KeepsOwnerLaw : Settings → ℕ → List ℕ → Command → Desk → Type 0
 KeepsOwnerLaw settings at caller command desk =
-    (id : ℕ) (before after : Request) → request_at desk id ≡ Some before
-    → request_at (desk_after settings at caller command desk) id ≡ Some after
-    → after.row.owner ≢ before.row.owner
+    EachStays settings at caller command desk (λ before after.
+    after.row.owner ≢ before.row.owner
     → SetsOwner caller command before.row.id after.row.owner
-    × MayOwn settings (standing before) after.row.owner
+    × MayOwn settings (standing before) after.row.owner)
 
 -- the command moves a request to this status, by this lifecycle: it asks for the move and the
 -- caller holds its right, or it is a reply and the status is the one to which the request is opened
@@ -86,11 +92,10 @@ IsLawfulMove settings caller lifecycle command on to =
 -- command moves it so.
 abbrev pub KeepsStatusLaw : Settings → ℕ → List ℕ → Command → Desk → Type 0
 KeepsStatusLaw settings at caller command desk =
-    (id : ℕ) (before after : Request) → request_at desk id ≡ Some before
-    → request_at (desk_after settings at caller command desk) id ≡ Some after
-    → after.row.status ≢ before.row.status
+    EachStays settings at caller command desk (λ before after.
+    after.row.status ≢ before.row.status
     → IsLawfulMove settings caller (lifecycle_of settings (queue_at desk before.row.queue)) command
-    (standing before) after.row.status
+    (standing before) after.row.status)
 
 -- the command names the request with that number
 abbrev pub names : Command → ℕ → Bool
@@ -119,11 +124,10 @@ pub record IsOpenDependency (settings : Settings) (desk : Desk) (id : ℕ)
 -- dependency.
 abbrev pub KeepsDependencyLaw : Settings → ℕ → List ℕ → Command → Desk → Type 0
 KeepsDependencyLaw settings at caller command desk =
-    (id : ℕ) (before after : Request) → request_at desk id ≡ Some before
-    → request_at (desk_after settings at caller command desk) id ≡ Some after
-    → after.row.status ≢ before.row.status
+    EachStays settings at caller command desk (λ before after.
+    after.row.status ≢ before.row.status
     → is_inactive (lifecycle_of settings (queue_at desk before.row.queue)) after.row.status ≡ true
-    → (other : Request) → IsOpenDependency settings desk before.row.id other → ⊥
+    → (other : Request) → IsOpenDependency settings desk before.row.id other → ⊥)
 
 -- the due moments that an answer tells, each with the number of its request
 abbrev pub dues_told : Answer → List (ℕ × Option ℕ)

@@ -16,7 +16,7 @@ pub fn history_law()
     ensures { AtEveryStep KeepsHistory }
 {}
 
-/// An owner changes only by taking, stealing, untaking or giving, to the one whom the command
+/// A request stays, and its owner changes only by taking, stealing, untaking or giving, to the one whom the command
 /// names; a new owner held `OwnTicket` before the step.
 pub fn owner_law()
     ensures { AtEveryStep KeepsOwnerLaw }
