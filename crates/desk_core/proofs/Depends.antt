@@ -22,10 +22,10 @@ use Rattle.desk_core.specs.Commands.Reply as reply
 use Rattle.desk_core.specs.Commands.SetStatus as set_status
 use Rattle.desk_core.specs.Commands.SetStatus.{has_open_dependency, is_open_dependency}
 use Rattle.desk_core.specs.Desk.{Desk, Request, queue_at, request_at}
-use Rattle.desk_core.specs.Facts.{as_dependency, dependencies_of, standing}
+use Rattle.desk_core.specs.Facts.{as_dependency, dependencies_of}
 use Rattle.desk_core.specs.Laws.{IsOpenDependency, KeepsDependencyLaw}
 use Rattle.desk_core.specs.Lifecycles.{is_inactive, is_inactive_class}
-use Rattle.desk_core.specs.Lifecycles.{is_initial, lifecycle_of, reopening_of}
+use Rattle.desk_core.specs.Lifecycles.{lifecycle_of, reopening_of}
 use Rattle.desk_core.specs.Links.{is_kind, is_link, link}
 use Rattle.desk_core.specs.Plan.{Call}
 use Rattle.desk_core.specs.Step.{call, desk_after, facts_of}

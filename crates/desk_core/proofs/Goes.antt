@@ -1,5 +1,5 @@
 -- What a command does to the row of a request, by the kind of the command.
-use Rattle.std.proofs.Common.{◌≡◌, ◌≢◌, ◌⊎◌, ◌∙◌, ℕ, ◌==◌, Bool, true, false, not, cond, List, []}
+use Rattle.std.proofs.Common.{◌≡◌, ◌⊎◌, ◌∙◌, ℕ, ◌==◌, Bool, true, false, not, cond, List, []}
 use Rattle.std.proofs.Common.{◌∷◌, ◌++◌, find, Option, Some, None, inl, inr, refl, ap, sym, subst}
 use Rattle.std.specs.Option.{option_map}
 use Rattle.std.proofs.lemmas.Bool.{eqb-true}
@@ -12,10 +12,10 @@ use Rattle.desk_core.specs.Condition.{Condition, first_holding}
 use Rattle.desk_core.specs.Desk.{Desk, Request, queue_at, request_at}
 use Rattle.desk_core.specs.Facts.{queue_of, standing}
 use Rattle.desk_core.specs.Plan.{Call, Plan, OnDesk, OnQueue, OnRequest, Nothing}
-use Rattle.desk_core.specs.Plan.{Dependencies, Another, another_shown, besides_on}
+use Rattle.desk_core.specs.Plan.{Dependencies, Another, besides_on}
 use Rattle.desk_core.specs.Plan.{change_by, change_of_request, conditions_by}
-use Rattle.desk_core.specs.Plan.{is_bad_text, is_missing, of_request, on_shown, seen_by}
-use Rattle.desk_core.specs.Step.{call, conditions_on, desk_after}
+use Rattle.desk_core.specs.Plan.{is_bad_text, is_missing, on_shown, seen_by}
+use Rattle.desk_core.specs.Step.{call, desk_after}
 use Rattle.desk_core.specs.Step.{desk_unless, effect, facts_of, guard}
 use Rattle.desk_core.specs.declared.change.Change.{Change}
 use Rattle.desk_core.specs.declared.command.Command.{Command}

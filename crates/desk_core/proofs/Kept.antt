@@ -1,5 +1,5 @@
 -- Why the laws hold.
-use Rattle.std.proofs.Common.{◌≡◌, ◌≢◌, ◌⊎◌, ◌∙◌, ℕ, Bool, true, false, cond, List}
+use Rattle.std.proofs.Common.{◌≡◌, ◌≢◌, ◌⊎◌, ℕ, Bool, true, false, cond, List}
 use Rattle.std.proofs.Common.{[], ◌++◌, ◌||◌, ◌&&◌, not, unwrap_or, Option, Some}
 use Rattle.std.proofs.Common.{None, inl, inr, refl, ap, sym, subst, append-nil}
 use Rattle.desk_core.specs.Desk.{queue_at}
@@ -14,7 +14,6 @@ use Rattle.desk_core.specs.Laws.{KeepsStatusLaw, MayOwn, SetsOwner}
 use Rattle.desk_core.specs.Plan.{Call, change_by}
 use Rattle.desk_core.specs.Commands.{plan_of}
 use Rattle.rights_core.specs.Right.{own_ticket}
-use Rattle.std.specs.Option.{option_map_or}
 use Rattle.lifecycle_core.specs.Lifecycle.{may_move}
 use Rattle.lifecycle_core.specs.declared.parts.Parts.{Parts}
 use Rattle.desk_core.specs.Commands.Reply as reply

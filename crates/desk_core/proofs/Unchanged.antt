@@ -1,6 +1,5 @@
 -- A reading command changes nothing.
-use Rattle.std.proofs.Common.{◌≡◌, ◌∙◌, ℕ, List, Option, Some, None, Result, Ok, Err, IfOk, refl}
-use Rattle.settings_core.specs.declared.settings.Settings.{Settings}
+use Rattle.std.proofs.Common.{◌≡◌, ◌∙◌, List, Option, Some, None, Result, Ok, Err, IfOk, refl}
 use Rattle.desk_core.specs.Change.{no_change}
 use Rattle.desk_core.specs.Commands.{IsReading, plan_of}
 use Rattle.desk_core.specs.Condition.{Condition, Decides}

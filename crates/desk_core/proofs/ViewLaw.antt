@@ -22,7 +22,7 @@ use Rattle.desk_core.specs.IsDesk.{IsDesk, are_numbered}
 use Rattle.desk_core.specs.Laws.{HidesTheRest, TellsOfTheView}
 use Rattle.desk_core.specs.Links.{is_kind}
 use Rattle.desk_core.specs.Plan.{on_shown}
-use Rattle.desk_core.specs.Reading.{entries_told, is_shown, is_told, leads_from, leads_to}
+use Rattle.desk_core.specs.Reading.{entries_told, is_shown, is_told}
 use Rattle.desk_core.specs.Reading.{linked_from, linked_to, links_of, of_request, shown_of}
 use Rattle.desk_core.specs.Rights.{holds_on_queue, may_show, sees_queue}
 use Rattle.desk_core.specs.Step.{Outcome, call, outcome_unless}

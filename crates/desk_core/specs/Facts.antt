@@ -1,5 +1,5 @@
 -- What a command sees of the desk.
-use Rattle.std.specs.Prelude.{ℕ, Bool, false, ◌&&◌, ◌==◌, List, [], Option}
+use Rattle.std.specs.Prelude.{ℕ, false, ◌&&◌, ◌==◌, List, [], Option}
 use Rattle.std.specs.Prelude.{None, length, filter, flat_map, option_and_then}
 use Rattle.std.specs.Option.{option_map, option_to_list}
 use Rattle.desk_core.specs.Desk.{Desk, Request, queue_at, request_at, queue_count, request_count}

@@ -3,7 +3,7 @@ use Rattle.std.specs.Prelude.{◌≡◌, ℕ, ◌+◌, ◌==◌, Bool, true, ◌
 use Rattle.std.specs.List.{list_all}
 use Rattle.std.specs.Ordering.{is_lt}
 use Rattle.settings_core.specs.declared.settings.Settings.{Settings}
-use Rattle.desk_core.specs.Desk.{Desk, Request, empty_desk, has_lower_name, queue_at, request_at}
+use Rattle.desk_core.specs.Desk.{Desk, Request, has_lower_name, queue_at, request_at}
 use Rattle.desk_core.specs.Links.{is_lower_link}
 use Rattle.desk_core.specs.Names.{text_order}
 use Rattle.desk_core.specs.Step.{desk_after}

@@ -1,6 +1,6 @@
 -- What the lifecycle of a queue says, if the queue is there and its lifecycle is known.
 use Rattle.std.specs.Prelude.{ℕ, Bool, true, false, not, ◌&&◌, List, []}
-use Rattle.std.specs.Prelude.{Option, Some, None, option_and_then, unwrap_or}
+use Rattle.std.specs.Prelude.{Option, Some, option_and_then, unwrap_or}
 use Rattle.std.specs.Option.{option_map_or}
 use Rattle.lifecycle_core.specs.Lifecycle.{class_of, is_status, may_create, may_move}
 use Rattle.lifecycle_core.specs.Lifecycle.{reopening_target, right_of_move}

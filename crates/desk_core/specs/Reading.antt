@@ -1,5 +1,5 @@
 -- What a command answers, of the desk as it was before.
-use Rattle.std.specs.Prelude.{ℕ, ◌+◌, ◌==◌, ⊤, Bool, true, false, not, ◌&&◌}
+use Rattle.std.specs.Prelude.{ℕ, ◌+◌, ◌==◌, Bool, true, false, not, ◌&&◌}
 use Rattle.std.specs.Prelude.{◌||◌, List, filter, map, Option, Some, None}
 use Rattle.std.specs.Option.{option_map_or}
 use Rattle.settings_core.specs.declared.settings.Settings.{Settings}

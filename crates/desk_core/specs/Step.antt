@@ -11,7 +11,6 @@ use Rattle.desk_core.specs.Desk.{Desk}
 use Rattle.desk_core.specs.Plan.{Call, change_by, conditions_by, seen_by}
 use Rattle.desk_core.specs.Reading.{answer_of}
 use Rattle.desk_core.specs.declared.answer.Answer.{Answer}
-use Rattle.desk_core.specs.declared.change.Change.{Change}
 use Rattle.desk_core.specs.declared.command.Command.{Command}
 use Rattle.desk_core.specs.declared.facts.Facts.{Facts}
 use Rattle.desk_core.specs.declared.refusal.Refusal.{Refusal}

@@ -12,7 +12,6 @@ use Rattle.desk_core.specs.IsDesk.{names_rise}
 use Rattle.desk_core.specs.Links.{is_link, is_lower_link}
 use Rattle.desk_core.specs.declared.change.Change.{Change}
 use Rattle.desk_core.specs.declared.rows.LinkRow.{LinkRow}
-use Rattle.desk_core.specs.declared.rows.QueueRow.{QueueRow}
 use Rattle.desk_core.specs.declared.rows.RequestRow.{RequestRow}
 use Rattle.desk_core.specs.declared.rows.WatchRole.{WatchRole}
 

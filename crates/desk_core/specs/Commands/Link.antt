@@ -1,5 +1,5 @@
 -- Links a request with another one.
-use Rattle.std.specs.Prelude.{ℕ, ◌==◌, not, List, [], ◌∷◌, Some, codes, decimal}
+use Rattle.std.specs.Prelude.{ℕ, ◌==◌, not, List, [], ◌∷◌, codes, decimal}
 use Rattle.rights_core.specs.Right.{modify_ticket}
 use Rattle.desk_core.specs.Change.{linking}
 use Rattle.desk_core.specs.Condition.{Condition}

@@ -1,6 +1,6 @@
 -- Opens a queue.
 use Rattle.std.specs.Prelude.{ℕ, Bool, true, not, ◌||◌, List, [], ◌∷◌}
-use Rattle.std.specs.Prelude.{nat_le, Option, Some, is_some, is_none}
+use Rattle.std.specs.Prelude.{nat_le, Option, is_some, is_none}
 use Rattle.std.specs.Option.{option_map_or}
 use Rattle.text_core.specs.Form.{is_name}
 use Rattle.rights_core.specs.Right.{admin_queue}

@@ -1,7 +1,6 @@
 -- Replies to a request: the reply may open it again, and the turn passes.
 use Rattle.std.specs.Prelude.{ℕ, Bool, true, false, not, ◌&&◌, ◌||◌, List, []}
 use Rattle.std.specs.Prelude.{◌∷◌, Option, Some, None, if◌then◌else◌, unwrap_or}
-use Rattle.std.specs.Option.{option_map_or}
 use Rattle.lifecycle_core.specs.declared.parts.Parts.{Parts}
 use Rattle.rights_core.specs.Right.{reply_to_ticket}
 use Rattle.text_core.specs.Texts.{is_among}

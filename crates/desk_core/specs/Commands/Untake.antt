@@ -1,5 +1,5 @@
 -- Leaves a request that the caller owns without an owner.
-use Rattle.std.specs.Prelude.{ℕ, not, List, [], ◌∷◌, None, is_none}
+use Rattle.std.specs.Prelude.{not, List, [], ◌∷◌, None, is_none}
 use Rattle.desk_core.specs.Commands.Take.{giving_owner}
 use Rattle.desk_core.specs.Condition.{Condition}
 use Rattle.desk_core.specs.Entries.{lacks_room}
