@@ -23,7 +23,7 @@ use Rattle.desk_core.specs.Laws.{HidesTheRest, TellsOfTheView}
 use Rattle.desk_core.specs.Links.{is_kind}
 use Rattle.desk_core.specs.Plan.{on_shown}
 use Rattle.desk_core.specs.Reading.{entries_told, is_shown, is_told}
-use Rattle.desk_core.specs.Reading.{linked_from, linked_to, links_of, of_request, shown_of}
+use Rattle.desk_core.specs.Reading.{linked_from, linked_to, links_of, answer_of_request, shown_of}
 use Rattle.desk_core.specs.Rights.{holds_on_queue, may_show, sees_queue}
 use Rattle.desk_core.specs.Step.{Outcome, call, outcome_unless}
 use Rattle.desk_core.specs.View.{as_seen, has_shown, is_seen_link, view}
@@ -287,7 +287,7 @@ outcome_by s at caller o made =
     ∷ (BadMoment, not (is_moment at))
     ∷ (BadText, false)
     ∷ on_shown (call s at caller) (option_map standing o) (λ on. [])))
-    (of_request o made)
+    (answer_of_request o made)
 
 -- a request that isn't found is refused, whatever would be answered
 refused_alike : (a b : Bool) (x y : Answer)

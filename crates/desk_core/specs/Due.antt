@@ -31,14 +31,15 @@ limit_on_turn level turn.Desk = level.response
 limit_on_turn level turn.Requestor = level.keep_in_loop
 
 -- when a limit from this moment on is due, if the level has it
-abbrev pub due_by : (ℕ → Bool) → Level → ℕ → Option Limit → Option ℕ
-due_by opens level from limit = option_and_then (limit_due opens level.start_immediately from) limit
+abbrev pub due_of_limit : (ℕ → Bool) → Level → ℕ → Option Limit → Option ℕ
+due_of_limit opens level from limit =
+    option_and_then (limit_due opens level.start_immediately from) limit
 
 -- the least of the limits: to resolve it, since it was opened, and that of the turn, since it began
 abbrev pub least_due : (ℕ → Bool) → Level → RequestRow → Option ℕ
 least_due opens level row =
-    sooner (due_by opens level row.opened level.resolve)
-    (due_by opens level row.since (limit_on_turn level row.turn))
+    sooner (due_of_limit opens level row.opened level.resolve)
+    (due_of_limit opens level row.since (limit_on_turn level row.turn))
 
 -- by the hours of the level's calendar
 abbrev pub due_at_level : Settings → RequestRow → Level → Option ℕ

@@ -84,9 +84,9 @@ abbrev pub entries_told : Settings → List ℕ → Request → List Entry
 entries_told settings caller request = filter (is_told settings caller request) request.entries
 
 -- what is answered of a request, if it is there
-abbrev pub of_request : Option Request → (Request → Answer) → Answer
-of_request None made = answer.Done
-of_request (Some request) made = made request
+abbrev pub answer_of_request : Option Request → (Request → Answer) → Answer
+answer_of_request None made = answer.Done
+answer_of_request (Some request) made = made request
 
 -- the answer of a command that isn't refused
 abbrev pub answer_of : Settings → ℕ → List ℕ → Command → Desk → Answer
@@ -95,9 +95,9 @@ answer_of settings at caller (command.Create queue subject status requestors) de
 answer_of settings at caller command.Queues desk =
     answer.Queues (filter (sees_queue settings caller) desk.queues)
 answer_of settings at caller (command.Show id) desk =
-    of_request (request_at desk id)
+    answer_of_request (request_at desk id)
     (λ request. answer.Shown (shown_of settings caller desk request))
 answer_of settings at caller (command.History id) desk =
-    of_request (request_at desk id)
+    answer_of_request (request_at desk id)
     (λ request. answer.History (entries_told settings caller request))
 answer_of settings at caller other desk = answer.Done

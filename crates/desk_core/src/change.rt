@@ -28,7 +28,7 @@ pub struct Change {
 
 impl Change {
     /// Nothing.
-    pub fn nothing(alloc: Global) -> Change
+    pub fn no_change(alloc: Global) -> Change
         ensures { result ≡ change.no_change }
     {
         Change {
@@ -49,7 +49,7 @@ impl Change {
     {
         Change {
             queue: Some(queue),
-            ..Change::nothing(alloc)
+            ..Change::no_change(alloc)
         }
     }
 
@@ -59,7 +59,7 @@ impl Change {
     {
         Change {
             entries,
-            ..Change::nothing(alloc)
+            ..Change::no_change(alloc)
         }
     }
 

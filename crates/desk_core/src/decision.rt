@@ -144,7 +144,7 @@ impl<'c> Context<'c> {
                 self.unlink(self.both_shown()?, *kind, *other)
             }
             Command::SetLevel { level, .. } => self.set_level(self.shown()?, level),
-            Command::Queues => Ok(Change::nothing(self.alloc)),
+            Command::Queues => Ok(Change::no_change(self.alloc)),
             Command::Show { .. } => self.read(),
             Command::History { .. } => self.read(),
         }
@@ -158,7 +158,7 @@ impl<'c> Context<'c> {
             × (is_missing (call_of self.now) self.now.facts.now.request ≡ true)) }
     {
         self.shown()?;
-        Ok(Change::nothing(self.alloc))
+        Ok(Change::no_change(self.alloc))
     }
 
     /// Refuses a text of a reply or a comment that isn't of its form.
@@ -218,7 +218,7 @@ impl<'c> Context<'c> {
     fn may_show(&self, on: &Standing) -> bool
         ensures { result ≡ rights.may_show self.now.settings.now self.now.caller.now on.now }
     {
-        on.may_be_shown(self.settings, self.caller)
+        on.may_show(self.settings, self.caller)
     }
 
     /// Whether a person holds a right on the request, with the person's roles on it.

@@ -68,14 +68,19 @@ fn least_due(calendar: &Calendar, level: &Level, request: &RequestRow) -> Option
         Turn::Requestor => level.keep_in_loop,
     };
     sooner(
-        due_by(calendar, level, request.opened, level.resolve),
-        due_by(calendar, level, request.since, on_turn),
+        due_of_limit(calendar, level, request.opened, level.resolve),
+        due_of_limit(calendar, level, request.since, on_turn),
     )
 }
 
 /// When a limit from this moment on is due, if the level has it.
-fn due_by(calendar: &Calendar, level: &Level, from: Minute, limit: Option<Limit>) -> Option<Minute>
-    ensures { result ≡ due.due_by (opens calendar.now) level.now from limit }
+fn due_of_limit(
+    calendar: &Calendar,
+    level: &Level,
+    from: Minute,
+    limit: Option<Limit>,
+) -> Option<Minute>
+    ensures { result ≡ due.due_of_limit (opens calendar.now) level.now from limit }
 {
     match limit {
         Some(limit) => level.limit_due(calendar, from, limit),

@@ -16,19 +16,20 @@ pub fn history_law()
     ensures { AtEveryStep KeepsHistory }
 {}
 
-/// A request stays, and its owner changes only by taking, stealing, untaking or giving, to the one whom the command
-/// names; a new owner held `OwnTicket` before the step.
+/// A request stays, and its owner changes only by taking, stealing, untaking or giving, to the one
+/// whom the command names; a new owner held `OwnTicket` before the step.
 pub fn owner_law()
     ensures { AtEveryStep KeepsOwnerLaw }
 {}
 
-/// A status moves only along the lifecycle of the request's queue: by a caller who holds the right
-/// of the move, or by a reply to the status to which the request is opened again.
+/// A request stays, and its status moves only along the lifecycle of its queue: by a caller who
+/// holds the right of the move, or by a reply to the status to which the request is opened again.
 pub fn status_law()
     ensures { AtEveryStep KeepsStatusLaw }
 {}
 
-/// A request becomes inactive by a change of status only where all that it depends on is.
+/// A request stays, and it becomes inactive by a change of status only where all that it depends on
+/// is inactive.
 pub fn dependency_law()
     ensures { AtEveryStep KeepsDependencyLaw }
 {}
@@ -65,7 +66,7 @@ pub fn desk_law()
 {}
 
 /// Names in order rise by their bytes, and they are the same names.
-pub fn order_law()
+pub fn names_law()
     ensures rises { (names : List (List ℕ)) → names_rise (in_order names) ≡ true }
     ensures same { (names : List (List ℕ)) (name : List ℕ)
         → is_among (in_order names) name ≡ is_among names name }

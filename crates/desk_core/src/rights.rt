@@ -39,7 +39,7 @@ pub fn sees_queue(settings: &Settings, person: &str, queue: &QueueRow) -> bool
 impl Standing {
     /// Whether the person may show the request.
     #[tactic(auto, unfolding(rights_core::specs::Right::show_ticket))]
-    pub fn may_be_shown(&self, settings: &Settings, person: &str) -> bool
+    pub fn may_show(&self, settings: &Settings, person: &str) -> bool
         ensures { result ≡ rights.may_show settings.now person.now self.now }
     {
         self.is_held(settings, person, right::SHOW_TICKET)
@@ -47,7 +47,7 @@ impl Standing {
 
     /// Whether the person may show the comments of the request.
     #[tactic(auto, unfolding(rights_core::specs::Right::show_ticket_comments))]
-    pub fn has_comments_for(&self, settings: &Settings, person: &str) -> bool
+    pub fn may_show_comments(&self, settings: &Settings, person: &str) -> bool
         ensures { result ≡ rights.may_show_comments settings.now person.now self.now }
     {
         self.is_held(settings, person, right::SHOW_TICKET_COMMENTS)

@@ -5,7 +5,7 @@ use Rattle.lifecycle_core.specs.declared.parts.Parts.{Parts}
 use Rattle.rights_core.specs.Right.{reply_to_ticket}
 use Rattle.text_core.specs.Texts.{is_among}
 use Rattle.desk_core.specs.Change.{revising}
-use Rattle.desk_core.specs.Commands.SetStatus.{moved_row, moving}
+use Rattle.desk_core.specs.Commands.SetStatus.{row_in_status, moving}
 use Rattle.desk_core.specs.Condition.{Condition}
 use Rattle.desk_core.specs.Entries.{entry_of, lacks_room}
 use Rattle.desk_core.specs.Lifecycles.{is_inactive, is_initial, lifecycle_of, reopening_of}
@@ -22,15 +22,15 @@ use Rattle.desk_core.specs.declared.rows.Turn.{Turn}
 use Rattle.desk_core.specs.declared.rows.Turn.TheVariants.{Desk, Requestor}
 
 -- the status that a reply moves the request to, if it moves it
-abbrev pub reopening : Option Parts → Bool → List ℕ → Option (List ℕ)
-reopening lifecycle is_requestor status =
+abbrev pub reply_target : Option Parts → Bool → List ℕ → Option (List ℕ)
+reply_target lifecycle is_requestor status =
     if is_inactive lifecycle status || (is_initial lifecycle status && not is_requestor)
     then reopening_of lifecycle status
     else None
 
 abbrev pub move_of : Call → Facts → Standing → Option (List ℕ)
 move_of call facts on =
-    reopening (lifecycle_of call.settings facts.queue) (is_among on.requestors call.caller)
+    reply_target (lifecycle_of call.settings facts.queue) (is_among on.requestors call.caller)
     on.row.status
 
 -- how many entries a reply appends
@@ -73,7 +73,7 @@ entries_of text call on move =
 abbrev pub replied_row : Call → Facts → Option (List ℕ) → Standing → RequestRow
 replied_row call facts move on =
     let lifecycle = lifecycle_of call.settings facts.queue in
-    let moved = moved_row lifecycle call.at (unwrap_or move on.row.status) on.row in
+    let moved = row_in_status lifecycle call.at (unwrap_or move on.row.status) on.row in
     turned (is_among on.requestors call.caller) call.at moved
 
 abbrev pub change : List ℕ → Call → Facts → Standing → Change

@@ -47,8 +47,8 @@ conditions status call facts on =
     ∷ []
 
 -- the row after a move
-abbrev pub moved_row : Option Parts → ℕ → List ℕ → RequestRow → RequestRow
-moved_row lifecycle at status row =
+abbrev pub row_in_status : Option Parts → ℕ → List ℕ → RequestRow → RequestRow
+row_in_status lifecycle at status row =
     let anew = opens_anew lifecycle row.status status in
     record row {
       status = status;
@@ -62,5 +62,5 @@ moving call on number status = entry_of call on number kind.Status on.row.status
 
 abbrev pub change : List ℕ → Call → Facts → Standing → Change
 change status call facts on =
-    revising (moved_row (lifecycle_of call.settings facts.queue) call.at status on.row)
+    revising (row_in_status (lifecycle_of call.settings facts.queue) call.at status on.row)
     (moving call on 1 status ∷ [])

@@ -61,7 +61,7 @@ impl Context<'_> {
     {
         let lifecycle = lifecycle_of(self.settings, &self.facts.queue);
         let is_requestor = on.requestors.contains(self.caller);
-        match reopening(lifecycle, is_requestor, &on.row.status) {
+        match reply_target(lifecycle, is_requestor, &on.row.status) {
             Some(status) => Ok(Some(Text::new(self.alloc, status)?)),
             None => Ok(None),
         }
@@ -75,8 +75,8 @@ impl Context<'_> {
         let lifecycle = lifecycle_of(self.settings, &self.facts.queue);
         let is_requestor = on.requestors.contains(self.caller);
         let moved = match reopened {
-            Some(status) => self.moved_row(lifecycle, &on.row, status)?,
-            None => self.moved_row(lifecycle, &on.row, &on.row.status)?,
+            Some(status) => self.row_in_status(lifecycle, &on.row, status)?,
+            None => self.row_in_status(lifecycle, &on.row, &on.row.status)?,
         };
         Ok(turned(is_requestor, self.moment, moved))
     }
@@ -118,13 +118,13 @@ fn entries_of_move(reopened: &Option<Text>) -> u32
 }
 
 /// The status that a reply moves a request to, if it moves it.
-fn reopening<'s>(
+fn reply_target<'s>(
     lifecycle: Option<&'s Lifecycle>,
     is_requestor: bool,
     status: &Text,
 ) -> Option<&'s str>
     ensures { option_map (λ s. s.now) result
-        ≡ replying.reopening (option_map (λ l. l.now) lifecycle.entry) is_requestor status.now }
+        ≡ replying.reply_target (option_map (λ l. l.now) lifecycle.entry) is_requestor status.now }
 {
     if is_inactive(lifecycle, status) || (is_initial(lifecycle, status) && !is_requestor) {
         reopening_of(lifecycle, status)

@@ -40,19 +40,19 @@ impl Context<'_> {
         }
         self.ask_for_room(on, 1)?;
         let entry = self.moving(on, 1, status)?;
-        let row = self.moved_row(lifecycle, &on.row, status)?;
+        let row = self.row_in_status(lifecycle, &on.row, status)?;
         let entries = Sequence::from(vec![in self.alloc; entry]?);
         Ok(Change::revising(self.alloc, row, entries))
     }
 
     /// The row after a move. A move out of the inactive statuses opens the request anew.
-    pub(super) fn moved_row(
+    pub(super) fn row_in_status(
         &self,
         lifecycle: Option<&Lifecycle>,
         row: &RequestRow,
         status: &Text,
     ) -> Result<RequestRow, AllocError>
-        ensures { IfOk result (λ moved. moved ≡ setting.moved_row
+        ensures { IfOk result (λ moved. moved ≡ setting.row_in_status
             (option_map (λ l. l.now) lifecycle.entry) self.now.moment status.now row.now) }
     {
         let mut moved = row.clone()?;

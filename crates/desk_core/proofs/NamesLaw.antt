@@ -11,8 +11,8 @@ use Rattle.desk_core.specs.IsDesk.{names_rise}
 use Rattle.desk_core.specs.Names.{in_order, text_order, with_name}
 use Rattle.text_core.specs.Texts.{is_among}
 
-pub order_rises : (names : List (List ℕ)) → names_rise (in_order names) ≡ true
-order_rises names = all_named_rise names [] refl
+pub names_in_order_rise : (names : List (List ℕ)) → names_rise (in_order names) ≡ true
+names_in_order_rise names = all_named_rise names [] refl
 
 swapped : (a b c : Bool) → (a || (b || c)) ≡ (b || (a || c))
 swapped true true c = refl
@@ -51,6 +51,6 @@ among_all (x ∷ xs) start name =
     ∙ ap (λ b. is_among xs name || b) (among_named start x name)
     ∙ joined (is_among xs name) (bytes_eq x name) (is_among start name)
 
-pub order_keeps : (names : List (List ℕ)) (name : List ℕ)
+pub names_in_order_stay : (names : List (List ℕ)) (name : List ℕ)
     → is_among (in_order names) name ≡ is_among names name
-order_keeps names name = among_all names [] name ∙ or-false (is_among names name)
+names_in_order_stay names name = among_all names [] name ∙ or-false (is_among names name)
