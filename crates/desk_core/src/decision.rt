@@ -43,8 +43,8 @@ mod watch;
 /// that it makes, or the first refusal that is called for.
 ///
 /// On the facts of a desk, that is the refusal that the desk gives, or the change that leads to the
-/// desk after the command. A reading command changes nothing. `Unavailable` stands in place of an
-/// answer where out of memory.
+/// desk after the command. A reading command changes nothing. Out of memory, the answer may be
+/// `Unavailable`.
 pub fn decide(
     alloc: Global,
     settings: &Settings,
