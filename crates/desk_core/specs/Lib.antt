@@ -6,6 +6,7 @@ pub mod Change
 pub mod Commands
 pub mod Condition
 pub mod Context
+pub mod Decision
 pub mod Desk
 pub mod Due
 pub mod Entries
@@ -19,6 +20,7 @@ pub mod Plan
 pub mod Reading
 pub mod Refusals
 pub mod Rights
+pub mod Scope
 pub mod Step
 pub mod View
 pub mod Watchers

@@ -1,6 +1,8 @@
-//! The desk's commands, and what each decides: the first refusal that is called for, or the change that it makes.
+//! The desk's commands, and what each decides: the first refusal that is called for, or the change
+//! that it makes.
 //!
-//! Nothing here keeps a row. A caller hands in the facts that a command looks at, and applies the change.
+//! Nothing here keeps a row. A caller hands in the facts that a command looks at, and applies the
+//! change.
 #![tactic(auto)]
 
 pub mod answer;
@@ -15,6 +17,7 @@ pub mod names;
 pub mod refusal;
 pub mod rights;
 pub mod rows;
+pub mod scope;
 
 pub use answer::{Answer, Links, Shown};
 pub use change::Change;
@@ -29,3 +32,4 @@ pub use rights::{may_show, sees_queue};
 pub use rows::{
     Entry, EntryKind, LinkKind, LinkRow, QueueRow, RequestRow, Turn, WatchRole, Watcher,
 };
+pub use scope::Scope;
