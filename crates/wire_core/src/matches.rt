@@ -7,7 +7,7 @@ ghost use Rattle.wire_core.specs.Spelling.{id_of, requestors_of};
 
 use crate::fault::WordsFault;
 use crate::number::number_of_word;
-use crate::table::desk;
+use crate::table::desk_for;
 use clap::error::ErrorKind;
 use clap::{ArgMatches, Command};
 use std::alloc::{AllocError, Global};
@@ -19,11 +19,13 @@ pub(crate) fn matches_of<'a>(
     words: &'a [String],
 ) -> Result<ArgMatches<'a>, WordsFault>
     ensures fits { IfOk result (λ _. fault_of table.desk (map string_bytes words.entry.now) ≡ []) }
-    ensures rows { IfOk result (λ m. subcommand_rows_of m ≡ subcommand_of table.desk (map string_bytes words.entry.now)) }
-    ensures bad { result ≡ Err WordsFault.BadWords → fault_of table.desk (map string_bytes words.entry.now) ≢ [] }
+    ensures rows { IfOk result (λ m. subcommand_rows_of m
+        ≡ subcommand_of table.desk (map string_bytes words.entry.now)) }
+    ensures bad { result ≡ Err WordsFault.BadWords
+        → fault_of table.desk (map string_bytes words.entry.now) ≢ [] }
     ensures kinds { IfErr result (λ e. e ≢ WordsFault.NoMemory → e ≡ WordsFault.BadWords) }
 {
-    let command = desk(alloc)?;
+    let command = desk_for(alloc, words)?;
     parsed(command, words)
 }
 
@@ -32,8 +34,10 @@ fn parsed<'a>(command: Command<'a>, words: &'a [String]) -> Result<ArgMatches<'a
     ensures fits { (a : App) → Is a command.entry → is_simple_and_free a ≡ true
         → IfOk result (λ _. fault_of a (map string_bytes words.entry.now) ≡ []) }
     ensures rows { (a : App) → Is a command.entry → is_simple a ≡ true
-        → IfOk result (λ m. subcommand_rows_of m ≡ subcommand_of a (map string_bytes words.entry.now)) }
-    ensures bad { (a : App) → Is a command.entry → is_simple_and_free a ≡ true → result ≡ Err WordsFault.BadWords
+        → IfOk result (λ m. subcommand_rows_of m
+        ≡ subcommand_of a (map string_bytes words.entry.now)) }
+    ensures bad { (a : App) → Is a command.entry → is_simple_and_free a ≡ true
+        → result ≡ Err WordsFault.BadWords
         → fault_of a (map string_bytes words.entry.now) ≢ [] }
     ensures kinds { IfErr result (λ e. e ≢ WordsFault.NoMemory → e ≡ WordsFault.BadWords) }
 {
