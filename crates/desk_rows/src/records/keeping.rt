@@ -71,7 +71,10 @@ impl Records {
     pub(crate) fn at(&self, id: u32) -> Option<&Record>
         ensures { option_map (λ r. request_of r.now) result ≡ find (λ r. r.row.id == id) (requests_of self.now) }
     {
-        find_request(self.inner.as_slice(), id)
+        match self.place_of(id) {
+            Some(place) => self.inner.get(place),
+            None => None,
+        }
     }
 
     /// A request that is filed, which has the next number.
@@ -84,8 +87,8 @@ impl Records {
         Ok(())
     }
 
-    /// What becomes of the request with this number, if there is one: it gets the row, if one is given, the people,
-    /// and more entries. A row has to have the number.
+    /// What becomes of the request with this number, if there is one: it gets the row, if one is
+    /// given, the people, and more entries. A row has to have the number.
     pub(crate) fn revise(
         &mut self,
         id: u32,
@@ -116,11 +119,4 @@ impl Records {
             Some(id as usize - 1)
         }
     }
-}
-
-/// The first request with this number, if there is one.
-fn find_request(requests: &[Record], id: u32) -> Option<&Record>
-    ensures { option_map (λ r. r.now) result ≡ find (λ r. r.row.id == id) requests.now }
-{
-    requests.iter().find(|r| r.row.id == id)
 }
