@@ -3,7 +3,6 @@ use Rattle.std.proofs.Common.{◌≡◌, ◌∙◌, ◌⊎◌, ℕ, zero, suc, �
 use Rattle.std.proofs.lemmas.Bool.{eqb-true}
 use Rattle.std.proofs.lemmas.Bool.Decides.{eqb_tells}
 use Rattle.std.specs.List.{slice_index_or, slice_set}
-use Rattle.std.specs.Prelude.{slice_get}
 use Rattle.std.specs.Option.{option_map}
 use Rattle.desk_core.proofs.DeskLaw.Numbers.{numbered_more}
 use Rattle.desk_core.specs.Desk.{Request, revised_at}
@@ -141,17 +140,19 @@ stays_set (x ∷ xs) (suc k) was new there same = ap (λ rest. request_of x ∷ 
 
 -- the request with a number stands at the place of the number
 pub found_at : (n id : ℕ) (xs : List Record) → are_numbered n (numbers_of xs) ≡ true → (k : ℕ)
-    → id ≡ n + k
-    → find (λ r. r.row.id == id) (map request_of xs) ≡ option_map request_of (slice_get xs k)
-found_at n id [] e k same = refl
-found_at n id (x ∷ xs) e zero same =
+    → id ≡ n + k → k < length xs → (there : Record) → there ≡ slice_index_or xs k there
+    → find (λ r. r.row.id == id) (map request_of xs) ≡ Some (request_of there)
+found_at n id [] e k same low there is = absurd (omega (arith, low))
+found_at n id (x ∷ xs) e zero same low there is =
     let parts = both (x.row.id == n) (are_numbered (n + 1) (numbers_of xs)) e in
     let first : id ≡ n = omega (arith, same) in
     let here : (x.row.id == id) ≡ true = ap (λ (m : ℕ). x.row.id == m) first ∙ parts.0 in
-    rw here refl
-found_at n id (x ∷ xs) e (suc k) same =
+    rw here (ap (λ (r : Record). Some (request_of r)) (sym is))
+found_at n id (x ∷ xs) e (suc k) same low there is =
     let parts = both (x.row.id == n) (are_numbered (n + 1) (numbers_of xs)) e in
     elim (eqb_tells x.row.id id) [
       | inl here ↦ absurd (omega (arith, same, here.1, eqb-true x.row.id n parts.0))
-      | inr other ↦ rw other.0 (found_at (n + 1) id xs parts.1 k (omega (arith, same)))
+      | inr other ↦
+          rw other.0
+          (found_at (n + 1) id xs parts.1 k (omega (arith, same)) (omega (arith, low)) there is)
     ]

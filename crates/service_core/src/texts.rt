@@ -7,8 +7,8 @@ use crate::shown::show_text;
 use desk_core::{Answer, Refusal};
 use std::alloc::{AllocError, Global};
 
-/// The text of an answer: `ok`, `request N`, a line for each queue, the lines of a request, or one for
-/// each entry.
+/// The text of an answer: `ok`, `request N`, a line for each queue, the lines of a request, or one
+/// for each entry.
 pub fn answer_text(alloc: Global, answer: &Answer) -> Result<String, AllocError>
     ensures { IfOk result (λ t. string_bytes t ≡ text.answer_text answer.now) }
 {

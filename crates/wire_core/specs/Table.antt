@@ -1,5 +1,6 @@
 -- The table of the command line: the subcommands, and what each is given.
-use Rattle.std.specs.Prelude.{◌≡◌, ⊤, ℕ, true, false, List, [], ◌∷◌, Option, Some, None, codes, find, fold}
+use Rattle.std.specs.Prelude.{◌≡◌, ⊤, ℕ, true, false, List, [], ◌∷◌, Option, Some, None, codes}
+use Rattle.std.specs.Prelude.{find, fold}
 use Rattle.std.specs.Str.{bytes_eq}
 use Rattle.clap.specs.Words.{App, Rule, Text, app_of, new_app, new_rule, with_rule, with_subcommand}
 use Rattle.clap.specs.declared.builder.action.ArgAction.TheVariants.{Set, SetTrue, Append}
@@ -33,7 +34,13 @@ bare name = let a = new_app name in record a { top = record a.top { disable_help
 -- the command above all others: one of them has to be there, as the first word
 abbrev pub root : App
 root = let a = bare (codes "desk") in
-    record a { top = record a.top { no_binary_name = true; disable_help_subcommand = true; subcommand_required = true } }
+    record a {
+      top = record a.top {
+        no_binary_name = true;
+        disable_help_subcommand = true;
+        subcommand_required = true;
+      };
+    }
 
 -- a word that has to be there for each id, in order
 abbrev pub with_all : App → List Text → App
@@ -42,7 +49,9 @@ with_all a (x ∷ xs) = with_all (with_rule a (wanted x)) xs
 
 -- queue NAME LIFECYCLE [LEVEL]
 abbrev pub queue : App
-queue = with_rule (with_all (bare (codes "queue")) (codes "name" ∷ codes "lifecycle" ∷ [])) (allowed (codes "level"))
+queue =
+    with_rule (with_all (bare (codes "queue")) (codes "name" ∷ codes "lifecycle" ∷ []))
+    (allowed (codes "level"))
 
 -- create [--status STATUS] QUEUE SUBJECT [REQUESTOR ..]
 abbrev pub create : App

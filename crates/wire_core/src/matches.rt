@@ -1,7 +1,8 @@
 ghost use Rattle.std.specs.Prelude.{◌≡◌, ◌≢◌, [], Err, map, true, string_bytes, IfOk, IfErr};
 ghost use Rattle.std.specs.Option.{option_map};
 ghost use Rattle.clap.specs.Words.{App, all_of, fault_of, first_of};
-ghost use Rattle.clap.specs.Words.{is_simple, is_simple_and_free, subcommand_of, subcommand_rows_of};
+ghost use Rattle.clap.specs.Words.{is_simple, is_simple_and_free, subcommand_of};
+ghost use Rattle.clap.specs.Words.{subcommand_rows_of};
 ghost use Rattle.wire_core.specs.Table as table;
 ghost use Rattle.wire_core.specs.Table.{Is};
 ghost use Rattle.wire_core.specs.Spelling as spelling;
@@ -57,7 +58,8 @@ fn parsed<'a>(command: Command<'a>, words: &'a [String]) -> Result<ArgMatches<'a
 
 /// The subcommand that was met, with its matches.
 pub(crate) fn entered<'m, 'a>(matches: &'m ArgMatches<'a>) -> Option<(&'a str, &'m ArgMatches<'a>)>
-    ensures { option_map (λ p. (p.0.now, given_to p.1.now)) result ≡ subcommand_rows_of matches.now }
+    ensures { option_map (λ p. (p.0.now, given_to p.1.now)) result
+        ≡ subcommand_rows_of matches.now }
 {
     matches.subcommand()
 }

@@ -1,7 +1,8 @@
 ghost use Rattle.std.specs.Prelude.{◌≡◌, map, string_bytes, IfOk, false};
 ghost use Rattle.clap.specs.Words.{App, Rule, rule_of, with_rule, with_subcommand};
 ghost use Rattle.wire_core.specs.Table as table;
-ghost use Rattle.wire_core.specs.Table.{Is, IsNamed, allowed, bare, flag, option, root, several, wanted, with_all};
+ghost use Rattle.wire_core.specs.Table.{Is, IsNamed, allowed, bare, flag, option, root, several};
+ghost use Rattle.wire_core.specs.Table.{wanted, with_all};
 
 use clap::{Arg, ArgAction, Command};
 use std::alloc::{AllocError, Global};
@@ -174,7 +175,8 @@ fn with_argument<'a>(command: Command<'a>, argument: Arg<'a>) -> Result<Command<
 }
 
 fn with_subcommand<'a>(command: Command<'a>, sub: Command<'a>) -> Result<Command<'a>, AllocError>
-    ensures { (a b : App) → Is a command.entry → Is b sub.entry → IfOk result (Is (with_subcommand a b.top)) }
+    ensures { (a b : App) → Is a command.entry → Is b sub.entry
+        → IfOk result (Is (with_subcommand a b.top)) }
 {
     command.subcommand(sub)
 }

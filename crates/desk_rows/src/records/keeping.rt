@@ -1,4 +1,5 @@
-ghost use Rattle.std.specs.Prelude.{◌≡◌, ◌==◌, ◌+◌, ◌++◌, ◌∷◌, [], length, map, find, ◌<◌, IfOk, IfSome, IfNone, OnOk, OnErr, Some, None, true};
+ghost use Rattle.std.specs.Prelude.{◌≡◌, ◌==◌, ◌+◌, ◌++◌, ◌∷◌, [], length, map, find, ◌<◌, IfOk};
+ghost use Rattle.std.specs.Prelude.{IfSome, IfNone, OnOk, OnErr, Some, None, true};
 ghost use Rattle.std.specs.Option.{option_map, option_map_or};
 ghost use Rattle.desk_core.specs.Desk.{Request, revised_at};
 ghost use Rattle.desk_core.specs.Facts as facts;
@@ -36,7 +37,8 @@ impl Record {
         entries: Vec<Entry>,
     ) -> Result<(), AllocError>
         requires { option_map_or (λ r. r.id == self.old.row.id) row true ≡ true }
-        ensures ok { OnOk result (request_of self.new ≡ revised row people entries.items (request_of self.old)) }
+        ensures ok { OnOk result (request_of self.new
+            ≡ revised row people entries.items (request_of self.old)) }
         ensures err { OnErr result (request_of self.new ≡ request_of self.old) }
         ensures number { self.new.row.id ≡ self.old.row.id }
     {
@@ -69,10 +71,11 @@ impl Records {
 
     /// The request with this number, if there is one.
     pub(crate) fn at(&self, id: u32) -> Option<&Record>
-        ensures { option_map (λ r. request_of r.now) result ≡ find (λ r. r.row.id == id) (requests_of self.now) }
+        ensures { option_map (λ r. request_of r.now) result
+            ≡ find (λ r. r.row.id == id) (requests_of self.now) }
     {
         match self.place_of(id) {
-            Some(place) => self.inner.get(place),
+            Some(place) => Some(&self.inner[place]),
             None => None,
         }
     }
@@ -80,7 +83,8 @@ impl Records {
     /// A request that is filed, which has the next number.
     pub(crate) fn file(&mut self, request: Record) -> Result<(), AllocError>
         requires { request.row.id ≡ length (requests_of self.old) + 1 }
-        ensures ok { OnOk result (requests_of self.new ≡ requests_of self.old ++ request_of request ∷ []) }
+        ensures ok { OnOk result (requests_of self.new ≡ requests_of self.old
+            ++ request_of request ∷ []) }
         ensures err { OnErr result (requests_of self.new ≡ requests_of self.old) }
     {
         self.inner.push(request)?;
@@ -97,7 +101,8 @@ impl Records {
         entries: Vec<Entry>,
     ) -> Result<(), AllocError>
         requires { option_map_or (λ r. r.id == id) row true ≡ true }
-        ensures ok { OnOk result (requests_of self.new ≡ map (revised_at id (revised row people entries.items)) (requests_of self.old)) }
+        ensures ok { OnOk result (requests_of self.new
+            ≡ map (revised_at id (revised row people entries.items)) (requests_of self.old)) }
         ensures err { OnErr result (requests_of self.new ≡ requests_of self.old) }
     {
         match self.place_of(id) {
@@ -108,7 +113,8 @@ impl Records {
 
     /// The place of the request with this number, if there is one.
     fn place_of(&self, id: u32) -> Option<usize>
-        ensures some { IfSome result (λ place. (place < length self.now.inner.items) × (id ≡ place + 1)) }
+        ensures some { IfSome result (λ place. (place < length self.now.inner.items)
+            × (id ≡ place + 1)) }
         ensures none { IfNone result (find (λ r. r.row.id == id) (requests_of self.now) ≡ None) }
     {
         if id == 0 {
