@@ -1,4 +1,5 @@
-pub mod Lists
+pub mod InRole
+mod Lists
 pub mod Numbering
 pub mod OneRequest
 pub mod Retained

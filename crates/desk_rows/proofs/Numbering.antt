@@ -137,3 +137,22 @@ pub stays_set : (xs : List Record) (k : ℕ) (was new : Record) → was ≡ slic
 stays_set [] k was new there same = refl
 stays_set (x ∷ xs) zero was new there same = ap (λ r. r ∷ map request_of xs) (same ∙ ap request_of there)
 stays_set (x ∷ xs) (suc k) was new there same = ap (λ rest. request_of x ∷ rest) (stays_set xs k was new there same)
+
+-- the request with a number stands at the place of the number
+pub found_at : (n id : ℕ) (xs : List Record) → are_numbered n (numbers_of xs) ≡ true → (k : ℕ)
+    → id ≡ n + k → k < length xs → (there : Record) → there ≡ slice_index_or xs k there
+    → find (λ r. r.row.id == id) (map request_of xs) ≡ Some (request_of there)
+found_at n id [] e k same low there is = absurd (omega (arith, low))
+found_at n id (x ∷ xs) e zero same low there is =
+    let parts = both (x.row.id == n) (are_numbered (n + 1) (numbers_of xs)) e in
+    let first : id ≡ n = omega (arith, same) in
+    let here : (x.row.id == id) ≡ true = ap (λ (m : ℕ). x.row.id == m) first ∙ parts.0 in
+    rw here (ap (λ (r : Record). Some (request_of r)) (sym is))
+found_at n id (x ∷ xs) e (suc k) same low there is =
+    let parts = both (x.row.id == n) (are_numbered (n + 1) (numbers_of xs)) e in
+    elim (eqb_tells x.row.id id) [
+      | inl here ↦ absurd (omega (arith, same, here.1, eqb-true x.row.id n parts.0))
+      | inr other ↦
+          rw other.0
+          (found_at (n + 1) id xs parts.1 k (omega (arith, same)) (omega (arith, low)) there is)
+    ]

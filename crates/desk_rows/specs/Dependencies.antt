@@ -7,4 +7,5 @@ use Rattle.desk_core.specs.declared.facts.Dependency.{Dependency}
 use Rattle.desk_core.specs.declared.rows.LinkRow.{LinkRow}
 
 unfoldable pub dependency_by : Desk → LinkRow → List Dependency
-dependency_by desk link = option_to_list (option_and_then (as_dependency desk) (request_at desk link.target))
+dependency_by desk link =
+    option_to_list (option_and_then (as_dependency desk) (request_at desk link.target))

@@ -9,4 +9,7 @@ use Rattle.desk_rows.specs.declared.people.People.{People}
 -- it gets the row, if one is given, the people, and these entries after its own
 abbrev pub revised : Option RequestRow → People → List Entry → Request → Request
 revised row people entries request =
-    record (with_people people request) { row = unwrap_or row request.row; entries = request.entries ++ entries }
+    record (with_people people request) {
+      row = unwrap_or row request.row;
+      entries = request.entries ++ entries;
+    }

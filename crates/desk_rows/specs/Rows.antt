@@ -20,4 +20,8 @@ requests_of records = map request_of records.inner.items
 
 abbrev pub desk_of : Rows → Desk
 desk_of rows =
-    record { queues = rows.queues.items; requests = requests_of rows.records; links = rows.links.items }
+    record {
+      queues = rows.queues.items;
+      requests = requests_of rows.records;
+      links = rows.links.items;
+    }

@@ -1,4 +1,5 @@
--- What a change is about: a queue, a request that is filed, or a request that is there and its links.
+-- What a change is about: a queue, a request that is filed, or a request that is there and its
+-- links.
 use Rattle.std.specs.Prelude.{ℕ, Bool, true, false, ◌&&◌, ◌==◌, List, length, is_none}
 use Rattle.std.specs.List.{list_all}
 use Rattle.std.specs.Option.{option_map_or}
@@ -29,14 +30,17 @@ opens_only change = is_none change.filed && (is_none change.row && is_still chan
 abbrev pub files : ℕ → Change → Bool
 files id change = option_map_or (λ r. r.id == id) change.filed false
 
--- the persons that are put and the entries are those of the request with this number, and there is nothing else
+-- the persons that are put and the entries are those of the request with this number, and there is
+-- nothing else
 abbrev pub puts_only : ℕ → Change → Bool
 puts_only id change =
-    are_of id change.put && (length change.taken == 0 && (has_no_links change && are_entries_of id change.entries))
+    are_of id change.put
+    && (length change.taken == 0 && (has_no_links change && are_entries_of id change.entries))
 
 -- a request with this number is filed, and all persons and entries are its own
 unfoldable pub files_only : ℕ → Change → Bool
-files_only id change = is_none change.queue && (is_none change.row && (files id change && puts_only id change))
+files_only id change =
+    is_none change.queue && (is_none change.row && (files id change && puts_only id change))
 
 abbrev pub has_row_of : ℕ → Change → Bool
 has_row_of id change = option_map_or (λ r. r.id == id) change.row true
@@ -46,7 +50,9 @@ abbrev pub changes_only : ℕ → Change → Bool
 changes_only id change =
     are_of id change.put && (are_of id change.taken && are_entries_of id change.entries)
 
--- nothing is opened or filed, and the row, all persons and all entries are those of the request with this number
+-- nothing is opened or filed, and the row, all persons and all entries are those of the request
+-- with this number
 unfoldable pub revises_only : ℕ → Change → Bool
 revises_only id change =
-    is_none change.queue && (is_none change.filed && (has_row_of id change && changes_only id change))
+    is_none change.queue
+    && (is_none change.filed && (has_row_of id change && changes_only id change))

@@ -12,8 +12,8 @@ use settings_core::Settings;
 use std::alloc::{AllocError, Global};
 use text_core::Text;
 
-/// A desk in memory: its queues in the order of their names, its requests in that of their numbers, and its links in
-/// that of their sources, kinds and targets.
+/// A desk in memory: its queues in the order of their names, its requests in that of their numbers,
+/// and its links in that of their sources, kinds and targets.
 #[derive(Drop)]
 pub struct Rows {
     pub(crate) queues: Vec<QueueRow>,
@@ -34,8 +34,8 @@ impl Rows {
     }
 
     #[tactic(none)]
-    /// One command by a caller at a moment: its answer, or the refusal that is called for. `Unavailable` leaves the
-    /// desk as it was, as any refusal does.
+    /// One command by a caller at a moment: its answer, or the refusal that is called for.
+    /// `Unavailable` leaves the desk as it was, as any refusal does.
     pub fn step(
         &mut self,
         alloc: Global,
@@ -44,7 +44,8 @@ impl Rows {
         caller: &str,
         command: &Command,
     ) -> Result<Answer, Refusal>
-        ensures { Steps settings.now at caller.now command.now (desk_of self.old) result (desk_of self.new) }
+        ensures { Steps settings.now at caller.now command.now
+            (desk_of self.old) result (desk_of self.new) }
     {
         match self.decided(alloc, settings, at, caller, command) {
             Ok(change) => self.done(alloc, settings, at, caller, command, change),
@@ -62,8 +63,10 @@ impl Rows {
         caller: &str,
         command: &Command,
     ) -> Result<Change, Refusal>
-        ensures accepts { IfOk result (λ change. (guard settings.now at caller.now command.now (desk_of self.now) ≡ None)
-            × (applied change (desk_of self.now) ≡ effect settings.now at caller.now command.now (desk_of self.now))) }
+        ensures accepts { IfOk result (λ change.
+            (guard settings.now at caller.now command.now (desk_of self.now) ≡ None)
+            × (applied change (desk_of self.now)
+            ≡ effect settings.now at caller.now command.now (desk_of self.now))) }
         ensures refuses { IfErr result (λ refusal. refusal ≢ Refusal.Unavailable
             → guard settings.now at caller.now command.now (desk_of self.now) ≡ Some refusal) }
     {
@@ -83,9 +86,11 @@ impl Rows {
         command: &Command,
         change: Change,
     ) -> Result<Answer, Refusal>
-        ensures ok { IfOk result (λ answer. (answer ≡ answer_of settings.now at caller.now command.now (desk_of self.old))
+        ensures ok { IfOk result (λ answer.
+            (answer ≡ answer_of settings.now at caller.now command.now (desk_of self.old))
             × (desk_of self.new ≡ applied change (desk_of self.old))) }
-        ensures err { IfErr result (λ refusal. (refusal ≡ Refusal.Unavailable) × (desk_of self.new ≡ desk_of self.old)) }
+        ensures err { IfErr result (λ refusal. (refusal ≡ Refusal.Unavailable)
+            × (desk_of self.new ≡ desk_of self.old)) }
     {
         let answer = self.answer_to(alloc, settings, at, caller, command)?;
         self.apply(alloc, change)?;

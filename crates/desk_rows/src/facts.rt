@@ -94,7 +94,8 @@ impl Rows {
         kind: LinkKind,
         other: u32,
     ) -> Result<Facts, AllocError>
-        ensures { IfOk result (λ found. found ≡ besides_on (Another kind other) id (desk_of self.now)) }
+        ensures { IfOk result (λ found. found
+            ≡ besides_on (Another kind other) id (desk_of self.now)) }
     {
         Ok(Facts {
             queue: self.queue_of(id)?,
@@ -122,7 +123,8 @@ impl Rows {
 
     /// The queue of the request with this number, if both are there.
     fn queue_of(&self, id: u32) -> Result<Option<QueueRow>, AllocError>
-        ensures { IfOk result (λ queue. queue ≡ facts.queue_of (desk_of self.now) (request_at (desk_of self.now) id)) }
+        ensures { IfOk result (λ queue. queue
+            ≡ facts.queue_of (desk_of self.now) (request_at (desk_of self.now) id)) }
     {
         match self.request(id) {
             Some(request) => self.queue_row(&request.row.queue),
@@ -161,7 +163,8 @@ impl Rows {
         alloc: Global,
         links: &[LinkRow],
     ) -> Result<Sequence<Dependency>, AllocError>
-        ensures { IfOk result (λ found. found ≡ flat_map (dependency_by (desk_of self.now)) links.now) }
+        ensures { IfOk result (λ found. found
+            ≡ flat_map (dependency_by (desk_of self.now)) links.now) }
     {
         let mut found = Vec::new(alloc);
         for link in links {
@@ -172,7 +175,8 @@ impl Rows {
 
     /// The links by which a request depends on others.
     fn dependency_links(&self, alloc: Global, id: u32) -> Result<Vec<LinkRow>, AllocError>
-        ensures { IfOk result (λ links. links.items ≡ facts.dependency_links (desk_of self.now) id) }
+        ensures { IfOk result (λ links. links.items
+            ≡ facts.dependency_links (desk_of self.now) id) }
     {
         let mut links = Vec::new(alloc);
         for link in &self.links {
@@ -186,7 +190,8 @@ impl Rows {
     /// The request to which a link leads, if it and its queue are there.
     #[tactic(auto, unfolding(crate::specs::Dependencies::dependency_by))]
     fn put_dependency(&self, found: &mut Vec<Dependency>, link: &LinkRow) -> Result<(), AllocError>
-        ensures { OnOk result (found.new.items ≡ found.old.items ++ dependency_by (desk_of self.now) link.now) }
+        ensures { OnOk result (found.new.items ≡ found.old.items
+            ++ dependency_by (desk_of self.now) link.now) }
     {
         let Some(request) = self.request(link.target) else {
             return Ok(());

@@ -4,7 +4,7 @@ ghost use Rattle.desk_rows.specs.People as words;
 
 use desk_core::{WatchRole, Watcher, with_name, without_name};
 use std::alloc::{AllocError, Global};
-use text_core::Texts;
+use text_core::{Text, Texts};
 
 /// The people of a request by their roles, each list in the order of its bytes.
 #[derive(Drop)]
@@ -51,7 +51,8 @@ impl People {
 
     fn with_all(self, alloc: Global, watchers: &[Watcher]) -> Result<People, AllocError>
         ensures { IfOk result (λ people. (request : Request)
-            → words.with_people people request ≡ fold words.put_person (words.with_people self request) watchers.now) }
+            → words.with_people people request
+            ≡ fold words.put_person (words.with_people self request) watchers.now) }
     {
         let mut people = self;
         for watcher in watchers {
@@ -62,7 +63,8 @@ impl People {
 
     fn without_all(self, alloc: Global, watchers: &[Watcher]) -> Result<People, AllocError>
         ensures { IfOk result (λ people. (request : Request)
-            → words.with_people people request ≡ fold words.take_person (words.with_people self request) watchers.now) }
+            → words.with_people people request
+            ≡ fold words.take_person (words.with_people self request) watchers.now) }
     {
         let mut people = self;
         for watcher in watchers {
@@ -72,58 +74,42 @@ impl People {
     }
 
     fn with(self, alloc: Global, watcher: &Watcher) -> Result<People, AllocError>
-        ensures { IfOk result (λ people. (request : Request)
-            → words.with_people people request ≡ words.put_person (words.with_people self request) watcher.now) }
+        ensures { IfOk result (λ people. (request : Request) → words.with_people people request
+            ≡ words.put_person (words.with_people self request) watcher.now) }
     {
-        let People {
-            requestors,
-            cc,
-            admin_cc,
-        } = self;
-        match watcher.role {
-            WatchRole::Requestor => Ok(People {
-                requestors: with_name(alloc, requestors.as_slice(), &watcher.person)?,
-                cc,
-                admin_cc,
-            }),
-            WatchRole::Cc => Ok(People {
-                requestors,
-                cc: with_name(alloc, cc.as_slice(), &watcher.person)?,
-                admin_cc,
-            }),
-            WatchRole::AdminCc => Ok(People {
-                requestors,
-                cc,
-                admin_cc: with_name(alloc, admin_cc.as_slice(), &watcher.person)?,
-            }),
-        }
+        let names = with_name(alloc, self.names_in(watcher.role), &watcher.person)?;
+        Ok(self.with_names(watcher.role, names))
     }
 
     fn without(self, alloc: Global, watcher: &Watcher) -> Result<People, AllocError>
-        ensures { IfOk result (λ people. (request : Request)
-            → words.with_people people request ≡ words.take_person (words.with_people self request) watcher.now) }
+        ensures { IfOk result (λ people. (request : Request) → words.with_people people request
+            ≡ words.take_person (words.with_people self request) watcher.now) }
     {
-        let People {
-            requestors,
-            cc,
-            admin_cc,
-        } = self;
-        match watcher.role {
-            WatchRole::Requestor => Ok(People {
-                requestors: without_name(alloc, requestors.as_slice(), &watcher.person)?,
-                cc,
-                admin_cc,
-            }),
-            WatchRole::Cc => Ok(People {
-                requestors,
-                cc: without_name(alloc, cc.as_slice(), &watcher.person)?,
-                admin_cc,
-            }),
-            WatchRole::AdminCc => Ok(People {
-                requestors,
-                cc,
-                admin_cc: without_name(alloc, admin_cc.as_slice(), &watcher.person)?,
-            }),
+        let names = without_name(alloc, self.names_in(watcher.role), &watcher.person)?;
+        Ok(self.with_names(watcher.role, names))
+    }
+
+    /// The persons in a role.
+    fn names_in(&self, role: WatchRole) -> &[Text]
+        ensures { result.now ≡ words.names_in role self.now }
+    {
+        match role {
+            WatchRole::Requestor => self.requestors.as_slice(),
+            WatchRole::Cc => self.cc.as_slice(),
+            WatchRole::AdminCc => self.admin_cc.as_slice(),
         }
+    }
+
+    /// These people with other persons in a role.
+    fn with_names(self, role: WatchRole, names: Texts) -> People
+        ensures { result ≡ words.with_names role names self }
+    {
+        let mut people = self;
+        match role {
+            WatchRole::Requestor => people.requestors = names,
+            WatchRole::Cc => people.cc = names,
+            WatchRole::AdminCc => people.admin_cc = names,
+        }
+        people
     }
 }

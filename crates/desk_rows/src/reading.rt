@@ -88,7 +88,8 @@ impl Rows {
         request: &Record,
     ) -> Result<Shown, AllocError>
         ensures { IfOk result (λ shown. shown
-            ≡ reading.shown_of settings.now caller.now (desk_of self.now) (request_of request.now)) }
+            ≡ reading.shown_of settings.now caller.now (desk_of self.now)
+            (request_of request.now)) }
     {
         let due = self.due_on(settings, request);
         let links = self.links_of(alloc, settings, caller, request.row.id)?;
@@ -113,7 +114,8 @@ impl Rows {
         caller: &str,
         id: u32,
     ) -> Result<Links, AllocError>
-        ensures { IfOk result (λ links. links ≡ reading.links_of settings.now caller.now (desk_of self.now) id) }
+        ensures { IfOk result (λ links. links
+            ≡ reading.links_of settings.now caller.now (desk_of self.now) id) }
     {
         let reader = Reader {
             alloc,
@@ -159,7 +161,8 @@ impl Reader<'_> {
     /// The numbers of the requests to which links of a kind lead from this one.
     fn linked_from(&self, kind: LinkKind, id: u32) -> Result<Sequence<u32>, AllocError>
         ensures { IfOk result (λ found. found
-            ≡ reading.linked_from self.now.settings.now self.now.caller.now (desk_of self.now.rows.now) kind id) }
+            ≡ reading.linked_from self.now.settings.now self.now.caller.now
+            (desk_of self.now.rows.now) kind id) }
     {
         let mut found = Vec::new(self.alloc);
         for link in &self.rows.links {
@@ -173,7 +176,8 @@ impl Reader<'_> {
     /// The numbers of the requests from which links of a kind lead to this one.
     fn linked_to(&self, kind: LinkKind, id: u32) -> Result<Sequence<u32>, AllocError>
         ensures { IfOk result (λ found. found
-            ≡ reading.linked_to self.now.settings.now self.now.caller.now (desk_of self.now.rows.now) kind id) }
+            ≡ reading.linked_to self.now.settings.now self.now.caller.now
+            (desk_of self.now.rows.now) kind id) }
     {
         let mut found = Vec::new(self.alloc);
         for link in &self.rows.links {
@@ -185,7 +189,8 @@ impl Reader<'_> {
     }
 
     fn leads_from(&self, kind: LinkKind, id: u32, link: &LinkRow) -> Result<bool, AllocError>
-        ensures { IfOk result (λ leads. leads ≡ reading.leads_from self.now.settings.now self.now.caller.now
+        ensures { IfOk result (λ leads. leads
+            ≡ reading.leads_from self.now.settings.now self.now.caller.now
             (desk_of self.now.rows.now) kind id link.now) }
     {
         if link.source == id && is_kind(kind, link.kind) {
@@ -196,7 +201,8 @@ impl Reader<'_> {
     }
 
     fn leads_to(&self, kind: LinkKind, id: u32, link: &LinkRow) -> Result<bool, AllocError>
-        ensures { IfOk result (λ leads. leads ≡ reading.leads_to self.now.settings.now self.now.caller.now
+        ensures { IfOk result (λ leads. leads
+            ≡ reading.leads_to self.now.settings.now self.now.caller.now
             (desk_of self.now.rows.now) kind id link.now) }
     {
         if link.target == id && is_kind(kind, link.kind) {
@@ -209,7 +215,8 @@ impl Reader<'_> {
     /// Whether the request with this number is there and the caller may show it.
     fn is_shown(&self, id: u32) -> Result<bool, AllocError>
         ensures { IfOk result (λ shown. shown
-            ≡ reading.is_shown self.now.settings.now self.now.caller.now (desk_of self.now.rows.now) id) }
+            ≡ reading.is_shown self.now.settings.now self.now.caller.now
+            (desk_of self.now.rows.now) id) }
     {
         match self.rows.standing(id)? {
             Some(on) => Ok(on.may_show(self.settings, self.caller)),
@@ -226,7 +233,8 @@ impl Record {
         settings: &Settings,
         caller: &str,
     ) -> Result<Sequence<Entry>, AllocError>
-        ensures { IfOk result (λ told. told ≡ reading.entries_told settings.now caller.now (request_of self.now)) }
+        ensures { IfOk result (λ told. told
+            ≡ reading.entries_told settings.now caller.now (request_of self.now)) }
     {
         let comments = self.shows_comments(settings, caller)?;
         told(alloc, self.entries.as_slice(), comments)
@@ -244,7 +252,8 @@ impl Record {
 
 /// The entries, without the comments or with them.
 fn told(alloc: Global, entries: &[Entry], comments: bool) -> Result<Sequence<Entry>, AllocError>
-    ensures { IfOk result (λ told. told ≡ filter (λ e. not (reading.is_comment e.kind) || comments) entries.now) }
+    ensures { IfOk result (λ told. told
+        ≡ filter (λ e. not (reading.is_comment e.kind) || comments) entries.now) }
 {
     let mut told = Vec::new(alloc);
     for entry in entries {

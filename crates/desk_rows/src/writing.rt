@@ -1,4 +1,5 @@
-ghost use Rattle.std.specs.Prelude.{◌≡◌, ◌==◌, ◌+◌, ◌<◌, true, false, not, length, filter, find, vec_len, vec_capacity, Some, None, [], IfOk, OnOk, OnErr};
+ghost use Rattle.std.specs.Prelude.{◌≡◌, ◌==◌, ◌+◌, ◌<◌, true, false, not, length, filter, find};
+ghost use Rattle.std.specs.Prelude.{vec_len, vec_capacity, Some, None, [], IfOk, OnOk, OnErr};
 ghost use Rattle.std.specs.List.{list_all, position_from};
 ghost use Rattle.std.specs.Option.{option_map_or};
 ghost use Rattle.std.specs.Ordering.{is_lt};
@@ -21,8 +22,8 @@ use std::alloc::{AllocError, Global};
 use text_core::{Sequence, Text};
 
 impl Rows {
-    /// Makes a change. Out of memory leaves all as it was, and so does a change of several requests, which no command
-    /// makes.
+    /// Makes a change. Out of memory leaves all as it was, and so does a change of several
+    /// requests, which no command makes.
     pub(crate) fn apply(&mut self, alloc: Global, change: Change) -> Result<(), AllocError>
         ensures ok { OnOk result (desk_of self.new ≡ applied change (desk_of self.old)) }
         ensures err { OnErr result (desk_of self.new ≡ desk_of self.old) }
@@ -85,7 +86,8 @@ impl Rows {
         }
     }
 
-    /// Files a request with these people, who are put into their roles one by one, and these entries.
+    /// Files a request with these people, who are put into their roles one by one, and these
+    /// entries.
     fn file_row(
         &mut self,
         alloc: Global,
@@ -95,7 +97,8 @@ impl Rows {
     ) -> Result<(), AllocError>
         requires { row.id ≡ length (requests_of self.old.records) + 1 }
         ensures ok { OnOk result ((people : People) × Become nobody people put []
-            × (desk_of self.new ≡ with_request (desk_of self.old) (revised None people entries (filed row)))) }
+            × (desk_of self.new
+            ≡ with_request (desk_of self.old) (revised None people entries (filed row)))) }
         ensures err { OnErr result (desk_of self.new ≡ desk_of self.old) }
     {
         let people = People::none(alloc).after(alloc, put.as_slice(), &[])?;
@@ -107,8 +110,8 @@ impl Rows {
         })
     }
 
-    /// Changes the request with this number, if it is there, and the links. Where a link is to be put, there is room
-    /// for it before anything changes.
+    /// Changes the request with this number, if it is there, and the links. Where a link is to be
+    /// put, there is room for it before anything changes.
     #[tactic(auto, unfolding(crate::specs::Shapes::revises_only))]
     fn revise(&mut self, alloc: Global, id: u32, change: Change) -> Result<(), AllocError>
         requires { shapes.revises_only id change ≡ true }
@@ -126,8 +129,8 @@ impl Rows {
 }
 
 impl Rows {
-    /// The people of the request with this number after some are put into roles and others taken out; nobody, where it
-    /// isn't there.
+    /// The people of the request with this number after some are put into roles and others taken
+    /// out; nobody, where it isn't there.
     fn people_after(
         &self,
         alloc: Global,
@@ -135,7 +138,8 @@ impl Rows {
         put: &[Watcher],
         taken: &[Watcher],
     ) -> Result<People, AllocError>
-        ensures { IfOk result (λ people. (there : Request) → request_at (desk_of self.now) id ≡ Some there
+        ensures { IfOk result (λ people. (there : Request)
+            → request_at (desk_of self.now) id ≡ Some there
             → Become (people_of there) people put.now taken.now) }
     {
         match self.request(id) {
@@ -271,8 +275,8 @@ fn puts_only(id: usize, change: &Change) -> bool
         && are_entries_of(id, &change.entries)
 }
 
-/// Whether a change opens and files nothing, and its row, all persons and all entries are of the request with this
-/// number.
+/// Whether a change opens and files nothing, and its row, all persons and all entries are of the
+/// request with this number.
 #[tactic(auto, unfolding(crate::specs::Shapes::revises_only))]
 fn revises_only(id: u32, change: &Change) -> bool
     ensures { result ≡ shapes.revises_only id change.now }

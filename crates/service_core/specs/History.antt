@@ -8,7 +8,8 @@ use Rattle.desk_core.specs.declared.rows.EntryKind.{EntryKind}
 use Rattle.desk_core.specs.declared.rows.EntryKind.TheVariants as kind
 use Rattle.service_core.specs.Columns.{left, right_number, then as spaced}
 
--- a backslash, a line feed and a tab as a backslash with another backslash, `n` and `t`; any other character as it is
+-- a backslash, a line feed and a tab as a backslash with another backslash, `n` and `t`; any other
+-- character as it is
 abbrev pub escape : ℕ → List ℕ
 escape c =
     if c == 92 then 92 ∷ 92 ∷ []
@@ -44,7 +45,8 @@ entry_words kind head body = spaced (kind_word kind) (told kind head body)
 
 -- a number, a moment and a person, each with a space after it
 unfoldable pub columns : ℕ → List ℕ → List ℕ → List ℕ
-columns number moment person = spaced (right_number 5 number) (spaced moment (left 20 person ++ codes " "))
+columns number moment person =
+    spaced (right_number 5 number) (spaced moment (left 20 person ++ codes " "))
 
 -- its number, its moment, who did it, and what
 unfoldable pub entry_line : Entry → List ℕ

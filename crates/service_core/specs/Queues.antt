@@ -6,11 +6,13 @@ use Rattle.service_core.specs.Columns.{left, then}
 use Rattle.service_core.specs.Words.{or_dash}
 
 abbrev pub queue_line : List ℕ → List ℕ → List ℕ → List ℕ
-queue_line queue lifecycle level = then (left 20 queue) (then (left 20 lifecycle) (level ++ codes "\n"))
+queue_line queue lifecycle level =
+    then (left 20 queue) (then (left 20 lifecycle) (level ++ codes "\n"))
 
 abbrev pub line_of_queue : QueueRow → List ℕ
 line_of_queue queue = queue_line queue.name queue.lifecycle (or_dash queue.level)
 
 -- the header, and a line for each queue
 abbrev pub queues_text : List QueueRow → List ℕ
-queues_text queues = queue_line (codes "queue") (codes "lifecycle") (codes "level") ++ flat_map line_of_queue queues
+queues_text queues =
+    queue_line (codes "queue") (codes "lifecycle") (codes "level") ++ flat_map line_of_queue queues

@@ -65,7 +65,8 @@ moment_lines row due =
 
 -- both directions of one kind of link
 unfoldable pub both_lines : List ℕ → List ℕ → List ℕ → List ℕ → List ℕ
-both_lines label there back_label back = line label (numbers there) ++ line back_label (numbers back)
+both_lines label there back_label back =
+    line label (numbers there) ++ line back_label (numbers back)
 
 abbrev pub link_lines : Links → List ℕ
 link_lines links =
@@ -76,7 +77,8 @@ link_lines links =
 -- a request, a line for each of its parts
 abbrev pub show_text : Shown → List ℕ
 show_text shown =
-    row_lines shown.row ++ (person_lines shown ++ (moment_lines shown.row shown.due ++ link_lines shown.links))
+    row_lines shown.row
+    ++ (person_lines shown ++ (moment_lines shown.row shown.due ++ link_lines shown.links))
 
 abbrev pub done_text : List ℕ
 done_text = codes "ok\n"
@@ -94,7 +96,8 @@ answer_text (answer.History entries) = history_text entries
 -- a refusal's number and name, and what comes after them
 abbrev pub refused_text : Refusal → List ℕ → List ℕ
 refused_text refusal rest =
-    codes "refused " ++ (decimal (number_of refusal) ++ (codes " " ++ (name_of refusal ++ (rest ++ codes "\n"))))
+    codes "refused "
+    ++ (decimal (number_of refusal) ++ (codes " " ++ (name_of refusal ++ (rest ++ codes "\n"))))
 
 -- the right that is lacking comes after the name
 abbrev pub right_text : Refusal → List ℕ

@@ -22,7 +22,8 @@ pub fn history_text(alloc: Global, entries: &[Entry]) -> Result<String, AllocErr
 
 #[tactic(auto, unfolding(crate::specs::History::entry_line))]
 fn put_entry(out: &mut String, entry: &Entry) -> Result<(), AllocError>
-    ensures { OnOk result (string_bytes out.new ≡ string_bytes out.old ++ history.entry_line entry.now) }
+    ensures { OnOk result (string_bytes out.new
+        ≡ string_bytes out.old ++ history.entry_line entry.now) }
 {
     put_moment(out, entry)?;
     put_words(out, entry.kind, entry.head.as_str(), entry.body.as_str())?;
@@ -70,7 +71,8 @@ fn put_words(out: &mut String, kind: EntryKind, head: &str, body: &str) -> Resul
 }
 
 fn put_word(out: &mut String, word: &str, body: &str) -> Result<(), AllocError>
-    ensures { OnOk result (string_bytes out.new ≡ string_bytes out.old ++ columns.then word.now body.now) }
+    ensures { OnOk result (string_bytes out.new
+        ≡ string_bytes out.old ++ columns.then word.now body.now) }
 {
     write!(out, "{word} {body}")
 }
@@ -93,7 +95,8 @@ fn put_text(out: &mut String, word: &str, body: &str) -> Result<(), AllocError>
 
 /// A backslash, a line feed and a tab as a backslash with another backslash, `n` and `t`.
 fn put_on_one_line(out: &mut String, text: &str) -> Result<(), AllocError>
-    ensures { OnOk result (string_bytes out.new ≡ string_bytes out.old ++ history.on_one_line text.now) }
+    ensures { OnOk result (string_bytes out.new
+        ≡ string_bytes out.old ++ history.on_one_line text.now) }
 {
     for character in text.chars() {
         put_escaped(out, character)?;
@@ -102,7 +105,8 @@ fn put_on_one_line(out: &mut String, text: &str) -> Result<(), AllocError>
 }
 
 fn put_escaped(out: &mut String, character: char) -> Result<(), AllocError>
-    ensures { OnOk result (string_bytes out.new ≡ string_bytes out.old ++ history.escape character) }
+    ensures { OnOk result (string_bytes out.new
+        ≡ string_bytes out.old ++ history.escape character) }
 {
     match character {
         '\\' => out.push_str("\\\\"),

@@ -6,7 +6,8 @@ use crate::shown::name_or;
 use desk_core::QueueRow;
 use std::alloc::{AllocError, Global};
 
-/// The text of a list of queues: a header, and a line for each with its name, its lifecycle and its level.
+/// The text of a list of queues: a header, and a line for each with its name, its lifecycle and its
+/// level.
 pub fn queues_text(alloc: Global, queues: &[QueueRow]) -> Result<String, AllocError>
     ensures { IfOk result (λ t. string_bytes t ≡ text.queues_text queues.now) }
 {
@@ -17,7 +18,8 @@ pub fn queues_text(alloc: Global, queues: &[QueueRow]) -> Result<String, AllocEr
 }
 
 fn put_queues(out: &mut String, queues: &[QueueRow]) -> Result<(), AllocError>
-    ensures { OnOk result (string_bytes out.new ≡ string_bytes out.old ++ flat_map text.line_of_queue queues.now) }
+    ensures { OnOk result (string_bytes out.new
+        ≡ string_bytes out.old ++ flat_map text.line_of_queue queues.now) }
 {
     for queue in queues {
         let level = name_or(&queue.level, "-");

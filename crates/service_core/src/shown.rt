@@ -8,7 +8,8 @@ use std::alloc::{AllocError, Global};
 use std::str;
 use text_core::{Sequence, Text};
 
-/// The text of a request: a line for each of its parts, persons in the order of their bytes and numbers rising.
+/// The text of a request: a line for each of its parts, persons in the order of their bytes and
+/// numbers rising.
 pub fn show_text(alloc: Global, shown: &Shown) -> Result<String, AllocError>
     ensures { IfOk result (λ t. string_bytes t ≡ text.show_text shown.now) }
 {
@@ -46,7 +47,8 @@ pub(crate) fn name_or<'t>(name: &'t Option<Text>, absent: &'static str) -> &'t s
 }
 
 fn put_persons(out: &mut String, shown: &Shown) -> Result<(), AllocError>
-    ensures { OnOk result (string_bytes out.new ≡ string_bytes out.old ++ text.person_lines shown.now) }
+    ensures { OnOk result (string_bytes out.new
+        ≡ string_bytes out.old ++ text.person_lines shown.now) }
 {
     put_list(out, "requestors", shown.requestors.as_slice())?;
     put_list(out, "cc", shown.cc.as_slice())?;
@@ -54,7 +56,8 @@ fn put_persons(out: &mut String, shown: &Shown) -> Result<(), AllocError>
 }
 
 fn put_moments(out: &mut String, row: &RequestRow, due: Option<Minute>) -> Result<(), AllocError>
-    ensures { OnOk result (string_bytes out.new ≡ string_bytes out.old ++ text.moment_lines row.now due) }
+    ensures { OnOk result (string_bytes out.new
+        ≡ string_bytes out.old ++ text.moment_lines row.now due) }
 {
     put_line(out, "level", name_or(&row.level, "-"))?;
     put_minute(out, "created", Some(row.created))?;
@@ -62,7 +65,8 @@ fn put_moments(out: &mut String, row: &RequestRow, due: Option<Minute>) -> Resul
 }
 
 fn put_links(out: &mut String, links: &Links) -> Result<(), AllocError>
-    ensures { OnOk result (string_bytes out.new ≡ string_bytes out.old ++ text.link_lines links.now) }
+    ensures { OnOk result (string_bytes out.new
+        ≡ string_bytes out.old ++ text.link_lines links.now) }
 {
     put_both(
         out,
@@ -105,7 +109,8 @@ fn put_both(
 
 #[tactic(auto, unfolding(crate::specs::Texts::line))]
 fn put_line(out: &mut String, label: &str, value: &str) -> Result<(), AllocError>
-    ensures { OnOk result (string_bytes out.new ≡ string_bytes out.old ++ text.line label.now value.now) }
+    ensures { OnOk result (string_bytes out.new
+        ≡ string_bytes out.old ++ text.line label.now value.now) }
 {
     write!(out, "{label}: {value}\n")
 }

@@ -7,7 +7,8 @@ use crate::shown::show_text;
 use desk_core::{Answer, Refusal};
 use std::alloc::{AllocError, Global};
 
-/// The text of an answer: `ok`, `request N`, a line for each queue, the lines of a request, or one for each entry.
+/// The text of an answer: `ok`, `request N`, a line for each queue, the lines of a request, or one
+/// for each entry.
 pub fn answer_text(alloc: Global, answer: &Answer) -> Result<String, AllocError>
     ensures { IfOk result (λ t. string_bytes t ≡ text.answer_text answer.now) }
 {
@@ -37,7 +38,8 @@ pub fn refusal_text(alloc: Global, refusal: &Refusal) -> Result<String, AllocErr
 }
 
 fn denied_text(alloc: Global, refusal: &Refusal, right: &str) -> Result<String, AllocError>
-    ensures { IfOk result (λ t. string_bytes t ≡ text.refused_text refusal.now (codes " " ++ right.now)) }
+    ensures { IfOk result (λ t. string_bytes t
+        ≡ text.refused_text refusal.now (codes " " ++ right.now)) }
 {
     let number = refusal.number();
     let name = refusal.name();

@@ -1,12 +1,12 @@
 -- No word of the table has a rule on another.
 use Rattle.std.proofs.Common.{◌≡◌, true, refl}
 use Rattle.clap.specs.Words.{is_simple, is_simple_and_free}
-use Rattle.wire_core.specs.Table.{desk, with_changes, with_new, with_others, with_owners}
+use Rattle.wire_core.specs.Table.{desk, subcommands}
 
 pub desk_is_free : is_simple_and_free desk ≡ true
-unfolding desk with_changes with_new with_others with_owners
+unfolding desk subcommands
 desk_is_free = refl
 
 pub desk_is_simple : is_simple desk ≡ true
-unfolding desk with_changes with_new with_others with_owners
+unfolding desk subcommands
 desk_is_simple = refl

@@ -1,2 +1,5 @@
+mod Alone
 mod Free
+mod Meets
+mod Named
 mod Reading

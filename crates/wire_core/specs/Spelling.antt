@@ -1,88 +1,91 @@
 -- The command that words spell.
-use Rattle.std.specs.Prelude.{ℕ, Bool, false, List, [], ◌∷◌, Option, Some, None, unwrap_or, codes, if◌then◌else◌}
+use Rattle.std.specs.Prelude.{ℕ, Bool, false, List, [], ◌∷◌, Option, Some, None, unwrap_or, codes}
+use Rattle.std.specs.Prelude.{if◌then◌else◌}
 use Rattle.std.specs.Option.{option_map, option_and_then, option_map_or}
 use Rattle.std.specs.Str.{bytes_eq}
-use Rattle.clap.specs.Words.{Kinds, Row, Text, all_of, fault_of, first_of, subcommand_of}
+use Rattle.clap.specs.Words.{Kinds, Row, Text, all_of, fault_of, first_of, found_of, rows_of}
+use Rattle.clap.specs.Words.{subcommand_of}
+use Rattle.clap.specs.declared.parser.matches.ArgMatches.{ArgMatches}
 use Rattle.desk_core.specs.declared.command.Command.{Command}
 use Rattle.desk_core.specs.declared.command.Command.TheVariants as command
-use Rattle.desk_core.specs.declared.command.Command.TheVariants.{OpenQueue, Create, SetStatus, SetLevel, Queues, Show}
-use Rattle.wire_core.specs.Number.{number_of}
 use Rattle.desk_core.specs.declared.rows.LinkKind.{LinkKind}
 use Rattle.desk_core.specs.declared.rows.LinkKind.TheVariants.{DependsOn, MemberOf, RefersTo}
 use Rattle.desk_core.specs.declared.rows.WatchRole.{WatchRole}
 use Rattle.desk_core.specs.declared.rows.WatchRole.TheVariants.{Requestor, Cc, AdminCc}
+use Rattle.wire_core.specs.Number.{number_of}
 use Rattle.wire_core.specs.Table.{desk}
 use Rattle.wire_core.specs.declared.command.links.NamedKind.{NamedKind}
 use Rattle.wire_core.specs.declared.command.links.NamedKind.TheVariants.{Plain, Inverse}
 
+-- what a subcommand was given
+abbrev pub given_to : ArgMatches → List Row
+given_to matches = rows_of (found_of matches)
+
 -- the request that is meant
 abbrev pub id_of : List Row → Option ℕ
 id_of rows = option_and_then number_of (first_of (codes "id") rows)
+
+-- the request that is meant and the word for an id, where both are there
+abbrev pub both : Option ℕ → Option Text → Option (ℕ × Text)
+both (Some id) (Some word) = Some (id, word)
+both _ _ = None
+
+abbrev pub id_and_word : Text → List Row → Option (ℕ × Text)
+id_and_word key rows = both (id_of rows) (first_of key rows)
 
 -- the word for a level, which may be none
 abbrev pub level_in : List Row → Option Text
 level_in rows = first_of (codes "level") rows
 
 abbrev pub opening : Option Text → Option Text → Option Text → Option Command
-opening (Some name) (Some lifecycle) level = Some (OpenQueue name lifecycle level)
+opening (Some name) (Some lifecycle) level = Some (command.OpenQueue name lifecycle level)
 opening _ _ _ = None
 
 -- queue NAME LIFECYCLE [LEVEL]
 abbrev pub queue_of : List Row → Option Command
-queue_of rows = opening (first_of (codes "name") rows) (first_of (codes "lifecycle") rows) (level_in rows)
+queue_of rows =
+    opening (first_of (codes "name") rows) (first_of (codes "lifecycle") rows) (level_in rows)
 
 -- the words for requestors, which may be none
 abbrev pub requestors_of : List Row → List Text
 requestors_of rows = unwrap_or (all_of (codes "requestor") rows) []
 
 abbrev pub filing : Option Text → Option Text → List Row → Option Command
-filing (Some queue) (Some subject) rows = Some (Create queue subject (first_of (codes "status") rows) (requestors_of rows))
+filing (Some queue) (Some subject) rows =
+    Some (command.Create queue subject (first_of (codes "status") rows) (requestors_of rows))
 filing _ _ _ = None
 
 -- create [--status STATUS] QUEUE SUBJECT [REQUESTOR ..]
 abbrev pub create_of : List Row → Option Command
 create_of rows = filing (first_of (codes "queue") rows) (first_of (codes "subject") rows) rows
 
-abbrev pub moving : Option ℕ → Option Text → Option Command
-moving (Some id) (Some status) = Some (SetStatus id status)
-moving _ _ = None
-
 -- status ID STATUS
 abbrev pub status_of : List Row → Option Command
-status_of rows = moving (id_of rows) (first_of (codes "status") rows)
+status_of rows = option_map (λ p. command.SetStatus p.0 p.1) (id_and_word (codes "status") rows)
 
 -- resolve ID
 abbrev pub resolve_of : List Row → Option Command
-resolve_of rows = moving (id_of rows) (Some (codes "resolved"))
+resolve_of rows = option_map (λ id. command.SetStatus id (codes "resolved")) (id_of rows)
 
 -- level ID [LEVEL]
 abbrev pub level_of : List Row → Option Command
-level_of rows = option_map (λ id. SetLevel id (level_in rows)) (id_of rows)
+level_of rows = option_map (λ id. command.SetLevel id (level_in rows)) (id_of rows)
 
--- show ID
-abbrev pub show_of : List Row → Option Command
-show_of rows = option_map (λ id. Show id) (id_of rows)
-
--- the command on the request that is meant
+-- take ID, steal ID, untake ID, show ID, history ID
 abbrev pub on_request : (ℕ → Command) → List Row → Option Command
 on_request made rows = option_map made (id_of rows)
 
--- the command on the request that is meant, with the word for an id
-abbrev pub with_word : (ℕ → Text → Command) → Option ℕ → Option Text → Option Command
-with_word made (Some id) (Some word) = Some (made id word)
-with_word made _ _ = None
-
 -- give ID PERSON
 abbrev pub give_of : List Row → Option Command
-give_of rows = with_word command.Give (id_of rows) (first_of (codes "person") rows)
+give_of rows = option_map (λ p. command.Give p.0 p.1) (id_and_word (codes "person") rows)
 
 -- correspond ID TEXT
 abbrev pub correspond_of : List Row → Option Command
-correspond_of rows = with_word command.Reply (id_of rows) (first_of (codes "text") rows)
+correspond_of rows = option_map (λ p. command.Reply p.0 p.1) (id_and_word (codes "text") rows)
 
 -- comment ID TEXT
 abbrev pub comment_of : List Row → Option Command
-comment_of rows = with_word command.Comment (id_of rows) (first_of (codes "text") rows)
+comment_of rows = option_map (λ p. command.Comment p.0 p.1) (id_and_word (codes "text") rows)
 
 abbrev pub role_named : Text → Option WatchRole
 role_named word =
@@ -94,17 +97,21 @@ role_named word =
 abbrev pub role_of : List Row → Option WatchRole
 role_of rows = option_and_then role_named (first_of (codes "role") rows)
 
-abbrev pub watching : (ℕ → WatchRole → Text → Command) → Option ℕ → Option WatchRole → Option Text → Option Command
-watching made (Some id) (Some role) (Some person) = Some (made id role person)
-watching made _ _ _ = None
+-- the request that is meant, the role and the person, where all are there
+abbrev pub watcher : Option ℕ → Option WatchRole → Option Text → Option (ℕ × WatchRole × Text)
+watcher (Some id) (Some role) (Some person) = Some (id, role, person)
+watcher _ _ _ = None
+
+abbrev pub watcher_of : List Row → Option (ℕ × WatchRole × Text)
+watcher_of rows = watcher (id_of rows) (role_of rows) (first_of (codes "person") rows)
 
 -- watch ID ROLE PERSON
 abbrev pub watch_of : List Row → Option Command
-watch_of rows = watching command.Watch (id_of rows) (role_of rows) (first_of (codes "person") rows)
+watch_of rows = option_map (λ w. command.Watch w.0 w.1 w.2) (watcher_of rows)
 
 -- unwatch ID ROLE PERSON
 abbrev pub unwatch_of : List Row → Option Command
-unwatch_of rows = watching command.Unwatch (id_of rows) (role_of rows) (first_of (codes "person") rows)
+unwatch_of rows = option_map (λ w. command.Unwatch w.0 w.1 w.2) (watcher_of rows)
 
 -- a kind of link by its own word or by that of its inverse
 abbrev pub kind_named : Text → Option NamedKind
@@ -126,10 +133,12 @@ other_of rows = option_and_then number_of (first_of (codes "other") rows)
 
 -- the link is to be taken away
 abbrev pub takes_away : List Row → Bool
-takes_away rows = option_map_or (λ word. bytes_eq word (codes "true")) (first_of (codes "delete") rows) false
+takes_away rows =
+    option_map_or (λ word. bytes_eq word (codes "true")) (first_of (codes "delete") rows) false
 
 abbrev pub link_or_unlink : Bool → ℕ → LinkKind → ℕ → Command
-link_or_unlink away id kind other = if away then command.Unlink id kind other else command.Link id kind other
+link_or_unlink away id kind other =
+    if away then command.Unlink id kind other else command.Link id kind other
 
 -- by an inverse the two requests change places
 abbrev pub linking : Bool → ℕ → NamedKind → ℕ → Command
@@ -161,8 +170,8 @@ command_in met =
     else if bytes_eq met.0 (codes "watch") then watch_of met.1
     else if bytes_eq met.0 (codes "unwatch") then unwatch_of met.1
     else if bytes_eq met.0 (codes "link") then link_of met.1
-    else if bytes_eq met.0 (codes "queues") then Some Queues
-    else if bytes_eq met.0 (codes "show") then show_of met.1
+    else if bytes_eq met.0 (codes "queues") then Some command.Queues
+    else if bytes_eq met.0 (codes "show") then on_request command.Show met.1
     else if bytes_eq met.0 (codes "history") then on_request command.History met.1
     else None
 

@@ -1,5 +1,7 @@
 -- The table of the command line: the subcommands, and what each is given.
-use Rattle.std.specs.Prelude.{◌≡◌, ℕ, true, false, List, [], ◌∷◌, Some, codes}
+use Rattle.std.specs.Prelude.{◌≡◌, ⊤, ℕ, true, false, List, [], ◌∷◌, Option, Some, None, codes}
+use Rattle.std.specs.Prelude.{find, fold}
+use Rattle.std.specs.Str.{bytes_eq}
 use Rattle.clap.specs.Words.{App, Rule, Text, app_of, new_app, new_rule, with_rule, with_subcommand}
 use Rattle.clap.specs.declared.builder.action.ArgAction.TheVariants.{Set, SetTrue, Append}
 use Rattle.clap.specs.declared.builder.command.Command.{Command}
@@ -32,7 +34,13 @@ bare name = let a = new_app name in record a { top = record a.top { disable_help
 -- the command above all others: one of them has to be there, as the first word
 abbrev pub root : App
 root = let a = bare (codes "desk") in
-    record a { top = record a.top { no_binary_name = true; disable_help_subcommand = true; subcommand_required = true } }
+    record a {
+      top = record a.top {
+        no_binary_name = true;
+        disable_help_subcommand = true;
+        subcommand_required = true;
+      };
+    }
 
 -- a word that has to be there for each id, in order
 abbrev pub with_all : App → List Text → App
@@ -41,7 +49,9 @@ with_all a (x ∷ xs) = with_all (with_rule a (wanted x)) xs
 
 -- queue NAME LIFECYCLE [LEVEL]
 abbrev pub queue : App
-queue = with_rule (with_all (bare (codes "queue")) (codes "name" ∷ codes "lifecycle" ∷ [])) (allowed (codes "level"))
+queue =
+    with_rule (with_all (bare (codes "queue")) (codes "name" ∷ codes "lifecycle" ∷ []))
+    (allowed (codes "level"))
 
 -- create [--status STATUS] QUEUE SUBJECT [REQUESTOR ..]
 abbrev pub create : App
@@ -111,31 +121,47 @@ show = with_all (bare (codes "show")) (codes "id" ∷ [])
 abbrev pub history : App
 history = with_all (bare (codes "history")) (codes "id" ∷ [])
 
--- the subcommands that open and file
-unfoldable pub with_new : App
-with_new = with_subcommand (with_subcommand root queue.top) create.top
+-- the subcommands
+unfoldable pub subcommands : List App
+subcommands =
+    queue ∷ create ∷ status ∷ resolve ∷ level ∷ take ∷ steal ∷ untake ∷ give ∷ correspond
+    ∷ comment ∷ watch ∷ unwatch ∷ link ∷ queues ∷ show ∷ history ∷ []
 
--- and those that move or change
-unfoldable pub with_changes : App
-with_changes = with_subcommand (with_subcommand (with_subcommand with_new status.top) resolve.top) level.top
-
--- and those that change the owner
-unfoldable pub with_owners : App
-with_owners =
-    with_subcommand (with_subcommand (with_subcommand (with_subcommand with_changes take.top) steal.top) untake.top)
-    give.top
-
--- and those that write, watch and link
-unfoldable pub with_others : App
-with_others =
-    with_subcommand (with_subcommand (with_subcommand (with_subcommand (with_subcommand with_owners correspond.top)
-    comment.top) watch.top) unwatch.top) link.top
-
--- and those that read: the whole table
+-- the whole table
 unfoldable pub desk : App
-desk = with_subcommand (with_subcommand (with_subcommand with_others queues.top) show.top) history.top
+desk = fold (λ a s. with_subcommand a s.top) root subcommands
+
+-- the subcommand of that name, if there is one
+unfoldable pub subcommand : Text → Option App
+subcommand name = find (λ s. bytes_eq name s.top.name) subcommands
+
+-- one more subcommand, if there is one
+abbrev pub with_named : App → Option App → App
+with_named a None = a
+with_named a (Some s) = with_subcommand a s.top
+
+-- a command with the subcommands of these names
+abbrev pub desk_of : App → List Text → App
+desk_of a [] = a
+desk_of a (name ∷ names) = desk_of (with_named a (subcommand name)) names
+
+-- the table with one subcommand, or the whole where none is given
+abbrev pub only_or_whole : Option App → App
+only_or_whole None = desk
+only_or_whole (Some s) = with_subcommand root s.top
+
+-- as much of the table as words need
+abbrev pub desk_for : List Text → App
+desk_for [] = desk
+desk_for (name ∷ rest) = only_or_whole (subcommand name)
 
 -- the command is that one, and has no argument for all levels
 pub record Is (a : App) (c : Command) : Type 0 where
   pub app : app_of c ≡ a
   pub local : (out-Command c).has_globals ≡ false
+
+-- there is a command where there is one of the table, and it is that one
+abbrev pub IsNamed : Option App → Option Command → Type 0
+IsNamed None None = ⊤
+IsNamed (Some a) (Some c) = Is a c
+IsNamed _ _ = ⊥

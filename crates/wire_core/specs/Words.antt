@@ -1,5 +1,7 @@
--- The words of a line. It is read from its front: each character goes onto the word that what follows begins with.
-use Rattle.std.specs.Prelude.{ℕ, List, [], ◌∷◌, ◌++◌, Option, Some, None, ◌==◌, if◌then◌else◌, encode_utf8}
+-- The words of a line. It is read from its front: each character goes onto the word that what
+-- follows begins with.
+use Rattle.std.specs.Prelude.{ℕ, List, [], ◌∷◌, ◌++◌, Option, Some, None, ◌==◌, if◌then◌else◌}
+use Rattle.std.specs.Prelude.{encode_utf8}
 use Rattle.std.specs.Option.{option_map}
 use Rattle.std.specs.Str.{chars}
 
@@ -22,7 +24,11 @@ ended words = option_map (λ ws. ([], ws)) words
 -- what a character after a backslash stands for
 abbrev pub meant : ℕ → Option ℕ
 meant c =
-    if c == 34 then Some 34 else if c == 92 then Some 92 else if c == 110 then Some 10 else if c == 116 then Some 9 else None
+    if c == 34 then Some 34
+    else if c == 92 then Some 92
+    else if c == 110 then Some 10
+    else if c == 116 then Some 9
+    else None
 
 -- a character that is meant, if one is
 abbrev pub meant_onto : Option ℕ → Option Rest → Option Rest
@@ -34,17 +40,25 @@ abbrev mutual
   pub between : List ℕ → Option (List (List ℕ))
   between [] = Some []
   between (c ∷ cs) =
-      if c == 32 then between cs else if c == 34 then word_of [] (quoted cs) else word_of (encode_utf8 c) (bare cs)
+      if c == 32 then between cs
+      else if c == 34 then word_of [] (quoted cs)
+      else word_of (encode_utf8 c) (bare cs)
 
   -- in a word without quotes, which ends at a space
   pub bare : List ℕ → Option Rest
   bare [] = ended (Some [])
-  bare (c ∷ cs) = if c == 32 then ended (between cs) else if c == 34 then None else onto (encode_utf8 c) (bare cs)
+  bare (c ∷ cs) =
+      if c == 32 then ended (between cs)
+      else if c == 34 then None
+      else onto (encode_utf8 c) (bare cs)
 
   -- within quotes
   pub quoted : List ℕ → Option Rest
   quoted [] = None
-  quoted (c ∷ cs) = if c == 34 then closed cs else if c == 92 then escaped cs else onto (encode_utf8 c) (quoted cs)
+  quoted (c ∷ cs) =
+      if c == 34 then closed cs
+      else if c == 92 then escaped cs
+      else onto (encode_utf8 c) (quoted cs)
 
   -- within quotes after a backslash
   pub escaped : List ℕ → Option Rest

@@ -1,40 +1,46 @@
 ghost use Rattle.std.specs.Prelude.{◌≡◌, ◌≢◌, Err, Some, None, map, string_bytes, IfOk, IfErr};
-ghost use Rattle.clap.specs.Words.{found_of, rows_of};
 ghost use Rattle.wire_core.specs.Spelling as spelling;
-ghost use Rattle.wire_core.specs.Spelling.{command_in};
+ghost use Rattle.wire_core.specs.Spelling.{given_to};
 
 use crate::command::links::link;
 use crate::command::people::{give, unwatch, watch};
-use crate::command::texts::{comment, correspond};
+use crate::command::texts::{comment, correspond, status};
 use crate::fault::WordsFault;
-use crate::matches::{entered, first, first_text, id, matches_of, requestors};
+use crate::matches::{entered, first_text, id, matches_of, requestors};
 use clap::ArgMatches;
 use desk_core::Command;
-use std::alloc::Global;
+use std::alloc::{AllocError, Global};
 use text_core::Text;
 
 mod links;
 mod people;
 mod texts;
 
-/// The command that the words spell, or `BadWords` where they spell none. Names and texts are taken as they stand.
+/// The command that the words spell, or `BadWords` where they spell none. Names and texts are
+/// taken as they stand.
 pub fn command_of_words(alloc: Global, words: &[String]) -> Result<Command, WordsFault>
     ensures ok { IfOk result (λ c. spelling.command_of (map string_bytes words.now) ≡ Some c) }
-    ensures bad { result ≡ Err WordsFault.BadWords → spelling.command_of (map string_bytes words.now) ≡ None }
+    ensures bad { result ≡ Err WordsFault.BadWords
+        → spelling.command_of (map string_bytes words.now) ≡ None }
     ensures kinds { IfErr result (λ e. e ≢ WordsFault.NoMemory → e ≡ WordsFault.BadWords) }
 {
     let matches = matches_of(alloc, words)?;
-    match entered(&matches) {
-        Some((name, given)) => command_in(alloc, name, given),
+    let Some((name, given)) = entered(&matches) else {
+        return Err(WordsFault::BadWords);
+    };
+    match command_in(alloc, name, given)? {
+        Some(command) => Ok(command),
         None => Err(WordsFault::BadWords),
     }
 }
 
-/// The command of a subcommand and of what it was given.
-fn command_in(alloc: Global, name: &str, given: &ArgMatches<'_>) -> Result<Command, WordsFault>
-    ensures ok { IfOk result (λ c. command_in (name.now, rows_of (found_of given.now)) ≡ Some c) }
-    ensures bad { result ≡ Err WordsFault.BadWords → command_in (name.now, rows_of (found_of given.now)) ≡ None }
-    ensures kinds { IfErr result (λ e. e ≢ WordsFault.NoMemory → e ≡ WordsFault.BadWords) }
+/// The command of a subcommand and of what it was given, where its words spell one.
+fn command_in(
+    alloc: Global,
+    name: &str,
+    given: &ArgMatches<'_>,
+) -> Result<Option<Command>, AllocError>
+    ensures { IfOk result (λ c. c ≡ spelling.command_in (name.now, given_to given.now)) }
 {
     match name {
         "queue" => queue(alloc, given),
@@ -42,146 +48,70 @@ fn command_in(alloc: Global, name: &str, given: &ArgMatches<'_>) -> Result<Comma
         "status" => status(alloc, given),
         "resolve" => resolve(alloc, given),
         "level" => level(alloc, given),
-        "take" => take(given),
-        "steal" => steal(given),
-        "untake" => untake(given),
+        "take" => Ok(id(given).map(|id| Command::Take { id })),
+        "steal" => Ok(id(given).map(|id| Command::Steal { id })),
+        "untake" => Ok(id(given).map(|id| Command::Untake { id })),
         "give" => give(alloc, given),
         "correspond" => correspond(alloc, given),
         "comment" => comment(alloc, given),
         "watch" => watch(alloc, given),
         "unwatch" => unwatch(alloc, given),
-        "link" => link(given),
-        "queues" => Ok(Command::Queues),
-        "show" => show(given),
-        "history" => history(given),
-        _ => Err(WordsFault::BadWords),
+        "link" => Ok(link(given)),
+        "queues" => Ok(Some(Command::Queues)),
+        "show" => Ok(id(given).map(|id| Command::Show { id })),
+        "history" => Ok(id(given).map(|id| Command::History { id })),
+        _ => Ok(None),
     }
 }
 
-fn queue(alloc: Global, given: &ArgMatches<'_>) -> Result<Command, WordsFault>
-    ensures ok { IfOk result (λ c. spelling.queue_of (rows_of (found_of given.now)) ≡ Some c) }
-    ensures bad { result ≡ Err WordsFault.BadWords → spelling.queue_of (rows_of (found_of given.now)) ≡ None }
-    ensures kinds { IfErr result (λ e. e ≢ WordsFault.NoMemory → e ≡ WordsFault.BadWords) }
+/// queue NAME LIFECYCLE [LEVEL]
+fn queue(alloc: Global, given: &ArgMatches<'_>) -> Result<Option<Command>, AllocError>
+    ensures { IfOk result (λ c. c ≡ spelling.queue_of (given_to given.now)) }
 {
-    match (first(given, "name"), first(given, "lifecycle")) {
-        (Some(name), Some(lifecycle)) => Ok(Command::OpenQueue {
-            queue: Text::new(alloc, name)?,
-            lifecycle: Text::new(alloc, lifecycle)?,
-            level: first_text(alloc, given, "level")?,
-        }),
-        _ => Err(WordsFault::BadWords),
+    let queue = first_text(alloc, given, "name")?;
+    let lifecycle = first_text(alloc, given, "lifecycle")?;
+    let level = first_text(alloc, given, "level")?;
+    match (queue, lifecycle) {
+        (Some(queue), Some(lifecycle)) => Ok(Some(Command::OpenQueue {
+            queue,
+            lifecycle,
+            level,
+        })),
+        _ => Ok(None),
     }
 }
 
-fn create(alloc: Global, given: &ArgMatches<'_>) -> Result<Command, WordsFault>
-    ensures ok { IfOk result (λ c. spelling.create_of (rows_of (found_of given.now)) ≡ Some c) }
-    ensures bad { result ≡ Err WordsFault.BadWords → spelling.create_of (rows_of (found_of given.now)) ≡ None }
-    ensures kinds { IfErr result (λ e. e ≢ WordsFault.NoMemory → e ≡ WordsFault.BadWords) }
+/// create [--status STATUS] QUEUE SUBJECT [REQUESTOR ..]
+fn create(alloc: Global, given: &ArgMatches<'_>) -> Result<Option<Command>, AllocError>
+    ensures { IfOk result (λ c. c ≡ spelling.create_of (given_to given.now)) }
 {
-    match (first(given, "queue"), first(given, "subject")) {
-        (Some(queue), Some(subject)) => Ok(Command::Create {
-            queue: Text::new(alloc, queue)?,
-            subject: Text::new(alloc, subject)?,
-            status: first_text(alloc, given, "status")?,
-            requestors: requestors(alloc, given)?,
-        }),
-        _ => Err(WordsFault::BadWords),
+    let queue = first_text(alloc, given, "queue")?;
+    let subject = first_text(alloc, given, "subject")?;
+    let status = first_text(alloc, given, "status")?;
+    let requestors = requestors(alloc, given)?;
+    match (queue, subject) {
+        (Some(queue), Some(subject)) => Ok(Some(Command::Create {
+            queue,
+            subject,
+            status,
+            requestors,
+        })),
+        _ => Ok(None),
     }
 }
 
-fn status(alloc: Global, given: &ArgMatches<'_>) -> Result<Command, WordsFault>
-    ensures ok { IfOk result (λ c. spelling.status_of (rows_of (found_of given.now)) ≡ Some c) }
-    ensures bad { result ≡ Err WordsFault.BadWords → spelling.status_of (rows_of (found_of given.now)) ≡ None }
-    ensures kinds { IfErr result (λ e. e ≢ WordsFault.NoMemory → e ≡ WordsFault.BadWords) }
+/// resolve ID
+fn resolve(alloc: Global, given: &ArgMatches<'_>) -> Result<Option<Command>, AllocError>
+    ensures { IfOk result (λ c. c ≡ spelling.resolve_of (given_to given.now)) }
 {
-    match (id(given), first(given, "status")) {
-        (Some(id), Some(status)) => Ok(Command::SetStatus {
-            id,
-            status: Text::new(alloc, status)?,
-        }),
-        _ => Err(WordsFault::BadWords),
-    }
+    let status = Text::new(alloc, "resolved")?;
+    Ok(id(given).map(|id| Command::SetStatus { id, status }))
 }
 
-fn resolve(alloc: Global, given: &ArgMatches<'_>) -> Result<Command, WordsFault>
-    ensures ok { IfOk result (λ c. spelling.resolve_of (rows_of (found_of given.now)) ≡ Some c) }
-    ensures bad { result ≡ Err WordsFault.BadWords → spelling.resolve_of (rows_of (found_of given.now)) ≡ None }
-    ensures kinds { IfErr result (λ e. e ≢ WordsFault.NoMemory → e ≡ WordsFault.BadWords) }
+/// level ID [LEVEL]
+fn level(alloc: Global, given: &ArgMatches<'_>) -> Result<Option<Command>, AllocError>
+    ensures { IfOk result (λ c. c ≡ spelling.level_of (given_to given.now)) }
 {
-    match id(given) {
-        Some(id) => Ok(Command::SetStatus {
-            id,
-            status: Text::new(alloc, "resolved")?,
-        }),
-        None => Err(WordsFault::BadWords),
-    }
-}
-
-fn level(alloc: Global, given: &ArgMatches<'_>) -> Result<Command, WordsFault>
-    ensures ok { IfOk result (λ c. spelling.level_of (rows_of (found_of given.now)) ≡ Some c) }
-    ensures bad { result ≡ Err WordsFault.BadWords → spelling.level_of (rows_of (found_of given.now)) ≡ None }
-    ensures kinds { IfErr result (λ e. e ≢ WordsFault.NoMemory → e ≡ WordsFault.BadWords) }
-{
-    match id(given) {
-        Some(id) => {
-            let level = first_text(alloc, given, "level")?;
-            Ok(Command::SetLevel { id, level })
-        }
-        None => Err(WordsFault::BadWords),
-    }
-}
-
-fn show(given: &ArgMatches<'_>) -> Result<Command, WordsFault>
-    ensures ok { IfOk result (λ c. spelling.show_of (rows_of (found_of given.now)) ≡ Some c) }
-    ensures bad { result ≡ Err WordsFault.BadWords → spelling.show_of (rows_of (found_of given.now)) ≡ None }
-    ensures kinds { IfErr result (λ e. e ≢ WordsFault.NoMemory → e ≡ WordsFault.BadWords) }
-{
-    match id(given) {
-        Some(id) => Ok(Command::Show { id }),
-        None => Err(WordsFault::BadWords),
-    }
-}
-
-fn take(given: &ArgMatches<'_>) -> Result<Command, WordsFault>
-    ensures ok { IfOk result (λ c. spelling.on_request Command.Take (rows_of (found_of given.now)) ≡ Some c) }
-    ensures bad { result ≡ Err WordsFault.BadWords → spelling.on_request Command.Take (rows_of (found_of given.now)) ≡ None }
-    ensures kinds { IfErr result (λ e. e ≢ WordsFault.NoMemory → e ≡ WordsFault.BadWords) }
-{
-    match id(given) {
-        Some(id) => Ok(Command::Take { id }),
-        None => Err(WordsFault::BadWords),
-    }
-}
-
-fn steal(given: &ArgMatches<'_>) -> Result<Command, WordsFault>
-    ensures ok { IfOk result (λ c. spelling.on_request Command.Steal (rows_of (found_of given.now)) ≡ Some c) }
-    ensures bad { result ≡ Err WordsFault.BadWords → spelling.on_request Command.Steal (rows_of (found_of given.now)) ≡ None }
-    ensures kinds { IfErr result (λ e. e ≢ WordsFault.NoMemory → e ≡ WordsFault.BadWords) }
-{
-    match id(given) {
-        Some(id) => Ok(Command::Steal { id }),
-        None => Err(WordsFault::BadWords),
-    }
-}
-
-fn untake(given: &ArgMatches<'_>) -> Result<Command, WordsFault>
-    ensures ok { IfOk result (λ c. spelling.on_request Command.Untake (rows_of (found_of given.now)) ≡ Some c) }
-    ensures bad { result ≡ Err WordsFault.BadWords → spelling.on_request Command.Untake (rows_of (found_of given.now)) ≡ None }
-    ensures kinds { IfErr result (λ e. e ≢ WordsFault.NoMemory → e ≡ WordsFault.BadWords) }
-{
-    match id(given) {
-        Some(id) => Ok(Command::Untake { id }),
-        None => Err(WordsFault::BadWords),
-    }
-}
-
-fn history(given: &ArgMatches<'_>) -> Result<Command, WordsFault>
-    ensures ok { IfOk result (λ c. spelling.on_request Command.History (rows_of (found_of given.now)) ≡ Some c) }
-    ensures bad { result ≡ Err WordsFault.BadWords → spelling.on_request Command.History (rows_of (found_of given.now)) ≡ None }
-    ensures kinds { IfErr result (λ e. e ≢ WordsFault.NoMemory → e ≡ WordsFault.BadWords) }
-{
-    match id(given) {
-        Some(id) => Ok(Command::History { id }),
-        None => Err(WordsFault::BadWords),
-    }
+    let level = first_text(alloc, given, "level")?;
+    Ok(id(given).map(|id| Command::SetLevel { id, level }))
 }

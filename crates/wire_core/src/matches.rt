@@ -1,13 +1,16 @@
-ghost use Rattle.std.specs.Prelude.{◌≡◌, ◌≢◌, List, [], Ok, Err, Some, map, true, string_bytes, IfOk, IfErr};
+ghost use Rattle.std.specs.Prelude.{◌≡◌, ◌≢◌, [], Err, map, true, string_bytes, IfOk, IfErr};
 ghost use Rattle.std.specs.Option.{option_map};
-ghost use Rattle.clap.specs.Words.{App, all_of, fault_of, first_of, found_of, is_simple, is_simple_and_free, rows_of, subcommand_of, subcommand_rows_of};
+ghost use Rattle.clap.specs.Words.{App, all_of, fault_of, first_of};
+ghost use Rattle.clap.specs.Words.{is_simple, is_simple_and_free, subcommand_of};
+ghost use Rattle.clap.specs.Words.{subcommand_rows_of};
 ghost use Rattle.wire_core.specs.Table as table;
 ghost use Rattle.wire_core.specs.Table.{Is};
-ghost use Rattle.wire_core.specs.Spelling.{id_of, requestors_of};
+ghost use Rattle.wire_core.specs.Spelling as spelling;
+ghost use Rattle.wire_core.specs.Spelling.{given_to, id_of, requestors_of};
 
 use crate::fault::WordsFault;
 use crate::number::number_of_word;
-use crate::table::desk;
+use crate::table::desk_for;
 use clap::error::ErrorKind;
 use clap::{ArgMatches, Command};
 use std::alloc::{AllocError, Global};
@@ -19,11 +22,13 @@ pub(crate) fn matches_of<'a>(
     words: &'a [String],
 ) -> Result<ArgMatches<'a>, WordsFault>
     ensures fits { IfOk result (λ _. fault_of table.desk (map string_bytes words.entry.now) ≡ []) }
-    ensures rows { IfOk result (λ m. subcommand_rows_of m ≡ subcommand_of table.desk (map string_bytes words.entry.now)) }
-    ensures bad { result ≡ Err WordsFault.BadWords → fault_of table.desk (map string_bytes words.entry.now) ≢ [] }
+    ensures rows { IfOk result (λ m. subcommand_rows_of m
+        ≡ subcommand_of table.desk (map string_bytes words.entry.now)) }
+    ensures bad { result ≡ Err WordsFault.BadWords
+        → fault_of table.desk (map string_bytes words.entry.now) ≢ [] }
     ensures kinds { IfErr result (λ e. e ≢ WordsFault.NoMemory → e ≡ WordsFault.BadWords) }
 {
-    let command = desk(alloc)?;
+    let command = desk_for(alloc, words)?;
     parsed(command, words)
 }
 
@@ -32,8 +37,10 @@ fn parsed<'a>(command: Command<'a>, words: &'a [String]) -> Result<ArgMatches<'a
     ensures fits { (a : App) → Is a command.entry → is_simple_and_free a ≡ true
         → IfOk result (λ _. fault_of a (map string_bytes words.entry.now) ≡ []) }
     ensures rows { (a : App) → Is a command.entry → is_simple a ≡ true
-        → IfOk result (λ m. subcommand_rows_of m ≡ subcommand_of a (map string_bytes words.entry.now)) }
-    ensures bad { (a : App) → Is a command.entry → is_simple_and_free a ≡ true → result ≡ Err WordsFault.BadWords
+        → IfOk result (λ m. subcommand_rows_of m
+        ≡ subcommand_of a (map string_bytes words.entry.now)) }
+    ensures bad { (a : App) → Is a command.entry → is_simple_and_free a ≡ true
+        → result ≡ Err WordsFault.BadWords
         → fault_of a (map string_bytes words.entry.now) ≢ [] }
     ensures kinds { IfErr result (λ e. e ≢ WordsFault.NoMemory → e ≡ WordsFault.BadWords) }
 {
@@ -51,14 +58,15 @@ fn parsed<'a>(command: Command<'a>, words: &'a [String]) -> Result<ArgMatches<'a
 
 /// The subcommand that was met, with its matches.
 pub(crate) fn entered<'m, 'a>(matches: &'m ArgMatches<'a>) -> Option<(&'a str, &'m ArgMatches<'a>)>
-    ensures { option_map (λ p. (p.0.now, rows_of (found_of p.1.now))) result ≡ subcommand_rows_of matches.now }
+    ensures { option_map (λ p. (p.0.now, given_to p.1.now)) result
+        ≡ subcommand_rows_of matches.now }
 {
     matches.subcommand()
 }
 
 /// The first word for an id.
 pub(crate) fn first<'a>(matches: &ArgMatches<'a>, id: &str) -> Option<&'a str>
-    ensures { option_map (λ s. s.now) result ≡ first_of id.now (rows_of (found_of matches.now)) }
+    ensures { option_map (λ s. s.now) result ≡ first_of id.now (given_to matches.now) }
 {
     matches.get_str(id)
 }
@@ -69,7 +77,7 @@ pub(crate) fn first_text(
     matches: &ArgMatches<'_>,
     id: &str,
 ) -> Result<Option<Text>, AllocError>
-    ensures { IfOk result (λ text. text ≡ first_of id.now (rows_of (found_of matches.now))) }
+    ensures { IfOk result (λ text. text ≡ first_of id.now (given_to matches.now)) }
 {
     match first(matches, id) {
         Some(word) => Ok(Some(Text::new(alloc, word)?)),
@@ -79,14 +87,15 @@ pub(crate) fn first_text(
 
 /// All the words for an id.
 fn all<'m, 'a>(matches: &'m ArgMatches<'a>, id: &str) -> Option<&'m [&'a str]>
-    ensures { option_map (λ s. map (λ v. v.now) s.now) result ≡ all_of id.now (rows_of (found_of matches.now)) }
+    ensures { option_map (λ s. map (λ v. v.now) s.now) result
+        ≡ all_of id.now (given_to matches.now) }
 {
     matches.get_raw(id)
 }
 
 /// The request that is meant.
 pub(crate) fn id(matches: &ArgMatches<'_>) -> Option<u32>
-    ensures { result ≡ id_of (rows_of (found_of matches.now)) }
+    ensures { result ≡ id_of (given_to matches.now) }
 {
     match first(matches, "id") {
         Some(word) => number_of_word(word),
@@ -94,9 +103,23 @@ pub(crate) fn id(matches: &ArgMatches<'_>) -> Option<u32>
     }
 }
 
+/// The request that is meant and a copy of the first word for an id, where both are there.
+pub(crate) fn id_and_word(
+    alloc: Global,
+    matches: &ArgMatches<'_>,
+    key: &str,
+) -> Result<Option<(u32, Text)>, AllocError>
+    ensures { IfOk result (λ found. found ≡ spelling.id_and_word key.now (given_to matches.now)) }
+{
+    match (id(matches), first_text(alloc, matches, key)?) {
+        (Some(id), Some(word)) => Ok(Some((id, word))),
+        _ => Ok(None),
+    }
+}
+
 /// The words for requestors, which may be none.
 pub(crate) fn requestors(alloc: Global, matches: &ArgMatches<'_>) -> Result<Texts, AllocError>
-    ensures { IfOk result (λ texts. texts ≡ requestors_of (rows_of (found_of matches.now))) }
+    ensures { IfOk result (λ texts. texts ≡ requestors_of (given_to matches.now)) }
 {
     match all(matches, "requestor") {
         Some(words) => Texts::new(alloc, words),

@@ -4,7 +4,8 @@ ghost use Rattle.wire_core.specs.Number.{number_of};
 /// The most digits of a number in a word.
 const MAX_DIGITS: usize = 10;
 
-/// The number that the word is: 1 to 10 digits and nothing else, at most 4,294,967,295. Zeros may stand in front.
+/// The number that the word is: 1 to 10 digits and nothing else, at most 4,294,967,295. Zeros may
+/// stand in front.
 pub fn number_of_word(word: &str) -> Option<u32>
     ensures { result ≡ number_of word.now }
 {

@@ -1,69 +1,115 @@
-ghost use Rattle.std.specs.Prelude.{◌≡◌, map, codes, IfOk, false};
+ghost use Rattle.std.specs.Prelude.{◌≡◌, map, string_bytes, IfOk, false};
 ghost use Rattle.clap.specs.Words.{App, Rule, rule_of, with_rule, with_subcommand};
 ghost use Rattle.wire_core.specs.Table as table;
-ghost use Rattle.wire_core.specs.Table.{Is, allowed, bare, flag, option, root, several, wanted, with_all};
+ghost use Rattle.wire_core.specs.Table.{Is, IsNamed, allowed, bare, flag, option, root, several};
+ghost use Rattle.wire_core.specs.Table.{wanted, with_all};
 
 use clap::{Arg, ArgAction, Command};
 use std::alloc::{AllocError, Global};
 
+/// The names of the subcommands.
+const NAMES: [&str; 17] = [
+    "queue",
+    "create",
+    "status",
+    "resolve",
+    "level",
+    "take",
+    "steal",
+    "untake",
+    "give",
+    "correspond",
+    "comment",
+    "watch",
+    "unwatch",
+    "link",
+    "queues",
+    "show",
+    "history",
+];
+
+/// The command line of the desk, as far as these words need it: with the subcommand that the first
+/// of them names alone, or whole where it names none. To make all subcommands takes longer than
+/// all else that a line of a script asks for.
+pub(crate) fn desk_for<'a>(
+    alloc: Global,
+    words: &'a [String],
+) -> Result<Command<'a>, AllocError>
+    ensures { IfOk result (Is (table.desk_for (map string_bytes words.entry.now))) }
+{
+    match words.first() {
+        Some(name) => only_or_whole(alloc, subcommand(alloc, name.as_str())?),
+        None => desk(alloc),
+    }
+}
+
+/// The command line with one subcommand, or with all where none is given.
+fn only_or_whole<'a>(alloc: Global, sub: Option<Command<'a>>) -> Result<Command<'a>, AllocError>
+    ensures { (named : _) → IsNamed named sub.entry → IfOk result (Is (table.only_or_whole named)) }
+{
+    match sub {
+        Some(sub) => with_subcommand(root_command(alloc), sub),
+        None => desk(alloc),
+    }
+}
+
 /// The command line of the desk.
-pub(crate) fn desk<'a>(alloc: Global) -> Result<Command<'a>, AllocError>
+fn desk<'a>(alloc: Global) -> Result<Command<'a>, AllocError>
     ensures { IfOk result (Is table.desk) }
 {
-    let command = with_new(alloc, root_command(alloc))?;
-    let command = with_changes(alloc, command)?;
-    let command = with_owners(alloc, command)?;
-    let command = with_others(alloc, command)?;
-    with_readings(alloc, command)
+    desk_of(alloc, &NAMES)
 }
 
-/// The subcommands that open and file, added to the root.
-fn with_new<'a>(alloc: Global, command: Command<'a>) -> Result<Command<'a>, AllocError>
-    ensures { Is root command.entry → IfOk result (Is table.with_new) }
+/// The command line with the subcommands of these names.
+fn desk_of<'a>(alloc: Global, names: &[&'a str]) -> Result<Command<'a>, AllocError>
+    ensures { IfOk result (Is (table.desk_of root (map (λ s. s.now) names.entry.now))) }
 {
-    let command = with_subcommand(command, queue(alloc)?)?;
-    with_subcommand(command, create(alloc)?)
+    let mut command = root_command(alloc);
+    for name in names {
+        command = with_named(command, subcommand(alloc, name)?)?;
+    }
+    Ok(command)
 }
 
-/// The subcommands that move or change, added to those.
-fn with_changes<'a>(alloc: Global, command: Command<'a>) -> Result<Command<'a>, AllocError>
-    ensures { Is table.with_new command.entry → IfOk result (Is table.with_changes) }
+fn with_named<'a>(
+    command: Command<'a>,
+    sub: Option<Command<'a>>,
+) -> Result<Command<'a>, AllocError>
+    ensures { (a : App) (named : _) → Is a command.entry → IsNamed named sub.entry
+        → IfOk result (Is (table.with_named a named)) }
 {
-    let command = with_subcommand(command, leaf(alloc, "status", &["id", "status"])?)?;
-    let command = with_subcommand(command, leaf(alloc, "resolve", &["id"])?)?;
-    with_subcommand(command, level(alloc)?)
+    match sub {
+        Some(sub) => with_subcommand(command, sub),
+        None => Ok(command),
+    }
 }
 
-/// The subcommands that change the owner, added to those.
-fn with_owners<'a>(alloc: Global, command: Command<'a>) -> Result<Command<'a>, AllocError>
-    ensures { Is table.with_changes command.entry → IfOk result (Is table.with_owners) }
+/// The subcommand of this name, if there is one.
+#[tactic(auto, unfolding(crate::specs::Table::subcommand, crate::specs::Table::subcommands))]
+fn subcommand<'a>(alloc: Global, name: &str) -> Result<Option<Command<'a>>, AllocError>
+    ensures { IfOk result (IsNamed (table.subcommand name.now)) }
 {
-    let command = with_subcommand(command, leaf(alloc, "take", &["id"])?)?;
-    let command = with_subcommand(command, leaf(alloc, "steal", &["id"])?)?;
-    let command = with_subcommand(command, leaf(alloc, "untake", &["id"])?)?;
-    with_subcommand(command, leaf(alloc, "give", &["id", "person"])?)
+    match name {
+        "queue" => Ok(Some(queue(alloc)?)),
+        "create" => Ok(Some(create(alloc)?)),
+        "status" => Ok(Some(leaf(alloc, "status", &["id", "status"])?)),
+        "resolve" => Ok(Some(leaf(alloc, "resolve", &["id"])?)),
+        "level" => Ok(Some(level(alloc)?)),
+        "take" => Ok(Some(leaf(alloc, "take", &["id"])?)),
+        "steal" => Ok(Some(leaf(alloc, "steal", &["id"])?)),
+        "untake" => Ok(Some(leaf(alloc, "untake", &["id"])?)),
+        "give" => Ok(Some(leaf(alloc, "give", &["id", "person"])?)),
+        "correspond" => Ok(Some(leaf(alloc, "correspond", &["id", "text"])?)),
+        "comment" => Ok(Some(leaf(alloc, "comment", &["id", "text"])?)),
+        "watch" => Ok(Some(leaf(alloc, "watch", &["id", "role", "person"])?)),
+        "unwatch" => Ok(Some(leaf(alloc, "unwatch", &["id", "role", "person"])?)),
+        "link" => Ok(Some(link(alloc)?)),
+        "queues" => Ok(Some(bare_command(alloc, "queues"))),
+        "show" => Ok(Some(leaf(alloc, "show", &["id"])?)),
+        "history" => Ok(Some(leaf(alloc, "history", &["id"])?)),
+        _ => Ok(None),
+    }
 }
-
-/// The subcommands that write, watch and link, added to those.
-fn with_others<'a>(alloc: Global, command: Command<'a>) -> Result<Command<'a>, AllocError>
-    ensures { Is table.with_owners command.entry → IfOk result (Is table.with_others) }
-{
-    let command = with_subcommand(command, leaf(alloc, "correspond", &["id", "text"])?)?;
-    let command = with_subcommand(command, leaf(alloc, "comment", &["id", "text"])?)?;
-    let command = with_subcommand(command, leaf(alloc, "watch", &["id", "role", "person"])?)?;
-    let command = with_subcommand(command, leaf(alloc, "unwatch", &["id", "role", "person"])?)?;
-    with_subcommand(command, link(alloc)?)
-}
-
-/// The subcommands that read, added to those.
-fn with_readings<'a>(alloc: Global, command: Command<'a>) -> Result<Command<'a>, AllocError>
-    ensures { Is table.with_others command.entry → IfOk result (Is table.desk) }
-{
-    let command = with_subcommand(command, bare_command(alloc, "queues"))?;
-    let command = with_subcommand(command, leaf(alloc, "show", &["id"])?)?;
-    with_subcommand(command, leaf(alloc, "history", &["id"])?)
-}
-
 fn link<'a>(alloc: Global) -> Result<Command<'a>, AllocError>
     ensures { IfOk result (Is table.link) }
 {
@@ -129,7 +175,8 @@ fn with_argument<'a>(command: Command<'a>, argument: Arg<'a>) -> Result<Command<
 }
 
 fn with_subcommand<'a>(command: Command<'a>, sub: Command<'a>) -> Result<Command<'a>, AllocError>
-    ensures { (a b : App) → Is a command.entry → Is b sub.entry → IfOk result (Is (with_subcommand a b.top)) }
+    ensures { (a b : App) → Is a command.entry → Is b sub.entry
+        → IfOk result (Is (with_subcommand a b.top)) }
 {
     command.subcommand(sub)
 }

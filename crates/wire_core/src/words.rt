@@ -1,15 +1,16 @@
-ghost use Rattle.std.specs.Prelude.{◌≡◌, ◌≢◌, ℕ, List, [], ◌∷◌, ◌++◌, Err, Some, None, map, string_bytes, encode_utf8, IfOk, IfErr, OnOk, Option};
+ghost use Rattle.std.specs.Prelude.{◌≡◌, ◌≢◌, ℕ, List, [], ◌∷◌, ◌++◌, Err, Some, None, map};
+ghost use Rattle.std.specs.Prelude.{string_bytes, encode_utf8, IfOk, IfErr, OnOk, Option};
 ghost use Rattle.wire_core.specs.Words as spec;
 ghost use Rattle.wire_core.specs.Reader.{read_at, after};
 
 use crate::fault::WordsFault;
 use std::alloc::{AllocError, Global};
 
-/// The words of a line. They stand apart by one or more spaces; a word in quotes may hold spaces, and in it `\"`,
-/// `\\`, `\n` and `\t` stand for the quote, the backslash, a line feed and a tab.
+/// The words of a line. They stand apart by one or more spaces; a word in quotes may hold spaces,
+/// and in it `\"`, `\\`, `\n` and `\t` stand for the quote, the backslash, a line feed and a tab.
 ///
-/// `BadQuote` where another character comes after such a backslash, a quote isn't closed or isn't followed by a
-/// space or the end, or a word that doesn't begin with a quote has one.
+/// `BadQuote` where another character comes after such a backslash, a quote isn't closed or isn't
+/// followed by a space or the end, or a word that doesn't begin with a quote has one.
 pub fn words_of(alloc: Global, line: &str) -> Result<Vec<String>, WordsFault>
     ensures ok { IfOk result (λ ws. spec.words_of line.now ≡ Some (map string_bytes ws.items)) }
     ensures bad { result ≡ Err WordsFault.BadQuote → spec.words_of line.now ≡ None }
@@ -46,9 +47,11 @@ fn place_after(
     place: Place,
     character: char,
 ) -> Result<Place, WordsFault>
-    ensures ok { (text : List ℕ) → IfOk result (λ p. after (map string_bytes words.old.items) (read_at place (character ∷ text))
+    ensures ok { (text : List ℕ) → IfOk result (λ p.
+        after (map string_bytes words.old.items) (read_at place (character ∷ text))
         ≡ after (map string_bytes words.new.items) (read_at p text)) }
-    ensures bad { (text : List ℕ) → result ≡ Err WordsFault.BadQuote → read_at place (character ∷ text) ≡ None }
+    ensures bad { (text : List ℕ) → result ≡ Err WordsFault.BadQuote
+        → read_at place (character ∷ text) ≡ None }
     ensures kinds { IfErr result (λ e. e ≢ WordsFault.NoMemory → e ≡ WordsFault.BadQuote) }
 {
     match place {
@@ -62,7 +65,8 @@ fn place_after(
 
 /// The place after a character between words.
 fn after_space(alloc: Global, character: char) -> Result<Place, AllocError>
-    ensures { (text : List ℕ) → IfOk result (λ p. spec.between (character ∷ text) ≡ read_at p text) }
+    ensures { (text : List ℕ) → IfOk result (λ p.
+        spec.between (character ∷ text) ≡ read_at p text) }
 {
     match character {
         ' ' => Ok(Place::Between),
@@ -74,8 +78,10 @@ fn after_space(alloc: Global, character: char) -> Result<Place, AllocError>
 /// The place after a character in a word without quotes.
 fn after_bare(words: &mut Vec<String>, word: String, character: char) -> Result<Place, WordsFault>
     ensures ok { (text : List ℕ) → IfOk result (λ p. after (map string_bytes words.old.items)
-        (spec.word_of (string_bytes word) (spec.bare (character ∷ text))) ≡ after (map string_bytes words.new.items) (read_at p text)) }
-    ensures bad { (text : List ℕ) → result ≡ Err WordsFault.BadQuote → spec.bare (character ∷ text) ≡ None }
+        (spec.word_of (string_bytes word) (spec.bare (character ∷ text)))
+        ≡ after (map string_bytes words.new.items) (read_at p text)) }
+    ensures bad { (text : List ℕ) → result ≡ Err WordsFault.BadQuote
+        → spec.bare (character ∷ text) ≡ None }
     ensures kinds { IfErr result (λ e. e ≢ WordsFault.NoMemory → e ≡ WordsFault.BadQuote) }
 {
     match character {
@@ -87,7 +93,8 @@ fn after_bare(words: &mut Vec<String>, word: String, character: char) -> Result<
 
 /// The place after a character within quotes.
 fn after_quoted(word: String, character: char) -> Result<Place, AllocError>
-    ensures { (text : List ℕ) → IfOk result (λ p. spec.word_of (string_bytes word) (spec.quoted (character ∷ text)) ≡ read_at p text) }
+    ensures { (text : List ℕ) → IfOk result (λ p.
+        spec.word_of (string_bytes word) (spec.quoted (character ∷ text)) ≡ read_at p text) }
 {
     match character {
         '"' => Ok(Place::Closed(word)),
@@ -98,8 +105,10 @@ fn after_quoted(word: String, character: char) -> Result<Place, AllocError>
 
 /// The place after a character that stands after a backslash.
 fn after_escaped(word: String, character: char) -> Result<Place, WordsFault>
-    ensures ok { (text : List ℕ) → IfOk result (λ p. spec.word_of (string_bytes word) (spec.escaped (character ∷ text)) ≡ read_at p text) }
-    ensures bad { (text : List ℕ) → result ≡ Err WordsFault.BadQuote → spec.escaped (character ∷ text) ≡ None }
+    ensures ok { (text : List ℕ) → IfOk result (λ p.
+        spec.word_of (string_bytes word) (spec.escaped (character ∷ text)) ≡ read_at p text) }
+    ensures bad { (text : List ℕ) → result ≡ Err WordsFault.BadQuote
+        → spec.escaped (character ∷ text) ≡ None }
     ensures kinds { IfErr result (λ e. e ≢ WordsFault.NoMemory → e ≡ WordsFault.BadQuote) }
 {
     match meant(character) {
@@ -111,8 +120,10 @@ fn after_escaped(word: String, character: char) -> Result<Place, WordsFault>
 /// The place after a character that follows a closing quote.
 fn after_closed(words: &mut Vec<String>, word: String, character: char) -> Result<Place, WordsFault>
     ensures ok { (text : List ℕ) → IfOk result (λ p. after (map string_bytes words.old.items)
-        (spec.word_of (string_bytes word) (spec.closed (character ∷ text))) ≡ after (map string_bytes words.new.items) (read_at p text)) }
-    ensures bad { (text : List ℕ) → result ≡ Err WordsFault.BadQuote → spec.closed (character ∷ text) ≡ None }
+        (spec.word_of (string_bytes word) (spec.closed (character ∷ text)))
+        ≡ after (map string_bytes words.new.items) (read_at p text)) }
+    ensures bad { (text : List ℕ) → result ≡ Err WordsFault.BadQuote
+        → spec.closed (character ∷ text) ≡ None }
     ensures kinds { IfErr result (λ e. e ≢ WordsFault.NoMemory → e ≡ WordsFault.BadQuote) }
 {
     if character == ' ' {
@@ -139,7 +150,8 @@ fn meant(character: char) -> Option<char>
 #[tactic(auto, using(crate::proofs::Reading::word_ends))]
 fn ended(words: &mut Vec<String>, word: String) -> Result<Place, AllocError>
     ensures { (rest : Option (List (List ℕ))) → IfOk result (λ p. (p ≡ Place.Between)
-        × (after (map string_bytes words.old.items) (spec.word_of (string_bytes word) (spec.ended rest))
+        × (after (map string_bytes words.old.items)
+        (spec.word_of (string_bytes word) (spec.ended rest))
         ≡ after (map string_bytes words.new.items) rest)) }
 {
     words.push(word)?;
@@ -149,7 +161,8 @@ fn ended(words: &mut Vec<String>, word: String) -> Result<Place, AllocError>
 /// The word with the character at its end.
 #[tactic(auto, using(crate::proofs::Reading::word_grows))]
 fn with(mut word: String, character: char) -> Result<String, AllocError>
-    ensures { (rest : Option spec.Rest) → IfOk result (λ w. spec.word_of (string_bytes word) (spec.onto (encode_utf8 character) rest)
+    ensures { (rest : Option spec.Rest) → IfOk result (λ w.
+        spec.word_of (string_bytes word) (spec.onto (encode_utf8 character) rest)
         ≡ spec.word_of (string_bytes w) rest) }
 {
     word.push(character)?;
@@ -158,7 +171,8 @@ fn with(mut word: String, character: char) -> Result<String, AllocError>
 
 /// At the end of the line, the word that is read is put to the words.
 fn finish(words: &mut Vec<String>, place: Place) -> Result<(), WordsFault>
-    ensures ok { OnOk result (after (map string_bytes words.old.items) (read_at place []) ≡ Some (map string_bytes words.new.items)) }
+    ensures ok { OnOk result (after (map string_bytes words.old.items) (read_at place [])
+        ≡ Some (map string_bytes words.new.items)) }
     ensures bad { result ≡ Err WordsFault.BadQuote → read_at place [] ≡ None }
     ensures kinds { IfErr result (λ e. e ≢ WordsFault.NoMemory → e ≡ WordsFault.BadQuote) }
 {

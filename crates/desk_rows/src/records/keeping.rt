@@ -1,4 +1,5 @@
-ghost use Rattle.std.specs.Prelude.{◌≡◌, ◌==◌, ◌+◌, ◌++◌, ◌∷◌, [], length, map, find, ◌<◌, IfOk, IfSome, IfNone, OnOk, OnErr, Some, None, true};
+ghost use Rattle.std.specs.Prelude.{◌≡◌, ◌==◌, ◌+◌, ◌++◌, ◌∷◌, [], length, map, find, ◌<◌, IfOk};
+ghost use Rattle.std.specs.Prelude.{IfSome, IfNone, OnOk, OnErr, Some, None, true};
 ghost use Rattle.std.specs.Option.{option_map, option_map_or};
 ghost use Rattle.desk_core.specs.Desk.{Request, revised_at};
 ghost use Rattle.desk_core.specs.Facts as facts;
@@ -36,7 +37,8 @@ impl Record {
         entries: Vec<Entry>,
     ) -> Result<(), AllocError>
         requires { option_map_or (λ r. r.id == self.old.row.id) row true ≡ true }
-        ensures ok { OnOk result (request_of self.new ≡ revised row people entries.items (request_of self.old)) }
+        ensures ok { OnOk result (request_of self.new
+            ≡ revised row people entries.items (request_of self.old)) }
         ensures err { OnErr result (request_of self.new ≡ request_of self.old) }
         ensures number { self.new.row.id ≡ self.old.row.id }
     {
@@ -69,23 +71,28 @@ impl Records {
 
     /// The request with this number, if there is one.
     pub(crate) fn at(&self, id: u32) -> Option<&Record>
-        ensures { option_map (λ r. request_of r.now) result ≡ find (λ r. r.row.id == id) (requests_of self.now) }
+        ensures { option_map (λ r. request_of r.now) result
+            ≡ find (λ r. r.row.id == id) (requests_of self.now) }
     {
-        find_request(self.inner.as_slice(), id)
+        match self.place_of(id) {
+            Some(place) => Some(&self.inner[place]),
+            None => None,
+        }
     }
 
     /// A request that is filed, which has the next number.
     pub(crate) fn file(&mut self, request: Record) -> Result<(), AllocError>
         requires { request.row.id ≡ length (requests_of self.old) + 1 }
-        ensures ok { OnOk result (requests_of self.new ≡ requests_of self.old ++ request_of request ∷ []) }
+        ensures ok { OnOk result (requests_of self.new ≡ requests_of self.old
+            ++ request_of request ∷ []) }
         ensures err { OnErr result (requests_of self.new ≡ requests_of self.old) }
     {
         self.inner.push(request)?;
         Ok(())
     }
 
-    /// What becomes of the request with this number, if there is one: it gets the row, if one is given, the people,
-    /// and more entries. A row has to have the number.
+    /// What becomes of the request with this number, if there is one: it gets the row, if one is
+    /// given, the people, and more entries. A row has to have the number.
     pub(crate) fn revise(
         &mut self,
         id: u32,
@@ -94,7 +101,8 @@ impl Records {
         entries: Vec<Entry>,
     ) -> Result<(), AllocError>
         requires { option_map_or (λ r. r.id == id) row true ≡ true }
-        ensures ok { OnOk result (requests_of self.new ≡ map (revised_at id (revised row people entries.items)) (requests_of self.old)) }
+        ensures ok { OnOk result (requests_of self.new
+            ≡ map (revised_at id (revised row people entries.items)) (requests_of self.old)) }
         ensures err { OnErr result (requests_of self.new ≡ requests_of self.old) }
     {
         match self.place_of(id) {
@@ -105,7 +113,8 @@ impl Records {
 
     /// The place of the request with this number, if there is one.
     fn place_of(&self, id: u32) -> Option<usize>
-        ensures some { IfSome result (λ place. (place < length self.now.inner.items) × (id ≡ place + 1)) }
+        ensures some { IfSome result (λ place. (place < length self.now.inner.items)
+            × (id ≡ place + 1)) }
         ensures none { IfNone result (find (λ r. r.row.id == id) (requests_of self.now) ≡ None) }
     {
         if id == 0 {
@@ -116,11 +125,4 @@ impl Records {
             Some(id as usize - 1)
         }
     }
-}
-
-/// The first request with this number, if there is one.
-fn find_request(requests: &[Record], id: u32) -> Option<&Record>
-    ensures { option_map (λ r. r.now) result ≡ find (λ r. r.row.id == id) requests.now }
-{
-    requests.iter().find(|r| r.row.id == id)
 }

@@ -1,14 +1,14 @@
-ghost use Rattle.std.specs.Prelude.{◌≡◌, ◌≢◌, Err, Some, None, IfOk, IfErr};
-ghost use Rattle.clap.specs.Words.{found_of, rows_of};
+ghost use Rattle.std.specs.Prelude.{◌≡◌};
 ghost use Rattle.wire_core.specs.Spelling as spelling;
+ghost use Rattle.wire_core.specs.Spelling.{given_to};
 
-use crate::fault::WordsFault;
 use crate::matches::{first, id};
 use crate::number::number_of_word;
 use clap::ArgMatches;
 use desk_core::{Command, LinkKind};
 
-/// A kind of link as a word names it: by its own name, or by that of its inverse, where the two requests change places.
+/// A kind of link as a word names it: by its own name, or by that of its inverse, where the two
+/// requests change places.
 #[derive(Clone, Copy)]
 pub(crate) enum NamedKind {
     Plain(LinkKind),
@@ -16,15 +16,13 @@ pub(crate) enum NamedKind {
 }
 
 /// link [-d] ID KIND OTHER
-pub(crate) fn link(given: &ArgMatches<'_>) -> Result<Command, WordsFault>
-    ensures ok { IfOk result (λ c. spelling.link_of (rows_of (found_of given.now)) ≡ Some c) }
-    ensures bad { result ≡ Err WordsFault.BadWords → spelling.link_of (rows_of (found_of given.now)) ≡ None }
-    ensures kinds { IfErr result (λ e. e ≢ WordsFault.NoMemory → e ≡ WordsFault.BadWords) }
+pub(crate) fn link(given: &ArgMatches<'_>) -> Option<Command>
+    ensures { result ≡ spelling.link_of (given_to given.now) }
 {
     let away = takes_away(given);
     match (id(given), kind(given), other(given)) {
-        (Some(id), Some(kind), Some(other)) => Ok(linking(away, id, kind, other)),
-        _ => Err(WordsFault::BadWords),
+        (Some(id), Some(kind), Some(other)) => Some(linking(away, id, kind, other)),
+        _ => None,
     }
 }
 
@@ -50,7 +48,7 @@ fn link_or_unlink(away: bool, id: u32, kind: LinkKind, other: u32) -> Command
 
 /// Whether the link is to be taken away.
 fn takes_away(given: &ArgMatches<'_>) -> bool
-    ensures { result ≡ spelling.takes_away (rows_of (found_of given.now)) }
+    ensures { result ≡ spelling.takes_away (given_to given.now) }
 {
     match first(given, "delete") {
         Some(word) => word == "true",
@@ -60,7 +58,7 @@ fn takes_away(given: &ArgMatches<'_>) -> bool
 
 /// The request at the other end.
 fn other(given: &ArgMatches<'_>) -> Option<u32>
-    ensures { result ≡ spelling.other_of (rows_of (found_of given.now)) }
+    ensures { result ≡ spelling.other_of (given_to given.now) }
 {
     match first(given, "other") {
         Some(word) => number_of_word(word),
@@ -69,7 +67,7 @@ fn other(given: &ArgMatches<'_>) -> Option<u32>
 }
 
 fn kind(given: &ArgMatches<'_>) -> Option<NamedKind>
-    ensures { result ≡ spelling.kind_of (rows_of (found_of given.now)) }
+    ensures { result ≡ spelling.kind_of (given_to given.now) }
 {
     match first(given, "kind") {
         Some(word) => kind_named(word),

@@ -1,63 +1,52 @@
-ghost use Rattle.std.specs.Prelude.{◌≡◌, ◌≢◌, Err, Some, None, IfOk, IfErr};
-ghost use Rattle.clap.specs.Words.{found_of, rows_of};
+ghost use Rattle.std.specs.Prelude.{◌≡◌, IfOk};
 ghost use Rattle.wire_core.specs.Spelling as spelling;
+ghost use Rattle.wire_core.specs.Spelling.{given_to};
 
-use crate::fault::WordsFault;
-use crate::matches::{first, id};
+use crate::matches::{first, first_text, id, id_and_word};
 use clap::ArgMatches;
 use desk_core::{Command, WatchRole};
-use std::alloc::Global;
+use std::alloc::{AllocError, Global};
 use text_core::Text;
 
 /// give ID PERSON
-pub(crate) fn give(alloc: Global, given: &ArgMatches<'_>) -> Result<Command, WordsFault>
-    ensures ok { IfOk result (λ c. spelling.give_of (rows_of (found_of given.now)) ≡ Some c) }
-    ensures bad { result ≡ Err WordsFault.BadWords → spelling.give_of (rows_of (found_of given.now)) ≡ None }
-    ensures kinds { IfErr result (λ e. e ≢ WordsFault.NoMemory → e ≡ WordsFault.BadWords) }
+pub(crate) fn give(alloc: Global, given: &ArgMatches<'_>) -> Result<Option<Command>, AllocError>
+    ensures { IfOk result (λ c. c ≡ spelling.give_of (given_to given.now)) }
 {
-    match (id(given), first(given, "person")) {
-        (Some(id), Some(person)) => Ok(Command::Give {
-            id,
-            person: Text::new(alloc, person)?,
-        }),
-        _ => Err(WordsFault::BadWords),
-    }
+    let found = id_and_word(alloc, given, "person")?;
+    Ok(found.map(|(id, person)| Command::Give { id, person }))
 }
 
 /// watch ID ROLE PERSON
-pub(crate) fn watch(alloc: Global, given: &ArgMatches<'_>) -> Result<Command, WordsFault>
-    ensures ok { IfOk result (λ c. spelling.watch_of (rows_of (found_of given.now)) ≡ Some c) }
-    ensures bad { result ≡ Err WordsFault.BadWords → spelling.watch_of (rows_of (found_of given.now)) ≡ None }
-    ensures kinds { IfErr result (λ e. e ≢ WordsFault.NoMemory → e ≡ WordsFault.BadWords) }
+pub(crate) fn watch(alloc: Global, given: &ArgMatches<'_>) -> Result<Option<Command>, AllocError>
+    ensures { IfOk result (λ c. c ≡ spelling.watch_of (given_to given.now)) }
 {
-    match (id(given), role(given), first(given, "person")) {
-        (Some(id), Some(role), Some(person)) => Ok(Command::Watch {
-            id,
-            role,
-            person: Text::new(alloc, person)?,
-        }),
-        _ => Err(WordsFault::BadWords),
-    }
+    let found = watcher(alloc, given)?;
+    Ok(found.map(|(id, role, person)| Command::Watch { id, role, person }))
 }
 
 /// unwatch ID ROLE PERSON
-pub(crate) fn unwatch(alloc: Global, given: &ArgMatches<'_>) -> Result<Command, WordsFault>
-    ensures ok { IfOk result (λ c. spelling.unwatch_of (rows_of (found_of given.now)) ≡ Some c) }
-    ensures bad { result ≡ Err WordsFault.BadWords → spelling.unwatch_of (rows_of (found_of given.now)) ≡ None }
-    ensures kinds { IfErr result (λ e. e ≢ WordsFault.NoMemory → e ≡ WordsFault.BadWords) }
+pub(crate) fn unwatch(alloc: Global, given: &ArgMatches<'_>) -> Result<Option<Command>, AllocError>
+    ensures { IfOk result (λ c. c ≡ spelling.unwatch_of (given_to given.now)) }
 {
-    match (id(given), role(given), first(given, "person")) {
-        (Some(id), Some(role), Some(person)) => Ok(Command::Unwatch {
-            id,
-            role,
-            person: Text::new(alloc, person)?,
-        }),
-        _ => Err(WordsFault::BadWords),
+    let found = watcher(alloc, given)?;
+    Ok(found.map(|(id, role, person)| Command::Unwatch { id, role, person }))
+}
+
+/// ID ROLE PERSON
+fn watcher(
+    alloc: Global,
+    given: &ArgMatches<'_>,
+) -> Result<Option<(u32, WatchRole, Text)>, AllocError>
+    ensures { IfOk result (λ found. found ≡ spelling.watcher_of (given_to given.now)) }
+{
+    match (id(given), role(given), first_text(alloc, given, "person")?) {
+        (Some(id), Some(role), Some(person)) => Ok(Some((id, role, person))),
+        _ => Ok(None),
     }
 }
 
 fn role(given: &ArgMatches<'_>) -> Option<WatchRole>
-    ensures { result ≡ spelling.role_of (rows_of (found_of given.now)) }
+    ensures { result ≡ spelling.role_of (given_to given.now) }
 {
     match first(given, "role") {
         Some(word) => role_named(word),

@@ -1,40 +1,35 @@
-ghost use Rattle.std.specs.Prelude.{◌≡◌, ◌≢◌, Err, Some, None, IfOk, IfErr};
-ghost use Rattle.clap.specs.Words.{found_of, rows_of};
+ghost use Rattle.std.specs.Prelude.{◌≡◌, IfOk};
 ghost use Rattle.wire_core.specs.Spelling as spelling;
+ghost use Rattle.wire_core.specs.Spelling.{given_to};
 
-use crate::fault::WordsFault;
-use crate::matches::{first, id};
+use crate::matches::id_and_word;
 use clap::ArgMatches;
 use desk_core::Command;
-use std::alloc::Global;
-use text_core::Text;
+use std::alloc::{AllocError, Global};
+
+/// status ID STATUS
+pub(crate) fn status(alloc: Global, given: &ArgMatches<'_>) -> Result<Option<Command>, AllocError>
+    ensures { IfOk result (λ c. c ≡ spelling.status_of (given_to given.now)) }
+{
+    let found = id_and_word(alloc, given, "status")?;
+    Ok(found.map(|(id, status)| Command::SetStatus { id, status }))
+}
 
 /// correspond ID TEXT
-pub(crate) fn correspond(alloc: Global, given: &ArgMatches<'_>) -> Result<Command, WordsFault>
-    ensures ok { IfOk result (λ c. spelling.correspond_of (rows_of (found_of given.now)) ≡ Some c) }
-    ensures bad { result ≡ Err WordsFault.BadWords → spelling.correspond_of (rows_of (found_of given.now)) ≡ None }
-    ensures kinds { IfErr result (λ e. e ≢ WordsFault.NoMemory → e ≡ WordsFault.BadWords) }
+pub(crate) fn correspond(
+    alloc: Global,
+    given: &ArgMatches<'_>,
+) -> Result<Option<Command>, AllocError>
+    ensures { IfOk result (λ c. c ≡ spelling.correspond_of (given_to given.now)) }
 {
-    match (id(given), first(given, "text")) {
-        (Some(id), Some(text)) => Ok(Command::Reply {
-            id,
-            text: Text::new(alloc, text)?,
-        }),
-        _ => Err(WordsFault::BadWords),
-    }
+    let found = id_and_word(alloc, given, "text")?;
+    Ok(found.map(|(id, text)| Command::Reply { id, text }))
 }
 
 /// comment ID TEXT
-pub(crate) fn comment(alloc: Global, given: &ArgMatches<'_>) -> Result<Command, WordsFault>
-    ensures ok { IfOk result (λ c. spelling.comment_of (rows_of (found_of given.now)) ≡ Some c) }
-    ensures bad { result ≡ Err WordsFault.BadWords → spelling.comment_of (rows_of (found_of given.now)) ≡ None }
-    ensures kinds { IfErr result (λ e. e ≢ WordsFault.NoMemory → e ≡ WordsFault.BadWords) }
+pub(crate) fn comment(alloc: Global, given: &ArgMatches<'_>) -> Result<Option<Command>, AllocError>
+    ensures { IfOk result (λ c. c ≡ spelling.comment_of (given_to given.now)) }
 {
-    match (id(given), first(given, "text")) {
-        (Some(id), Some(text)) => Ok(Command::Comment {
-            id,
-            text: Text::new(alloc, text)?,
-        }),
-        _ => Err(WordsFault::BadWords),
-    }
+    let found = id_and_word(alloc, given, "text")?;
+    Ok(found.map(|(id, text)| Command::Comment { id, text }))
 }

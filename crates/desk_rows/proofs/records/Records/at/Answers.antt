@@ -1,17 +1,13 @@
--- what is found among the records is found among their requests
-use Rattle.std.proofs.Common.{◌≡◌, ◌∙◌, ◌==◌, Bor, List, find, Option, Some, None, refl, ap, sym}
-use Rattle.std.specs.Option.{option_map}
-use Rattle.desk_rows.specs.Rows.{request_of}
-use Rattle.desk_rows.specs.declared.records.Record.{Record}
-use Rattle.desk_rows.proofs.Lists.{find-map}
+-- the request with a number stands at the place of the number
+use Rattle.std.proofs.Common.{rules, ◌≡◌, ◌+◌, ◌<◌, length, sym, arith}
+use Rattle.desk_rows.proofs.Numbering.{found_at}
 use Rattle.desk_rows.proofs.records.Records.at.Goals as goal
 
-in_turn : (o : Option (Bor Record)) → option_map (λ r. request_of r.now) o ≡ option_map request_of (option_map (λ r. r.now) o)
-in_turn None = refl
-in_turn (Some r) = refl
-
-pub returns : goal.returns
-returns c =
-    in_turn c.find_request.result
-    ∙ ap (option_map request_of) (c.find_request.ensures ∙ ap (λ (rs : List Record). find (λ r. r.row.id == c.args.id) rs) c.as_slice.ensures.value)
-    ∙ sym (find-map request_of (λ r. r.row.id == c.args.id) c.args.self.now.inner.items)
+pub returns-in-Some : goal.returns-in-Some
+returns-in-Some c =
+    let records = c.args.self.now.inner.items in
+    let place : (c.in-Some.place < length records) × (c.args.id ≡ c.in-Some.place + 1) = search rules in
+    let at : c.args.id ≡ 1 + c.in-Some.place = omega (arith, place.1) in
+    sym
+    (found_at 1 c.args.id records c.args.self.now.numbered c.in-Some.place at place.0
+    c.index.result.now c.index.ensures)

@@ -1,0 +1,6 @@
+use Rattle.wire_core.specs.Table.{desk, subcommand, subcommands}
+use Rattle.wire_core.proofs.table.desk.Goals as goal
+
+pub returns : goal.returns
+unfolding desk subcommand subcommands
+returns c = c.desk_of.ensures

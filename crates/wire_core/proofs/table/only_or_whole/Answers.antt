@@ -1,0 +1,11 @@
+use Rattle.std.proofs.Common.{Option, Some, None, subst}
+use Rattle.clap.specs.declared.builder.command.Command.{Command}
+use Rattle.wire_core.specs.Table.{IsNamed, root}
+use Rattle.wire_core.proofs.Named.{some_only}
+use Rattle.wire_core.proofs.table.only_or_whole.Goals as goal
+
+pub returns-in-Some : goal.returns-in-Some
+returns-in-Some c named given =
+    let some = subst (λ (o : Option Command). IsNamed named o) c.in-Some.is given in
+    some_only named c.in-Some.sub c.with_subcommand.result some
+    (λ b is_b. c.with_subcommand.ensures root b c.root_command.ensures is_b)
