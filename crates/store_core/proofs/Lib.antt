@@ -1,0 +1,16 @@
+pub mod BackLemmas
+pub mod ChangeLemmas
+pub mod KeptLemmas
+pub mod LastLemmas
+pub mod MakeLemmas
+pub mod OrderLemmas
+pub mod PickedLemmas
+pub mod ReadLemmas
+pub mod ReadingLemmas
+pub mod SortedLemmas
+pub mod StandLemmas
+pub mod Statements
+pub mod TableLemmas
+pub mod TestLemmas
+pub mod VersionLemmas
+pub mod WriteLemmas

@@ -1,0 +1,11 @@
+pub mod Contents
+pub mod Kept
+pub mod Making
+pub mod Orders
+pub mod Picked
+pub mod Queries
+pub mod Reading
+pub mod Selection
+pub mod Spelling
+pub mod Stands
+pub mod Tables

@@ -1,0 +1,3 @@
+//! Reading: one query each.
+
+pub(crate) mod queues;
