@@ -1,5 +1,5 @@
 -- A row that shows one value shows no other.
-use Rattle.std.proofs.Common.{◌≡◌, ℕ, List, Option, Some, None, refl, sym, ap, ◌∙◌}
+use Rattle.std.proofs.Common.{get_or, ◌∷◌, [], ◌≡◌, ℕ, List, Option, Some, None, refl, sym, ap, ◌∙◌}
 use Rattle.sqlite.specs.declared.types.Value.TheVariants.{Text as Words}
 use Rattle.sqlite.specs.Values.{or_null}
 use Rattle.desk_core.specs.declared.rows.QueueRow.{QueueRow}
@@ -30,44 +30,60 @@ same_option (Some x) (Some y) e = let same : x ≡ y = cc in ap Some same
 same_count : {m n : ℕ} → count_value m ≡ count_value n → m ≡ n
 same_count e = cc
 
+-- the value that has a number
+abbrev turn_of : ℕ → Turn
+turn_of n = get_or (turn.Desk ∷ turn.Requestor ∷ []) n turn.Desk
+
+abbrev role_of : ℕ → WatchRole
+role_of n = get_or (role.Cc ∷ role.Requestor ∷ role.Cc ∷ role.AdminCc ∷ []) n role.Cc
+
+abbrev link_kind_of : ℕ → LinkKind
+link_kind_of n =
+    get_or (kind.RefersTo ∷ kind.DependsOn ∷ kind.MemberOf ∷ kind.RefersTo ∷ []) n kind.RefersTo
+
+abbrev entry_kind_of : ℕ → EntryKind
+entry_kind_of n =
+    get_or (what.Create ∷ what.Create ∷ what.Status ∷ what.Owner ∷ what.Reply ∷ what.Comment
+        ∷ what.Watch ∷ what.Unwatch ∷ what.Link ∷ what.Unlink ∷ what.Level ∷ []) n what.Create
+
+turn_back : (a : Turn) → turn_of (turn_number a) ≡ a
+turn_back turn.Desk = refl
+turn_back turn.Requestor = refl
+
+role_back : (a : WatchRole) → role_of (role_number a) ≡ a
+role_back role.Requestor = refl
+role_back role.Cc = refl
+role_back role.AdminCc = refl
+
+link_kind_back : (a : LinkKind) → link_kind_of (kind_number a) ≡ a
+link_kind_back kind.DependsOn = refl
+link_kind_back kind.MemberOf = refl
+link_kind_back kind.RefersTo = refl
+
+entry_kind_back : (a : EntryKind) → entry_kind_of (entry_kind_number a) ≡ a
+entry_kind_back what.Create = refl
+entry_kind_back what.Status = refl
+entry_kind_back what.Owner = refl
+entry_kind_back what.Reply = refl
+entry_kind_back what.Comment = refl
+entry_kind_back what.Watch = refl
+entry_kind_back what.Unwatch = refl
+entry_kind_back what.Link = refl
+entry_kind_back what.Unlink = refl
+entry_kind_back what.Level = refl
+
+-- so no two values have one number
 same_turn : (a b : Turn) → turn_number a ≡ turn_number b → a ≡ b
-same_turn turn.Desk turn.Desk e = refl
-same_turn turn.Desk turn.Requestor e = absurd (cc)
-same_turn turn.Requestor turn.Desk e = absurd (cc)
-same_turn turn.Requestor turn.Requestor e = refl
+same_turn a b e = sym (turn_back a) ∙ ap turn_of e ∙ turn_back b
 
 same_role : (a b : WatchRole) → role_number a ≡ role_number b → a ≡ b
-same_role role.Requestor role.Requestor e = refl
-same_role role.Requestor role.Cc e = absurd (cc)
-same_role role.Requestor role.AdminCc e = absurd (cc)
-same_role role.Cc role.Requestor e = absurd (cc)
-same_role role.Cc role.Cc e = refl
-same_role role.Cc role.AdminCc e = absurd (cc)
-same_role role.AdminCc role.Requestor e = absurd (cc)
-same_role role.AdminCc role.Cc e = absurd (cc)
-same_role role.AdminCc role.AdminCc e = refl
+same_role a b e = sym (role_back a) ∙ ap role_of e ∙ role_back b
 
 same_link : (a b : LinkKind) → kind_number a ≡ kind_number b → a ≡ b
-same_link kind.DependsOn kind.DependsOn e = refl
-same_link kind.DependsOn kind.MemberOf e = absurd (cc)
-same_link kind.DependsOn kind.RefersTo e = absurd (cc)
-same_link kind.MemberOf kind.DependsOn e = absurd (cc)
-same_link kind.MemberOf kind.MemberOf e = refl
-same_link kind.MemberOf kind.RefersTo e = absurd (cc)
-same_link kind.RefersTo kind.DependsOn e = absurd (cc)
-same_link kind.RefersTo kind.MemberOf e = absurd (cc)
-same_link kind.RefersTo kind.RefersTo e = refl
+same_link a b e = sym (link_kind_back a) ∙ ap link_kind_of e ∙ link_kind_back b
 
 same_kind : (a b : EntryKind) → entry_kind_number a ≡ entry_kind_number b → a ≡ b
-same_kind what.Create what.Create e = refl
-same_kind what.Create what.Status e = absurd (cc)
-same_kind what.Create what.Level e = absurd (cc)
-same_kind what.Status what.Create e = absurd (cc)
-same_kind what.Status what.Status e = refl
-same_kind what.Status what.Level e = absurd (cc)
-same_kind what.Level what.Create e = absurd (cc)
-same_kind what.Level what.Status e = absurd (cc)
-same_kind what.Level what.Level e = refl
+same_kind a b e = sym (entry_kind_back a) ∙ ap entry_kind_of e ∙ entry_kind_back b
 
 abbrev make_queue : List ℕ → List ℕ → Option (List ℕ) → QueueRow
 make_queue x0 x1 x2 = record { name = x0; lifecycle = x1; level = x2 }

@@ -1,7 +1,8 @@
 -- From the rows that are picked to the values that are shown, of any table.
 use Rattle.std.proofs.Common.{◌≡◌, ◌+◌, ◌<◌, ℕ, zero, suc, Bool, false, List, [], ◌∷◌, ◌++◌, map}
 use Rattle.std.proofs.Common.{filter, take, length, get_or, refl, sym, ap, ap₂, subst, subst₂, ◌∙◌}
-use Rattle.std.proofs.Common.{IsPermutation, Ordering, arith}
+use Rattle.std.proofs.Common.{IsPermutation, Ordering, arith, Option, None, Some}
+use Rattle.std.specs.Option.{option_to_list}
 use Rattle.std.specs.Prelude.{IsSorted}
 use Rattle.std.specs.List.{AllZip}
 use Rattle.std.specs.Ordering.{is_lt}
@@ -102,31 +103,9 @@ module _ {K X : Type 0} (row : K → Row) (value : K → X) (view : X → Row) (
 
 module _ {X : Type 0} (view : X → Row) (Reads : Row → X → Type 0)
     (reads_back : (a b : X) → Reads (view a) b → b ≡ a) where
-  unmapped : (vs : List X) → map view vs ≡ [] → vs ≡ []
-  unmapped [] e = refl
-  unmapped (v ∷ vs) e = absurd (cc)
-
   no_permutation : (xs : List X) → IsPermutation xs [] → xs ≡ []
   no_permutation [] h = refl
   no_permutation (x ∷ xs) h = absurd (omega (arith, length_permutation (x ∷ xs) [] h))
-
-  pub none_shown : (xs : List X) (rows : List Row) → Shows view xs rows → rows ≡ [] → [] ≡ xs
-  none_shown xs rows h none = sym (no_permutation xs
-      (subst (IsPermutation xs) (unmapped h.values (sym h.are ∙ none)) h.same))
-
-  mapped_one : (row : Row) (vs : List X) → map view vs ≡ row ∷ [] → (x : X) × (vs ≡ x ∷ [])
-      × (view x ≡ row)
-  mapped_one row [] e = absurd (cc)
-  mapped_one row (x ∷ []) e = (x, refl, cc)
-  mapped_one row (x ∷ y ∷ vs) e = absurd (let more : map view (y ∷ vs) ≡ [] = cc in cc)
-
-  pub one_shown : (xs : List X) (rows : List Row) (row : Row) (v : X) → Shows view xs rows
-      → rows ≡ row ∷ [] → Reads row v → v ∷ [] ≡ xs
-  one_shown xs rows row v h one reads =
-      let it = mapped_one row h.values (sym h.are ∙ one) in
-      let same : v ≡ it.0 = reads_back it.0 v (subst (λ r. Reads r v) (sym it.2) reads) in
-      ap (λ x. x ∷ []) same ∙ sym (one_permutation it.0 xs
-          (IsPermutation-sym xs _ (subst (IsPermutation xs) it.1 h.same)))
 
   read_same : (xs vs : List X) → AllZip Reads (map view xs) vs → xs ≡ vs
   read_same [] [] zip = refl
@@ -140,6 +119,18 @@ module _ {X : Type 0} (view : X → Row) (Reads : Row → X → Type 0)
       → Lists cmp view xs rows → AllZip Reads rows vs → AreOrdered cmp xs vs
   all_read cmp xs rows vs h zip = subst (AreOrdered cmp xs)
       (read_same h.values vs (subst (λ rs. AllZip Reads rs vs) h.are zip)) h.ordered
+
+  -- the one value that was read, or none, is what is shown
+  pub one_read : (xs : List X) (rows : List Row) (v : Option X) → Shows view xs rows
+      → AllZip Reads rows (option_to_list v) → option_to_list v ≡ xs
+  one_read xs rows v h zip = only v (subst (IsPermutation xs) values h.same)
+    where
+      values : h.values ≡ option_to_list v
+      values = read_same h.values (option_to_list v)
+          (subst (λ rs. AllZip Reads rs (option_to_list v)) h.are zip)
+      only : (o : Option X) → IsPermutation xs (option_to_list o) → option_to_list o ≡ xs
+      only None same = sym (no_permutation xs same)
+      only (Some x) same = sym (one_permutation x xs (IsPermutation-sym xs (x ∷ []) same))
 
 pub read_more : {X : Type 0} (Reads : Row → X → Type 0) (rows : List Row) (vs : List X) (i : ℕ)
     (row : Row) (v : X) (now : List X) → i < length rows → row ≡ get_or rows i row

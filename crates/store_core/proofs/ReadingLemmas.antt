@@ -337,3 +337,23 @@ lists_queues d old new clean stand c rows h =
     (lists_values (filed queue_columns) value_of queue_columns 1 [] queue_shown queue_order []
         d.queues (old.now.trees 1) rows (λ _. true) (λ k. refl) (λ k. refl) t.queues p by_name
         name_order_is)
+
+pub table_queues : (old new : State) → (HasCleanDisk new → HasCleanDisk old) → HasTables old
+    → HasCleanDisk new → (rows : List Row) → Shown queues_text [] old new rows → (row : Row)
+    → Has rows row → (r : Row) × Has (old.now.trees 1) r × (row ≡ shows queue_shown [] r)
+table_queues old new clean has c rows h row there =
+    let was_open = shown_open queues_text [] old new rows h in
+    has_picked 1 [] queue_shown queue_order [] (old.now.trees 1) rows
+    (picked_by queues_text [] old new desk_schema (has (clean c) was_open) 1 [] queue_shown queue_order _
+        queues_is.0 queues_plain queues_is.1 refl rows h) row there
+
+pub table_named : (name : List ℕ) (old new : State) → (HasCleanDisk new → HasCleanDisk old)
+    → HasTables old → HasCleanDisk new → (rows : List Row)
+    → Shown queue_named_text (Words name ∷ []) old new rows → (row : Row)
+    → Has rows row → (r : Row) × Has (old.now.trees 1) r × (row ≡ shows queue_shown [] r)
+table_named name old new clean has c rows h row there =
+    let params = Words name ∷ [] in
+    let was_open = shown_open queue_named_text params old new rows h in
+    has_picked 1 named_test queue_shown [] params (old.now.trees 1) rows
+    (picked_by queue_named_text params old new desk_schema (has (clean c) was_open) 1 named_test
+        queue_shown [] _ queue_named_is.0 queue_named_plain queue_named_is.1 refl rows h) row there

@@ -19,13 +19,12 @@ use Rattle.sqlite.specs.Store.{Ghosts}
 use Rattle.sqlite.specs.Held.{Held, state}
 use Rattle.std.proofs.Common.{OnOk, OnErr, [], ◌∷◌, ◌++◌, ◌+◌, ◌<◌, length, take, get_or}
 use Rattle.std.proofs.lemmas.List.{take_more}
-use Rattle.desk_core.specs.declared.rows.Entry.{Entry}
-use Rattle.store_core.specs.Contents.{add_entry, add_entries}
+use Rattle.std.specs.Prelude.{fold}
+use Rattle.store_core.specs.Contents.{Contents}
 use Rattle.store_core.specs.Making.{AreEmpty, WasBlank, IsBlank, Made}
 use Rattle.store_core.specs.Stands.{HasTables}
 use Rattle.sqlite.specs.Schema.{Schema}
 use Rattle.store_core.specs.Tables.{desk_schema, no_schema}
-use Rattle.store_core.specs.Contents.{Contents}
 use Rattle.store_core.specs.Stands.{Tables, Stand, Within, Rests, KeepsBase, Ran}
 
 -- what stands for a desk before a step that changes nothing, or is rolled back, stands for it
@@ -158,17 +157,17 @@ pub begins : {S : Type 0} (g : Ghosts S) (old tx : Held S) (d : Contents)
 begins g old tx d is stand = subst (λ h. Within d d (state g h)) (sym is) (λ c o. let t =
     stand c o in (t.0, t.1, refl))
 
-with_last : (d : Contents) (qs : List Entry) (q : Entry)
-    → add_entries d (qs ++ q ∷ []) ≡ add_entry (add_entries d qs) q
-with_last d [] q = refl
-with_last d (x ∷ qs) q = with_last (add_entry d x) qs q
+fold_last : {A X : Type 0} (f : A → X → A) (a : A) (xs : List X) (x : X)
+    → fold f a (xs ++ x ∷ []) ≡ f (fold f a xs) x
+fold_last f a [] x = refl
+fold_last f a (y ∷ ys) x = fold_last f (f a y) ys x
 
 -- a loop's step
-pub with_more : (d : Contents) (rows : List Entry) (i : ℕ) (x : Entry) → i < length rows
-    → x ≡ get_or rows i x → add_entries d (take (i + 1) rows) ≡ add_entry
-    (add_entries d (take i rows)) x
-with_more d rows i x h is = ap (add_entries d) (take_more rows i x h
-    ∙ ap (λ y. take i rows ++ y ∷ []) (sym is)) ∙ with_last d (take i rows) x
+pub fold_more : {A X : Type 0} (f : A → X → A) (a : A) (xs : List X) (i : ℕ) (x : X)
+    → i < length xs → x ≡ get_or xs i x → fold f a (take (i + 1) xs) ≡ f (fold f a (take i xs)) x
+fold_more f a xs i x low is =
+    ap (fold f a) (take_more xs i x low ∙ ap (λ y. take i xs ++ y ∷ []) (sym is))
+    ∙ fold_last f a (take i xs) x
 
 pub shown_open : (sql : List ℕ) (params : Row) (old new : State) (rows : List Row)
     → Shown sql params old new rows → IsTrue old.is_open

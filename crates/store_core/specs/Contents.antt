@@ -1,7 +1,7 @@
 -- What the tables of a desk hold: a version, and the rows of five lists, in no order that matters.
 use Rattle.std.specs.Prelude.{ℕ, List, [], ◌∷◌, filter, flat_map, map, not}
 use Rattle.desk_core.specs.Desk.{Desk, Request}
-use Rattle.desk_core.specs.Watchers as desk
+use Rattle.desk_core.specs.Watchers.{watchers_of}
 use Rattle.desk_core.specs.declared.rows.Entry.{Entry}
 use Rattle.desk_core.specs.declared.rows.LinkRow.{LinkRow}
 use Rattle.desk_core.specs.declared.rows.QueueRow.{QueueRow}
@@ -22,7 +22,7 @@ abbrev pub request_rows : Desk → List RequestRow
 request_rows desk = map (λ r. r.row) desk.requests
 
 abbrev pub watchers : Desk → List Watcher
-watchers desk = flat_map desk.watchers_of desk.requests
+watchers desk = flat_map watchers_of desk.requests
 
 abbrev pub entries : Desk → List Entry
 entries desk = flat_map (λ r. r.entries) desk.requests

@@ -1,3 +1,4 @@
+pub mod Calls
 pub mod Contents
 pub mod Kept
 pub mod Making
@@ -5,6 +6,7 @@ pub mod Orders
 pub mod Picked
 pub mod Queries
 pub mod Reading
+pub mod Seen
 pub mod Selection
 pub mod Spelling
 pub mod Stands

@@ -1,9 +1,16 @@
-//! The tables of a desk: how its rows are kept, read and changed. No other crate names a table or a statement.
+//! The tables of a desk: how its rows are kept, read and changed. No other crate names a table or a
+//! statement.
 #![tactic(auto)]
 
-pub mod columns;
+mod columns;
 pub mod fault;
-pub mod stored;
+mod lists;
+mod query;
+mod reads;
+pub mod store;
+mod stored;
+mod transaction;
+mod writes;
 
 pub use fault::StoreFault;
-pub use stored::Stored;
+pub use store::Store;

@@ -1,5 +1,5 @@
 //! A query, and the values that its rows show.
-ghost use Rattle.std.specs.Prelude.{◌≡◌, false, IfOk, IfErr};
+ghost use Rattle.std.specs.Prelude.{◌≡◌, false, option_to_list, IfOk, IfErr};
 ghost use Rattle.std.specs.List.{AllZip};
 ghost use Rattle.sqlite.specs.Given.{IsPlain};
 ghost use Rattle.sqlite.specs.Held.{state};
@@ -53,4 +53,18 @@ pub(crate) fn read_all<T: Stored + Drop>(alloc: Global, rows: &[Row]) -> Result<
         }
     }
     Ok(values)
+}
+
+/// The one value that the rows show, or none. `Mismatch` where the row shows none, `Refused` where
+/// there are more rows.
+pub(crate) fn read_one<T: Stored + Drop>(rows: &[Row]) -> Result<Option<T>, StoreFault>
+    ensures ok { IfOk result (λ x. AllZip T.Stored.reads rows.now (option_to_list x)) }
+    ensures mismatch { IfErr result (λ e. e ≡ StoreFault.Mismatch →
+        (r : _) × Has rows.now r × ¬ T.Stored.is_value r) }
+{
+    match rows {
+        [] => Ok(None),
+        [row] => Ok(Some(T::read(row)?)),
+        _ => Err(StoreFault::Refused),
+    }
 }

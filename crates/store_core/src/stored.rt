@@ -15,7 +15,7 @@ use desk_core::{Entry, LinkRow, QueueRow, RequestRow, Watcher};
 use sqlite::Row;
 
 /// A value that a row of a query shows.
-pub trait Stored: Sized {
+pub(crate) trait Stored: Sized {
     /// The row shows the value.
     ghost reads: { Columns → Self → Type 0 };
 

@@ -12,8 +12,7 @@ ghost use Rattle.store_core.specs.declared.fault.StoreFault.{StoreFault};
 
 use crate::columns::words;
 use crate::fault::StoreFault;
-use crate::query::{read_all, select};
-use crate::stored::Stored;
+use crate::query::{read_all, read_one, select};
 use desk_core::QueueRow;
 use sqlite::{Alter, Connection, Row};
 use std::alloc::Global;
@@ -83,9 +82,5 @@ pub(crate) fn queue_named<S: Alter>(
     ensures honest { WasClean (state S.Store conn.old) (state S.Store conn.new) }
 {
     let rows = rows_named(conn, name)?;
-    match rows.as_slice() {
-        [] => Ok(None),
-        [row] => Ok(Some(QueueRow::read(row)?)),
-        _ => Err(StoreFault::Refused),
-    }
+    read_one(rows.as_slice())
 }

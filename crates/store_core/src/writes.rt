@@ -1,0 +1,3 @@
+//! Writing: one statement each, in a transaction.
+
+pub(crate) mod queues;
