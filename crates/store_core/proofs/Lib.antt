@@ -1,3 +1,4 @@
+pub mod Alike
 pub mod BackLemmas
 pub mod ChangeLemmas
 pub mod KeptLemmas
@@ -7,6 +8,8 @@ pub mod OrderLemmas
 pub mod PickedLemmas
 pub mod ReadLemmas
 pub mod ReadingLemmas
+pub mod Revised
+pub mod RoleRows
 pub mod SortedLemmas
 pub mod StandLemmas
 pub mod Statements
