@@ -36,7 +36,7 @@ module _ {X : Type 0} (lower : X → X → Bool) (cmp : X → X → Ordering) (t
       let first : cmp x y ≡ Less = lt_is (cmp x y) (sym (same x y) ∙ parts.0) in
       let rest = all_rise (y ∷ ys) parts.1 in
       let later = all_both (λ z. cmp y z ≡ Less) (λ z. cmp y z ≡ Less) (λ z. cmp x z ≡ Less)
-          (λ z low again. total.trans x y z first low) ys rest.0 rest.0 in
+      (λ z low again. total.trans x y z first low) ys rest.0 rest.0 in
       ((first, later), rest)
 
 pub name_total : IsTotalOrder by_name

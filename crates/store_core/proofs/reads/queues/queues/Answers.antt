@@ -15,6 +15,6 @@ returns-clause-listed g c d stand clean =
 pub returns-clause-mismatch : goal.returns-clause-mismatch
 returns-clause-mismatch g c =
     if_err c.read_all.result (λ e why same desk clean.
-        let it = why same in let at = c.in_ok-rows.ensures.of_table desk clean it.0 (rw c.as_slice.ensures.value at it.1) in
-        (at.0, at.1, λ is. it.2 (subst IsQueueRow (sym at.2) is)))
+    let it = why same in let at = c.in_ok-rows.ensures.of_table desk clean it.0 (rw c.as_slice.ensures.value at it.1) in
+    (at.0, at.1, λ is. it.2 (subst IsQueueRow (sym at.2) is)))
     c.read_all.ensures.mismatch
