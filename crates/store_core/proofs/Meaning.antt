@@ -10,7 +10,8 @@ use Rattle.store_core.specs.Tables.{desk_schema}
 
 -- it is this query, which reads alone
 pub record Selects (sql : List ℕ) (query : Query) (names : List (List ℕ)) : Type 0 where
-  pub is : command_of (understood desk_schema sql) ≡ Select (record { lets = []; body = query }) names
+  pub is : command_of (understood desk_schema sql) ≡ Select (record { lets = []; body = query })
+      names
   pub plain : IsPlain (understood desk_schema sql)
   pub unlisted : reads_listing desk_schema sql ≡ false
 

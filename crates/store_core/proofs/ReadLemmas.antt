@@ -68,7 +68,8 @@ module _ {K X : Type 0} (row : K → Row) (value : K → X) (view : X → Row) (
 
     values_are : rows ≡ map view (map value back.0)
     values_are = picks.shown ∙ ap (map (shows project params)) back.2
-        ∙ map-map (shows project params) row back.0 ∙ mapped back.0 ∙ sym (map-map view value back.0)
+        ∙ map-map (shows project params) row back.0 ∙ mapped back.0
+        ∙ sym (map-map view value back.0)
       where
         mapped : (ks : List K) → map (λ k. shows project params (row k)) ks ≡ map
             (λ k. view (value k)) ks

@@ -1,5 +1,5 @@
 -- The tables as sqlite describes them.
-use Rattle.std.specs.Prelude.{true, false, [], ◌∷◌, Some, None, codes, List, ℕ, pos}
+use Rattle.std.specs.Prelude.{true, false, [], ◌∷◌, ◌++◌, Some, None, codes, List, ℕ, pos}
 use Rattle.sqlite.specs.Collation.TheVariants.{Binary}
 use Rattle.sqlite_value.specs.Keys.{plain}
 use Rattle.sqlite.specs.declared.types.Value.TheVariants.{Null, Int}
@@ -17,28 +17,40 @@ use Rattle.sqlite_sql.specs.declared.ops.BinaryOp.TheVariants.{Compare}
 use Rattle.sqlite_sql.specs.declared.ops.CompareOp.TheVariants.{Eq}
 
 abbrev pub meta_text : List ℕ
-meta_text = codes
-    "CREATE TABLE IF NOT EXISTS meta (one INTEGER PRIMARY KEY CHECK (one = 1), version INTEGER NOT NULL) STRICT"
+meta_text =
+    codes "CREATE TABLE IF NOT EXISTS meta (one INTEGER PRIMARY KEY CHECK (one = 1), version "
+    ++ codes "INTEGER NOT NULL) STRICT"
 
 abbrev pub queue_text : List ℕ
-queue_text = codes
-    "CREATE TABLE IF NOT EXISTS queue (name TEXT NOT NULL PRIMARY KEY, lifecycle TEXT NOT NULL, level TEXT) STRICT"
+queue_text =
+    codes "CREATE TABLE IF NOT EXISTS queue (name TEXT NOT NULL PRIMARY KEY, lifecycle TEXT "
+    ++ codes "NOT NULL, level TEXT) STRICT"
 
 abbrev pub request_text : List ℕ
 request_text =
-    codes "CREATE TABLE IF NOT EXISTS request (id INTEGER PRIMARY KEY, queue TEXT NOT NULL REFERENCES queue(name), subject TEXT NOT NULL, status TEXT NOT NULL, owner TEXT, level TEXT, created INTEGER NOT NULL, opened INTEGER NOT NULL, turn INTEGER NOT NULL, since INTEGER NOT NULL, due INTEGER) STRICT"
+    codes "CREATE TABLE IF NOT EXISTS request (id INTEGER PRIMARY KEY, queue TEXT NOT NULL "
+    ++ codes "REFERENCES queue(name), subject TEXT NOT NULL, status TEXT NOT NULL, owner TEXT, "
+    ++ codes "level TEXT, created INTEGER NOT NULL, opened INTEGER NOT NULL, turn INTEGER NOT NULL, "
+    ++ codes "since INTEGER NOT NULL, due INTEGER) STRICT"
 
 abbrev pub watcher_text : List ℕ
 watcher_text =
-    codes "CREATE TABLE IF NOT EXISTS watcher (request INTEGER NOT NULL REFERENCES request(id), role INTEGER NOT NULL, person TEXT NOT NULL, PRIMARY KEY (request, role, person)) STRICT"
+    codes "CREATE TABLE IF NOT EXISTS watcher (request INTEGER NOT NULL REFERENCES request(id), "
+    ++ codes "role INTEGER NOT NULL, person TEXT NOT NULL, PRIMARY KEY (request, role, person)) "
+    ++ codes "STRICT"
 
 abbrev pub link_text : List ℕ
-link_text = codes
-    "CREATE TABLE IF NOT EXISTS link (source INTEGER NOT NULL REFERENCES request(id), kind INTEGER NOT NULL, target INTEGER NOT NULL REFERENCES request(id), PRIMARY KEY (source, kind, target)) STRICT"
+link_text =
+    codes "CREATE TABLE IF NOT EXISTS link (source INTEGER NOT NULL REFERENCES request(id), "
+    ++ codes "kind INTEGER NOT NULL, target INTEGER NOT NULL REFERENCES request(id), PRIMARY KEY "
+    ++ codes "(source, kind, target)) STRICT"
 
 abbrev pub entry_text : List ℕ
-entry_text = codes
-    "CREATE TABLE IF NOT EXISTS entry (request INTEGER NOT NULL REFERENCES request(id), number INTEGER NOT NULL, moment INTEGER NOT NULL, actor TEXT NOT NULL, kind INTEGER NOT NULL, head TEXT NOT NULL, body TEXT NOT NULL, PRIMARY KEY (request, number)) STRICT"
+entry_text =
+    codes "CREATE TABLE IF NOT EXISTS entry (request INTEGER NOT NULL REFERENCES request(id), "
+    ++ codes "number INTEGER NOT NULL, moment INTEGER NOT NULL, actor TEXT NOT NULL, kind "
+    ++ codes "INTEGER NOT NULL, head TEXT NOT NULL, body TEXT NOT NULL, PRIMARY KEY (request, "
+    ++ codes "number)) STRICT"
 
 abbrev pub no_stamps : Stamps
 no_stamps = record { places = []; terms = []; formats = [] }
@@ -49,8 +61,7 @@ needed name kind = record {
   kind = kind;
   is_strict = true;
   not_null = true;
-  default =
-      Null;
+  default = Null;
   collation = Binary;
 }
 
