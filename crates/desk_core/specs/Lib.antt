@@ -19,6 +19,7 @@ pub mod Plan
 pub mod Reading
 pub mod Refusals
 pub mod Rights
+pub mod Scope
 pub mod Step
 pub mod View
 pub mod Watchers

@@ -1,4 +1,10 @@
-use crate::rows::{LinkKind, WatchRole};
+ghost use Rattle.std.specs.Prelude.{◌≡◌};
+ghost use Rattle.desk_core.specs.Desk.{Desk};
+ghost use Rattle.desk_core.specs.Scope.{seen_in};
+ghost use Rattle.desk_core.specs.Step.{facts_of};
+
+use crate::rows::{LinkKind, LinkRow, WatchRole};
+use crate::scope::Scope;
 use text_core::{Text, Texts};
 
 /// What a caller asks of the desk. Names and texts are as they were given: a command may be refused for each.
@@ -89,4 +95,39 @@ pub enum Command {
     History {
         id: u32,
     },
+}
+
+impl Command {
+    /// What the command looks at on a desk.
+    pub fn scope(&self) -> Scope<'_>
+        ensures { (desk : Desk) → seen_in result desk ≡ facts_of self.now desk }
+    {
+        match self {
+            Command::OpenQueue { queue, .. } => Scope::Queue(queue),
+            Command::Create { queue, .. } => Scope::Queue(queue),
+            Command::SetStatus { id, .. } => Scope::Dependencies(*id),
+            Command::Take { id } => Scope::Request(*id),
+            Command::Steal { id } => Scope::Request(*id),
+            Command::Untake { id } => Scope::Request(*id),
+            Command::Give { id, .. } => Scope::Request(*id),
+            Command::Reply { id, .. } => Scope::Request(*id),
+            Command::Comment { id, .. } => Scope::Request(*id),
+            Command::Watch { id, .. } => Scope::Request(*id),
+            Command::Unwatch { id, .. } => Scope::Request(*id),
+            Command::Link { id, kind, other } => Scope::Link(LinkRow {
+                source: *id,
+                kind: *kind,
+                target: *other,
+            }),
+            Command::Unlink { id, kind, other } => Scope::Link(LinkRow {
+                source: *id,
+                kind: *kind,
+                target: *other,
+            }),
+            Command::SetLevel { id, .. } => Scope::Request(*id),
+            Command::Queues => Scope::Nothing,
+            Command::Show { id } => Scope::Request(*id),
+            Command::History { id } => Scope::Request(*id),
+        }
+    }
 }

@@ -15,6 +15,7 @@ pub mod names;
 pub mod refusal;
 pub mod rights;
 pub mod rows;
+pub mod scope;
 
 pub use answer::{Answer, Links, Shown};
 pub use change::Change;
@@ -29,3 +30,4 @@ pub use rights::{may_show, sees_queue};
 pub use rows::{
     Entry, EntryKind, LinkKind, LinkRow, QueueRow, RequestRow, Turn, WatchRole, Watcher,
 };
+pub use scope::Scope;

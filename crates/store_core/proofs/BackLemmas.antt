@@ -44,7 +44,7 @@ link_kind_of n =
 abbrev entry_kind_of : ℕ → EntryKind
 entry_kind_of n =
     get_or (what.Create ∷ what.Create ∷ what.Status ∷ what.Owner ∷ what.Reply ∷ what.Comment
-        ∷ what.Watch ∷ what.Unwatch ∷ what.Link ∷ what.Unlink ∷ what.Level ∷ []) n what.Create
+    ∷ what.Watch ∷ what.Unwatch ∷ what.Link ∷ what.Unlink ∷ what.Level ∷ []) n what.Create
 
 turn_back : (a : Turn) → turn_of (turn_number a) ≡ a
 turn_back turn.Desk = refl
@@ -99,8 +99,19 @@ queue_back a b h =
 
 abbrev make_request : ℕ → List ℕ → List ℕ → List ℕ → Option (List ℕ) → Option (List ℕ) → ℕ → ℕ
     → Turn → ℕ → RequestRow
-make_request x0 x1 x2 x3 x4 x5 x6 x7 x8 x9 = record { id = x0; queue = x1; subject = x2; status =
-    x3; owner = x4; level = x5; created = x6; opened = x7; turn = x8; since = x9 }
+make_request x0 x1 x2 x3 x4 x5 x6 x7 x8 x9 = record {
+  id = x0;
+  queue = x1;
+  subject = x2;
+  status =
+      x3;
+  owner = x4;
+  level = x5;
+  created = x6;
+  opened = x7;
+  turn = x8;
+  since = x9;
+}
 
 pub request_back : (a b : RequestRow) → ReadsRequest (request_shown a) b → b ≡ a
 request_back a b h =
@@ -115,25 +126,25 @@ request_back a b h =
     let turn : b.turn ≡ a.turn = same_turn b.turn a.turn (same_count (sym h.turn)) in
     let since : b.since ≡ a.since = same_count (sym h.since) in
     ap (λ v. make_request v b.queue b.subject b.status b.owner b.level b.created b.opened b.turn
-        b.since) id
+    b.since) id
     ∙ ap (λ v. make_request a.id v b.subject b.status b.owner b.level b.created b.opened b.turn
-        b.since) queue
+    b.since) queue
     ∙ ap (λ v. make_request a.id a.queue v b.status b.owner b.level b.created b.opened b.turn
-        b.since) subject
+    b.since) subject
     ∙ ap (λ v. make_request a.id a.queue a.subject v b.owner b.level b.created b.opened b.turn
-        b.since) status
+    b.since) status
     ∙ ap (λ v. make_request a.id a.queue a.subject a.status v b.level b.created b.opened b.turn
-        b.since) owner
+    b.since) owner
     ∙ ap (λ v. make_request a.id a.queue a.subject a.status a.owner v b.created b.opened b.turn
-        b.since) level
+    b.since) level
     ∙ ap (λ v. make_request a.id a.queue a.subject a.status a.owner a.level v b.opened b.turn
-        b.since) created
+    b.since) created
     ∙ ap (λ v. make_request a.id a.queue a.subject a.status a.owner a.level a.created v b.turn
-        b.since) opened
+    b.since) opened
     ∙ ap (λ v. make_request a.id a.queue a.subject a.status a.owner a.level a.created a.opened v
-        b.since) turn
+    b.since) turn
     ∙ ap (λ v. make_request a.id a.queue a.subject a.status a.owner a.level a.created a.opened
-        a.turn v) since
+    a.turn v) since
 
 abbrev make_watcher : ℕ → WatchRole → List ℕ → Watcher
 make_watcher x0 x1 x2 = record { id = x0; role = x1; person = x2 }
@@ -160,8 +171,16 @@ link_back a b h =
     ∙ ap (λ v. make_link a.source a.kind v) target
 
 abbrev make_entry : ℕ → ℕ → ℕ → List ℕ → EntryKind → List ℕ → List ℕ → Entry
-make_entry x0 x1 x2 x3 x4 x5 x6 = record { id = x0; number = x1; moment = x2; actor = x3; kind =
-    x4; head = x5; body = x6 }
+make_entry x0 x1 x2 x3 x4 x5 x6 = record {
+  id = x0;
+  number = x1;
+  moment = x2;
+  actor = x3;
+  kind =
+      x4;
+  head = x5;
+  body = x6;
+}
 
 pub entry_back : (a b : Entry) → ReadsEntry (entry_columns a) b → b ≡ a
 entry_back a b h =

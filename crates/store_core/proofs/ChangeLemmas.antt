@@ -27,7 +27,7 @@ use Rattle.sqlite.specs.Source.TheVariants.{Values}
 use Rattle.sqlite.specs.Command.TheVariants.{Insert, Update, Delete}
 use Rattle.sqlite.specs.Listing.{understood}
 use Rattle.sqlite.specs.Program.{overlay}
-use Rattle.sqlite.proofs.Callers.{IsPlain, command_of, runs_as, statement_of, one_step}
+use Rattle.sqlite.proofs.Callers.{runs_as, statement_of, one_step}
 use Rattle.sqlite.proofs.Callers.{one_permutation}
 use Rattle.sqlite_rules.specs.Calls.{ids_of}
 use Rattle.sqlite_rules.specs.Action.{works, Writes as Goes}
@@ -38,6 +38,7 @@ use Rattle.store_core.specs.Tables.{desk_schema}
 use Rattle.store_core.specs.Queries.{reads}
 use Rattle.store_core.specs.Picked.{passes, shows, Picks}
 use Rattle.store_core.proofs.KeptLemmas.{one_of}
+use Rattle.store_core.proofs.Meaning.{Changes}
 use Rattle.store_core.proofs.PickedLemmas.{picks}
 use Rattle.store_core.proofs.WriteLemmas.{inserts, inserting, updates, deletes}
 
@@ -80,21 +81,20 @@ pub record Added (tree : ℕ) (row : Row) (old new : Database) : Type 0 where
 
 -- one row of VALUES
 pub adds : (sql : List ℕ) (params : Row) (at width : ℕ) (terms : List Term) (table : Table)
-    (row : Row) (old new : State) (count : ℕ) → command_of (understood desk_schema sql) ≡ Insert at
-    (Values terms width)
-    → IsPlain (understood desk_schema sql) → slice_get desk_schema.tables at ≡ Some table
-        → table.is_counted ≡ false → (inserting table old.now.trees params terms width).news ≡ row
-        ∷ [] → old.now.schema ≡ desk_schema
+    (row : Row) (old new : State) (count : ℕ) → Changes sql (Insert at (Values terms width))
+    → slice_get desk_schema.tables at ≡ Some table
+    → table.is_counted ≡ false → (inserting table old.now.trees params terms width).news ≡ row
+    ∷ [] → old.now.schema ≡ desk_schema
     → Executes sql params old new (Ok count) → Added table.tree row old.now new.now
-adds sql params at width terms table row old new count is plain there uncounted news has h =
+adds sql params at width terms table row old new count is there uncounted news has h =
     let db = old.now.trees in
-    let w = runs_as sql params old new desk_schema has (Insert at (Values terms width)) is plain
-        count h in
+    let w = runs_as sql params old new desk_schema has (Insert at (Values terms width)) is.is
+    is.plain count h in
     let text = statement_of sql (understood desk_schema sql) in
     let does = subst (λ s. Does old.step_limit (mode_of old) params (record old.now { schema = s })
-        text None (Insert at (Values terms width)) (Ok (w.tally, new.now))) has w.changed in
+    text None (Insert at (Values terms width)) (Ok (w.tally, new.now))) has w.changed in
     let done = inserts old.step_limit desk_schema db params text at width terms table w.tally
-        new.now there uncounted does in
+    new.now there uncounted does in
     let it = done.1 in
     record {
       schema = done.0;
@@ -115,7 +115,7 @@ pub one_picked : (tree : ℕ) (test project : List Term) (params : Row) (old row
     → OnePicked test project params old rows
 one_picked tree test project params old rows it len =
     let one = one_of it.picked (sym (length-map it.picked (shows project params))
-        ∙ ap length (sym it.shown) ∙ len) in
+    ∙ ap length (sym it.shown) ∙ len) in
     record {
       it = one.0;
       one = one_permutation one.0 _ (IsPermutation-sym _ _
@@ -149,90 +149,88 @@ pub record Sets (tree : ℕ) (test project : List Term) (params : Row) (table : 
 
 pub sets : (sql : List ℕ) (params : Row) (at : ℕ) (test project : List Term) (table : Table)
     (old new : State)
-    → command_of (understood desk_schema sql) ≡ Update at
-        (record { lets = []; body = reads table.tree test project [] })
-    → IsPlain (understood desk_schema sql) → slice_get desk_schema.tables at ≡ Some table
-        → overlay old.now.trees [] table.tree ≡ old.now.trees table.tree
+    → Changes sql (Update at (record { lets = []; body = reads table.tree test project [] }))
+    → slice_get desk_schema.tables at ≡ Some table
+    → overlay old.now.trees [] table.tree ≡ old.now.trees table.tree
     → ((a b : Row) → works desk_schema Enforced 0 table.tree (a ∷ []) (b ∷ []) ≡ [])
-        → old.now.schema ≡ desk_schema
+    → old.now.schema ≡ desk_schema
     → Executes sql params old new (Ok 1) → Sets table.tree test project params table old.now new.now
-sets sql params at test project table old new is plain there bare quiet has h =
+sets sql params at test project table old new is there bare quiet has h =
     let db = old.now.trees in
     let program : Program = record { lets = []; body = reads table.tree test project [] } in
-    let w = runs_as sql params old new desk_schema has (Update at program) is plain 1 h in
+    let w = runs_as sql params old new desk_schema has (Update at program) is.is is.plain 1 h in
     let text = statement_of sql (understood desk_schema sql) in
     let does = subst (λ s. Does old.step_limit (mode_of old) params (record old.now { schema = s })
-        text None (Update at program) (Ok (w.tally, new.now))) has w.changed in
+    text None (Update at program) (Ok (w.tally, new.now))) has w.changed in
     let u = updates old.step_limit desk_schema db params text at program table w.tally new.now there
-        does in
+    does in
     let count : length u.rows ≡ 1 = sym (news_counted db table (ids_of u.rows) u.rows)
-        ∙ sym (ap (λ o. unwrap_or o 0) u.counted) ∙ sym w.counted in
+    ∙ sym (ap (λ o. unwrap_or o 0) u.counted) ∙ sym w.counted in
     let p = one_picked table.tree test project params (db table.tree) u.rows
-        (subst (λ from. Picks table.tree test project [] params from u.rows) bare
-        (picks table.tree test project [] params (overlay db []) u.rows (u.answers.answer Null)))
-        count in
+    (subst (λ from. Picks table.tree test project [] params from u.rows) bare
+    (picks table.tree test project [] params (overlay db []) u.rows (u.answers.answer Null)))
+    count in
     let source = shows project params p.it in
     let goes = subst (λ rows. Goes desk_schema Enforced db
-        (edit_of db table (ids_of rows) Given 1 rows) (Ok new.now.trees)) p.is u.goes in
+    (edit_of db table (ids_of rows) Given 1 rows) (Ok new.now.trees)) p.is u.goes in
     let edit = edit_of db table (ids_of (source ∷ [])) Given 1 (source ∷ []) in
     let it = one_step desk_schema Enforced db new.now.trees edit
-        (quiet (row_at (db table.tree) (id_in (rowid source))) (cast_row table (drop 1 source)))
-        goes in
+    (quiet (row_at (db table.tree) (id_in (rowid source))) (cast_row table (drop 1 source)))
+    goes in
     record {
       it = p.it;
       one = p.one;
       schema = u.schema_is;
       goes = λ i row id to.
-        let news : edit.news ≡ row ∷ [] = ap (λ r. r ∷ []) to in
-        let left : without_all (db table.tree) (ids_of (source ∷ [])) ≡ without_rowid i
-            (db table.tree) = ap (λ j. without_rowid j (db table.tree)) id in
-        record {
-          free = both_true _ (sym (ap (λ rs. are_fresh rs (row ∷ [])) left)
-              ∙ sym (ap (are_fresh (without_all (db table.tree) (ids_of (source ∷ [])))) news)
-              ∙ it.fresh);
-          rows = it.rows ∙ ap (put_all (without_all (db table.tree) (ids_of (source ∷ [])))) news
-              ∙ ap (λ rs. put_row row rs) left;
-          others = it.tables;
-        };
+          let news : edit.news ≡ row ∷ [] = ap (λ r. r ∷ []) to in
+          let left : without_all (db table.tree) (ids_of (source ∷ [])) ≡ without_rowid i
+          (db table.tree) = ap (λ j. without_rowid j (db table.tree)) id in
+          record {
+            free = both_true _ (sym (ap (λ rs. are_fresh rs (row ∷ [])) left)
+                ∙ sym (ap (are_fresh (without_all (db table.tree) (ids_of (source ∷ [])))) news)
+                ∙ it.fresh);
+            rows = it.rows ∙ ap (put_all (without_all (db table.tree) (ids_of (source ∷ [])))) news
+                ∙ ap (λ rs. put_row row rs) left;
+            others = it.tables;
+          };
     }
 
 pub record Drops (tree : ℕ) (test project : List Term) (params : Row) (old new : Database) : Type 0
-    where
-  pub it : Row
-  pub one : filter (passes test params) (old.trees tree) ≡ it ∷ []
-  pub schema : new.schema ≡ desk_schema
-  pub rows : new.trees tree ≡ without_rowid (id_in (rowid (shows project params it)))
-      (old.trees tree)
-  pub others : Moves tree old.trees new.trees
+  where
+    pub it : Row
+    pub one : filter (passes test params) (old.trees tree) ≡ it ∷ []
+    pub schema : new.schema ≡ desk_schema
+    pub rows : new.trees tree ≡ without_rowid (id_in (rowid (shows project params it)))
+        (old.trees tree)
+    pub others : Moves tree old.trees new.trees
 
 pub drops : (sql : List ℕ) (params : Row) (at : ℕ) (test project : List Term) (table : Table)
     (old new : State)
-    → command_of (understood desk_schema sql) ≡ Delete at
-        (record { lets = []; body = reads table.tree test project [] })
-    → IsPlain (understood desk_schema sql) → slice_get desk_schema.tables at ≡ Some table
-        → overlay old.now.trees [] table.tree ≡ old.now.trees table.tree
+    → Changes sql (Delete at (record { lets = []; body = reads table.tree test project [] }))
+    → slice_get desk_schema.tables at ≡ Some table
+    → overlay old.now.trees [] table.tree ≡ old.now.trees table.tree
     → ((a : Row) → works desk_schema Enforced 0 table.tree (a ∷ []) [] ≡ [])
-        → old.now.schema ≡ desk_schema
+    → old.now.schema ≡ desk_schema
     → Executes sql params old new (Ok 1) → Drops table.tree test project params old.now new.now
-drops sql params at test project table old new is plain there bare quiet has h =
+drops sql params at test project table old new is there bare quiet has h =
     let db = old.now.trees in
     let program : Program = record { lets = []; body = reads table.tree test project [] } in
-    let w = runs_as sql params old new desk_schema has (Delete at program) is plain 1 h in
+    let w = runs_as sql params old new desk_schema has (Delete at program) is.is is.plain 1 h in
     let text = statement_of sql (understood desk_schema sql) in
     let does = subst (λ s. Does old.step_limit (mode_of old) params (record old.now { schema = s })
-        text None (Delete at program) (Ok (w.tally, new.now))) has w.changed in
+    text None (Delete at program) (Ok (w.tally, new.now))) has w.changed in
     let u = deletes old.step_limit desk_schema db params text at program table w.tally new.now there
-        does in
+    does in
     let count : length u.rows ≡ 1 = sym (taken_counted db table u.rows)
-        ∙ sym (ap (λ o. unwrap_or o 0) u.counted) ∙ sym w.counted in
+    ∙ sym (ap (λ o. unwrap_or o 0) u.counted) ∙ sym w.counted in
     let p = one_picked table.tree test project params (db table.tree) u.rows
-        (subst (λ from. Picks table.tree test project [] params from u.rows) bare
-        (picks table.tree test project [] params (overlay db []) u.rows (u.answers.answer Null)))
-        count in
+    (subst (λ from. Picks table.tree test project [] params from u.rows) bare
+    (picks table.tree test project [] params (overlay db []) u.rows (u.answers.answer Null)))
+    count in
     let source = shows project params p.it in
     let goes = subst (λ rows. Goes desk_schema Enforced db
-        (edit_of db table (ids_of rows) Given 0 []) (Ok new.now.trees)) p.is u.goes in
+    (edit_of db table (ids_of rows) Given 0 []) (Ok new.now.trees)) p.is u.goes in
     let it = one_step desk_schema Enforced db new.now.trees
-        (edit_of db table (ids_of (source ∷ [])) Given 0 [])
-        (quiet (row_at (db table.tree) (id_in (rowid source)))) goes in
+    (edit_of db table (ids_of (source ∷ [])) Given 0 [])
+    (quiet (row_at (db table.tree) (id_in (rowid source)))) goes in
     record { it = p.it; one = p.one; schema = u.schema_is; rows = it.rows; others = it.tables }

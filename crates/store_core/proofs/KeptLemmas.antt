@@ -44,9 +44,13 @@ module _ {K X : Type 0} (row : K → Row) (value : K → X) where
   put p (q ∷ ps) free = elim (cases_ordering (value_cmp (rowid (row q)) (rowid (row p)))) [
     | inl less ↦
         let later = put p ps (rw less at free) in
-        record { now = q ∷ later.now; is = rw less (ap (λ rs. row q ∷ rs) later.is); same =
-            IsPermutation-trans _ _ _ (IsPermutation-sym _ _ (IsPermutation-middle (q ∷ []) p ps))
-            (IsPermutation-cons q _ _ later.same) }
+        record {
+          now = q ∷ later.now;
+          is = rw less (ap (λ rs. row q ∷ rs) later.is);
+          same =
+              IsPermutation-trans _ _ _ (IsPermutation-sym _ _ (IsPermutation-middle (q ∷ []) p ps))
+              (IsPermutation-cons q _ _ later.same);
+        }
     | inr (inl same) ↦ absurd (let e = rw same at free in cc)
     | inr (inr more) ↦ record { now = p ∷ q ∷ ps; is = rw more; same = IsPermutation-refl _ }
   ]
@@ -70,8 +74,8 @@ module _ {K X : Type 0} (row : K → Row) (value : K → X) where
       let kept = filter (λ (k : K). test (row k)) h.kept in
       let values : map value kept ≡ filter p (map value h.kept) =
       ap (map value) (filter_same (λ (k : K). test (row k)) (λ (k : K). p (value k)) h.kept
-          (all_of (λ (k : K). test (row k) ≡ p (value k)) is h.kept))
-          ∙ sym (filter-map p value h.kept) in
+      (all_of (λ (k : K). test (row k) ≡ p (value k)) is h.kept))
+      ∙ sym (filter-map p value h.kept) in
       record {
         kept = kept;
         spelt = ap (filter test) h.spelt ∙ filter-map test row h.kept;

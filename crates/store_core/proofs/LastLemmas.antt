@@ -35,9 +35,9 @@ head_greatest : {X : Type 0} (key : X → ℕ) (x : X) (ys : List X)
 head_greatest key x ys sorted y (inl same) = omega (arith, ap key same)
 head_greatest key x ys sorted y (inr later) =
     let all = recursion_from_All (λ b. is_lt (nat_cmp (key x) (key b)) ≡ false) ys
-        (λ k d h. sorted_far (λ a b. is_lt (nat_cmp (key b) (key a)))
-        (ranks_by (back_total nat_cmp_total) key) (x ∷ ys) sorted 0 (suc k) d (omega arith)
-        (omega arith)) in
+    (λ k d h. sorted_far (λ a b. is_lt (nat_cmp (key b) (key a)))
+    (ranks_by (back_total nat_cmp_total) key) (x ∷ ys) sorted 0 (suc k) d (omega arith)
+    (omega arith)) in
     not_less (key x) (key y) (all_has (λ b. is_lt (nat_cmp (key x) (key b)) ≡ false) ys y all later)
 
 no_permutation : {X : Type 0} (xs : List X) → IsPermutation xs [] → xs ≡ []
@@ -47,11 +47,11 @@ no_permutation (x ∷ xs) h = absurd (omega (arith, length_permutation (x ∷ xs
 module _ {K X : Type 0} (row : K → Row) (value : K → X) (key : X → ℕ) (tree : ℕ) (test : List Term)
     (at : Term) (params : Row) (xs : List X) (from rows : List Row) (p : X → Bool)
     (tests : (k : K) → passes test params (row k) ≡ p (value k))
-        (shown : (k : K) → shows (at ∷ []) params (row k) ≡ count_value (key (value k)) ∷ [])
+    (shown : (k : K) → shows (at ∷ []) params (row k) ≡ count_value (key (value k)) ∷ [])
     (orders : (a b : K) → output_cmp (last_of tree test at)
-        (output (last_of tree test at) (params ∷ row a ∷ []))
-        (output (last_of tree test at) (params ∷ row b ∷ [])) ≡ nat_cmp (key (value b))
-        (key (value a)))
+    (output (last_of tree test at) (params ∷ row a ∷ []))
+    (output (last_of tree test at) (params ∷ row b ∷ [])) ≡ nat_cmp (key (value b))
+    (key (value a)))
     (holds : Holds row value xs from) (picks : PicksLast tree test at params from rows) where
   first_of : (ks : List K) → rows ≡ take 1 (map (shows (at ∷ []) params) (map row ks))
       → IsPermutation (filter p xs) (map value ks)
@@ -72,18 +72,18 @@ module _ {K X : Type 0} (row : K → Row) (value : K → X) (key : X → ℕ) (t
   shows_greatest =
       let left = found row value xs from holds (passes test params) p tests in
       let back = pull_back row (map row left.kept) picks.picked
-          (subst (λ rs. IsPermutation rs picks.picked) left.spelt picks.same) left.kept refl in
+      (subst (λ rs. IsPermutation rs picks.picked) left.spelt picks.same) left.kept refl in
       let put = λ (k : K). output (last_of tree test at) (params ∷ row k ∷ []) in
       let sorted : IsSorted (λ a b. nat_cmp (key (value b)) (key (value a))) back.0 =
       sorted_from put (λ a b. nat_cmp (key (value b)) (key (value a)))
-          (output_cmp (last_of tree test at)) orders back.0
+      (output_cmp (last_of tree test at)) orders back.0
       (subst (IsSorted (output_cmp (last_of tree test at)))
-          (ap (map (λ r. output (last_of tree test at) (params ∷ r ∷ []))) back.2
-          ∙ map-map (λ r. output (last_of tree test at) (params ∷ r ∷ [])) row back.0)
-          picks.sorted) in
+      (ap (map (λ r. output (last_of tree test at) (params ∷ r ∷ []))) back.2
+      ∙ map-map (λ r. output (last_of tree test at) (params ∷ r ∷ [])) row back.0)
+      picks.sorted) in
       first_of back.0 (picks.shown ∙ ap (λ rs. take 1 (map (shows (at ∷ []) params) rs)) back.2)
-          (IsPermutation-trans _ _ _ (IsPermutation-sym _ _ left.same)
-          (IsPermutation-map value _ _ back.1))
+      (IsPermutation-trans _ _ _ (IsPermutation-sym _ _ left.same)
+      (IsPermutation-map value _ _ back.1))
       (sorted_to value (λ a b. nat_cmp (key b) (key a)) back.0 sorted)
 
 -- what was read of it
@@ -124,10 +124,10 @@ no_gaps key xs n (inl h) all = h.1 ∙ sym (ap length h.0)
 no_gaps key [] n (inr h) all = absurd h.1
 no_gaps key (y ∷ ys) n (inr h) all =
     let low : key h.0 ≤ length (y ∷ ys) = below_top (length (y ∷ ys)) (key h.0)
-        (has_permuted (map key (y ∷ ys)) (down_from (length (y ∷ ys))) (key h.0) all
-        (has_mapped key (y ∷ ys) h.0 h.1)) in
+    (has_permuted (map key (y ∷ ys)) (down_from (length (y ∷ ys))) (key h.0) all
+    (has_mapped key (y ∷ ys) h.0 h.1)) in
     let top = mapped_has key (y ∷ ys) (length (y ∷ ys))
-        (has_permuted (down_from (length (y ∷ ys))) (map key (y ∷ ys)) (length (y ∷ ys))
-        (IsPermutation-sym _ _ all) (inl refl)) in
+    (has_permuted (down_from (length (y ∷ ys))) (map key (y ∷ ys)) (length (y ∷ ys))
+    (IsPermutation-sym _ _ all) (inl refl)) in
     let high : key top.0 ≤ n = h.3 top.0 top.1 in
     omega (arith, low, high, top.2, h.2)

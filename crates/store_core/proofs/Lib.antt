@@ -4,6 +4,7 @@ pub mod ChangeLemmas
 pub mod KeptLemmas
 pub mod LastLemmas
 pub mod MakeLemmas
+pub mod Meaning
 pub mod OrderLemmas
 pub mod PickedLemmas
 pub mod ReadLemmas

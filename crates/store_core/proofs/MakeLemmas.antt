@@ -33,26 +33,28 @@ pub creates : (base next : Schema) (text : List ℕ) (table : Table) → Creates
     → Executes text [] old new (Ok count) → (new.now.schema ≡ next) × AreEmpty next new.now.trees
 creates base next text table it old new count has no_contents h =
     let w = subst (λ t. Writes old new None CreateTable t [] count) it.statement
-        (runs_as text [] old new base has CreateTable it.command it.plain count h) in
+    (runs_as text [] old new base has CreateTable it.command it.plain count h) in
     let all = went w.changed in
     let first = went all.1 in
     let made = first.1 in
     let same : made.table ≡ record table { tree = 0 } =
-        same_value (sym made.defined ∙ it.defined) in
+    same_value (sym made.defined ∙ it.defined) in
     let schema : first.0.schema ≡ next = made.is ∙ ap (λ s. created s made.table) has
-        ∙ ap (created base) same ∙ it.makes in
+    ∙ ap (created base) same ∙ it.makes in
     let plain : lacks_sequence first.0.schema ≡ false = ap lacks_sequence schema ∙ it.sequence in
     let now : new.now ≡ first.0 = ap (λ (p : Tally × Database). p.1) (same_value all.2)
-        ∙ same_value (rw plain at first.2) in
+    ∙ same_value (rw plain at first.2) in
     let kept : AreEmpty base first.0.trees = all_both (λ (t : Table). old.now.trees t.tree ≡ [])
-        (λ (t : Table). first.0.trees t.tree ≡ old.now.trees t.tree)
-        (λ (t : Table). first.0.trees t.tree ≡ []) (λ t e k. k ∙ e) base.tables no_contents
-        (subst (λ s. KeepsRows s.tables old.now.trees first.0.trees) has made.others) in
+    (λ (t : Table). first.0.trees t.tree ≡ old.now.trees t.tree)
+    (λ (t : Table). first.0.trees t.tree ≡ []) (λ t e k. k ∙ e) base.tables no_contents
+    (subst (λ s. KeepsRows s.tables old.now.trees first.0.trees) has made.others) in
     let last : first.0.trees (next_tree base) ≡ [] =
-        subst (λ s. first.0.trees (next_tree s) ≡ []) has made.empty in
-    (ap (λ (d : Database). d.schema) now ∙ schema, subst (λ (d : Database). AreEmpty next d.trees)
-        (sym now) (subst (AllByRecursion (λ t. first.0.trees t.tree ≡ [])) (sym it.tables)
-        (all-append _ base.tables _ kept (last, tt))))
+    subst (λ s. first.0.trees (next_tree s) ≡ []) has made.empty in (
+      ap (λ (d : Database). d.schema) now ∙ schema,
+      subst (λ (d : Database). AreEmpty next d.trees)
+          (sym now) (subst (AllByRecursion (λ t. first.0.trees t.tree ≡ [])) (sym it.tables)
+          (all-append _ base.tables _ kept (last, tt))),
+    )
 
 pub makes : (base next : Schema) (text : List ℕ) (table : Table) → Creates base next text table
     → (old new : State) (count : ℕ) → (HasCleanDisk new → Ran text [] old new count)
@@ -73,6 +75,9 @@ is_there text nothing plain old new count now was ran clean within c o =
     let r = ran c in
     let before = within (clean c) r.shown.was_open in
     let it = runs_as text [] old new desk_schema before.0.schema Nothing nothing plain count
-        r.runs in
-    (subst (Tables now) (sym it.0.0.now_is) before.0, subst (Tables was) (sym it.0.0.committed_is)
-        before.1, r.shown.mode)
+    r.runs in (
+      subst (Tables now) (sym it.0.0.now_is) before.0,
+      subst (Tables was) (sym it.0.0.committed_is)
+          before.1,
+      r.shown.mode,
+    )

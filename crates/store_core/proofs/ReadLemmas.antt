@@ -38,7 +38,7 @@ pub sorted_from : {X Y : Type 0} (f : X → Y) (by : X → X → Ordering) (cmp 
     → IsSorted by xs
 sorted_from f by cmp same xs h k d low high =
     let at : is_lt (cmp (get_or (map f xs) (k + 1) (f d)) (get_or (map f xs) k (f d))) ≡ false =
-        h k (f d) low (omega (arith, high, length-map xs f)) in
+    h k (f d) low (omega (arith, high, length-map xs f)) in
     sym (ap is_lt (ap₂ cmp (get_or-map f xs (k + 1) d) (get_or-map f xs k d) ∙ same _ _)) ∙ at
 
 pub sorted_to : {X Y : Type 0} (f : X → Y) (cmp : Y → Y → Ordering) (xs : List X)
@@ -47,57 +47,62 @@ sorted_to f cmp [] h k d low high = absurd (omega arith)
 sorted_to f cmp (x ∷ xs) h k d low high =
     let n = length-map xs f in
     let first : get_or (map f (x ∷ xs)) (k + 1) d ≡ f (get_or (x ∷ xs) (k + 1) x) =
-        get_or_mapped f (x ∷ xs) (k + 1) d x (omega (arith, high, n)) in
+    get_or_mapped f (x ∷ xs) (k + 1) d x (omega (arith, high, n)) in
     let second : get_or (map f (x ∷ xs)) k d ≡ f (get_or (x ∷ xs) k x) =
-        get_or_mapped f (x ∷ xs) k d x (omega (arith, high, n)) in
+    get_or_mapped f (x ∷ xs) k d x (omega (arith, high, n)) in
     ap is_lt (ap₂ cmp first second) ∙ h k x low (omega (arith, high, n))
 
 module _ {K X : Type 0} (row : K → Row) (value : K → X) (view : X → Row) (tree : ℕ)
     (test project order : List Term) (params : Row) (xs : List X) (from rows : List Row)
     (p : X → Bool)
     (tests : (k : K) → passes test params (row k) ≡ p (value k))
-        (shown : (k : K) → shows project params (row k) ≡ view (value k))
-        (holds : Holds row value xs from) (picks : Picks tree test project order params from rows)
-        where
-  left : Holds row value (filter p xs) (filter (passes test params) from)
-  left = found row value xs from holds (passes test params) p tests
+    (shown : (k : K) → shows project params (row k) ≡ view (value k))
+    (holds : Holds row value xs from) (picks : Picks tree test project order params from rows)
+  where
+    left : Holds row value (filter p xs) (filter (passes test params) from)
+    left = found row value xs from holds (passes test params) p tests
 
-  back : (ks : List K) × IsPermutation left.kept ks × (picks.picked ≡ map row ks)
-  back = pull_back row (map row left.kept) picks.picked
-      (subst (λ rs. IsPermutation rs picks.picked) left.spelt picks.same) left.kept refl
+    back : (ks : List K) × IsPermutation left.kept ks × (picks.picked ≡ map row ks)
+    back = pull_back row (map row left.kept) picks.picked
+        (subst (λ rs. IsPermutation rs picks.picked) left.spelt picks.same) left.kept refl
 
-  values_are : rows ≡ map view (map value back.0)
-  values_are = picks.shown ∙ ap (map (shows project params)) back.2
-      ∙ map-map (shows project params) row back.0 ∙ mapped back.0 ∙ sym (map-map view value back.0)
-    where
-      mapped : (ks : List K) → map (λ k. shows project params (row k)) ks ≡ map
-          (λ k. view (value k)) ks
-      mapped [] = refl
-      mapped (k ∷ ks) = ap₂ (λ r rs. r ∷ rs) (shown k) (mapped ks)
+    values_are : rows ≡ map view (map value back.0)
+    values_are = picks.shown ∙ ap (map (shows project params)) back.2
+        ∙ map-map (shows project params) row back.0 ∙ mapped back.0
+        ∙ sym (map-map view value back.0)
+      where
+        mapped : (ks : List K) → map (λ k. shows project params (row k)) ks ≡ map
+            (λ k. view (value k)) ks
+        mapped [] = refl
+        mapped (k ∷ ks) = ap₂ (λ r rs. r ∷ rs) (shown k) (mapped ks)
 
-  values_same : IsPermutation (filter p xs) (map value back.0)
-  values_same = IsPermutation-trans _ _ _ (IsPermutation-sym _ _ left.same)
-      (IsPermutation-map value _ _ back.1)
+    values_same : IsPermutation (filter p xs) (map value back.0)
+    values_same = IsPermutation-trans _ _ _ (IsPermutation-sym _ _ left.same)
+        (IsPermutation-map value _ _ back.1)
 
-  pub shows_values : Shows view (filter p xs) rows
-  shows_values = record { values = map value back.0; are = values_are; same = values_same }
+    pub shows_values : Shows view (filter p xs) rows
+    shows_values = record { values = map value back.0; are = values_are; same = values_same }
 
-  abbrev output_of : K → Output
-  output_of k = output (reads tree test project order) (params ∷ row k ∷ [])
+    abbrev output_of : K → Output
+    output_of k = output (reads tree test project order) (params ∷ row k ∷ [])
 
-  pub lists_values : (cmp : X → X → Ordering) → ((a b : K)
-      → output_cmp (reads tree test project order) (output_of a) (output_of b) ≡ cmp (value a)
-      (value b)) → Lists cmp view (filter p xs) rows
-  lists_values cmp orders =
-      let sorted : IsSorted (λ a b. cmp (value a) (value b)) back.0 =
-      sorted_from output_of (λ a b. cmp (value a) (value b))
-          (output_cmp (reads tree test project order)) orders back.0
-      (subst (IsSorted (output_cmp (reads tree test project order)))
-          (ap (map (λ r. output (reads tree test project order) (params ∷ r ∷ []))) back.2
-          ∙ map-map (λ r. output (reads tree test project order) (params ∷ r ∷ [])) row back.0)
-          picks.sorted) in
-      record { values = map value back.0; are = values_are; ordered =
-          record { same = values_same; sorted = sorted_to value cmp back.0 sorted } }
+    pub lists_values : (cmp : X → X → Ordering) → ((a b : K)
+        → output_cmp (reads tree test project order) (output_of a) (output_of b) ≡ cmp (value a)
+        (value b)) → Lists cmp view (filter p xs) rows
+    lists_values cmp orders =
+        let sorted : IsSorted (λ a b. cmp (value a) (value b)) back.0 =
+        sorted_from output_of (λ a b. cmp (value a) (value b))
+        (output_cmp (reads tree test project order)) orders back.0
+        (subst (IsSorted (output_cmp (reads tree test project order)))
+        (ap (map (λ r. output (reads tree test project order) (params ∷ r ∷ []))) back.2
+        ∙ map-map (λ r. output (reads tree test project order) (params ∷ r ∷ [])) row back.0)
+        picks.sorted) in
+        record {
+          values = map value back.0;
+          are = values_are;
+          ordered =
+              record { same = values_same; sorted = sorted_to value cmp back.0 sorted };
+        }
 
 -- ---- what is read of rows that are shown
 
@@ -128,6 +133,7 @@ module _ {X : Type 0} (view : X → Row) (Reads : Row → X → Type 0)
       values : h.values ≡ option_to_list v
       values = read_same h.values (option_to_list v)
           (subst (λ rs. AllZip Reads rs (option_to_list v)) h.are zip)
+
       only : (o : Option X) → IsPermutation xs (option_to_list o) → option_to_list o ≡ xs
       only None same = sym (no_permutation xs same)
       only (Some x) same = sym (one_permutation x xs (IsPermutation-sym xs (x ∷ []) same))
@@ -138,4 +144,4 @@ pub read_more : {X : Type 0} (Reads : Row → X → Type 0) (rows : List Row) (v
     → Reads row v → AllZip Reads (take (i + 1) rows) now
 read_more Reads rows vs i row v now low is pushed zip reads =
     subst₂ (AllZip Reads) (sym (take_more rows i row low ∙ ap (λ r. take i rows ++ r ∷ [])
-        (sym is))) (sym pushed) (zip_more Reads (take i rows) vs row v zip reads)
+    (sym is))) (sym pushed) (zip_more Reads (take i rows) vs row v zip reads)

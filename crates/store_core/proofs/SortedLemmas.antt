@@ -59,10 +59,16 @@ module _ {K X : Type 0} (key : X → K) (cmp : K → K → Ordering) (total : Is
   apart_kept : (xs ys : List X) → IsPermutation xs ys → Apart xs → Apart ys
   apart_kept xs ys same = (along_permutation (λ xs ys. IsPermutation xs ys × (Apart xs → Apart ys))
       (λ xs. (IsPermutation-refl xs, λ a. a))
-      (λ x xs ys h. (IsPermutation-cons x xs ys h.0, λ a.
-          (all-permutation (λ b. cmp (key x) (key b) ≡ Equal → ⊥) xs ys h.0 a.0, h.1 a.1)))
-      (λ x y xs. (IsPermutation-middle (x ∷ []) y xs, λ a.
-          ((apart_back x y a.0.0, a.1.0), (a.0.1, a.1.1))))
+      (λ x xs ys h. (
+        IsPermutation-cons x xs ys h.0,
+        λ a.
+            (all-permutation (λ b. cmp (key x) (key b) ≡ Equal → ⊥) xs ys h.0 a.0, h.1 a.1),
+      ))
+      (λ x y xs. (
+        IsPermutation-middle (x ∷ []) y xs,
+        λ a.
+            ((apart_back x y a.0.0, a.1.0), (a.0.1, a.1.1)),
+      ))
       (λ xs ys zs p q. (IsPermutation-trans xs ys zs p.0 q.0, λ a. q.1 (p.1 a))) xs ys same).1
 
   less_from : (a b : X) → is_lt (cmp (key b) (key a)) ≡ false → (cmp (key a) (key b) ≡ Equal → ⊥)
@@ -82,8 +88,8 @@ module _ {K X : Type 0} (key : X → K) (cmp : K → K → Ordering) (total : Is
     all_both (λ b. is_lt (cmp (key b) (key y)) ≡ false) (λ b. cmp (key y) (key b) ≡ Equal → ⊥)
         (λ b. cmp (key y) (key b) ≡ Less) (λ b low far. less_from y b low far) ys
         (recursion_from_All (λ b. is_lt (cmp (key b) (key y)) ≡ false) ys
-            (λ k d h. sorted_far (λ a b. is_lt (cmp (key a) (key b))) (ranks_by total key) (y ∷ ys)
-            sorted 0 (suc k) d (omega arith) (omega arith)))
+        (λ k d h. sorted_far (λ a b. is_lt (cmp (key a) (key b))) (ranks_by total key) (y ∷ ys)
+        sorted 0 (suc k) d (omega arith) (omega arith)))
         apart.0,
     rises_from ys (λ k d low high. rw add-one (rw add-one at
         (sorted (suc k) d (omega arith) (omega arith)))) apart.1,
@@ -94,11 +100,11 @@ module _ {K X : Type 0} (key : X → K) (cmp : K → K → Ordering) (total : Is
       → IsSorted (λ a b. cmp (key a) (key b)) ys → ys ≡ xs
   sorted_same xs ys rises same sorted =
       let apart = apart_kept xs ys same (ascending_weaker (λ a b. cmp (key a) (key b) ≡ Less)
-          (λ a b. cmp (key a) (key b) ≡ Equal → ⊥) (λ a b less e. let c = sym less ∙ e in cc) xs
-          rises) in
+      (λ a b. cmp (key a) (key b) ≡ Equal → ⊥) (λ a b less e. let c = sym less ∙ e in cc) xs
+      rises) in
       sym (same_ascending (λ a b. cmp (key a) (key b) ≡ Less) (λ a b p q. let e =
-          total.antisymm (key a) (key b) ∙ ap ordering_reverse q in let c = sym p ∙ e in cc) xs ys
-          rises (rises_from ys sorted apart)
+      total.antisymm (key a) (key b) ∙ ap ordering_reverse q in let c = sym p ∙ e in cc) xs ys
+      rises (rises_from ys sorted apart)
       (λ x has. has_contained ys x (Contains-permutation xs ys x same (contains_had xs x has)))
       (λ x has. has_contained xs x (Contains-permutation ys xs x (IsPermutation-sym xs ys same)
-          (contains_had ys x has))))
+      (contains_had ys x has))))

@@ -77,7 +77,7 @@ shown_stands d sql params old new rows plain clean shown stand c o =
     let full = timed params h.0.formats h.1.now in
     let was = stand (clean c) (shown_was_open old new sql h.0 full rows h.0.returning h.2) in
     let none = never_both _ h.0 plain (subst (λ s. understood s sql ≡ Ok h.0) was.0.schema
-        h.1.is) in
+    h.1.is) in
     let it = subst (ShowsRows old new sql h.0 full rows) none h.2 in
     unchanged_stands d old new stand clean (λ _. it.3) c o
 
@@ -91,7 +91,7 @@ failed_stands d sql params old new e plain clean fails stand c o = elim (fails c
       let full = timed params h.0.formats h.1.now in
       let was = stand (clean c) (failed_was_open old new sql h.0 full e h.0.returning o h.2) in
       let none = never_both _ h.0 plain (subst (λ s. understood s sql ≡ Ok h.0) was.0.schema
-          h.1.is) in
+      h.1.is) in
       let it = subst (FailsToShow old new sql h.0 full e) none h.2 in
       unchanged_stands d old new stand clean (λ _. it.3) c o
 ]
@@ -116,16 +116,19 @@ module _ {S : Type 0} (g : Ghosts S) (sql : List ℕ) (params : Row) (old new : 
       → (old.in_transaction ≡ false → new ≡ old)
       → (HasCleanDisk (state g new) → HasCleanDisk (state g old))
       → (HasCleanDisk (state g new) → IsTrue old.in_transaction
-          → ExecutesInside 0 sql params (state g old) (state g new) r)
-          → KeepsBase (state g old) (state g new)
+      → ExecutesInside 0 sql params (state g old) (state g new) r)
+      → KeepsBase (state g old) (state g new)
   inside_keeps false r is same clean inside = subst
       (λ (h : Held S). KeepsBase (state g old) (state g h)) (sym (same (sym is)))
       (λ c o. (c, o, refl))
   inside_keeps true (Ok count) is same clean inside = λ c o. let it = inside c (sym is) in
       (clean c, it.1.was_open, it.1.committed_is)
   inside_keeps true (Err e) is same clean inside = λ c o. elim (inside c (sym is)) [
-    | inl it ↦ elim it.1 [ inl stays ↦ (clean c, stays.0.was_open, stays.0.committed_is) | inr
-        undone ↦ (clean c, undone.was_open o, (undone.undone o).1) ]
+    | inl it ↦ elim it.1 [
+      | inl stays ↦ (clean c, stays.0.was_open, stays.0.committed_is)
+      | inr
+          undone ↦ (clean c, undone.was_open o, (undone.undone o).1)
+    ]
     | inr it ↦ (clean c, it.2.0.was_open, it.2.0.committed_is)
   ]
 
@@ -145,9 +148,11 @@ pub uncommitted_stands : (now was : Contents) (old new : State) (e : Error)
     → Within now was old → Stand was new
 uncommitted_stands now was old new e clean fails within c o = elim (fails c) [
   | inl failed ↦
-      let undone = failed.3 in let before = within (clean c) (undone.was_open o) in
-      (subst (Tables was) (sym (undone.undone o).0) before.1, subst (Tables was)
-          (sym (undone.undone o).1) before.1)
+      let undone = failed.3 in let before = within (clean c) (undone.was_open o) in (
+        subst (Tables was) (sym (undone.undone o).0) before.1,
+        subst (Tables was)
+            (sym (undone.undone o).1) before.1,
+      )
   | inr late ↦ absurd (let before = within (clean c) late.2.0.was_open in let e : true ≡ false =
       sym before.2 ∙ late.1 in cc)
 ]
@@ -186,15 +191,23 @@ shown_same sql params old new rows plain has h =
 pub same_within : (now was : Contents) (old new : State) → IsUnchanged old new → Tables now old.now
     × Tables was old.committed × (old.in_transaction ≡ true) → Tables now new.now
     × Tables was new.committed × (new.in_transaction ≡ true)
-same_within now was old new same b = (subst (Tables now) (sym same.0.now_is) b.0, subst (Tables was)
-    (sym same.0.committed_is) b.1, same.0.mode ∙ b.2)
+same_within now was old new same b = (
+  subst (Tables now) (sym same.0.now_is) b.0,
+  subst (Tables was)
+      (sym same.0.committed_is) b.1,
+  same.0.mode ∙ b.2,
+)
 
 pub same_made : (schema : Schema) (old new : State) → IsUnchanged old new
     → (old.now.schema ≡ schema) × AreEmpty schema old.now.trees × (old.in_transaction ≡ true)
     → (new.now.schema ≡ schema) × AreEmpty schema new.now.trees × (new.in_transaction ≡ true)
-same_made schema old new same b = (ap (λ (d : Database). d.schema) same.0.now_is
-    ∙ b.0, subst (λ (d : Database). AreEmpty schema d.trees) (sym same.0.now_is) b.1, same.0.mode
-    ∙ b.2)
+same_made schema old new same b = (
+  ap (λ (d : Database). d.schema) same.0.now_is
+      ∙ b.0,
+  subst (λ (d : Database). AreEmpty schema d.trees) (sym same.0.now_is) b.1,
+  same.0.mode
+      ∙ b.2,
+)
 
 same_keeps : (old new : State) → (HasCleanDisk new → HasCleanDisk old) → IsUnchanged old new
     → KeepsBase old new
@@ -215,7 +228,7 @@ pub failed_keeps : (sql : List ℕ) (params : Row) (old new : State) (e : Error)
     → IsPlain (understood desk_schema sql) → (HasCleanDisk new → HasCleanDisk old)
     → (HasCleanDisk old → IsTrue old.is_open → old.now.schema ≡ desk_schema)
     → (HasCleanDisk new → FailsToQuery sql params old new e ⊎ IsTooLate sql params old new e)
-        → KeepsBase old new
+    → KeepsBase old new
 unfolding FailsToQuery
 failed_keeps sql params old new e plain clean has fails c o = elim (fails c) [
   | inl failed ↦ elim failed [
@@ -235,7 +248,7 @@ pub shown_keeps : (sql : List ℕ) (params : Row) (old new : State) (rows : List
     → (HasCleanDisk new → Shown sql params old new rows) → KeepsBase old new
 shown_keeps sql params old new rows plain clean has shown c o =
     let h = shown c in same_keeps old new clean (shown_same sql params old new rows plain
-        (has (clean c) (shown_open sql params old new rows h)) h) c o
+    (has (clean c) (shown_open sql params old new rows h)) h) c o
 
 -- a transaction that is dropped leaves what stood before it
 pub dropped_stands : (d : Contents) (a b end : State) → Within d d a → KeepsBase a b
@@ -274,7 +287,7 @@ made_is_there s made c o = (made c o).0
 pub steps : (sql : List ℕ) (params : Row) (old new : State) (count : ℕ) (now next was : Contents)
     → (HasCleanDisk new → Ran sql params old new count) → (HasCleanDisk new → HasCleanDisk old)
     → (Tables now old.now → Executes sql params old new (Ok count) → Tables next new.now)
-        → Within now was old → Within next was new
+    → Within now was old → Within next was new
 steps sql params old new count now next was ran clean makes stand c o =
     let it = ran c in
     let before = stand (clean c) it.shown.was_open in

@@ -36,7 +36,6 @@ use Rattle.store_core.specs.Queries.{links_to_test, request_shown_terms, id_orde
 use Rattle.store_core.specs.Queries.{three_shown, role_order, three_order, target_order}
 use Rattle.store_core.specs.Queries.{source_order, entry_shown_terms, number_order, entry_order}
 
-
 true_again : (b : Bool) → is_true (from_truth (Some b)) ≡ b
 true_again true = refl
 true_again false = refl
@@ -112,86 +111,86 @@ named name more k = and_true _ ∙ equal_texts k.1.name name
 
 pub id_order_is : (a b : RequestRow)
     → output_cmp (reads 3 [] request_shown_terms id_order)
-        (output (reads 3 [] request_shown_terms id_order)
-        ([] ∷ numbered_as (λ (x : RequestRow). x.id) request_columns a ∷ []))
     (output (reads 3 [] request_shown_terms id_order)
-        ([] ∷ numbered_as (λ (x : RequestRow). x.id) request_columns b ∷ [])) ≡ by_id a b
+    ([] ∷ numbered_as (λ (x : RequestRow). x.id) request_columns a ∷ []))
+    (output (reads 3 [] request_shown_terms id_order)
+    ([] ∷ numbered_as (λ (x : RequestRow). x.id) request_columns b ∷ [])) ≡ by_id a b
 id_order_is a b = then-Equal (value_cmp (count_value a.id) (count_value b.id))
     ∙ order_numbers a.id b.id
 
 pub number_order_is : (id : ℕ) (a b : ℤ × Entry)
     → output_cmp (reads 8 request_test entry_shown_terms number_order)
-        (output (reads 8 request_test entry_shown_terms number_order)
-        ((count_value id ∷ []) ∷ filed entry_columns a ∷ []))
     (output (reads 8 request_test entry_shown_terms number_order)
-        ((count_value id ∷ []) ∷ filed entry_columns b ∷ [])) ≡ by_number a.1 b.1
+    ((count_value id ∷ []) ∷ filed entry_columns a ∷ []))
+    (output (reads 8 request_test entry_shown_terms number_order)
+    ((count_value id ∷ []) ∷ filed entry_columns b ∷ [])) ≡ by_number a.1 b.1
 number_order_is id a b = then-Equal (value_cmp (count_value a.1.number) (count_value b.1.number))
     ∙ order_numbers a.1.number b.1.number
 
 pub entry_order_is : (a b : ℤ × Entry)
     → output_cmp (reads 8 [] entry_shown_terms entry_order)
-        (output (reads 8 [] entry_shown_terms entry_order) ([] ∷ filed entry_columns a ∷ []))
+    (output (reads 8 [] entry_shown_terms entry_order) ([] ∷ filed entry_columns a ∷ []))
     (output (reads 8 [] entry_shown_terms entry_order) ([] ∷ filed entry_columns b ∷ [])) ≡ by_entry
-        a.1 b.1
+    a.1 b.1
 entry_order_is a b = ap₂ ordering_then (order_numbers a.1.id b.1.id)
     (then-Equal (value_cmp (count_value a.1.number) (count_value b.1.number))
     ∙ order_numbers a.1.number b.1.number)
 
 pub link_order_is : (a b : ℤ × LinkRow)
     → output_cmp (reads 6 [] three_shown three_order)
-        (output (reads 6 [] three_shown three_order) ([] ∷ filed link_columns a ∷ []))
+    (output (reads 6 [] three_shown three_order) ([] ∷ filed link_columns a ∷ []))
     (output (reads 6 [] three_shown three_order) ([] ∷ filed link_columns b ∷ [])) ≡ by_link
-        a.1 b.1
+    a.1 b.1
 link_order_is a b =
     ap₂ ordering_then (order_numbers a.1.source b.1.source)
     (ap₂ ordering_then (order_numbers (kind_number a.1.kind) (kind_number b.1.kind))
-        (then-Equal (value_cmp (count_value a.1.target) (count_value b.1.target))
-        ∙ order_numbers a.1.target b.1.target))
+    (then-Equal (value_cmp (count_value a.1.target) (count_value b.1.target))
+    ∙ order_numbers a.1.target b.1.target))
 
 pub watcher_order_is : (a b : ℤ × Watcher)
     → output_cmp (reads 4 [] three_shown three_order)
-        (output (reads 4 [] three_shown three_order) ([] ∷ filed watcher_columns a ∷ []))
+    (output (reads 4 [] three_shown three_order) ([] ∷ filed watcher_columns a ∷ []))
     (output (reads 4 [] three_shown three_order) ([] ∷ filed watcher_columns b ∷ []))
-        ≡ by_watcher a.1 b.1
+    ≡ by_watcher a.1 b.1
 watcher_order_is a b =
     ap₂ ordering_then (order_numbers a.1.id b.1.id)
     (ap₂ ordering_then (order_numbers (role_number a.1.role) (role_number b.1.role))
-        (then-Equal (value_cmp (Words a.1.person) (Words b.1.person))
-        ∙ value_cmp-Text a.1.person b.1.person))
+    (then-Equal (value_cmp (Words a.1.person) (Words b.1.person))
+    ∙ value_cmp-Text a.1.person b.1.person))
 
 pub role_order_is : (id : ℕ) (a b : ℤ × Watcher)
     → output_cmp (reads 4 request_test three_shown role_order)
-        (output (reads 4 request_test three_shown role_order)
-        ((count_value id ∷ []) ∷ filed watcher_columns a ∷ []))
     (output (reads 4 request_test three_shown role_order)
-        ((count_value id ∷ []) ∷ filed watcher_columns b ∷ [])) ≡ by_role a.1 b.1
+    ((count_value id ∷ []) ∷ filed watcher_columns a ∷ []))
+    (output (reads 4 request_test three_shown role_order)
+    ((count_value id ∷ []) ∷ filed watcher_columns b ∷ [])) ≡ by_role a.1 b.1
 role_order_is id a b =
     ap₂ ordering_then (order_numbers (role_number a.1.role) (role_number b.1.role))
-        (then-Equal (value_cmp (Words a.1.person) (Words b.1.person))
-        ∙ value_cmp-Text a.1.person b.1.person)
+    (then-Equal (value_cmp (Words a.1.person) (Words b.1.person))
+    ∙ value_cmp-Text a.1.person b.1.person)
 
 pub target_order_is : (params : Row) (a b : ℤ × LinkRow)
     → output_cmp (reads 6 links_from_test three_shown target_order)
-        (output (reads 6 links_from_test three_shown target_order)
-        (params ∷ filed link_columns a ∷ []))
     (output (reads 6 links_from_test three_shown target_order)
-        (params ∷ filed link_columns b ∷ [])) ≡ by_target a.1 b.1
+    (params ∷ filed link_columns a ∷ []))
+    (output (reads 6 links_from_test three_shown target_order)
+    (params ∷ filed link_columns b ∷ [])) ≡ by_target a.1 b.1
 target_order_is params a b = then-Equal (value_cmp (count_value a.1.target)
     (count_value b.1.target)) ∙ order_numbers a.1.target b.1.target
 
 pub source_order_is : (params : Row) (a b : ℤ × LinkRow)
     → output_cmp (reads 6 links_to_test three_shown source_order)
-        (output (reads 6 links_to_test three_shown source_order)
-        (params ∷ filed link_columns a ∷ []))
     (output (reads 6 links_to_test three_shown source_order)
-        (params ∷ filed link_columns b ∷ [])) ≡ by_source a.1 b.1
+    (params ∷ filed link_columns a ∷ []))
+    (output (reads 6 links_to_test three_shown source_order)
+    (params ∷ filed link_columns b ∷ [])) ≡ by_source a.1 b.1
 source_order_is params a b = then-Equal (value_cmp (count_value a.1.source)
     (count_value b.1.source)) ∙ order_numbers a.1.source b.1.source
 
 pub name_order_is : (a b : ℤ × QueueRow)
     → output_cmp (reads 1 [] queue_shown queue_order)
-        (output (reads 1 [] queue_shown queue_order) ([] ∷ filed queue_columns a ∷ []))
+    (output (reads 1 [] queue_shown queue_order) ([] ∷ filed queue_columns a ∷ []))
     (output (reads 1 [] queue_shown queue_order) ([] ∷ filed queue_columns b ∷ [])) ≡ by_name a.1
-        b.1
+    b.1
 name_order_is a b = then-Equal (value_cmp (Words a.1.name) (Words b.1.name))
     ∙ value_cmp-Text a.1.name b.1.name

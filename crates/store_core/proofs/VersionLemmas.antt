@@ -11,7 +11,7 @@ use Rattle.store_core.specs.Stands.{Tables, Ran}
 use Rattle.store_core.specs.Making.{AreEmpty, Made, Fresh}
 use Rattle.store_core.specs.Contents.{no_contents}
 use Rattle.store_core.specs.Spelling.{version_row}
-use Rattle.store_core.proofs.Statements.{add_version_is, add_version_plain}
+use Rattle.store_core.proofs.Statements.{add_version_is}
 use Rattle.store_core.proofs.ChangeLemmas.{adds, apart, cast_int, cast_null}
 use Rattle.store_core.proofs.WriteLemmas.{inserting}
 
@@ -20,15 +20,20 @@ new_version db = rw (cast_int (pos 1), cast_null)
 
 holds_none : {K X : Type 0} (row : K → Row) (value : K → X) (rows : List Row) → rows ≡ []
     → Holds row value [] rows
-holds_none row value rows none = record { kept = []; spelt = none; table =
-    subst IsTable (sym none) tt; same = IsPermutation-refl _ }
+holds_none row value rows none = record {
+  kept = [];
+  spelt = none;
+  table =
+      subst IsTable (sym none) tt;
+  same = IsPermutation-refl _;
+}
 
 pub adds_version : (old new : State) (count : ℕ) → old.now.schema ≡ desk_schema
     → AreEmpty desk_schema old.now.trees → Executes add_version_text [] old new (Ok count)
     → Tables no_contents new.now
 adds_version old new count has none h =
     let it = adds add_version_text [] 0 3 add_version_terms meta (version_row 1) old new count
-        add_version_is add_version_plain refl refl (new_version old.now.trees) has h in
+    add_version_is refl refl (new_version old.now.trees) has h in
     record {
       schema = it.schema;
       meta = it.rows ∙ ap (put_row (version_row 1)) none.0;

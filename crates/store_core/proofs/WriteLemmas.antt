@@ -48,7 +48,7 @@ uncounts : (task : Task) (db : Trees) (counter : Option Row) (top : ℤ) (next :
     → task.table.is_counted ≡ false → Counts task db counter top (Ok next) → next ≡ db
 uncounts task db counter top next uncounted h =
     same_value (unless (if task.table.is_counted then is_lt (int_cmp (count_of counter) top) else
-        false) (CountsIn task db counter top (sequence task.schema) (Ok next)) (Gives db (Ok next))
+    false) (CountsIn task db counter top (sequence task.schema) (Ok next)) (Gives db (Ok next))
     (ap (λ b. if b then is_lt (int_cmp (count_of counter) top) else false) uncounted) h)
 
 written_by : (task : Task) (db : Trees) (terms : List Term) (width : ℕ) (w : Written)
@@ -61,36 +61,42 @@ written_by task db terms width w uncounted h =
     let tail = went wrote.2 in
     let left : tail.0 ≡ wrote.0 = uncounts task wrote.0 counted.0 _ tail.0 uncounted tail.1 in
     let trees : wrote.0 ≡ w.trees = sym (ap (λ (it : Written). it.trees) (same_value tail.2)
-        ∙ left) in
+    ∙ left) in
     let from = subst (λ rows. Goes task.schema task.keys db
-        (edit_of db task.table [] (rowids_for task.table (count_of counted.0)) 0 rows) (Ok wrote.0))
-        given.1.1 wrote.1 in
+    (edit_of db task.table [] (rowids_for task.table (count_of counted.0)) 0 rows) (Ok wrote.0))
+    given.1.1 wrote.1 in
     let chosen = subst (λ how. Goes task.schema task.keys db
-        (edit_of db task.table [] how 0 (value_rows (stamped task.table task.params) width
-        (length terms / width) terms)) (Ok wrote.0))
-        (ap (λ b. if b then Above (count_of counted.0) else Chosen) uncounted) from in
+    (edit_of db task.table [] how 0 (value_rows (stamped task.table task.params) width
+    (length terms / width) terms)) (Ok wrote.0))
+    (ap (λ b. if b then Above (count_of counted.0) else Chosen) uncounted) from in
     subst (λ t. Goes task.schema task.keys db (inserting task.table db task.params terms width)
-        (Ok t)) trees chosen
+    (Ok t)) trees chosen
 
 -- the schema stays, and the table's rows are edited
 pub inserts : (limit : Option ℕ) (schema : Schema) (db : Trees) (params : Row) (text : List ℕ)
     (at width : ℕ) (terms : List Term) (table : Table) (tally : Tally) (after : Database)
     → slice_get schema.tables at ≡ Some table → table.is_counted ≡ false
     → Does limit enforced params (record { schema = schema; trees = db }) text None
-        (Insert at (Values terms width)) (Ok (tally, after))
+    (Insert at (Values terms width)) (Ok (tally, after))
     → (after.schema ≡ schema) × Applies schema Enforced db (inserting table db params terms width)
-        after.trees
+    after.trees
 inserts limit schema db params text at width terms table tally after there uncounted does =
-    let task : Task = record { limit = limit; keys = Enforced; schema = schema; table =
-        table; params = params } in
+    let task : Task = record {
+      limit = limit;
+      keys = Enforced;
+      schema = schema;
+      table =
+          table;
+      params = params;
+    } in
     let on : OnRows task enforced None (Insert at (Values terms width)) db (Ok (tally, after)) =
-        rw there at does in
+    rw there at does in
     let done = went on in
     let wrote = written_by task db terms width done.0 uncounted done.1 in
     let tested = went done.2 in
     let shown = went tested.2 in
     let now : after ≡ record { schema = schema; trees = done.0.trees } =
-        ap (λ (p : Tally × Database). p.1) (same_value shown.2) in
+    ap (λ (p : Tally × Database). p.1) (same_value shown.2) in
     let edit = inserting table db params terms width in (
       ap (λ (d : Database). d.schema) now,
       subst (Applies schema Enforced db edit) (sym (ap (λ (d : Database). d.trees) now))
@@ -111,10 +117,16 @@ pub updates : (limit : Option ℕ) (schema : Schema) (db : Trees) (params : Row)
     (at : ℕ) (q : Program) (table : Table) (tally : Tally) (after : Database)
     → slice_get schema.tables at ≡ Some table
     → Does limit enforced params (record { schema = schema; trees = db }) text None (Update at q)
-        (Ok (tally, after)) → Updated limit schema db params q table tally after
+    (Ok (tally, after)) → Updated limit schema db params q table tally after
 updates limit schema db params text at q table tally after is does =
-    let task : Task = record { limit = limit; keys = Enforced; schema = schema; table =
-        table; params = params } in
+    let task : Task = record {
+      limit = limit;
+      keys = Enforced;
+      schema = schema;
+      table =
+          table;
+      params = params;
+    } in
     let on : OnRows task enforced None (Update at q) db (Ok (tally, after)) = rw is at does in
     let done = went on in
     let asked = went done.1 in
@@ -123,11 +135,11 @@ updates limit schema db params text at q table tally after is does =
     let shown = went tested.2 in
     let edit = edit_of db table (ids_of asked.0) Given 1 asked.0 in
     let written : done.0 ≡ record { trees = wrote.0; rows = edit.news; last = None } =
-        same_value wrote.2 in
+    same_value wrote.2 in
     let now : after ≡ record { schema = schema; trees = done.0.trees } =
-        ap (λ (p : Tally × Database). p.1) (same_value shown.2) in
+    ap (λ (p : Tally × Database). p.1) (same_value shown.2) in
     let count : tally.rows ≡ Some (length done.0.rows) =
-        ap (λ (p : Tally × Database). p.0.rows) (same_value shown.2) in
+    ap (λ (p : Tally × Database). p.0.rows) (same_value shown.2) in
     record {
       rows = asked.0;
       answers = asked.1;
@@ -151,10 +163,16 @@ pub deletes : (limit : Option ℕ) (schema : Schema) (db : Trees) (params : Row)
     (at : ℕ) (q : Program) (table : Table) (tally : Tally) (after : Database)
     → slice_get schema.tables at ≡ Some table
     → Does limit enforced params (record { schema = schema; trees = db }) text None (Delete at q)
-        (Ok (tally, after)) → Deleted limit schema db params q table tally after
+    (Ok (tally, after)) → Deleted limit schema db params q table tally after
 deletes limit schema db params text at q table tally after is does =
-    let task : Task = record { limit = limit; keys = Enforced; schema = schema; table =
-        table; params = params } in
+    let task : Task = record {
+      limit = limit;
+      keys = Enforced;
+      schema = schema;
+      table =
+          table;
+      params = params;
+    } in
     let on : OnRows task enforced None (Delete at q) db (Ok (tally, after)) = rw is at does in
     let done = went on in
     let asked = went done.1 in
@@ -163,11 +181,11 @@ deletes limit schema db params text at q table tally after is does =
     let shown = went tested.2 in
     let edit = edit_of db table (ids_of asked.0) Given 0 [] in
     let written : done.0 ≡ record { trees = wrote.0; rows = taken_by db edit; last = None } =
-        same_value wrote.2 in
+    same_value wrote.2 in
     let now : after ≡ record { schema = schema; trees = done.0.trees } =
-        ap (λ (p : Tally × Database). p.1) (same_value shown.2) in
+    ap (λ (p : Tally × Database). p.1) (same_value shown.2) in
     let count : tally.rows ≡ Some (length done.0.rows) =
-        ap (λ (p : Tally × Database). p.0.rows) (same_value shown.2) in
+    ap (λ (p : Tally × Database). p.0.rows) (same_value shown.2) in
     record {
       rows = asked.0;
       answers = asked.1;

@@ -36,14 +36,14 @@ abbrev pub ShowsRowsOf : {X : Type 0} → ℕ → List Term → (X → List Row)
 ShowsRowsOf tree terms rows old new result =
     HasTables old → HasCleanDisk new
     → IfOk result (λ x. (row : Row) → Has (rows x) row
-        → (r : Row) × Has (old.now.trees tree) r × (row ≡ shows terms [] r))
+    → (r : Row) × Has (old.now.trees tree) r × (row ≡ shows terms [] r))
 
 -- a mismatch comes only where these columns of a row of that tree are no value of the type
 abbrev pub MismatchesIn : {X : Type 0} → ℕ → List Term → (Row → Type 0) → State → State
     → Result X StoreFault → Type 0
 MismatchesIn tree terms IsValue old new result =
     IfErr result (λ e. e ≡ Mismatch → HasTables old → HasCleanDisk new
-        → (r : Row) × Has (old.now.trees tree) r × ¬ IsValue (shows terms [] r))
+    → (r : Row) × Has (old.now.trees tree) r × ¬ IsValue (shows terms [] r))
 
 -- ---- in a transaction
 

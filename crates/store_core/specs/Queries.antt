@@ -1,5 +1,5 @@
 -- The statements, and what they mean.
-use Rattle.std.specs.Prelude.{true, false, [], ◌∷◌, Some, None, codes, List, ℕ, pos, negsuc}
+use Rattle.std.specs.Prelude.{true, false, [], ◌∷◌, ◌++◌, Some, None, codes, List, ℕ, pos, negsuc}
 use Rattle.sqlite.specs.Collation.TheVariants.{Binary}
 use Rattle.sqlite_value.specs.Keys.{ascending}
 use Rattle.sqlite.specs.declared.types.Value.TheVariants.{Null, Int}
@@ -67,7 +67,8 @@ drop_watcher_text = codes "DELETE FROM watcher WHERE request = ?1 AND role = ?2 
 
 abbrev pub entries_of_text : List ℕ
 entries_of_text =
-    codes "SELECT request, number, moment, actor, kind, head, body FROM entry WHERE request = ?1 ORDER BY number"
+    codes "SELECT request, number, moment, actor, kind, head, body FROM entry WHERE request = ?1 "
+    ++ codes "ORDER BY number"
 
 abbrev pub add_version_text : List ℕ
 add_version_text = codes "INSERT INTO meta (one, version) VALUES (1, 1)"
@@ -89,18 +90,21 @@ request_shown_terms = col 1 0 ∷ col 1 2 ∷ col 1 3 ∷ col 1 4 ∷ col 1 5 �
 
 abbrev pub request_numbered_text : List ℕ
 request_numbered_text =
-    codes "SELECT id, queue, subject, status, owner, level, created, opened, turn, since FROM request WHERE id = ?1"
+    codes "SELECT id, queue, subject, status, owner, level, created, opened, turn, since FROM "
+    ++ codes "request WHERE id = ?1"
 
 abbrev pub requests_text : List ℕ
 requests_text =
-    codes "SELECT id, queue, subject, status, owner, level, created, opened, turn, since FROM request ORDER BY id"
+    codes "SELECT id, queue, subject, status, owner, level, created, opened, turn, since FROM "
+    ++ codes "request ORDER BY id"
 
 abbrev pub id_order : List Term
 id_order = col 1 0 ∷ []
 
 abbrev pub add_request_text : List ℕ
 add_request_text =
-    codes "INSERT INTO request (id, queue, subject, status, owner, level, created, opened, turn, since) VALUES (?1, ?2, ?3, ?4, ?5, ?6, ?7, ?8, ?9, ?10)"
+    codes "INSERT INTO request (id, queue, subject, status, owner, level, created, opened, turn, "
+    ++ codes "since) VALUES (?1, ?2, ?3, ?4, ?5, ?6, ?7, ?8, ?9, ?10)"
 
 abbrev pub add_request_terms : List Term
 add_request_terms = col 0 0 ∷ lit Null ∷ col 0 1 ∷ col 0 2 ∷ col 0 3 ∷ col 0 4 ∷ col 0 5 ∷ col 0 6
@@ -108,7 +112,8 @@ add_request_terms = col 0 0 ∷ lit Null ∷ col 0 1 ∷ col 0 2 ∷ col 0 3 ∷
 
 abbrev pub set_request_text : List ℕ
 set_request_text =
-    codes "UPDATE request SET queue = ?2, subject = ?3, status = ?4, owner = ?5, level = ?6, created = ?7, opened = ?8, turn = ?9, since = ?10, due = NULL WHERE id = ?1"
+    codes "UPDATE request SET queue = ?2, subject = ?3, status = ?4, owner = ?5, level = ?6, "
+    ++ codes "created = ?7, opened = ?8, turn = ?9, since = ?10, due = NULL WHERE id = ?1"
 
 abbrev pub set_request_terms : List Term
 set_request_terms = col 1 0 ∷ col 1 0 ∷ lit Null ∷ col 0 1 ∷ col 0 2 ∷ col 0 3 ∷ col 0 4 ∷ col 0 5
@@ -191,14 +196,16 @@ number_order = col 1 2 ∷ []
 
 abbrev pub entries_text : List ℕ
 entries_text =
-    codes "SELECT request, number, moment, actor, kind, head, body FROM entry ORDER BY request, number"
+    codes "SELECT request, number, moment, actor, kind, head, body FROM entry ORDER BY request, "
+    ++ codes "number"
 
 abbrev pub entry_order : List Term
 entry_order = col 1 1 ∷ col 1 2 ∷ []
 
 abbrev pub add_entry_text : List ℕ
 add_entry_text =
-    codes "INSERT INTO entry (request, number, moment, actor, kind, head, body) VALUES (?1, ?2, ?3, ?4, ?5, ?6, ?7)"
+    codes "INSERT INTO entry (request, number, moment, actor, kind, head, body) VALUES (?1, ?2, "
+    ++ codes "?3, ?4, ?5, ?6, ?7)"
 
 abbrev pub add_entry_terms : List Term
 add_entry_terms = lit Null ∷ col 0 0 ∷ col 0 1 ∷ col 0 2 ∷ col 0 3 ∷ col 0 4 ∷ col 0 5 ∷ col 0 6

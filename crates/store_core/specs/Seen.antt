@@ -4,5 +4,5 @@ use Rattle.sqlite.specs.State.{State}
 use Rattle.sqlite.specs.Store.{Ghosts}
 use Rattle.store_core.specs.declared.store.Store.{Store}
 
-abbrev pub state_of : {S : Type 0} → Ghosts S → Store S → State
+abbrev pub state_of : {S : Type 0} (g : Ghosts S) → Store S g → State
 state_of g store = state g store.conn

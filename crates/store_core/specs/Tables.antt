@@ -1,5 +1,5 @@
 -- The tables as sqlite describes them.
-use Rattle.std.specs.Prelude.{true, false, [], ◌∷◌, Some, None, codes, List, ℕ, pos}
+use Rattle.std.specs.Prelude.{true, false, [], ◌∷◌, ◌++◌, Some, None, codes, List, ℕ, pos}
 use Rattle.sqlite.specs.Collation.TheVariants.{Binary}
 use Rattle.sqlite_value.specs.Keys.{plain}
 use Rattle.sqlite.specs.declared.types.Value.TheVariants.{Null, Int}
@@ -17,39 +17,64 @@ use Rattle.sqlite_sql.specs.declared.ops.BinaryOp.TheVariants.{Compare}
 use Rattle.sqlite_sql.specs.declared.ops.CompareOp.TheVariants.{Eq}
 
 abbrev pub meta_text : List ℕ
-meta_text = codes
-    "CREATE TABLE IF NOT EXISTS meta (one INTEGER PRIMARY KEY CHECK (one = 1), version INTEGER NOT NULL) STRICT"
+meta_text =
+    codes "CREATE TABLE IF NOT EXISTS meta (one INTEGER PRIMARY KEY CHECK (one = 1), version "
+    ++ codes "INTEGER NOT NULL) STRICT"
 
 abbrev pub queue_text : List ℕ
-queue_text = codes
-    "CREATE TABLE IF NOT EXISTS queue (name TEXT NOT NULL PRIMARY KEY, lifecycle TEXT NOT NULL, level TEXT) STRICT"
+queue_text =
+    codes "CREATE TABLE IF NOT EXISTS queue (name TEXT NOT NULL PRIMARY KEY, lifecycle TEXT "
+    ++ codes "NOT NULL, level TEXT) STRICT"
 
 abbrev pub request_text : List ℕ
 request_text =
-    codes "CREATE TABLE IF NOT EXISTS request (id INTEGER PRIMARY KEY, queue TEXT NOT NULL REFERENCES queue(name), subject TEXT NOT NULL, status TEXT NOT NULL, owner TEXT, level TEXT, created INTEGER NOT NULL, opened INTEGER NOT NULL, turn INTEGER NOT NULL, since INTEGER NOT NULL, due INTEGER) STRICT"
+    codes "CREATE TABLE IF NOT EXISTS request (id INTEGER PRIMARY KEY, queue TEXT NOT NULL "
+    ++ codes "REFERENCES queue(name), subject TEXT NOT NULL, status TEXT NOT NULL, owner TEXT, "
+    ++ codes "level TEXT, created INTEGER NOT NULL, opened INTEGER NOT NULL, turn INTEGER NOT NULL, "
+    ++ codes "since INTEGER NOT NULL, due INTEGER) STRICT"
 
 abbrev pub watcher_text : List ℕ
 watcher_text =
-    codes "CREATE TABLE IF NOT EXISTS watcher (request INTEGER NOT NULL REFERENCES request(id), role INTEGER NOT NULL, person TEXT NOT NULL, PRIMARY KEY (request, role, person)) STRICT"
+    codes "CREATE TABLE IF NOT EXISTS watcher (request INTEGER NOT NULL REFERENCES request(id), "
+    ++ codes "role INTEGER NOT NULL, person TEXT NOT NULL, PRIMARY KEY (request, role, person)) "
+    ++ codes "STRICT"
 
 abbrev pub link_text : List ℕ
-link_text = codes
-    "CREATE TABLE IF NOT EXISTS link (source INTEGER NOT NULL REFERENCES request(id), kind INTEGER NOT NULL, target INTEGER NOT NULL REFERENCES request(id), PRIMARY KEY (source, kind, target)) STRICT"
+link_text =
+    codes "CREATE TABLE IF NOT EXISTS link (source INTEGER NOT NULL REFERENCES request(id), "
+    ++ codes "kind INTEGER NOT NULL, target INTEGER NOT NULL REFERENCES request(id), PRIMARY KEY "
+    ++ codes "(source, kind, target)) STRICT"
 
 abbrev pub entry_text : List ℕ
-entry_text = codes
-    "CREATE TABLE IF NOT EXISTS entry (request INTEGER NOT NULL REFERENCES request(id), number INTEGER NOT NULL, moment INTEGER NOT NULL, actor TEXT NOT NULL, kind INTEGER NOT NULL, head TEXT NOT NULL, body TEXT NOT NULL, PRIMARY KEY (request, number)) STRICT"
+entry_text =
+    codes "CREATE TABLE IF NOT EXISTS entry (request INTEGER NOT NULL REFERENCES request(id), "
+    ++ codes "number INTEGER NOT NULL, moment INTEGER NOT NULL, actor TEXT NOT NULL, kind "
+    ++ codes "INTEGER NOT NULL, head TEXT NOT NULL, body TEXT NOT NULL, PRIMARY KEY (request, "
+    ++ codes "number)) STRICT"
 
 abbrev pub no_stamps : Stamps
 no_stamps = record { places = []; terms = []; formats = [] }
 
 abbrev pub needed : List ℕ → Kind → Column
-needed name kind = record { name = name; kind = kind; is_strict = true; not_null = true; default =
-    Null; collation = Binary }
+needed name kind = record {
+  name = name;
+  kind = kind;
+  is_strict = true;
+  not_null = true;
+  default = Null;
+  collation = Binary;
+}
 
 abbrev pub optional : List ℕ → Kind → Column
-optional name kind = record { name = name; kind = kind; is_strict = true; not_null =
-    false; default = Null; collation = Binary }
+optional name kind = record {
+  name = name;
+  kind = kind;
+  is_strict = true;
+  not_null =
+      false;
+  default = Null;
+  collation = Binary;
+}
 
 abbrev pub meta : Table
 meta = record {
@@ -88,8 +113,15 @@ abbrev pub no_schema : Schema
 no_schema = record { tables = []; indexes = []; views = [] }
 
 abbrev pub queue_key : Index
-queue_key = record { name = codes "sqlite_autoindex_queue_1"; tree = 2; table = 1; columns =
-    1 ∷ []; order = plain; is_unique = true }
+queue_key = record {
+  name = codes "sqlite_autoindex_queue_1";
+  tree = 2;
+  table = 1;
+  columns =
+      1 ∷ [];
+  order = plain;
+  is_unique = true;
+}
 
 abbrev pub meta_schema : Schema
 meta_schema = record { tables = meta ∷ []; indexes = []; views = [] }
@@ -98,8 +130,15 @@ abbrev pub queue_schema : Schema
 queue_schema = record { tables = meta ∷ queue ∷ []; indexes = queue_key ∷ []; views = [] }
 
 abbrev pub refers : ℕ → List ℕ → List ℕ → Reference
-refers place parent name = record { columns = place ∷ []; parent = parent; parent_columns =
-    name ∷ []; on_delete = NoAction; on_update = NoAction; is_deferred = false }
+refers place parent name = record {
+  columns = place ∷ [];
+  parent = parent;
+  parent_columns =
+      name ∷ [];
+  on_delete = NoAction;
+  on_update = NoAction;
+  is_deferred = false;
+}
 
 abbrev pub request : Table
 request = record {
@@ -108,8 +147,8 @@ request = record {
   columns = optional (codes "id") Integer ∷ needed (codes "queue") Text
       ∷ needed (codes "subject") Text ∷ needed (codes "status") Text ∷ optional (codes "owner") Text
       ∷ optional (codes "level") Text ∷ needed (codes "created") Integer
-          ∷ needed (codes "opened") Integer ∷ needed (codes "turn") Integer
-          ∷ needed (codes "since") Integer
+      ∷ needed (codes "opened") Integer ∷ needed (codes "turn") Integer
+      ∷ needed (codes "since") Integer
       ∷ optional (codes "due") Integer ∷ [];
   key = Some 0;
   primary = 0 ∷ [];
@@ -177,29 +216,66 @@ entry = record {
 }
 
 abbrev pub watcher_key : Index
-watcher_key = record { name = codes "sqlite_autoindex_watcher_1"; tree = 5; table = 4; columns =
-    1 ∷ 2 ∷ 3 ∷ []; order = plain; is_unique = true }
+watcher_key = record {
+  name = codes "sqlite_autoindex_watcher_1";
+  tree = 5;
+  table = 4;
+  columns =
+      1 ∷ 2 ∷ 3 ∷ [];
+  order = plain;
+  is_unique = true;
+}
 
 abbrev pub link_key : Index
-link_key = record { name = codes "sqlite_autoindex_link_1"; tree = 7; table = 6; columns =
-    1 ∷ 2 ∷ 3 ∷ []; order = plain; is_unique = true }
+link_key = record {
+  name = codes "sqlite_autoindex_link_1";
+  tree = 7;
+  table = 6;
+  columns =
+      1 ∷ 2 ∷ 3 ∷ [];
+  order = plain;
+  is_unique = true;
+}
 
 abbrev pub entry_key : Index
-entry_key = record { name = codes "sqlite_autoindex_entry_1"; tree = 9; table = 8; columns =
-    1 ∷ 2 ∷ []; order = plain; is_unique = true }
+entry_key = record {
+  name = codes "sqlite_autoindex_entry_1";
+  tree = 9;
+  table = 8;
+  columns =
+      1 ∷ 2 ∷ [];
+  order = plain;
+  is_unique = true;
+}
 
 abbrev pub request_schema : Schema
-request_schema = record { tables = meta ∷ queue ∷ request ∷ []; indexes = queue_key ∷ []; views =
-    [] }
+request_schema = record {
+  tables = meta ∷ queue ∷ request ∷ [];
+  indexes = queue_key ∷ [];
+  views =
+      [];
+}
 
 abbrev pub watcher_schema : Schema
-watcher_schema = record { tables = meta ∷ queue ∷ request ∷ watcher ∷ []; indexes =
-    queue_key ∷ watcher_key ∷ []; views = [] }
+watcher_schema = record {
+  tables = meta ∷ queue ∷ request ∷ watcher ∷ [];
+  indexes =
+      queue_key ∷ watcher_key ∷ [];
+  views = [];
+}
 
 abbrev pub link_schema : Schema
-link_schema = record { tables = meta ∷ queue ∷ request ∷ watcher ∷ link ∷ []; indexes =
-    queue_key ∷ watcher_key ∷ link_key ∷ []; views = [] }
+link_schema = record {
+  tables = meta ∷ queue ∷ request ∷ watcher ∷ link ∷ [];
+  indexes =
+      queue_key ∷ watcher_key ∷ link_key ∷ [];
+  views = [];
+}
 
 abbrev pub desk_schema : Schema
-desk_schema = record { tables = meta ∷ queue ∷ request ∷ watcher ∷ link ∷ entry ∷ []; indexes =
-    queue_key ∷ watcher_key ∷ link_key ∷ entry_key ∷ []; views = [] }
+desk_schema = record {
+  tables = meta ∷ queue ∷ request ∷ watcher ∷ link ∷ entry ∷ [];
+  indexes =
+      queue_key ∷ watcher_key ∷ link_key ∷ entry_key ∷ [];
+  views = [];
+}

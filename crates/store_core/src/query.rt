@@ -27,7 +27,8 @@ pub(crate) fn select<S: Alter>(
     requires idle { conn.old.in_transaction ≡ false }
     ensures idle { conn.new.in_transaction ≡ false }
     ensures shown { HasCleanDisk (state S.Store conn.new) → IfOk result (λ rows.
-        Shown sql.now (bound params.now) (state S.Store conn.old) (state S.Store conn.new) rows.items) }
+        Shown sql.now (bound params.now) (state S.Store conn.old) (state S.Store conn.new)
+        rows.items) }
     ensures kept { Leaves (state S.Store conn.old) (state S.Store conn.new) }
     ensures honest { WasClean (state S.Store conn.old) (state S.Store conn.new) }
     ensures fault { IfErr result (λ e. e ≡ StoreFault.Refused) }

@@ -48,7 +48,11 @@ pub(crate) fn run_on_one<S: Alter>(
     ensures honest { WasClean (state S.Store tx.old.conn.now) (state S.Store tx.new.conn.now) }
     ensures fault { IfErr result (λ e. e ≡ StoreFault.Refused) }
 {
-    if run(tx, sql, params)? == 1 { Ok(()) } else { Err(StoreFault::Refused) }
+    if run(tx, sql, params)? == 1 {
+        Ok(())
+    } else {
+        Err(StoreFault::Refused)
+    }
 }
 
 /// Commits, or leaves what was committed before.

@@ -30,7 +30,11 @@ fn rows_queues<S: Alter>(conn: &mut Connection<S>) -> Result<Vec<Row>, StoreFaul
         (state S.Store conn.old) (state S.Store conn.new) result }
     ensures fault { IfErr result (λ e. e ≡ StoreFault.Refused) }
 {
-    select(conn, "SELECT name, lifecycle, level FROM queue ORDER BY name", &[])
+    select(
+        conn,
+        "SELECT name, lifecycle, level FROM queue ORDER BY name",
+        &[],
+    )
 }
 
 /// The queues, by name. `Mismatch` where a row is no queue, `Refused` where the store refuses it.
@@ -64,7 +68,11 @@ fn rows_named<S: Alter>(conn: &mut Connection<S>, name: &Text) -> Result<Vec<Row
         (state S.Store conn.old) (state S.Store conn.new) result }
     ensures fault { IfErr result (λ e. e ≡ StoreFault.Refused) }
 {
-    select(conn, "SELECT name, lifecycle, level FROM queue WHERE name = ?1", &[words(name)])
+    select(
+        conn,
+        "SELECT name, lifecycle, level FROM queue WHERE name = ?1",
+        &[words(name)],
+    )
 }
 
 /// The queue with that name, or none.

@@ -25,7 +25,11 @@ pub(crate) fn put_queue<S: Alter>(
     let _ = run(
         tx,
         "INSERT INTO queue (name, lifecycle, level) VALUES (?1, ?2, ?3)",
-        &[words(&row.name), words(&row.lifecycle), nullable(&row.level)],
+        &[
+            words(&row.name),
+            words(&row.lifecycle),
+            nullable(&row.level),
+        ],
     )?;
     Ok(())
 }

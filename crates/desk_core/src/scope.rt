@@ -1,0 +1,16 @@
+use crate::rows::LinkRow;
+use text_core::Text;
+
+/// What a command looks at on a desk before it is decided.
+#[derive(Drop)]
+pub enum Scope<'c> {
+    Nothing,
+    /// A queue, and how many queues and requests there are.
+    Queue(&'c Text),
+    /// A request and its queue.
+    Request(u32),
+    /// A request, its queue, and what it depends on.
+    Dependencies(u32),
+    /// A request, its queue, the request at the other end of a link, and whether the link is there.
+    Link(LinkRow),
+}
