@@ -18,3 +18,4 @@ pub mod TableLemmas
 pub mod TestLemmas
 pub mod VersionLemmas
 pub mod WriteLemmas
+pub mod WrittenDesk

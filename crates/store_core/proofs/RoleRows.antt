@@ -1,6 +1,7 @@
 -- A person put into a role or taken out of it, as a row of the persons of a request.
 use Rattle.std.proofs.Common.{◌≡◌, ◌∙◌, ℕ, ◌==◌, Bool, true, false, not, ◌&&◌, ◌||◌, cond}
-use Rattle.std.proofs.Common.{List, [], ◌∷◌, ◌++◌, map, filter, refl, ap, ap₂, sym, IsPermutation}
+use Rattle.std.proofs.Common.{List, [], ◌∷◌, ◌++◌, map, filter, flat_map, refl, ap, ap₂, sym}
+use Rattle.std.proofs.Common.{IsPermutation}
 use Rattle.std.proofs.lemmas.Bool.{eq-eqb, or_parts}
 use Rattle.std.proofs.lemmas.List.Folds.{list_any-append}
 use Rattle.std.proofs.lemmas.List.Sorted.{IsPermutation-refl, IsPermutation-map}
@@ -10,7 +11,7 @@ use Rattle.std.specs.Ordering.{is_eq, match_ordering}
 use Rattle.std.specs.Str.{bytes_eq}
 use Rattle.std.specs.declared.cmp.Ordering.TheVariants.{Less, Equal, Greater}
 use Rattle.desk_core.specs.Change.{in_role, without_name}
-use Rattle.desk_core.specs.Desk.{Request}
+use Rattle.desk_core.specs.Desk.{Request, revised_at}
 use Rattle.desk_core.specs.Names.{text_order, with_name}
 use Rattle.desk_core.specs.Watchers.{is_role, is_watching, watcher, watchers_of}
 use Rattle.desk_core.specs.declared.rows.Watcher.{Watcher}
@@ -95,7 +96,7 @@ put_row_alike role person r none =
           more_after a (b ++ c) _ _ (more_after b c _ _ (put_alike id AdminCc person r.admin_cc z))
     ] first.0 rest.0 rest.1
 
-filter_alike : {X : Type 0} (p q : X → Bool) → ((x : X) → p x ≡ q x) → (xs : List X)
+pub filter_alike : {X : Type 0} (p q : X → Bool) → ((x : X) → p x ≡ q x) → (xs : List X)
     → filter p xs ≡ filter q xs
 filter_alike p q same [] = refl
 filter_alike p q same (x ∷ xs) =
@@ -173,3 +174,19 @@ leave_rows id role person r number =
     ∙ joined (left_of id other role person r.requestors Requestor number)
     (left_of id other role person r.cc Cc number)
     (left_of id other role person r.admin_cc AdminCc number)
+
+-- of all persons of all requests those rows are left
+pub taken_each : (id : ℕ) (role : WatchRole) (person : List ℕ) (rs : List Request)
+    → filter (stays id role person) (flat_map watchers_of rs)
+    ≡ flat_map watchers_of (map (revised_at id (in_role role (λ names. without_name names person))) rs)
+taken_each id role person [] = refl
+taken_each id role person (r ∷ rs) =
+    let f = in_role role (λ names. without_name names person) in
+    filter-append (stays id role person) (watchers_of r) (flat_map watchers_of rs)
+    ∙ ap₂ (λ l m. l ++ m)
+    (elim (r.row.id == id) as (λ b. (r.row.id == id) ≡ b
+        → filter (stays id role person) (watchers_of r) ≡ watchers_of (cond b (f r) r)) [
+      | true ↦ take_row id role person r
+      | false ↦ leave_rows id role person r
+    ] refl)
+    (taken_each id role person rs)

@@ -8,7 +8,6 @@ mod lists;
 mod query;
 mod reads;
 pub mod store;
-pub mod zz;
 mod stored;
 mod transaction;
 mod writes;
