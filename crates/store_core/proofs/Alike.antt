@@ -1,13 +1,11 @@
 -- Lists that are alike up to order: with one more element, and with one of many changed.
-use Rattle.std.proofs.Common.{◌≡◌, ◌∙◌, ℕ, ◌+◌, ◌==◌, Bool, true, false, not, ◌&&◌, ◌||◌, cond}
-use Rattle.std.proofs.Common.{List, [], ◌∷◌, ◌++◌, map, filter, flat_map, refl, ap, sym, subst}
-use Rattle.std.proofs.Common.{IsPermutation, append_assoc}
-use Rattle.std.proofs.lemmas.Bool.{and_parts}
-use Rattle.std.proofs.lemmas.List.Sorted.{IsPermutation-refl, IsPermutation-cons}
+use Rattle.std.proofs.Common.{Bool, true, false, cond}
+use Rattle.std.proofs.Common.{List, [], ◌∷◌, ◌++◌}
+use Rattle.std.proofs.Common.{IsPermutation}
+use Rattle.std.proofs.lemmas.List.Sorted.{IsPermutation-refl}
 use Rattle.std.proofs.lemmas.List.Sorted.{IsPermutation-middle, IsPermutation-trans}
 use Rattle.std.proofs.lemmas.List.Sorted.{IsPermutation-sym, IsPermutation-append_left}
 use Rattle.std.proofs.lemmas.List.Sorted.{IsPermutation-append_right}
-use Rattle.std.specs.List.{list_all, list_any}
 use Rattle.desk_core.specs.Desk.{placed}
 
 -- one more, at the front or behind others
@@ -27,7 +25,8 @@ pub placed_alike : {X : Type 0} (lower : X → X → Bool) (xs : List X) (x : X)
     → IsPermutation (x ∷ xs) (placed lower xs x)
 placed_alike lower [] x = IsPermutation-refl _
 placed_alike lower (y ∷ ys) x =
-    elim (lower x y) as (λ b. IsPermutation (x ∷ y ∷ ys) (cond b (x ∷ y ∷ ys) (y ∷ placed lower ys x))) [
+    elim (lower x y) as
+        (λ b. IsPermutation (x ∷ y ∷ ys) (cond b (x ∷ y ∷ ys) (y ∷ placed lower ys x))) [
       | true ↦ IsPermutation-refl _
       | false ↦ more_after (y ∷ []) ys (placed lower ys x) x (placed_alike lower ys x)
     ]

@@ -1,10 +1,10 @@
 -- One of a desk's requests is revised: what becomes of lists that are read off the requests.
-use Rattle.std.proofs.Common.{◌≡◌, ◌∙◌, ℕ, ◌+◌, ◌==◌, Bool, true, false, not, ◌&&◌, ◌||◌, cond}
-use Rattle.std.proofs.Common.{List, [], ◌∷◌, ◌++◌, map, filter, flat_map, refl, ap, ap₂, sym, subst}
-use Rattle.std.proofs.Common.{IsPermutation, ◌<◌, ◌≤◌, arith, find, Some, None, Option}
+use Rattle.std.proofs.Common.{◌≡◌, ◌∙◌, ℕ, ◌+◌, ◌==◌, Bool, true, false, not, ◌||◌, cond}
+use Rattle.std.proofs.Common.{List, [], ◌∷◌, ◌++◌, map, filter, flat_map, refl, ap, ap₂, sym}
+use Rattle.std.proofs.Common.{IsPermutation, ◌<◌, arith, find, Some}
 use Rattle.std.proofs.lemmas.Bool.{and_from, and_parts, eqb-true, ne_eqb, not_from_false, or_parts}
 use Rattle.std.proofs.lemmas.List.Folds.{list_any-append}
-use Rattle.std.proofs.lemmas.List.Sorted.{IsPermutation-refl, IsPermutation-trans}
+use Rattle.std.proofs.lemmas.List.Sorted.{IsPermutation-refl}
 use Rattle.std.specs.List.{list_all, list_any}
 use Rattle.std.specs.Option.{is_some}
 use Rattle.desk_core.specs.Change.{with_row}
@@ -46,7 +46,8 @@ none_filtered id (r ∷ rs) none =
     let parts = or_parts (r.row.id == id) (list_any (λ n. n == id) (map id_of rs)) none in
     rw parts.0 (ap (λ l. r.row ∷ l) (none_filtered id rs parts.1))
 
-module _ {B : Type 0} (g : Request → List B) (f : Request → Request) (id : ℕ) (fits : Request → Bool) where
+module _ {B : Type 0} (g : Request → List B) (f : Request → Request) (id : ℕ)
+    (fits : Request → Bool) where
   -- what is read off the one request gets one more, and so does the whole
   pub one_more : (b : B) (next : ℕ) (rs : List Request)
       → ((r : Request) → r.row.id ≡ id → fits r ≡ true → IsPermutation (b ∷ g r) (g (f r)))
@@ -57,12 +58,15 @@ module _ {B : Type 0} (g : Request → List B) (f : Request → Request) (id : �
   one_more b next (r ∷ rs) grows numbered there all =
       let parts = and_parts (r.row.id == next) (are_numbered (next + 1) (map id_of rs)) numbered in
       let each = and_parts (fits r) (list_all fits rs) all in
-      elim (r.row.id == id) as (λ c. (r.row.id == id) ≡ c → (c || list_any (λ n. n == id) (map id_of rs)) ≡ true
-          → IsPermutation (b ∷ (g r ++ flat_map g rs)) (g (cond c (f r) r) ++ flat_map g (map (revised_at id f) rs))) [
+      elim (r.row.id == id) as
+          (λ c. (r.row.id == id) ≡ c → (c || list_any (λ n. n == id) (map id_of rs)) ≡ true
+          → IsPermutation (b ∷ (g r ++ flat_map g rs))
+              (g (cond c (f r) r) ++ flat_map g (map (revised_at id f) rs))) [
         | true ↦ λ same any.
             let here = eqb-true r.row.id id same in
             let first = eqb-true r.row.id next parts.0 in
-            let none = none_before (next + 1) id (map id_of rs) (omega (arith, here, first)) parts.1 in
+            let none = none_before (next + 1) id (map id_of rs)
+                (omega (arith, here, first)) parts.1 in
             rw (none_revised id f rs none)
             (more_before (g r) (flat_map g rs) (g (f r)) b (grows r here each.0))
         | false ↦ λ other any.
@@ -133,9 +137,11 @@ one_set row next (r ∷ rs) numbered there =
       | true ↦ λ same any.
           let here = eqb-true r.row.id row.id same in
           let first = eqb-true r.row.id next parts.0 in
-          let none = none_before (next + 1) row.id (map id_of rs) (omega (arith, here, first)) parts.1 in
+          let none = none_before (next + 1) row.id (map id_of rs)
+              (omega (arith, here, first)) parts.1 in
           rw (none_revised row.id (with_row row) rs none, none_filtered row.id rs none)
           (IsPermutation-refl _)
       | false ↦ λ other any.
-          more_after (r.row ∷ []) others (map (λ x. x.row) left) row (one_set row (next + 1) rs parts.1 any)
+          more_after (r.row ∷ []) others (map (λ x. x.row) left) row
+              (one_set row (next + 1) rs parts.1 any)
     ] refl there

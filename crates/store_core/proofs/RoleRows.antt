@@ -1,5 +1,5 @@
 -- A person put into a role or taken out of it, as a row of the persons of a request.
-use Rattle.std.proofs.Common.{◌≡◌, ◌∙◌, ℕ, ◌==◌, Bool, true, false, not, ◌&&◌, ◌||◌, cond}
+use Rattle.std.proofs.Common.{◌≡◌, ◌∙◌, ℕ, ◌==◌, Bool, true, false, not, ◌&&◌, cond}
 use Rattle.std.proofs.Common.{List, [], ◌∷◌, ◌++◌, map, filter, flat_map, refl, ap, ap₂, sym}
 use Rattle.std.proofs.Common.{IsPermutation}
 use Rattle.std.proofs.lemmas.Bool.{eq-eqb, or_parts}
@@ -37,7 +37,8 @@ named_alike (y ∷ ys) name none =
       | Equal ↦ λ e.
           let ties = texts_ties name y ∙ ap is_eq e in
           let same : name ≡ y = same_text name y (sym ties) in
-          absurd (let other : bytes_eq name y ≡ bytes_eq y name = ap₂ bytes_eq same (sym same) in cc)
+          absurd (let other : bytes_eq name y
+              ≡ bytes_eq y name = ap₂ bytes_eq same (sym same) in cc)
       | Greater ↦ λ e.
           more_after (y ∷ []) ys (with_name ys name) name (named_alike ys name parts.1)
     ] refl
@@ -121,14 +122,17 @@ module _ (id other : ℕ) (role : WatchRole) (person : List ℕ) (names : List (
       ∙ ap (map (watcher other role)) (filter_alike _ _
       (λ n. rw (number, kind) (ap not (sym (texts_ties n person)))) names)
 
-  kept_of : (in_it : WatchRole) → (other == id) ≡ true → (role_number in_it == role_number role) ≡ false
-      → filter (stays id role person) (map (watcher other in_it) names) ≡ map (watcher other in_it) names
+  kept_of : (in_it : WatchRole) → (other == id) ≡ true
+      → (role_number in_it == role_number role) ≡ false
+      → filter (stays id role person) (map (watcher other in_it) names)
+          ≡ map (watcher other in_it) names
   kept_of in_it number kind =
       filter-map (stays id role person) (watcher other in_it) names
       ∙ ap (map (watcher other in_it)) (all_kept _ (λ n. rw (number, kind) refl) names)
 
   left_of : (in_it : WatchRole) → (other == id) ≡ false
-      → filter (stays id role person) (map (watcher other in_it) names) ≡ map (watcher other in_it) names
+      → filter (stays id role person) (map (watcher other in_it) names)
+          ≡ map (watcher other in_it) names
   left_of in_it number =
       filter-map (stays id role person) (watcher other in_it) names
       ∙ ap (map (watcher other in_it)) (all_kept _ (λ n. rw number refl) names)
@@ -178,7 +182,8 @@ leave_rows id role person r number =
 -- of all persons of all requests those rows are left
 pub taken_each : (id : ℕ) (role : WatchRole) (person : List ℕ) (rs : List Request)
     → filter (stays id role person) (flat_map watchers_of rs)
-    ≡ flat_map watchers_of (map (revised_at id (in_role role (λ names. without_name names person))) rs)
+    ≡ flat_map watchers_of
+        (map (revised_at id (in_role role (λ names. without_name names person))) rs)
 taken_each id role person [] = refl
 taken_each id role person (r ∷ rs) =
     let f = in_role role (λ names. without_name names person) in

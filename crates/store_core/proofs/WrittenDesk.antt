@@ -1,20 +1,22 @@
 -- What a change writes is, up to order, what tables hold of the changed desk.
-use Rattle.std.proofs.Common.{◌≡◌, ◌∙◌, ℕ, ◌+◌, ◌==◌, Bool, true, false, not, ◌&&◌, ◌||◌, cond}
-use Rattle.std.proofs.Common.{List, [], ◌∷◌, ◌++◌, map, filter, flat_map, fold, length, refl, ap, ap₂}
+use Rattle.std.proofs.Common.{◌≡◌, ◌∙◌, ℕ, ◌==◌, Bool, true, false, not, ◌&&◌}
+use Rattle.std.proofs.Common.{List, [], ◌∷◌, ◌++◌, map, filter, fold, refl, ap}
+use Rattle.std.proofs.Common.{ap₂}
 use Rattle.std.proofs.Common.{sym, subst, IsPermutation, Option, Some, None, arith, append-nil}
 use Rattle.std.proofs.lemmas.List.{map-append}
 use Rattle.std.proofs.lemmas.Bool.{and_from, and_parts, eq-eqb, eqb-false, eqb-true, ne_eqb}
 use Rattle.std.proofs.lemmas.Grind.{flat_map-append}
 use Rattle.std.proofs.lemmas.List.Sorted.{IsPermutation-refl, IsPermutation-cons}
-use Rattle.std.proofs.lemmas.List.Sorted.{IsPermutation-sym, IsPermutation-trans, IsPermutation-to_front}
+use Rattle.std.proofs.lemmas.List.Sorted.{IsPermutation-sym, IsPermutation-trans}
+use Rattle.std.proofs.lemmas.List.Sorted.{IsPermutation-to_front}
 use Rattle.sqlite_trees.proofs.ListLemmas.{IsPermutation-filter}
 use Rattle.std.specs.List.{list_all, list_any}
-use Rattle.std.specs.Option.{is_some}
 use Rattle.desk_core.proofs.DeskLaw.Numbers.{numbered_more}
-use Rattle.desk_core.specs.Change.{applied, entry_put, filed, in_role, link_put, link_taken, person_put}
+use Rattle.desk_core.specs.Change.{applied, entry_put, filed, in_role, link_put, link_taken}
+use Rattle.desk_core.specs.Change.{person_put}
 use Rattle.desk_core.specs.Change.{person_taken, queue_put, request_filed, row_set, with_entry}
 use Rattle.desk_core.specs.Change.{with_row, without_name}
-use Rattle.desk_core.specs.Desk.{Desk, Request, has_lower_name, request_at, revised_at}
+use Rattle.desk_core.specs.Desk.{Desk, Request, has_lower_name}
 use Rattle.desk_core.specs.Desk.{with_revised}
 use Rattle.desk_core.specs.IsDesk.{IsDesk, are_numbered, ids}
 use Rattle.desk_core.specs.Links as links
@@ -62,15 +64,18 @@ in_role_entries AdminCc f r = refl
 -- ---- the numbers stay
 
 ids_revised : (desk : Desk) (id : ℕ) (f : Request → Request)
-    → ((r : Request) → r.row.id ≡ id → (f r).row.id ≡ r.row.id) → ids (with_revised desk id f) ≡ ids desk
+    → ((r : Request) → r.row.id ≡ id → (f r).row.id ≡ r.row.id)
+        → ids (with_revised desk id f) ≡ ids desk
 ids_revised desk id f keeps = kept_each f id (λ r. r.row.id) keeps desk.requests
 
 ids_role : (role : WatchRole) (g : List (List ℕ) → List (List ℕ)) (id : ℕ) (desk : Desk)
     → ids (with_revised desk id (in_role role g)) ≡ ids desk
 ids_role role g id desk =
-    ids_revised desk id (in_role role g) (λ r here. ap (λ (x : RequestRow). x.id) (in_role_row role g r))
+    ids_revised desk id (in_role role g)
+        (λ r here. ap (λ (x : RequestRow). x.id) (in_role_row role g r))
 
-ids_folded : {X : Type 0} (step : Desk → X → Desk) → ((desk : Desk) (x : X) → ids (step desk x) ≡ ids desk)
+ids_folded : {X : Type 0} (step : Desk → X → Desk)
+    → ((desk : Desk) (x : X) → ids (step desk x) ≡ ids desk)
     → (xs : List X) (desk : Desk) → ids (fold step desk xs) ≡ ids desk
 ids_folded step keeps [] desk = refl
 ids_folded step keeps (x ∷ xs) desk = ids_folded step keeps xs (step desk x) ∙ keeps desk x
@@ -99,7 +104,8 @@ there_by a b id same h =
 among : (desk : Desk) (id : ℕ) → is_there desk id ≡ true → list_any (λ n. n == id) (ids desk) ≡ true
 among desk id h = sym (there_by_number id desk.requests) ∙ h
 
-requests_queued : (queue : Option QueueRow) (desk : Desk) → (queue_put queue desk).requests ≡ desk.requests
+requests_queued : (queue : Option QueueRow) (desk : Desk)
+    → (queue_put queue desk).requests ≡ desk.requests
 requests_queued None desk = refl
 requests_queued (Some queue) desk = refl
 
@@ -128,14 +134,17 @@ all_true (r ∷ rs) = all_true rs
 -- a person put into a role is one more row, on the request of that number
 put_row_here : (w : Watcher) (r : Request) → r.row.id ≡ w.id
     → is_watching w.person w.id w.role (watchers_of r) ≡ false
-    → IsPermutation (w ∷ watchers_of r) (watchers_of (in_role w.role (λ names. with_name names w.person) r))
+    → IsPermutation (w ∷ watchers_of r)
+        (watchers_of (in_role w.role (λ names. with_name names w.person) r))
 put_row_here w r here none =
     subst (λ id. IsPermutation (watcher id w.role w.person ∷ watchers_of r)
     (watchers_of (in_role w.role (λ names. with_name names w.person) r))) here
-    (put_row_alike w.role w.person r (ap (λ id. is_watching w.person id w.role (watchers_of r)) here ∙ none))
+    (put_row_alike w.role w.person r
+        (ap (λ id. is_watching w.person id w.role (watchers_of r)) here ∙ none))
 
 -- another row of the same number has the same persons
-rows_moved : (row : RequestRow) (r : Request) → r.row.id ≡ row.id → watchers_of (with_row row r) ≡ watchers_of r
+rows_moved : (row : RequestRow) (r : Request) → r.row.id ≡ row.id
+    → watchers_of (with_row row r) ≡ watchers_of r
 rows_moved row r here =
     ap (λ id. map (watcher id Requestor) r.requestors
     ++ (map (watcher id Cc) r.cc ++ map (watcher id AdminCc) r.admin_cc)) (sym here)
@@ -147,7 +156,8 @@ alike_put c desk w numbered there none h =
     let f = in_role w.role (λ names. with_name names w.person) in
     let is = is_row_of w.id w.role w.person in
     let rs = desk.requests in
-    let grows = λ (r : Request) (here : r.row.id ≡ w.id) (free : not (list_any is (watchers_of r)) ≡ true).
+    let grows = λ (r : Request) (here : r.row.id ≡ w.id)
+        (free : not (list_any is (watchers_of r)) ≡ true).
         put_row_here w r here (not_watching _ free) in
     record {
       version = h.version;
@@ -159,7 +169,8 @@ alike_put c desk w numbered there none h =
           numbered (among desk w.id there) (none_each is watchers_of rs none));
       links = h.links;
       entries = subst (IsPermutation c.entries)
-          (sym (kept_all f w.id (λ r. r.entries) (λ r here. in_role_entries w.role _ r) rs)) h.entries;
+          (sym (kept_all f w.id (λ r. r.entries) (λ r here. in_role_entries w.role _ r) rs))
+              h.entries;
     }
 
 alike_taken : (c : Contents) (desk : Desk) (w : Watcher) → AreAlike c (contents_of desk)
@@ -177,7 +188,8 @@ alike_taken c desk w h =
           (IsPermutation-filter (λ x. not (is_watcher w x)) c.watchers (watchers desk) h.watchers);
       links = h.links;
       entries = subst (IsPermutation c.entries)
-          (sym (kept_all f w.id (λ r. r.entries) (λ r here. in_role_entries w.role _ r) rs)) h.entries;
+          (sym (kept_all f w.id (λ r. r.entries) (λ r here. in_role_entries w.role _ r) rs))
+              h.entries;
     }
 
 alike_noted : (c : Contents) (desk : Desk) (e : Entry) → IsNumbered desk → is_there desk e.id ≡ true
@@ -199,8 +211,10 @@ alike_noted c desk e numbered there h =
           numbered (among desk e.id there) (all_true rs));
     }
 
-alike_set : (c : Contents) (desk : Desk) (row : RequestRow) → IsNumbered desk → is_there desk row.id ≡ true
-    → AreAlike c (contents_of desk) → AreAlike (request_set (Some row) c) (contents_of (row_set (Some row) desk))
+alike_set : (c : Contents) (desk : Desk) (row : RequestRow) → IsNumbered desk
+    → is_there desk row.id ≡ true
+    → AreAlike c (contents_of desk)
+        → AreAlike (request_set (Some row) c) (contents_of (row_set (Some row) desk))
 alike_set c desk row numbered there h =
     let f = with_row row in
     let rs = desk.requests in
@@ -208,7 +222,8 @@ alike_set c desk row numbered there h =
       version = h.version;
       queues = h.queues;
       requests = IsPermutation-trans _ _ _
-          (IsPermutation-cons row _ _ (IsPermutation-filter _ c.requests (request_rows desk) h.requests))
+          (IsPermutation-cons row _ _
+              (IsPermutation-filter _ c.requests (request_rows desk) h.requests))
           (one_set row 1 rs numbered (among desk row.id there));
       watchers = subst (IsPermutation c.watchers)
           (sym (kept_all f row.id watchers_of (λ r here. rows_moved row r here) rs)) h.watchers;
@@ -221,7 +236,8 @@ requests_linked : (o : Option LinkRow) (desk : Desk) → (link_put o desk).reque
 requests_linked None desk = refl
 requests_linked (Some link) desk = refl
 
-requests_unlinked : (o : Option LinkRow) (desk : Desk) → (link_taken o desk).requests ≡ desk.requests
+requests_unlinked : (o : Option LinkRow) (desk : Desk)
+    → (link_taken o desk).requests ≡ desk.requests
 requests_unlinked None desk = refl
 requests_unlinked (Some link) desk = refl
 
@@ -284,7 +300,8 @@ alike_filed (Some row) c desk h =
           (sym (flat_map-append (λ r. r.entries) rs last ∙ append-nil (entries desk))) h.entries;
     }
 
-alike_row : (o : Option RequestRow) (c : Contents) (desk : Desk) → IsNumbered desk → SetsThere desk o
+alike_row : (o : Option RequestRow) (c : Contents) (desk : Desk) → IsNumbered desk
+    → SetsThere desk o
     → AreAlike c (contents_of desk) → AreAlike (request_set o c) (contents_of (row_set o desk))
 alike_row None c desk numbered there h = h
 alike_row (Some row) c desk numbered there h = alike_set c desk row numbered there h
@@ -377,11 +394,14 @@ written_alike desk change is fits =
     let noted = link_taken change.unlinked linked in
     let opened_ids = ap (map (λ r. r.row.id)) (requests_queued change.queue desk) in
     let from_one = numbered_by opened desk opened_ids is.requests in
-    let grown = numbered_filed change.filed opened (next_queued change.filed change.queue desk fits.files) from_one in
+    let grown = numbered_filed change.filed opened
+        (next_queued change.filed change.queue desk fits.files) from_one in
     let in_rows = numbered_by rows wider (ids_set change.row wider) grown in
     let same : ids noted ≡ ids rows =
-        ap (map (λ r. r.row.id)) (requests_unlinked change.unlinked linked ∙ requests_linked change.linked taken)
-        ∙ ids_folded person_taken ids_taken change.taken put ∙ ids_folded person_put ids_put change.put rows in
+        ap (map (λ r. r.row.id))
+            (requests_unlinked change.unlinked linked ∙ requests_linked change.linked taken)
+        ∙ ids_folded person_taken ids_taken change.taken put
+            ∙ ids_folded person_put ids_put change.put rows in
     let start : AreAlike (contents_of desk) (contents_of desk) = alike_itself (contents_of desk) in
     alike_notes change.entries _ noted (numbered_by noted rows same in_rows)
     (every_there noted rows same change.entries fits.notes)
