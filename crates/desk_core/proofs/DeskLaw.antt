@@ -11,7 +11,7 @@ use Rattle.desk_core.proofs.DeskLaw.Queues.{each_in_queue, queues_rise}
 use Rattle.desk_core.specs.Change.{applied}
 use Rattle.desk_core.specs.Commands.{plan_of}
 use Rattle.desk_core.specs.Desk.{Desk, empty_desk}
-use Rattle.desk_core.specs.IsDesk.{IsDesk, StaysDesk}
+use Rattle.desk_core.specs.IsDesk.{IsDesk, KeepsDesk}
 use Rattle.desk_core.specs.Plan.{change_by}
 use Rattle.desk_core.specs.Step.{call, desk_unless, effect, facts_of, guard}
 use Rattle.desk_core.specs.declared.change.Change.{Change}
@@ -28,10 +28,19 @@ pub mod Stages
 
 pub empty_is_desk : IsDesk empty_desk
 empty_is_desk =
-    record { queues = refl; requests = refl; persons = refl; entries = refl; filed_in = refl; links = refl; ends = refl }
+    record {
+      queues = refl;
+      requests = refl;
+      persons = refl;
+      entries = refl;
+      filed_in = refl;
+      links = refl;
+      ends = refl;
+    }
 
 -- a change that fits leaves a desk
-desk_applied : (change : Change) (desk : Desk) → Fits desk change → IsDesk desk → IsDesk (applied change desk)
+desk_applied : (change : Change) (desk : Desk) → Fits desk change → IsDesk desk
+    → IsDesk (applied change desk)
 desk_applied change desk fits is =
     record {
       queues = queues_rise change desk fits.opens is.queues;
@@ -43,13 +52,16 @@ desk_applied change desk fits is =
       ends = ends_there change desk fits.links is.ends;
     }
 
-desk_unless_refused : (s : Settings) (at : ℕ) (caller : List ℕ) (command : Command) (desk : Desk) (o : Option Refusal)
-    → guard s at caller command desk ≡ o → IsDesk desk → IsDesk (desk_unless o desk (effect s at caller command desk))
+desk_unless_refused : (s : Settings) (at : ℕ) (caller : List ℕ) (command : Command) (desk : Desk)
+    (o : Option Refusal)
+    → guard s at caller command desk ≡ o → IsDesk desk
+    → IsDesk (desk_unless o desk (effect s at caller command desk))
 desk_unless_refused s at caller command desk (Some refusal) refused is = is
 desk_unless_refused s at caller command desk None free is =
     desk_applied (change_by (call s at caller) (facts_of command desk) (plan_of command)) desk
     (change_fits s at caller command desk is free) is
 
-pub desk_law : (s : Settings) (at : ℕ) (caller : List ℕ) (command : Command) (desk : Desk) → StaysDesk s at caller command desk
+pub desk_law : (s : Settings) (at : ℕ) (caller : List ℕ) (command : Command) (desk : Desk)
+    → KeepsDesk s at caller command desk
 desk_law s at caller command desk is =
     desk_unless_refused s at caller command desk (guard s at caller command desk) refl is

@@ -6,7 +6,7 @@ pub mod DueLaw
 pub mod Every
 pub mod Goes
 pub mod Kept
-pub mod OrderLaw
+pub mod NamesLaw
 pub mod Placing
 pub mod Rising
 pub mod Roles

@@ -1,11 +1,9 @@
 -- A reading command changes nothing.
-use Rattle.std.proofs.Common.{◌≡◌, ◌∙◌, ℕ, List, Option, Some, None, Result, Ok, Err, IfOk, refl}
-use Rattle.settings_core.specs.declared.settings.Settings.{Settings}
+use Rattle.std.proofs.Common.{◌≡◌, ◌∙◌, List, Option, Some, None, Result, Ok, Err, IfOk, refl}
 use Rattle.desk_core.specs.Change.{no_change}
-use Rattle.desk_core.specs.Commands.{plan_of}
+use Rattle.desk_core.specs.Commands.{IsReading, plan_of}
 use Rattle.desk_core.specs.Condition.{Condition, Decides}
 use Rattle.desk_core.specs.Plan.{Call, change_by, change_of_request}
-use Rattle.desk_core.specs.Reading.{IsReading}
 use Rattle.desk_core.specs.declared.change.Change.{Change}
 use Rattle.desk_core.specs.declared.command.Command.{Command}
 use Rattle.desk_core.specs.declared.command.Command.TheVariants.{Queues, Show, History}
@@ -26,8 +24,10 @@ reads_nothing (History id) call facts reads = unread facts.request
 reads_nothing other call facts reads = absurd reads
 
 -- what is decided of a reading command changes nothing
-pub reads_on : (command : Command) (call : Call) (facts : Facts) (conditions : List Condition) (result : Result Change Refusal)
+pub reads_on : (command : Command) (call : Call) (facts : Facts) (conditions : List Condition)
+    (result : Result Change Refusal)
     → Decides result conditions (change_by call facts (plan_of command)) → IsReading command
     → IfOk result (λ change. change ≡ no_change)
-reads_on command call facts conditions (Ok change) decides reads = decides.0.1 ∙ reads_nothing command call facts reads
+reads_on command call facts conditions (Ok change) decides reads =
+    decides.0.1 ∙ reads_nothing command call facts reads
 reads_on command call facts conditions (Err refusal) decides reads = tt

@@ -1,5 +1,6 @@
 -- What a change does to the desk.
-use Rattle.std.specs.Prelude.{ℕ, Bool, true, false, not, List, [], ◌∷◌, ◌++◌, Option, Some, None, filter, fold}
+use Rattle.std.specs.Prelude.{ℕ, not, List, [], ◌∷◌}
+use Rattle.std.specs.Prelude.{◌++◌, Option, Some, None, filter, fold}
 use Rattle.std.specs.Str.{bytes_eq}
 use Rattle.desk_core.specs.Names.{with_name}
 use Rattle.desk_core.specs.Desk.{Desk, Request, placed, with_queue, with_request, with_revised}
@@ -32,7 +33,8 @@ opening queue = record no_change { queue = Some queue }
 
 -- a request is filed, with the persons in its roles
 abbrev pub filing : RequestRow → List Watcher → List Entry → Change
-filing row watchers entries = record no_change { filed = Some row; put = watchers; entries = entries }
+filing row watchers entries =
+    record no_change { filed = Some row; put = watchers; entries = entries }
 
 -- a request's history gets entries
 abbrev pub noting : List Entry → Change

@@ -1,7 +1,39 @@
--- The call that a decision is made for.
+-- The call that a decision is made for, and what it decides by the facts of that call.
+use Rattle.std.specs.Prelude.{◌≡◌, List, Result, IfOk}
+use Rattle.desk_core.specs.Condition.{Condition, Decides, Passes}
 use Rattle.desk_core.specs.Plan.{Call}
+use Rattle.desk_core.specs.declared.change.Change.{Change}
 use Rattle.desk_core.specs.declared.decision.Context.{Context}
+use Rattle.desk_core.specs.declared.facts.Facts.{Facts}
+use Rattle.desk_core.specs.declared.facts.Standing.{Standing}
+use Rattle.desk_core.specs.declared.refusal.Refusal.{Refusal}
 
 abbrev pub call_of : Context → Call
 call_of context =
     record { settings = context.settings.now; at = context.moment; caller = context.caller.now }
+
+-- a command on a queue is decided by these conditions and this change
+abbrev pub DecidesOnQueue : Result Change Refusal → (Call → Facts → List Condition)
+    → (Call → Facts → Change) → Context → Type 0
+DecidesOnQueue result conditions change context =
+    Decides result (conditions (call_of context) context.facts.now)
+    (change (call_of context) context.facts.now)
+
+-- a request is decided by these conditions and this change
+abbrev pub DecidesOn : Result Change Refusal → (Call → Facts → Standing → List Condition)
+    → (Call → Facts → Standing → Change) → Context → Standing → Type 0
+DecidesOn result conditions change context on =
+    Decides result (conditions (call_of context) context.facts.now on)
+    (change (call_of context) context.facts.now on)
+
+-- a request passes these conditions
+abbrev pub PassesOn : Result (Unit {0}) Refusal → (Call → Facts → Standing → List Condition)
+    → Context → Standing → Type 0
+PassesOn result conditions context on =
+    Passes result (conditions (call_of context) context.facts.now on)
+
+-- this change is made of a request
+abbrev pub MakesOn : {E : Type 0} → Result Change E → (Call → Facts → Standing → Change)
+    → Context → Standing → Type 0
+MakesOn result change context on =
+    IfOk result (λ made. made ≡ change (call_of context) context.facts.now on)

@@ -1,6 +1,7 @@
--- The desk: its queues by name, its requests by number, each with its people and its history, and the links.
-use Rattle.std.specs.Prelude.{ℕ, Bool, ◌&&◌, ◌==◌, if◌then◌else◌, List, [], ◌∷◌, ◌++◌, Option, find, map, length}
-use Rattle.std.specs.List.{list_any}
+-- The desk: its queues by name, its requests by number, each with its people and its history, and
+-- the links.
+use Rattle.std.specs.Prelude.{ℕ, Bool, ◌==◌, if◌then◌else◌, List}
+use Rattle.std.specs.Prelude.{[], ◌∷◌, ◌++◌, Option, find, map, length}
 use Rattle.std.specs.Ordering.{is_lt}
 use Rattle.std.specs.Str.{bytes_eq}
 use Rattle.desk_core.specs.Names.{text_order}
@@ -9,7 +10,7 @@ use Rattle.desk_core.specs.declared.rows.RequestRow.{RequestRow}
 use Rattle.desk_core.specs.declared.rows.Entry.{Entry}
 use Rattle.desk_core.specs.declared.rows.LinkRow.{LinkRow}
 
--- a request's row, the persons in each role in the order of their bytes, and its entries from the first
+-- a request's row, the persons in each role in the order of their bytes, and its entries in order
 pub record Request : Type 0 where
   pub row : RequestRow
   pub requestors : List (List ℕ)
@@ -43,7 +44,8 @@ request_count desk = length desk.requests
 -- the list with x before the first element that comes after it
 abbrev pub placed : {X : Type 0} → (X → X → Bool) → List X → X → List X
 placed comes_before [] x = x ∷ []
-placed comes_before (y ∷ ys) x = if comes_before x y then x ∷ y ∷ ys else y ∷ placed comes_before ys x
+placed comes_before (y ∷ ys) x =
+    if comes_before x y then x ∷ y ∷ ys else y ∷ placed comes_before ys x
 
 abbrev pub has_lower_name : QueueRow → QueueRow → Bool
 has_lower_name a b = is_lt (text_order a.name b.name)

@@ -1,5 +1,6 @@
 -- What a command sees of the desk.
-use Rattle.std.specs.Prelude.{ℕ, Bool, false, ◌&&◌, ◌==◌, List, [], Option, None, length, filter, flat_map, option_and_then}
+use Rattle.std.specs.Prelude.{ℕ, false, ◌&&◌, ◌==◌, List, [], Option}
+use Rattle.std.specs.Prelude.{None, length, filter, flat_map, option_and_then}
 use Rattle.std.specs.Option.{option_map, option_to_list}
 use Rattle.desk_core.specs.Desk.{Desk, Request, queue_at, request_at, queue_count, request_count}
 use Rattle.desk_core.specs.Links.{is_kind}
@@ -35,12 +36,14 @@ dependency_links desk id = filter (λ l. l.source == id && is_kind DependsOn l.k
 -- a request as something that another one depends on, if its queue is there
 abbrev pub as_dependency : Desk → Request → Option Dependency
 as_dependency desk request =
-    option_map (λ q. record { lifecycle = q.lifecycle; status = request.row.status }) (queue_at desk request.row.queue)
+    option_map (λ q. record { lifecycle = q.lifecycle; status = request.row.status })
+    (queue_at desk request.row.queue)
 
 -- what a request depends on
 abbrev pub dependencies_of : Desk → ℕ → List Dependency
 dependencies_of desk id =
-    flat_map (λ l. option_to_list (option_and_then (as_dependency desk) (request_at desk l.target))) (dependency_links desk id)
+    flat_map (λ l. option_to_list (option_and_then (as_dependency desk) (request_at desk l.target)))
+    (dependency_links desk id)
 
 abbrev pub no_facts : Facts
 no_facts =
@@ -57,7 +60,11 @@ no_facts =
 -- of a command that names a queue: the queue and both counts
 abbrev pub facts_on_queue : Desk → List ℕ → Facts
 facts_on_queue desk name =
-    record no_facts { queue = queue_at desk name; queue_count = queue_count desk; request_count = request_count desk }
+    record no_facts {
+      queue = queue_at desk name;
+      queue_count = queue_count desk;
+      request_count = request_count desk;
+    }
 
 -- of a command on a request: the request and its queue
 abbrev pub facts_on_request : Desk → ℕ → Facts

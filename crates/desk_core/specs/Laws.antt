@@ -1,38 +1,58 @@
--- The laws of one step: what holds of every command by every caller at every moment, whatever the desk.
-use Rattle.std.specs.Prelude.{◌≡◌, ◌≢◌, ℕ, ◌≤◌, ⊤, true, false, List, [], ◌∷◌, ◌++◌, Option, Some, None, Err, All}
+-- The laws of one step: what holds of every command by every caller at every moment, whatever the
+-- desk.
+use Rattle.std.specs.Prelude.{◌≡◌, ◌≢◌, ℕ, ◌≤◌, ◌==◌, ⊤, Bool, true, false}
+use Rattle.std.specs.Prelude.{List, [], ◌∷◌, ◌++◌, Option, Some, None, Err, All}
+use Rattle.std.specs.List.{list_any}
 use Rattle.lifecycle_core.specs.declared.parts.Parts.{Parts}
 use Rattle.rights_core.specs.Right.{own_ticket}
+use Rattle.settings_core.specs.Settings.{lifecycle_named}
 use Rattle.settings_core.specs.declared.settings.Settings.{Settings}
-use Rattle.desk_core.specs.Commands.SetStatus.{has_open}
+use Rattle.desk_core.specs.Commands.{IsReading, requests_named}
 use Rattle.desk_core.specs.Desk.{Desk, Request, queue_at, request_at}
-use Rattle.desk_core.specs.Commands.{plan_of}
 use Rattle.desk_core.specs.Due.{due_on}
-use Rattle.desk_core.specs.Facts.{dependencies_of, standing}
+use Rattle.desk_core.specs.Facts.{standing}
 use Rattle.desk_core.specs.IsDesk.{IsDesk}
-use Rattle.desk_core.specs.Lifecycles.{is_allowed, is_inactive, lifecycle_of, reopening_of, right_of}
-use Rattle.desk_core.specs.Plan.{names_request}
-use Rattle.desk_core.specs.Reading.{IsReading, answer_of, is_shown}
+use Rattle.desk_core.specs.Lifecycles.{is_allowed, is_inactive}
+use Rattle.desk_core.specs.Lifecycles.{lifecycle_of, reopening_of, right_of}
+use Rattle.desk_core.specs.Links.{has_link, link}
+use Rattle.desk_core.specs.Reading.{answer_of, is_shown}
 use Rattle.desk_core.specs.Refusals.{number_of}
 use Rattle.desk_core.specs.Rights.{holds_on, may_show}
 use Rattle.desk_core.specs.Step.{desk_after, outcome_of}
 use Rattle.desk_core.specs.View.{view}
 use Rattle.desk_core.specs.Watchers.{may_show_by, watchers_of}
 use Rattle.desk_core.specs.declared.answer.Answer.{Answer}
-use Rattle.desk_core.specs.declared.answer.Answer.TheVariants.{Shown}
+use Rattle.desk_core.specs.declared.answer.Answer.TheVariants as answer
 use Rattle.desk_core.specs.declared.command.Command.{Command}
-use Rattle.desk_core.specs.declared.command.Command.TheVariants.{SetStatus, Take, Steal, Untake, Give, Reply}
+use Rattle.desk_core.specs.declared.command.Command.TheVariants.{SetStatus, Take, Steal}
+use Rattle.desk_core.specs.declared.command.Command.TheVariants.{Untake, Give, Reply}
 use Rattle.desk_core.specs.declared.facts.Standing.{Standing}
 use Rattle.desk_core.specs.declared.refusal.Refusal.{Refusal}
 use Rattle.desk_core.specs.declared.rows.Entry.{Entry}
+use Rattle.desk_core.specs.declared.rows.LinkKind.TheVariants.{DependsOn}
+use Rattle.desk_core.specs.declared.rows.QueueRow.{QueueRow}
+
+-- it holds of every command by every caller at every moment, on every desk
+abbrev pub AtEveryStep : (Settings → ℕ → List ℕ → Command → Desk → Type 0) → Type 0
+AtEveryStep Holds =
+    (settings : Settings) (at : ℕ) (caller : List ℕ) (command : Command) (desk : Desk)
+    → Holds settings at caller command desk
+
+-- each request stays, and this holds of it as it was before the step and as it is after it
+abbrev pub EachStays : Settings → ℕ → List ℕ → Command → Desk → (Request → Request → Type 0)
+    → Type 0
+EachStays settings at caller command desk Holds =
+    (id : ℕ) (before : Request) → request_at desk id ≡ Some before
+    → (after : Request) × (request_at (desk_after settings at caller command desk) id ≡ Some after)
+    × Holds before after
 
 -- The history law: a request stays, and its old entries are a prefix of its new ones.
 abbrev pub KeepsHistory : Settings → ℕ → List ℕ → Command → Desk → Type 0
 KeepsHistory settings at caller command desk =
-    (id : ℕ) (before : Request) → request_at desk id ≡ Some before
-    → (after : Request) × (request_at (desk_after settings at caller command desk) id ≡ Some after)
-    × ((added : List Entry) × (after.entries ≡ before.entries ++ added))
+    EachStays settings at caller command desk (λ before after.
+    (added : List Entry) × (after.entries ≡ before.entries ++ added))
 
--- the command gives a request this owner
+-- the command gives a request this owner, or leaves it without one
 abbrev pub SetsOwner : List ℕ → Command → ℕ → Option (List ℕ) → Type 0
 SetsOwner caller (Take id) asked owner = (id ≡ asked) × (owner ≡ Some caller)
 SetsOwner caller (Steal id) asked owner = (id ≡ asked) × (owner ≡ Some caller)
@@ -44,16 +64,18 @@ abbrev pub MayOwn : Settings → Standing → Option (List ℕ) → Type 0
 MayOwn settings on None = ⊤
 MayOwn settings on (Some person) = holds_on settings person own_ticket on ≡ true
 
--- The owner law: where an owner changes, the command gives that owner, who holds OwnTicket before the step.
+-- The owner law: where an owner changes, the command sets that owner, and a new one holds OwnTicket
+-- before the step.
 abbrev pub KeepsOwnerLaw : Settings → ℕ → List ℕ → Command → Desk → Type 0
 KeepsOwnerLaw settings at caller command desk =
-    (id : ℕ) (before after : Request) → request_at desk id ≡ Some before
-    → request_at (desk_after settings at caller command desk) id ≡ Some after
-    → after.row.owner ≢ before.row.owner
-    → SetsOwner caller command before.row.id after.row.owner × MayOwn settings (standing before) after.row.owner
+    EachStays settings at caller command desk (λ before after.
+    after.row.owner ≢ before.row.owner
+    → SetsOwner caller command before.row.id after.row.owner
+    × MayOwn settings (standing before) after.row.owner)
 
--- the command moves a request to this status, by this lifecycle: it asks for the move and the caller holds its right,
--- or it is a reply and the status is the one to which the request is opened again
+-- the command moves a request to this status, by this lifecycle: it asks for the move and the
+-- caller holds its right, or it is a reply and the status is the one to which the request is opened
+-- again
 abbrev pub MovesTo : Settings → List ℕ → Option Parts → Command → Standing → List ℕ → Type 0
 MovesTo settings caller lifecycle (SetStatus id status) on to =
     (id ≡ on.row.id) × (status ≡ to)
@@ -66,59 +88,82 @@ abbrev pub IsLawfulMove : Settings → List ℕ → Option Parts → Command →
 IsLawfulMove settings caller lifecycle command on to =
     (is_allowed lifecycle on.row.status to ≡ true) × MovesTo settings caller lifecycle command on to
 
--- The status law: where a status changes, the lifecycle of the request's queue allows it, and the command moves it so.
+-- The status law: where a status changes, the lifecycle of the request's queue allows it, and the
+-- command moves it so.
 abbrev pub KeepsStatusLaw : Settings → ℕ → List ℕ → Command → Desk → Type 0
 KeepsStatusLaw settings at caller command desk =
-    (id : ℕ) (before after : Request) → request_at desk id ≡ Some before
-    → request_at (desk_after settings at caller command desk) id ≡ Some after
-    → after.row.status ≢ before.row.status
-    → IsLawfulMove settings caller (lifecycle_of settings (queue_at desk before.row.queue)) command (standing before) after.row.status
+    EachStays settings at caller command desk (λ before after.
+    after.row.status ≢ before.row.status
+    → IsLawfulMove settings caller (lifecycle_of settings (queue_at desk before.row.queue)) command
+    (standing before) after.row.status)
 
--- A request that the caller may not show is refused as one that isn't there, at either end of a link too, whatever the
--- command that names it.
+-- the command names the request with that number
+abbrev pub names : Command → ℕ → Bool
+names command id = list_any (λ n. n == id) (requests_named command)
+
+-- A request that the caller may not show is refused as one that isn't there, at either end of a
+-- link too, whatever the command that names it.
 abbrev pub RefusesAsMissing : Settings → ℕ → List ℕ → Command → Desk → Type 0
 RefusesAsMissing settings at caller command desk =
-    (id : ℕ) → names_request (plan_of command) id ≡ true → is_shown settings caller desk id ≡ false
+    (id : ℕ) → names command id ≡ true → is_shown settings caller desk id ≡ false
     → (refusal : Refusal) × (number_of refusal ≤ 4)
     × (outcome_of settings at caller command desk ≡ Err refusal)
-    × ((other : Desk) → request_at other id ≡ None → outcome_of settings at caller command other ≡ Err refusal)
+    × ((other : Desk) → request_at other id ≡ None
+    → outcome_of settings at caller command other ≡ Err refusal)
 
--- The dependency law: where a status changes to an inactive one, no request that this one depends on is open.
+-- a dependency of the request that isn't inactive by the lifecycle of its own queue
+pub record IsOpenDependency (settings : Settings) (desk : Desk) (id : ℕ)
+    (other : Request) : Type 0 where
+  pub linked : has_link desk (link id DependsOn other.row.id) ≡ true
+  pub there : request_at desk other.row.id ≡ Some other
+  pub queue : QueueRow
+  pub filed_in : queue_at desk other.row.queue ≡ Some queue
+  pub is_open : is_inactive (lifecycle_named settings queue.lifecycle) other.row.status ≡ false
+
+-- The dependency law: where a status changes to an inactive one, the request has no open
+-- dependency.
 abbrev pub KeepsDependencyLaw : Settings → ℕ → List ℕ → Command → Desk → Type 0
 KeepsDependencyLaw settings at caller command desk =
-    (id : ℕ) (before after : Request) → request_at desk id ≡ Some before
-    → request_at (desk_after settings at caller command desk) id ≡ Some after
-    → after.row.status ≢ before.row.status
+    EachStays settings at caller command desk (λ before after.
+    after.row.status ≢ before.row.status
     → is_inactive (lifecycle_of settings (queue_at desk before.row.queue)) after.row.status ≡ true
-    → has_open settings (dependencies_of desk before.row.id) ≡ false
+    → (other : Request) → IsOpenDependency settings desk before.row.id other → ⊥)
 
 -- the due moments that an answer tells, each with the number of its request
 abbrev pub dues_told : Answer → List (ℕ × Option ℕ)
-dues_told (Shown shown) = (shown.row.id, shown.due) ∷ []
-dues_told other = []
+dues_told answer.Done = []
+dues_told (answer.Created id) = []
+dues_told (answer.Queues queues) = []
+dues_told (answer.Shown shown) = (shown.row.id, shown.due) ∷ []
+dues_told (answer.History entries) = []
 
 -- the request is there, and this is when it is due
 abbrev pub IsDue : Settings → Desk → ℕ × Option ℕ → Type 0
 IsDue settings desk told =
-    (request : Request) × (request_at desk told.0 ≡ Some request) × (told.1 ≡ due_on settings desk request)
+    (request : Request) × (request_at desk told.0 ≡ Some request)
+    × (told.1 ≡ due_on settings desk request)
 
 -- The due law: each due moment in an answer is that of its request, by the level that it has.
 abbrev pub TellsDueMoments : Settings → ℕ → List ℕ → Command → Desk → Type 0
 TellsDueMoments settings at caller command desk =
     All (IsDue settings desk) (dues_told (answer_of settings at caller command desk))
 
--- Nothing leaks by reading: what comes of a reading command is told of the caller's view of the desk alone.
+-- Nothing leaks by reading: what comes of a reading command is told of the caller's view of the
+-- desk alone.
 abbrev pub TellsOfTheView : Settings → ℕ → List ℕ → Command → Desk → Type 0
 TellsOfTheView settings at caller command desk =
     IsDesk desk → IsReading command
-    → outcome_of settings at caller command desk ≡ outcome_of settings at caller command (view settings caller desk)
+    → outcome_of settings at caller command desk
+    ≡ outcome_of settings at caller command (view settings caller desk)
 
 -- A request outside the caller's view isn't there, or the caller may not show it.
 abbrev pub HidesTheRest : Settings → List ℕ → Desk → Type 0
 HidesTheRest settings caller desk =
-    IsDesk desk → (id : ℕ) → request_at (view settings caller desk) id ≡ None → is_shown settings caller desk id ≡ false
+    IsDesk desk → (id : ℕ) → request_at (view settings caller desk) id ≡ None
+    → is_shown settings caller desk id ≡ false
 
 -- The rows of a request's people tell who may show it.
 abbrev pub ShowsByWatchers : Settings → List ℕ → Request → Type 0
 ShowsByWatchers settings person request =
-    may_show_by settings person request.row (watchers_of request) ≡ may_show settings person (standing request)
+    may_show_by settings person request.row (watchers_of request)
+    ≡ may_show settings person (standing request)

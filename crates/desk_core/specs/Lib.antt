@@ -6,6 +6,7 @@ pub mod Change
 pub mod Commands
 pub mod Condition
 pub mod Context
+pub mod Decision
 pub mod Desk
 pub mod Due
 pub mod Entries

@@ -1,7 +1,9 @@
 -- What the lifecycle of a queue says, if the queue is there and its lifecycle is known.
-use Rattle.std.specs.Prelude.{ℕ, Bool, true, false, not, ◌&&◌, List, [], Option, Some, None, option_and_then, unwrap_or}
+use Rattle.std.specs.Prelude.{ℕ, Bool, true, false, not, ◌&&◌, List, []}
+use Rattle.std.specs.Prelude.{Option, Some, option_and_then, unwrap_or}
 use Rattle.std.specs.Option.{option_map_or}
-use Rattle.lifecycle_core.specs.Lifecycle.{class_of, is_status, may_create, may_move, reopening_target, right_of_move}
+use Rattle.lifecycle_core.specs.Lifecycle.{class_of, is_status, may_create, may_move}
+use Rattle.lifecycle_core.specs.Lifecycle.{reopening_target, right_of_move}
 use Rattle.lifecycle_core.specs.declared.lifecycle.Class.{Class}
 use Rattle.lifecycle_core.specs.declared.lifecycle.Class.TheVariants.{Initial, Inactive}
 use Rattle.lifecycle_core.specs.declared.parts.Parts.{Parts}
@@ -19,7 +21,7 @@ has_status lifecycle status = option_map_or (λ l. is_status l status) lifecycle
 abbrev pub has_given : Option Parts → Option (List ℕ) → Bool
 has_given lifecycle given = option_map_or (has_status lifecycle) given true
 
--- the status of a new request: the one given, or else the one that its lifecycle begins with
+-- the status of a new request: the one given, or else its lifecycle's status on create
 abbrev pub first_status : Option Parts → Option (List ℕ) → List ℕ
 first_status lifecycle given = unwrap_or given (option_map_or (λ l. l.on_create) lifecycle [])
 
@@ -42,7 +44,8 @@ is_inactive_class (Some Inactive) = true
 is_inactive_class other = false
 
 abbrev pub is_inactive : Option Parts → List ℕ → Bool
-is_inactive lifecycle status = is_inactive_class (option_and_then (λ l. class_of l status) lifecycle)
+is_inactive lifecycle status =
+    is_inactive_class (option_and_then (λ l. class_of l status) lifecycle)
 
 abbrev pub is_initial_class : Option Class → Bool
 is_initial_class (Some Initial) = true

@@ -1,6 +1,5 @@
 -- Names in the order of their bytes, each once.
-use Rattle.std.specs.Prelude.{ℕ, List, []}
-use Rattle.std.specs.Prelude.{fold}
+use Rattle.std.specs.Prelude.{ℕ, List, [], fold}
 use Rattle.std.specs.Ordering.{nat_cmp}
 use Rattle.std.specs.Cmp.Lexicographic.{slice_cmp}
 use Rattle.std.specs.declared.cmp.Ordering.{Ordering}

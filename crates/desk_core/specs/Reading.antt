@@ -1,5 +1,6 @@
 -- What a command answers, of the desk as it was before.
-use Rattle.std.specs.Prelude.{ℕ, ◌+◌, ◌==◌, ⊤, Bool, true, false, not, ◌&&◌, ◌||◌, List, filter, map, Option, Some, None}
+use Rattle.std.specs.Prelude.{ℕ, ◌+◌, ◌==◌, Bool, true, false, not, ◌&&◌}
+use Rattle.std.specs.Prelude.{◌||◌, List, filter, map, Option, Some, None}
 use Rattle.std.specs.Option.{option_map_or}
 use Rattle.settings_core.specs.declared.settings.Settings.{Settings}
 use Rattle.desk_core.specs.Desk.{Desk, Request, request_at, request_count}
@@ -12,7 +13,7 @@ use Rattle.desk_core.specs.declared.answer.Answer.TheVariants as answer
 use Rattle.desk_core.specs.declared.answer.Links.{Links}
 use Rattle.desk_core.specs.declared.answer.Shown as shown
 use Rattle.desk_core.specs.declared.command.Command.{Command}
-use Rattle.desk_core.specs.declared.command.Command.TheVariants.{Create, Queues, Show, History}
+use Rattle.desk_core.specs.declared.command.Command.TheVariants as command
 use Rattle.desk_core.specs.declared.rows.Entry.{Entry}
 use Rattle.desk_core.specs.declared.rows.EntryKind.{EntryKind}
 use Rattle.desk_core.specs.declared.rows.EntryKind.TheVariants.{Comment}
@@ -22,7 +23,8 @@ use Rattle.desk_core.specs.declared.rows.LinkRow.{LinkRow}
 
 -- the request with that number is there, and the caller may show it
 abbrev pub is_shown : Settings → List ℕ → Desk → ℕ → Bool
-is_shown settings caller desk id = option_map_or (may_show settings caller) (standing_at desk id) false
+is_shown settings caller desk id =
+    option_map_or (may_show settings caller) (standing_at desk id) false
 
 -- the link leads from the request to one that the caller may show
 abbrev pub leads_from : Settings → List ℕ → Desk → LinkKind → ℕ → LinkRow → Bool
@@ -36,11 +38,13 @@ leads_to settings caller desk kind id link =
 
 -- the numbers of the requests to which links of a kind lead from this one
 abbrev pub linked_from : Settings → List ℕ → Desk → LinkKind → ℕ → List ℕ
-linked_from settings caller desk kind id = map (λ l. l.target) (filter (leads_from settings caller desk kind id) desk.links)
+linked_from settings caller desk kind id =
+    map (λ l. l.target) (filter (leads_from settings caller desk kind id) desk.links)
 
 -- the numbers of the requests from which links of a kind lead to this one
 abbrev pub linked_to : Settings → List ℕ → Desk → LinkKind → ℕ → List ℕ
-linked_to settings caller desk kind id = map (λ l. l.source) (filter (leads_to settings caller desk kind id) desk.links)
+linked_to settings caller desk kind id =
+    map (λ l. l.source) (filter (leads_to settings caller desk kind id) desk.links)
 
 -- the requests that one is linked with, as far as the caller may show them
 abbrev pub links_of : Settings → List ℕ → Desk → ℕ → Links
@@ -80,23 +84,20 @@ abbrev pub entries_told : Settings → List ℕ → Request → List Entry
 entries_told settings caller request = filter (is_told settings caller request) request.entries
 
 -- what is answered of a request, if it is there
-abbrev pub of_request : Option Request → (Request → Answer) → Answer
-of_request None made = answer.Done
-of_request (Some request) made = made request
+abbrev pub answer_of_request : Option Request → (Request → Answer) → Answer
+answer_of_request None made = answer.Done
+answer_of_request (Some request) made = made request
 
 -- the answer of a command that isn't refused
 abbrev pub answer_of : Settings → ℕ → List ℕ → Command → Desk → Answer
-answer_of settings at caller (Create queue subject status requestors) desk = answer.Created (request_count desk + 1)
-answer_of settings at caller Queues desk = answer.Queues (filter (sees_queue settings caller) desk.queues)
-answer_of settings at caller (Show id) desk =
-    of_request (request_at desk id) (λ request. answer.Shown (shown_of settings caller desk request))
-answer_of settings at caller (History id) desk =
-    of_request (request_at desk id) (λ request. answer.History (entries_told settings caller request))
+answer_of settings at caller (command.Create queue subject status requestors) desk =
+    answer.Created (request_count desk + 1)
+answer_of settings at caller command.Queues desk =
+    answer.Queues (filter (sees_queue settings caller) desk.queues)
+answer_of settings at caller (command.Show id) desk =
+    answer_of_request (request_at desk id)
+    (λ request. answer.Shown (shown_of settings caller desk request))
+answer_of settings at caller (command.History id) desk =
+    answer_of_request (request_at desk id)
+    (λ request. answer.History (entries_told settings caller request))
 answer_of settings at caller other desk = answer.Done
-
--- the command only reads
-abbrev pub IsReading : Command → Type 0
-IsReading Queues = ⊤
-IsReading (Show id) = ⊤
-IsReading (History id) = ⊤
-IsReading other = ⊥

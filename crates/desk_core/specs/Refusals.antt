@@ -1,7 +1,12 @@
 -- The number and the name of each refusal.
 use Rattle.std.specs.Prelude.{ℕ, List, codes}
 use Rattle.desk_core.specs.declared.refusal.Refusal.{Refusal}
-use Rattle.desk_core.specs.declared.refusal.Refusal.TheVariants.{UnknownCaller, BadMoment, BadText, NotFound, UnknownName, Denied, NoChange, NoTransition, OpenDependency, Owned, NotOwned, NotOwner, Exists, SelfLink, Full, Unavailable}
+use Rattle.desk_core.specs.declared.refusal.Refusal.TheVariants.{UnknownCaller, BadMoment}
+use Rattle.desk_core.specs.declared.refusal.Refusal.TheVariants.{BadText, NotFound, UnknownName}
+use Rattle.desk_core.specs.declared.refusal.Refusal.TheVariants.{Denied, NoChange, NoTransition}
+use Rattle.desk_core.specs.declared.refusal.Refusal.TheVariants.{OpenDependency, Owned}
+use Rattle.desk_core.specs.declared.refusal.Refusal.TheVariants.{NotOwned, NotOwner, Exists}
+use Rattle.desk_core.specs.declared.refusal.Refusal.TheVariants.{SelfLink, Full, Unavailable}
 
 abbrev pub number_of : Refusal → ℕ
 number_of UnknownCaller = 1

@@ -1,18 +1,15 @@
 -- Who may do what: the rights of a person on a queue and on a request.
 use Rattle.std.specs.Prelude.{ℕ, Bool, false, List}
 use Rattle.std.specs.Option.{option_map_or}
-use Rattle.std.specs.List.{list_any}
 use Rattle.std.specs.Str.{bytes_eq}
 use Rattle.rights_core.specs.Right.{see_queue, show_ticket, show_ticket_comments}
 use Rattle.rights_core.specs.People.{holds, no_roles}
 use Rattle.rights_core.specs.declared.role.Roles.{Roles}
+use Rattle.text_core.specs.Texts.{is_among}
 use Rattle.settings_core.specs.Settings.{people_of}
 use Rattle.settings_core.specs.declared.settings.Settings.{Settings}
 use Rattle.desk_core.specs.declared.facts.Standing.{Standing}
 use Rattle.desk_core.specs.declared.rows.QueueRow.{QueueRow}
-
-abbrev pub is_among : List (List ℕ) → List ℕ → Bool
-is_among persons person = list_any (λ p. bytes_eq p person) persons
 
 abbrev pub owns : List ℕ → Standing → Bool
 owns person on = option_map_or (λ owner. bytes_eq owner person) on.row.owner false
@@ -36,7 +33,8 @@ sees_queue settings person queue = holds_on_queue settings person see_queue queu
 
 -- a right on a request, held with the person's roles on it
 abbrev pub holds_on : Settings → List ℕ → List ℕ → Standing → Bool
-holds_on settings person right on = holds (people_of settings) person right on.row.queue (roles_on person on)
+holds_on settings person right on =
+    holds (people_of settings) person right on.row.queue (roles_on person on)
 
 abbrev pub may_show : Settings → List ℕ → Standing → Bool
 may_show settings person on = holds_on settings person show_ticket on

@@ -1,4 +1,5 @@
--- One command on the desk: when it is refused, the desk after it, and what comes of it; and a run of commands.
+-- One command on the desk: when it is refused, the desk after it, and what comes of it; and a run
+-- of commands.
 use Rattle.std.specs.Prelude.{◌≡◌, ◌⊎◌, ℕ, not, List, [], ◌∷◌, Option, Some, None, Result, Ok, Err}
 use Rattle.hours_core.specs.Moment.{is_moment}
 use Rattle.settings_core.specs.Settings.{knows}
@@ -10,11 +11,11 @@ use Rattle.desk_core.specs.Desk.{Desk}
 use Rattle.desk_core.specs.Plan.{Call, change_by, conditions_by, seen_by}
 use Rattle.desk_core.specs.Reading.{answer_of}
 use Rattle.desk_core.specs.declared.answer.Answer.{Answer}
-use Rattle.desk_core.specs.declared.change.Change.{Change}
 use Rattle.desk_core.specs.declared.command.Command.{Command}
 use Rattle.desk_core.specs.declared.facts.Facts.{Facts}
 use Rattle.desk_core.specs.declared.refusal.Refusal.{Refusal}
-use Rattle.desk_core.specs.declared.refusal.Refusal.TheVariants.{UnknownCaller, BadMoment, Unavailable}
+use Rattle.desk_core.specs.declared.refusal.Refusal.TheVariants.{UnknownCaller}
+use Rattle.desk_core.specs.declared.refusal.Refusal.TheVariants.{BadMoment, Unavailable}
 
 abbrev pub call : Settings → ℕ → List ℕ → Call
 call settings at caller = record { settings = settings; at = at; caller = caller }
@@ -48,7 +49,8 @@ effect settings at caller command desk =
 -- the desk after a command
 abbrev pub desk_after : Settings → ℕ → List ℕ → Command → Desk → Desk
 desk_after settings at caller command desk =
-    desk_unless (guard settings at caller command desk) desk (effect settings at caller command desk)
+    desk_unless (guard settings at caller command desk) desk
+    (effect settings at caller command desk)
 
 -- an answer or a refusal
 abbrev pub Outcome : Type 0
@@ -61,13 +63,15 @@ outcome_unless (Some refusal) answer = Err refusal
 -- what comes of a command
 abbrev pub outcome_of : Settings → ℕ → List ℕ → Command → Desk → Outcome
 outcome_of settings at caller command desk =
-    outcome_unless (guard settings at caller command desk) (answer_of settings at caller command desk)
+    outcome_unless (guard settings at caller command desk)
+    (answer_of settings at caller command desk)
 
 -- `Unavailable` with the desk as it was, or the step
 abbrev pub Steps : Settings → ℕ → List ℕ → Command → Desk → Outcome → Desk → Type 0
 Steps settings at caller command old outcome new =
     ((outcome ≡ Err Unavailable) × (new ≡ old))
-    ⊎ ((outcome ≡ outcome_of settings at caller command old) × (new ≡ desk_after settings at caller command old))
+    ⊎ ((outcome ≡ outcome_of settings at caller command old)
+    × (new ≡ desk_after settings at caller command old))
 
 -- a command of a run: its moment, its caller and what is asked
 pub record Ask : Type 0 where
@@ -79,6 +83,7 @@ pub record Ask : Type 0 where
 abbrev pub Runs : Settings → Desk → List Ask → List Outcome → Desk → Type 0
 Runs settings old [] [] new = new ≡ old
 Runs settings old (ask ∷ asks) (outcome ∷ outcomes) new =
-    (mid : Desk) × Steps settings ask.at ask.caller ask.command old outcome mid × Runs settings mid asks outcomes new
+    (mid : Desk) × Steps settings ask.at ask.caller ask.command old outcome mid
+    × Runs settings mid asks outcomes new
 Runs settings old [] (outcome ∷ outcomes) new = ⊥
 Runs settings old (ask ∷ asks) [] new = ⊥

@@ -9,7 +9,8 @@ use Rattle.desk_core.specs.Reading.{entries_told, is_shown}
 use Rattle.desk_core.specs.Rights.{may_show, sees_queue}
 use Rattle.desk_core.specs.declared.rows.LinkRow.{LinkRow}
 
--- the request as the caller sees it: without the comments that the caller may not see, the other entries as they are
+-- the request as the caller sees it: without the comments that the caller may not see, the other
+-- entries as they are
 abbrev pub as_seen : Settings → List ℕ → Request → Request
 as_seen settings caller request = record request { entries = entries_told settings caller request }
 
@@ -26,7 +27,9 @@ is_seen_link settings caller desk link =
 abbrev pub view : Settings → List ℕ → Desk → Desk
 view settings caller desk =
     record {
-      queues = filter (λ q. sees_queue settings caller q || has_shown settings caller desk q.name) desk.queues;
-      requests = map (as_seen settings caller) (filter (λ r. may_show settings caller (standing r)) desk.requests);
+      queues = filter (λ q. sees_queue settings caller q || has_shown settings caller desk q.name)
+          desk.queues;
+      requests = map (as_seen settings caller)
+          (filter (λ r. may_show settings caller (standing r)) desk.requests);
       links = filter (is_seen_link settings caller desk) desk.links;
     }

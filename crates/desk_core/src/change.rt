@@ -28,7 +28,7 @@ pub struct Change {
 
 impl Change {
     /// Nothing.
-    pub fn nothing(alloc: Global) -> Change
+    pub fn no_change(alloc: Global) -> Change
         ensures { result ≡ change.no_change }
     {
         Change {
@@ -49,13 +49,7 @@ impl Change {
     {
         Change {
             queue: Some(queue),
-            filed: None,
-            row: None,
-            put: Sequence::from(Vec::new(alloc)),
-            taken: Sequence::from(Vec::new(alloc)),
-            linked: None,
-            unlinked: None,
-            entries: Sequence::from(Vec::new(alloc)),
+            ..Change::no_change(alloc)
         }
     }
 
@@ -64,14 +58,8 @@ impl Change {
         ensures { result ≡ change.noting entries }
     {
         Change {
-            queue: None,
-            filed: None,
-            row: None,
-            put: Sequence::from(Vec::new(alloc)),
-            taken: Sequence::from(Vec::new(alloc)),
-            linked: None,
-            unlinked: None,
             entries,
+            ..Change::no_change(alloc)
         }
     }
 
@@ -80,14 +68,8 @@ impl Change {
         ensures { result ≡ change.revising row entries }
     {
         Change {
-            queue: None,
-            filed: None,
             row: Some(row),
-            put: Sequence::from(Vec::new(alloc)),
-            taken: Sequence::from(Vec::new(alloc)),
-            linked: None,
-            unlinked: None,
-            entries,
+            ..Change::noting(alloc, entries)
         }
     }
 
@@ -96,14 +78,8 @@ impl Change {
         ensures { result ≡ change.putting put entries }
     {
         Change {
-            queue: None,
-            filed: None,
-            row: None,
             put,
-            taken: Sequence::from(Vec::new(alloc)),
-            linked: None,
-            unlinked: None,
-            entries,
+            ..Change::noting(alloc, entries)
         }
     }
 
@@ -112,14 +88,8 @@ impl Change {
         ensures { result ≡ change.linking link entries }
     {
         Change {
-            queue: None,
-            filed: None,
-            row: None,
-            put: Sequence::from(Vec::new(alloc)),
-            taken: Sequence::from(Vec::new(alloc)),
             linked: Some(link),
-            unlinked: None,
-            entries,
+            ..Change::noting(alloc, entries)
         }
     }
 
@@ -128,14 +98,8 @@ impl Change {
         ensures { result ≡ change.taking taken entries }
     {
         Change {
-            queue: None,
-            filed: None,
-            row: None,
-            put: Sequence::from(Vec::new(alloc)),
             taken,
-            linked: None,
-            unlinked: None,
-            entries,
+            ..Change::noting(alloc, entries)
         }
     }
 
@@ -144,14 +108,8 @@ impl Change {
         ensures { result ≡ change.unlinking link entries }
     {
         Change {
-            queue: None,
-            filed: None,
-            row: None,
-            put: Sequence::from(Vec::new(alloc)),
-            taken: Sequence::from(Vec::new(alloc)),
-            linked: None,
             unlinked: Some(link),
-            entries,
+            ..Change::noting(alloc, entries)
         }
     }
 
@@ -165,14 +123,8 @@ impl Change {
         ensures { result ≡ change.filing row put entries }
     {
         Change {
-            queue: None,
             filed: Some(row),
-            row: None,
-            put,
-            taken: Sequence::from(Vec::new(alloc)),
-            linked: None,
-            unlinked: None,
-            entries,
+            ..Change::putting(alloc, put, entries)
         }
     }
 }

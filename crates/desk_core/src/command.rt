@@ -7,7 +7,8 @@ use crate::rows::{LinkKind, LinkRow, WatchRole};
 use crate::scope::Scope;
 use text_core::{Text, Texts};
 
-/// What a caller asks of the desk. Names and texts are as they were given: a command may be refused for each.
+/// What a caller asks of the desk. Names and texts are as they were given: a command may be refused
+/// for each.
 #[derive(Clone, Debug, PartialEq, Eq, Drop)]
 pub enum Command {
     /// Opens a queue whose requests follow a lifecycle and start with a level, if one is given.
@@ -16,7 +17,7 @@ pub enum Command {
         lifecycle: Text,
         level: Option<Text>,
     },
-    /// Files a request in a queue, in the status given or the one that the lifecycle begins with. Without
+    /// Files a request in a queue, in the status given or the lifecycle's status on create. Without
     /// requestors the caller is the one.
     Create {
         queue: Text,

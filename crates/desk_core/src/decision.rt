@@ -1,18 +1,16 @@
 ghost use Rattle.text_core.specs.Form.{is_text};
-ghost use Rattle.std.specs.Prelude.{◌||◌, ◌≡◌, ◌≢◌, ◌+◌, ◌^◌, ◌<◌, ◌∷◌, IfOk, IfErr, OnOk, None, Some, Ok, Err, true, false, nat_lt, ℕ, if◌then◌else◌};
+ghost use Rattle.std.specs.Prelude.{◌||◌, ◌≡◌, ◌≢◌, ◌+◌, ◌^◌, ◌<◌, true, false};
+ghost use Rattle.std.specs.Prelude.{if◌then◌else◌, IfOk, IfErr, OnOk, None, Some};
 ghost use Rattle.hours_core.specs.Moment.{is_moment};
-ghost use Rattle.rights_core.specs.People.{holds};
-ghost use Rattle.settings_core.specs.Settings.{people_of};
-ghost use Rattle.desk_core.specs.Change.{applied, no_change};
-ghost use Rattle.desk_core.specs.Commands.{plan_of};
-ghost use Rattle.desk_core.specs.Condition.{Decides, first_holding};
+ghost use Rattle.rights_core.specs.Right.{own_ticket};
+ghost use Rattle.desk_core.specs.Change.{no_change};
+ghost use Rattle.desk_core.specs.Commands.{plan_of, IsReading};
+ghost use Rattle.desk_core.specs.Condition.{Decides};
 ghost use Rattle.desk_core.specs.Context.{call_of};
-ghost use Rattle.desk_core.specs.Desk.{Desk};
+ghost use Rattle.desk_core.specs.Decision.{Accepts, FollowsPlan, Refuses};
 ghost use Rattle.desk_core.specs.Entries as entries;
 ghost use Rattle.desk_core.specs.Plan.{change_by, conditions_by, is_missing};
-ghost use Rattle.desk_core.specs.Reading.{IsReading};
 ghost use Rattle.desk_core.specs.Rights as rights;
-ghost use Rattle.desk_core.specs.Step.{call, conditions_on, effect, facts_of, guard};
 
 use crate::change::Change;
 use crate::command::Command;
@@ -20,7 +18,7 @@ use crate::facts::{Facts, Standing};
 use crate::refusal::Refusal;
 use crate::rows::{Entry, EntryKind};
 use hours_core::{END, Minute};
-use rights_core::Roles;
+use rights_core::{Roles, right};
 use settings_core::Settings;
 use std::alloc::{AllocError, Global};
 use text_core::{Text, is_text};
@@ -41,11 +39,12 @@ mod untake;
 mod unwatch;
 mod watch;
 
-/// Decides a command by a caller at a moment, in minutes since 1970-01-01 00:00 UTC: the change that it makes, or
-/// the first refusal that is called for.
+/// Decides a command by a caller at a moment, in minutes since 1970-01-01 00:00 UTC: the change
+/// that it makes, or the first refusal that is called for.
 ///
-/// On the facts of a desk, that is the refusal that the desk gives, or the change that leads to the desk after the
-/// command. A reading command changes nothing. `Unavailable` stands in place of an answer where out of memory.
+/// On the facts of a desk, that is the refusal that the desk gives, or the change that leads to the
+/// desk after the command. A reading command changes nothing. `Unavailable` stands in place of an
+/// answer where out of memory.
 pub fn decide(
     alloc: Global,
     settings: &Settings,
@@ -54,11 +53,9 @@ pub fn decide(
     facts: &Facts,
     command: &Command,
 ) -> Result<Change, Refusal>
-    ensures accepts { (desk : Desk) → facts.now ≡ facts_of command.now desk → IfOk result (λ change.
-        (guard settings.now at caller.now command.now desk ≡ None)
-        × (applied change desk ≡ effect settings.now at caller.now command.now desk)) }
-    ensures refuses { (desk : Desk) → facts.now ≡ facts_of command.now desk → IfErr result (λ refusal.
-        refusal ≢ Refusal.Unavailable → guard settings.now at caller.now command.now desk ≡ Some refusal) }
+    ensures accepts { Accepts settings.now at caller.now facts.now command.now result }
+    ensures refuses { Refuses settings.now at caller.now facts.now command.now result }
+    ensures planned { FollowsPlan settings.now at caller.now facts.now command.now result }
     ensures reads { IsReading command.now → IfOk result (λ change. change ≡ no_change) }
 {
     decide_on_facts(alloc, settings, at, caller, facts, command)
@@ -73,8 +70,7 @@ fn decide_on_facts(
     facts: &Facts,
     command: &Command,
 ) -> Result<Change, Refusal>
-    ensures { Decides result (conditions_on (call settings.now at caller.now) facts.now command.now)
-        (change_by (call settings.now at caller.now) facts.now (plan_of command.now)) }
+    ensures { FollowsPlan settings.now at caller.now facts.now command.now result }
 {
     if !settings.people().knows(caller) {
         return Err(Refusal::UnknownCaller);
@@ -110,8 +106,10 @@ struct Context<'c> {
 }
 
 impl<'c> Context<'c> {
+    /// The decision, command by command.
     fn decide(&self, command: &Command) -> Result<Change, Refusal>
-        ensures { Decides result (conditions_by (call_of self.now) self.now.facts.now (plan_of command.now))
+        ensures { Decides result
+            (conditions_by (call_of self.now) self.now.facts.now (plan_of command.now))
             (change_by (call_of self.now) self.now.facts.now (plan_of command.now)) }
     {
         match command {
@@ -126,37 +124,29 @@ impl<'c> Context<'c> {
                 status,
                 requestors,
             } => self.create(queue, subject, status, requestors),
-            Command::SetStatus { id: _, status } => self.set_status(self.shown()?, status),
-            Command::Take { id: _ } => self.take(self.shown()?),
-            Command::Steal { id: _ } => self.steal(self.shown()?),
-            Command::Untake { id: _ } => self.untake(self.shown()?),
-            Command::Give { id: _, person } => self.give(self.shown()?, person),
-            Command::Reply { id: _, text } => {
+            Command::SetStatus { status, .. } => self.set_status(self.shown()?, status),
+            Command::Take { .. } => self.take(self.shown()?),
+            Command::Steal { .. } => self.steal(self.shown()?),
+            Command::Untake { .. } => self.untake(self.shown()?),
+            Command::Give { person, .. } => self.give(self.shown()?, person),
+            Command::Reply { text, .. } => {
                 self.ask_for_text(text)?;
                 self.reply(self.shown()?, text)
             }
-            Command::Comment { id: _, text } => {
+            Command::Comment { text, .. } => {
                 self.ask_for_text(text)?;
                 self.comment(self.shown()?, text)
             }
-            Command::Watch {
-                id: _,
-                role,
-                person,
-            } => self.watch(self.shown()?, *role, person),
-            Command::Unwatch {
-                id: _,
-                role,
-                person,
-            } => self.unwatch(self.shown()?, *role, person),
-            Command::Link { id: _, kind, other } => self.link(self.both_shown()?, *kind, *other),
-            Command::Unlink { id: _, kind, other } => {
+            Command::Watch { role, person, .. } => self.watch(self.shown()?, *role, person),
+            Command::Unwatch { role, person, .. } => self.unwatch(self.shown()?, *role, person),
+            Command::Link { kind, other, .. } => self.link(self.both_shown()?, *kind, *other),
+            Command::Unlink { kind, other, .. } => {
                 self.unlink(self.both_shown()?, *kind, *other)
             }
-            Command::SetLevel { id: _, level } => self.set_level(self.shown()?, level),
-            Command::Queues => Ok(Change::nothing(self.alloc)),
-            Command::Show { id: _ } => self.read(),
-            Command::History { id: _ } => self.read(),
+            Command::SetLevel { level, .. } => self.set_level(self.shown()?, level),
+            Command::Queues => Ok(Change::no_change(self.alloc)),
+            Command::Show { .. } => self.read(),
+            Command::History { .. } => self.read(),
         }
     }
 
@@ -168,13 +158,14 @@ impl<'c> Context<'c> {
             × (is_missing (call_of self.now) self.now.facts.now.request ≡ true)) }
     {
         self.shown()?;
-        Ok(Change::nothing(self.alloc))
+        Ok(Change::no_change(self.alloc))
     }
 
     /// Refuses a text of a reply or a comment that isn't of its form.
     fn ask_for_text(&self, text: &Text) -> Result<(), Refusal>
         ensures ok { OnOk result (is_text text.now ≡ true) }
-        ensures err { IfErr result (λ refusal. (refusal ≡ Refusal.BadText) × (is_text text.now ≡ false)) }
+        ensures err { IfErr result (λ refusal. (refusal ≡ Refusal.BadText)
+            × (is_text text.now ≡ false)) }
     {
         if is_text(text.as_str()) {
             Ok(())
@@ -210,7 +201,8 @@ impl<'c> Context<'c> {
         }
     }
 
-    /// Refuses where the other request that the command names isn't there, or the caller may not show it.
+    /// Refuses where the other request that the command names isn't there, or the caller may not
+    /// show it.
     fn ask_for_other(&self) -> Result<(), Refusal>
         ensures ok { OnOk result (is_missing (call_of self.now) self.now.facts.now.other ≡ false) }
         ensures err { IfErr result (λ refusal. (refusal ≡ Refusal.NotFound)
@@ -226,7 +218,7 @@ impl<'c> Context<'c> {
     fn may_show(&self, on: &Standing) -> bool
         ensures { result ≡ rights.may_show self.now.settings.now self.now.caller.now on.now }
     {
-        on.may_be_shown(self.settings, self.caller)
+        on.may_show(self.settings, self.caller)
     }
 
     /// Whether a person holds a right on the request, with the person's roles on it.
@@ -238,9 +230,11 @@ impl<'c> Context<'c> {
 
     /// Refuses where the caller lacks a right on the request.
     fn ask(&self, right: &str, on: &Standing) -> Result<(), Refusal>
-        ensures ok { OnOk result (rights.holds_on self.now.settings.now self.now.caller.now right.now on.now ≡ true) }
-        ensures err { IfErr result (λ refusal. refusal ≢ Refusal.Unavailable → (refusal ≡ Refusal.Denied right.now)
-            × (rights.holds_on self.now.settings.now self.now.caller.now right.now on.now ≡ false)) }
+        ensures ok { OnOk result (rights.holds_on
+            self.now.settings.now self.now.caller.now right.now on.now ≡ true) }
+        ensures err { IfErr result (λ refusal. refusal ≢ Refusal.Unavailable
+            → (refusal ≡ Refusal.Denied right.now) × (rights.holds_on
+            self.now.settings.now self.now.caller.now right.now on.now ≡ false)) }
     {
         if self.holds(self.caller, right, on) {
             Ok(())
@@ -249,12 +243,30 @@ impl<'c> Context<'c> {
         }
     }
 
-    /// Refuses where the caller lacks a right on the queue of that name: nobody has a role on a queue.
+    /// Refuses where the person may not own the request.
+    #[tactic(auto, unfolding(rights_core::specs::Right::own_ticket))]
+    fn ask_to_own(&self, person: &str, on: &Standing) -> Result<(), Refusal>
+        ensures ok { OnOk result (rights.holds_on
+            self.now.settings.now person.now own_ticket on.now ≡ true) }
+        ensures err { IfErr result (λ refusal. refusal ≢ Refusal.Unavailable
+            → (refusal ≡ Refusal.Denied own_ticket) × (rights.holds_on
+            self.now.settings.now person.now own_ticket on.now ≡ false)) }
+    {
+        if self.holds(person, right::OWN_TICKET, on) {
+            Ok(())
+        } else {
+            Err(self.denied(right::OWN_TICKET))
+        }
+    }
+
+    /// Refuses where the caller lacks a right on the queue of that name: nobody has a role on a
+    /// queue.
     fn ask_on_queue(&self, right: &str, queue: &Text) -> Result<(), Refusal>
-        ensures ok { OnOk result (rights.holds_on_queue self.now.settings.now self.now.caller.now right.now queue.now
-            ≡ true) }
-        ensures err { IfErr result (λ refusal. refusal ≢ Refusal.Unavailable → (refusal ≡ Refusal.Denied right.now)
-            × (rights.holds_on_queue self.now.settings.now self.now.caller.now right.now queue.now ≡ false)) }
+        ensures ok { OnOk result (rights.holds_on_queue
+            self.now.settings.now self.now.caller.now right.now queue.now ≡ true) }
+        ensures err { IfErr result (λ refusal. refusal ≢ Refusal.Unavailable
+            → (refusal ≡ Refusal.Denied right.now) × (rights.holds_on_queue
+            self.now.settings.now self.now.caller.now right.now queue.now ≡ false)) }
     {
         let people = self.settings.people();
         if people.holds(self.caller, right, queue.as_str(), Roles::none()) {
@@ -299,7 +311,8 @@ impl<'c> Context<'c> {
         body: Text,
     ) -> Result<Entry, AllocError>
         requires { on.now.entry_count + number < 2 ^ 32 }
-        ensures { IfOk result (λ entry. entry ≡ entries.entry_of (call_of self.now) on.now number kind head body) }
+        ensures { IfOk result (λ entry. entry
+            ≡ entries.entry_of (call_of self.now) on.now number kind head body) }
     {
         Ok(Entry {
             id: on.row.id,

@@ -11,11 +11,14 @@ use lifecycle_core::{Class, Lifecycle};
 use settings_core::Settings;
 use text_core::Text;
 
-/// When a request of this queue is due: the least moment among the limits of its level that count, which are the one to
-/// resolve it, since it was opened, and the one on whose turn it is, since then.
+/// When a request of this queue is due: the least moment among the limits of its level that count.
+/// These are the limit to resolve it, since it was opened, and the limit of the turn, since the
+/// turn began: to respond, where it is the desk's, and to keep the requestor in the loop, where it
+/// is the requestor's.
 ///
-/// None where its status is inactive, where it has no level, where no limit counts or is over before 2100, and where
-/// the settings lack the queue's lifecycle, the status, the level or its calendar.
+/// None where its status is inactive, where it has no level, where no limit that counts is over by
+/// 2100-01-01 00:00, and where the settings lack the queue's lifecycle, the status, the level or
+/// its calendar.
 pub fn due_of(settings: &Settings, queue: &QueueRow, request: &RequestRow) -> Option<Minute>
     ensures { result ≡ due.due_of settings.now queue.now request.now }
 {
@@ -65,14 +68,19 @@ fn least_due(calendar: &Calendar, level: &Level, request: &RequestRow) -> Option
         Turn::Requestor => level.keep_in_loop,
     };
     sooner(
-        due_by(calendar, level, request.opened, level.resolve),
-        due_by(calendar, level, request.since, on_turn),
+        due_of_limit(calendar, level, request.opened, level.resolve),
+        due_of_limit(calendar, level, request.since, on_turn),
     )
 }
 
 /// When a limit from this moment on is due, if the level has it.
-fn due_by(calendar: &Calendar, level: &Level, from: Minute, limit: Option<Limit>) -> Option<Minute>
-    ensures { result ≡ due.due_by (opens calendar.now) level.now from limit }
+fn due_of_limit(
+    calendar: &Calendar,
+    level: &Level,
+    from: Minute,
+    limit: Option<Limit>,
+) -> Option<Minute>
+    ensures { result ≡ due.due_of_limit (opens calendar.now) level.now from limit }
 {
     match limit {
         Some(limit) => level.limit_due(calendar, from, limit),

@@ -1,6 +1,8 @@
-//! The desk's commands, and what each decides: the first refusal that is called for, or the change that it makes.
+//! The desk's commands, and what each decides: the first refusal that is called for, or the change
+//! that it makes.
 //!
-//! Nothing here keeps a row. A caller hands in the facts that a command looks at, and applies the change.
+//! Nothing here keeps a row. A caller hands in the facts that a command looks at, and applies the
+//! change.
 #![tactic(auto)]
 
 pub mod answer;

@@ -4,41 +4,59 @@ ghost use Rattle.desk_core.specs.declared.refusal.Refusal.TheVariants.{Unavailab
 
 use std::alloc::{AllocError, AllocFailed};
 use text_core::Text;
+use thiserror::Error;
 
 /// Why a command is refused. The desk is then as it was.
-#[derive(Clone, Debug, PartialEq, Eq, Drop)]
+#[derive(Clone, Debug, PartialEq, Eq, Drop, Error)]
 pub enum Refusal {
     /// The caller is no person of the settings.
+    #[error("the caller is no person of the settings")]
     UnknownCaller,
     /// The moment is before the year 2000 or after 2099.
+    #[error("the moment is before 2000-01-01 00:00 or after 2099-12-31 23:59")]
     BadMoment,
     /// A new queue's name, a subject or a text isn't of its form.
+    #[error("a name, a subject or a text has a length or characters that it can't have")]
     BadText,
     /// The queue or the request isn't there, or is hidden from the caller.
+    #[error("the queue or the request isn't there, or is hidden from the caller")]
     NotFound,
     /// A lifecycle, a level, a person or a status isn't known.
+    #[error("a lifecycle, a level, a person or a status isn't known")]
     UnknownName,
-    /// The caller lacks this right.
+    /// This right is lacking: to the caller, or to the person whom `Give` names.
+    #[error("the right {right} is lacking", right = .0.as_str())]
     Denied(Text),
     /// The desk is already so.
+    #[error("the desk is so already")]
     NoChange,
     /// The lifecycle has no such move or creation.
+    #[error("the lifecycle has no such move, or lets no request begin in that status")]
     NoTransition,
     /// The new status is inactive, and a request that this one depends on isn't.
+    #[error("the request depends on another one that is still open")]
     OpenDependency,
     /// Another person owns the request.
+    #[error("another person owns the request")]
     Owned,
     /// Nobody owns the request.
+    #[error("nobody owns the request")]
     NotOwned,
     /// Another person than the caller owns the request.
+    #[error("another person than the caller owns the request")]
     NotOwner,
     /// A queue of that name is there.
+    #[error("a queue of that name is there already")]
     Exists,
     /// Both ends of the link are one request.
+    #[error("both ends of the link are one request")]
     SelfLink,
-    /// There is no room for another queue, request or entry.
+    /// There is no room for another queue or request, or for the entries that are to come.
+    #[error("there is no room for another queue or request, or for more entries")]
     Full,
-    /// Memory is wanting, or a store refused. It may come in place of any answer, and nothing is changed.
+    /// Out of memory, or a store refused. It may come in place of any answer, and nothing is
+    /// changed.
+    #[error("out of memory, or the store refused")]
     Unavailable,
 }
 

@@ -6,10 +6,9 @@ use crate::facts::Standing;
 use crate::rows::{QueueRow, RequestRow, WatchRole, Watcher};
 use rights_core::{Roles, right};
 use settings_core::Settings;
-use text_core::Texts;
 
-/// Whether a person may show a request: whether the right to do so is held with the person's roles on it. Of the
-/// watchers only those of this request count.
+/// Whether a person may show a request: whether the right to do so is held with the person's roles
+/// on it. Of the watchers only those of this request count.
 #[tactic(auto, unfolding(rights_core::specs::Right::show_ticket))]
 pub fn may_show(
     settings: &Settings,
@@ -25,7 +24,8 @@ pub fn may_show(
         .holds(person, right::SHOW_TICKET, request.queue.as_str(), roles)
 }
 
-/// Whether a person may see a queue: whether the right to do so is held on it. Nobody has a role on a queue.
+/// Whether a person may see a queue: whether the right to do so is held on it. Nobody has a role on
+/// a queue.
 #[tactic(auto, unfolding(rights_core::specs::Right::see_queue))]
 pub fn sees_queue(settings: &Settings, person: &str, queue: &QueueRow) -> bool
     ensures { result ≡ rights.sees_queue settings.now person.now queue.now }
@@ -39,7 +39,7 @@ pub fn sees_queue(settings: &Settings, person: &str, queue: &QueueRow) -> bool
 impl Standing {
     /// Whether the person may show the request.
     #[tactic(auto, unfolding(rights_core::specs::Right::show_ticket))]
-    pub fn may_be_shown(&self, settings: &Settings, person: &str) -> bool
+    pub fn may_show(&self, settings: &Settings, person: &str) -> bool
         ensures { result ≡ rights.may_show settings.now person.now self.now }
     {
         self.is_held(settings, person, right::SHOW_TICKET)
@@ -47,7 +47,7 @@ impl Standing {
 
     /// Whether the person may show the comments of the request.
     #[tactic(auto, unfolding(rights_core::specs::Right::show_ticket_comments))]
-    pub fn has_comments_for(&self, settings: &Settings, person: &str) -> bool
+    pub fn may_show_comments(&self, settings: &Settings, person: &str) -> bool
         ensures { result ≡ rights.may_show_comments settings.now person.now self.now }
     {
         self.is_held(settings, person, right::SHOW_TICKET_COMMENTS)
@@ -69,9 +69,9 @@ impl Standing {
     {
         Roles {
             owner: self.is_owned_by(person),
-            requestor: is_among(&self.requestors, person),
-            cc: is_among(&self.cc, person),
-            admin_cc: is_among(&self.admin_cc, person),
+            requestor: self.requestors.contains(person),
+            cc: self.cc.contains(person),
+            admin_cc: self.admin_cc.contains(person),
         }
     }
 
@@ -84,13 +84,6 @@ impl Standing {
             None => false,
         }
     }
-}
-
-/// Whether the person is one of these.
-pub(crate) fn is_among(persons: &Texts, person: &str) -> bool
-    ensures { result ≡ rights.is_among persons.now person.now }
-{
-    persons.as_slice().iter().any(|p| p.as_str() == person)
 }
 
 /// The roles of a person on a request, as its watchers tell them.

@@ -200,7 +200,7 @@ impl Reader<'_> {
             ≡ reading.is_shown self.now.settings.now self.now.caller.now (desk_of self.now.rows.now) id) }
     {
         match self.rows.standing(id)? {
-            Some(on) => Ok(on.may_be_shown(self.settings, self.caller)),
+            Some(on) => Ok(on.may_show(self.settings, self.caller)),
             None => Ok(false),
         }
     }
@@ -216,17 +216,17 @@ impl Record {
     ) -> Result<Sequence<Entry>, AllocError>
         ensures { IfOk result (λ told. told ≡ reading.entries_told settings.now caller.now (request_of self.now)) }
     {
-        let comments = self.has_comments_for(settings, caller)?;
+        let comments = self.shows_comments(settings, caller)?;
         told(alloc, self.entries.as_slice(), comments)
     }
 
     /// Whether the caller may see its comments.
-    fn has_comments_for(&self, settings: &Settings, caller: &str) -> Result<bool, AllocError>
+    fn shows_comments(&self, settings: &Settings, caller: &str) -> Result<bool, AllocError>
         ensures { IfOk result (λ has. has
             ≡ rights.may_show_comments settings.now caller.now (standing (request_of self.now))) }
     {
         let on = self.standing()?;
-        Ok(on.has_comments_for(settings, caller))
+        Ok(on.may_show_comments(settings, caller))
     }
 }
 

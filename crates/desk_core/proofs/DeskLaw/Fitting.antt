@@ -1,5 +1,6 @@
 -- What a change meets on a desk that stays one after it.
-use Rattle.std.proofs.Common.{◌≡◌, ℕ, ◌+◌, ◌==◌, Bool, true, false, not, ◌&&◌, ◌||◌, List, [], ◌∷◌, length, Option, Some, None}
+use Rattle.std.proofs.Common.{◌≡◌, ℕ, ◌+◌, ◌==◌, Bool, true, false, not, ◌&&◌}
+use Rattle.std.proofs.Common.{◌||◌, List, [], ◌∷◌, length, Option, Some, None}
 use Rattle.std.specs.List.{list_all}
 use Rattle.std.specs.Option.{is_some}
 use Rattle.desk_core.specs.Change.{request_filed}
@@ -19,7 +20,8 @@ OpensNew desk (Some queue) = is_some (queue_at desk queue.name) ≡ false
 -- a request that is filed has the next number, and its queue is there
 abbrev pub FilesNext : Desk → Option RequestRow → Type 0
 FilesNext desk None = Unit {0}
-FilesNext desk (Some row) = (row.id ≡ length desk.requests + 1) × (is_some (queue_at desk row.queue) ≡ true)
+FilesNext desk (Some row) =
+    (row.id ≡ length desk.requests + 1) × (is_some (queue_at desk row.queue) ≡ true)
 
 -- the queue of a change's row, if it has one
 abbrev pub queue_in : Option RequestRow → List ℕ → List ℕ
@@ -29,7 +31,8 @@ queue_in (Some row) queue = row.queue
 -- a row that is set is in a queue that is there
 abbrev pub StaysInQueue : Desk → Option RequestRow → Type 0
 StaysInQueue desk row =
-    (queue : List ℕ) × (queue_in row queue ≡ queue) × (is_some row ≡ true → is_some (queue_at desk queue) ≡ true)
+    (queue : List ℕ) × (queue_in row queue ≡ queue)
+    × (is_some row ≡ true → is_some (queue_at desk queue) ≡ true)
 
 -- both ends of a link are there
 abbrev pub has_ends : Desk → LinkRow → Bool
@@ -43,7 +46,8 @@ LinksAnew desk (Some link) = (has_link desk link ≡ false) × (has_ends desk li
 -- the entries are of one request, and numbered on after so many
 abbrev pub FollowOn : ℕ → ℕ → ℕ → List Entry → Type 0
 FollowOn id count next [] = Unit {0}
-FollowOn id count next (e ∷ es) = (e.id ≡ id) × (e.number ≡ count + next) × FollowOn id count (next + 1) es
+FollowOn id count next (e ∷ es) =
+    (e.id ≡ id) × (e.number ≡ count + next) × FollowOn id count (next + 1) es
 
 -- the request of that number has so many entries
 abbrev pub has_count : ℕ → ℕ → Request → Bool

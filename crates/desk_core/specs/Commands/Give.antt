@@ -2,7 +2,7 @@
 use Rattle.std.specs.Prelude.{ℕ, not, ◌||◌, Bool, List, [], ◌∷◌, Some}
 use Rattle.rights_core.specs.Right.{own_ticket, reassign_ticket}
 use Rattle.settings_core.specs.Settings.{knows}
-use Rattle.desk_core.specs.Commands.Take.{owned_by}
+use Rattle.desk_core.specs.Commands.Take.{giving_owner}
 use Rattle.desk_core.specs.Condition.{Condition}
 use Rattle.desk_core.specs.Entries.{lacks_room}
 use Rattle.desk_core.specs.Plan.{Call}
@@ -10,7 +10,8 @@ use Rattle.desk_core.specs.Rights.{holds_on, owns}
 use Rattle.desk_core.specs.declared.change.Change.{Change}
 use Rattle.desk_core.specs.declared.facts.Facts.{Facts}
 use Rattle.desk_core.specs.declared.facts.Standing.{Standing}
-use Rattle.desk_core.specs.declared.refusal.Refusal.TheVariants.{UnknownName, Denied, NoChange, Full}
+use Rattle.desk_core.specs.declared.refusal.Refusal.TheVariants.{UnknownName, Denied}
+use Rattle.desk_core.specs.declared.refusal.Refusal.TheVariants.{NoChange, Full}
 
 -- the caller owns the request, or may give away what others own
 abbrev pub may_give : Call → Standing → Bool
@@ -26,4 +27,4 @@ conditions person call facts on =
     ∷ []
 
 abbrev pub change : List ℕ → Call → Facts → Standing → Change
-change person call facts on = owned_by (Some person) call on
+change person call facts on = giving_owner (Some person) call on

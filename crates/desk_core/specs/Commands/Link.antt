@@ -1,5 +1,5 @@
 -- Links a request with another one.
-use Rattle.std.specs.Prelude.{ℕ, ◌==◌, not, List, [], ◌∷◌, Some, codes, decimal}
+use Rattle.std.specs.Prelude.{ℕ, ◌==◌, not, List, [], ◌∷◌, codes, decimal}
 use Rattle.rights_core.specs.Right.{modify_ticket}
 use Rattle.desk_core.specs.Change.{linking}
 use Rattle.desk_core.specs.Condition.{Condition}
@@ -30,4 +30,5 @@ conditions other call facts on =
 
 abbrev pub change : LinkKind → ℕ → Call → Facts → Standing → Change
 change kind other call facts on =
-    linking (link on.row.id kind other) (entry_of call on 1 entry.Link (kind_word kind) (decimal other) ∷ [])
+    linking (link on.row.id kind other)
+    (entry_of call on 1 entry.Link (kind_word kind) (decimal other) ∷ [])

@@ -1,5 +1,6 @@
 -- Opens a queue.
-use Rattle.std.specs.Prelude.{ℕ, Bool, true, not, ◌||◌, List, [], ◌∷◌, nat_le, Option, Some, is_some, is_none}
+use Rattle.std.specs.Prelude.{ℕ, Bool, true, not, ◌||◌, List, [], ◌∷◌}
+use Rattle.std.specs.Prelude.{nat_le, Option, is_some, is_none}
 use Rattle.std.specs.Option.{option_map_or}
 use Rattle.text_core.specs.Form.{is_name}
 use Rattle.rights_core.specs.Right.{admin_queue}
@@ -11,7 +12,8 @@ use Rattle.desk_core.specs.Plan.{Call}
 use Rattle.desk_core.specs.Rights.{holds_on_queue}
 use Rattle.desk_core.specs.declared.change.Change.{Change}
 use Rattle.desk_core.specs.declared.facts.Facts.{Facts}
-use Rattle.desk_core.specs.declared.refusal.Refusal.TheVariants.{BadText, UnknownName, Denied, Exists, Full}
+use Rattle.desk_core.specs.declared.refusal.Refusal.TheVariants.{BadText, UnknownName}
+use Rattle.desk_core.specs.declared.refusal.Refusal.TheVariants.{Denied, Exists, Full}
 
 -- no more queues than these are opened
 abbrev pub queue_limit : ℕ
@@ -21,10 +23,15 @@ queue_limit = 1000
 abbrev pub knows_level : Settings → Option (List ℕ) → Bool
 knows_level settings level = option_map_or (λ l. is_some (level_named settings l)) level true
 
+-- the lifecycle or the level isn't one of the settings
+abbrev pub is_unknown : Settings → List ℕ → Option (List ℕ) → Bool
+is_unknown settings lifecycle level =
+    is_none (lifecycle_named settings lifecycle) || not (knows_level settings level)
+
 abbrev pub conditions : List ℕ → List ℕ → Option (List ℕ) → Call → Facts → List Condition
 conditions name lifecycle level call facts =
     (BadText, not (is_name name))
-    ∷ (UnknownName, is_none (lifecycle_named call.settings lifecycle) || not (knows_level call.settings level))
+    ∷ (UnknownName, is_unknown call.settings lifecycle level)
     ∷ (Denied admin_queue, not (holds_on_queue call.settings call.caller admin_queue name))
     ∷ (Exists, is_some facts.queue)
     ∷ (Full, nat_le queue_limit facts.queue_count)

@@ -1,7 +1,7 @@
 -- Makes the caller the owner of a request that another person owns.
 use Rattle.std.specs.Prelude.{not, List, [], ◌∷◌, Some, is_none}
 use Rattle.rights_core.specs.Right.{own_ticket, steal_ticket}
-use Rattle.desk_core.specs.Commands.Take.{owned_by}
+use Rattle.desk_core.specs.Commands.Take.{giving_owner}
 use Rattle.desk_core.specs.Condition.{Condition}
 use Rattle.desk_core.specs.Entries.{lacks_room}
 use Rattle.desk_core.specs.Plan.{Call}
@@ -21,4 +21,4 @@ conditions call facts on =
     ∷ []
 
 abbrev pub change : Call → Facts → Standing → Change
-change call facts on = owned_by (Some call.caller) call on
+change call facts on = giving_owner (Some call.caller) call on

@@ -26,10 +26,10 @@ abbrev pub with_owner : Option (List ℕ) → RequestRow → RequestRow
 with_owner owner row = record row { owner = owner }
 
 -- the request with another owner, or with none
-abbrev pub owned_by : Option (List ℕ) → Call → Standing → Change
-owned_by owner call on =
+abbrev pub giving_owner : Option (List ℕ) → Call → Standing → Change
+giving_owner owner call on =
     revising (with_owner owner on.row)
     (entry_of call on 1 kind.Owner (owner_word on.row.owner) (owner_word owner) ∷ [])
 
 abbrev pub change : Call → Facts → Standing → Change
-change call facts on = owned_by (Some call.caller) call on
+change call facts on = giving_owner (Some call.caller) call on

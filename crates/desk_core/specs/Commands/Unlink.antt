@@ -24,4 +24,5 @@ conditions call facts on =
 
 abbrev pub change : LinkKind → ℕ → Call → Facts → Standing → Change
 change kind other call facts on =
-    unlinking (link on.row.id kind other) (entry_of call on 1 entry.Unlink (kind_word kind) (decimal other) ∷ [])
+    unlinking (link on.row.id kind other)
+    (entry_of call on 1 entry.Unlink (kind_word kind) (decimal other) ∷ [])

@@ -1,6 +1,6 @@
 -- Leaves a request that the caller owns without an owner.
-use Rattle.std.specs.Prelude.{ℕ, not, List, [], ◌∷◌, None, is_none}
-use Rattle.desk_core.specs.Commands.Take.{owned_by}
+use Rattle.std.specs.Prelude.{not, List, [], ◌∷◌, None, is_none}
+use Rattle.desk_core.specs.Commands.Take.{giving_owner}
 use Rattle.desk_core.specs.Condition.{Condition}
 use Rattle.desk_core.specs.Entries.{lacks_room}
 use Rattle.desk_core.specs.Plan.{Call}
@@ -18,4 +18,4 @@ conditions call facts on =
     ∷ []
 
 abbrev pub change : Call → Facts → Standing → Change
-change call facts on = owned_by None call on
+change call facts on = giving_owner None call on

@@ -2,28 +2,30 @@
 use Rattle.std.specs.Prelude.{ℕ, not, List, [], ◌∷◌}
 use Rattle.rights_core.specs.Right.{modify_ticket}
 use Rattle.settings_core.specs.Settings.{knows}
+use Rattle.text_core.specs.Texts.{is_among}
 use Rattle.desk_core.specs.Change.{taking}
-use Rattle.desk_core.specs.Commands.Watch.{may_put, persons_in, role_word}
+use Rattle.desk_core.specs.Commands.Watch.{may_set_role, persons_in, role_word}
 use Rattle.desk_core.specs.Condition.{Condition}
 use Rattle.desk_core.specs.Entries.{entry_of, lacks_room}
 use Rattle.desk_core.specs.Plan.{Call}
-use Rattle.desk_core.specs.Rights.{is_among}
+use Rattle.desk_core.specs.Watchers.{watcher}
 use Rattle.desk_core.specs.declared.change.Change.{Change}
 use Rattle.desk_core.specs.declared.facts.Facts.{Facts}
 use Rattle.desk_core.specs.declared.facts.Standing.{Standing}
-use Rattle.desk_core.specs.declared.refusal.Refusal.TheVariants.{UnknownName, Denied, NoChange, Full}
+use Rattle.desk_core.specs.declared.refusal.Refusal.TheVariants.{UnknownName, Denied}
+use Rattle.desk_core.specs.declared.refusal.Refusal.TheVariants.{NoChange, Full}
 use Rattle.desk_core.specs.declared.rows.EntryKind.TheVariants as kind
 use Rattle.desk_core.specs.declared.rows.WatchRole.{WatchRole}
 
 abbrev pub conditions : WatchRole → List ℕ → Call → Facts → Standing → List Condition
 conditions role person call facts on =
     (UnknownName, not (knows call.settings person))
-    ∷ (Denied modify_ticket, not (may_put role person call on))
+    ∷ (Denied modify_ticket, not (may_set_role role person call on))
     ∷ (NoChange, not (is_among (persons_in role on) person))
     ∷ (Full, lacks_room call on 1)
     ∷ []
 
 abbrev pub change : WatchRole → List ℕ → Call → Facts → Standing → Change
 change role person call facts on =
-    taking (record { id = on.row.id; role = role; person = person } ∷ [])
+    taking (watcher on.row.id role person ∷ [])
     (entry_of call on 1 kind.Unwatch (role_word role) person ∷ [])

@@ -3,15 +3,18 @@ use Rattle.std.specs.Prelude.{ℕ, Bool, not, ◌&&◌, ◌||◌, List, [], ◌�
 use Rattle.std.specs.Str.{bytes_eq}
 use Rattle.rights_core.specs.Right.{modify_ticket, watch, watch_as_admin_cc}
 use Rattle.settings_core.specs.Settings.{knows}
+use Rattle.text_core.specs.Texts.{is_among}
 use Rattle.desk_core.specs.Change.{putting}
 use Rattle.desk_core.specs.Condition.{Condition}
 use Rattle.desk_core.specs.Entries.{entry_of, lacks_room}
 use Rattle.desk_core.specs.Plan.{Call}
-use Rattle.desk_core.specs.Rights.{holds_on, is_among}
+use Rattle.desk_core.specs.Rights.{holds_on}
+use Rattle.desk_core.specs.Watchers.{watcher}
 use Rattle.desk_core.specs.declared.change.Change.{Change}
 use Rattle.desk_core.specs.declared.facts.Facts.{Facts}
 use Rattle.desk_core.specs.declared.facts.Standing.{Standing}
-use Rattle.desk_core.specs.declared.refusal.Refusal.TheVariants.{UnknownName, Denied, NoChange, Full}
+use Rattle.desk_core.specs.declared.refusal.Refusal.TheVariants.{UnknownName, Denied}
+use Rattle.desk_core.specs.declared.refusal.Refusal.TheVariants.{NoChange, Full}
 use Rattle.desk_core.specs.declared.rows.EntryKind.TheVariants as kind
 use Rattle.desk_core.specs.declared.rows.WatchRole.{WatchRole}
 use Rattle.desk_core.specs.declared.rows.WatchRole.TheVariants.{Requestor, Cc, AdminCc}
@@ -32,21 +35,22 @@ role_word Requestor = codes "requestor"
 role_word Cc = codes "cc"
 role_word AdminCc = codes "admincc"
 
--- the caller may modify the request, or names himself and may watch it: to put into a role, and to take out of it
-abbrev pub may_put : WatchRole → List ℕ → Call → Standing → Bool
-may_put role person call on =
+-- the caller may modify the request, or names himself and may watch it: to put into a role, and to
+-- take out of it
+abbrev pub may_set_role : WatchRole → List ℕ → Call → Standing → Bool
+may_set_role role person call on =
     holds_on call.settings call.caller modify_ticket on
     || (bytes_eq person call.caller && holds_on call.settings call.caller (right_to_watch role) on)
 
 abbrev pub conditions : WatchRole → List ℕ → Call → Facts → Standing → List Condition
 conditions role person call facts on =
     (UnknownName, not (knows call.settings person))
-    ∷ (Denied modify_ticket, not (may_put role person call on))
+    ∷ (Denied modify_ticket, not (may_set_role role person call on))
     ∷ (NoChange, is_among (persons_in role on) person)
     ∷ (Full, lacks_room call on 1)
     ∷ []
 
 abbrev pub change : WatchRole → List ℕ → Call → Facts → Standing → Change
 change role person call facts on =
-    putting (record { id = on.row.id; role = role; person = person } ∷ [])
+    putting (watcher on.row.id role person ∷ [])
     (entry_of call on 1 kind.Watch (role_word role) person ∷ [])

@@ -3,8 +3,8 @@ ghost use Rattle.std.specs.Option.{option_map};
 ghost use Rattle.std.specs.List.{list_all};
 ghost use Rattle.settings_core.specs.Settings.{knows};
 ghost use Rattle.desk_core.specs.Commands.Create as creating;
-ghost use Rattle.desk_core.specs.Condition.{Decides, Passes};
-ghost use Rattle.desk_core.specs.Context.{call_of};
+ghost use Rattle.desk_core.specs.Condition.{Passes};
+ghost use Rattle.desk_core.specs.Context.{call_of, DecidesOnQueue};
 ghost use Rattle.desk_core.specs.Lifecycles as lifecycles;
 
 use crate::change::Change;
@@ -27,9 +27,9 @@ impl Context<'_> {
         status: &Option<Text>,
         requestors: &Texts,
     ) -> Result<Change, Refusal>
-        ensures { Decides result
-            (creating.conditions queue.now subject.now status.now requestors.now (call_of self.now) self.now.facts.now)
-            (creating.change queue.now subject.now status.now requestors.now (call_of self.now) self.now.facts.now) }
+        ensures { DecidesOnQueue result
+            (creating.conditions queue.now subject.now status.now requestors.now)
+            (creating.change queue.now subject.now status.now requestors.now) self.now }
     {
         self.ask_to_create(queue, subject, status, requestors)?;
         Ok(self.created(queue, subject, status, requestors)?)
@@ -44,7 +44,8 @@ impl Context<'_> {
         requestors: &Texts,
     ) -> Result<(), Refusal>
         ensures asks { Passes result
-            (creating.conditions queue.now subject.now status.now requestors.now (call_of self.now) self.now.facts.now) }
+            (creating.conditions queue.now subject.now status.now requestors.now
+            (call_of self.now) self.now.facts.now) }
         ensures fits { OnOk result (self.now.facts.now.request_count + 1 < 2 ^ 32) }
     {
         if !is_subject(subject.as_str()) {
@@ -84,7 +85,8 @@ impl Context<'_> {
         requestors: &Texts,
     ) -> Result<Change, AllocError>
         requires { self.now.facts.now.request_count + 1 < 2 ^ 32 }
-        ensures { IfOk result (λ change. change ≡ creating.change queue.now subject.now status.now requestors.now
+        ensures { IfOk result (λ change. change
+            ≡ creating.change queue.now subject.now status.now requestors.now
             (call_of self.now) self.now.facts.now) }
     {
         let lifecycle = lifecycle_of(self.settings, &self.facts.queue);
@@ -99,7 +101,8 @@ impl Context<'_> {
     /// The row of the next request.
     fn new_row(&self, queue: &Text, subject: &Text, status: &str) -> Result<RequestRow, AllocError>
         requires { self.now.facts.now.request_count + 1 < 2 ^ 32 }
-        ensures { IfOk result (λ row. row ≡ creating.new_row (self.now.facts.now.request_count + 1) self.now.moment
+        ensures { IfOk result (λ row. row
+            ≡ creating.new_row (self.now.facts.now.request_count + 1) self.now.moment
             queue.now subject.now status.now self.now.facts.now.queue) }
     {
         let level = match &self.facts.queue {
@@ -122,7 +125,8 @@ impl Context<'_> {
 
     /// The first entry of a request.
     fn first_entry(&self, id: u32, status: &str) -> Result<Entry, AllocError>
-        ensures { IfOk result (λ entry. entry ≡ creating.first_entry id (call_of self.now) status.now) }
+        ensures { IfOk result (λ entry.
+            entry ≡ creating.first_entry id (call_of self.now) status.now) }
     {
         Ok(Entry {
             id,
@@ -137,7 +141,8 @@ impl Context<'_> {
 
     /// The persons given as requestors, each once, or the caller where none is given.
     fn requestors_of(&self, id: u32, given: &Texts) -> Result<Sequence<Watcher>, AllocError>
-        ensures { IfOk result (λ watchers. watchers ≡ creating.requestors_of id (call_of self.now) given.now) }
+        ensures { IfOk result (λ watchers.
+            watchers ≡ creating.requestors_of id (call_of self.now) given.now) }
     {
         let persons = if given.is_empty() {
             Texts::from(vec![in self.alloc; Text::new(self.alloc, self.caller)?]?)
@@ -173,9 +178,10 @@ fn has_given(lifecycle: Option<&Lifecycle>, given: &Option<Text>) -> bool
     }
 }
 
-/// The status given, or else the one that the lifecycle begins with.
+/// The status given, or else the lifecycle's status on create.
 fn first_status<'s>(lifecycle: Option<&'s Lifecycle>, given: &'s Option<Text>) -> &'s str
-    ensures { result.now ≡ lifecycles.first_status (option_map (λ l. l.now) lifecycle.entry) given.entry.now }
+    ensures { result.now
+        ≡ lifecycles.first_status (option_map (λ l. l.now) lifecycle.entry) given.entry.now }
 {
     match (given, lifecycle) {
         (Some(status), _) => status.as_str(),

@@ -1,9 +1,6 @@
 ghost use Rattle.std.specs.Prelude.{◌≡◌, ◌+◌, ◌^◌, ◌<◌, OnOk};
 ghost use Rattle.desk_core.specs.Commands.Give as giving;
-ghost use Rattle.desk_core.specs.Condition.{Decides, Passes};
-ghost use Rattle.rights_core.specs.Right.{own_ticket};
-ghost use Rattle.desk_core.specs.Rights as rights;
-ghost use Rattle.desk_core.specs.Context.{call_of};
+ghost use Rattle.desk_core.specs.Context.{call_of, DecidesOn, PassesOn};
 
 use crate::change::Change;
 use crate::decision::Context;
@@ -15,16 +12,16 @@ use text_core::Text;
 impl Context<'_> {
     /// Makes a person the owner of a request.
     pub(super) fn give(&self, on: &Standing, person: &Text) -> Result<Change, Refusal>
-        ensures { Decides result (giving.conditions person.now (call_of self.now) self.now.facts.now on.now)
-            (giving.change person.now (call_of self.now) self.now.facts.now on.now) }
+        ensures { DecidesOn result (giving.conditions person.now) (giving.change person.now)
+            self.now on.now }
     {
         self.ask_to_give(on, person)?;
-        Ok(self.owned_by(Some(person.clone()?), on)?)
+        Ok(self.giving_owner(Some(person.clone()?), on)?)
     }
 
-    #[tactic(auto, unfolding(rights_core::specs::Right::reassign_ticket, rights_core::specs::Right::own_ticket))]
+    #[tactic(auto, unfolding(rights_core::specs::Right::reassign_ticket))]
     fn ask_to_give(&self, on: &Standing, person: &Text) -> Result<(), Refusal>
-        ensures asks { Passes result (giving.conditions person.now (call_of self.now) self.now.facts.now on.now) }
+        ensures asks { PassesOn result (giving.conditions person.now) self.now on.now }
         ensures fits { OnOk result (on.now.entry_count + 1 < 2 ^ 32) }
     {
         if !self.settings.people().knows(person.as_str()) {
@@ -33,20 +30,11 @@ impl Context<'_> {
         if !self.may_give(on) {
             return Err(self.denied(right::REASSIGN_TICKET));
         }
-        if !self.may_own(person, on) {
-            return Err(self.denied(right::OWN_TICKET));
-        }
+        self.ask_to_own(person.as_str(), on)?;
         if on.is_owned_by(person.as_str()) {
             return Err(Refusal::NoChange);
         }
         self.ask_for_room(on, 1)
-    }
-
-    #[tactic(auto, unfolding(rights_core::specs::Right::own_ticket))]
-    fn may_own(&self, person: &Text, on: &Standing) -> bool
-        ensures { result ≡ rights.holds_on self.now.settings.now person.now own_ticket on.now }
-    {
-        self.holds(person.as_str(), right::OWN_TICKET, on)
     }
 
     /// Whether the caller owns the request, or may give away what others own.

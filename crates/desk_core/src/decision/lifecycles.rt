@@ -32,7 +32,8 @@ pub(super) fn has_status(lifecycle: Option<&Lifecycle>, status: &Text) -> bool
 
 /// Whether a request may be filed in the status.
 pub(super) fn is_creatable(lifecycle: Option<&Lifecycle>, status: &str) -> bool
-    ensures { result ≡ lifecycles.is_creatable (option_map (λ l. l.now) lifecycle.entry) status.now }
+    ensures { result
+        ≡ lifecycles.is_creatable (option_map (λ l. l.now) lifecycle.entry) status.now }
 {
     match lifecycle {
         Some(lifecycle) => lifecycle.may_create(status),
@@ -42,7 +43,8 @@ pub(super) fn is_creatable(lifecycle: Option<&Lifecycle>, status: &str) -> bool
 
 /// Whether a request may move from the one status to the other.
 pub(super) fn is_allowed(lifecycle: Option<&Lifecycle>, from: &Text, to: &Text) -> bool
-    ensures { result ≡ lifecycles.is_allowed (option_map (λ l. l.now) lifecycle.entry) from.now to.now }
+    ensures { result
+        ≡ lifecycles.is_allowed (option_map (λ l. l.now) lifecycle.entry) from.now to.now }
 {
     match lifecycle {
         Some(lifecycle) => lifecycle.may_move(from.as_str(), to.as_str()),
@@ -52,7 +54,8 @@ pub(super) fn is_allowed(lifecycle: Option<&Lifecycle>, from: &Text, to: &Text) 
 
 /// The right that a move asks for.
 pub(super) fn right_of<'s>(lifecycle: Option<&'s Lifecycle>, from: &Text, to: &Text) -> &'s str
-    ensures { result.now ≡ lifecycles.right_of (option_map (λ l. l.now) lifecycle.entry) from.now to.now }
+    ensures { result.now
+        ≡ lifecycles.right_of (option_map (λ l. l.now) lifecycle.entry) from.now to.now }
 {
     match lifecycle {
         Some(lifecycle) => lifecycle.right_for(from.as_str(), to.as_str()),
@@ -62,7 +65,8 @@ pub(super) fn right_of<'s>(lifecycle: Option<&'s Lifecycle>, from: &Text, to: &T
 
 /// Whether a move leads from an inactive status to one that isn't.
 pub(super) fn opens_anew(lifecycle: Option<&Lifecycle>, from: &Text, to: &Text) -> bool
-    ensures { result ≡ lifecycles.opens_anew (option_map (λ l. l.now) lifecycle.entry) from.now to.now }
+    ensures { result
+        ≡ lifecycles.opens_anew (option_map (λ l. l.now) lifecycle.entry) from.now to.now }
 {
     is_inactive(lifecycle, from) && !is_inactive(lifecycle, to)
 }
@@ -94,7 +98,8 @@ pub(super) fn is_initial(lifecycle: Option<&Lifecycle>, status: &Text) -> bool
 
 /// The status to which a request is opened again.
 pub(super) fn reopening_of<'s>(lifecycle: Option<&'s Lifecycle>, from: &Text) -> Option<&'s str>
-    ensures { option_map (λ s. s.now) result ≡ lifecycles.reopening_of (option_map (λ l. l.now) lifecycle.entry) from.now }
+    ensures { option_map (λ s. s.now) result
+        ≡ lifecycles.reopening_of (option_map (λ l. l.now) lifecycle.entry) from.now }
 {
     match lifecycle {
         Some(lifecycle) => lifecycle.reopen_to(from.as_str()),

@@ -1,7 +1,6 @@
-ghost use Rattle.std.specs.Prelude.{◌≡◌, ◌==◌, ◌+◌, ◌^◌, ◌<◌, IfOk, OnOk, Some, decimal};
+ghost use Rattle.std.specs.Prelude.{◌≡◌, ◌+◌, ◌^◌, ◌<◌, IfOk, OnOk, decimal};
 ghost use Rattle.desk_core.specs.Commands.Link as linking;
-ghost use Rattle.desk_core.specs.Condition.{Decides, Passes};
-ghost use Rattle.desk_core.specs.Context.{call_of};
+ghost use Rattle.desk_core.specs.Context.{DecidesOn, MakesOn, PassesOn};
 
 use crate::change::Change;
 use crate::decision::Context;
@@ -15,8 +14,8 @@ use text_core::{Sequence, Text};
 impl Context<'_> {
     /// Links the request with another one.
     pub(super) fn link(&self, on: &Standing, kind: LinkKind, other: u32) -> Result<Change, Refusal>
-        ensures { Decides result (linking.conditions other (call_of self.now) self.now.facts.now on.now)
-            (linking.change kind other (call_of self.now) self.now.facts.now on.now) }
+        ensures { DecidesOn result (linking.conditions other) (linking.change kind other)
+            self.now on.now }
     {
         self.ask_to_link(on, other)?;
         Ok(self.linked(on, kind, other)?)
@@ -24,7 +23,7 @@ impl Context<'_> {
 
     #[tactic(auto, unfolding(rights_core::specs::Right::modify_ticket))]
     fn ask_to_link(&self, on: &Standing, other: u32) -> Result<(), Refusal>
-        ensures asks { Passes result (linking.conditions other (call_of self.now) self.now.facts.now on.now) }
+        ensures asks { PassesOn result (linking.conditions other) self.now on.now }
         ensures fits { OnOk result (on.now.entry_count + 1 < 2 ^ 32) }
     {
         self.ask(right::MODIFY_TICKET, on)?;
@@ -39,7 +38,7 @@ impl Context<'_> {
 
     fn linked(&self, on: &Standing, kind: LinkKind, other: u32) -> Result<Change, AllocError>
         requires { on.now.entry_count + 1 < 2 ^ 32 }
-        ensures { IfOk result (λ change. change ≡ linking.change kind other (call_of self.now) self.now.facts.now on.now) }
+        ensures { MakesOn result (linking.change kind other) self.now on.now }
     {
         let head = Text::new(self.alloc, kind_word(kind))?;
         let body = in_digits(self.alloc, other)?;

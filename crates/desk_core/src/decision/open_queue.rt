@@ -1,7 +1,6 @@
 ghost use Rattle.std.specs.Prelude.{◌≡◌};
 ghost use Rattle.desk_core.specs.Commands.OpenQueue as opening;
-ghost use Rattle.desk_core.specs.Condition.{Decides};
-ghost use Rattle.desk_core.specs.Context.{call_of};
+ghost use Rattle.desk_core.specs.Context.{DecidesOnQueue};
 
 use crate::change::Change;
 use crate::decision::Context;
@@ -22,8 +21,8 @@ impl Context<'_> {
         lifecycle: &Text,
         level: &Option<Text>,
     ) -> Result<Change, Refusal>
-        ensures { Decides result (opening.conditions name.now lifecycle.now level.now (call_of self.now) self.now.facts.now)
-            (opening.change name.now lifecycle.now level.now (call_of self.now) self.now.facts.now) }
+        ensures { DecidesOnQueue result (opening.conditions name.now lifecycle.now level.now)
+            (opening.change name.now lifecycle.now level.now) self.now }
     {
         if !is_name(name.as_str()) {
             return Err(Refusal::BadText);

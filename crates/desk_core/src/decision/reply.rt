@@ -1,17 +1,13 @@
-ghost use Rattle.std.specs.Prelude.{◌≡◌, ◌+◌, ◌^◌, ◌<◌, ◌∷◌, [], IfOk, OnOk};
+ghost use Rattle.std.specs.Prelude.{◌≡◌, ◌+◌, ◌^◌, ◌<◌, IfOk, OnOk};
 ghost use Rattle.std.specs.Option.{option_map};
 ghost use Rattle.desk_core.specs.Commands.Reply as replying;
-ghost use Rattle.desk_core.specs.Entries.{entry_of};
-ghost use Rattle.desk_core.specs.declared.rows.EntryKind.TheVariants as kind;
-ghost use Rattle.desk_core.specs.Condition.{Decides, Passes};
-ghost use Rattle.desk_core.specs.Context.{call_of};
+ghost use Rattle.desk_core.specs.Context.{call_of, DecidesOn, MakesOn, PassesOn};
 
 use crate::change::Change;
 use crate::decision::Context;
 use crate::decision::lifecycles::{is_inactive, is_initial, lifecycle_of, reopening_of};
 use crate::facts::Standing;
 use crate::refusal::Refusal;
-use crate::rights::is_among;
 use crate::rows::{Entry, EntryKind, RequestRow, Turn};
 use hours_core::Minute;
 use lifecycle_core::Lifecycle;
@@ -22,8 +18,7 @@ use text_core::{Sequence, Text};
 impl Context<'_> {
     /// Replies to the request: the reply may open it again, and the turn passes.
     pub(super) fn reply(&self, on: &Standing, text: &Text) -> Result<Change, Refusal>
-        ensures { Decides result (replying.conditions (call_of self.now) self.now.facts.now on.now)
-            (replying.change text.now (call_of self.now) self.now.facts.now on.now) }
+        ensures { DecidesOn result replying.conditions (replying.change text.now) self.now on.now }
     {
         self.ask_to_reply(on)?;
         Ok(self.replied(on, text)?)
@@ -31,8 +26,9 @@ impl Context<'_> {
 
     #[tactic(auto, unfolding(rights_core::specs::Right::reply_to_ticket))]
     fn ask_to_reply(&self, on: &Standing) -> Result<(), Refusal>
-        ensures asks { Passes result (replying.conditions (call_of self.now) self.now.facts.now on.now) }
-        ensures fits { OnOk result (on.now.entry_count + replying.entries_wanted (call_of self.now) self.now.facts.now on.now < 2 ^ 32) }
+        ensures asks { PassesOn result replying.conditions self.now on.now }
+        ensures fits { OnOk result (on.now.entry_count
+            + replying.entries_wanted (call_of self.now) self.now.facts.now on.now < 2 ^ 32) }
     {
         self.ask(right::REPLY_TO_TICKET, on)?;
         self.ask_for_room(on, self.entries_wanted(on)?)
@@ -40,15 +36,17 @@ impl Context<'_> {
 
     /// How many entries a reply appends.
     fn entries_wanted(&self, on: &Standing) -> Result<u32, AllocError>
-        ensures { IfOk result (λ count. count ≡ replying.entries_wanted (call_of self.now) self.now.facts.now on.now) }
+        ensures { IfOk result (λ count.
+            count ≡ replying.entries_wanted (call_of self.now) self.now.facts.now on.now) }
     {
         let reopened = self.move_of(on)?;
         Ok(entries_of_move(&reopened))
     }
 
     fn replied(&self, on: &Standing, text: &Text) -> Result<Change, AllocError>
-        requires { on.now.entry_count + replying.entries_wanted (call_of self.now) self.now.facts.now on.now < 2 ^ 32 }
-        ensures { IfOk result (λ change. change ≡ replying.change text.now (call_of self.now) self.now.facts.now on.now) }
+        requires { on.now.entry_count
+            + replying.entries_wanted (call_of self.now) self.now.facts.now on.now < 2 ^ 32 }
+        ensures { MakesOn result (replying.change text.now) self.now on.now }
     {
         let reopened = self.move_of(on)?;
         let row = self.replied_row(on, &reopened)?;
@@ -58,11 +56,12 @@ impl Context<'_> {
 
     /// The status that a reply moves the request to, if it moves it.
     fn move_of(&self, on: &Standing) -> Result<Option<Text>, AllocError>
-        ensures { IfOk result (λ move. move ≡ replying.move_of (call_of self.now) self.now.facts.now on.now) }
+        ensures { IfOk result (λ move.
+            move ≡ replying.move_of (call_of self.now) self.now.facts.now on.now) }
     {
         let lifecycle = lifecycle_of(self.settings, &self.facts.queue);
-        let is_requestor = is_among(&on.requestors, self.caller);
-        match reopening(lifecycle, is_requestor, &on.row.status) {
+        let is_requestor = on.requestors.contains(self.caller);
+        match reply_target(lifecycle, is_requestor, &on.row.status) {
             Some(status) => Ok(Some(Text::new(self.alloc, status)?)),
             None => Ok(None),
         }
@@ -70,13 +69,14 @@ impl Context<'_> {
 
     /// The row after a reply.
     fn replied_row(&self, on: &Standing, reopened: &Option<Text>) -> Result<RequestRow, AllocError>
-        ensures { IfOk result (λ row. row ≡ replying.replied_row (call_of self.now) self.now.facts.now reopened.now on.now) }
+        ensures { IfOk result (λ row. row
+            ≡ replying.replied_row (call_of self.now) self.now.facts.now reopened.now on.now) }
     {
         let lifecycle = lifecycle_of(self.settings, &self.facts.queue);
-        let is_requestor = is_among(&on.requestors, self.caller);
+        let is_requestor = on.requestors.contains(self.caller);
         let moved = match reopened {
-            Some(status) => self.moved_row(lifecycle, &on.row, status)?,
-            None => self.moved_row(lifecycle, &on.row, &on.row.status)?,
+            Some(status) => self.row_in_status(lifecycle, &on.row, status)?,
+            None => self.row_in_status(lifecycle, &on.row, &on.row.status)?,
         };
         Ok(turned(is_requestor, self.moment, moved))
     }
@@ -89,8 +89,8 @@ impl Context<'_> {
         reopened: &Option<Text>,
     ) -> Result<Sequence<Entry>, AllocError>
         requires { on.now.entry_count + replying.entries_of_move reopened.now < 2 ^ 32 }
-        ensures { IfOk result (λ entries. entries ≡ entry_of (call_of self.now) on.now 1 kind.Reply [] text.now
-            ∷ replying.second_entry (call_of self.now) on.now reopened.now) }
+        ensures { IfOk result (λ entries. entries
+            ≡ replying.entries_of text.now (call_of self.now) on.now reopened.now) }
     {
         let empty = Text::new(self.alloc, "")?;
         let mut entries = Vec::new(self.alloc);
@@ -118,13 +118,13 @@ fn entries_of_move(reopened: &Option<Text>) -> u32
 }
 
 /// The status that a reply moves a request to, if it moves it.
-fn reopening<'s>(
+fn reply_target<'s>(
     lifecycle: Option<&'s Lifecycle>,
     is_requestor: bool,
     status: &Text,
 ) -> Option<&'s str>
     ensures { option_map (λ s. s.now) result
-        ≡ replying.reopening (option_map (λ l. l.now) lifecycle.entry) is_requestor status.now }
+        ≡ replying.reply_target (option_map (λ l. l.now) lifecycle.entry) is_requestor status.now }
 {
     if is_inactive(lifecycle, status) || (is_initial(lifecycle, status) && !is_requestor) {
         reopening_of(lifecycle, status)

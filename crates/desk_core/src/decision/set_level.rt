@@ -1,7 +1,6 @@
 ghost use Rattle.std.specs.Prelude.{◌≡◌, ◌+◌, ◌^◌, ◌<◌, IfOk, OnOk};
 ghost use Rattle.desk_core.specs.Commands.SetLevel as levelling;
-ghost use Rattle.desk_core.specs.Condition.{Decides, Passes};
-ghost use Rattle.desk_core.specs.Context.{call_of};
+ghost use Rattle.desk_core.specs.Context.{DecidesOn, MakesOn, PassesOn};
 
 use crate::change::Change;
 use crate::decision::Context;
@@ -15,8 +14,8 @@ use text_core::{Sequence, Text};
 impl Context<'_> {
     /// Gives the request another level, or none.
     pub(super) fn set_level(&self, on: &Standing, level: &Option<Text>) -> Result<Change, Refusal>
-        ensures { Decides result (levelling.conditions level.now (call_of self.now) self.now.facts.now on.now)
-            (levelling.change level.now (call_of self.now) self.now.facts.now on.now) }
+        ensures { DecidesOn result (levelling.conditions level.now) (levelling.change level.now)
+            self.now on.now }
     {
         self.ask_to_set_level(on, level)?;
         Ok(self.levelled(on, level)?)
@@ -24,7 +23,7 @@ impl Context<'_> {
 
     #[tactic(auto, unfolding(rights_core::specs::Right::modify_ticket))]
     fn ask_to_set_level(&self, on: &Standing, level: &Option<Text>) -> Result<(), Refusal>
-        ensures asks { Passes result (levelling.conditions level.now (call_of self.now) self.now.facts.now on.now) }
+        ensures asks { PassesOn result (levelling.conditions level.now) self.now on.now }
         ensures fits { OnOk result (on.now.entry_count + 1 < 2 ^ 32) }
     {
         if !self.knows_level(level) {
@@ -39,8 +38,7 @@ impl Context<'_> {
 
     fn levelled(&self, on: &Standing, level: &Option<Text>) -> Result<Change, AllocError>
         requires { on.now.entry_count + 1 < 2 ^ 32 }
-        ensures { IfOk result (λ change. change
-            ≡ levelling.change level.now (call_of self.now) self.now.facts.now on.now) }
+        ensures { MakesOn result (levelling.change level.now) self.now on.now }
     {
         let old = level_word(self.alloc, &on.row.level)?;
         let new = level_word(self.alloc, level)?;

@@ -1,8 +1,7 @@
 ghost use Rattle.std.specs.Prelude.{◌≡◌, ◌+◌, ◌^◌, ◌<◌, IfOk};
 ghost use Rattle.std.specs.Option.{option_map};
 ghost use Rattle.desk_core.specs.Commands.SetStatus as setting;
-ghost use Rattle.desk_core.specs.Condition.{Decides};
-ghost use Rattle.desk_core.specs.Context.{call_of};
+ghost use Rattle.desk_core.specs.Context.{call_of, DecidesOn};
 
 use crate::change::Change;
 use crate::decision::Context;
@@ -20,8 +19,8 @@ use text_core::{Sequence, Text};
 impl Context<'_> {
     /// Moves the request to another status.
     pub(super) fn set_status(&self, on: &Standing, status: &Text) -> Result<Change, Refusal>
-        ensures { Decides result (setting.conditions status.now (call_of self.now) self.now.facts.now on.now)
-            (setting.change status.now (call_of self.now) self.now.facts.now on.now) }
+        ensures { DecidesOn result (setting.conditions status.now) (setting.change status.now)
+            self.now on.now }
     {
         let lifecycle = lifecycle_of(self.settings, &self.facts.queue);
         if !has_status(lifecycle, status) {
@@ -34,25 +33,27 @@ impl Context<'_> {
         if !is_allowed(lifecycle, &on.row.status, status) {
             return Err(Refusal::NoTransition);
         }
-        if is_inactive(lifecycle, status) && has_open(self.settings, &self.facts.dependencies) {
+        if is_inactive(lifecycle, status)
+            && has_open_dependency(self.settings, &self.facts.dependencies)
+        {
             return Err(Refusal::OpenDependency);
         }
         self.ask_for_room(on, 1)?;
         let entry = self.moving(on, 1, status)?;
-        let row = self.moved_row(lifecycle, &on.row, status)?;
+        let row = self.row_in_status(lifecycle, &on.row, status)?;
         let entries = Sequence::from(vec![in self.alloc; entry]?);
         Ok(Change::revising(self.alloc, row, entries))
     }
 
     /// The row after a move. A move out of the inactive statuses opens the request anew.
-    pub(super) fn moved_row(
+    pub(super) fn row_in_status(
         &self,
         lifecycle: Option<&Lifecycle>,
         row: &RequestRow,
         status: &Text,
     ) -> Result<RequestRow, AllocError>
-        ensures { IfOk result (λ moved. moved ≡ setting.moved_row (option_map (λ l. l.now) lifecycle.entry)
-            self.now.moment status.now row.now) }
+        ensures { IfOk result (λ moved. moved ≡ setting.row_in_status
+            (option_map (λ l. l.now) lifecycle.entry) self.now.moment status.now row.now) }
     {
         let mut moved = row.clone()?;
         moved.status = status.clone()?;
@@ -71,7 +72,8 @@ impl Context<'_> {
         status: &Text,
     ) -> Result<Entry, AllocError>
         requires { on.now.entry_count + number < 2 ^ 32 }
-        ensures { IfOk result (λ entry. entry ≡ setting.moving (call_of self.now) on.now number status.now) }
+        ensures { IfOk result (λ entry.
+            entry ≡ setting.moving (call_of self.now) on.now number status.now) }
     {
         self.entry(
             on,
@@ -84,14 +86,17 @@ impl Context<'_> {
 }
 
 /// Whether one of the requests that another one depends on isn't inactive.
-fn has_open(settings: &Settings, dependencies: &Sequence<Dependency>) -> bool
-    ensures { result ≡ setting.has_open settings.now dependencies.now }
+fn has_open_dependency(settings: &Settings, dependencies: &Sequence<Dependency>) -> bool
+    ensures { result ≡ setting.has_open_dependency settings.now dependencies.now }
 {
-    dependencies.as_slice().iter().any(|d| is_open(settings, d))
+    dependencies
+        .as_slice()
+        .iter()
+        .any(|d| is_open_dependency(settings, d))
 }
 
-fn is_open(settings: &Settings, dependency: &Dependency) -> bool
-    ensures { result ≡ setting.is_open settings.now dependency.now }
+fn is_open_dependency(settings: &Settings, dependency: &Dependency) -> bool
+    ensures { result ≡ setting.is_open_dependency settings.now dependency.now }
 {
     !is_inactive(
         settings.lifecycle(dependency.lifecycle.as_str()),

@@ -1,7 +1,6 @@
-ghost use Rattle.std.specs.Prelude.{◌≡◌, ◌+◌, ◌^◌, ◌<◌, OnOk};
+ghost use Rattle.std.specs.Prelude.{◌+◌, ◌^◌, ◌<◌, OnOk};
 ghost use Rattle.desk_core.specs.Commands.Steal as stealing;
-ghost use Rattle.desk_core.specs.Condition.{Decides, Passes};
-ghost use Rattle.desk_core.specs.Context.{call_of};
+ghost use Rattle.desk_core.specs.Context.{DecidesOn, PassesOn};
 
 use crate::change::Change;
 use crate::decision::Context;
@@ -13,21 +12,20 @@ use text_core::Text;
 impl Context<'_> {
     /// Makes the caller the owner of a request that another person owns.
     pub(super) fn steal(&self, on: &Standing) -> Result<Change, Refusal>
-        ensures { Decides result (stealing.conditions (call_of self.now) self.now.facts.now on.now)
-            (stealing.change (call_of self.now) self.now.facts.now on.now) }
+        ensures { DecidesOn result stealing.conditions stealing.change self.now on.now }
     {
         self.ask_to_steal(on)?;
         let caller = Text::new(self.alloc, self.caller)?;
-        Ok(self.owned_by(Some(caller), on)?)
+        Ok(self.giving_owner(Some(caller), on)?)
     }
 
-    #[tactic(auto, unfolding(rights_core::specs::Right::steal_ticket, rights_core::specs::Right::own_ticket))]
+    #[tactic(auto, unfolding(rights_core::specs::Right::steal_ticket))]
     fn ask_to_steal(&self, on: &Standing) -> Result<(), Refusal>
-        ensures asks { Passes result (stealing.conditions (call_of self.now) self.now.facts.now on.now) }
+        ensures asks { PassesOn result stealing.conditions self.now on.now }
         ensures fits { OnOk result (on.now.entry_count + 1 < 2 ^ 32) }
     {
         self.ask(right::STEAL_TICKET, on)?;
-        self.ask(right::OWN_TICKET, on)?;
+        self.ask_to_own(self.caller, on)?;
         if on.is_owned_by(self.caller) {
             return Err(Refusal::NoChange);
         }

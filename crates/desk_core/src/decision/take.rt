@@ -1,8 +1,7 @@
 ghost use Rattle.std.specs.Prelude.{◌≡◌, ◌+◌, ◌^◌, ◌<◌, IfOk, OnOk, Some};
 ghost use Rattle.desk_core.specs.Commands.Take as taking;
 ghost use Rattle.desk_core.specs.Entries as entries;
-ghost use Rattle.desk_core.specs.Condition.{Decides, Passes};
-ghost use Rattle.desk_core.specs.Context.{call_of};
+ghost use Rattle.desk_core.specs.Context.{call_of, DecidesOn, PassesOn};
 
 use crate::change::Change;
 use crate::decision::Context;
@@ -16,21 +15,20 @@ use text_core::{Sequence, Text};
 impl Context<'_> {
     /// Makes the caller the owner of a request that nobody owns.
     pub(super) fn take(&self, on: &Standing) -> Result<Change, Refusal>
-        ensures { Decides result (taking.conditions (call_of self.now) self.now.facts.now on.now)
-            (taking.change (call_of self.now) self.now.facts.now on.now) }
+        ensures { DecidesOn result taking.conditions taking.change self.now on.now }
     {
         self.ask_to_take(on)?;
         let caller = Text::new(self.alloc, self.caller)?;
-        Ok(self.owned_by(Some(caller), on)?)
+        Ok(self.giving_owner(Some(caller), on)?)
     }
 
-    #[tactic(auto, unfolding(rights_core::specs::Right::take_ticket, rights_core::specs::Right::own_ticket))]
+    #[tactic(auto, unfolding(rights_core::specs::Right::take_ticket))]
     fn ask_to_take(&self, on: &Standing) -> Result<(), Refusal>
-        ensures asks { Passes result (taking.conditions (call_of self.now) self.now.facts.now on.now) }
+        ensures asks { PassesOn result taking.conditions self.now on.now }
         ensures fits { OnOk result (on.now.entry_count + 1 < 2 ^ 32) }
     {
         self.ask(right::TAKE_TICKET, on)?;
-        self.ask(right::OWN_TICKET, on)?;
+        self.ask_to_own(self.caller, on)?;
         if on.is_owned_by(self.caller) {
             return Err(Refusal::NoChange);
         }
@@ -41,9 +39,14 @@ impl Context<'_> {
     }
 
     /// The request with this owner, or with none.
-    pub(super) fn owned_by(&self, owner: Option<Text>, on: &Standing) -> Result<Change, AllocError>
+    pub(super) fn giving_owner(
+        &self,
+        owner: Option<Text>,
+        on: &Standing,
+    ) -> Result<Change, AllocError>
         requires { on.now.entry_count + 1 < 2 ^ 32 }
-        ensures { IfOk result (λ change. change ≡ taking.owned_by owner (call_of self.now) on.now) }
+        ensures { IfOk result (λ change.
+            change ≡ taking.giving_owner owner (call_of self.now) on.now) }
     {
         let old = owner_word(self.alloc, &on.row.owner)?;
         let new = owner_word(self.alloc, &owner)?;

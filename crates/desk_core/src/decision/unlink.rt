@@ -1,7 +1,6 @@
-ghost use Rattle.std.specs.Prelude.{◌≡◌, ◌+◌, ◌^◌, ◌<◌, IfOk, OnOk};
+ghost use Rattle.std.specs.Prelude.{◌+◌, ◌^◌, ◌<◌, OnOk};
 ghost use Rattle.desk_core.specs.Commands.Unlink as unlinking;
-ghost use Rattle.desk_core.specs.Condition.{Decides, Passes};
-ghost use Rattle.desk_core.specs.Context.{call_of};
+ghost use Rattle.desk_core.specs.Context.{DecidesOn, MakesOn, PassesOn};
 
 use crate::change::Change;
 use crate::decision::Context;
@@ -21,8 +20,8 @@ impl Context<'_> {
         kind: LinkKind,
         other: u32,
     ) -> Result<Change, Refusal>
-        ensures { Decides result (unlinking.conditions (call_of self.now) self.now.facts.now on.now)
-            (unlinking.change kind other (call_of self.now) self.now.facts.now on.now) }
+        ensures { DecidesOn result unlinking.conditions (unlinking.change kind other)
+            self.now on.now }
     {
         self.ask_to_unlink(on)?;
         Ok(self.unlinked(on, kind, other)?)
@@ -30,7 +29,7 @@ impl Context<'_> {
 
     #[tactic(auto, unfolding(rights_core::specs::Right::modify_ticket))]
     fn ask_to_unlink(&self, on: &Standing) -> Result<(), Refusal>
-        ensures asks { Passes result (unlinking.conditions (call_of self.now) self.now.facts.now on.now) }
+        ensures asks { PassesOn result unlinking.conditions self.now on.now }
         ensures fits { OnOk result (on.now.entry_count + 1 < 2 ^ 32) }
     {
         self.ask(right::MODIFY_TICKET, on)?;
@@ -42,8 +41,7 @@ impl Context<'_> {
 
     fn unlinked(&self, on: &Standing, kind: LinkKind, other: u32) -> Result<Change, AllocError>
         requires { on.now.entry_count + 1 < 2 ^ 32 }
-        ensures { IfOk result (λ change. change
-            ≡ unlinking.change kind other (call_of self.now) self.now.facts.now on.now) }
+        ensures { MakesOn result (unlinking.change kind other) self.now on.now }
     {
         let head = Text::new(self.alloc, kind_word(kind))?;
         let body = in_digits(self.alloc, other)?;

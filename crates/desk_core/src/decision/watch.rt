@@ -1,13 +1,12 @@
 ghost use Rattle.std.specs.Prelude.{◌≡◌, ◌+◌, ◌^◌, ◌<◌, IfOk, OnOk};
 ghost use Rattle.desk_core.specs.Commands.Watch as watching;
-ghost use Rattle.desk_core.specs.Condition.{Decides, Passes};
-ghost use Rattle.desk_core.specs.Context.{call_of};
+ghost use Rattle.desk_core.specs.Watchers as watchers;
+ghost use Rattle.desk_core.specs.Context.{call_of, DecidesOn, MakesOn, PassesOn};
 
 use crate::change::Change;
 use crate::decision::Context;
 use crate::facts::Standing;
 use crate::refusal::Refusal;
-use crate::rights::is_among;
 use crate::rows::{EntryKind, WatchRole, Watcher};
 use rights_core::right;
 use std::alloc::AllocError;
@@ -21,8 +20,8 @@ impl Context<'_> {
         role: WatchRole,
         person: &Text,
     ) -> Result<Change, Refusal>
-        ensures { Decides result (watching.conditions role person.now (call_of self.now) self.now.facts.now on.now)
-            (watching.change role person.now (call_of self.now) self.now.facts.now on.now) }
+        ensures { DecidesOn result (watching.conditions role person.now)
+            (watching.change role person.now) self.now on.now }
     {
         self.ask_to_watch(on, role, person)?;
         Ok(self.watched(on, role, person)?)
@@ -30,16 +29,16 @@ impl Context<'_> {
 
     #[tactic(auto, unfolding(rights_core::specs::Right::modify_ticket))]
     fn ask_to_watch(&self, on: &Standing, role: WatchRole, person: &Text) -> Result<(), Refusal>
-        ensures asks { Passes result (watching.conditions role person.now (call_of self.now) self.now.facts.now on.now) }
+        ensures asks { PassesOn result (watching.conditions role person.now) self.now on.now }
         ensures fits { OnOk result (on.now.entry_count + 1 < 2 ^ 32) }
     {
         if !self.settings.people().knows(person.as_str()) {
             return Err(Refusal::UnknownName);
         }
-        if !self.may_put(on, role, person) {
+        if !self.may_set_role(on, role, person) {
             return Err(self.denied(right::MODIFY_TICKET));
         }
-        if is_among(persons_in(role, on), person.as_str()) {
+        if persons_in(role, on).contains(person.as_str()) {
             return Err(Refusal::NoChange);
         }
         self.ask_for_room(on, 1)
@@ -47,8 +46,7 @@ impl Context<'_> {
 
     fn watched(&self, on: &Standing, role: WatchRole, person: &Text) -> Result<Change, AllocError>
         requires { on.now.entry_count + 1 < 2 ^ 32 }
-        ensures { IfOk result (λ change. change
-            ≡ watching.change role person.now (call_of self.now) self.now.facts.now on.now) }
+        ensures { MakesOn result (watching.change role person.now) self.now on.now }
     {
         let head = Text::new(self.alloc, role_word(role))?;
         let entry = self.entry(on, 1, EntryKind::Watch, head, person.clone()?)?;
@@ -59,8 +57,8 @@ impl Context<'_> {
 
     /// Whether the caller may modify the request, or names himself and may watch it.
     #[tactic(auto, unfolding(rights_core::specs::Right::modify_ticket))]
-    pub(super) fn may_put(&self, on: &Standing, role: WatchRole, person: &Text) -> bool
-        ensures { result ≡ watching.may_put role person.now (call_of self.now) on.now }
+    pub(super) fn may_set_role(&self, on: &Standing, role: WatchRole, person: &Text) -> bool
+        ensures { result ≡ watching.may_set_role role person.now (call_of self.now) on.now }
     {
         self.holds(self.caller, right::MODIFY_TICKET, on)
             || (person.as_str() == self.caller && self.holds(self.caller, right_to_watch(role), on))
@@ -69,7 +67,7 @@ impl Context<'_> {
 
 /// The person in the role on the request.
 pub(super) fn watcher(on: &Standing, role: WatchRole, person: &Text) -> Result<Watcher, AllocError>
-    ensures { IfOk result (λ watcher. watcher ≡ record { id = on.now.row.id; role = role; person = person.now }) }
+    ensures { IfOk result (λ watcher. watcher ≡ watchers.watcher on.now.row.id role person.now) }
 {
     Ok(Watcher {
         id: on.row.id,

@@ -6,4 +6,5 @@ use Rattle.desk_core.proofs.names.with_name.Given as goal
 
 abbrev pub invariant-loop-other : goal.invariant-loop-other
 invariant-loop-other l =
-    l.more.items ++ left_with l.is_put (drop l.other-index l.names) l.name ≡ with_name l.names l.name
+    l.more.items ++ left_with l.is_put (drop l.other-index l.names) l.name
+    ≡ with_name l.names l.name

@@ -1,0 +1,34 @@
+-- What a decision, made of facts alone, says of each desk that has these facts.
+use Rattle.std.specs.Prelude.{◌≡◌, ◌≢◌, ℕ, List, Some, None, Result, IfOk, IfErr}
+use Rattle.settings_core.specs.declared.settings.Settings.{Settings}
+use Rattle.desk_core.specs.Change.{applied}
+use Rattle.desk_core.specs.Commands.{plan_of}
+use Rattle.desk_core.specs.Condition.{Decides}
+use Rattle.desk_core.specs.Desk.{Desk}
+use Rattle.desk_core.specs.Plan.{change_by}
+use Rattle.desk_core.specs.Step.{call, conditions_on, effect, facts_of, guard}
+use Rattle.desk_core.specs.declared.change.Change.{Change}
+use Rattle.desk_core.specs.declared.command.Command.{Command}
+use Rattle.desk_core.specs.declared.facts.Facts.{Facts}
+use Rattle.desk_core.specs.declared.refusal.Refusal.{Refusal}
+use Rattle.desk_core.specs.declared.refusal.Refusal.TheVariants.{Unavailable}
+
+-- a change is given only where the desk refuses nothing, and it leads to the desk after the command
+abbrev pub Accepts : Settings → ℕ → List ℕ → Facts → Command → Result Change Refusal → Type 0
+Accepts settings at caller facts command result =
+    (desk : Desk) → facts ≡ facts_of command desk
+    → IfOk result (λ change. (guard settings at caller command desk ≡ None)
+    × (applied change desk ≡ effect settings at caller command desk))
+
+-- a refusal is the desk's own, or out of memory
+abbrev pub Refuses : Settings → ℕ → List ℕ → Facts → Command → Result Change Refusal → Type 0
+Refuses settings at caller facts command result =
+    (desk : Desk) → facts ≡ facts_of command desk
+    → IfErr result (λ refusal. refusal ≢ Unavailable
+    → guard settings at caller command desk ≡ Some refusal)
+
+-- the result is that of the command's plan: its first condition that holds, or its change
+abbrev pub FollowsPlan : Settings → ℕ → List ℕ → Facts → Command → Result Change Refusal → Type 0
+FollowsPlan settings at caller facts command result =
+    Decides result (conditions_on (call settings at caller) facts command)
+    (change_by (call settings at caller) facts (plan_of command))
