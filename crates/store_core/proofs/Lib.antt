@@ -18,4 +18,6 @@ pub mod TableLemmas
 pub mod TestLemmas
 pub mod VersionLemmas
 pub mod WriteLemmas
+pub mod Writable
+pub mod WritableByKind
 pub mod WrittenDesk

@@ -18,7 +18,7 @@ abbrev pub id_of : Request → ℕ
 id_of r = r.row.id
 
 -- numbers that begin later don't have one that comes before
-none_before : (next n : ℕ) (ns : List ℕ) → n < next → are_numbered next ns ≡ true
+pub none_before : (next n : ℕ) (ns : List ℕ) → n < next → are_numbered next ns ≡ true
     → list_any (λ m. m == n) ns ≡ false
 none_before next n [] below numbered = refl
 none_before next n (m ∷ ms) below numbered =

@@ -404,7 +404,7 @@ written_alike desk change is fits =
             ∙ ids_folded person_put ids_put change.put rows in
     let start : AreAlike (contents_of desk) (contents_of desk) = alike_itself (contents_of desk) in
     alike_notes change.entries _ noted (numbered_by noted rows same in_rows)
-    (every_there noted rows same change.entries fits.notes)
+    (every_there noted wider (same ∙ ids_set change.row wider) change.entries fits.notes)
     (alike_unlinked change.unlinked _ linked
     (alike_linked change.linked _ taken
     (alike_takens change.taken _ put

@@ -74,14 +74,17 @@ PutsAnew desk (w ∷ ws) =
     × (is_watching w.person w.id w.role (watchers desk) ≡ false)
     × PutsAnew (person_put desk w) ws
 
--- the desk with the queue and the rows of requests that a change brings
+-- the desk with the queue and the request that a change brings
+abbrev pub with_filed : Change → Desk → Desk
+with_filed change desk = request_filed change.filed (queue_put change.queue desk)
+
+-- and with the row that it sets
 abbrev pub with_rows : Change → Desk → Desk
-with_rows change desk =
-    row_set change.row (request_filed change.filed (queue_put change.queue desk))
+with_rows change desk = row_set change.row (with_filed change desk)
 
 -- what a change names is there, and what it puts isn't there yet
 pub record IsWritable (desk : Desk) (change : Change) : Type 0 where
   pub files : FilesNext desk change.filed
-  pub sets : SetsThere (request_filed change.filed (queue_put change.queue desk)) change.row
+  pub sets : SetsThere (with_filed change desk) change.row
   pub puts : PutsAnew (with_rows change desk) change.put
-  pub notes : list_all (λ e. is_there (with_rows change desk) e.id) change.entries ≡ true
+  pub notes : list_all (λ e. is_there (with_filed change desk) e.id) change.entries ≡ true

@@ -61,7 +61,7 @@ on_request P call desk id (Some r) front asks change there nothing meets free =
     (rest_passes front _ free)).1)
 
 -- what goes for the plan goes for the change
-by_plan : (P : Desk → Change → Type 0) (call : Call) (plan : Plan) (front : List Condition)
+pub by_plan : (P : Desk → Change → Type 0) (call : Call) (plan : Plan) (front : List Condition)
     (desk : Desk) → P desk no_change
     → Meets P desk plan → first_holding (front ++ conditions_by call (seen_by plan desk) plan)
     ≡ None
