@@ -11,6 +11,7 @@ pub mod ReadingLemmas
 pub mod SortedLemmas
 pub mod StandLemmas
 pub mod Statements
+pub mod StepLemmas
 pub mod TableLemmas
 pub mod TestLemmas
 pub mod VersionLemmas

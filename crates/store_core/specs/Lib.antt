@@ -11,3 +11,4 @@ pub mod Selection
 pub mod Spelling
 pub mod Stands
 pub mod Tables
+pub mod Written
