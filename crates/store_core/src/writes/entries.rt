@@ -1,5 +1,5 @@
-//! An entry that is added to a history.
-ghost use Rattle.std.specs.Prelude.{◌≡◌};
+//! Entries that are added to a history.
+ghost use Rattle.std.specs.Prelude.{◌≡◌, fold};
 ghost use Rattle.sqlite.specs.Held.{state};
 ghost use Rattle.store_core.specs.Calls.{Makes, RestsOn};
 ghost use Rattle.store_core.specs.Contents.{add_entry};
@@ -36,5 +36,21 @@ pub(crate) fn put_entry<S: Alter>(
             words(&row.body),
         ],
     )?;
+    Ok(())
+}
+
+/// Adds entries.
+pub(crate) fn put_entries<S: Alter>(
+    tx: &mut Transaction<'_, S>,
+    rows: &[Entry],
+) -> Result<(), StoreFault>
+    ensures same_reference { tx.new.conn.ghost_name ≡ tx.old.conn.ghost_name }
+    ensures put { Makes (λ c. fold add_entry c rows.now)
+        (state S.Store tx.old.conn.now) (state S.Store tx.new.conn.now) result }
+    ensures base { RestsOn (state S.Store tx.old.conn.now) (state S.Store tx.new.conn.now) }
+{
+    for row in rows {
+        put_entry(tx, row)?;
+    }
     Ok(())
 }
