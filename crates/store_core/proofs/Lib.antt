@@ -1,3 +1,4 @@
+pub mod Alike
 pub mod BackLemmas
 pub mod ChangeLemmas
 pub mod KeptLemmas
@@ -8,6 +9,8 @@ pub mod OrderLemmas
 pub mod PickedLemmas
 pub mod ReadLemmas
 pub mod ReadingLemmas
+pub mod Revised
+pub mod RoleRows
 pub mod SortedLemmas
 pub mod StandLemmas
 pub mod Statements
@@ -16,3 +19,4 @@ pub mod TableLemmas
 pub mod TestLemmas
 pub mod VersionLemmas
 pub mod WriteLemmas
+pub mod WrittenDesk

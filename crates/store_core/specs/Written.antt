@@ -4,7 +4,7 @@ use Rattle.std.specs.Prelude.{◌≡◌, ◌+◌, ℕ, Bool, true, false, List, 
 use Rattle.std.specs.Prelude.{IsPermutation, fold, length}
 use Rattle.std.specs.List.{list_all}
 use Rattle.std.specs.Option.{is_some}
-use Rattle.desk_core.specs.Change.{person_put, request_filed}
+use Rattle.desk_core.specs.Change.{person_put, queue_put, request_filed, row_set}
 use Rattle.desk_core.specs.Desk.{Desk, request_at}
 use Rattle.desk_core.specs.Watchers.{is_watching}
 use Rattle.desk_core.specs.declared.change.Change.{Change}
@@ -74,9 +74,14 @@ PutsAnew desk (w ∷ ws) =
     × (is_watching w.person w.id w.role (watchers desk) ≡ false)
     × PutsAnew (person_put desk w) ws
 
+-- the desk with the queue and the rows of requests that a change brings
+abbrev pub with_rows : Change → Desk → Desk
+with_rows change desk =
+    row_set change.row (request_filed change.filed (queue_put change.queue desk))
+
 -- what a change names is there, and what it puts isn't there yet
 pub record IsWritable (desk : Desk) (change : Change) : Type 0 where
   pub files : FilesNext desk change.filed
-  pub sets : SetsThere (request_filed change.filed desk) change.row
-  pub puts : PutsAnew (request_filed change.filed desk) change.put
-  pub notes : list_all (λ e. is_there (request_filed change.filed desk) e.id) change.entries ≡ true
+  pub sets : SetsThere (request_filed change.filed (queue_put change.queue desk)) change.row
+  pub puts : PutsAnew (with_rows change desk) change.put
+  pub notes : list_all (λ e. is_there (with_rows change desk) e.id) change.entries ≡ true
