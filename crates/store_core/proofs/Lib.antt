@@ -13,6 +13,7 @@ pub mod Revised
 pub mod RoleRows
 pub mod SortedLemmas
 pub mod StandLemmas
+pub mod StandsAlike
 pub mod Statements
 pub mod StepLemmas
 pub mod TableLemmas
