@@ -13,7 +13,9 @@ pub mod Revised
 pub mod RoleRows
 pub mod SortedLemmas
 pub mod StandLemmas
+pub mod StandsAlike
 pub mod Statements
+pub mod StepLemmas
 pub mod TableLemmas
 pub mod TestLemmas
 pub mod VersionLemmas

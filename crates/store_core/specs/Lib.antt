@@ -1,3 +1,4 @@
+pub mod Applying
 pub mod Calls
 pub mod Contents
 pub mod Kept

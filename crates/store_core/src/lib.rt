@@ -2,6 +2,7 @@
 //! statement.
 #![tactic(auto)]
 
+mod apply;
 mod columns;
 pub mod fault;
 mod lists;
