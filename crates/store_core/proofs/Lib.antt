@@ -1,5 +1,7 @@
 pub mod BackLemmas
 pub mod ChangeLemmas
+pub mod FactsLemmas
+pub mod FoundLemmas
 pub mod KeptLemmas
 pub mod LastLemmas
 pub mod MakeLemmas
