@@ -1,6 +1,8 @@
 pub mod Alike
 pub mod BackLemmas
 pub mod ChangeLemmas
+pub mod FactsLemmas
+pub mod FoundLemmas
 pub mod KeptLemmas
 pub mod LastLemmas
 pub mod MakeLemmas

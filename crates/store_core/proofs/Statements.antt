@@ -13,6 +13,7 @@ use Rattle.store_core.specs.Queries.{drop_link_text, drop_watcher_text, entries_
 use Rattle.store_core.specs.Queries.{entry_order}
 use Rattle.store_core.specs.Queries.{entry_shown_terms, id_order, last_id_text, last_number_text}
 use Rattle.store_core.specs.Queries.{last_of, links_from_test, links_from_text, links_text}
+use Rattle.store_core.specs.Queries.{link_like_text}
 use Rattle.store_core.specs.Queries.{links_to_test, links_to_text, number_order, numbered_test}
 use Rattle.store_core.specs.Queries.{queue_named_query, queue_named_text, queues_query, queues_text}
 use Rattle.store_core.specs.Queries.{reads, request_shown_terms, request_test}
@@ -60,6 +61,11 @@ pub links_is : Selects links_text (reads 6 [] three_shown three_order)
     (codes "source" ∷ codes "kind" ∷ codes "target" ∷ [])
 unfolding understood everything
 links_is = record { is = refl; plain = (refl, refl); unlisted = refl }
+
+pub link_like_is : Selects link_like_text (reads 6 three_test three_shown [])
+    (codes "source" ∷ codes "kind" ∷ codes "target" ∷ [])
+unfolding understood everything
+link_like_is = record { is = refl; plain = (refl, refl); unlisted = refl }
 
 pub entries_of_is : Selects entries_of_text (reads 8 request_test entry_shown_terms number_order)
     (codes "request" ∷ codes "number" ∷ codes "moment" ∷ codes "actor" ∷ codes "kind" ∷ codes "head"

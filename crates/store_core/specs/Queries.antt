@@ -177,6 +177,10 @@ source_order = col 1 1 ∷ []
 abbrev pub links_text : List ℕ
 links_text = codes "SELECT source, kind, target FROM link ORDER BY source, kind, target"
 
+abbrev pub link_like_text : List ℕ
+link_like_text =
+    codes "SELECT source, kind, target FROM link WHERE source = ?1 AND kind = ?2 AND target = ?3"
+
 abbrev pub add_link_text : List ℕ
 add_link_text = codes "INSERT INTO link (source, kind, target) VALUES (?1, ?2, ?3)"
 

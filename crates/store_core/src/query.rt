@@ -8,9 +8,11 @@ ghost use Rattle.sqlite.specs.State.{HasCleanDisk, Shown};
 ghost use Rattle.sqlite.specs.Values.{bound};
 ghost use Rattle.sqlite_rules.specs.Lists.{Has};
 ghost use Rattle.store_core.specs.Calls.{Leaves, WasClean};
+ghost use Rattle.store_core.specs.Found.{ReadsNumber};
 ghost use Rattle.store_core.specs.Tables.{desk_schema};
 ghost use Rattle.store_core.specs.declared.fault.StoreFault.{StoreFault};
 
+use crate::columns::number_at;
 use crate::fault::StoreFault;
 use crate::stored::Stored;
 use sqlite::types::ValueRef;
@@ -66,6 +68,18 @@ pub(crate) fn read_one<T: Stored + Drop>(rows: &[Row]) -> Result<Option<T>, Stor
     match rows {
         [] => Ok(None),
         [row] => Ok(Some(T::read(row)?)),
+        _ => Err(StoreFault::Refused),
+    }
+}
+
+/// The number that the one row shows, or 0 where there is none. `Mismatch` where the row shows no
+/// number, `Refused` where there are more rows.
+pub(crate) fn read_number(rows: &[Row]) -> Result<u32, StoreFault>
+    ensures ok { IfOk result (ReadsNumber rows.now) }
+{
+    match rows {
+        [] => Ok(0),
+        [row] => number_at(row, 0),
         _ => Err(StoreFault::Refused),
     }
 }
