@@ -26,7 +26,7 @@ joined false true c = refl
 joined false false c = refl
 
 -- with a name in its place there is one more among the names, unless it was
-among_named : (names : List (List ℕ)) (added name : List ℕ)
+pub among_named : (names : List (List ℕ)) (added name : List ℕ)
     → is_among (with_name names added) name ≡ (bytes_eq added name || is_among names name)
 among_named [] added name = refl
 among_named (y ∷ ys) added name =

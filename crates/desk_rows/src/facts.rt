@@ -4,13 +4,14 @@ ghost use Rattle.desk_rows.specs.Dependencies.{dependency_by};
 ghost use Rattle.desk_core.specs.Desk.{queue_at, request_at};
 ghost use Rattle.desk_core.specs.Facts as facts;
 ghost use Rattle.desk_core.specs.Links.{has_link};
-ghost use Rattle.desk_core.specs.Plan.{Another, Dependencies, Nothing, besides_on};
+ghost use Rattle.desk_core.specs.Plan.{Dependencies, besides_on};
+ghost use Rattle.desk_core.specs.Scope.{seen_in};
 ghost use Rattle.desk_core.specs.Step.{facts_of};
 ghost use Rattle.desk_rows.specs.Rows.{desk_of};
 
 use crate::desk::{Rows, count};
 use desk_core::{
-    Command, Dependency, Facts, LinkKind, LinkRow, QueueRow, Standing, is_kind, is_link,
+    Command, Dependency, Facts, LinkKind, LinkRow, QueueRow, Scope, Standing, is_kind, is_link,
 };
 use std::alloc::{AllocError, Global};
 use text_core::{Sequence, Text};
@@ -20,24 +21,12 @@ impl Rows {
     pub(crate) fn facts_for(&self, alloc: Global, command: &Command) -> Result<Facts, AllocError>
         ensures { IfOk result (λ facts. facts ≡ facts_of command.now (desk_of self.now)) }
     {
-        match command {
-            Command::OpenQueue { queue, .. } => self.facts_on_queue(alloc, queue),
-            Command::Create { queue, .. } => self.facts_on_queue(alloc, queue),
-            Command::SetStatus { id, .. } => self.facts_of_move(alloc, *id),
-            Command::Take { id } => self.facts_on(alloc, *id),
-            Command::Steal { id } => self.facts_on(alloc, *id),
-            Command::Untake { id } => self.facts_on(alloc, *id),
-            Command::Give { id, .. } => self.facts_on(alloc, *id),
-            Command::Reply { id, .. } => self.facts_on(alloc, *id),
-            Command::Comment { id, .. } => self.facts_on(alloc, *id),
-            Command::Watch { id, .. } => self.facts_on(alloc, *id),
-            Command::Unwatch { id, .. } => self.facts_on(alloc, *id),
-            Command::Link { id, kind, other } => self.facts_of_link(alloc, *id, *kind, *other),
-            Command::Unlink { id, kind, other } => self.facts_of_link(alloc, *id, *kind, *other),
-            Command::SetLevel { id, .. } => self.facts_on(alloc, *id),
-            Command::Queues => Ok(no_facts(alloc)),
-            Command::Show { id } => self.facts_on(alloc, *id),
-            Command::History { id } => self.facts_on(alloc, *id),
+        match command.scope() {
+            Scope::Nothing => Ok(no_facts(alloc)),
+            Scope::Queue(queue) => self.facts_on_queue(alloc, queue),
+            Scope::Request(id) => self.facts_on(alloc, id),
+            Scope::Dependencies(id) => self.facts_of_move(alloc, id),
+            Scope::Link(link) => self.facts_of_link(alloc, link),
         }
     }
 
@@ -87,27 +76,16 @@ impl Rows {
     }
 
     /// Of a link: the request at its other end too, and whether it is there.
-    fn facts_of_link(
-        &self,
-        alloc: Global,
-        id: u32,
-        kind: LinkKind,
-        other: u32,
-    ) -> Result<Facts, AllocError>
-        ensures { IfOk result (λ found. found
-            ≡ besides_on (Another kind other) id (desk_of self.now)) }
+    fn facts_of_link(&self, alloc: Global, link: LinkRow) -> Result<Facts, AllocError>
+        ensures { IfOk result (λ found. found ≡ seen_in (Scope.Link link) (desk_of self.now)) }
     {
         Ok(Facts {
-            queue: self.queue_of(id)?,
+            queue: self.queue_of(link.source)?,
             queue_count: 0,
             request_count: 0,
-            request: self.standing(id)?,
-            other: self.standing(other)?,
-            is_linked: self.has_link(LinkRow {
-                source: id,
-                kind,
-                target: other,
-            }),
+            request: self.standing(link.source)?,
+            other: self.standing(link.target)?,
+            is_linked: self.has_link(link),
             dependencies: Sequence::from(Vec::new(alloc)),
         })
     }

@@ -32,20 +32,7 @@ impl Rows {
     {
         let _moment = at;
         match command {
-            Command::OpenQueue { .. } => Ok(Answer::Done),
             Command::Create { .. } => Ok(Answer::Created(count(self.records.len() + 1)?)),
-            Command::SetStatus { .. } => Ok(Answer::Done),
-            Command::Take { .. } => Ok(Answer::Done),
-            Command::Steal { .. } => Ok(Answer::Done),
-            Command::Untake { .. } => Ok(Answer::Done),
-            Command::Give { .. } => Ok(Answer::Done),
-            Command::Reply { .. } => Ok(Answer::Done),
-            Command::Comment { .. } => Ok(Answer::Done),
-            Command::Watch { .. } => Ok(Answer::Done),
-            Command::Unwatch { .. } => Ok(Answer::Done),
-            Command::Link { .. } => Ok(Answer::Done),
-            Command::Unlink { .. } => Ok(Answer::Done),
-            Command::SetLevel { .. } => Ok(Answer::Done),
             Command::Queues => Ok(Answer::Queues(self.queues_seen(alloc, settings, caller)?)),
             Command::Show { id } => match self.request(*id) {
                 Some(request) => Ok(Answer::Shown(self.shown(alloc, settings, caller, request)?)),
@@ -57,6 +44,7 @@ impl Rows {
                 )?)),
                 None => Ok(Answer::Done),
             },
+            _ => Ok(Answer::Done),
         }
     }
 

@@ -34,7 +34,7 @@ use Rattle.desk_core.specs.declared.refusal.Refusal.TheVariants.{UnknownCaller, 
 use Rattle.desk_core.specs.declared.refusal.Refusal.TheVariants.{BadText, NotFound}
 
 -- what a plan changes meets this, where the plan's conditions let it pass
-abbrev Meets : (Desk → Change → Type 0) → Desk → Plan → Type 0
+abbrev pub Meets : (Desk → Change → Type 0) → Desk → Plan → Type 0
 Meets P desk OnDesk = Unit {0}
 Meets P desk (OnQueue name conditions change) =
     (call : Call) → NoneHolds (conditions call (facts_on_queue desk name))
@@ -61,7 +61,7 @@ on_request P call desk id (Some r) front asks change there nothing meets free =
     (rest_passes front _ free)).1)
 
 -- what goes for the plan goes for the change
-by_plan : (P : Desk → Change → Type 0) (call : Call) (plan : Plan) (front : List Condition)
+pub by_plan : (P : Desk → Change → Type 0) (call : Call) (plan : Plan) (front : List Condition)
     (desk : Desk) → P desk no_change
     → Meets P desk plan → first_holding (front ++ conditions_by call (seen_by plan desk) plan)
     ≡ None
@@ -88,7 +88,7 @@ by_plan P call (OnRequest id (Another kind other) text conditions change) front 
     (change call facts) refl nothing (meets call)
     (rest_passes front _ free)
 
-some_is : {A : Type 0} (o : Option A) → is_none o ≡ false → is_some o ≡ true
+pub some_is : {A : Type 0} (o : Option A) → is_none o ≡ false → is_some o ≡ true
 some_is None e = cc
 some_is (Some x) e = refl
 

@@ -1,0 +1,48 @@
+-- Tables that hold some rows hold them in any order.
+use Rattle.std.proofs.Common.{◌≡◌, List, [], ◌∷◌, Ok, Err, OnOk, OnErr, Result, ap, ◌∙◌}
+use Rattle.std.proofs.Common.{IsPermutation}
+use Rattle.std.proofs.lemmas.List.Sorted.{IsPermutation-trans}
+use Rattle.sqlite.specs.Effect.{Database}
+use Rattle.sqlite.specs.Order.{Row}
+use Rattle.sqlite.specs.State.{State}
+use Rattle.store_core.specs.Calls.{Leaves}
+use Rattle.store_core.specs.Contents.{Contents}
+use Rattle.store_core.specs.Kept.{Holds}
+use Rattle.store_core.specs.Spelling.{version_row}
+use Rattle.store_core.specs.Stands.{Stand, Tables}
+use Rattle.store_core.specs.Written.{AreAlike}
+
+holds_alike : {K X : Type 0} (row : K → Row) (value : K → X) (xs ys : List X) (rows : List Row)
+    → IsPermutation xs ys → Holds row value xs rows → Holds row value ys rows
+holds_alike row value xs ys rows same h = record {
+  kept = h.kept;
+  spelt = h.spelt;
+  table = h.table;
+  same = IsPermutation-trans _ _ _ h.same same;
+}
+
+tables_alike : (a b : Contents) (db : Database) → AreAlike a b → Tables a db → Tables b db
+tables_alike a b db same t = record {
+  schema = t.schema;
+  meta = t.meta ∙ ap (λ n. version_row n ∷ []) same.version;
+  queues = holds_alike _ _ _ _ _ same.queues t.queues;
+  requests = holds_alike _ _ _ _ _ same.requests t.requests;
+  watchers = holds_alike _ _ _ _ _ same.watchers t.watchers;
+  links = holds_alike _ _ _ _ _ same.links t.links;
+  entries = holds_alike _ _ _ _ _ same.entries t.entries;
+}
+
+stand_alike : (a b : Contents) (s : State) → AreAlike a b → Stand a s → Stand b s
+stand_alike a b s same stand c o =
+    let it = stand c o in (tables_alike a b s.now same it.0, tables_alike a b s.committed same it.1)
+
+pub done_alike : {X E : Type 0} (r : Result X E) (a b : Contents) (s : State) → AreAlike a b
+    → OnOk r (Stand a s) → OnOk r (Stand b s)
+done_alike (Ok x) a b s same stand = stand_alike a b s same stand
+done_alike (Err e) a b s same stand = tt
+
+-- what stays of each contents at a fault stays of all
+pub left_at_fault : {X E : Type 0} (r : Result X E) (old new : State)
+    → ((c : Contents) → Stand c old → OnErr r (Stand c new)) → OnErr r (Leaves old new)
+left_at_fault (Ok x) old new stays = tt
+left_at_fault (Err e) old new stays = stays

@@ -1,0 +1,52 @@
+-- The row of the version, in tables that were made no_contents.
+use Rattle.std.proofs.Common.{◌≡◌, ℕ, pos, List, [], ◌∷◌, Ok, refl, sym, ap, subst, ◌∙◌}
+use Rattle.std.proofs.lemmas.List.Sorted.{IsPermutation-refl}
+use Rattle.sqlite.specs.Order.{Row}
+use Rattle.sqlite.specs.Tree.{Trees, IsTable, put_row}
+use Rattle.sqlite.specs.State.{State, HasCleanDisk, Executes}
+use Rattle.store_core.specs.Kept.{Holds}
+use Rattle.store_core.specs.Tables.{desk_schema, meta}
+use Rattle.store_core.specs.Queries.{add_version_text, add_version_terms}
+use Rattle.store_core.specs.Stands.{Tables, Ran}
+use Rattle.store_core.specs.Making.{AreEmpty, Made, Fresh}
+use Rattle.store_core.specs.Contents.{no_contents}
+use Rattle.store_core.specs.Spelling.{version_row}
+use Rattle.store_core.proofs.Statements.{add_version_is}
+use Rattle.store_core.proofs.ChangeLemmas.{adds, apart, cast_int, cast_null}
+use Rattle.store_core.proofs.WriteLemmas.{inserting}
+
+new_version : (db : Trees) → (inserting meta db [] add_version_terms 3).news ≡ version_row 1 ∷ []
+new_version db = rw (cast_int (pos 1), cast_null)
+
+holds_none : {K X : Type 0} (row : K → Row) (value : K → X) (rows : List Row) → rows ≡ []
+    → Holds row value [] rows
+holds_none row value rows none = record {
+  kept = [];
+  spelt = none;
+  table =
+      subst IsTable (sym none) tt;
+  same = IsPermutation-refl _;
+}
+
+pub adds_version : (old new : State) (count : ℕ) → old.now.schema ≡ desk_schema
+    → AreEmpty desk_schema old.now.trees → Executes add_version_text [] old new (Ok count)
+    → Tables no_contents new.now
+adds_version old new count has none h =
+    let it = adds add_version_text [] 0 3 add_version_terms meta (version_row 1) old new count
+    add_version_is refl refl (new_version old.now.trees) has h in
+    record {
+      schema = it.schema;
+      meta = it.rows ∙ ap (put_row (version_row 1)) none.0;
+      queues = holds_none _ _ _ (it.others.1.0 (apart 1 0 refl) ∙ none.1.0);
+      requests = holds_none _ _ _ (it.others.1.1.0 (apart 3 0 refl) ∙ none.1.1.0);
+      watchers = holds_none _ _ _ (it.others.1.1.1.0 (apart 4 0 refl) ∙ none.1.1.1.0);
+      links = holds_none _ _ _ (it.others.1.1.1.1.0 (apart 6 0 refl) ∙ none.1.1.1.1.0);
+      entries = holds_none _ _ _ (it.others.1.1.1.1.1.0 (apart 8 0 refl) ∙ none.1.1.1.1.1.0);
+    }
+
+pub fills : (old new : State) (count : ℕ) → (HasCleanDisk new
+    → Ran add_version_text [] old new count) → (HasCleanDisk new → HasCleanDisk old)
+    → Made desk_schema old → Fresh new
+fills old new count ran clean made c o =
+    let it = ran c in let before = made (clean c) it.shown.was_open in
+    (adds_version old new count before.0 before.1 it.runs, it.shown.mode)

@@ -1,0 +1,414 @@
+-- What a change writes is, up to order, what tables hold of the changed desk.
+use Rattle.std.proofs.Common.{◌≡◌, ◌∙◌, ℕ, ◌==◌, Bool, true, false, not, ◌&&◌}
+use Rattle.std.proofs.Common.{List, [], ◌∷◌, ◌++◌, map, filter, fold, refl, ap}
+use Rattle.std.proofs.Common.{ap₂}
+use Rattle.std.proofs.Common.{sym, subst, IsPermutation, Option, Some, None, arith, append-nil}
+use Rattle.std.proofs.lemmas.List.{map-append}
+use Rattle.std.proofs.lemmas.Bool.{and_from, and_parts, eq-eqb, eqb-false, eqb-true, ne_eqb}
+use Rattle.std.proofs.lemmas.Grind.{flat_map-append}
+use Rattle.std.proofs.lemmas.List.Sorted.{IsPermutation-refl, IsPermutation-cons}
+use Rattle.std.proofs.lemmas.List.Sorted.{IsPermutation-sym, IsPermutation-trans}
+use Rattle.std.proofs.lemmas.List.Sorted.{IsPermutation-to_front}
+use Rattle.sqlite_trees.proofs.ListLemmas.{IsPermutation-filter}
+use Rattle.std.specs.List.{list_all, list_any}
+use Rattle.desk_core.proofs.DeskLaw.Numbers.{numbered_more}
+use Rattle.desk_core.specs.Change.{applied, entry_put, filed, in_role, link_put, link_taken}
+use Rattle.desk_core.specs.Change.{person_put}
+use Rattle.desk_core.specs.Change.{person_taken, queue_put, request_filed, row_set, with_entry}
+use Rattle.desk_core.specs.Change.{with_row, without_name}
+use Rattle.desk_core.specs.Desk.{Desk, Request, has_lower_name}
+use Rattle.desk_core.specs.Desk.{with_revised}
+use Rattle.desk_core.specs.IsDesk.{IsDesk, are_numbered, ids}
+use Rattle.desk_core.specs.Links as links
+use Rattle.desk_core.specs.Links.{is_kind, is_lower_link, kind_number}
+use Rattle.desk_core.specs.Names.{with_name}
+use Rattle.desk_core.specs.Watchers.{is_watching, watcher, watchers_of}
+use Rattle.desk_core.specs.declared.change.Change.{Change}
+use Rattle.desk_core.specs.declared.rows.Entry.{Entry}
+use Rattle.desk_core.specs.declared.rows.LinkKind.{LinkKind}
+use Rattle.desk_core.specs.declared.rows.LinkKind.TheVariants.{DependsOn, MemberOf, RefersTo}
+use Rattle.desk_core.specs.declared.rows.LinkRow.{LinkRow}
+use Rattle.desk_core.specs.declared.rows.QueueRow.{QueueRow}
+use Rattle.desk_core.specs.declared.rows.RequestRow.{RequestRow}
+use Rattle.desk_core.specs.declared.rows.Watcher.{Watcher}
+use Rattle.desk_core.specs.declared.rows.WatchRole.{WatchRole}
+use Rattle.desk_core.specs.declared.rows.WatchRole.TheVariants.{Requestor, Cc, AdminCc}
+use Rattle.store_core.proofs.Alike.{placed_alike}
+use Rattle.store_core.proofs.Revised.{kept_all, kept_each, none_each, one_more, one_set}
+use Rattle.store_core.proofs.Revised.{there_by_number}
+use Rattle.store_core.proofs.RoleRows.{filter_alike, is_row_of, put_row_alike, taken_each}
+use Rattle.store_core.specs.Contents.{Contents, contents_of, entries, request_rows, watchers}
+use Rattle.store_core.specs.Contents.{add_entry, add_watcher, drop_watcher}
+use Rattle.store_core.specs.Selection as selection
+use Rattle.store_core.specs.Selection.{is_watcher}
+use Rattle.store_core.specs.Written.{AreAlike, FilesNext, IsWritable, PutsAnew, SetsThere, is_there}
+use Rattle.store_core.specs.Written.{link_added, link_dropped, queue_added, request_added}
+use Rattle.store_core.specs.Written.{request_set, with_rows, written}
+
+-- the requests of a desk are numbered from 1
+abbrev pub IsNumbered : Desk → Type 0
+IsNumbered desk = are_numbered 1 (ids desk) ≡ true
+
+in_role_row : (role : WatchRole) (f : List (List ℕ) → List (List ℕ)) (r : Request)
+    → (in_role role f r).row ≡ r.row
+in_role_row Requestor f r = refl
+in_role_row Cc f r = refl
+in_role_row AdminCc f r = refl
+
+in_role_entries : (role : WatchRole) (f : List (List ℕ) → List (List ℕ)) (r : Request)
+    → (in_role role f r).entries ≡ r.entries
+in_role_entries Requestor f r = refl
+in_role_entries Cc f r = refl
+in_role_entries AdminCc f r = refl
+
+-- ---- the numbers stay
+
+ids_revised : (desk : Desk) (id : ℕ) (f : Request → Request)
+    → ((r : Request) → r.row.id ≡ id → (f r).row.id ≡ r.row.id)
+        → ids (with_revised desk id f) ≡ ids desk
+ids_revised desk id f keeps = kept_each f id (λ r. r.row.id) keeps desk.requests
+
+ids_role : (role : WatchRole) (g : List (List ℕ) → List (List ℕ)) (id : ℕ) (desk : Desk)
+    → ids (with_revised desk id (in_role role g)) ≡ ids desk
+ids_role role g id desk =
+    ids_revised desk id (in_role role g)
+        (λ r here. ap (λ (x : RequestRow). x.id) (in_role_row role g r))
+
+ids_folded : {X : Type 0} (step : Desk → X → Desk)
+    → ((desk : Desk) (x : X) → ids (step desk x) ≡ ids desk)
+    → (xs : List X) (desk : Desk) → ids (fold step desk xs) ≡ ids desk
+ids_folded step keeps [] desk = refl
+ids_folded step keeps (x ∷ xs) desk = ids_folded step keeps xs (step desk x) ∙ keeps desk x
+
+ids_put : (desk : Desk) (w : Watcher) → ids (person_put desk w) ≡ ids desk
+ids_put desk w = ids_role w.role _ w.id desk
+
+ids_taken : (desk : Desk) (w : Watcher) → ids (person_taken desk w) ≡ ids desk
+ids_taken desk w = ids_role w.role _ w.id desk
+
+ids_noted : (desk : Desk) (e : Entry) → ids (entry_put desk e) ≡ ids desk
+ids_noted desk e = ids_revised desk e.id (with_entry e) (λ r here. refl)
+
+ids_set : (row : Option RequestRow) (desk : Desk) → ids (row_set row desk) ≡ ids desk
+ids_set None desk = refl
+ids_set (Some row) desk = ids_revised desk row.id (with_row row) (λ r here. sym here)
+
+numbered_by : (a b : Desk) → ids a ≡ ids b → IsNumbered b → IsNumbered a
+numbered_by a b same h = ap (are_numbered 1) same ∙ h
+
+there_by : (a b : Desk) (id : ℕ) → ids a ≡ ids b → is_there b id ≡ true → is_there a id ≡ true
+there_by a b id same h =
+    there_by_number id a.requests ∙ ap (list_any (λ n. n == id)) same
+    ∙ sym (there_by_number id b.requests) ∙ h
+
+among : (desk : Desk) (id : ℕ) → is_there desk id ≡ true → list_any (λ n. n == id) (ids desk) ≡ true
+among desk id h = sym (there_by_number id desk.requests) ∙ h
+
+requests_queued : (queue : Option QueueRow) (desk : Desk)
+    → (queue_put queue desk).requests ≡ desk.requests
+requests_queued None desk = refl
+requests_queued (Some queue) desk = refl
+
+numbered_filed : (o : Option RequestRow) (desk : Desk) → FilesNext desk o → IsNumbered desk
+    → IsNumbered (request_filed o desk)
+numbered_filed None desk next numbered = numbered
+numbered_filed (Some row) desk next numbered =
+    numbered_more (λ r. r.row.id) 1 desk.requests (filed row) numbered (omega (arith, next))
+
+next_queued : (o : Option RequestRow) (queue : Option QueueRow) (desk : Desk) → FilesNext desk o
+    → FilesNext (queue_put queue desk) o
+next_queued None queue desk next = next
+next_queued (Some row) None desk next = next
+next_queued (Some row) (Some queue) desk next = next
+
+-- ---- one statement and one part of a change
+
+not_watching : (b : Bool) → not b ≡ true → b ≡ false
+not_watching true h = cc
+not_watching false h = refl
+
+all_true : (rs : List Request) → list_all (λ r. true) rs ≡ true
+all_true [] = refl
+all_true (r ∷ rs) = all_true rs
+
+-- a person put into a role is one more row, on the request of that number
+put_row_here : (w : Watcher) (r : Request) → r.row.id ≡ w.id
+    → is_watching w.person w.id w.role (watchers_of r) ≡ false
+    → IsPermutation (w ∷ watchers_of r)
+        (watchers_of (in_role w.role (λ names. with_name names w.person) r))
+put_row_here w r here none =
+    subst (λ id. IsPermutation (watcher id w.role w.person ∷ watchers_of r)
+    (watchers_of (in_role w.role (λ names. with_name names w.person) r))) here
+    (put_row_alike w.role w.person r
+        (ap (λ id. is_watching w.person id w.role (watchers_of r)) here ∙ none))
+
+-- another row of the same number has the same persons
+rows_moved : (row : RequestRow) (r : Request) → r.row.id ≡ row.id
+    → watchers_of (with_row row r) ≡ watchers_of r
+rows_moved row r here =
+    ap (λ id. map (watcher id Requestor) r.requestors
+    ++ (map (watcher id Cc) r.cc ++ map (watcher id AdminCc) r.admin_cc)) (sym here)
+
+alike_put : (c : Contents) (desk : Desk) (w : Watcher) → IsNumbered desk → is_there desk w.id ≡ true
+    → is_watching w.person w.id w.role (watchers desk) ≡ false → AreAlike c (contents_of desk)
+    → AreAlike (add_watcher c w) (contents_of (person_put desk w))
+alike_put c desk w numbered there none h =
+    let f = in_role w.role (λ names. with_name names w.person) in
+    let is = is_row_of w.id w.role w.person in
+    let rs = desk.requests in
+    let grows = λ (r : Request) (here : r.row.id ≡ w.id)
+        (free : not (list_any is (watchers_of r)) ≡ true).
+        put_row_here w r here (not_watching _ free) in
+    record {
+      version = h.version;
+      queues = h.queues;
+      requests = subst (IsPermutation c.requests)
+          (sym (kept_each f w.id (λ r. r.row) (λ r here. in_role_row w.role _ r) rs)) h.requests;
+      watchers = IsPermutation-trans _ _ _ (IsPermutation-cons w _ _ h.watchers)
+          (one_more watchers_of f w.id (λ r. not (list_any is (watchers_of r))) w 1 rs grows
+          numbered (among desk w.id there) (none_each is watchers_of rs none));
+      links = h.links;
+      entries = subst (IsPermutation c.entries)
+          (sym (kept_all f w.id (λ r. r.entries) (λ r here. in_role_entries w.role _ r) rs))
+              h.entries;
+    }
+
+alike_taken : (c : Contents) (desk : Desk) (w : Watcher) → AreAlike c (contents_of desk)
+    → AreAlike (drop_watcher c w) (contents_of (person_taken desk w))
+alike_taken c desk w h =
+    let f = in_role w.role (λ names. without_name names w.person) in
+    let rs = desk.requests in
+    record {
+      version = h.version;
+      queues = h.queues;
+      requests = subst (IsPermutation c.requests)
+          (sym (kept_each f w.id (λ r. r.row) (λ r here. in_role_row w.role _ r) rs)) h.requests;
+      watchers = subst (IsPermutation (filter (λ x. not (is_watcher w x)) c.watchers))
+          (taken_each w.id w.role w.person rs)
+          (IsPermutation-filter (λ x. not (is_watcher w x)) c.watchers (watchers desk) h.watchers);
+      links = h.links;
+      entries = subst (IsPermutation c.entries)
+          (sym (kept_all f w.id (λ r. r.entries) (λ r here. in_role_entries w.role _ r) rs))
+              h.entries;
+    }
+
+alike_noted : (c : Contents) (desk : Desk) (e : Entry) → IsNumbered desk → is_there desk e.id ≡ true
+    → AreAlike c (contents_of desk) → AreAlike (add_entry c e) (contents_of (entry_put desk e))
+alike_noted c desk e numbered there h =
+    let f = with_entry e in
+    let rs = desk.requests in
+    record {
+      version = h.version;
+      queues = h.queues;
+      requests = subst (IsPermutation c.requests)
+          (sym (kept_each f e.id (λ r. r.row) (λ r here. refl) rs)) h.requests;
+      watchers = subst (IsPermutation c.watchers)
+          (sym (kept_all f e.id watchers_of (λ r here. refl) rs)) h.watchers;
+      links = h.links;
+      entries = IsPermutation-trans _ _ _ (IsPermutation-cons e _ _ h.entries)
+          (one_more (λ r. r.entries) f e.id (λ r. true) e 1 rs
+          (λ r here free. IsPermutation-sym _ _ (IsPermutation-to_front r.entries e))
+          numbered (among desk e.id there) (all_true rs));
+    }
+
+alike_set : (c : Contents) (desk : Desk) (row : RequestRow) → IsNumbered desk
+    → is_there desk row.id ≡ true
+    → AreAlike c (contents_of desk)
+        → AreAlike (request_set (Some row) c) (contents_of (row_set (Some row) desk))
+alike_set c desk row numbered there h =
+    let f = with_row row in
+    let rs = desk.requests in
+    record {
+      version = h.version;
+      queues = h.queues;
+      requests = IsPermutation-trans _ _ _
+          (IsPermutation-cons row _ _
+              (IsPermutation-filter _ c.requests (request_rows desk) h.requests))
+          (one_set row 1 rs numbered (among desk row.id there));
+      watchers = subst (IsPermutation c.watchers)
+          (sym (kept_all f row.id watchers_of (λ r here. rows_moved row r here) rs)) h.watchers;
+      links = h.links;
+      entries = subst (IsPermutation c.entries)
+          (sym (kept_all f row.id (λ r. r.entries) (λ r here. refl) rs)) h.entries;
+    }
+
+requests_linked : (o : Option LinkRow) (desk : Desk) → (link_put o desk).requests ≡ desk.requests
+requests_linked None desk = refl
+requests_linked (Some link) desk = refl
+
+requests_unlinked : (o : Option LinkRow) (desk : Desk)
+    → (link_taken o desk).requests ≡ desk.requests
+requests_unlinked None desk = refl
+requests_unlinked (Some link) desk = refl
+
+every_there : (a b : Desk) → ids a ≡ ids b → (es : List Entry)
+    → list_all (λ e. is_there b e.id) es ≡ true → list_all (λ e. is_there a e.id) es ≡ true
+every_there a b same [] all = refl
+every_there a b same (e ∷ es) all =
+    let parts = and_parts (is_there b e.id) (list_all (λ x. is_there b x.id) es) all in
+    and_from (is_there a e.id) (list_all (λ x. is_there a x.id) es) (there_by a b e.id same parts.0)
+    (every_there a b same es parts.1)
+
+alike_itself : (c : Contents) → AreAlike c c
+alike_itself c =
+    record {
+      version = refl;
+      queues = IsPermutation-refl _;
+      requests = IsPermutation-refl _;
+      watchers = IsPermutation-refl _;
+      links = IsPermutation-refl _;
+      entries = IsPermutation-refl _;
+    }
+
+turned : (a b : ℕ) → (a == b) ≡ (b == a)
+turned a b =
+    elim (a == b) as (λ c. (a == b) ≡ c → c ≡ (b == a)) [
+      | true ↦ λ same. sym (eq-eqb b a (sym (eqb-true a b same)))
+      | false ↦ λ other. sym (ne_eqb b a (λ same. eqb-false a b other (sym same)))
+    ] refl
+
+alike_queued : (o : Option QueueRow) (c : Contents) (desk : Desk) → AreAlike c (contents_of desk)
+    → AreAlike (queue_added o c) (contents_of (queue_put o desk))
+alike_queued None c desk h = h
+alike_queued (Some q) c desk h =
+    record {
+      version = h.version;
+      queues = IsPermutation-trans _ _ _ (IsPermutation-cons q _ _ h.queues)
+          (placed_alike has_lower_name desk.queues q);
+      requests = h.requests;
+      watchers = h.watchers;
+      links = h.links;
+      entries = h.entries;
+    }
+
+alike_filed : (o : Option RequestRow) (c : Contents) (desk : Desk) → AreAlike c (contents_of desk)
+    → AreAlike (request_added o c) (contents_of (request_filed o desk))
+alike_filed None c desk h = h
+alike_filed (Some row) c desk h =
+    let rs = desk.requests in
+    let last = filed row ∷ [] in
+    record {
+      version = h.version;
+      queues = h.queues;
+      requests = subst (IsPermutation (row ∷ c.requests)) (sym (map-append (λ r. r.row) rs last))
+          (IsPermutation-trans _ _ _ (IsPermutation-cons row _ _ h.requests)
+          (IsPermutation-sym _ _ (IsPermutation-to_front (request_rows desk) row)));
+      watchers = subst (IsPermutation c.watchers)
+          (sym (flat_map-append watchers_of rs last ∙ append-nil (watchers desk))) h.watchers;
+      links = h.links;
+      entries = subst (IsPermutation c.entries)
+          (sym (flat_map-append (λ r. r.entries) rs last ∙ append-nil (entries desk))) h.entries;
+    }
+
+alike_row : (o : Option RequestRow) (c : Contents) (desk : Desk) → IsNumbered desk
+    → SetsThere desk o
+    → AreAlike c (contents_of desk) → AreAlike (request_set o c) (contents_of (row_set o desk))
+alike_row None c desk numbered there h = h
+alike_row (Some row) c desk numbered there h = alike_set c desk row numbered there h
+
+alike_linked : (o : Option LinkRow) (c : Contents) (desk : Desk) → AreAlike c (contents_of desk)
+    → AreAlike (link_added o c) (contents_of (link_put o desk))
+alike_linked None c desk h = h
+alike_linked (Some link) c desk h =
+    record {
+      version = h.version;
+      queues = h.queues;
+      requests = h.requests;
+      watchers = h.watchers;
+      links = IsPermutation-trans _ _ _ (IsPermutation-cons link _ _ h.links)
+          (placed_alike is_lower_link desk.links link);
+      entries = h.entries;
+    }
+
+kinds_alike : (a b : LinkKind) → (kind_number a == kind_number b) ≡ is_kind b a
+kinds_alike DependsOn DependsOn = refl
+kinds_alike DependsOn MemberOf = refl
+kinds_alike DependsOn RefersTo = refl
+kinds_alike MemberOf DependsOn = refl
+kinds_alike MemberOf MemberOf = refl
+kinds_alike MemberOf RefersTo = refl
+kinds_alike RefersTo DependsOn = refl
+kinds_alike RefersTo MemberOf = refl
+kinds_alike RefersTo RefersTo = refl
+
+-- the row of a link is told by its three columns
+links_alike : (a b : LinkRow) → selection.is_link a b ≡ links.is_link a b
+links_alike a b =
+    ap₂ (λ x y. x && y) (turned b.source a.source)
+    (ap₂ (λ x y. x && y) (kinds_alike b.kind a.kind) (turned b.target a.target))
+
+alike_unlinked : (o : Option LinkRow) (c : Contents) (desk : Desk) → AreAlike c (contents_of desk)
+    → AreAlike (link_dropped o c) (contents_of (link_taken o desk))
+alike_unlinked None c desk h = h
+alike_unlinked (Some link) c desk h =
+    record {
+      version = h.version;
+      queues = h.queues;
+      requests = h.requests;
+      watchers = h.watchers;
+      links = subst (IsPermutation (filter (λ x. not (selection.is_link link x)) c.links))
+          (filter_alike _ _ (λ x. ap not (links_alike link x)) desk.links)
+          (IsPermutation-filter _ c.links desk.links h.links);
+      entries = h.entries;
+    }
+
+-- ---- the lists of a change
+
+alike_puts : (ws : List Watcher) (c : Contents) (desk : Desk) → IsNumbered desk → PutsAnew desk ws
+    → AreAlike c (contents_of desk)
+    → AreAlike (fold add_watcher c ws) (contents_of (fold person_put desk ws))
+alike_puts [] c desk numbered new h = h
+alike_puts (w ∷ ws) c desk numbered new h =
+    alike_puts ws (add_watcher c w) (person_put desk w)
+    (numbered_by (person_put desk w) desk (ids_put desk w) numbered) new.2
+    (alike_put c desk w numbered new.0 new.1 h)
+
+alike_takens : (ws : List Watcher) (c : Contents) (desk : Desk) → AreAlike c (contents_of desk)
+    → AreAlike (fold drop_watcher c ws) (contents_of (fold person_taken desk ws))
+alike_takens [] c desk h = h
+alike_takens (w ∷ ws) c desk h =
+    alike_takens ws (drop_watcher c w) (person_taken desk w) (alike_taken c desk w h)
+
+alike_notes : (es : List Entry) (c : Contents) (desk : Desk) → IsNumbered desk
+    → list_all (λ e. is_there desk e.id) es ≡ true → AreAlike c (contents_of desk)
+    → AreAlike (fold add_entry c es) (contents_of (fold entry_put desk es))
+alike_notes [] c desk numbered there h = h
+alike_notes (e ∷ es) c desk numbered there h =
+    let parts = and_parts (is_there desk e.id) (list_all (λ x. is_there desk x.id) es) there in
+    let next = entry_put desk e in
+    alike_notes es (add_entry c e) next (numbered_by next desk (ids_noted desk e) numbered)
+    (every_there next desk (ids_noted desk e) es parts.1)
+    (alike_noted c desk e numbered parts.0 h)
+
+-- ---- the whole change
+
+pub written_alike : (desk : Desk) (change : Change) → IsDesk desk → IsWritable desk change
+    → AreAlike (written change (contents_of desk)) (contents_of (applied change desk))
+written_alike desk change is fits =
+    let opened = queue_put change.queue desk in
+    let wider = request_filed change.filed opened in
+    let rows = with_rows change desk in
+    let put = fold person_put rows change.put in
+    let taken = fold person_taken put change.taken in
+    let linked = link_put change.linked taken in
+    let noted = link_taken change.unlinked linked in
+    let opened_ids = ap (map (λ r. r.row.id)) (requests_queued change.queue desk) in
+    let from_one = numbered_by opened desk opened_ids is.requests in
+    let grown = numbered_filed change.filed opened
+        (next_queued change.filed change.queue desk fits.files) from_one in
+    let in_rows = numbered_by rows wider (ids_set change.row wider) grown in
+    let same : ids noted ≡ ids rows =
+        ap (map (λ r. r.row.id))
+            (requests_unlinked change.unlinked linked ∙ requests_linked change.linked taken)
+        ∙ ids_folded person_taken ids_taken change.taken put
+            ∙ ids_folded person_put ids_put change.put rows in
+    let start : AreAlike (contents_of desk) (contents_of desk) = alike_itself (contents_of desk) in
+    alike_notes change.entries _ noted (numbered_by noted rows same in_rows)
+    (every_there noted wider (same ∙ ids_set change.row wider) change.entries fits.notes)
+    (alike_unlinked change.unlinked _ linked
+    (alike_linked change.linked _ taken
+    (alike_takens change.taken _ put
+    (alike_puts change.put _ rows in_rows fits.puts
+    (alike_row change.row _ wider grown fits.sets
+    (alike_filed change.filed _ opened
+    (alike_queued change.queue (contents_of desk) desk start)))))))

@@ -1,0 +1,24 @@
+use Rattle.std.proofs.Common.{◌≡◌, OnOk, OnErr, subst, rules}
+use Rattle.sqlite.specs.Held.{state}
+use Rattle.store_core.specs.Stands.{Stand}
+use Rattle.store_core.specs.Written.{written}
+use Rattle.store_core.proofs.StandLemmas.{begins}
+use Rattle.store_core.proofs.apply.apply_change.Goals as goal
+
+pub returns-clause-done : goal.returns-clause-done
+returns-clause-done g c d stand =
+    let begun = begins g.S.Store c.args.conn.now c.transaction-tx.result.conn.now d
+    c.transaction-tx.ensures.begun stand in
+    let last = written c.args.change.now d in
+    let same : c.finish.new.tx.0 ≡ c.conn-2-1.given.0 = search rules in
+    subst (λ h. OnOk c.finish.result (Stand last (state g.S.Store h))) same
+    (c.finish.ensures.done last d (c.in_ok-write_change.ensures.made d d begun))
+
+pub returns-clause-undone : goal.returns-clause-undone
+returns-clause-undone g c d stand =
+    let begun = begins g.S.Store c.args.conn.now c.transaction-tx.result.conn.now d
+    c.transaction-tx.ensures.begun stand in
+    let last = written c.args.change.now d in
+    let same : c.finish.new.tx.0 ≡ c.conn-2-1.given.0 = search rules in
+    subst (λ h. OnErr c.finish.result (Stand d (state g.S.Store h))) same
+    (c.finish.ensures.undone last d (c.in_ok-write_change.ensures.made d d begun))

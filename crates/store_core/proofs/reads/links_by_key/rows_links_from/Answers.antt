@@ -1,0 +1,15 @@
+use Rattle.sqlite.specs.Held.{state}
+use Rattle.store_core.proofs.ReadingLemmas.{if_ok, lists_links_from}
+use Rattle.store_core.proofs.Statements.{links_from_is}
+use Rattle.store_core.proofs.reads.links_by_key.rows_links_from.Goals as goal
+
+pub select-requires-clause-plain : goal.select-requires-clause-plain
+select-requires-clause-plain g c = links_from_is.plain
+
+pub returns-clause-shown : goal.returns-clause-shown
+returns-clause-shown g c d stand clean =
+    let old = state g.S.Store c.args.conn.now in
+    let new = state g.S.Store c.select.new.conn in
+    if_ok c.select.result
+    (λ rows. lists_links_from d c.args.id c.args.kind old new c.select.ensures.honest stand clean rows.items)
+    (rw (c.number.ensures, c.link_kind.ensures) at (c.select.ensures.shown clean))

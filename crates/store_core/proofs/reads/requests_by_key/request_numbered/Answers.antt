@@ -1,0 +1,16 @@
+use Rattle.std.proofs.Common.{filter}
+use Rattle.store_core.specs.Reading.{ReadsRequest}
+use Rattle.store_core.specs.Selection.{is_numbered}
+use Rattle.store_core.specs.Spelling.{request_shown}
+use Rattle.store_core.proofs.BackLemmas.{request_back}
+use Rattle.store_core.proofs.ReadLemmas.{one_read}
+use Rattle.store_core.proofs.ReadingLemmas.{if_ok}
+use Rattle.store_core.proofs.reads.requests_by_key.request_numbered.Goals as goal
+
+pub returns-clause-found : goal.returns-clause-found
+returns-clause-found g c d stand clean =
+    if_ok c.read_one.result
+    (λ r. one_read request_shown ReadsRequest request_back
+    (filter (is_numbered c.args.id) d.requests) c.in_ok-rows.rows.items r
+    (c.in_ok-rows.ensures.shown d stand clean))
+    (rw c.as_slice.ensures.value at c.read_one.ensures.ok)

@@ -1,0 +1,15 @@
+use Rattle.sqlite.specs.Held.{state}
+use Rattle.store_core.proofs.ReadingLemmas.{if_ok, shows_last_id}
+use Rattle.store_core.proofs.Statements.{last_id_is}
+use Rattle.store_core.proofs.reads.requests_by_key.rows_last_id.Goals as goal
+
+pub select-requires-clause-plain : goal.select-requires-clause-plain
+select-requires-clause-plain g c = last_id_is.plain
+
+pub returns-clause-shown : goal.returns-clause-shown
+returns-clause-shown g c d stand clean =
+    let old = state g.S.Store c.args.conn.now in
+    let new = state g.S.Store c.select.new.conn in
+    if_ok c.select.result
+    (λ rows. shows_last_id d old new c.select.ensures.honest stand clean rows.items)
+    (c.select.ensures.shown clean)

@@ -1,0 +1,21 @@
+use Rattle.sqlite.specs.Held.{state}
+use Rattle.desk_core.specs.Change.{applied}
+use Rattle.store_core.specs.Contents.{contents_of}
+use Rattle.store_core.specs.Written.{written}
+use Rattle.store_core.proofs.StandsAlike.{done_alike, left_at_fault}
+use Rattle.store_core.proofs.WrittenDesk.{written_alike}
+use Rattle.store_core.proofs.store.Store.apply.Goals as goal
+
+pub returns-clause-done : goal.returns-clause-done
+returns-clause-done g c desk is fits stand =
+    let change = c.args.change.now in
+    let new = state g.S.Store c.apply_change.new.conn in
+    done_alike c.apply_change.result (written change (contents_of desk))
+    (contents_of (applied change desk)) new (written_alike desk change is fits)
+    (c.apply_change.ensures.done (contents_of desk) stand)
+
+pub returns-clause-undone : goal.returns-clause-undone
+returns-clause-undone g c =
+    let old = state g.S.Store c.args.self.now.conn in
+    let new = state g.S.Store c.apply_change.new.conn in
+    left_at_fault c.apply_change.result old new c.apply_change.ensures.undone

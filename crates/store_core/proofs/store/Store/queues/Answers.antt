@@ -1,0 +1,9 @@
+use Rattle.store_core.specs.Contents.{contents_of}
+use Rattle.store_core.proofs.OrderLemmas.{the_queues}
+use Rattle.store_core.proofs.ReadingLemmas.{if_ok}
+use Rattle.store_core.proofs.store.Store.queues.Goals as goal
+
+pub returns-clause-listed : goal.returns-clause-listed
+returns-clause-listed g c desk is stand clean =
+    if_ok c.queues.result (λ xs. the_queues desk.queues xs.items is.queues)
+    (c.queues.ensures.listed (contents_of desk) stand clean)

@@ -1,0 +1,18 @@
+use Rattle.sqlite.specs.Held.{state}
+use Rattle.store_core.specs.Contents.{add_entry}
+use Rattle.store_core.specs.Queries.{add_entry_text}
+use Rattle.store_core.specs.Spelling.{entry_columns}
+use Rattle.store_core.proofs.StandLemmas.{steps}
+use Rattle.store_core.proofs.TableLemmas.{adds_entry}
+use Rattle.store_core.proofs.writes.entries.put_entry.Goals as goal
+
+pub returns-clause-put : goal.returns-clause-put
+returns-clause-put g c now was =
+    let row = c.args.row.now in
+    let count = c.in_ok-run.field-0 in
+    let old = state g.S.Store c.args.tx.now.conn.now in
+    let new = state g.S.Store c.run.new.tx.conn.now in
+    steps add_entry_text (entry_columns row) old new count now (add_entry now row) was
+    (rw (c.number.ensures, c.number-2.ensures, c.minute.ensures, c.words.ensures,
+    c.entry_kind.ensures, c.words-2.ensures, c.words-3.ensures) at c.in_ok-run.ensures.ran)
+    c.run.ensures.honest (adds_entry now row old new count)

@@ -1,0 +1,17 @@
+use Rattle.sqlite.specs.Held.{state}
+use Rattle.store_core.specs.Contents.{add_queue}
+use Rattle.store_core.specs.Queries.{add_queue_text}
+use Rattle.store_core.specs.Spelling.{queue_columns}
+use Rattle.store_core.proofs.StandLemmas.{steps}
+use Rattle.store_core.proofs.TableLemmas.{adds_queue}
+use Rattle.store_core.proofs.writes.queues.put_queue.Goals as goal
+
+pub returns-clause-put : goal.returns-clause-put
+returns-clause-put g c now was =
+    let row = c.args.row.now in
+    let count = c.in_ok-run.field-0 in
+    let old = state g.S.Store c.args.tx.now.conn.now in
+    let new = state g.S.Store c.run.new.tx.conn.now in
+    steps add_queue_text (queue_columns row) old new count now (add_queue now row) was
+    (rw (c.words.ensures, c.words-2.ensures, c.nullable.ensures) at c.in_ok-run.ensures.ran)
+    c.run.ensures.honest (adds_queue now row old new count)

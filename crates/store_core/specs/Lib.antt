@@ -1,0 +1,16 @@
+pub mod Applying
+pub mod Calls
+pub mod Contents
+pub mod Found
+pub mod Kept
+pub mod Making
+pub mod Orders
+pub mod Picked
+pub mod Queries
+pub mod Reading
+pub mod Seen
+pub mod Selection
+pub mod Spelling
+pub mod Stands
+pub mod Tables
+pub mod Written

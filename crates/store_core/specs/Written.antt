@@ -1,0 +1,90 @@
+-- What a change makes of the rows of a desk, statement by statement, and on which desk it can be
+-- written.
+use Rattle.std.specs.Prelude.{◌≡◌, ◌+◌, ℕ, Bool, true, false, List, [], ◌∷◌, Option, Some, None}
+use Rattle.std.specs.Prelude.{IsPermutation, fold, length}
+use Rattle.std.specs.List.{list_all}
+use Rattle.std.specs.Option.{is_some}
+use Rattle.desk_core.specs.Change.{person_put, queue_put, request_filed, row_set}
+use Rattle.desk_core.specs.Desk.{Desk, request_at}
+use Rattle.desk_core.specs.Watchers.{is_watching}
+use Rattle.desk_core.specs.declared.change.Change.{Change}
+use Rattle.desk_core.specs.declared.rows.LinkRow.{LinkRow}
+use Rattle.desk_core.specs.declared.rows.QueueRow.{QueueRow}
+use Rattle.desk_core.specs.declared.rows.RequestRow.{RequestRow}
+use Rattle.desk_core.specs.declared.rows.Watcher.{Watcher}
+use Rattle.store_core.specs.Contents.{Contents, watchers}
+use Rattle.store_core.specs.Contents.{add_queue, add_request, set_request, add_watcher}
+use Rattle.store_core.specs.Contents.{drop_watcher, add_link, drop_link, add_entry}
+
+abbrev pub queue_added : Option QueueRow → Contents → Contents
+queue_added None c = c
+queue_added (Some queue) c = add_queue c queue
+
+abbrev pub request_added : Option RequestRow → Contents → Contents
+request_added None c = c
+request_added (Some row) c = add_request c row
+
+abbrev pub request_set : Option RequestRow → Contents → Contents
+request_set None c = c
+request_set (Some row) c = set_request c row
+
+abbrev pub link_added : Option LinkRow → Contents → Contents
+link_added None c = c
+link_added (Some link) c = add_link c link
+
+abbrev pub link_dropped : Option LinkRow → Contents → Contents
+link_dropped None c = c
+link_dropped (Some link) c = drop_link c link
+
+abbrev pub written : Change → Contents → Contents
+written change c =
+    let rows = request_set change.row (request_added change.filed (queue_added change.queue c)) in
+    let persons = fold drop_watcher (fold add_watcher rows change.put) change.taken in
+    let links = link_dropped change.unlinked (link_added change.linked persons) in
+    fold add_entry links change.entries
+
+-- the same version and the same rows, in any order
+pub record AreAlike (a b : Contents) : Type 0 where
+  pub version : a.version ≡ b.version
+  pub queues : IsPermutation a.queues b.queues
+  pub requests : IsPermutation a.requests b.requests
+  pub watchers : IsPermutation a.watchers b.watchers
+  pub links : IsPermutation a.links b.links
+  pub entries : IsPermutation a.entries b.entries
+
+-- the request of that number is there
+abbrev pub is_there : Desk → ℕ → Bool
+is_there desk id = is_some (request_at desk id)
+
+-- a request that is filed has the next number
+abbrev pub FilesNext : Desk → Option RequestRow → Type 0
+FilesNext desk None = Unit {0}
+FilesNext desk (Some row) = row.id ≡ length desk.requests + 1
+
+-- a row is set on a request that is there
+abbrev pub SetsThere : Desk → Option RequestRow → Type 0
+SetsThere desk None = Unit {0}
+SetsThere desk (Some row) = is_there desk row.id ≡ true
+
+-- each person is put on a request that is there, into a role that the person doesn't have on it
+abbrev pub PutsAnew : Desk → List Watcher → Type 0
+PutsAnew desk [] = Unit {0}
+PutsAnew desk (w ∷ ws) =
+    (is_there desk w.id ≡ true)
+    × (is_watching w.person w.id w.role (watchers desk) ≡ false)
+    × PutsAnew (person_put desk w) ws
+
+-- the desk with the queue and the request that a change brings
+abbrev pub with_filed : Change → Desk → Desk
+with_filed change desk = request_filed change.filed (queue_put change.queue desk)
+
+-- and with the row that it sets
+abbrev pub with_rows : Change → Desk → Desk
+with_rows change desk = row_set change.row (with_filed change desk)
+
+-- what a change names is there, and what it puts isn't there yet
+pub record IsWritable (desk : Desk) (change : Change) : Type 0 where
+  pub files : FilesNext desk change.filed
+  pub sets : SetsThere (with_filed change desk) change.row
+  pub puts : PutsAnew (with_rows change desk) change.put
+  pub notes : list_all (λ e. is_there (with_filed change desk) e.id) change.entries ≡ true

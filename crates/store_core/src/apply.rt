@@ -1,0 +1,44 @@
+//! A change is written, whole or not at all.
+ghost use Rattle.std.specs.Prelude.{◌≡◌, false, OnErr, OnOk};
+ghost use Rattle.sqlite.specs.Held.{state};
+ghost use Rattle.store_core.specs.Applying.{Applies};
+ghost use Rattle.store_core.specs.Calls.{Leaves};
+ghost use Rattle.store_core.specs.Contents.{Contents};
+ghost use Rattle.store_core.specs.Seen.{state_of};
+ghost use Rattle.store_core.specs.Stands.{Stand};
+ghost use Rattle.store_core.specs.Written.{written};
+
+use crate::fault::StoreFault;
+use crate::store::Store;
+use crate::transaction::finish;
+use crate::writes::change::write_change;
+use desk_core::Change;
+use sqlite::{Alter, Connection};
+
+/// Writes a change in one transaction: all of it, or none.
+fn apply_change<S: Alter>(conn: &mut Connection<S>, change: &Change) -> Result<(), StoreFault>
+    requires { conn.old.in_transaction ≡ false }
+    ensures idle { conn.new.in_transaction ≡ false }
+    ensures done { (c : Contents) → Stand c (state S.Store conn.old) →
+        OnOk result (Stand (written change.now c) (state S.Store conn.new)) }
+    ensures undone { (c : Contents) → Stand c (state S.Store conn.old) →
+        OnErr result (Stand c (state S.Store conn.new)) }
+{
+    let mut tx = conn.transaction();
+    write_change(&mut tx, change)?;
+    finish(tx)
+}
+
+impl<S: Alter> Store<S> {
+    /// Writes a change, in one transaction. `Refused` where the store refuses a statement: where a
+    /// row of the change is there already, where one that it sets or takes out isn't there, or
+    /// where the disk or memory fails. On a fault the tables stay as they are.
+    pub fn apply(&mut self, change: &Change) -> Result<(), StoreFault>
+        ensures done { Applies change.now
+            (state_of S.Store self.old) (state_of S.Store self.new) result }
+        ensures undone { OnErr result
+            (Leaves (state_of S.Store self.old) (state_of S.Store self.new)) }
+    {
+        apply_change(&mut self.conn, change)
+    }
+}

@@ -1,0 +1,17 @@
+//! The tables of a desk: how its rows are kept, read and changed. No other crate names a table or a
+//! statement.
+#![tactic(auto)]
+
+mod apply;
+mod columns;
+pub mod fault;
+mod lists;
+mod query;
+mod reads;
+pub mod store;
+mod stored;
+mod transaction;
+mod writes;
+
+pub use fault::StoreFault;
+pub use store::Store;

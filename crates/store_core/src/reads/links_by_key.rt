@@ -1,0 +1,88 @@
+//! The links from a request, and the link that is like another.
+ghost use Rattle.std.specs.Prelude.{◌≡◌, false, filter, option_to_list};
+ghost use Rattle.sqlite.specs.Held.{state};
+ghost use Rattle.store_core.specs.Calls.{Answers, Leaves, WasClean};
+ghost use Rattle.store_core.specs.Orders.{by_target};
+ghost use Rattle.store_core.specs.Picked.{AreOrdered, Lists, Shows};
+ghost use Rattle.store_core.specs.Selection as chosen;
+ghost use Rattle.store_core.specs.Spelling.{link_columns};
+
+use crate::columns::{link_kind, number};
+use crate::fault::StoreFault;
+use crate::query::{read_all, read_one, select};
+use desk_core::{LinkKind, LinkRow};
+use sqlite::{Alter, Connection, Row};
+use std::alloc::Global;
+
+/// The rows of `links_from`.
+fn rows_links_from<S: Alter>(
+    conn: &mut Connection<S>,
+    id: u32,
+    kind: LinkKind,
+) -> Result<Vec<Row>, StoreFault>
+    requires { conn.old.in_transaction ≡ false }
+    ensures idle { conn.new.in_transaction ≡ false }
+    ensures shown { Answers (λ c rows.
+        Lists by_target link_columns (filter (chosen.links_from id kind) c.links) rows.items)
+        (state S.Store conn.old) (state S.Store conn.new) result }
+    ensures kept { Leaves (state S.Store conn.old) (state S.Store conn.new) }
+    ensures honest { WasClean (state S.Store conn.old) (state S.Store conn.new) }
+{
+    select(
+        conn,
+        "SELECT source, kind, target FROM link WHERE source = ?1 AND kind = ?2 ORDER BY target",
+        &[number(id), link_kind(kind)],
+    )
+}
+
+/// The links of a kind from a request, by target.
+pub(crate) fn links_from<S: Alter>(
+    alloc: Global,
+    conn: &mut Connection<S>,
+    id: u32,
+    kind: LinkKind,
+) -> Result<Vec<LinkRow>, StoreFault>
+    requires { conn.old.in_transaction ≡ false }
+    ensures idle { conn.new.in_transaction ≡ false }
+    ensures listed { Answers (λ c xs.
+        AreOrdered by_target (filter (chosen.links_from id kind) c.links) xs.items)
+        (state S.Store conn.old) (state S.Store conn.new) result }
+    ensures kept { Leaves (state S.Store conn.old) (state S.Store conn.new) }
+    ensures honest { WasClean (state S.Store conn.old) (state S.Store conn.new) }
+{
+    let rows = rows_links_from(conn, id, kind)?;
+    read_all(alloc, rows.as_slice())
+}
+
+/// The rows of `link_like`.
+fn rows_like<S: Alter>(conn: &mut Connection<S>, link: LinkRow) -> Result<Vec<Row>, StoreFault>
+    requires { conn.old.in_transaction ≡ false }
+    ensures idle { conn.new.in_transaction ≡ false }
+    ensures shown { Answers (λ c rows.
+        Shows link_columns (filter (chosen.is_link link) c.links) rows.items)
+        (state S.Store conn.old) (state S.Store conn.new) result }
+    ensures kept { Leaves (state S.Store conn.old) (state S.Store conn.new) }
+    ensures honest { WasClean (state S.Store conn.old) (state S.Store conn.new) }
+{
+    select(
+        conn,
+        "SELECT source, kind, target FROM link WHERE source = ?1 AND kind = ?2 AND target = ?3",
+        &[number(link.source), link_kind(link.kind), number(link.target)],
+    )
+}
+
+/// The link with those ends and of that kind, or none.
+pub(crate) fn link_like<S: Alter>(
+    conn: &mut Connection<S>,
+    link: LinkRow,
+) -> Result<Option<LinkRow>, StoreFault>
+    requires { conn.old.in_transaction ≡ false }
+    ensures idle { conn.new.in_transaction ≡ false }
+    ensures found { Answers (λ c l. option_to_list l ≡ filter (chosen.is_link link) c.links)
+        (state S.Store conn.old) (state S.Store conn.new) result }
+    ensures kept { Leaves (state S.Store conn.old) (state S.Store conn.new) }
+    ensures honest { WasClean (state S.Store conn.old) (state S.Store conn.new) }
+{
+    let rows = rows_like(conn, link)?;
+    read_one(rows.as_slice())
+}

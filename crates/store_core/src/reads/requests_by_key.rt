@@ -1,0 +1,73 @@
+//! The request of a number, and the last number.
+ghost use Rattle.std.specs.Prelude.{◌≡◌, false, filter, option_to_list};
+ghost use Rattle.sqlite.specs.Held.{state};
+ghost use Rattle.store_core.specs.Calls.{Answers, Leaves, WasClean};
+ghost use Rattle.store_core.specs.Found.{number_of};
+ghost use Rattle.store_core.specs.Picked.{IsGreatest, Shows, ShowsGreatest};
+ghost use Rattle.store_core.specs.Selection.{is_numbered};
+ghost use Rattle.store_core.specs.Spelling.{request_shown};
+
+use crate::columns::number;
+use crate::fault::StoreFault;
+use crate::query::{read_number, read_one, select};
+use desk_core::RequestRow;
+use sqlite::{Alter, Connection, Row};
+
+/// The rows of `request_numbered`.
+fn rows_numbered<S: Alter>(conn: &mut Connection<S>, id: u32) -> Result<Vec<Row>, StoreFault>
+    requires { conn.old.in_transaction ≡ false }
+    ensures idle { conn.new.in_transaction ≡ false }
+    ensures shown { Answers (λ c rows.
+        Shows request_shown (filter (is_numbered id) c.requests) rows.items)
+        (state S.Store conn.old) (state S.Store conn.new) result }
+    ensures kept { Leaves (state S.Store conn.old) (state S.Store conn.new) }
+    ensures honest { WasClean (state S.Store conn.old) (state S.Store conn.new) }
+{
+    select(
+        conn,
+        "SELECT id, queue, subject, status, owner, level, created, opened, turn, since FROM \
+         request WHERE id = ?1",
+        &[number(id)],
+    )
+}
+
+/// The request with that number, or none.
+pub(crate) fn request_numbered<S: Alter>(
+    conn: &mut Connection<S>,
+    id: u32,
+) -> Result<Option<RequestRow>, StoreFault>
+    requires { conn.old.in_transaction ≡ false }
+    ensures idle { conn.new.in_transaction ≡ false }
+    ensures found { Answers (λ c r. option_to_list r ≡ filter (is_numbered id) c.requests)
+        (state S.Store conn.old) (state S.Store conn.new) result }
+    ensures kept { Leaves (state S.Store conn.old) (state S.Store conn.new) }
+    ensures honest { WasClean (state S.Store conn.old) (state S.Store conn.new) }
+{
+    let rows = rows_numbered(conn, id)?;
+    read_one(rows.as_slice())
+}
+
+/// The rows of `last_id`.
+fn rows_last_id<S: Alter>(conn: &mut Connection<S>) -> Result<Vec<Row>, StoreFault>
+    requires { conn.old.in_transaction ≡ false }
+    ensures idle { conn.new.in_transaction ≡ false }
+    ensures shown { Answers (λ c rows. ShowsGreatest number_of c.requests rows.items)
+        (state S.Store conn.old) (state S.Store conn.new) result }
+    ensures kept { Leaves (state S.Store conn.old) (state S.Store conn.new) }
+    ensures honest { WasClean (state S.Store conn.old) (state S.Store conn.new) }
+{
+    select(conn, "SELECT id FROM request ORDER BY id DESC LIMIT 1", &[])
+}
+
+/// The greatest number of a request, 0 where there is none.
+pub(crate) fn last_id<S: Alter>(conn: &mut Connection<S>) -> Result<u32, StoreFault>
+    requires { conn.old.in_transaction ≡ false }
+    ensures idle { conn.new.in_transaction ≡ false }
+    ensures greatest { Answers (λ c n. IsGreatest number_of c.requests n)
+        (state S.Store conn.old) (state S.Store conn.new) result }
+    ensures kept { Leaves (state S.Store conn.old) (state S.Store conn.new) }
+    ensures honest { WasClean (state S.Store conn.old) (state S.Store conn.new) }
+{
+    let rows = rows_last_id(conn)?;
+    read_number(rows.as_slice())
+}

@@ -1,0 +1,49 @@
+//! The watchers of a request.
+ghost use Rattle.std.specs.Prelude.{◌≡◌, false, filter};
+ghost use Rattle.sqlite.specs.Held.{state};
+ghost use Rattle.store_core.specs.Calls.{Answers, Leaves, WasClean};
+ghost use Rattle.store_core.specs.Orders.{by_role};
+ghost use Rattle.store_core.specs.Picked.{AreOrdered, Lists};
+ghost use Rattle.store_core.specs.Selection.{watches};
+ghost use Rattle.store_core.specs.Spelling.{watcher_columns};
+
+use crate::columns::number;
+use crate::fault::StoreFault;
+use crate::query::{read_all, select};
+use desk_core::Watcher;
+use sqlite::{Alter, Connection, Row};
+use std::alloc::Global;
+
+/// The rows of `watchers_of`.
+fn rows_watchers_of<S: Alter>(conn: &mut Connection<S>, id: u32) -> Result<Vec<Row>, StoreFault>
+    requires { conn.old.in_transaction ≡ false }
+    ensures idle { conn.new.in_transaction ≡ false }
+    ensures shown { Answers (λ c rows.
+        Lists by_role watcher_columns (filter (watches id) c.watchers) rows.items)
+        (state S.Store conn.old) (state S.Store conn.new) result }
+    ensures kept { Leaves (state S.Store conn.old) (state S.Store conn.new) }
+    ensures honest { WasClean (state S.Store conn.old) (state S.Store conn.new) }
+{
+    select(
+        conn,
+        "SELECT request, role, person FROM watcher WHERE request = ?1 ORDER BY role, person",
+        &[number(id)],
+    )
+}
+
+/// The watchers of a request, by role and person.
+pub(crate) fn watchers_of<S: Alter>(
+    alloc: Global,
+    conn: &mut Connection<S>,
+    id: u32,
+) -> Result<Vec<Watcher>, StoreFault>
+    requires { conn.old.in_transaction ≡ false }
+    ensures idle { conn.new.in_transaction ≡ false }
+    ensures listed { Answers (λ c xs. AreOrdered by_role (filter (watches id) c.watchers) xs.items)
+        (state S.Store conn.old) (state S.Store conn.new) result }
+    ensures kept { Leaves (state S.Store conn.old) (state S.Store conn.new) }
+    ensures honest { WasClean (state S.Store conn.old) (state S.Store conn.new) }
+{
+    let rows = rows_watchers_of(conn, id)?;
+    read_all(alloc, rows.as_slice())
+}

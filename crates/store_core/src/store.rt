@@ -1,0 +1,11 @@
+//! The store of a desk: its tables, over one connection.
+ghost use Rattle.std.specs.Prelude.{◌≡◌, false};
+
+use sqlite::{Alter, Connection};
+
+/// The tables of a desk. Between two calls no transaction is open.
+#[derive(Drop)]
+pub struct Store<S: Alter> {
+    pub(crate) conn: Connection<S>,
+    ghost idle: { conn.in_transaction ≡ false },
+}
