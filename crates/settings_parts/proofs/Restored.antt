@@ -36,7 +36,8 @@ two (integer a) (integer b) h k = refl
 two (integer a) _ h k = cc
 two _ e h k = cc
 
-pair_of_items : (ds : Items) → are_integers (two_of ds) ≡ true → restored (One Pair) (array ds) ≡ array ds
+pair_of_items : (ds : Items) → are_integers (two_of ds) ≡ true
+    → restored (One Pair) (array ds) ≡ array ds
 pair_of_items (item d (item e no_items)) h =
     let parts = and_parts (is_integer d) (is_integer e) h in
     two d e parts.0 parts.1
