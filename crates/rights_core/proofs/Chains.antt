@@ -1,5 +1,6 @@
 -- The bounded search for a chain of groups: what it finds is a chain, and it finds one where there is any.
-use Rattle.std.proofs.Common.{◌≡◌, ℕ, zero, suc, ◌<◌, Bool, true, ◌&&◌, ◌⊎◌, List, [], ◌∷◌, length, inl, inr, ⊎_elim, subst, sym, arith}
+use Rattle.std.proofs.Common.{◌≡◌, ℕ, zero, suc, ◌<◌, Bool, true, ◌&&◌, ◌⊎◌, List, [], ◌∷◌, length}
+use Rattle.std.proofs.Common.{inl, inr, ⊎_elim, subst, sym, arith}
 use Rattle.std.specs.List.{list_any, Any, count_by}
 use Rattle.std.specs.Str.{bytes_eq}
 use Rattle.std.proofs.lemmas.Bool.{and_from, and_parts, or_cases, or_left, or_right}

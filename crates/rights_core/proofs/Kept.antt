@@ -1,5 +1,7 @@
 -- What people keep, and the words that it answers.
-use Rattle.std.proofs.Common.{◌≡◌, ℕ, ◌+◌, ◌<◌, Bool, true, false, cond, ◌&&◌, ◌||◌, List, [], ◌∷◌, length, get_or, take, filter, Option, Some, None, refl, sym, ap, append-nil, ◌∙◌, ⊎_elim}
+use Rattle.std.proofs.Common.{◌≡◌, ℕ, ◌+◌, ◌<◌, Bool, true, false, cond, ◌&&◌, ◌||◌, List, [], ◌∷◌}
+use Rattle.std.proofs.Common.{length, get_or, take, filter, Option, Some, None, refl, sym, ap}
+use Rattle.std.proofs.Common.{append-nil, ◌∙◌, ⊎_elim}
 use Rattle.std.specs.Prelude.{String, Vec, is_some, unwrap_or, ◌↔◌, IsTrue, if◌then◌else◌, ◌++◌}
 use Rattle.std.specs.BTreeMap.{BTreeMap, get_by_text}
 use Rattle.std.specs.Cmp.Lexicographic.{nat_list_eq_equiv}
@@ -19,9 +21,11 @@ use Rattle.rights_core.specs.declared.grant.Subject.TheVariants as subject
 use Rattle.rights_core.specs.declared.parts.Group.{Group}
 use Rattle.rights_core.specs.declared.parts.Parts.{Parts}
 use Rattle.rights_core.specs.declared.role.Roles.{Roles}
-use Rattle.rights_core.specs.Index.{IsMemberships, IsGrantsByRight, grants_to, grants_under, is_meant_in}
+use Rattle.rights_core.specs.Index.{IsMemberships, IsGrantsByRight, grants_to, grants_under}
+use Rattle.rights_core.specs.Index.{is_meant_in}
 use Rattle.rights_core.specs.Index.{is_of, meets, meets_to, meets_under, subject_name}
-use Rattle.rights_core.specs.People.{is_among, knows, leads, is_member, IsChain, holds, gives, covers, is_meant}
+use Rattle.rights_core.specs.People.{is_among, knows, leads, is_member, IsChain, holds, gives}
+use Rattle.rights_core.specs.People.{covers, is_meant}
 use Rattle.rights_core.specs.Right.{super_user}
 use Rattle.rights_core.proofs.Chains.{leads_along, chain_within}
 use Rattle.rights_core.proofs.Lists.{any_by_name, any_filtered, any_never, any_same}

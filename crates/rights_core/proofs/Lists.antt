@@ -1,5 +1,6 @@
 -- Tests over lists.
-use Rattle.std.proofs.Common.{◌≡◌, ◌+◌, ◌<◌, ◌≤◌, Bool, true, false, cond, ◌||◌, ◌&&◌, ◌⊎◌, List, [], ◌∷◌, map, filter, refl, sym, ap, inl, inr, ⊎_elim, arith, ℕ, ◌∙◌}
+use Rattle.std.proofs.Common.{◌≡◌, ◌+◌, ◌<◌, ◌≤◌, Bool, true, false, cond, ◌||◌, ◌&&◌, ◌⊎◌, List}
+use Rattle.std.proofs.Common.{[], ◌∷◌, map, filter, refl, sym, ap, inl, inr, ⊎_elim, arith, ℕ, ◌∙◌}
 use Rattle.std.specs.List.{list_any, All, count_by}
 use Rattle.std.proofs.lemmas.Bool.{and_from, and_parts, cases_Bool}
 use Rattle.std.proofs.lemmas.Bool.Decides.{same_from_decides}
@@ -101,10 +102,10 @@ any_by_name p name names xs among =
             by.2,
             by.3,
             any_filtered (λ x. bytes_eq by.1 (name x)) p xs
-            ∙ list_any-from_Any
-            (λ x. bytes_eq by.1 (name x) && p x)
-            xs
-            (at.0, at.1, at.2, at.3, and_from (bytes_eq by.1 (name at.1)) (p at.1) by.4 at.4),
+                ∙ list_any-from_Any
+                (λ x. bytes_eq by.1 (name x) && p x)
+                xs
+                (at.0, at.1, at.2, at.3, and_from (bytes_eq by.1 (name at.1)) (p at.1) by.4 at.4),
           )),
     )
     ((λ found. found), (λ found. found))

@@ -91,14 +91,16 @@ fn has_known_members(directory: &Directory, group: &Group) -> bool
 
 /// Whether a person or a group has this name.
 fn has_either(directory: &Directory, name: &str) -> bool
-    ensures { result ≡ (words.is_among directory.now.0 name.now || faults.has_group directory.now.1 name.now) }
+    ensures { result ≡ (words.is_among directory.now.0 name.now
+        || faults.has_group directory.now.1 name.now) }
 {
     directory.has_person(name) || directory.has_group(name)
 }
 
 /// Whether the persons and the groups that grants are for are there.
 fn knows_subjects(directory: &Directory, grants: &[Grant]) -> bool
-    ensures { result ≡ list_all (λ g. faults.is_there directory.now.0 directory.now.1 g.subject) grants.now }
+    ensures { result
+        ≡ list_all (λ g. faults.is_there directory.now.0 directory.now.1 g.subject) grants.now }
 {
     grants.iter().all(|g| is_there(directory, &g.subject))
 }

@@ -6,8 +6,10 @@ use Rattle.rights_core.specs.declared.parts.Group.{Group}
 use Rattle.rights_core.specs.Closure.{Marks, is_marked, name_at, no_group}
 use Rattle.rights_core.proofs.Marks.{none_marked, mark_none, mark_one}
 use Rattle.rights_core.proofs.outer.mark.Goals as goal
-use Rattle.rights_core.proofs.outer.mark.Goals.{then-place-marks+then-not-marks-place+in_ok-clone+in_ok-push, else-place-marks}
-use Rattle.rights_core.proofs.outer.mark.Goals.{else-place-marks-via-then-place-marks+else-not-marks-place, else-place-marks-via-else-place-marks}
+use Rattle.rights_core.proofs.outer.mark.Goals.{then-place-marks+then-not-marks-place+in_ok-clone+in_ok-push}
+use Rattle.rights_core.proofs.outer.mark.Goals.{else-place-marks}
+use Rattle.rights_core.proofs.outer.mark.Goals.{else-place-marks-via-then-place-marks+else-not-marks-place}
+use Rattle.rights_core.proofs.outer.mark.Goals.{else-place-marks-via-else-place-marks}
 
 pub loop-place-preserved : goal.loop-place-preserved
 loop-place-preserved c =

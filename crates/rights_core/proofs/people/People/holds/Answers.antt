@@ -1,6 +1,7 @@
 use Rattle.std.proofs.Common.{ap, sym, ◌∙◌}
 use Rattle.rights_core.specs.People.{is_among}
-use Rattle.rights_core.proofs.Kept.{granted_kept, known_kept, member_kept, nobody_kept, unknown_holds_nothing}
+use Rattle.rights_core.proofs.Kept.{granted_kept, known_kept, member_kept, nobody_kept}
+use Rattle.rights_core.proofs.Kept.{unknown_holds_nothing}
 use Rattle.rights_core.proofs.people.People.holds.Goals as goal
 
 -- the people are those of the fields, and the person has the kept groups
