@@ -1,5 +1,5 @@
 -- The groups around a name, found by way of those that list what was found.
-use Rattle.std.proofs.Common.{◌≡◌, ℕ, ◌+◌, ◌<◌, ◌≤◌, Bool, true, false, ◌&&◌, ◌||◌, List, []}
+use Rattle.std.proofs.Common.{◌≡◌, ℕ, ◌+◌, ◌<◌, ◌≤◌, Bool, true, false, ◌&&◌, List, []}
 use Rattle.std.proofs.Common.{length}
 use Rattle.std.proofs.Common.{◌∷◌, replicate, nat_eq, get_or, sym, ap, refl, subst, ⊎_elim, arith}
 use Rattle.std.proofs.Common.{IsTrue, ◌++◌, ◌∙◌}
@@ -30,7 +30,8 @@ listed_within groups place name listed =
     ⊎_elim
     (λ inside. inside)
     (λ past.
-    let none : lists_at groups place name ≡ false = rw (get_or_past groups place no_group past) refl in
+    let none : lists_at groups place name ≡ false =
+    rw (get_or_past groups place no_group past) refl in
     absurd (false≢true (sym none ∙ listed)))
     (cases_lt place (length groups))
 
@@ -53,7 +54,8 @@ pub place_of : (groups : List Group) (group name : List ℕ)
     → (place : ℕ) × (name_at groups place ≡ group) × IsTrue (lists_at groups place name)
 place_of groups group name listed =
     let at = lister groups group name listed in
-    let there : get_or groups at.0 no_group ≡ at.1 = get_or_default groups at.0 no_group at.1 at.2 ∙ at.3 in
+    let there : get_or groups at.0 no_group ≡ at.1 =
+    get_or_default groups at.0 no_group at.1 at.2 ∙ at.3 in
     let P : Group → Type 0 = λ g. IsTrue (is_among g.members name) in
     (at.0, ap (λ (g : Group). g.name) there ∙ at.4.0, subst P (sym there) at.4.1)
 
@@ -97,7 +99,8 @@ pub search_more : {Y Z S : Type 0} (groups : List Group) (kept : HashMap (String
     → IsSearch groups name (next + 1) found' marks'
 search_more groups kept name next found found' marks marks' listers s inside m =
     let here = get_or found next [] in
-    let longer : length found' ≡ length found + length m.2.0 = rw m.2.1 (grind (arith, common_steps)) in
+    let longer : length found' ≡ length found + length m.2.0 =
+    rw m.2.1 (grind (arith, common_steps)) in
     let stays : (k : ℕ) → k < length found → get_or found' k [] ≡ get_or found k [] =
     λ k less. rw m.2.1 (grind (arith, common_steps)) in
     let among : (text : List ℕ) → IsTrue (is_among found text) → IsTrue (is_among found' text) =
@@ -212,11 +215,13 @@ pub outer_more : (groups : List Group) (outer : List (List (List ℕ))) (i : ℕ
     → (k : ℕ)
     → k < i + 1
     → (group : List ℕ)
-    → is_among (slice_index_or (outer ++ names ∷ []) k []) group ≡ reaches groups (name_at groups k) group
+    → is_among (slice_index_or (outer ++ names ∷ []) k []) group
+    ≡ reaches groups (name_at groups k) group
 outer_more groups outer i own names size here found before k less group =
     ⊎_elim
     (λ earlier.
-    let there : get_or (outer ++ names ∷ []) k [] ≡ get_or outer k [] = grind (arith, common_steps) in
+    let there : get_or (outer ++ names ∷ []) k [] ≡ get_or outer k [] =
+    grind (arith, common_steps) in
     ap (λ ns. is_among ns group) there ∙ before k earlier group)
     (λ last.
     let this : k ≡ i = omega arith in
@@ -238,7 +243,8 @@ around_lists groups outer person places around listers group =
     (reached group)
     (leads groups person group) (
       (λ found.
-          let at = Any-from_list_any (λ k. is_among (slice_index_or outer k []) group) places found in
+          let at =
+          Any-from_list_any (λ k. is_among (slice_index_or outer k []) group) places found in
           let listed = listed_from at.0 at.1 at.2 at.3 in
           let direct = lists_there groups at.1 person listed in
           let reaching : IsTrue (reaches groups (name_at groups at.1) group) =
@@ -283,7 +289,8 @@ around_lists groups outer person places around listers group =
           (leads groups (name_at groups at.0) name)
           (ap (λ t. bytes_eq t name) at.1 ∙ same_text name)))
           (λ name next listed found.
-          let at = Any-from_list_any (λ k. is_among (slice_index_or outer k []) next) places found in
+          let at =
+          Any-from_list_any (λ k. is_among (slice_index_or outer k []) next) places found in
           let direct = listed_from at.0 at.1 at.2 at.3 in
           let reaching : IsTrue (reaches groups (name_at groups at.1) next) =
           sym (around at.1 (listed_within groups at.1 person direct) next) ∙ at.4 in

@@ -23,7 +23,7 @@ use Rattle.rights_core.specs.declared.parts.Parts.{Parts}
 use Rattle.rights_core.specs.declared.role.Roles.{Roles}
 use Rattle.rights_core.specs.Index.{IsMemberships, IsGrantsByRight, grants_to, grants_under}
 use Rattle.rights_core.specs.Index.{is_meant_in}
-use Rattle.rights_core.specs.Index.{is_of, meets, meets_to, meets_under, subject_name}
+use Rattle.rights_core.specs.Index.{is_of, meets, meets_under, subject_name}
 use Rattle.rights_core.specs.People.{is_among, knows, leads, is_member, IsChain, holds, gives}
 use Rattle.rights_core.specs.People.{covers, is_meant}
 use Rattle.rights_core.specs.Right.{super_user}
@@ -96,7 +96,8 @@ pub known_kept : {Y : Type 0} (people : Parts) (kept : BTreeMap (String Y) (List
 known_kept people kept sound person o found = sym (ap is_some found) ∙ (sound person).0
 
 -- whom the people don't know is no member
-pub no_member : (people : Parts) (person group : List ℕ) → false ≡ knows people person → false ≡ is_member people person group
+pub no_member : (people : Parts) (person group : List ℕ) → false ≡ knows people person
+    → false ≡ is_member people person group
 unfolding is_member
 no_member people person group unknown = ap (λ b. b && leads people.groups person group) unknown
 
@@ -128,7 +129,8 @@ nobody_kept people kept sound person found = known_kept people kept sound person
 any_either : {X : Type 0} (p q : X → Bool) (xs : List X)
     → (list_any p xs || list_any q xs) ≡ list_any (λ x. p x || q x) xs
 any_either p q [] = refl
-any_either p q (x ∷ xs) = rw (← any_either p q xs) (swapped (p x) (list_any p xs) (q x) (list_any q xs))
+any_either p q (x ∷ xs) =
+    rw (← any_either p q xs) (swapped (p x) (list_any p xs) (q x) (list_any q xs))
   where
     swapped : (a b c d : Bool) → ((a || b) || (c || d)) ≡ ((a || c) || (b || d))
     swapped true b c d = refl

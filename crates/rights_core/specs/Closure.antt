@@ -1,6 +1,6 @@
 -- Which groups list a name, and which are reached from there by way of others.
 use Rattle.std.specs.Prelude.{◌≡◌, ℕ, ◌+◌, ◌<◌, Bool, false, not, ◌||◌, List, [], ◌++◌}
-use Rattle.std.specs.Prelude.{count_by, length, nat_eq, unwrap_or, String, Vec, IsTrue}
+use Rattle.std.specs.Prelude.{count_by, length, nat_eq, String, Vec, IsTrue}
 use Rattle.std.specs.HashMap.{HashMap, get_by_text}
 use Rattle.std.specs.List.{list_any, slice_index_or}
 use Rattle.std.specs.Option.{option_map_or}

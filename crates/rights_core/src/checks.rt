@@ -74,7 +74,9 @@ fn has_grant_names(grant: &Grant) -> bool
 
 /// Whether each member of a group is a person or a group.
 fn knows_members(directory: &Directory, groups: &[Group]) -> bool
-    ensures { result ≡ list_all (faults.has_known_members directory.now.0 directory.now.1) groups.now }
+    ensures { result ≡ list_all
+        (faults.has_known_members directory.now.0 directory.now.1)
+        groups.now }
 {
     groups.iter().all(|g| has_known_members(directory, g))
 }

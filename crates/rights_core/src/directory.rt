@@ -87,7 +87,8 @@ impl<'a> Directory<'a> {
 fn names_of(alloc: Global, persons: &[Text], groups: &[Group]) -> Result<Option<Names>, AllocError>
     ensures some { IfOk result (λ n. is_some n ≡ not (faults.repeats_name persons.now groups.now)) }
     ensures persons { IfOk result (λ o. IfSome o (λ n. IsSetOf persons.now n.persons)) }
-    ensures groups { IfOk result (λ o. IfSome o (λ n. IsSetOf (faults.group_names groups.now) n.groups)) }
+    ensures groups { IfOk result (λ o. IfSome o (λ n.
+        IsSetOf (faults.group_names groups.now) n.groups)) }
 {
     let group_names = group_names(alloc, groups)?;
     let Some(person_set) = distinct(alloc, persons)? else {

@@ -49,7 +49,8 @@ impl People {
         groups: &[Group],
         grants: &[Grant],
     ) -> Result<People, RightsFault>
-        ensures ok { IfOk result (λ p. (fault_of (parts_of persons.now groups.now grants.now) ≡ None)
+        ensures ok { IfOk result (λ p.
+            (fault_of (parts_of persons.now groups.now grants.now) ≡ None)
             × (p ≡ parts_of persons.now groups.now grants.now)) }
         ensures err { IfErr result (λ e. e ≢ RightsFault.NoMemory
             → fault_of (parts_of persons.now groups.now grants.now) ≡ Some e) }

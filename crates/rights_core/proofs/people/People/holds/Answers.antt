@@ -25,7 +25,8 @@ returns-in-Some c =
     (known_kept people kept c.self.invariant.0 person _ (sym c.in-Some.ensures.value))
     (λ group.
     ap (λ names. is_among names group) c.as_slice.ensures
-    ∙ member_kept people kept c.self.invariant.0 person c.in-Some.groups.now (sym c.in-Some.ensures.value) group))
+    ∙ member_kept people kept c.self.invariant.0 person c.in-Some.groups.now
+    (sym c.in-Some.ensures.value) group))
 
 pub returns-in-None : goal.returns-in-None
 returns-in-None c =
