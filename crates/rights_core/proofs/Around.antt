@@ -1,6 +1,8 @@
 -- The groups around a name, found by way of those that list what was found.
-use Rattle.std.proofs.Common.{◌≡◌, ℕ, ◌+◌, ◌<◌, ◌≤◌, Bool, true, false, ◌&&◌, ◌||◌, List, [], length}
-use Rattle.std.proofs.Common.{◌∷◌, replicate, nat_eq, get_or, sym, ap, refl, subst, ⊎_elim, arith, IsTrue, ◌++◌, ◌∙◌}
+use Rattle.std.proofs.Common.{◌≡◌, ℕ, ◌+◌, ◌<◌, ◌≤◌, Bool, true, false, ◌&&◌, List, []}
+use Rattle.std.proofs.Common.{length}
+use Rattle.std.proofs.Common.{◌∷◌, replicate, nat_eq, get_or, sym, ap, refl, subst, ⊎_elim, arith}
+use Rattle.std.proofs.Common.{IsTrue, ◌++◌, ◌∙◌}
 use Rattle.std.specs.HashMap.{HashMap}
 use Rattle.std.specs.List.{list_any, slice_index_or}
 use Rattle.std.specs.Prelude.{String, Vec}
@@ -28,7 +30,8 @@ listed_within groups place name listed =
     ⊎_elim
     (λ inside. inside)
     (λ past.
-    let none : lists_at groups place name ≡ false = rw (get_or_past groups place no_group past) refl in
+    let none : lists_at groups place name ≡ false =
+    rw (get_or_past groups place no_group past) refl in
     absurd (false≢true (sym none ∙ listed)))
     (cases_lt place (length groups))
 
@@ -51,7 +54,8 @@ pub place_of : (groups : List Group) (group name : List ℕ)
     → (place : ℕ) × (name_at groups place ≡ group) × IsTrue (lists_at groups place name)
 place_of groups group name listed =
     let at = lister groups group name listed in
-    let there : get_or groups at.0 no_group ≡ at.1 = get_or_default groups at.0 no_group at.1 at.2 ∙ at.3 in
+    let there : get_or groups at.0 no_group ≡ at.1 =
+    get_or_default groups at.0 no_group at.1 at.2 ∙ at.3 in
     let P : Group → Type 0 = λ g. IsTrue (is_among g.members name) in
     (at.0, ap (λ (g : Group). g.name) there ∙ at.4.0, subst P (sym there) at.4.1)
 
@@ -95,7 +99,8 @@ pub search_more : {Y Z S : Type 0} (groups : List Group) (kept : HashMap (String
     → IsSearch groups name (next + 1) found' marks'
 search_more groups kept name next found found' marks marks' listers s inside m =
     let here = get_or found next [] in
-    let longer : length found' ≡ length found + length m.2.0 = rw m.2.1 (grind (arith, common_steps)) in
+    let longer : length found' ≡ length found + length m.2.0 =
+    rw m.2.1 (grind (arith, common_steps)) in
     let stays : (k : ℕ) → k < length found → get_or found' k [] ≡ get_or found k [] =
     λ k less. rw m.2.1 (grind (arith, common_steps)) in
     let among : (text : List ℕ) → IsTrue (is_among found text) → IsTrue (is_among found' text) =
@@ -120,16 +125,16 @@ search_more groups kept name next found found' marks marks' listers s inside m =
           (listers here place ∙ listed'))
           (cases_lt k next)),
       m.6
-      (reaches groups name)
-      s.5
-      (λ k has.
-      reached_further
-      groups
-      name
-      here
-      k
-      (s.5 here (list_any_at (λ t. bytes_eq t here) found next [] inside (same_text here)))
-      (sym (listers here k) ∙ has)),
+          (reaches groups name)
+          s.5
+          (λ k has.
+          reached_further
+          groups
+          name
+          here
+          k
+          (s.5 here (list_any_at (λ t. bytes_eq t here) found next [] inside (same_text here)))
+          (sym (listers here k) ∙ has)),
     )
 
 -- all of it
@@ -141,21 +146,23 @@ search_done groups name found marks s group =
     same_from_decides
     {P = reaches groups name group ≡ true}
     (is_among found group)
-    (reaches groups name group)
-    ((λ is. s.5 group is), (λ reached.
-    ⊎_elim
-    (λ own. rw (← (bytes_eq-Decides name group).0 own) s.2)
-    (λ further.
-    leads_least
-    (length groups)
-    groups
-    name
-    (is_among found)
-    (λ outer listed. from_list outer name listed s.2)
-    (λ outer next listed is. from_list outer next listed is)
-    group
-    further)
-    (or_cases (bytes_eq name group) (leads groups name group) reached)))
+    (reaches groups name group) (
+      (λ is. s.5 group is),
+      (λ reached.
+          ⊎_elim
+          (λ own. rw (← (bytes_eq-Decides name group).0 own) s.2)
+          (λ further.
+          leads_least
+          (length groups)
+          groups
+          name
+          (is_among found)
+          (λ outer listed. from_list outer name listed s.2)
+          (λ outer next listed is. from_list outer next listed is)
+          group
+          further)
+          (or_cases (bytes_eq name group) (leads groups name group) reached)),
+    )
     ((λ reached. reached), (λ reached. reached))
   where
     from_list : (outer next : List ℕ)
@@ -208,11 +215,13 @@ pub outer_more : (groups : List Group) (outer : List (List (List ℕ))) (i : ℕ
     → (k : ℕ)
     → k < i + 1
     → (group : List ℕ)
-    → is_among (slice_index_or (outer ++ names ∷ []) k []) group ≡ reaches groups (name_at groups k) group
+    → is_among (slice_index_or (outer ++ names ∷ []) k []) group
+    ≡ reaches groups (name_at groups k) group
 outer_more groups outer i own names size here found before k less group =
     ⊎_elim
     (λ earlier.
-    let there : get_or (outer ++ names ∷ []) k [] ≡ get_or outer k [] = grind (arith, common_steps) in
+    let there : get_or (outer ++ names ∷ []) k [] ≡ get_or outer k [] =
+    grind (arith, common_steps) in
     ap (λ ns. is_among ns group) there ∙ before k earlier group)
     (λ last.
     let this : k ≡ i = omega arith in
@@ -232,66 +241,69 @@ around_lists groups outer person places around listers group =
     same_from_decides
     {P = leads groups person group ≡ true}
     (reached group)
-    (leads groups person group)
-    ((λ found.
-    let at = Any-from_list_any (λ k. is_among (slice_index_or outer k []) group) places found in
-    let listed = listed_from at.0 at.1 at.2 at.3 in
-    let direct = lists_there groups at.1 person listed in
-    let reaching : IsTrue (reaches groups (name_at groups at.1) group) =
-    sym (around at.1 (listed_within groups at.1 person listed) group) ∙ at.4 in
-    ⊎_elim
-    (λ own.
-    rw
-    (← (bytes_eq-Decides (name_at groups at.1) group).0 own)
-    (leads_direct groups person (name_at groups at.1) direct))
-    (λ further.
-    leads_least
-    (length groups)
-    groups
-    (name_at groups at.1)
-    (leads groups person)
-    (λ name listed.
-    leads_further
-    groups
-    person
-    name
-    (name_at groups at.1)
-    listed
-    (leads_direct groups person (name_at groups at.1) direct))
-    (λ name next listed found. leads_further groups person name next listed found)
-    group
-    further)
-    (or_cases (bytes_eq (name_at groups at.1) group) (leads groups (name_at groups at.1) group) reaching)),
-    (λ leading.
-    leads_least
-    (length groups)
-    groups
-    person
-    reached
-    (λ name listed.
-    let at = place_of groups name person listed in
-    from_place
-    at.0
-    name
-    at.2
-    (or_left
-    (bytes_eq (name_at groups at.0) name)
-    (leads groups (name_at groups at.0) name)
-    (ap (λ t. bytes_eq t name) at.1 ∙ same_text name)))
-    (λ name next listed found.
-    let at = Any-from_list_any (λ k. is_among (slice_index_or outer k []) next) places found in
-    let direct = listed_from at.0 at.1 at.2 at.3 in
-    let reaching : IsTrue (reaches groups (name_at groups at.1) next) =
-    sym (around at.1 (listed_within groups at.1 person direct) next) ∙ at.4 in
-    let by = place_of groups name next listed in
-    from_place
-    at.1
-    name
-    direct
-    (ap (reaches groups (name_at groups at.1)) (sym by.1)
-    ∙ reached_further groups (name_at groups at.1) next by.0 reaching by.2))
-    group
-    leading))
+    (leads groups person group) (
+      (λ found.
+          let at =
+          Any-from_list_any (λ k. is_among (slice_index_or outer k []) group) places found in
+          let listed = listed_from at.0 at.1 at.2 at.3 in
+          let direct = lists_there groups at.1 person listed in
+          let reaching : IsTrue (reaches groups (name_at groups at.1) group) =
+          sym (around at.1 (listed_within groups at.1 person listed) group) ∙ at.4 in
+          ⊎_elim
+          (λ own.
+          rw
+          (← (bytes_eq-Decides (name_at groups at.1) group).0 own)
+          (leads_direct groups person (name_at groups at.1) direct))
+          (λ further.
+          leads_least
+          (length groups)
+          groups
+          (name_at groups at.1)
+          (leads groups person)
+          (λ name listed.
+          leads_further
+          groups
+          person
+          name
+          (name_at groups at.1)
+          listed
+          (leads_direct groups person (name_at groups at.1) direct))
+          (λ name next listed found. leads_further groups person name next listed found)
+          group
+          further)
+          (or_cases (bytes_eq (name_at groups at.1) group) (leads groups (name_at groups at.1) group) reaching)),
+      (λ leading.
+          leads_least
+          (length groups)
+          groups
+          person
+          reached
+          (λ name listed.
+          let at = place_of groups name person listed in
+          from_place
+          at.0
+          name
+          at.2
+          (or_left
+          (bytes_eq (name_at groups at.0) name)
+          (leads groups (name_at groups at.0) name)
+          (ap (λ t. bytes_eq t name) at.1 ∙ same_text name)))
+          (λ name next listed found.
+          let at =
+          Any-from_list_any (λ k. is_among (slice_index_or outer k []) next) places found in
+          let direct = listed_from at.0 at.1 at.2 at.3 in
+          let reaching : IsTrue (reaches groups (name_at groups at.1) next) =
+          sym (around at.1 (listed_within groups at.1 person direct) next) ∙ at.4 in
+          let by = place_of groups name next listed in
+          from_place
+          at.1
+          name
+          direct
+          (ap (reaches groups (name_at groups at.1)) (sym by.1)
+          ∙ reached_further groups (name_at groups at.1) next by.0 reaching by.2))
+          group
+          leading),
+    )
     ((λ found. found), (λ found. found))
   where
     equal : (n : ℕ) → nat_eq n n ≡ true

@@ -1,5 +1,6 @@
 -- The bounded search for a chain of groups: what it finds is a chain, and it finds one where there is any.
-use Rattle.std.proofs.Common.{◌≡◌, ℕ, zero, suc, ◌<◌, Bool, true, ◌&&◌, ◌⊎◌, List, [], ◌∷◌, length, inl, inr, ⊎_elim, subst, sym, arith}
+use Rattle.std.proofs.Common.{◌≡◌, ℕ, zero, suc, ◌<◌, Bool, true, ◌&&◌, ◌⊎◌, List, [], ◌∷◌, length}
+use Rattle.std.proofs.Common.{inl, inr, ⊎_elim, subst, sym, arith}
 use Rattle.std.specs.List.{list_any, Any, count_by}
 use Rattle.std.specs.Str.{bytes_eq}
 use Rattle.std.proofs.lemmas.Bool.{and_from, and_parts, or_cases, or_left, or_right}
@@ -12,13 +13,15 @@ use Rattle.rights_core.proofs.Lists.{any_weaker, same_or_more}
 
 -- the group lists a group from which at most n more lead to the person
 abbrev goes_on : ℕ → List Group → List ℕ → List ℕ → Group → Bool
-goes_on n groups person group next = lists groups group next.name && leads_within n groups person next.name
+goes_on n groups person group next =
+    lists groups group next.name && leads_within n groups person next.name
 
 direct : (n : ℕ) (groups : List Group) (person group : List ℕ)
     → lists groups group person ≡ true
     → leads_within (suc n) groups person group ≡ true
 unfolding leads_within
-direct n groups person group listed = or_left _ (list_any (goes_on n groups person group) groups) listed
+direct n groups person group listed =
+    or_left _ (list_any (goes_on n groups person group) groups) listed
 
 further : (n : ℕ) (groups : List Group) (person group : List ℕ)
     → list_any (goes_on n groups person group) groups ≡ true
@@ -30,9 +33,11 @@ both_ways : (n : ℕ) (groups : List Group) (person group : List ℕ)
     → leads_within (suc n) groups person group ≡ true
     → (lists groups group person ≡ true) ⊎ (list_any (goes_on n groups person group) groups ≡ true)
 unfolding leads_within
-both_ways n groups person group found = or_cases (lists groups group person) (list_any (goes_on n groups person group) groups) found
+both_ways n groups person group found =
+    or_cases (lists groups group person) (list_any (goes_on n groups person group) groups) found
 
-none_within_zero : (groups : List Group) (person group : List ℕ) → leads_within zero groups person group ≡ true → ⊥
+none_within_zero : (groups : List Group) (person group : List ℕ)
+    → leads_within zero groups person group ≡ true → ⊥
 unfolding leads_within
 none_within_zero groups person group found = cc
 
@@ -55,7 +60,8 @@ onward m n groups person rest group found =
     (goes_on n groups person group)
     groups
     (λ next passes.
-    let parts = and_parts (lists groups group next.name) (leads_within m groups person next.name) passes in
+    let parts =
+    and_parts (lists groups group next.name) (leads_within m groups person next.name) passes in
     and_from (lists groups group next.name) (leads_within n groups person next.name) parts.0 (rest next.name parts.1))
     on))
     (both_ways m groups person group found)
@@ -77,7 +83,8 @@ pub lister : (groups : List Group) (group name : List ℕ)
     → lists groups group name ≡ true
     → Any (λ g. (g.name ≡ group) × (is_among g.members name ≡ true)) groups
 lister groups group name listed =
-    let at = Any-from_list_any (λ g. bytes_eq g.name group && is_among g.members name) groups listed in
+    let at =
+    Any-from_list_any (λ g. bytes_eq g.name group && is_among g.members name) groups listed in
     let parts = and_parts (bytes_eq at.1.name group) (is_among at.1.members name) at.4 in
     (at.0, at.1, at.2, at.3, ((bytes_eq-Decides at.1.name group).0 parts.0, parts.1))
 
@@ -89,7 +96,8 @@ leader n groups person group found =
     (λ listed. let at = lister groups group person listed in (at.0, at.1, at.2, at.3, at.4.0))
     (λ on.
     let next = Any-from_list_any (goes_on n groups person group) groups on in
-    let parts = and_parts (lists groups group next.1.name) (leads_within n groups person next.1.name) next.4 in
+    let parts =
+    and_parts (lists groups group next.1.name) (leads_within n groups person next.1.name) next.4 in
     let at = lister groups group next.1.name parts.0 in
     (at.0, at.1, at.2, at.3, at.4.0))
     (both_ways n groups person group found)
@@ -147,7 +155,8 @@ pub leads_further : (groups : List Group) (person group next : List ℕ)
     → leads groups person next ≡ true
     → leads groups person group ≡ true
 leads_further groups person group next listed found =
-    let at = leader (length groups) groups person next (longer (length groups) groups person next found) in
+    let at =
+    leader (length groups) groups person next (longer (length groups) groups person next found) in
     let P : List ℕ → Type 0 =
     λ name. (lists groups group name && leads_within (length groups) groups person name) ≡ true in
     let passes : P at.1.name =
@@ -170,13 +179,15 @@ pub leads_least : (n : ℕ) (groups : List Group) (person : List ℕ) (test : Li
     → (group : List ℕ)
     → leads_within n groups person group ≡ true
     → test group ≡ true
-leads_least zero groups person test first then group found = absurd (none_within_zero groups person group found)
+leads_least zero groups person test first then group found =
+    absurd (none_within_zero groups person group found)
 leads_least (suc n) groups person test first then group found =
     ⊎_elim
     (λ listed. first group listed)
     (λ on.
     let next = Any-from_list_any (goes_on n groups person group) groups on in
-    let parts = and_parts (lists groups group next.1.name) (leads_within n groups person next.1.name) next.4 in
+    let parts =
+    and_parts (lists groups group next.1.name) (leads_within n groups person next.1.name) next.4 in
     then group next.1.name parts.0 (leads_least n groups person test first then next.1.name parts.1))
     (both_ways n groups person group found)
 
@@ -198,7 +209,8 @@ chain_within (suc n) groups person group found =
     (λ listed. ([], listed))
     (λ on.
     let next = Any-from_list_any (goes_on n groups person group) groups on in
-    let parts = and_parts (lists groups group next.1.name) (leads_within n groups person next.1.name) next.4 in
+    let parts =
+    and_parts (lists groups group next.1.name) (leads_within n groups person next.1.name) next.4 in
     let rest = chain_within n groups person next.1.name parts.1 in
     (next.1.name ∷ rest.0, (parts.0, rest.1)))
     (both_ways n groups person group found)

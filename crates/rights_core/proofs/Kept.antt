@@ -1,5 +1,7 @@
 -- What people keep, and the words that it answers.
-use Rattle.std.proofs.Common.{◌≡◌, ℕ, ◌+◌, ◌<◌, Bool, true, false, cond, ◌&&◌, ◌||◌, List, [], ◌∷◌, length, get_or, take, filter, Option, Some, None, refl, sym, ap, append-nil, ◌∙◌, ⊎_elim}
+use Rattle.std.proofs.Common.{◌≡◌, ℕ, ◌+◌, ◌<◌, Bool, true, false, cond, ◌&&◌, ◌||◌, List, [], ◌∷◌}
+use Rattle.std.proofs.Common.{length, get_or, take, filter, Option, Some, None, refl, sym, ap}
+use Rattle.std.proofs.Common.{append-nil, ◌∙◌, ⊎_elim}
 use Rattle.std.specs.Prelude.{String, Vec, is_some, unwrap_or, ◌↔◌, IsTrue, if◌then◌else◌, ◌++◌}
 use Rattle.std.specs.BTreeMap.{BTreeMap, get_by_text}
 use Rattle.std.specs.Cmp.Lexicographic.{nat_list_eq_equiv}
@@ -19,9 +21,11 @@ use Rattle.rights_core.specs.declared.grant.Subject.TheVariants as subject
 use Rattle.rights_core.specs.declared.parts.Group.{Group}
 use Rattle.rights_core.specs.declared.parts.Parts.{Parts}
 use Rattle.rights_core.specs.declared.role.Roles.{Roles}
-use Rattle.rights_core.specs.Index.{IsMemberships, IsGrantsByRight, grants_to, grants_under, is_meant_in}
-use Rattle.rights_core.specs.Index.{is_of, meets, meets_to, meets_under, subject_name}
-use Rattle.rights_core.specs.People.{is_among, knows, leads, is_member, IsChain, holds, gives, covers, is_meant}
+use Rattle.rights_core.specs.Index.{IsMemberships, IsGrantsByRight, grants_to, grants_under}
+use Rattle.rights_core.specs.Index.{is_meant_in}
+use Rattle.rights_core.specs.Index.{is_of, meets, meets_under, subject_name}
+use Rattle.rights_core.specs.People.{is_among, knows, leads, is_member, IsChain, holds, gives}
+use Rattle.rights_core.specs.People.{covers, is_meant}
 use Rattle.rights_core.specs.Right.{super_user}
 use Rattle.rights_core.proofs.Chains.{leads_along, chain_within}
 use Rattle.rights_core.proofs.Lists.{any_by_name, any_filtered, any_never, any_same}
@@ -92,7 +96,8 @@ pub known_kept : {Y : Type 0} (people : Parts) (kept : BTreeMap (String Y) (List
 known_kept people kept sound person o found = sym (ap is_some found) ∙ (sound person).0
 
 -- whom the people don't know is no member
-pub no_member : (people : Parts) (person group : List ℕ) → false ≡ knows people person → false ≡ is_member people person group
+pub no_member : (people : Parts) (person group : List ℕ) → false ≡ knows people person
+    → false ≡ is_member people person group
 unfolding is_member
 no_member people person group unknown = ap (λ b. b && leads people.groups person group) unknown
 
@@ -124,7 +129,8 @@ nobody_kept people kept sound person found = known_kept people kept sound person
 any_either : {X : Type 0} (p q : X → Bool) (xs : List X)
     → (list_any p xs || list_any q xs) ≡ list_any (λ x. p x || q x) xs
 any_either p q [] = refl
-any_either p q (x ∷ xs) = rw (← any_either p q xs) (swapped (p x) (list_any p xs) (q x) (list_any q xs))
+any_either p q (x ∷ xs) =
+    rw (← any_either p q xs) (swapped (p x) (list_any p xs) (q x) (list_any q xs))
   where
     swapped : (a b c d : Bool) → ((a || b) || (c || d)) ≡ ((a || c) || (b || d))
     swapped true b c d = refl

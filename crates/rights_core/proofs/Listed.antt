@@ -1,22 +1,18 @@
 -- The places that are kept under a name.
-use Rattle.std.proofs.Common.{◌≡◌, ℕ, ◌+◌, ◌<◌, ◌≤◌, Bool, true, false, cond, ◌&&◌, ◌||◌, List, [], ◌∷◌}
-use Rattle.std.proofs.Common.{◌++◌, length, get_or, take, nat_eq, nat_lt, refl, sym, ap, arith, ◌∙◌}
-use Rattle.std.proofs.Common.{⊎_elim, subst}
-use Rattle.std.proofs.lemmas.Bool.{cases_Bool, cases_lt, cases_eq}
-use Rattle.std.proofs.lemmas.Grind.{common_steps}
-use Rattle.std.proofs.lemmas.List.{get_or_past, get_or_default}
+use Rattle.std.proofs.Common.{◌≡◌, ℕ, ◌+◌, ◌<◌, Bool, true, false, ◌&&◌, ◌||◌, List, []}
+use Rattle.std.proofs.Common.{◌∷◌}
+use Rattle.std.proofs.Common.{◌++◌, length, get_or, take, nat_eq, refl, sym, ap, ◌∙◌}
 use Rattle.std.proofs.lemmas.List.Folds.{list_any-append, list_any_more}
-use Rattle.std.specs.List.{list_any, slice_index_or}
 use Rattle.std.specs.Prelude.{if◌then◌else◌}
 use Rattle.std.specs.Str.{bytes_eq}
 use Rattle.std.specs.Cmp.Lexicographic.{nat_list_eq_equiv}
-use Rattle.rights_core.specs.declared.parts.Group.{Group}
-use Rattle.rights_core.specs.Closure.{has_place, lists_at, name_at, no_group}
+use Rattle.rights_core.specs.Closure.{has_place}
 use Rattle.text_core.specs.Texts.{is_among}
 
 -- one more place, under one name
 one_more : (old : List ℕ) (place q : ℕ) (here : Bool)
-    → has_place (if here then old ++ place ∷ [] else old) q ≡ (has_place old q || (nat_eq q place && here))
+    → has_place (if here then old ++ place ∷ [] else old) q
+    ≡ (has_place old q || (nat_eq q place && here))
 one_more old place q true = list_any-append (nat_eq q) old (place ∷ []) ∙ ap (λ b. has_place old q || b) (last (nat_eq q place))
   where
     last : (b : Bool) → (b || false) ≡ (b && true)
@@ -36,12 +32,14 @@ pub member_more : (first old new : List ℕ → List ℕ) (members : List (List 
     → ((q : List ℕ) → new q ≡ (if bytes_eq q member then old q ++ place ∷ [] else old q))
     → ((name : List ℕ) (q : ℕ) → has_place (old name) q ≡ (has_place (first name) q || (nat_eq q place && is_among (take i members) name)))
     → (name : List ℕ) (q : ℕ)
-    → has_place (new name) q ≡ (has_place (first name) q || (nat_eq q place && is_among (take (i + 1) members) name))
+    → has_place (new name) q
+    ≡ (has_place (first name) q || (nat_eq q place && is_among (take (i + 1) members) name))
 member_more first old new members i place member inside here puts before name q =
     ap (λ ps. has_place ps q) (puts name)
     ∙ one_more (old name) place q (bytes_eq name member)
     ∙ ap (λ b. b || (nat_eq q place && bytes_eq name member)) (before name q)
-    ∙ joined (has_place (first name) q) (nat_eq q place) (is_among (take i members) name) (bytes_eq name member)
+    ∙ joined (has_place (first name) q) (nat_eq q place) (is_among (take i members) name)
+    (bytes_eq name member)
     ∙ ap
     (λ b. has_place (first name) q || (nat_eq q place && (is_among (take i members) name || b)))
     (nat_list_eq_equiv.symm name member ∙ ap (λ t. bytes_eq t name) here)

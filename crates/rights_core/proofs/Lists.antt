@@ -1,5 +1,6 @@
 -- Tests over lists.
-use Rattle.std.proofs.Common.{◌≡◌, ◌+◌, ◌<◌, ◌≤◌, Bool, true, false, cond, ◌||◌, ◌&&◌, ◌⊎◌, List, [], ◌∷◌, map, filter, refl, sym, ap, inl, inr, ⊎_elim, arith, ℕ, ◌∙◌}
+use Rattle.std.proofs.Common.{◌≡◌, ◌+◌, ◌<◌, ◌≤◌, Bool, true, false, cond, ◌||◌, ◌&&◌, ◌⊎◌, List}
+use Rattle.std.proofs.Common.{[], ◌∷◌, map, filter, refl, sym, ap, inl, inr, ⊎_elim, arith, ℕ, ◌∙◌}
 use Rattle.std.specs.List.{list_any, All, count_by}
 use Rattle.std.proofs.lemmas.Bool.{and_from, and_parts, cases_Bool}
 use Rattle.std.proofs.lemmas.Bool.Decides.{same_from_decides}
@@ -21,7 +22,8 @@ any_filtered p q (x ∷ xs) =
     elim (p x) as (λ b. list_any q (cond b (x ∷ filter p xs) (filter p xs)) ≡ ((b && q x) || list_any (λ x. p x && q x) xs))
     [ true ↦ ap (λ b. q x || b) (any_filtered p q xs) | false ↦ any_filtered p q xs ]
 
-pub any_same : {X : Type 0} (p q : X → Bool) → ((x : X) → p x ≡ q x) → (xs : List X) → list_any p xs ≡ list_any q xs
+pub any_same : {X : Type 0} (p q : X → Bool) → ((x : X) → p x ≡ q x) → (xs : List X)
+    → list_any p xs ≡ list_any q xs
 any_same p q same [] = refl
 any_same p q same (x ∷ xs) = rw (same x, any_same p q same xs) refl
 
@@ -41,7 +43,8 @@ one_at_most false b weaker = omega arith
 one_more : (a b : Bool) → a ≡ false → b ≡ true → cond a 1 0 < cond b 1 0
 one_more a b x y = rw (x, y) (omega arith)
 
-count_cons : {X : Type 0} (p : X → Bool) (x : X) (xs : List X) → count_by p (x ∷ xs) ≡ cond (p x) 1 0 + count_by p xs
+count_cons : {X : Type 0} (p : X → Bool) (x : X) (xs : List X)
+    → count_by p (x ∷ xs) ≡ cond (p x) 1 0 + count_by p xs
 count_cons p x xs = sum_by-cons (λ y. cond (p y) 1 0) x xs
 
 count_weaker : {X : Type 0} (p q : X → Bool) (xs : List X)
@@ -83,7 +86,8 @@ any_by_name p name names xs among =
     (list_any (λ n. list_any p (filter (λ x. bytes_eq n (name x)) xs)) names)
     (list_any p xs) (
       (λ found.
-          let at = Any-from_list_any (λ n. list_any p (filter (λ x. bytes_eq n (name x)) xs)) names found in
+          let at =
+          Any-from_list_any (λ n. list_any p (filter (λ x. bytes_eq n (name x)) xs)) names found in
           any_weaker
           (λ x. bytes_eq at.1 (name x) && p x)
           p
@@ -101,10 +105,10 @@ any_by_name p name names xs among =
             by.2,
             by.3,
             any_filtered (λ x. bytes_eq by.1 (name x)) p xs
-            ∙ list_any-from_Any
-            (λ x. bytes_eq by.1 (name x) && p x)
-            xs
-            (at.0, at.1, at.2, at.3, and_from (bytes_eq by.1 (name at.1)) (p at.1) by.4 at.4),
+                ∙ list_any-from_Any
+                (λ x. bytes_eq by.1 (name x) && p x)
+                xs
+                (at.0, at.1, at.2, at.3, and_from (bytes_eq by.1 (name at.1)) (p at.1) by.4 at.4),
           )),
     )
     ((λ found. found), (λ found. found))

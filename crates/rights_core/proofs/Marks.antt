@@ -1,18 +1,21 @@
 -- What marking one more place does.
-use Rattle.std.proofs.Common.{◌≡◌, ℕ, ◌+◌, ◌<◌, ◌≤◌, Bool, true, false, not, cond, ◌||◌, List, [], ◌∷◌}
-use Rattle.std.proofs.Common.{◌++◌, length, get_or, take, nat_eq, ⊎_elim, refl, sym, ap, subst, arith}
-use Rattle.std.proofs.Common.{get_or-set_same, get_or-set_other, IsTrue, ◌⊎◌, inl, inr, append-nil, append_assoc, ◌∙◌}
+use Rattle.std.proofs.Common.{◌≡◌, ℕ, ◌+◌, ◌<◌, Bool, true, false, not, cond, ◌||◌, List, []}
+use Rattle.std.proofs.Common.{◌∷◌}
+use Rattle.std.proofs.Common.{◌++◌, length, get_or, take, nat_eq, ⊎_elim, refl, sym, ap, subst}
+use Rattle.std.proofs.Common.{arith}
+use Rattle.std.proofs.Common.{get_or-set_same, get_or-set_other, IsTrue, ◌⊎◌, inl, inr, append-nil}
+use Rattle.std.proofs.Common.{append_assoc, ◌∙◌}
 use Rattle.std.proofs.Math.ListN.{set}
 use Rattle.std.proofs.lemmas.Bool.{cases_eq, false≢true, or_cases, or_left, or_right}
 use Rattle.std.proofs.lemmas.Grind.{common_steps}
 use Rattle.std.proofs.lemmas.List.Folds.{list_any-append, list_any_more}
 use Rattle.std.proofs.lemmas.List.Sums.{sum_by-set}
 use Rattle.std.proofs.lemmas.Slice.Eq.{bytes_eq-Decides}
-use Rattle.std.specs.List.{list_any, sum_by}
+use Rattle.std.specs.List.{sum_by}
 use Rattle.std.specs.Str.{bytes_eq}
 use Rattle.rights_core.specs.declared.parts.Group.{Group}
 use Rattle.rights_core.specs.Closure.{is_marked, unmarked_count, has_place, name_at}
-use Rattle.rights_core.specs.Closure.{AllMarkedPass, AreFound, Marks}
+use Rattle.rights_core.specs.Closure.{AllMarkedPass, Marks}
 use Rattle.text_core.specs.Texts.{is_among}
 
 marked_kept : (marks : List Bool) (i : ℕ)
@@ -147,7 +150,8 @@ pub mark_one : (groups : List Group) (places : List ℕ) (found : List (List ℕ
 mark_one groups places found marks found' marks' i inside within unmarked m =
     let place = get_or places i 0 in
     let name = name_at groups place in
-    let kept : AllMarkedPass marks' (is_marked (set marks' place true)) = marked_kept marks' place within in
+    let kept : AllMarkedPass marks' (is_marked (set marks' place true)) =
+    marked_kept marks' place within in
     let size : length (set marks' place true) ≡ length marks' = grind (arith, common_steps) in
     let longer : length (found' ++ name ∷ []) ≡ length found' + 1 = grind (arith, common_steps) in (
       size ∙ m.0,
@@ -190,7 +194,8 @@ mark_one groups places found marks found' marks' i inside within unmarked m =
     )
   where
     with_last : (names : List (List ℕ)) (name text : List ℕ)
-        → is_among (names ++ name ∷ []) text ≡ (is_among names text || (bytes_eq name text || false))
+        → is_among (names ++ name ∷ []) text
+        ≡ (is_among names text || (bytes_eq name text || false))
     with_last names name text = list_any-append (λ t. bytes_eq t text) names (name ∷ [])
 
     last_found : (names : List (List ℕ)) (name text : List ℕ)

@@ -70,7 +70,8 @@ repeats_push (first ∷ rest) text =
 pub repeats_more : (texts : List (List ℕ)) (i : ℕ) (text : List ℕ)
     → i < length texts
     → text ≡ get_or texts i text
-    → repeats_text (take (i + 1) texts) ≡ (repeats_text (take i texts) || is_among (take i texts) text)
+    → repeats_text (take (i + 1) texts)
+    ≡ (repeats_text (take i texts) || is_among (take i texts) text)
 repeats_more texts i text inside here =
     let front : take (i + 1) texts ≡ take i texts ++ text ∷ [] = grind (arith, common_steps) in
     rw front (repeats_push (take i texts) text)

@@ -1,6 +1,6 @@
 -- Which groups list a name, and which are reached from there by way of others.
-use Rattle.std.specs.Prelude.{◌≡◌, ℕ, ◌+◌, ◌<◌, Bool, true, false, not, ◌||◌, List, [], ◌++◌, length}
-use Rattle.std.specs.Prelude.{count_by, nat_eq, unwrap_or, String, Vec, IsTrue}
+use Rattle.std.specs.Prelude.{◌≡◌, ℕ, ◌+◌, ◌<◌, Bool, false, not, ◌||◌, List, [], ◌++◌}
+use Rattle.std.specs.Prelude.{count_by, length, nat_eq, String, Vec, IsTrue}
 use Rattle.std.specs.HashMap.{HashMap, get_by_text}
 use Rattle.std.specs.List.{list_any, slice_index_or}
 use Rattle.std.specs.Option.{option_map_or}
@@ -30,7 +30,8 @@ places_under kept name = option_map_or (λ v. v.items) (get_by_text kept name) [
 -- under each name there are the places of the groups that list it
 abbrev pub IsListers : {Y Z S : Type 0} → List Group → HashMap (String Y) (Vec ℕ Z) S → Type 0
 IsListers groups kept =
-    (name : List ℕ) (place : ℕ) → has_place (places_under kept name) place ≡ lists_at groups place name
+    (name : List ℕ) (place : ℕ)
+    → has_place (places_under kept name) place ≡ lists_at groups place name
 
 -- a chain of groups leads from the group to the name, or it is that group's own
 abbrev pub reaches : List Group → List ℕ → List ℕ → Bool
@@ -60,7 +61,13 @@ abbrev pub AreFound : List Group → List (List ℕ) → List Bool → Type 0
 AreFound groups found marks = AllMarkedPass marks (λ k. is_among found (name_at groups k))
 
 -- of the places, those that weren't marked are marked, and their names stand behind those found
-abbrev pub Marks : List Group → List ℕ → List (List ℕ) → List Bool → List (List ℕ) → List Bool → Type 0
+abbrev pub Marks : List Group
+    → List ℕ
+    → List (List ℕ)
+    → List Bool
+    → List (List ℕ)
+    → List Bool
+    → Type 0
 Marks groups places found marks found' marks' =
     (length marks' ≡ length marks)
     × (unmarked_count marks' + length found' ≡ unmarked_count marks + length found)

@@ -1,6 +1,6 @@
 -- What people keep beside their parts, so that they answer by look-up.
-use Rattle.std.specs.Prelude.{◌≡◌, ℕ, Bool, true, false, ◌&&◌, List, [], ◌∷◌, filter, is_some, unwrap_or}
-use Rattle.std.specs.Prelude.{String, Vec}
+use Rattle.std.specs.Prelude.{◌≡◌, ℕ, Bool, true, false, ◌&&◌, List, [], ◌∷◌, filter}
+use Rattle.std.specs.Prelude.{is_some, unwrap_or, String, Vec}
 use Rattle.std.specs.HashMap as hash
 use Rattle.std.specs.HashMap.{HashMap}
 use Rattle.std.specs.List.{list_any}
@@ -15,12 +15,17 @@ use Rattle.rights_core.specs.declared.role.Roles.{Roles}
 use Rattle.rights_core.specs.People.{covers, has_role, is_among, leads}
 
 -- each person, and no other text, has the list of the groups from which a chain leads to the person
-abbrev pub IsMemberships : {Y : Type 0} → List (List ℕ) → List Group → BTreeMap (String Y) (List (List ℕ)) → Type 0
+abbrev pub IsMemberships : {Y : Type 0}
+    → List (List ℕ)
+    → List Group
+    → BTreeMap (String Y) (List (List ℕ))
+    → Type 0
 IsMemberships persons groups kept =
     (person : List ℕ)
     → (is_some (get_by_text kept person) ≡ is_among persons person)
     × ((group : List ℕ)
-    → is_among (unwrap_or (get_by_text kept person) []) group ≡ (is_among persons person && leads groups person group))
+    → is_among (unwrap_or (get_by_text kept person) []) group
+    ≡ (is_among persons person && leads groups person group))
 
 -- the name of the person or of the group that the subject is, and else no bytes
 abbrev pub subject_name : Subject → List ℕ
@@ -39,7 +44,8 @@ abbrev pub grants_under : {Y Z S T : Type 0}
     → List ℕ
     → List ℕ
     → List Grant
-grants_under kept right name = option_map_or (λ m. grants_to m name) (hash.get_by_text kept right) []
+grants_under kept right name =
+    option_map_or (λ m. grants_to m name) (hash.get_by_text kept right) []
 
 -- the grant is of the right, and for the person or the group of that name
 abbrev pub is_of : List ℕ → List ℕ → Grant → Bool
@@ -62,7 +68,8 @@ is_meant_in groups person roles (subject.Role role) = has_role roles role
 
 -- the grant covers the queue and means that person
 abbrev pub meets : List ℕ → List ℕ → List (List ℕ) → Roles → Grant → Bool
-meets queue person groups roles grant = covers grant queue && is_meant_in groups person roles grant.subject
+meets queue person groups roles grant =
+    covers grant queue && is_meant_in groups person roles grant.subject
 
 -- one of the grants that are kept under no name, the person's or a group's meets the person
 abbrev pub meets_to : {Y Z S : Type 0}

@@ -1,5 +1,6 @@
 -- Who is a member of which group, and who holds which right. Texts are lists of bytes.
-use Rattle.std.specs.Prelude.{ℕ, zero, suc, Bool, true, false, ◌&&◌, ◌||◌, List, [], ◌∷◌, length, IsTrue}
+use Rattle.std.specs.Prelude.{ℕ, zero, suc, Bool, true, false, ◌&&◌, ◌||◌, List, [], ◌∷◌}
+use Rattle.std.specs.Prelude.{length, IsTrue}
 use Rattle.std.specs.Option.{option_map_or}
 use Rattle.std.specs.List.{list_any}
 use Rattle.std.specs.Str.{bytes_eq}
@@ -25,17 +26,21 @@ knows people person = is_among people.persons person
 abbrev pub lists : List Group → List ℕ → List ℕ → Bool
 lists groups group name = list_any (λ g. bytes_eq g.name group && is_among g.members name) groups
 
--- the chain begins with the group and goes on with the others: each lists the next, and the last lists the person
+-- the chain begins with the group and goes on with the others: each lists the next, and the last
+-- lists the person
 abbrev pub IsChain : List Group → List ℕ → List (List ℕ) → List ℕ → Type 0
 IsChain groups group [] person = IsTrue (lists groups group person)
-IsChain groups group (next ∷ others) person = IsTrue (lists groups group next) × IsChain groups next others person
+IsChain groups group (next ∷ others) person =
+    IsTrue (lists groups group next) × IsChain groups next others person
 
 -- a chain of at most so many groups leads from the group to the person
 unfoldable pub leads_within : ℕ → List Group → List ℕ → List ℕ → Bool
 leads_within zero groups person group = false
 leads_within (suc n) groups person group =
     lists groups group person
-    || list_any (λ next. lists groups group next.name && leads_within n groups person next.name) groups
+    || list_any
+    (λ next. lists groups group next.name && leads_within n groups person next.name)
+    groups
 
 -- some chain leads there: one that comes by no group twice has at most as many groups as there are
 abbrev pub leads : List Group → List ℕ → List ℕ → Bool
@@ -73,4 +78,6 @@ gives grant right = bytes_eq right grant.right || bytes_eq super_user grant.righ
 unfoldable pub holds : Parts → List ℕ → List ℕ → List ℕ → Roles → Bool
 holds people person right queue roles =
     knows people person
-    && list_any (λ g. gives g right && covers g queue && is_meant people person roles g.subject) people.grants
+    && list_any
+    (λ g. gives g right && covers g queue && is_meant people person roles g.subject)
+    people.grants

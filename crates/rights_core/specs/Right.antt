@@ -1,4 +1,5 @@
--- The names of the rights that commands ask for. Contracts speak of them by these words, which nothing computes.
+-- The names of the rights that commands ask for. Contracts speak of them by these words, which
+-- nothing computes.
 use Rattle.std.specs.Prelude.{ℕ, List, [], ◌∷◌, codes}
 
 unfoldable pub see_queue : List ℕ
@@ -53,6 +54,6 @@ super_user = codes "SuperUser"
 -- all of them
 unfoldable pub standard_rights : List (List ℕ)
 standard_rights =
-    see_queue ∷ create_ticket ∷ show_ticket ∷ show_ticket_comments ∷ modify_ticket ∷ reply_to_ticket
-    ∷ comment_on_ticket ∷ own_ticket ∷ take_ticket ∷ steal_ticket ∷ reassign_ticket ∷ delete_ticket ∷ watch
-    ∷ watch_as_admin_cc ∷ admin_queue ∷ super_user ∷ []
+    see_queue ∷ create_ticket ∷ show_ticket ∷ show_ticket_comments ∷ modify_ticket
+    ∷ reply_to_ticket ∷ comment_on_ticket ∷ own_ticket ∷ take_ticket ∷ steal_ticket
+    ∷ reassign_ticket ∷ delete_ticket ∷ watch ∷ watch_as_admin_cc ∷ admin_queue ∷ super_user ∷ []

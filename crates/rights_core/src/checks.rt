@@ -74,7 +74,9 @@ fn has_grant_names(grant: &Grant) -> bool
 
 /// Whether each member of a group is a person or a group.
 fn knows_members(directory: &Directory, groups: &[Group]) -> bool
-    ensures { result ≡ list_all (faults.has_known_members directory.now.0 directory.now.1) groups.now }
+    ensures { result ≡ list_all
+        (faults.has_known_members directory.now.0 directory.now.1)
+        groups.now }
 {
     groups.iter().all(|g| has_known_members(directory, g))
 }
@@ -91,14 +93,16 @@ fn has_known_members(directory: &Directory, group: &Group) -> bool
 
 /// Whether a person or a group has this name.
 fn has_either(directory: &Directory, name: &str) -> bool
-    ensures { result ≡ (words.is_among directory.now.0 name.now || faults.has_group directory.now.1 name.now) }
+    ensures { result ≡ (words.is_among directory.now.0 name.now
+        || faults.has_group directory.now.1 name.now) }
 {
     directory.has_person(name) || directory.has_group(name)
 }
 
 /// Whether the persons and the groups that grants are for are there.
 fn knows_subjects(directory: &Directory, grants: &[Grant]) -> bool
-    ensures { result ≡ list_all (λ g. faults.is_there directory.now.0 directory.now.1 g.subject) grants.now }
+    ensures { result
+        ≡ list_all (λ g. faults.is_there directory.now.0 directory.now.1 g.subject) grants.now }
 {
     grants.iter().all(|g| is_there(directory, &g.subject))
 }

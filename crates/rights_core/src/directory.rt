@@ -38,7 +38,8 @@ impl<'a> Model for Directory<'a> {
 
     ghost view = { λ d. (d.persons.now, d.groups.now) };
 
-    ghost invariant = { λ d. IfSome d.names (λ n. IsSetOf d.persons.now n.persons × IsSetOf (group_names d.groups.now) n.groups) };
+    ghost invariant = { λ d. IfSome d.names (λ n. IsSetOf d.persons.now n.persons
+        × IsSetOf (group_names d.groups.now) n.groups) };
 }
 
 impl<'a> Directory<'a> {
@@ -83,16 +84,11 @@ impl<'a> Directory<'a> {
 }
 
 /// The names of the persons and of the groups, or none where a name stands twice.
-fn names_of(
-    alloc: Global,
-    persons: &[Text],
-    groups: &[Group],
-) -> Result<Option<Names>, AllocError>
+fn names_of(alloc: Global, persons: &[Text], groups: &[Group]) -> Result<Option<Names>, AllocError>
     ensures some { IfOk result (λ n. is_some n ≡ not (faults.repeats_name persons.now groups.now)) }
     ensures persons { IfOk result (λ o. IfSome o (λ n. IsSetOf persons.now n.persons)) }
-    ensures groups {
-        IfOk result (λ o. IfSome o (λ n. IsSetOf (faults.group_names groups.now) n.groups))
-    }
+    ensures groups { IfOk result (λ o. IfSome o (λ n.
+        IsSetOf (faults.group_names groups.now) n.groups)) }
 {
     let group_names = group_names(alloc, groups)?;
     let Some(person_set) = distinct(alloc, persons)? else {

@@ -1,12 +1,13 @@
 use std::alloc::AllocError;
 use thiserror::Error;
 
-/// Why persons, groups and grants make no people. Where several faults apply, the one with the least number is
-/// answered.
+/// Why persons, groups and grants make no people. Where several faults apply, the one with the
+/// least number is answered.
 #[derive(Clone, Copy, Debug, PartialEq, Eq, Error)]
 pub enum RightsFault {
-    /// A person, a group or a grant's queue has no name's form, or a grant's right no right's name's.
-    #[error("a name isn't 1 to 20 of `a` to `z`, `0` to `9`, `-` and `_`, or a right isn't 1 to 32 letters")]
+    /// A person, a group or a grant's queue has no name's form, or a grant's right no right's
+    /// name's.
+    #[error("a name isn't 1 to 20 of a-z, 0-9, - and _, or a right isn't 1 to 32 letters")]
     BadName = 1,
     /// Two of the persons and groups have one name.
     #[error("two of the persons and groups have one name")]

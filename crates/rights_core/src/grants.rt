@@ -1,4 +1,5 @@
-ghost use Rattle.std.specs.Prelude.{◌≡◌, ◌&&◌, ◌||◌, ◌++◌, ◌∷◌, [], ℕ, List, if◌then◌else◌, IfOk, OnOk, string_bytes};
+ghost use Rattle.std.specs.Prelude.{◌≡◌, ◌&&◌, ◌||◌, ◌++◌, ◌∷◌, [], ℕ, List, string_bytes};
+ghost use Rattle.std.specs.Prelude.{if◌then◌else◌, IfOk, OnOk};
 ghost use Rattle.std.specs.List.{list_any};
 ghost use Rattle.std.specs.Str.{bytes_eq};
 ghost use Rattle.rights_core.specs.Index as words;
@@ -37,12 +38,10 @@ fn put(
     name: &str,
     grant: Grant,
 ) -> Result<(), AllocError>
-    ensures {
-        OnOk result ((r n : List ℕ) → words.grants_under kept.new r n
-            ≡ (if bytes_eq r right.now && bytes_eq n name.now
-            then words.grants_under kept.old r n ++ grant ∷ []
-            else words.grants_under kept.old r n))
-    }
+    ensures { OnOk result ((r n : List ℕ) → words.grants_under kept.new r n
+        ≡ (if bytes_eq r right.now && bytes_eq n name.now
+        then words.grants_under kept.old r n ++ grant ∷ []
+        else words.grants_under kept.old r n)) }
 {
     let right = String::from_str(alloc, right)?;
     let name = String::from_str(alloc, name)?;
@@ -51,11 +50,9 @@ fn put(
 }
 
 fn put_under(kept: &mut GrantsByName, name: String, grant: Grant) -> Result<(), AllocError>
-    ensures {
-        OnOk result ((q : List ℕ) → words.grants_to kept.new q
-            ≡ (if bytes_eq q (string_bytes name) then words.grants_to kept.old q ++ grant ∷ []
-            else words.grants_to kept.old q))
-    }
+    ensures { OnOk result ((q : List ℕ) → words.grants_to kept.new q
+        ≡ (if bytes_eq q (string_bytes name) then words.grants_to kept.old q ++ grant ∷ []
+        else words.grants_to kept.old q)) }
 {
     kept.entry(name)?.or_default().push(grant)?;
     Ok(())
@@ -84,11 +81,9 @@ pub(crate) fn give(
     groups: &[Text],
     roles: Roles,
 ) -> bool
-    ensures {
-        result
+    ensures { result
         ≡ (words.meets_under kept.now right.now queue.now person.now groups.now roles
-        || words.meets_under kept.now super_user queue.now person.now groups.now roles)
-    }
+        || words.meets_under kept.now super_user queue.now person.now groups.now roles) }
 {
     gives(kept, right, queue, person, groups, roles)
         || gives(kept, SUPER_USER, queue, person, groups, roles)
@@ -103,9 +98,7 @@ fn gives(
     groups: &[Text],
     roles: Roles,
 ) -> bool
-    ensures {
-        result ≡ words.meets_under kept.now right.now queue.now person.now groups.now roles
-    }
+    ensures { result ≡ words.meets_under kept.now right.now queue.now person.now groups.now roles }
 {
     match kept.get(right) {
         Some(given) => gives_to(given, queue, person, groups, roles),
@@ -115,16 +108,8 @@ fn gives(
 
 /// Whether one of the grants that are kept under no name, the person's or a group's covers the
 /// queue and means the person.
-fn gives_to(
-    given: &GrantsByName,
-    queue: &str,
-    person: &str,
-    groups: &[Text],
-    roles: Roles,
-) -> bool
-    ensures {
-        result ≡ words.meets_to given.now queue.now person.now groups.now roles
-    }
+fn gives_to(given: &GrantsByName, queue: &str, person: &str, groups: &[Text], roles: Roles) -> bool
+    ensures { result ≡ words.meets_to given.now queue.now person.now groups.now roles }
 {
     meet(granted(given, ""), queue, person, groups, roles)
         || meet(granted(given, person), queue, person, groups, roles)
@@ -139,15 +124,11 @@ fn gives_to_groups(
     groups: &[Text],
     roles: Roles,
 ) -> bool
-    ensures {
-        result ≡ list_any (λ name.
-            list_any (meets queue.now person.now groups.now roles) (words.grants_to given.now name))
-            groups.now
-    }
+    ensures { result ≡ list_any (λ name.
+        list_any (meets queue.now person.now groups.now roles) (words.grants_to given.now name))
+        groups.now }
 {
-    groups
-        .iter()
-        .any(|g| meet(granted(given, g.as_str()), queue, person, groups, roles))
+    groups.iter().any(|g| meet(granted(given, g.as_str()), queue, person, groups, roles))
 }
 
 /// The grants that are kept under the name.

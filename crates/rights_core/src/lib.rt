@@ -1,7 +1,7 @@
 //! People: who is a member of which group, and who holds which right on which queue.
 //!
-//! People are built from persons, groups and grants, which are looked through for faults first. What they answer
-//! afterwards takes no memory.
+//! People are built from persons, groups and grants, which are looked through for faults first.
+//! What they answer afterwards takes no memory.
 #![tactic(auto)]
 
 mod checks;

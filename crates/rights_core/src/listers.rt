@@ -1,5 +1,6 @@
 //! Which groups list a name.
-ghost use Rattle.std.specs.Prelude.{◌≡◌, ◌&&◌, ◌||◌, ◌++◌, ◌∷◌, [], ℕ, List, nat_eq, if◌then◌else◌, IfOk, OnOk};
+ghost use Rattle.std.specs.Prelude.{◌≡◌, ◌&&◌, ◌||◌, ◌++◌, ◌∷◌, [], ℕ, List, nat_eq};
+ghost use Rattle.std.specs.Prelude.{if◌then◌else◌, IfOk, OnOk};
 ghost use Rattle.std.specs.Str.{bytes_eq};
 ghost use Rattle.rights_core.specs.Closure as words;
 ghost use Rattle.text_core.specs.Texts as texts;
@@ -29,12 +30,10 @@ fn list_members(
     members: &[Text],
     place: usize,
 ) -> Result<(), AllocError>
-    ensures {
-        OnOk result ((name : List ℕ) (q : ℕ) →
-            words.has_place (words.places_under listers.new name) q
-            ≡ (words.has_place (words.places_under listers.old name) q
-            || (nat_eq q place && texts.is_among members.now name)))
-    }
+    ensures { OnOk result ((name : List ℕ) (q : ℕ) →
+        words.has_place (words.places_under listers.new name) q
+        ≡ (words.has_place (words.places_under listers.old name) q
+        || (nat_eq q place && texts.is_among members.now name))) }
 {
     for member in members {
         put(alloc, listers, member.as_str(), place)?;
@@ -42,17 +41,10 @@ fn list_members(
     Ok(())
 }
 
-fn put(
-    alloc: Global,
-    listers: &mut Listers,
-    name: &str,
-    place: usize,
-) -> Result<(), AllocError>
-    ensures {
-        OnOk result ((q : List ℕ) → words.places_under listers.new q
-            ≡ (if bytes_eq q name.now then words.places_under listers.old q ++ place ∷ []
-            else words.places_under listers.old q))
-    }
+fn put(alloc: Global, listers: &mut Listers, name: &str, place: usize) -> Result<(), AllocError>
+    ensures { OnOk result ((q : List ℕ) → words.places_under listers.new q
+        ≡ (if bytes_eq q name.now then words.places_under listers.old q ++ place ∷ []
+        else words.places_under listers.old q)) }
 {
     let name = String::from_str(alloc, name)?;
     listers.entry(name)?.or_default().push(place)?;

@@ -34,10 +34,8 @@ pub(crate) fn memberships(
 
 /// The names that stand at the places, one after the other.
 fn names_at(alloc: Global, outer: &[Texts], places: &[usize]) -> Result<Texts, AllocError>
-    ensures {
-        IfOk result (λ names. (name : List ℕ) → words.is_among names name
-            ≡ list_any (λ k. words.is_among (slice_index_or outer.now k []) name) places.now)
-    }
+    ensures { IfOk result (λ names. (name : List ℕ) → words.is_among names name
+        ≡ list_any (λ k. words.is_among (slice_index_or outer.now k []) name) places.now) }
 {
     let mut names = Vec::new(alloc);
     for place in places {

@@ -32,10 +32,8 @@ fn outer_of(
     name: &str,
 ) -> Result<Texts, AllocError>
     requires { words.IsListers groups.now listers.now }
-    ensures {
-        IfOk result (λ found. (group : List ℕ) →
-            texts.is_among found group ≡ words.reaches groups.now name.now group)
-    }
+    ensures { IfOk result (λ found. (group : List ℕ) →
+        texts.is_among found group ≡ words.reaches groups.now name.now group) }
 {
     let mut marks = vec![in alloc; false; groups.len()]?;
     let marks = marks.as_mut_slice();
@@ -58,10 +56,8 @@ fn mark(
     marks: &mut [bool],
 ) -> Result<(), AllocError>
     requires { length marks.old ≡ length groups.now }
-    ensures {
-        OnOk result (words.Marks groups.now places.now
-            found.old.items marks.old found.new.items marks.new)
-    }
+    ensures { OnOk result (words.Marks groups.now places.now
+        found.old.items marks.old found.new.items marks.new) }
 {
     for place in places {
         if *place < marks.len() && !marks[*place] {

@@ -1,5 +1,6 @@
 ghost use Rattle.std.specs.Prelude.{◌≡◌, ◌≢◌, ◌↔◌, ℕ, List, None, Some, IsTrue, IfOk, IfErr};
 ghost use Rattle.rights_core.specs.People as words;
+ghost use Rattle.rights_core.specs.People.{parts_of};
 ghost use Rattle.rights_core.specs.RightsFaults.{fault_of};
 
 use crate::checks;
@@ -15,7 +16,8 @@ use text_core::{Text, is_among};
 
 /// Persons, groups of them, and what they are granted.
 ///
-/// People are seen as the persons, groups and grants that they were built from, which have no fault.
+/// People are seen as the persons, groups and grants that they were built from, which have no
+/// fault.
 #[derive(Debug, Drop)]
 pub struct People {
     parts: Parts,
@@ -31,23 +33,29 @@ impl Model for People {
 
     ghost view = { λ p. p.parts };
 
-    ghost invariant = { λ p. IsMemberships p.parts.persons p.parts.groups p.memberships × IsGrantsByRight p.parts.grants p.grants };
+    ghost invariant = { λ p. IsMemberships p.parts.persons p.parts.groups p.memberships
+        × IsGrantsByRight p.parts.grants p.grants };
 }
 
 impl People {
-    /// The people of these persons, groups and grants, or the first fault that applies to them, by number.
+    /// The people of these persons, groups and grants, or the first fault that applies to them, by
+    /// number.
     ///
-    /// A group may be a member of itself, by way of others too. `NoMemory` comes only in place of people, where their
-    /// lists are refused memory, never of a fault.
+    /// A group may be a member of itself, by way of others too. `NoMemory` comes only in place of
+    /// people, where their lists are refused memory, never of a fault.
     pub fn build(
         alloc: Global,
         persons: &[Text],
         groups: &[Group],
         grants: &[Grant],
     ) -> Result<People, RightsFault>
-        ensures ok { IfOk result (λ p. (fault_of (words.parts_of persons.now groups.now grants.now) ≡ None) × (p ≡ words.parts_of persons.now groups.now grants.now)) }
-        ensures err { IfErr result (λ e. e ≢ RightsFault.NoMemory → fault_of (words.parts_of persons.now groups.now grants.now) ≡ Some e) }
-        ensures memory { IfErr result (λ e. e ≡ RightsFault.NoMemory → fault_of (words.parts_of persons.now groups.now grants.now) ≡ None) }
+        ensures ok { IfOk result (λ p.
+            (fault_of (parts_of persons.now groups.now grants.now) ≡ None)
+            × (p ≡ parts_of persons.now groups.now grants.now)) }
+        ensures err { IfErr result (λ e. e ≢ RightsFault.NoMemory
+            → fault_of (parts_of persons.now groups.now grants.now) ≡ Some e) }
+        ensures memory { IfErr result (λ e. e ≡ RightsFault.NoMemory
+            → fault_of (parts_of persons.now groups.now grants.now) ≡ None) }
     {
         match checks::fault_of(alloc, persons, groups, grants) {
             Some(fault) => Err(fault),
@@ -76,7 +84,9 @@ impl People {
     /// Whether the person is known and a member of the group, itself or by way of other groups.
     pub fn member(&self, person: &str, group: &str) -> bool
         ensures value { result ≡ words.is_member self.now person.now group.now }
-        ensures chain { IsTrue result ↔ (IsTrue (words.knows self.now person.now) × ((others : List (List ℕ)) × words.IsChain self.now.groups group.now others person.now)) }
+        ensures chain { IsTrue result ↔ (IsTrue (words.knows self.now person.now)
+            × ((others : List (List ℕ))
+            × words.IsChain self.now.groups group.now others person.now)) }
     {
         match self.memberships.get(person) {
             Some(groups) => is_among(groups.as_slice(), group),
@@ -84,8 +94,8 @@ impl People {
         }
     }
 
-    /// Whether the person, who has these roles, is known and holds the right on the queue: by a grant of it, or of
-    /// `SuperUser`.
+    /// Whether the person, who has these roles, is known and holds the right on the queue: by a
+    /// grant of it, or of `SuperUser`.
     pub fn holds(&self, person: &str, right: &str, queue: &str, roles: Roles) -> bool
         ensures { result ≡ words.holds self.now person.now right.now queue.now roles }
     {

@@ -1,5 +1,5 @@
-use Rattle.std.proofs.Common.{◌≡◌, ◌+◌, ◌||◌, ℕ, List, cond, true, false, not, [], string_bytes}
-use Rattle.std.proofs.Common.{take, sym, ap, rules, refl, Bool, ◌∙◌}
+use Rattle.std.proofs.Common.{◌≡◌, ◌+◌, ◌||◌, cond, true, false, not, [], string_bytes}
+use Rattle.std.proofs.Common.{take, sym, ap, Bool, ◌∙◌}
 use Rattle.std.proofs.lemmas.List.{get_or_default}
 use Rattle.std.proofs.lemmas.Map.Text.{hash_set_updates_text}
 use Rattle.std.specs.HashSet.{contains_text}
@@ -17,7 +17,8 @@ returns-then-not-branch-clause-some c =
     let texts = c.args.texts.now in
     let i = c.loop-text.text-index in
     let text = c.text-item.result in
-    let key : string_bytes c.in_ok-from_str.field-0 ≡ text = c.in_ok-from_str.ensures.ok ∙ c.as_str.ensures in
+    let key : string_bytes c.in_ok-from_str.field-0 ≡ text =
+    c.in_ok-from_str.ensures.ok ∙ c.as_str.ensures in
     let known : contains_text c.loop-text.set (string_bytes c.in_ok-from_str.field-0) ≡ true =
     not_of _ _ c.in_ok-insert.ensures.added ∙ ap not c.if-not-branch.true in
     let again : repeats_text (take (i + 1) texts) ≡ true =
@@ -33,7 +34,8 @@ loop-text-preserved c =
     let texts = c.args.texts.now in
     let i = c.loop-text.text-index in
     let text = c.text-item.result in
-    let key : string_bytes c.in_ok-from_str.field-0 ≡ text = c.in_ok-from_str.ensures.ok ∙ c.as_str.ensures in
+    let key : string_bytes c.in_ok-from_str.field-0 ≡ text =
+    c.in_ok-from_str.ensures.ok ∙ c.as_str.ensures in
     let unknown : contains_text c.loop-text.set (string_bytes c.in_ok-from_str.field-0) ≡ false =
     not_of _ _ c.in_ok-insert.ensures.added ∙ ap not c.if-not-branch.false in
     record {

@@ -26,7 +26,8 @@ pub returns-in_default-2-clause-some : goal.returns-in_default-2-clause-some
 returns-in_default-2-clause-some c =
     let persons = c.args.persons.now in
     let groups = c.args.groups.now in
-    let names : c.as_slice.result.now ≡ group_names groups = c.as_slice.ensures.value ∙ c.in_ok-group_names.ensures in
+    let names : c.as_slice.result.now ≡ group_names groups =
+    c.as_slice.ensures.value ∙ c.in_ok-group_names.ensures in
     let twice : repeats_text c.as_slice.result.now ≡ true = search rules in
     sym
     (ap
@@ -41,9 +42,11 @@ pub returns-then-has_one_of-clause-some : goal.returns-then-has_one_of-clause-so
 returns-then-has_one_of-clause-some c =
     let persons = c.args.persons.now in
     let groups = c.args.groups.now in
-    let names : c.as_slice.result.now ≡ group_names groups = c.as_slice.ensures.value ∙ c.in_ok-group_names.ensures in
+    let names : c.as_slice.result.now ≡ group_names groups =
+    c.as_slice.ensures.value ∙ c.in_ok-group_names.ensures in
     let sound : IsSetOf c.as_slice.result.now c.in-Some-2.group_set = search rules in
-    let shared : list_any (contains_text c.in-Some-2.group_set) persons ≡ true = sym c.if-has_one_of.ensures in
+    let shared : list_any (contains_text c.in-Some-2.group_set) persons ≡ true =
+    sym c.if-has_one_of.ensures in
     sym
     (ap
     not
@@ -55,9 +58,11 @@ pub returns-clause-some : goal.returns-clause-some
 returns-clause-some c =
     let persons = c.args.persons.now in
     let groups = c.args.groups.now in
-    let names : c.as_slice.result.now ≡ group_names groups = c.as_slice.ensures.value ∙ c.in_ok-group_names.ensures in
+    let names : c.as_slice.result.now ≡ group_names groups =
+    c.as_slice.ensures.value ∙ c.in_ok-group_names.ensures in
     let sound : IsSetOf c.as_slice.result.now c.in-Some-2.group_set = search rules in
-    let shared : list_any (contains_text c.in-Some-2.group_set) persons ≡ false = sym c.if-has_one_of.ensures in
+    let shared : list_any (contains_text c.in-Some-2.group_set) persons ≡ false =
+    sym c.if-has_one_of.ensures in
     let once : repeats_text persons ≡ false = search rules in
     let also : repeats_text c.as_slice.result.now ≡ false = search rules in
     sym
@@ -65,5 +70,6 @@ returns-clause-some c =
     not
     (repeats_in_sets persons groups c.in-Some-2.group_set (rw names at sound)
     ∙ ap (λ b. (b || repeats_text (group_names groups)) || list_any (contains_text c.in-Some-2.group_set) persons) once
-    ∙ ap (λ b. b || list_any (contains_text c.in-Some-2.group_set) persons) (ap repeats_text (sym names) ∙ also)
+    ∙ ap (λ b. b || list_any (contains_text c.in-Some-2.group_set) persons)
+    (ap repeats_text (sym names) ∙ also)
     ∙ shared))

@@ -1,8 +1,5 @@
 use Rattle.std.proofs.Common.{◌≡◌, refl, rules, ◌∙◌}
-use Rattle.std.specs.Prelude.{if◌then◌else◌}
-use Rattle.std.specs.Str.{bytes_eq}
-use Rattle.rights_core.specs.declared.grant.Grant.{Grant}
-use Rattle.rights_core.specs.Index.{grants_under, subject_name}
+use Rattle.rights_core.specs.Index.{grants_under}
 use Rattle.rights_core.proofs.Kept.{grant_more}
 use Rattle.rights_core.proofs.grants.by_right.Goals as goal
 

@@ -1,5 +1,4 @@
 use Rattle.std.proofs.Common.{arith}
-use Rattle.std.proofs.lemmas.Grind.{text_groups}
 use Rattle.std.proofs.lemmas.Map.Text.{text_keys}
 use Rattle.rights_core.proofs.listers.put.Goals as goal
 

@@ -11,7 +11,8 @@ use Rattle.rights_core.proofs.memberships.memberships.Goals as goal
 
 pub loop-person-preserved : goal.loop-person-preserved
 loop-person-preserved c =
-    let key : string_bytes c.in_ok-from_str.field-0 ≡ c.as_str-person.result.now = c.in_ok-from_str.ensures.ok in
+    let key : string_bytes c.in_ok-from_str.field-0 ≡ c.as_str-person.result.now =
+    c.in_ok-from_str.ensures.ok in
     one_more_person
     c.args.persons.now
     c.args.groups.now

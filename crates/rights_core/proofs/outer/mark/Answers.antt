@@ -1,13 +1,15 @@
-use Rattle.std.proofs.Common.{◌≡◌, ℕ, ◌<◌, List, [], ◌∷◌, ◌++◌, length, get_or, take, true, false}
-use Rattle.std.proofs.Common.{sym, ap, subst, arith, rules, IsTrue, ◌∙◌}
+use Rattle.std.proofs.Common.{◌≡◌, ℕ, ◌<◌, List, [], ◌∷◌, ◌++◌, length, get_or, take, false}
+use Rattle.std.proofs.Common.{ap, subst, arith, rules, IsTrue, ◌∙◌}
 use Rattle.std.proofs.lemmas.Grind.{common_steps}
 use Rattle.std.proofs.lemmas.List.{get_or_default}
 use Rattle.rights_core.specs.declared.parts.Group.{Group}
 use Rattle.rights_core.specs.Closure.{Marks, is_marked, name_at, no_group}
-use Rattle.rights_core.proofs.Marks.{none_marked, mark_none, mark_one}
+use Rattle.rights_core.proofs.Marks.{mark_none, mark_one}
 use Rattle.rights_core.proofs.outer.mark.Goals as goal
-use Rattle.rights_core.proofs.outer.mark.Goals.{then-place-marks+then-not-marks-place+in_ok-clone+in_ok-push, else-place-marks}
-use Rattle.rights_core.proofs.outer.mark.Goals.{else-place-marks-via-then-place-marks+else-not-marks-place, else-place-marks-via-else-place-marks}
+use Rattle.rights_core.proofs.outer.mark.Goals.{then-place-marks+then-not-marks-place+in_ok-clone+in_ok-push}
+use Rattle.rights_core.proofs.outer.mark.Goals.{else-place-marks}
+use Rattle.rights_core.proofs.outer.mark.Goals.{else-place-marks-via-then-place-marks+else-not-marks-place}
+use Rattle.rights_core.proofs.outer.mark.Goals.{else-place-marks-via-else-place-marks}
 
 pub loop-place-preserved : goal.loop-place-preserved
 loop-place-preserved c =
@@ -19,11 +21,13 @@ loop-place-preserved c =
       | then-place-marks+then-not-marks-place+in_ok-clone+in_ok-push w ↦
           let within : place < length c.loop-place.marks = w.if-place-marks.true in
           let unmarked : get_or c.loop-place.marks place false ≡ false = search rules in
-          let inside : place < length groups = omega (arith, within, c.loop-place.invariant.0, c.requires) in
+          let inside : place < length groups =
+          omega (arith, within, c.loop-place.invariant.0, c.requires) in
           let copied : w.in_ok-clone.field-0 ≡ w.index-groups-place.result.name = search rules in
           let there : w.index-groups-place.result ≡ get_or groups place no_group =
           w.index-groups-place.is ∙ get_or_default groups place _ no_group inside in
-          let named : w.in_ok-clone.field-0 ≡ name_at groups place = copied ∙ ap (λ (g : Group). g.name) there in
+          let named : w.in_ok-clone.field-0 ≡ name_at groups place =
+          copied ∙ ap (λ (g : Group). g.name) there in
           let pushed : c.if-place-marks.found.items ≡ c.loop-place.found.items ++ name_at groups place ∷ [] =
           rw w.found-is (w.in_ok-push.ensures.items ∙ ap (λ n. c.loop-place.found.items ++ n ∷ []) named) in
           rw

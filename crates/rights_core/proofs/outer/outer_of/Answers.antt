@@ -1,5 +1,5 @@
-use Rattle.std.proofs.Common.{◌≡◌, ◌<◌, ◌∷◌, [], ℕ, List, length, replicate, false, arith}
-use Rattle.std.proofs.Common.{ap, get_or, subst, sym, rules, ◌∙◌}
+use Rattle.std.proofs.Common.{◌≡◌, ◌<◌, ◌∷◌, [], ℕ, List, length, arith}
+use Rattle.std.proofs.Common.{ap, get_or, subst, rules, ◌∙◌}
 use Rattle.std.proofs.lemmas.List.{get_or_default}
 use Rattle.text_core.specs.Texts.{is_among}
 use Rattle.rights_core.specs.Closure.{Marks, places_under}
@@ -43,6 +43,8 @@ returns c =
     let found = c.loop-next.found.items in
     let done : c.loop-next.next ≡ length found =
     omega (arith, c.loop-next-test.false, c.len.ensures, c.loop-next.invariant.1) in
-    let P : ℕ → Type 0 = λ k. IsSearch c.args.groups.now c.args.name.now k found c.loop-next.marks in
+    let P : ℕ → Type 0 =
+    λ k. IsSearch c.args.groups.now c.args.name.now k found c.loop-next.marks in
     ap (λ t. is_among t group) c.from.ensures
-    ∙ search_done c.args.groups.now c.args.name.now found c.loop-next.marks (subst P done c.loop-next.invariant) group
+    ∙ search_done c.args.groups.now c.args.name.now found c.loop-next.marks
+    (subst P done c.loop-next.invariant) group

@@ -11,5 +11,6 @@ invariant-loop-group l = record {
       (k : ℕ)
       → k < l.group-index
       → (group : List ℕ)
-      → is_among (slice_index_or l.outer.items k []) group ≡ reaches l.groups (name_at l.groups k) group;
+      → is_among (slice_index_or l.outer.items k []) group
+      ≡ reaches l.groups (name_at l.groups k) group;
 }

@@ -1,6 +1,7 @@
 use Rattle.std.proofs.Common.{ap, sym, ◌∙◌}
 use Rattle.rights_core.specs.People.{is_among}
-use Rattle.rights_core.proofs.Kept.{granted_kept, known_kept, member_kept, nobody_kept, unknown_holds_nothing}
+use Rattle.rights_core.proofs.Kept.{granted_kept, known_kept, member_kept, nobody_kept}
+use Rattle.rights_core.proofs.Kept.{unknown_holds_nothing}
 use Rattle.rights_core.proofs.people.People.holds.Goals as goal
 
 -- the people are those of the fields, and the person has the kept groups
@@ -24,7 +25,8 @@ returns-in-Some c =
     (known_kept people kept c.self.invariant.0 person _ (sym c.in-Some.ensures.value))
     (λ group.
     ap (λ names. is_among names group) c.as_slice.ensures
-    ∙ member_kept people kept c.self.invariant.0 person c.in-Some.groups.now (sym c.in-Some.ensures.value) group))
+    ∙ member_kept people kept c.self.invariant.0 person c.in-Some.groups.now
+    (sym c.in-Some.ensures.value) group))
 
 pub returns-in-None : goal.returns-in-None
 returns-in-None c =
