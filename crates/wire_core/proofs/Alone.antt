@@ -1,6 +1,6 @@
 -- What the table makes of words is what their own subcommand alone makes of them.
 use Rattle.std.proofs.Common.{◌≡◌, ◌∙◌, true, List, [], ◌∷◌, Option, Some, None, Bool, false, cond}
-use Rattle.std.proofs.Common.{refl, ap, sym, subst, find}
+use Rattle.std.proofs.Common.{refl, sym, subst, find}
 use Rattle.std.specs.Prelude.{⊤}
 use Rattle.std.specs.Str.{bytes_eq}
 use Rattle.std.proofs.lemmas.Slice.Eq.{bytes_eq-Decides}
@@ -64,30 +64,63 @@ Each P (x ∷ xs) = P x × Each P xs
 
 each_alone : Each IsAlone subcommands
 unfolding desk subcommands
-each_alone =
-    ( is_alone queue refl refl refl refl (λ rest. refl) (λ rest. refl),
-    ( is_alone create refl refl refl refl (λ rest. refl) (λ rest. refl),
-    ( is_alone status refl refl refl refl (λ rest. refl) (λ rest. refl),
-    ( is_alone resolve refl refl refl refl (λ rest. refl) (λ rest. refl),
-    ( is_alone level refl refl refl refl (λ rest. refl) (λ rest. refl),
-    ( is_alone take refl refl refl refl (λ rest. refl) (λ rest. refl),
-    ( is_alone steal refl refl refl refl (λ rest. refl) (λ rest. refl),
-    ( is_alone untake refl refl refl refl (λ rest. refl) (λ rest. refl),
-    ( is_alone give refl refl refl refl (λ rest. refl) (λ rest. refl),
-    ( is_alone correspond refl refl refl refl (λ rest. refl) (λ rest. refl),
-    ( is_alone comment refl refl refl refl (λ rest. refl) (λ rest. refl),
-    ( is_alone watch refl refl refl refl (λ rest. refl) (λ rest. refl),
-    ( is_alone unwatch refl refl refl refl (λ rest. refl) (λ rest. refl),
-    ( is_alone link refl refl refl refl (λ rest. refl) (λ rest. refl),
-    ( is_alone queues refl refl refl refl (λ rest. refl) (λ rest. refl),
-    ( is_alone show refl refl refl refl (λ rest. refl) (λ rest. refl),
-    ( is_alone history refl refl refl refl (λ rest. refl) (λ rest. refl),
-    tt)))))))))))))))))
+each_alone = (
+  is_alone queue refl refl refl refl (λ rest. refl) (λ rest. refl),
+  (
+    is_alone create refl refl refl refl (λ rest. refl) (λ rest. refl),
+    (
+      is_alone status refl refl refl refl (λ rest. refl) (λ rest. refl),
+      (
+        is_alone resolve refl refl refl refl (λ rest. refl) (λ rest. refl),
+        (
+          is_alone level refl refl refl refl (λ rest. refl) (λ rest. refl),
+          (
+            is_alone take refl refl refl refl (λ rest. refl) (λ rest. refl),
+            (
+              is_alone steal refl refl refl refl (λ rest. refl) (λ rest. refl),
+              (
+                is_alone untake refl refl refl refl (λ rest. refl) (λ rest. refl),
+                (
+                  is_alone give refl refl refl refl (λ rest. refl) (λ rest. refl),
+                  (
+                    is_alone correspond refl refl refl refl (λ rest. refl) (λ rest. refl),
+                    (
+                      is_alone comment refl refl refl refl (λ rest. refl) (λ rest. refl),
+                      (
+                        is_alone watch refl refl refl refl (λ rest. refl) (λ rest. refl),
+                        (
+                          is_alone unwatch refl refl refl refl (λ rest. refl) (λ rest. refl),
+                          (
+                            is_alone link refl refl refl refl (λ rest. refl) (λ rest. refl),
+                            (
+                              is_alone queues refl refl refl refl (λ rest. refl) (λ rest. refl),
+                              (
+                                is_alone show refl refl refl refl (λ rest. refl) (λ rest. refl),
+                                (
+                                  is_alone history refl refl refl refl (λ rest. refl) (λ rest. refl),
+                                  tt,
+                                ),
+                              ),
+                            ),
+                          ),
+                        ),
+                      ),
+                    ),
+                  ),
+                ),
+              ),
+            ),
+          ),
+        ),
+      ),
+    ),
+  ),
+)
 
 -- what a search finds is of the list, and passes the test
 found_or : {X : Type 0} (P : X → Type 0) (test : X → Bool) (b : Bool) (y x : X) (rest : Option X)
     → test y ≡ b
-    → cond b (Some y) rest ≡ Some x → P y → (rest ≡ Some x → P x × (test x ≡ true)) 
+    → cond b (Some y) rest ≡ Some x → P y → (rest ≡ Some x → P x × (test x ≡ true))
     → P x × (test x ≡ true)
 found_or {X} P test true y x rest passes is holds later =
     let same : y ≡ x = cc in

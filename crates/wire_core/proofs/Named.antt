@@ -1,7 +1,6 @@
 -- A command that takes a subcommand of the table, if there is one.
-use Rattle.std.proofs.Common.{◌≡◌, Option, Some, None, Result, Ok, Err, IfOk, List, [], ◌∷◌, refl}
-use Rattle.std.proofs.Common.{ap, sym}
-use Rattle.clap.specs.Words.{App, Text, with_subcommand}
+use Rattle.std.proofs.Common.{Option, Some, None, Result, IfOk}
+use Rattle.clap.specs.Words.{App, with_subcommand}
 use Rattle.clap.specs.declared.builder.command.Command.{Command}
 use Rattle.wire_core.specs.Table.{Is, IsNamed, only_or_whole, root, with_named}
 

@@ -1,9 +1,6 @@
 -- what fits as much of the table as the words need fits the table
-use Rattle.std.proofs.Common.{◌≡◌, ◌≢◌, ◌∙◌, [], IfOk, Result, Ok, Err, map, string_bytes, subst}
-use Rattle.std.proofs.Common.{sym}
-use Rattle.clap.specs.Words.{fault_of, subcommand_of, subcommand_rows_of}
-use Rattle.clap.specs.Kinds.{Kinds}
-use Rattle.wire_core.specs.Table.{desk, desk_for}
+use Rattle.std.proofs.Common.{map, string_bytes}
+use Rattle.wire_core.specs.Table.{desk_for}
 use Rattle.wire_core.proofs.Alone.{is_enough}
 use Rattle.wire_core.proofs.matches.matches_of.Goals as goal
 

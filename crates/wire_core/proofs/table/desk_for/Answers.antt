@@ -1,6 +1,6 @@
 -- the first word names the subcommand
-use Rattle.std.proofs.Common.{rules, ◌≡◌, ◌∙◌, String, Global, List, [], ◌∷◌, Option, Some, None}
-use Rattle.std.proofs.Common.{Result, IfOk, map, slice_get, string_bytes, subst, sym, ap}
+use Rattle.std.proofs.Common.{rules, ◌≡◌, String, Global, List, [], ◌∷◌, Some}
+use Rattle.std.proofs.Common.{Result, IfOk, map, slice_get, string_bytes, subst}
 use Rattle.clap.specs.declared.builder.command.Command.{Command}
 use Rattle.wire_core.specs.Table.{Is, IsNamed, desk_for, only_or_whole, subcommand}
 use Rattle.wire_core.proofs.table.desk_for.Goals as goal

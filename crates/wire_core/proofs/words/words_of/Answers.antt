@@ -17,8 +17,8 @@ pub loop-character-preserved : goal.loop-character-preserved
 loop-character-preserved c =
     let all = YieldsList-from_chars c.args.line.now c.utf8.line cc in
     let t =
-        YieldsList-turn all c.loop-character.yielded _ c.loop-character.yielded_by _ _
-        c.in-Some.character c.in-Some.is c.next.ensures.steps in
+    YieldsList-turn all c.loop-character.yielded _ c.loop-character.yielded_by _ _
+    c.in-Some.character c.in-Some.is c.next.ensures.steps in
     let l = left _ _ _ t in
     let n = length_push c.loop-character.yielded c.in-Some.character in
     let count = length c.loop-character.yielded in
@@ -29,8 +29,8 @@ pub returns-in_err-place-clause-bad : goal.returns-in_err-place-clause-bad
 returns-in_err-place-clause-bad c e =
     let all = YieldsList-from_chars c.args.line.now c.utf8.line cc in
     let t =
-        YieldsList-turn all c.loop-character.yielded _ c.loop-character.yielded_by _ _
-        c.in-Some.character c.in-Some.is c.next.ensures.steps in
+    YieldsList-turn all c.loop-character.yielded _ c.loop-character.yielded_by _ _
+    c.in-Some.character c.in-Some.is c.next.ensures.steps in
     let l = left _ _ _ t in
     let same : c.in_err-place.field-0.0 ≡ BadQuote = search rules in
     let left_over = drop (length c.loop-character.yielded + 1) (chars c.args.line.now) in
@@ -42,8 +42,8 @@ pub returns-in_err-finish-clause-bad : goal.returns-in_err-finish-clause-bad
 returns-in_err-finish-clause-bad c e =
     let all = YieldsList-from_chars c.args.line.now c.utf8.line cc in
     let t =
-        YieldsList-end all c.loop-character.yielded _ c.loop-character.yielded_by _ _ c.in-None.is
-        c.next.ensures.steps in
+    YieldsList-end all c.loop-character.yielded _ c.loop-character.yielded_by _ _ c.in-None.is
+    c.next.ensures.steps in
     let count = length c.loop-character.yielded in
     let l = drop_all count (chars c.args.line.now) (omega (arith, t.1)) in
     let same : c.in_err-finish.field-0.0 ≡ BadQuote = search rules in
@@ -55,8 +55,8 @@ pub returns-clause-ok : goal.returns-clause-ok
 returns-clause-ok c =
     let all = YieldsList-from_chars c.args.line.now c.utf8.line cc in
     let t =
-        YieldsList-end all c.loop-character.yielded _ c.loop-character.yielded_by _ _ c.in-None.is
-        c.next.ensures.steps in
+    YieldsList-end all c.loop-character.yielded _ c.loop-character.yielded_by _ _ c.in-None.is
+    c.next.ensures.steps in
     let count = length c.loop-character.yielded in
     let l = drop_all count (chars c.args.line.now) (omega (arith, t.1)) in
     rw l at (sym c.loop-character.invariant) ∙ c.in_ok-finish.ensures.ok
