@@ -65,39 +65,39 @@ Each P (x ∷ xs) = P x × Each P xs
 each_alone : Each IsAlone subcommands
 unfolding desk subcommands
 each_alone = (
-  is_alone queue refl refl refl refl (λ rest. refl) (λ rest. refl),
+  is_alone queue refl refl refl refl (λ r. refl) (λ r. refl),
   (
-    is_alone create refl refl refl refl (λ rest. refl) (λ rest. refl),
+    is_alone create refl refl refl refl (λ r. refl) (λ r. refl),
     (
-      is_alone status refl refl refl refl (λ rest. refl) (λ rest. refl),
+      is_alone status refl refl refl refl (λ r. refl) (λ r. refl),
       (
-        is_alone resolve refl refl refl refl (λ rest. refl) (λ rest. refl),
+        is_alone resolve refl refl refl refl (λ r. refl) (λ r. refl),
         (
-          is_alone level refl refl refl refl (λ rest. refl) (λ rest. refl),
+          is_alone level refl refl refl refl (λ r. refl) (λ r. refl),
           (
-            is_alone take refl refl refl refl (λ rest. refl) (λ rest. refl),
+            is_alone take refl refl refl refl (λ r. refl) (λ r. refl),
             (
-              is_alone steal refl refl refl refl (λ rest. refl) (λ rest. refl),
+              is_alone steal refl refl refl refl (λ r. refl) (λ r. refl),
               (
-                is_alone untake refl refl refl refl (λ rest. refl) (λ rest. refl),
+                is_alone untake refl refl refl refl (λ r. refl) (λ r. refl),
                 (
-                  is_alone give refl refl refl refl (λ rest. refl) (λ rest. refl),
+                  is_alone give refl refl refl refl (λ r. refl) (λ r. refl),
                   (
-                    is_alone correspond refl refl refl refl (λ rest. refl) (λ rest. refl),
+                    is_alone correspond refl refl refl refl (λ r. refl) (λ r. refl),
                     (
-                      is_alone comment refl refl refl refl (λ rest. refl) (λ rest. refl),
+                      is_alone comment refl refl refl refl (λ r. refl) (λ r. refl),
                       (
-                        is_alone watch refl refl refl refl (λ rest. refl) (λ rest. refl),
+                        is_alone watch refl refl refl refl (λ r. refl) (λ r. refl),
                         (
-                          is_alone unwatch refl refl refl refl (λ rest. refl) (λ rest. refl),
+                          is_alone unwatch refl refl refl refl (λ r. refl) (λ r. refl),
                           (
-                            is_alone link refl refl refl refl (λ rest. refl) (λ rest. refl),
+                            is_alone link refl refl refl refl (λ r. refl) (λ r. refl),
                             (
-                              is_alone queues refl refl refl refl (λ rest. refl) (λ rest. refl),
+                              is_alone queues refl refl refl refl (λ r. refl) (λ r. refl),
                               (
-                                is_alone show refl refl refl refl (λ rest. refl) (λ rest. refl),
+                                is_alone show refl refl refl refl (λ r. refl) (λ r. refl),
                                 (
-                                  is_alone history refl refl refl refl (λ rest. refl) (λ rest. refl),
+                                  is_alone history refl refl refl refl (λ r. refl) (λ r. refl),
                                   tt,
                                 ),
                               ),
