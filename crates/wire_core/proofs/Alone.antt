@@ -1,13 +1,18 @@
 -- What the table makes of words is what their own subcommand alone makes of them.
-use Rattle.std.proofs.Common.{◌≡◌, ◌∙◌, true, List, [], ◌∷◌, Option, Some, None, Bool, false, cond, refl, ap, sym, subst, find}
+use Rattle.std.proofs.Common.{◌≡◌, ◌∙◌, true, List, [], ◌∷◌, Option, Some, None, Bool, false, cond}
+use Rattle.std.proofs.Common.{refl, sym, subst, find}
 use Rattle.std.specs.Prelude.{⊤}
 use Rattle.std.specs.Str.{bytes_eq}
 use Rattle.std.proofs.lemmas.Slice.Eq.{bytes_eq-Decides}
-use Rattle.clap.specs.Words.{App, Text, fault_of, is_simple, is_simple_and_free, subcommand_of, with_subcommand}
+use Rattle.clap.specs.Words.{App, Text, fault_of, is_simple, is_simple_and_free, subcommand_of}
+use Rattle.clap.specs.Words.{with_subcommand}
 use Rattle.clap.specs.Kinds.{Kinds, or_else}
 use Rattle.clap.specs.Simple.{built, entered, names_of}
 use Rattle.clap.specs.Walk.{idle, subcommand_met}
-use Rattle.wire_core.specs.Table.{comment, correspond, create, desk, desk_for, give, history, level, link, only_or_whole, queue, queues, resolve, root, show, status, steal, subcommand, subcommands, take, untake, unwatch, watch}
+use Rattle.wire_core.specs.Table.{comment, correspond, create, desk, desk_for, give, history}
+use Rattle.wire_core.specs.Table.{level, link, only_or_whole, queue, queues, resolve, root, show}
+use Rattle.wire_core.specs.Table.{status, steal, subcommand, subcommands, take, untake, unwatch}
+use Rattle.wire_core.specs.Table.{watch}
 use Rattle.wire_core.proofs.Free.{desk_is_free, desk_is_simple}
 use Rattle.wire_core.proofs.Meets.{faults_met, level_of, rows_met, stopped_at, turn_by}
 
@@ -29,13 +34,16 @@ faults_in a s rest =
 record IsAlone (s : App) : Type 0 where
   free : is_simple_and_free (alone s) ≡ true
   plain : is_simple (alone s) ≡ true
-  fault : (rest : List Text) → fault_of (alone s) (s.top.name ∷ rest) ≡ fault_of desk (s.top.name ∷ rest)
+  fault : (rest : List Text)
+      → fault_of (alone s) (s.top.name ∷ rest) ≡ fault_of desk (s.top.name ∷ rest)
   rows : (rest : List Text)
       → subcommand_of (alone s) (s.top.name ∷ rest) ≡ subcommand_of desk (s.top.name ∷ rest)
 
-is_alone : (s : App) → is_simple_and_free (alone s) ≡ true → is_simple (alone s) ≡ true → Knows (alone s) s → Knows desk s
+is_alone : (s : App) → is_simple_and_free (alone s) ≡ true → is_simple (alone s) ≡ true
+    → Knows (alone s) s → Knows desk s
     → ((rest : List Text) → faults_in (alone s) s rest ≡ faults_in desk s rest)
-    → ((rest : List Text) → entered (built (alone s)) (Some (s.top.name, rest)) ≡ entered (built desk) (Some (s.top.name, rest)))
+    → ((rest : List Text) → entered (built (alone s)) (Some (s.top.name, rest))
+    ≡ entered (built desk) (Some (s.top.name, rest)))
     → IsAlone s
 unfolding desk subcommands
 is_alone s free plain known listed faults rows = record {
@@ -56,35 +64,71 @@ Each P (x ∷ xs) = P x × Each P xs
 
 each_alone : Each IsAlone subcommands
 unfolding desk subcommands
-each_alone =
-    ( is_alone queue refl refl refl refl (λ rest. refl) (λ rest. refl),
-    ( is_alone create refl refl refl refl (λ rest. refl) (λ rest. refl),
-    ( is_alone status refl refl refl refl (λ rest. refl) (λ rest. refl),
-    ( is_alone resolve refl refl refl refl (λ rest. refl) (λ rest. refl),
-    ( is_alone level refl refl refl refl (λ rest. refl) (λ rest. refl),
-    ( is_alone take refl refl refl refl (λ rest. refl) (λ rest. refl),
-    ( is_alone steal refl refl refl refl (λ rest. refl) (λ rest. refl),
-    ( is_alone untake refl refl refl refl (λ rest. refl) (λ rest. refl),
-    ( is_alone give refl refl refl refl (λ rest. refl) (λ rest. refl),
-    ( is_alone correspond refl refl refl refl (λ rest. refl) (λ rest. refl),
-    ( is_alone comment refl refl refl refl (λ rest. refl) (λ rest. refl),
-    ( is_alone watch refl refl refl refl (λ rest. refl) (λ rest. refl),
-    ( is_alone unwatch refl refl refl refl (λ rest. refl) (λ rest. refl),
-    ( is_alone link refl refl refl refl (λ rest. refl) (λ rest. refl),
-    ( is_alone queues refl refl refl refl (λ rest. refl) (λ rest. refl),
-    ( is_alone show refl refl refl refl (λ rest. refl) (λ rest. refl),
-    ( is_alone history refl refl refl refl (λ rest. refl) (λ rest. refl),
-    tt)))))))))))))))))
+each_alone = (
+  is_alone queue refl refl refl refl (λ r. refl) (λ r. refl),
+  (
+    is_alone create refl refl refl refl (λ r. refl) (λ r. refl),
+    (
+      is_alone status refl refl refl refl (λ r. refl) (λ r. refl),
+      (
+        is_alone resolve refl refl refl refl (λ r. refl) (λ r. refl),
+        (
+          is_alone level refl refl refl refl (λ r. refl) (λ r. refl),
+          (
+            is_alone take refl refl refl refl (λ r. refl) (λ r. refl),
+            (
+              is_alone steal refl refl refl refl (λ r. refl) (λ r. refl),
+              (
+                is_alone untake refl refl refl refl (λ r. refl) (λ r. refl),
+                (
+                  is_alone give refl refl refl refl (λ r. refl) (λ r. refl),
+                  (
+                    is_alone correspond refl refl refl refl (λ r. refl) (λ r. refl),
+                    (
+                      is_alone comment refl refl refl refl (λ r. refl) (λ r. refl),
+                      (
+                        is_alone watch refl refl refl refl (λ r. refl) (λ r. refl),
+                        (
+                          is_alone unwatch refl refl refl refl (λ r. refl) (λ r. refl),
+                          (
+                            is_alone link refl refl refl refl (λ r. refl) (λ r. refl),
+                            (
+                              is_alone queues refl refl refl refl (λ r. refl) (λ r. refl),
+                              (
+                                is_alone show refl refl refl refl (λ r. refl) (λ r. refl),
+                                (
+                                  is_alone history refl refl refl refl (λ r. refl) (λ r. refl),
+                                  tt,
+                                ),
+                              ),
+                            ),
+                          ),
+                        ),
+                      ),
+                    ),
+                  ),
+                ),
+              ),
+            ),
+          ),
+        ),
+      ),
+    ),
+  ),
+)
 
 -- what a search finds is of the list, and passes the test
-found_or : {X : Type 0} (P : X → Type 0) (test : X → Bool) (b : Bool) (y x : X) (rest : Option X) → test y ≡ b
-    → cond b (Some y) rest ≡ Some x → P y → (rest ≡ Some x → P x × (test x ≡ true)) → P x × (test x ≡ true)
+found_or : {X : Type 0} (P : X → Type 0) (test : X → Bool) (b : Bool) (y x : X) (rest : Option X)
+    → test y ≡ b
+    → cond b (Some y) rest ≡ Some x → P y → (rest ≡ Some x → P x × (test x ≡ true))
+    → P x × (test x ≡ true)
 found_or {X} P test true y x rest passes is holds later =
     let same : y ≡ x = cc in
     (subst P same holds, subst (λ (z : X). test z ≡ true) same passes)
 found_or P test false y x rest passes is holds later = later is
 
-found : {X : Type 0} (P : X → Type 0) (test : X → Bool) (xs : List X) (x : X) → Each P xs → find test xs ≡ Some x
+found : {X : Type 0} (P : X → Type 0) (test : X → Bool) (xs : List X) (x : X) → Each P xs
+    → find test xs ≡ Some x
     → P x × (test x ≡ true)
 found P test [] x each is = absurd cc
 found P test (y ∷ ys) x each is =
@@ -106,7 +150,8 @@ pub record IsEnough (a : App) (words : List Text) : Type 0 where
 whole : (words : List Text) → IsEnough desk words
 whole words = record { free = desk_is_free; plain = desk_is_simple; fault = refl; rows = refl }
 
-by_word : (word : Text) (rest : List Text) (s : App) → IsAlone s → word ≡ s.top.name → IsEnough (alone s) (word ∷ rest)
+by_word : (word : Text) (rest : List Text) (s : App) → IsAlone s → word ≡ s.top.name
+    → IsEnough (alone s) (word ∷ rest)
 by_word word rest s is name =
     let there : IsEnough (alone s) (s.top.name ∷ rest) = record {
       free = is.free;

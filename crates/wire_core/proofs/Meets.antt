@@ -1,11 +1,14 @@
 -- What clap makes of words whose first one names a subcommand: no other subcommand matters.
-use Rattle.std.proofs.Common.{◌≡◌, ◌∙◌, ℕ, true, false, List, [], ◌∷◌, ◌++◌, Option, Some, None, refl, ap, sym, fold, find, is_some, option_map}
-use Rattle.std.specs.Option.{option_map_or}
+use Rattle.std.proofs.Common.{◌≡◌, ◌∙◌, List, [], ◌∷◌, ◌++◌, Option, Some}
+use Rattle.std.proofs.Common.{refl, ap, sym, fold, is_some}
 use Rattle.std.proofs.lemmas.List.{append_assoc, append-nil}
-use Rattle.clap.specs.Faults.{built_fault, check_fault, defaults_fault, entered_fault, level_fault, other_fault, settle_fault, step_fault, walk_fault}
+use Rattle.clap.specs.Faults.{built_fault, check_fault, defaults_fault, entered_fault}
+use Rattle.clap.specs.Faults.{other_fault, settle_fault, step_fault, walk_fault}
 use Rattle.clap.specs.Kinds.{Kinds, or_else}
-use Rattle.clap.specs.Simple.{App, Shape, entered, label_of, names_of, rows_at}
-use Rattle.clap.specs.Walk.{Names, Row, Rule, Text, Walk, after_step, answers_to, finished, idle, nothing_held, settled, stop_after, subcommand_met, subcommand_or_other, walk, walk_from, walked}
+use Rattle.clap.specs.Simple.{App, Shape, entered, names_of}
+use Rattle.clap.specs.Walk.{Names, Rule, Text, Walk, after_step, finished, idle}
+use Rattle.clap.specs.Walk.{nothing_held, settled, stop_after, subcommand_met, subcommand_or_other}
+use Rattle.clap.specs.Walk.{walk, walk_from, walked}
 
 -- where a walk stands that has met this subcommand, with these words after it
 abbrev pub stopped_at : Text → List Text → Walk
@@ -68,7 +71,8 @@ walk_fault_met top names word name rest met =
     let after : Walk → Kinds = λ w. walk_fault top names w rest in
     let next = walked top.rules names (walk_from nothing_held) word in
     ap (λ m. or_else (turn_by top word m) (after next)) met
-    ∙ ap (λ w. or_else (turn_by top word (Some name)) (after w)) (first_met top.rules names word name met)
+    ∙ ap (λ w. or_else (turn_by top word (Some name)) (after w))
+    (first_met top.rules names word name met)
     ∙ ap (or_else (turn_by top word (Some name))) (stopped_fault top names name [] rest)
 
 -- what a level comes to, by its walk and by the faults on it

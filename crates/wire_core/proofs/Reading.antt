@@ -4,7 +4,8 @@ use Rattle.std.proofs.lemmas.List.{append_assoc, append-nil}
 use Rattle.wire_core.specs.Words.{Rest, word_of, onto, ended}
 use Rattle.wire_core.specs.Reader.{after}
 
-pub word_grows : (word bytes : List ℕ) (rest : Option Rest) → word_of word (onto bytes rest) ≡ word_of (word ++ bytes) rest
+pub word_grows : (word bytes : List ℕ) (rest : Option Rest) → word_of word (onto bytes rest)
+    ≡ word_of (word ++ bytes) rest
 word_grows word bytes None = refl
 word_grows word bytes (Some r) = ap (λ w. Some (w ∷ r.1)) (sym (append_assoc word bytes r.0))
 

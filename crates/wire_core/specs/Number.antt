@@ -12,5 +12,5 @@ value_of text = fold (λ n b. n * 10 + (b - 48)) 0 text
 abbrev pub number_of : List ℕ → Option ℕ
 number_of text =
     if nat_le 1 (length text) && (nat_le (length text) 10
-        && (list_all is_digit text && nat_lt (value_of text) (2 ^ 32)))
+    && (list_all is_digit text && nat_lt (value_of text) (2 ^ 32)))
     then Some (value_of text) else None

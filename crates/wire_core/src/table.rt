@@ -31,10 +31,7 @@ const NAMES: [&str; 17] = [
 /// The command line of the desk, as far as these words need it: with the subcommand that the first
 /// of them names alone, or whole where it names none. To make all subcommands takes longer than
 /// all else that a line of a script asks for.
-pub(crate) fn desk_for<'a>(
-    alloc: Global,
-    words: &'a [String],
-) -> Result<Command<'a>, AllocError>
+pub(crate) fn desk_for<'a>(alloc: Global, words: &'a [String]) -> Result<Command<'a>, AllocError>
     ensures { IfOk result (Is (table.desk_for (map string_bytes words.entry.now))) }
 {
     match words.first() {
@@ -71,10 +68,7 @@ fn desk_of<'a>(alloc: Global, names: &[&'a str]) -> Result<Command<'a>, AllocErr
     Ok(command)
 }
 
-fn with_named<'a>(
-    command: Command<'a>,
-    sub: Option<Command<'a>>,
-) -> Result<Command<'a>, AllocError>
+fn with_named<'a>(command: Command<'a>, sub: Option<Command<'a>>) -> Result<Command<'a>, AllocError>
     ensures { (a : App) (named : _) → Is a command.entry → IsNamed named sub.entry
         → IfOk result (Is (table.with_named a named)) }
 {
@@ -110,6 +104,7 @@ fn subcommand<'a>(alloc: Global, name: &str) -> Result<Option<Command<'a>>, Allo
         _ => Ok(None),
     }
 }
+
 fn link<'a>(alloc: Global) -> Result<Command<'a>, AllocError>
     ensures { IfOk result (Is table.link) }
 {

@@ -5,7 +5,8 @@ use Rattle.wire_core.specs.Spelling.{unless_fault}
 use Rattle.wire_core.specs.declared.fault.WordsFault.TheVariants.{BadWords}
 use Rattle.wire_core.proofs.command.command_of_words.Goals as goal
 
-refused : (faults : Kinds) (met : Option (Text × List Row)) → faults ≢ [] → unless_fault faults met ≡ None
+refused : (faults : Kinds) (met : Option (Text × List Row)) → faults ≢ [] → unless_fault faults met
+    ≡ None
 refused [] met some = absurd (some refl)
 refused (k ∷ ks) met some = refl
 

@@ -1,5 +1,6 @@
 -- the first word names the subcommand
-use Rattle.std.proofs.Common.{rules, ◌≡◌, ◌∙◌, String, Global, List, [], ◌∷◌, Option, Some, None, Result, IfOk, map, slice_get, string_bytes, subst, sym, ap}
+use Rattle.std.proofs.Common.{rules, ◌≡◌, String, Global, List, [], ◌∷◌, Some}
+use Rattle.std.proofs.Common.{Result, IfOk, map, slice_get, string_bytes, subst}
 use Rattle.clap.specs.declared.builder.command.Command.{Command}
 use Rattle.wire_core.specs.Table.{Is, IsNamed, desk_for, only_or_whole, subcommand}
 use Rattle.wire_core.proofs.table.desk_for.Goals as goal
@@ -10,11 +11,14 @@ by_first : {E : Type 0} (words : List (String Global)) (name : String Global) (r
 by_first [] name r same is = absurd cc
 by_first (word ∷ words) name r same is =
     let first : name ≡ word = cc in
-    subst (λ (s : String Global). IfOk r (Is (only_or_whole (subcommand (string_bytes s))))) first is
+    subst (λ (s : String Global). IfOk r (Is (only_or_whole (subcommand (string_bytes s)))))
+    first is
 
 pub returns-in_ok-subcommand-in-Some : goal.returns-in_ok-subcommand-in-Some
 returns-in_ok-subcommand-in-Some c =
     let first : Some c.in-Some.name.now ≡ slice_get c.args.words.now 0 = search rules in
     let name : c.as_str.result.now ≡ string_bytes c.in-Some.name.now = search rules in
-    let named = subst (λ t. IsNamed (subcommand t) c.in_ok-subcommand-in-Some.field-0) name c.in_ok-subcommand-in-Some.ensures in
-    by_first c.args.words.now c.in-Some.name.now c.only_or_whole.result first (c.only_or_whole.ensures _ named)
+    let sub = c.in_ok-subcommand-in-Some.field-0 in
+    let named = subst (λ t. IsNamed (subcommand t) sub) name c.in_ok-subcommand-in-Some.ensures in
+    by_first c.args.words.now c.in-Some.name.now c.only_or_whole.result first
+    (c.only_or_whole.ensures _ named)

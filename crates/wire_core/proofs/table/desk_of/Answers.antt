@@ -8,5 +8,5 @@ loop-name-preserved c =
       _,
       c.in_ok-command.ensures _ _ c.loop-name.invariant.1 c.in_ok-subcommand.ensures,
       rw (drop_more c.args.names.now c.loop-name.name-index (record { ref_ptr = (0, 0); now = [] })
-      within) at c.loop-name.invariant.2,
+          within) at c.loop-name.invariant.2,
     )

@@ -7,5 +7,6 @@ loop-id-preserved c =
     let within : c.loop-id.id-index < length c.args.ids.now = omega arith in (
       _,
       c.in_ok-command.ensures _ _ c.loop-id.invariant.1 c.wanted_argument.ensures.rule,
-      rw (drop_more c.args.ids.now c.loop-id.id-index (record { ref_ptr = (0, 0); now = [] }) within) at c.loop-id.invariant.2,
+      rw (drop_more c.args.ids.now c.loop-id.id-index (record { ref_ptr = (0, 0); now = [] })
+          within) at c.loop-id.invariant.2,
     )

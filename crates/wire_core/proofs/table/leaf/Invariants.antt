@@ -6,4 +6,5 @@ use Rattle.wire_core.proofs.table.leaf.Given as goal
 
 abbrev pub invariant-loop-id : goal.invariant-loop-id
 invariant-loop-id l = (a : App) × Is a l.command
-    × (with_all a (map (λ s. s.now) (drop l.id-index l.ids)) ≡ with_all (bare l.name) (map (λ s. s.now) l.ids))
+    × (with_all a (map (λ s. s.now) (drop l.id-index l.ids))
+    ≡ with_all (bare l.name) (map (λ s. s.now) l.ids))

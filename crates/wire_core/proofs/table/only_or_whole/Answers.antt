@@ -1,4 +1,4 @@
-use Rattle.std.proofs.Common.{Option, Some, None, subst}
+use Rattle.std.proofs.Common.{Option, subst}
 use Rattle.clap.specs.declared.builder.command.Command.{Command}
 use Rattle.wire_core.specs.Table.{IsNamed, root}
 use Rattle.wire_core.proofs.Named.{some_only}

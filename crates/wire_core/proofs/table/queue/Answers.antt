@@ -4,4 +4,5 @@ use Rattle.wire_core.proofs.table.queue.Goals as goal
 
 pub returns : goal.returns
 returns c =
-    c.with_argument.ensures _ (allowed (codes "level")) c.in_ok-command.ensures c.allowed_argument.ensures.rule
+    c.with_argument.ensures _ (allowed (codes "level")) c.in_ok-command.ensures
+    c.allowed_argument.ensures.rule

@@ -1,4 +1,4 @@
-use Rattle.std.proofs.Common.{Option, Some, None, subst}
+use Rattle.std.proofs.Common.{Option, subst}
 use Rattle.clap.specs.declared.builder.command.Command.{Command}
 use Rattle.wire_core.specs.Table.{IsNamed}
 use Rattle.wire_core.proofs.Named.{none_named, some_named}
@@ -7,8 +7,10 @@ use Rattle.wire_core.proofs.table.with_named.Goals as goal
 pub returns-in-Some : goal.returns-in-Some
 returns-in-Some c a named is given =
     let some = subst (λ (o : Option Command). IsNamed named o) c.in-Some.is given in
-    some_named a named c.in-Some.sub c.with_subcommand.result some (λ b is_b. c.with_subcommand.ensures a b is is_b)
+    some_named a named c.in-Some.sub c.with_subcommand.result some
+    (λ b is_b. c.with_subcommand.ensures a b is is_b)
 
 pub returns-in-None : goal.returns-in-None
 returns-in-None c a named is given =
-    none_named a named c.args.command (subst (λ (o : Option Command). IsNamed named o) c.in-None.is given) is
+    let none = subst (λ (o : Option Command). IsNamed named o) c.in-None.is given in
+    none_named a named c.args.command none is

@@ -7,4 +7,5 @@ use Rattle.wire_core.proofs.words.words_of.Given as goal
 
 abbrev pub invariant-loop-character : goal.invariant-loop-character
 invariant-loop-character l =
-    after (map string_bytes l.words.items) (read_at l.place (drop (length l.yielded) (chars l.line))) ≡ words_of l.line
+    after (map string_bytes l.words.items)
+    (read_at l.place (drop (length l.yielded) (chars l.line))) ≡ words_of l.line
