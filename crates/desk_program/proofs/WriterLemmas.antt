@@ -1,7 +1,7 @@
 -- What a writer has taken of texts that were written one after the other.
-use Rattle.std.proofs.Common.{◌≡◌, ◌≢◌, ◌∙◌, ◌==◌, ◌||◌, ◌≤◌, ◌<◌, ◌+◌, ℕ, Bool, true, false, List}
+use Rattle.std.proofs.Common.{◌≡◌, ◌≢◌, ◌∙◌, ◌==◌, ◌||◌, ◌<◌, ◌+◌, ℕ, Bool, true, false, List}
 use Rattle.std.proofs.Common.{[], ◌∷◌, ◌++◌, length, length-append, take, drop, get_or, Option}
-use Rattle.std.proofs.Common.{Some, None, eq-eqb, refl, ap, sym, subst, append_assoc, append-nil}
+use Rattle.std.proofs.Common.{Some, None, eq-eqb, ap, sym, subst, append_assoc, append-nil}
 use Rattle.std.proofs.Common.{arith}
 use Rattle.std.proofs.lemmas.List.{drop_more, take-append-drop}
 use Rattle.std.specs.Io.KnownBytes.{Appends}

@@ -1,4 +1,4 @@
-ghost use Rattle.std.specs.Prelude.{◌≡◌, ◌≤◌, ◌+◌, ◌×◌, ℕ, List, IfSome, Result};
+ghost use Rattle.std.specs.Prelude.{◌≡◌, ◌≤◌, ◌+◌, ℕ, List, IfSome, Result};
 ghost use Rattle.desk_rows.specs.Rows.{desk_of};
 ghost use Rattle.desk_program.specs.Input as form;
 ghost use Rattle.desk_program.specs.Input.{ConsumesAtMost};

@@ -11,8 +11,8 @@ use Rattle.desk_program.proofs.PrintedLines.{run_of_lines}
 use Rattle.desk_program.proofs.WriterLemmas.{prints_both, prints_cut_short}
 use Rattle.desk_program.proofs.script.run_lines.Goals as goal
 
-pub loop-line-preserved-clause-printed : goal.loop-line-preserved-clause-printed
-loop-line-preserved-clause-printed g c =
+pub loop-line-preserved : goal.loop-line-preserved
+loop-line-preserved g c =
     let settings = c.args.settings.now in
     let all = lines c.args.commands.now in
     let i = length c.loop-line.yielded in
@@ -24,12 +24,16 @@ loop-line-preserved-clause-printed g c =
     let so_far = c.loop-line.invariant.printed in
     let here = c.run_line.ensures.printed in
     let more = print_one_more settings all i c.in-Some.line.now turn (desk_of c.loop-line.rows) desk
-    so_far.0 here.0 so_far.1 here.1 in (
-      so_far.0 ++ here.0,
-      subst (λ (n : ℕ). PrintUpTo settings all n (so_far.0 ++ here.0) desk)
-          (sym (length_push c.loop-line.yielded c.in-Some.line)) more,
-      prints_both g.W.Write.contents _ _ _ _ _ so_far.2 here.2,
-    )
+    so_far.0 here.0 so_far.1 here.1 in
+    record {
+      same = c.run_line.ensures.same_writer ∙ c.loop-line.invariant.same;
+      printed = (
+        so_far.0 ++ here.0,
+        subst (λ (n : ℕ). PrintUpTo settings all n (so_far.0 ++ here.0) desk)
+            (sym (length_push c.loop-line.yielded c.in-Some.line)) more,
+        prints_both g.W.Write.contents _ _ _ _ _ so_far.2 here.2,
+      );
+    }
 
 pub returns-then-failed-clause-printed : goal.returns-then-failed-clause-printed
 returns-then-failed-clause-printed g c =
