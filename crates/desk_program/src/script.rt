@@ -1,4 +1,4 @@
-ghost use Rattle.std.specs.Prelude.{◌≡◌, ◌≤◌, ◌+◌, ℕ, List, IfSome, Result};
+ghost use Rattle.std.specs.Prelude.{◌≡◌, ◌≤◌, ◌+◌, ℕ, List, IfSome, Result, if◌then◌else◌};
 ghost use Rattle.desk_rows.specs.Rows.{desk_of};
 ghost use Rattle.desk_program.specs.Input as form;
 ghost use Rattle.desk_program.specs.Input.{ConsumesAtMost};
@@ -39,6 +39,27 @@ pub struct Ended {
     pub failed: bool,
 }
 
+impl Ended {
+    /// How a script ended that has this status if no write failed.
+    fn new<R: Read, W: Write>(
+        status: u8,
+        reader: &CountedReader<'_, R>,
+        output: &CountedWriter<'_, W>,
+    ) -> Ended
+        ensures status { result.status ≡ (if output.now.failed then 4 else status) }
+        ensures reads { result.reads ≡ reader.now.reads }
+        ensures writes { result.writes ≡ output.now.writes }
+        ensures failed { result.failed ≡ output.now.failed }
+    {
+        Ended {
+            status: if output.failed() { BAD_INPUT } else { status },
+            reads: reader.reads(),
+            writes: output.writes(),
+            failed: output.failed(),
+        }
+    }
+}
+
 /// Runs a script over a desk in memory, and answers the exit status.
 ///
 /// The input has settings, a line `%%`, and a command on each line after it: a moment in minutes
@@ -68,12 +89,7 @@ pub fn run_script_counted<R: Read, W: Write>(alloc: Global, reader: &mut R, writ
     let mut reader = CountedReader::new(reader);
     let mut output = CountedWriter::new(writer);
     let status = print_script(alloc, &mut reader, &mut output);
-    Ended {
-        status: if output.failed() { BAD_INPUT } else { status },
-        reads: reader.reads(),
-        writes: output.writes(),
-        failed: output.failed(),
-    }
+    Ended::new(status, &reader, &output)
 }
 
 /// Takes the input in and runs it: its status, if no write fails.
