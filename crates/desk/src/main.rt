@@ -12,8 +12,8 @@ const BAD_WORDS: u8 = 2;
 /// The exit status of a failed write.
 const FAILED_WRITE: u8 = 4;
 
-/// `desk script`, or `desk` alone, runs the script that stands in the standard input, and ends with its status. All
-/// else is `bad words`.
+/// `desk script`, or `desk` alone, runs the script that stands in the standard input, and ends with
+/// its status. All else is `bad words`.
 fn main(rt: HostRuntime) -> ExitCode {
     if asks_for_script(&rt) {
         let ended = run_script_counted(rt.alloc(), &mut rt.reader(), &mut io::writer(&rt));

@@ -1,10 +1,7 @@
-pub mod Bytes
-pub mod Digits
-pub mod Endings
-pub mod Failing
-pub mod Given
-pub mod Marker
-pub mod Parting
-pub mod Printing
-pub mod Stays
-pub mod Writing
+pub mod DeskUnchanged
+pub mod InputFaults
+pub mod MarkerSearch
+pub mod PrintedLines
+pub mod ReadSettings
+pub mod ReaderLemmas
+pub mod WriterLemmas

@@ -1,13 +1,23 @@
 -- What a writer has taken of a text.
-use Rattle.std.specs.Prelude.{◌≡◌, ℕ, Bool, true, false, List, ◌∷◌, ◌++◌, Option, if◌then◌else◌}
+use Rattle.std.specs.Prelude.{◌≡◌, ◌≤◌, ◌+◌, ℕ, Bool, true, false, List, ◌∷◌, ◌++◌, Option, length}
 use Rattle.std.specs.Io.KnownBytes.{Appends}
+use Rattle.desk_program.specs.declared.writer.CountedWriter.{CountedWriter}
 
--- all of the text was taken, or where a write failed a part from its front and not the rest, which has a byte or more
-abbrev pub Takes : Bool → Option (List ℕ) → Option (List ℕ) → List ℕ → Type 0
-Takes false old new text = Appends old new text
-Takes true old new text =
-    (part : List ℕ) × (byte : ℕ) × (rest : List ℕ) × (text ≡ part ++ byte ∷ rest) × Appends old new part
+-- a text was written whole, or where a write failed a part from its front that lacks a byte or more
+abbrev pub IsWritten : Bool → Option (List ℕ) → Option (List ℕ) → List ℕ → Type 0
+IsWritten false old new text = Appends old new text
+IsWritten true old new text =
+    (part : List ℕ) × (byte : ℕ) × (rest : List ℕ)
+    × (text ≡ part ++ byte ∷ rest) × Appends old new part
 
--- so much was taken, and the status is this one, or 4 where a write failed
-abbrev pub Ends : Bool → Option (List ℕ) → Option (List ℕ) → List ℕ → ℕ → ℕ → Type 0
-Ends failed old new text status result = Takes failed old new text × (result ≡ (if failed then 4 else status))
+-- the same after other texts: where a write has failed, nothing more is written
+abbrev pub WritesOn : Bool → Bool → Option (List ℕ) → Option (List ℕ) → List ℕ → Type 0
+WritesOn false failed old new text = IsWritten failed old new text
+WritesOn true failed old new text = (failed ≡ true) × (new ≡ old)
+
+-- a text was written after other texts, in at most as many writes as it has bytes
+pub record Prints {W : Type 0} (contents : W → Option (List ℕ)) (old new : CountedWriter W)
+    (text : List ℕ) : Type 0 where
+  pub written :
+      WritesOn old.failed new.failed (contents old.writer.now) (contents new.writer.now) text
+  pub counted : new.writes ≤ old.writes + length text

@@ -1,9 +1,11 @@
-ghost use Rattle.std.specs.Prelude.{◌≡◌, ◌≢◌, ◌≤◌, ◌<◌, ◌+◌, ◌-◌, ◌++◌, List, ℕ, Ok, Err, true, length, IfOk, IfErr, IfSome};
+ghost use Rattle.std.specs.Prelude.{◌≡◌, ◌≢◌, ◌≤◌, ◌<◌, ◌+◌, ◌-◌, ◌++◌, List, ℕ};
+ghost use Rattle.std.specs.Prelude.{Ok, Err, None, length, IfOk, IfErr, IfSome, if◌then◌else◌};
 ghost use Rattle.std.specs.Option.{option_map};
 ghost use Rattle.std.specs.Io.KnownBytes.{Consumes, IsAtEnd};
 ghost use Rattle.desk_program.specs.Input as form;
 
-use crate::reads::Reads;
+use crate::fault::InputFault;
+use crate::reader::CountedReader;
 use std::alloc::Global;
 use std::io::Read;
 use std::str;
@@ -17,44 +19,32 @@ const MAX_READS: u32 = 1_048_577;
 /// How many bytes are asked for at once.
 const CHUNK: usize = 8_192;
 
-/// Why an input is no script.
-#[derive(Clone, Copy, Debug, PartialEq, Eq)]
-pub(crate) enum InputFault {
-    /// No line is `%%`.
-    NoMarker,
-    /// It has more than 1,048,576 bytes.
-    TooLong,
-    /// What stands behind the line `%%` isn't UTF-8.
-    NotUtf8,
-    /// It couldn't be read, or memory for it was wanting.
-    Read,
-}
-
 /// Settings and commands, as they stand in an input.
 #[derive(Clone, Copy)]
-pub(crate) struct Parts<'i> {
+pub(crate) struct Script<'i> {
     pub(crate) settings: &'i [u8],
     pub(crate) commands: &'i str,
 }
 
-/// All that a reader has left, where that is at most 1,048,576 bytes: `TooLong` is answered one byte behind, and `Read`
-/// where a read failed or memory was wanting.
+/// All that a reader has left, where that is at most 1,048,576 bytes. `TooLong` is answered after
+/// one byte more, and `Read` where a read failed or it was out of memory.
 pub(crate) fn take_input<R: Read>(
     alloc: Global,
-    reader: &mut R,
-    reads: &mut Reads,
+    reader: &mut CountedReader<'_, R>,
 ) -> Result<Vec<u8>, InputFault>
+    ensures same_reader { reader.new.reader.ghost_name ≡ reader.old.reader.ghost_name }
     ensures whole { IfOk result (λ taken. (length taken.items ≤ form.input_limit)
-        × IfSome (R.remaining reader.old) (λ input. input ≡ taken.items)) }
-    ensures long { result ≡ Err InputFault.TooLong → ((input : List ℕ) × (form.input_limit < length input)
-        × IfSome (R.remaining reader.old) (λ all. all ≡ input)) }
+        × IfSome (R.remaining reader.old.reader.now) (λ all. all ≡ taken.items)) }
+    ensures long { result ≡ Err InputFault.TooLong
+        → form.IsLong (R.remaining reader.old.reader.now) }
     ensures kinds { IfErr result (λ fault. fault ≢ InputFault.TooLong → fault ≡ InputFault.Read) }
-    ensures taken { form.TakesAtMost (R.remaining reader.old) (R.remaining reader.new) (form.input_limit + 1) }
-    ensures reads { reads.new.made ≤ reads.old.made + 1048577 }
+    ensures taken { form.ConsumesAtMost (R.remaining reader.old.reader.now)
+        (R.remaining reader.new.reader.now) (form.input_limit + 1) }
+    ensures reads { reader.new.reads ≤ reader.old.reads + 1048577 }
 {
     let mut taken = Vec::new(alloc);
     for turn in 0..MAX_READS {
-        match take_some(reader, reads, &mut taken) {
+        match take_some(reader, &mut taken) {
             Ok(0) => return Ok(taken),
             Ok(_) => {}
             Err(fault) => return Err(fault),
@@ -66,26 +56,26 @@ pub(crate) fn take_input<R: Read>(
     unreachable!()
 }
 
-/// One read, whose bytes go to the end of those taken so far: how many they are. At most one byte more than an input
-/// may have is taken in all.
+/// One read, whose bytes go to the end of those taken so far: how many they are. At most one byte
+/// more than an input may have is taken in all.
 fn take_some<R: Read>(
-    reader: &mut R,
-    reads: &mut Reads,
+    reader: &mut CountedReader<'_, R>,
     taken: &mut Vec<u8>,
 ) -> Result<usize, InputFault>
     requires { length taken.old.items ≤ form.input_limit }
+    ensures same_reader { reader.new.reader.ghost_name ≡ reader.old.reader.ghost_name }
     ensures some { IfOk result (λ n. (length taken.new.items ≡ length taken.old.items + n)
         × ((bytes : List ℕ) × (taken.new.items ≡ taken.old.items ++ bytes)
-        × Consumes (R.remaining reader.old) (R.remaining reader.new) bytes)
-        × (n ≡ 0 → IsAtEnd (R.remaining reader.new))) }
+        × Consumes (R.remaining reader.old.reader.now) (R.remaining reader.new.reader.now) bytes)
+        × (n ≡ 0 → IsAtEnd (R.remaining reader.new.reader.now))) }
     ensures err { IfErr result (λ fault. fault ≡ InputFault.Read) }
-    ensures taken { form.TakesAtMost (R.remaining reader.old) (R.remaining reader.new)
-        (form.input_limit + 1 - length taken.old.items) }
-    ensures reads { reads.new.made ≤ reads.old.made + 1 }
+    ensures taken { form.ConsumesAtMost (R.remaining reader.old.reader.now)
+        (R.remaining reader.new.reader.now) (form.input_limit + 1 - length taken.old.items) }
+    ensures reads { reader.new.reads ≤ reader.old.reads + 1 }
 {
     let mut chunk = [0u8; CHUNK];
     let room = CHUNK.min(MAX_INPUT + 1 - taken.len());
-    match reads.read(reader, &mut chunk[..room]) {
+    match reader.read(&mut chunk[..room]) {
         Ok(count) => match taken.extend_from_slice(&chunk[..count]) {
             Ok(()) => Ok(count),
             Err(_) => Err(InputFault::Read),
@@ -94,28 +84,29 @@ fn take_some<R: Read>(
     }
 }
 
-/// The parts of an input that isn't too long.
-pub(crate) fn parts_of(input: &[u8]) -> Result<Parts<'_>, InputFault>
-    ensures ok { IfOk result (λ parts. form.IsScriptIn input.now
-        (Ok (record { settings = parts.settings.now; commands = parts.commands.now }))) }
-    ensures err { IfErr result (λ fault. form.IsScriptIn input.now (Err fault)) }
+/// The script that an input is, where it isn't too long.
+pub(crate) fn script_of(input: &[u8]) -> Result<Script<'_>, InputFault>
+    ensures ok { IfOk result (λ script. form.IsScriptWithin input.now
+        (Ok (record { settings = script.settings.now; commands = script.commands.now }))) }
+    ensures err { IfErr result (λ fault. form.IsScriptWithin input.now (Err fault)) }
 {
     let Some((settings, rest)) = split(input) else {
         return Err(InputFault::NoMarker);
     };
     match str::from_utf8(rest) {
-        Ok(commands) => Ok(Parts { settings, commands }),
+        Ok(commands) => Ok(Script { settings, commands }),
         Err(_) => Err(InputFault::NotUtf8),
     }
 }
 
-/// What stands before the first line `%%`, and what stands behind it.
+/// What stands before the first line `%%`, and what stands after it.
 fn split(input: &[u8]) -> Option<(&[u8], &[u8])>
-    ensures { option_map (λ parts. (parts.0.now, parts.1.now)) result ≡ form.parted true input.now }
+    ensures { form.IsSplitOf input.now
+        (option_map (λ halves. (halves.0.now, halves.1.now)) result) }
 {
     let mut begins = true;
     for (place, byte) in input.iter().enumerate() {
-        if let Some(rest) = marked(begins, &input[place..]) {
+        if let Some(rest) = marker_rest(begins, &input[place..]) {
             return Some((&input[..place], rest));
         }
         begins = *byte == b'\n';
@@ -124,8 +115,9 @@ fn split(input: &[u8]) -> Option<(&[u8], &[u8])>
 }
 
 /// What follows a line `%%` at the front of a text that begins a line.
-fn marked(begins: bool, text: &[u8]) -> Option<&[u8]>
-    ensures { option_map (λ rest. rest.now) result ≡ form.marked begins text.now }
+fn marker_rest(begins: bool, text: &[u8]) -> Option<&[u8]>
+    ensures { option_map (λ rest. rest.now) result
+        ≡ (if begins then form.after_marker text.now else None) }
 {
     if begins { after_marker(text) } else { None }
 }

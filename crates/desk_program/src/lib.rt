@@ -1,14 +1,13 @@
 //! The desk's program: a script over a desk in memory.
 #![tactic(auto)]
 
+mod fault;
 mod fault_lines;
 mod input;
 mod line;
-mod output;
-mod reads;
+mod reader;
 mod script;
-mod writes;
+mod writer;
 
-pub use reads::Reads;
+pub use fault::InputFault;
 pub use script::{Ended, run_script, run_script_counted};
-pub use writes::Writes;

@@ -1,9 +1,11 @@
-ghost use Rattle.std.specs.Prelude.{◌≡◌, ◌+◌, ◌≤◌, ◌++◌, ℕ, List, map, false, IfOk, OnErr, codes, decimal, string_bytes};
+ghost use Rattle.std.specs.Prelude.{◌≡◌, ◌+◌, ◌≤◌, ◌++◌, ℕ, List, map, false, IfOk, OnErr, codes};
+ghost use Rattle.std.specs.Prelude.{decimal, string_bytes};
 ghost use Rattle.std.specs.String.{string_capacity, string_len};
 ghost use Rattle.service_core.specs.Step.{Outcome, Steps};
 ghost use Rattle.service_core.specs.Texts.{created_text, outcome_text};
 ghost use Rattle.desk_rows.specs.Rows.{desk_of};
-ghost use Rattle.desk_program.specs.Script.{LinePrints, said, said_by, is_passed_over, is_comment};
+ghost use Rattle.desk_program.specs.Script.{LinePrints, line_of, line_of_words, is_passed_over};
+ghost use Rattle.desk_program.specs.Script.{is_comment};
 
 use desk_core::{Answer, Command};
 use desk_rows::Rows;
@@ -32,15 +34,15 @@ pub(crate) enum Line {
     },
 }
 
-/// What a line prints, after its command is done. Where memory is wanting the desk stays as it was.
+/// What a line prints, after its command is done. Out of memory the desk stays as it was.
 pub(crate) fn answer_line(
     alloc: Global,
     settings: &Settings,
     rows: &mut Rows,
     text: &str,
 ) -> Result<String, AllocError>
-    ensures ok { IfOk result (λ printed. LinePrints settings.now (said text.now) (desk_of rows.old)
-        (string_bytes printed) (desk_of rows.new)) }
+    ensures ok { IfOk result (λ printed. LinePrints settings.now (line_of text.now)
+        (desk_of rows.old) (string_bytes printed) (desk_of rows.new)) }
     ensures err { OnErr result (desk_of rows.new ≡ desk_of rows.old) }
     ensures asked { OnErr result (is_passed_over text.now ≡ false) }
 {
@@ -55,7 +57,8 @@ pub(crate) fn answer_line(
     }
 }
 
-/// What a command prints, after it is done. A change of the desk is made only once there is room for its answer.
+/// What a command prints, after it is done. A change of the desk is made only once there is room
+/// for its answer.
 fn answer_command(
     alloc: Global,
     settings: &Settings,
@@ -99,22 +102,22 @@ fn put_created(room: &mut String, id: u32)
 
 /// What a line says.
 fn line_of(alloc: Global, text: &str) -> Result<Line, AllocError>
-    ensures ok { IfOk result (λ line. line ≡ said text.now) }
+    ensures ok { IfOk result (λ line. line ≡ line_of text.now) }
     ensures asked { OnErr result (is_passed_over text.now ≡ false) }
 {
     if is_passed_over(text.as_bytes()) {
         return Ok(Line::PassedOver);
     }
     match words_of(alloc, text) {
-        Ok(words) => line_by(alloc, words.as_slice()),
+        Ok(words) => line_of_words(alloc, words.as_slice()),
         Err(WordsFault::NoMemory) => Err(AllocError),
         Err(_) => Ok(Line::BadWords),
     }
 }
 
 /// What the words of a line say: a moment, a caller and a command.
-fn line_by(alloc: Global, words: &[String]) -> Result<Line, AllocError>
-    ensures { IfOk result (λ line. line ≡ said_by (map string_bytes words.now)) }
+fn line_of_words(alloc: Global, words: &[String]) -> Result<Line, AllocError>
+    ensures { IfOk result (λ line. line ≡ line_of_words (map string_bytes words.now)) }
 {
     let [at, caller, command @ ..] = words else {
         return Ok(Line::BadWords);

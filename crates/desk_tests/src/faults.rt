@@ -15,7 +15,7 @@ fn endless_input_is_left(rt: HostRuntime) {
     assert_eq!(rt; ended.status, 4);
     assert!(rt; writer.as_slice() == b"input: too long\n".as_slice());
     assert_eq!(rt; reader.reads, 1_048_577);
-    assert_eq!(rt; ended.reads.made(), 1_048_577);
+    assert_eq!(rt; ended.reads, 1_048_577);
 }
 
 #[test]
@@ -57,8 +57,8 @@ fn writers_that_fail_or_take_nothing(rt: HostRuntime) {
                 if falters { 4 } else { 0 },
                 "at {falters_at}"
             );
-            assert_eq!(rt; ended.writes.failed(), falters, "at {falters_at}");
-            assert_eq!(rt; ended.writes.made(), writer.writes, "at {falters_at}");
+            assert_eq!(rt; ended.failed, falters, "at {falters_at}");
+            assert_eq!(rt; ended.writes, writer.writes, "at {falters_at}");
             assert_eq!(rt; writer.writes, (falters_at + 1).min(13), "at {falters_at}");
             assert!(rt;
                 writer.taken.as_slice() == &PRINTED.as_bytes()[..falters_at as usize],

@@ -49,7 +49,7 @@ fn put_word(
     Ok(())
 }
 
-/// Adds a text so many times, with the number of the time, from 1, for each `@`.
+/// Adds a text that number of times, with the number of the time, from 1, for each `@`.
 fn put_repeated(
     alloc: Global,
     script: &mut Vec<u8>,

@@ -9,9 +9,13 @@ use Rattle.desk_program.proofs.line.answer_line.Goals as goal
 
 pub returns-in-Asked-clause-ok : goal.returns-in-Asked-clause-ok
 returns-in-Asked-clause-ok c =
-    subst (λ (line : Line). IfOk c.answer_command.result (λ printed. LinePrints c.args.settings.now line (desk_of c.args.rows.now) (string_bytes printed) (desk_of c.answer_command.new.rows)))
+    let settings = c.args.settings.now in
+    let old = desk_of c.args.rows.now in
+    let new = desk_of c.answer_command.new.rows in
+    subst (λ (line : Line). IfOk c.answer_command.result
+    (λ printed. LinePrints settings line old (string_bytes printed) new))
     (sym c.in-Asked.is ∙ c.in_ok-line_of.ensures.ok)
     (subst (λ (caller : List ℕ). IfOk c.answer_command.result (λ printed. (outcome : Outcome)
-    × Steps c.args.settings.now c.in-Asked.at caller c.in-Asked.command (desk_of c.args.rows.now) outcome (desk_of c.answer_command.new.rows)
+    × Steps settings c.in-Asked.at caller c.in-Asked.command old outcome new
     × (string_bytes printed ≡ outcome_text outcome)))
     c.as_str.ensures c.answer_command.ensures.ok)

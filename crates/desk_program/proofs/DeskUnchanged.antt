@@ -1,0 +1,72 @@
+-- A command that shows something leaves the desk as it was, and so may be left out of a run.
+use Rattle.std.proofs.Common.{◌≡◌, ◌∙◌, inl, inr, ℕ, ◌+◌, List, Option, Some, None, Ok, refl, subst}
+use Rattle.std.proofs.Common.{sym}
+use Rattle.std.specs.Prelude.{⊤}
+use Rattle.settings_core.specs.declared.settings.Settings.{Settings}
+use Rattle.desk_core.specs.declared.answer.Answer.{Answer}
+use Rattle.desk_core.specs.declared.answer.Answer.TheVariants as answer
+use Rattle.desk_core.specs.declared.answer.Shown as shown
+use Rattle.desk_core.specs.declared.command.Command.{Command}
+use Rattle.desk_core.specs.declared.command.Command.TheVariants.{Create, Queues, Show, History}
+use Rattle.desk_core.specs.declared.facts.Standing.{Standing}
+use Rattle.desk_core.specs.declared.refusal.Refusal.{Refusal}
+use Rattle.desk_core.specs.declared.rows.Entry.{Entry}
+use Rattle.desk_core.specs.declared.rows.QueueRow.{QueueRow}
+use Rattle.service_core.specs.Change.{applied, no_change}
+use Rattle.service_core.specs.Desk.{Desk, request_count}
+use Rattle.service_core.specs.Plan.{change_of_request}
+use Rattle.service_core.specs.Reading.{answer_of}
+use Rattle.service_core.specs.Step.{Steps, desk_unless, effect, facts_of, guard, outcome_unless}
+
+-- an answer that shows something
+abbrev Tells : Answer → Type 0
+Tells (answer.Queues queues) = ⊤
+Tells (answer.Shown x) = ⊤
+Tells (answer.History entries) = ⊤
+Tells other = ⊥
+
+applied-no_change : (o : Option Standing) (desk : Desk)
+    → applied (change_of_request o (λ on. no_change)) desk ≡ desk
+applied-no_change None desk = refl
+applied-no_change (Some on) desk = refl
+
+unchanged_by_plan : (s : Settings) (at : ℕ) (caller : List ℕ) (o : Option Refusal)
+    (command : Command) (old : Desk) (x : Answer)
+    → Tells x → outcome_unless o (answer_of s at caller command old) ≡ Ok x
+    → desk_unless o old (effect s at caller command old) ≡ old
+unchanged_by_plan s at caller (Some refusal) command old x t e = refl
+unchanged_by_plan s at caller None Queues old x t e = refl
+unchanged_by_plan s at caller None (Show id) old x t e =
+    applied-no_change (facts_of (Show id) old).request old
+unchanged_by_plan s at caller None (History id) old x t e =
+    applied-no_change (facts_of (History id) old).request old
+unchanged_by_plan s at caller None (Create queue subject status requestors) old x t e =
+    let made : answer.Created (request_count old + 1) ≡ x = cc in
+    absurd (subst Tells (sym made) t)
+unchanged_by_plan s at caller None other old x t e =
+    let made : answer.Done ≡ x = cc in absurd (subst Tells (sym made) t)
+
+unchanged : (s : Settings) (at : ℕ) (caller : List ℕ) (command : Command) (old new : Desk)
+    (x : Answer) → Tells x → Steps s at caller command old (Ok x) new → new ≡ old
+unchanged s at caller command old new x t (inl left) = left.1
+unchanged s at caller command old new x t (inr made) =
+    made.1
+    ∙ unchanged_by_plan s at caller (guard s at caller command old) command old x t (sym made.0)
+
+pub unchanged_by_show : (s : Settings) (at : ℕ) (caller : List ℕ) (command : Command)
+    (old new : Desk) (x : shown.Shown)
+    → Steps s at caller command old (Ok (answer.Shown x)) new → new ≡ old
+unchanged_by_show s at caller command old new x =
+    unchanged s at caller command old new (answer.Shown x) tt
+
+pub unchanged_by_queues : (s : Settings) (at : ℕ) (caller : List ℕ) (command : Command)
+    (old new : Desk) (queues : List QueueRow)
+    → Steps s at caller command old (Ok (answer.Queues queues)) new → new ≡ old
+unchanged_by_queues s at caller command old new queues =
+    unchanged s at caller command old new (answer.Queues queues) tt
+
+pub unchanged_by_history : (s : Settings) (at : ℕ) (caller : List ℕ) (command : Command)
+    (old new : Desk) (entries : List Entry)
+    → Steps s at caller command old (Ok (answer.History entries)) new → new ≡ old
+unchanged_by_history s at caller command old new entries =
+    unchanged s at caller command old new (answer.History entries) tt

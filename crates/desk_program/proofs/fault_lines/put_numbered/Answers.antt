@@ -1,0 +1,12 @@
+-- the pieces, one after the other
+use Rattle.desk_program.proofs.WriterLemmas.{prints_both}
+use Rattle.desk_program.proofs.fault_lines.put_numbered.Goals as goal
+
+pub returns-clause-printed : goal.returns-clause-printed
+returns-clause-printed g c =
+    let contents = g.W.Write.contents in
+    let number = rw (c.as_bytes.ensures.value, c.format.ensures.text) at c.put-2.ensures.printed in
+    let name = rw c.as_bytes-2.ensures.value at c.put-4.ensures.printed in
+    prints_both contents _ _ _ _ _ c.put.ensures.printed
+    (prints_both contents _ _ _ _ _ number
+    (prints_both contents _ _ _ _ _ c.put-3.ensures.printed name))
