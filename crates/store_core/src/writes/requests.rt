@@ -1,9 +1,10 @@
 //! A request's row that is added, or set in the place of another.
-ghost use Rattle.std.specs.Prelude.{◌≡◌};
+ghost use Rattle.std.specs.Prelude.{◌≡◌, IfErr};
 ghost use Rattle.sqlite.specs.Held.{state};
 ghost use Rattle.store_core.specs.Calls.{Makes, RestsOn};
 ghost use Rattle.store_core.specs.Contents.{add_request, set_request as with_row};
 ghost use Rattle.store_core.specs.Stands.{KeepsBase};
+ghost use Rattle.store_core.specs.declared.fault.StoreFault.{StoreFault};
 
 use crate::columns::{minute, nullable, number, turn, words};
 use crate::fault::StoreFault;
@@ -21,6 +22,7 @@ pub(crate) fn put_request<S: Alter>(
         (state S.Store tx.old.conn.now) (state S.Store tx.new.conn.now) result }
     ensures base { RestsOn (state S.Store tx.old.conn.now) (state S.Store tx.new.conn.now) }
     ensures keeps { KeepsBase (state S.Store tx.old.conn.now) (state S.Store tx.new.conn.now) }
+    ensures fault { IfErr result (λ e. e ≡ StoreFault.Refused) }
 {
     let _ = run(
         tx,
@@ -52,6 +54,7 @@ pub(crate) fn set_request<S: Alter>(
         (state S.Store tx.old.conn.now) (state S.Store tx.new.conn.now) result }
     ensures base { RestsOn (state S.Store tx.old.conn.now) (state S.Store tx.new.conn.now) }
     ensures keeps { KeepsBase (state S.Store tx.old.conn.now) (state S.Store tx.new.conn.now) }
+    ensures fault { IfErr result (λ e. e ≡ StoreFault.Refused) }
 {
     run_on_one(
         tx,
