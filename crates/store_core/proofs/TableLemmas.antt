@@ -303,25 +303,3 @@ drops_link d l old new t h =
     (subst (Keeps link_columns _) (sym rows) (removed (filed link_columns) value_of d.links (db 6)
     t.links (passes three_test params) (is_link l) (the_link l) k.0.0 s.it (ap rowid k.1)
     s.one))
-
-pub sets_request_once : (d : Contents) (x : RequestRow) (old new : State) (count : ℕ) → count ≡ 1
-    → Tables d old.now → Executes set_request_text (request_shown x) old new (Ok count)
-    → Tables (set_request d x) new.now
-sets_request_once d x old new count one t h = sets_request d x old new t
-    (subst (λ n. Executes set_request_text (request_shown x) old new (Ok n)) one h)
-
-pub drops_watcher_once : (d : Contents) (x : Watcher) (old new : State) (count : ℕ) → count ≡ 1
-    → Tables d old.now → Executes drop_watcher_text (watcher_columns x) old new (Ok count)
-    → Tables (drop_watcher d x) new.now
-drops_watcher_once d x old new count one t h = drops_watcher d x old new t
-    (subst (λ n. Executes drop_watcher_text (watcher_columns x) old new (Ok n)) one h)
-
-pub drops_link_once : (d : Contents) (x : LinkRow) (old new : State) (count : ℕ) → count ≡ 1
-    → Tables d old.now → Executes drop_link_text (link_columns x) old new (Ok count)
-    → Tables (drop_link d x) new.now
-drops_link_once d x old new count one t h = drops_link d x old new t
-    (subst (λ n. Executes drop_link_text (link_columns x) old new (Ok n)) one h)
-
-changed_queue : (i : ℤ) (q : QueueRow) → cast_row queue (Int i ∷ queue_columns q) ≡ Int i
-    ∷ queue_columns q
-changed_queue i q = rw (cast_int i, cast_text q.level)
