@@ -1,5 +1,5 @@
 -- What each INSERT, UPDATE and DELETE makes of the desk that the tables stand for.
-use Rattle.std.proofs.Common.{ℤ, ◌≡◌, inl, true, arith, drop, ℕ, pos, List, [], ◌∷◌, Ok, refl, sym}
+use Rattle.std.proofs.Common.{◌≡◌, inl, true, arith, drop, ℕ, pos, List, [], ◌∷◌, Ok, refl, sym}
 use Rattle.std.proofs.Common.{ap, subst, ◌∙◌}
 use Rattle.std.specs.Prelude.{◌==◌}
 use Rattle.std.proofs.lemmas.Bool.Decides.{nat_tests}
@@ -21,14 +21,13 @@ use Rattle.desk_core.specs.declared.rows.Entry.{Entry}
 use Rattle.desk_core.specs.declared.rows.LinkRow.{LinkRow}
 use Rattle.store_core.specs.Kept.{Keeps, Numbers, filed, numbered_as, value_of, itself}
 use Rattle.store_core.specs.Tables.{desk_schema, queue, request, watcher, link, entry}
-use Rattle.store_core.specs.Queries.{named_test}
 use Rattle.store_core.specs.Queries.{add_entry_terms, add_entry_text, add_link_text}
 use Rattle.store_core.specs.Queries.{add_queue_terms, add_queue_text, add_request_terms}
 use Rattle.store_core.specs.Queries.{add_request_text, add_three_terms, add_watcher_text}
 use Rattle.store_core.specs.Queries.{set_request_terms, set_request_text, drop_link_text}
 use Rattle.store_core.specs.Queries.{drop_watcher_text, numbered_test, three_test}
 use Rattle.store_core.specs.Picked.{passes, shows}
-use Rattle.store_core.specs.Selection.{is_named, is_numbered, is_watcher, is_link}
+use Rattle.store_core.specs.Selection.{is_numbered, is_watcher, is_link}
 use Rattle.store_core.specs.Contents.{Contents, add_queue, add_request, set_request, add_watcher}
 use Rattle.store_core.specs.Contents.{drop_watcher, add_link, drop_link, add_entry}
 use Rattle.store_core.specs.Stands.{Tables}
@@ -40,7 +39,7 @@ use Rattle.store_core.proofs.Statements.{add_entry_is, add_link_is, add_queue_is
 use Rattle.store_core.proofs.Statements.{add_watcher_is, drop_link_is, drop_watcher_is}
 use Rattle.store_core.proofs.Statements.{set_request_is}
 use Rattle.store_core.proofs.KeptLemmas.{inserted, removed, replaced, one_kept}
-use Rattle.store_core.proofs.TestLemmas.{named, numbered, the_watcher, the_link}
+use Rattle.store_core.proofs.TestLemmas.{numbered, the_watcher, the_link}
 use Rattle.store_core.proofs.ChangeLemmas.{Moves, apart, adds, sets, drops, cast_null, cast_int}
 use Rattle.store_core.proofs.ChangeLemmas.{cast_text}
 use Rattle.store_core.proofs.WriteLemmas.{inserting}
