@@ -68,10 +68,7 @@ fn revise_request<S: Alter>(
 }
 
 /// Adds the link, if there is one.
-fn link<S: Alter>(
-    tx: &mut Transaction<'_, S>,
-    linked: &Option<LinkRow>,
-) -> Result<(), StoreFault>
+fn link<S: Alter>(tx: &mut Transaction<'_, S>, linked: &Option<LinkRow>) -> Result<(), StoreFault>
     ensures same_reference { tx.new.conn.ghost_name ≡ tx.old.conn.ghost_name }
     ensures linked { Makes (link_added linked.now)
         (state S.Store tx.old.conn.now) (state S.Store tx.new.conn.now) result }
