@@ -1,8 +1,10 @@
 //! A request's row that is added, or set in the place of another.
 ghost use Rattle.std.specs.Prelude.{◌≡◌, IfErr};
 ghost use Rattle.sqlite.specs.Held.{state};
+ghost use Rattle.sqlite.specs.Values.{bound};
 ghost use Rattle.store_core.specs.Calls.{Makes, RestsOn};
 ghost use Rattle.store_core.specs.Contents.{add_request, set_request as with_row};
+ghost use Rattle.store_core.specs.Spelling.{request_shown};
 ghost use Rattle.store_core.specs.Stands.{KeepsBase};
 ghost use Rattle.store_core.specs.declared.fault.StoreFault.{StoreFault};
 
@@ -10,7 +12,26 @@ use crate::columns::{minute, nullable, number, turn, words};
 use crate::fault::StoreFault;
 use crate::transaction::{run, run_on_one};
 use desk_core::RequestRow;
+use sqlite::types::ValueRef;
 use sqlite::{Alter, Transaction};
+
+/// The columns of a request, to be bound.
+fn shown(row: &RequestRow) -> [ValueRef<'_>; 10]
+    ensures { bound result ≡ request_shown row.now }
+{
+    [
+        number(row.id),
+        words(&row.queue),
+        words(&row.subject),
+        words(&row.status),
+        nullable(&row.owner),
+        nullable(&row.level),
+        minute(row.created),
+        minute(row.opened),
+        turn(row.turn),
+        minute(row.since),
+    ]
+}
 
 /// Adds a request.
 pub(crate) fn put_request<S: Alter>(
@@ -28,18 +49,7 @@ pub(crate) fn put_request<S: Alter>(
         tx,
         "INSERT INTO request (id, queue, subject, status, owner, level, created, opened, turn, \
          since) VALUES (?1, ?2, ?3, ?4, ?5, ?6, ?7, ?8, ?9, ?10)",
-        &[
-            number(row.id),
-            words(&row.queue),
-            words(&row.subject),
-            words(&row.status),
-            nullable(&row.owner),
-            nullable(&row.level),
-            minute(row.created),
-            minute(row.opened),
-            turn(row.turn),
-            minute(row.since),
-        ],
+        &shown(row),
     )?;
     Ok(())
 }
@@ -60,17 +70,6 @@ pub(crate) fn set_request<S: Alter>(
         tx,
         "UPDATE request SET queue = ?2, subject = ?3, status = ?4, owner = ?5, level = ?6, \
          created = ?7, opened = ?8, turn = ?9, since = ?10, due = NULL WHERE id = ?1",
-        &[
-            number(row.id),
-            words(&row.queue),
-            words(&row.subject),
-            words(&row.status),
-            nullable(&row.owner),
-            nullable(&row.level),
-            minute(row.created),
-            minute(row.opened),
-            turn(row.turn),
-            minute(row.since),
-        ],
+        &shown(row),
     )
 }
