@@ -2,7 +2,7 @@
 ghost use Rattle.std.specs.Prelude.{◌≡◌, false, IfErr, OnErr, OnOk};
 ghost use Rattle.sqlite.specs.Held.{state};
 ghost use Rattle.store_core.specs.Applying.{Applies};
-ghost use Rattle.store_core.specs.Calls.{Leaves};
+ghost use Rattle.store_core.specs.Calls.{Leaves, WasClean};
 ghost use Rattle.store_core.specs.Contents.{Contents};
 ghost use Rattle.store_core.specs.Seen.{state_of};
 ghost use Rattle.store_core.specs.Stands.{Stand};
@@ -24,6 +24,7 @@ fn apply_change<S: Alter>(conn: &mut Connection<S>, change: &Change) -> Result<(
         OnOk result (Stand (written change.now c) (state S.Store conn.new)) }
     ensures undone { (c : Contents) → Stand c (state S.Store conn.old) →
         OnErr result (Stand c (state S.Store conn.new)) }
+    ensures honest { WasClean (state S.Store conn.old) (state S.Store conn.new) }
     ensures fault { IfErr result (λ e. e ≡ StoreFault.Refused) }
 {
     let mut tx = conn.transaction();
@@ -40,6 +41,7 @@ impl<S: Alter> Store<S> {
             (state_of S.Store self.old) (state_of S.Store self.new) result }
         ensures undone { OnErr result
             (Leaves (state_of S.Store self.old) (state_of S.Store self.new)) }
+        ensures honest { WasClean (state_of S.Store self.old) (state_of S.Store self.new) }
         ensures fault { IfErr result (λ e. e ≡ StoreFault.Refused) }
     {
         apply_change(&mut self.conn, change)

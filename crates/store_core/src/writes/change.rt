@@ -1,7 +1,7 @@
 //! The statements of a change, in the order in which it is applied.
 ghost use Rattle.std.specs.Prelude.{◌≡◌, fold, IfErr};
 ghost use Rattle.sqlite.specs.Held.{state};
-ghost use Rattle.store_core.specs.Calls.{Makes, RestsOn};
+ghost use Rattle.store_core.specs.Calls.{Makes, RestsOn, WasClean};
 ghost use Rattle.store_core.specs.Contents.{add_watcher, drop_watcher as without_watcher};
 ghost use Rattle.store_core.specs.Written.{link_added, link_dropped, queue_added};
 ghost use Rattle.store_core.specs.Written.{request_added, request_set, written};
@@ -25,6 +25,7 @@ fn open_queue<S: Alter>(
     ensures opened { Makes (queue_added queue.now)
         (state S.Store tx.old.conn.now) (state S.Store tx.new.conn.now) result }
     ensures base { RestsOn (state S.Store tx.old.conn.now) (state S.Store tx.new.conn.now) }
+    ensures honest { WasClean (state S.Store tx.old.conn.now) (state S.Store tx.new.conn.now) }
     ensures fault { IfErr result (λ e. e ≡ StoreFault.Refused) }
 {
     match queue {
@@ -42,6 +43,7 @@ fn file_request<S: Alter>(
     ensures filed { Makes (request_added filed.now)
         (state S.Store tx.old.conn.now) (state S.Store tx.new.conn.now) result }
     ensures base { RestsOn (state S.Store tx.old.conn.now) (state S.Store tx.new.conn.now) }
+    ensures honest { WasClean (state S.Store tx.old.conn.now) (state S.Store tx.new.conn.now) }
     ensures fault { IfErr result (λ e. e ≡ StoreFault.Refused) }
 {
     match filed {
@@ -59,6 +61,7 @@ fn revise_request<S: Alter>(
     ensures set { Makes (request_set row.now)
         (state S.Store tx.old.conn.now) (state S.Store tx.new.conn.now) result }
     ensures base { RestsOn (state S.Store tx.old.conn.now) (state S.Store tx.new.conn.now) }
+    ensures honest { WasClean (state S.Store tx.old.conn.now) (state S.Store tx.new.conn.now) }
     ensures fault { IfErr result (λ e. e ≡ StoreFault.Refused) }
 {
     match row {
@@ -73,6 +76,7 @@ fn link<S: Alter>(tx: &mut Transaction<'_, S>, linked: &Option<LinkRow>) -> Resu
     ensures linked { Makes (link_added linked.now)
         (state S.Store tx.old.conn.now) (state S.Store tx.new.conn.now) result }
     ensures base { RestsOn (state S.Store tx.old.conn.now) (state S.Store tx.new.conn.now) }
+    ensures honest { WasClean (state S.Store tx.old.conn.now) (state S.Store tx.new.conn.now) }
     ensures fault { IfErr result (λ e. e ≡ StoreFault.Refused) }
 {
     match linked {
@@ -90,6 +94,7 @@ fn unlink<S: Alter>(
     ensures unlinked { Makes (link_dropped unlinked.now)
         (state S.Store tx.old.conn.now) (state S.Store tx.new.conn.now) result }
     ensures base { RestsOn (state S.Store tx.old.conn.now) (state S.Store tx.new.conn.now) }
+    ensures honest { WasClean (state S.Store tx.old.conn.now) (state S.Store tx.new.conn.now) }
     ensures fault { IfErr result (λ e. e ≡ StoreFault.Refused) }
 {
     match unlinked {
@@ -105,6 +110,7 @@ fn write_rows<S: Alter>(tx: &mut Transaction<'_, S>, change: &Change) -> Result<
         (request_added change.now.filed (queue_added change.now.queue c)))
         (state S.Store tx.old.conn.now) (state S.Store tx.new.conn.now) result }
     ensures base { RestsOn (state S.Store tx.old.conn.now) (state S.Store tx.new.conn.now) }
+    ensures honest { WasClean (state S.Store tx.old.conn.now) (state S.Store tx.new.conn.now) }
     ensures fault { IfErr result (λ e. e ≡ StoreFault.Refused) }
 {
     open_queue(tx, &change.queue)?;
@@ -119,6 +125,7 @@ fn write_persons<S: Alter>(tx: &mut Transaction<'_, S>, change: &Change) -> Resu
         change.now.taken)
         (state S.Store tx.old.conn.now) (state S.Store tx.new.conn.now) result }
     ensures base { RestsOn (state S.Store tx.old.conn.now) (state S.Store tx.new.conn.now) }
+    ensures honest { WasClean (state S.Store tx.old.conn.now) (state S.Store tx.new.conn.now) }
     ensures fault { IfErr result (λ e. e ≡ StoreFault.Refused) }
 {
     put_watchers(tx, change.put.as_slice())?;
@@ -131,6 +138,7 @@ fn write_links<S: Alter>(tx: &mut Transaction<'_, S>, change: &Change) -> Result
     ensures made { Makes (λ c. link_dropped change.now.unlinked (link_added change.now.linked c))
         (state S.Store tx.old.conn.now) (state S.Store tx.new.conn.now) result }
     ensures base { RestsOn (state S.Store tx.old.conn.now) (state S.Store tx.new.conn.now) }
+    ensures honest { WasClean (state S.Store tx.old.conn.now) (state S.Store tx.new.conn.now) }
     ensures fault { IfErr result (λ e. e ≡ StoreFault.Refused) }
 {
     link(tx, &change.linked)?;
@@ -146,6 +154,7 @@ pub(crate) fn write_change<S: Alter>(
     ensures made { Makes (written change.now)
         (state S.Store tx.old.conn.now) (state S.Store tx.new.conn.now) result }
     ensures base { RestsOn (state S.Store tx.old.conn.now) (state S.Store tx.new.conn.now) }
+    ensures honest { WasClean (state S.Store tx.old.conn.now) (state S.Store tx.new.conn.now) }
     ensures fault { IfErr result (λ e. e ≡ StoreFault.Refused) }
 {
     write_rows(tx, change)?;

@@ -2,7 +2,7 @@
 ghost use Rattle.std.specs.Prelude.{◌≡◌, IfErr};
 ghost use Rattle.sqlite.specs.Held.{state};
 ghost use Rattle.sqlite.specs.Values.{bound};
-ghost use Rattle.store_core.specs.Calls.{Makes, RestsOn};
+ghost use Rattle.store_core.specs.Calls.{Makes, RestsOn, WasClean};
 ghost use Rattle.store_core.specs.Contents.{add_request, set_request as with_row};
 ghost use Rattle.store_core.specs.Spelling.{request_shown};
 ghost use Rattle.store_core.specs.Stands.{KeepsBase};
@@ -43,6 +43,7 @@ pub(crate) fn put_request<S: Alter>(
         (state S.Store tx.old.conn.now) (state S.Store tx.new.conn.now) result }
     ensures base { RestsOn (state S.Store tx.old.conn.now) (state S.Store tx.new.conn.now) }
     ensures keeps { KeepsBase (state S.Store tx.old.conn.now) (state S.Store tx.new.conn.now) }
+    ensures honest { WasClean (state S.Store tx.old.conn.now) (state S.Store tx.new.conn.now) }
     ensures fault { IfErr result (λ e. e ≡ StoreFault.Refused) }
 {
     let _ = run(
@@ -64,6 +65,7 @@ pub(crate) fn set_request<S: Alter>(
         (state S.Store tx.old.conn.now) (state S.Store tx.new.conn.now) result }
     ensures base { RestsOn (state S.Store tx.old.conn.now) (state S.Store tx.new.conn.now) }
     ensures keeps { KeepsBase (state S.Store tx.old.conn.now) (state S.Store tx.new.conn.now) }
+    ensures honest { WasClean (state S.Store tx.old.conn.now) (state S.Store tx.new.conn.now) }
     ensures fault { IfErr result (λ e. e ≡ StoreFault.Refused) }
 {
     run_on_one(
