@@ -20,7 +20,8 @@ loop-row-preserved g c =
           c.row-item.is (c.in_ok-drop_watcher.ensures.dropped (fold drop_watcher now (take i rows)) was
           (c.loop-row.invariant.made now was stand));
       base = λ d rests. c.in_ok-drop_watcher.ensures.base d (c.loop-row.invariant.base d rests);
-      honest = λ clean. c.loop-row.invariant.honest (c.in_ok-drop_watcher.ensures.honest clean);
+      honest = λ clean.
+          c.loop-row.invariant.honest (c.in_ok-drop_watcher.ensures.honest clean);
     }
 
 pub returns-clause-dropped : goal.returns-clause-dropped
