@@ -1,5 +1,5 @@
 -- Tables that hold some rows hold them in any order.
-use Rattle.std.proofs.Common.{◌≡◌, List, [], ◌∷◌, Ok, Err, OnOk, OnErr, Result, ap, ◌∙◌}
+use Rattle.std.proofs.Common.{List, [], ◌∷◌, Ok, Err, OnOk, OnErr, Result, ap, ◌∙◌}
 use Rattle.std.proofs.Common.{IsPermutation}
 use Rattle.std.proofs.lemmas.List.Sorted.{IsPermutation-trans}
 use Rattle.sqlite.specs.Effect.{Database}

@@ -1,5 +1,5 @@
 -- What each INSERT, UPDATE and DELETE makes of the desk that the tables stand for.
-use Rattle.std.proofs.Common.{ℤ, ◌≡◌, inl, true, arith, drop, ℕ, pos, List, [], ◌∷◌, Ok, refl, sym}
+use Rattle.std.proofs.Common.{◌≡◌, inl, true, arith, drop, ℕ, pos, List, [], ◌∷◌, Ok, refl, sym}
 use Rattle.std.proofs.Common.{ap, subst, ◌∙◌}
 use Rattle.std.specs.Prelude.{◌==◌}
 use Rattle.std.proofs.lemmas.Bool.Decides.{nat_tests}
@@ -21,14 +21,13 @@ use Rattle.desk_core.specs.declared.rows.Entry.{Entry}
 use Rattle.desk_core.specs.declared.rows.LinkRow.{LinkRow}
 use Rattle.store_core.specs.Kept.{Keeps, Numbers, filed, numbered_as, value_of, itself}
 use Rattle.store_core.specs.Tables.{desk_schema, queue, request, watcher, link, entry}
-use Rattle.store_core.specs.Queries.{named_test}
 use Rattle.store_core.specs.Queries.{add_entry_terms, add_entry_text, add_link_text}
 use Rattle.store_core.specs.Queries.{add_queue_terms, add_queue_text, add_request_terms}
 use Rattle.store_core.specs.Queries.{add_request_text, add_three_terms, add_watcher_text}
 use Rattle.store_core.specs.Queries.{set_request_terms, set_request_text, drop_link_text}
 use Rattle.store_core.specs.Queries.{drop_watcher_text, numbered_test, three_test}
 use Rattle.store_core.specs.Picked.{passes, shows}
-use Rattle.store_core.specs.Selection.{is_named, is_numbered, is_watcher, is_link}
+use Rattle.store_core.specs.Selection.{is_numbered, is_watcher, is_link}
 use Rattle.store_core.specs.Contents.{Contents, add_queue, add_request, set_request, add_watcher}
 use Rattle.store_core.specs.Contents.{drop_watcher, add_link, drop_link, add_entry}
 use Rattle.store_core.specs.Stands.{Tables}
@@ -40,7 +39,7 @@ use Rattle.store_core.proofs.Statements.{add_entry_is, add_link_is, add_queue_is
 use Rattle.store_core.proofs.Statements.{add_watcher_is, drop_link_is, drop_watcher_is}
 use Rattle.store_core.proofs.Statements.{set_request_is}
 use Rattle.store_core.proofs.KeptLemmas.{inserted, removed, replaced, one_kept}
-use Rattle.store_core.proofs.TestLemmas.{named, numbered, the_watcher, the_link}
+use Rattle.store_core.proofs.TestLemmas.{numbered, the_watcher, the_link}
 use Rattle.store_core.proofs.ChangeLemmas.{Moves, apart, adds, sets, drops, cast_null, cast_int}
 use Rattle.store_core.proofs.ChangeLemmas.{cast_text}
 use Rattle.store_core.proofs.WriteLemmas.{inserting}
@@ -303,25 +302,3 @@ drops_link d l old new t h =
     (subst (Keeps link_columns _) (sym rows) (removed (filed link_columns) value_of d.links (db 6)
     t.links (passes three_test params) (is_link l) (the_link l) k.0.0 s.it (ap rowid k.1)
     s.one))
-
-pub sets_request_once : (d : Contents) (x : RequestRow) (old new : State) (count : ℕ) → count ≡ 1
-    → Tables d old.now → Executes set_request_text (request_shown x) old new (Ok count)
-    → Tables (set_request d x) new.now
-sets_request_once d x old new count one t h = sets_request d x old new t
-    (subst (λ n. Executes set_request_text (request_shown x) old new (Ok n)) one h)
-
-pub drops_watcher_once : (d : Contents) (x : Watcher) (old new : State) (count : ℕ) → count ≡ 1
-    → Tables d old.now → Executes drop_watcher_text (watcher_columns x) old new (Ok count)
-    → Tables (drop_watcher d x) new.now
-drops_watcher_once d x old new count one t h = drops_watcher d x old new t
-    (subst (λ n. Executes drop_watcher_text (watcher_columns x) old new (Ok n)) one h)
-
-pub drops_link_once : (d : Contents) (x : LinkRow) (old new : State) (count : ℕ) → count ≡ 1
-    → Tables d old.now → Executes drop_link_text (link_columns x) old new (Ok count)
-    → Tables (drop_link d x) new.now
-drops_link_once d x old new count one t h = drops_link d x old new t
-    (subst (λ n. Executes drop_link_text (link_columns x) old new (Ok n)) one h)
-
-changed_queue : (i : ℤ) (q : QueueRow) → cast_row queue (Int i ∷ queue_columns q) ≡ Int i
-    ∷ queue_columns q
-changed_queue i q = rw (cast_int i, cast_text q.level)

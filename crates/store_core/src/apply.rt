@@ -1,12 +1,13 @@
 //! A change is written, whole or not at all.
-ghost use Rattle.std.specs.Prelude.{◌≡◌, false, OnErr, OnOk};
+ghost use Rattle.std.specs.Prelude.{◌≡◌, false, IfErr, OnErr, OnOk};
 ghost use Rattle.sqlite.specs.Held.{state};
 ghost use Rattle.store_core.specs.Applying.{Applies};
-ghost use Rattle.store_core.specs.Calls.{Leaves};
+ghost use Rattle.store_core.specs.Calls.{Leaves, WasClean};
 ghost use Rattle.store_core.specs.Contents.{Contents};
 ghost use Rattle.store_core.specs.Seen.{state_of};
 ghost use Rattle.store_core.specs.Stands.{Stand};
 ghost use Rattle.store_core.specs.Written.{written};
+ghost use Rattle.store_core.specs.declared.fault.StoreFault.{StoreFault};
 
 use crate::fault::StoreFault;
 use crate::store::Store;
@@ -23,6 +24,8 @@ fn apply_change<S: Alter>(conn: &mut Connection<S>, change: &Change) -> Result<(
         OnOk result (Stand (written change.now c) (state S.Store conn.new)) }
     ensures undone { (c : Contents) → Stand c (state S.Store conn.old) →
         OnErr result (Stand c (state S.Store conn.new)) }
+    ensures honest { WasClean (state S.Store conn.old) (state S.Store conn.new) }
+    ensures fault { IfErr result (λ e. e ≡ StoreFault.Refused) }
 {
     let mut tx = conn.transaction();
     write_change(&mut tx, change)?;
@@ -38,6 +41,8 @@ impl<S: Alter> Store<S> {
             (state_of S.Store self.old) (state_of S.Store self.new) result }
         ensures undone { OnErr result
             (Leaves (state_of S.Store self.old) (state_of S.Store self.new)) }
+        ensures honest { WasClean (state_of S.Store self.old) (state_of S.Store self.new) }
+        ensures fault { IfErr result (λ e. e ≡ StoreFault.Refused) }
     {
         apply_change(&mut self.conn, change)
     }

@@ -62,6 +62,8 @@ pub(crate) fn finish<S: Alter>(tx: Transaction<'_, S>) -> Result<(), StoreFault>
         OnOk result (Stand now (state S.Store tx.exit.0.now)) }
     ensures undone { (now was : Contents) → Within now was (state S.Store tx.entry.conn.now) →
         OnErr result (Stand was (state S.Store tx.exit.0.now)) }
+    ensures honest { WasClean (state S.Store tx.entry.conn.now) (state S.Store tx.exit.0.now) }
+    ensures fault { IfErr result (λ e. e ≡ StoreFault.Refused) }
 {
     match tx.commit() {
         Ok(()) => Ok(()),

@@ -1,10 +1,11 @@
 //! The statements of a change, in the order in which it is applied.
-ghost use Rattle.std.specs.Prelude.{◌≡◌, fold};
+ghost use Rattle.std.specs.Prelude.{◌≡◌, fold, IfErr};
 ghost use Rattle.sqlite.specs.Held.{state};
-ghost use Rattle.store_core.specs.Calls.{Makes, RestsOn};
+ghost use Rattle.store_core.specs.Calls.{Makes, RestsOn, WasClean};
 ghost use Rattle.store_core.specs.Contents.{add_watcher, drop_watcher as without_watcher};
 ghost use Rattle.store_core.specs.Written.{link_added, link_dropped, queue_added};
 ghost use Rattle.store_core.specs.Written.{request_added, request_set, written};
+ghost use Rattle.store_core.specs.declared.fault.StoreFault.{StoreFault};
 
 use crate::fault::StoreFault;
 use crate::writes::entries::put_entries;
@@ -24,6 +25,8 @@ fn open_queue<S: Alter>(
     ensures opened { Makes (queue_added queue.now)
         (state S.Store tx.old.conn.now) (state S.Store tx.new.conn.now) result }
     ensures base { RestsOn (state S.Store tx.old.conn.now) (state S.Store tx.new.conn.now) }
+    ensures honest { WasClean (state S.Store tx.old.conn.now) (state S.Store tx.new.conn.now) }
+    ensures fault { IfErr result (λ e. e ≡ StoreFault.Refused) }
 {
     match queue {
         Some(row) => put_queue(tx, row),
@@ -40,6 +43,8 @@ fn file_request<S: Alter>(
     ensures filed { Makes (request_added filed.now)
         (state S.Store tx.old.conn.now) (state S.Store tx.new.conn.now) result }
     ensures base { RestsOn (state S.Store tx.old.conn.now) (state S.Store tx.new.conn.now) }
+    ensures honest { WasClean (state S.Store tx.old.conn.now) (state S.Store tx.new.conn.now) }
+    ensures fault { IfErr result (λ e. e ≡ StoreFault.Refused) }
 {
     match filed {
         Some(row) => put_request(tx, row),
@@ -56,6 +61,8 @@ fn revise_request<S: Alter>(
     ensures set { Makes (request_set row.now)
         (state S.Store tx.old.conn.now) (state S.Store tx.new.conn.now) result }
     ensures base { RestsOn (state S.Store tx.old.conn.now) (state S.Store tx.new.conn.now) }
+    ensures honest { WasClean (state S.Store tx.old.conn.now) (state S.Store tx.new.conn.now) }
+    ensures fault { IfErr result (λ e. e ≡ StoreFault.Refused) }
 {
     match row {
         Some(row) => set_request(tx, row),
@@ -64,14 +71,13 @@ fn revise_request<S: Alter>(
 }
 
 /// Adds the link, if there is one.
-fn link<S: Alter>(
-    tx: &mut Transaction<'_, S>,
-    linked: &Option<LinkRow>,
-) -> Result<(), StoreFault>
+fn link<S: Alter>(tx: &mut Transaction<'_, S>, linked: &Option<LinkRow>) -> Result<(), StoreFault>
     ensures same_reference { tx.new.conn.ghost_name ≡ tx.old.conn.ghost_name }
     ensures linked { Makes (link_added linked.now)
         (state S.Store tx.old.conn.now) (state S.Store tx.new.conn.now) result }
     ensures base { RestsOn (state S.Store tx.old.conn.now) (state S.Store tx.new.conn.now) }
+    ensures honest { WasClean (state S.Store tx.old.conn.now) (state S.Store tx.new.conn.now) }
+    ensures fault { IfErr result (λ e. e ≡ StoreFault.Refused) }
 {
     match linked {
         Some(row) => put_link(tx, row),
@@ -88,6 +94,8 @@ fn unlink<S: Alter>(
     ensures unlinked { Makes (link_dropped unlinked.now)
         (state S.Store tx.old.conn.now) (state S.Store tx.new.conn.now) result }
     ensures base { RestsOn (state S.Store tx.old.conn.now) (state S.Store tx.new.conn.now) }
+    ensures honest { WasClean (state S.Store tx.old.conn.now) (state S.Store tx.new.conn.now) }
+    ensures fault { IfErr result (λ e. e ≡ StoreFault.Refused) }
 {
     match unlinked {
         Some(row) => drop_link(tx, row),
@@ -102,6 +110,8 @@ fn write_rows<S: Alter>(tx: &mut Transaction<'_, S>, change: &Change) -> Result<
         (request_added change.now.filed (queue_added change.now.queue c)))
         (state S.Store tx.old.conn.now) (state S.Store tx.new.conn.now) result }
     ensures base { RestsOn (state S.Store tx.old.conn.now) (state S.Store tx.new.conn.now) }
+    ensures honest { WasClean (state S.Store tx.old.conn.now) (state S.Store tx.new.conn.now) }
+    ensures fault { IfErr result (λ e. e ≡ StoreFault.Refused) }
 {
     open_queue(tx, &change.queue)?;
     file_request(tx, &change.filed)?;
@@ -115,6 +125,8 @@ fn write_persons<S: Alter>(tx: &mut Transaction<'_, S>, change: &Change) -> Resu
         change.now.taken)
         (state S.Store tx.old.conn.now) (state S.Store tx.new.conn.now) result }
     ensures base { RestsOn (state S.Store tx.old.conn.now) (state S.Store tx.new.conn.now) }
+    ensures honest { WasClean (state S.Store tx.old.conn.now) (state S.Store tx.new.conn.now) }
+    ensures fault { IfErr result (λ e. e ≡ StoreFault.Refused) }
 {
     put_watchers(tx, change.put.as_slice())?;
     drop_watchers(tx, change.taken.as_slice())
@@ -126,6 +138,8 @@ fn write_links<S: Alter>(tx: &mut Transaction<'_, S>, change: &Change) -> Result
     ensures made { Makes (λ c. link_dropped change.now.unlinked (link_added change.now.linked c))
         (state S.Store tx.old.conn.now) (state S.Store tx.new.conn.now) result }
     ensures base { RestsOn (state S.Store tx.old.conn.now) (state S.Store tx.new.conn.now) }
+    ensures honest { WasClean (state S.Store tx.old.conn.now) (state S.Store tx.new.conn.now) }
+    ensures fault { IfErr result (λ e. e ≡ StoreFault.Refused) }
 {
     link(tx, &change.linked)?;
     unlink(tx, &change.unlinked)
@@ -140,6 +154,8 @@ pub(crate) fn write_change<S: Alter>(
     ensures made { Makes (written change.now)
         (state S.Store tx.old.conn.now) (state S.Store tx.new.conn.now) result }
     ensures base { RestsOn (state S.Store tx.old.conn.now) (state S.Store tx.new.conn.now) }
+    ensures honest { WasClean (state S.Store tx.old.conn.now) (state S.Store tx.new.conn.now) }
+    ensures fault { IfErr result (λ e. e ≡ StoreFault.Refused) }
 {
     write_rows(tx, change)?;
     write_persons(tx, change)?;

@@ -1,9 +1,10 @@
 //! Entries that are added to a history.
-ghost use Rattle.std.specs.Prelude.{◌≡◌, fold};
+ghost use Rattle.std.specs.Prelude.{◌≡◌, fold, IfErr};
 ghost use Rattle.sqlite.specs.Held.{state};
-ghost use Rattle.store_core.specs.Calls.{Makes, RestsOn};
+ghost use Rattle.store_core.specs.Calls.{Makes, RestsOn, WasClean};
 ghost use Rattle.store_core.specs.Contents.{add_entry};
 ghost use Rattle.store_core.specs.Stands.{KeepsBase};
+ghost use Rattle.store_core.specs.declared.fault.StoreFault.{StoreFault};
 
 use crate::columns::{entry_kind, minute, number, words};
 use crate::fault::StoreFault;
@@ -21,6 +22,8 @@ pub(crate) fn put_entry<S: Alter>(
         (state S.Store tx.old.conn.now) (state S.Store tx.new.conn.now) result }
     ensures base { RestsOn (state S.Store tx.old.conn.now) (state S.Store tx.new.conn.now) }
     ensures keeps { KeepsBase (state S.Store tx.old.conn.now) (state S.Store tx.new.conn.now) }
+    ensures honest { WasClean (state S.Store tx.old.conn.now) (state S.Store tx.new.conn.now) }
+    ensures fault { IfErr result (λ e. e ≡ StoreFault.Refused) }
 {
     let _ = run(
         tx,
@@ -48,6 +51,8 @@ pub(crate) fn put_entries<S: Alter>(
     ensures put { Makes (λ c. fold add_entry c rows.now)
         (state S.Store tx.old.conn.now) (state S.Store tx.new.conn.now) result }
     ensures base { RestsOn (state S.Store tx.old.conn.now) (state S.Store tx.new.conn.now) }
+    ensures honest { WasClean (state S.Store tx.old.conn.now) (state S.Store tx.new.conn.now) }
+    ensures fault { IfErr result (λ e. e ≡ StoreFault.Refused) }
 {
     for row in rows {
         put_entry(tx, row)?;

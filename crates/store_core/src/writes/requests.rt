@@ -1,15 +1,37 @@
 //! A request's row that is added, or set in the place of another.
-ghost use Rattle.std.specs.Prelude.{◌≡◌};
+ghost use Rattle.std.specs.Prelude.{◌≡◌, IfErr};
 ghost use Rattle.sqlite.specs.Held.{state};
-ghost use Rattle.store_core.specs.Calls.{Makes, RestsOn};
+ghost use Rattle.sqlite.specs.Values.{bound};
+ghost use Rattle.store_core.specs.Calls.{Makes, RestsOn, WasClean};
 ghost use Rattle.store_core.specs.Contents.{add_request, set_request as with_row};
+ghost use Rattle.store_core.specs.Spelling.{request_shown};
 ghost use Rattle.store_core.specs.Stands.{KeepsBase};
+ghost use Rattle.store_core.specs.declared.fault.StoreFault.{StoreFault};
 
 use crate::columns::{minute, nullable, number, turn, words};
 use crate::fault::StoreFault;
 use crate::transaction::{run, run_on_one};
 use desk_core::RequestRow;
+use sqlite::types::ValueRef;
 use sqlite::{Alter, Transaction};
+
+/// The columns of a request, to be bound.
+fn shown(row: &RequestRow) -> [ValueRef<'_>; 10]
+    ensures { bound result ≡ request_shown row.now }
+{
+    [
+        number(row.id),
+        words(&row.queue),
+        words(&row.subject),
+        words(&row.status),
+        nullable(&row.owner),
+        nullable(&row.level),
+        minute(row.created),
+        minute(row.opened),
+        turn(row.turn),
+        minute(row.since),
+    ]
+}
 
 /// Adds a request.
 pub(crate) fn put_request<S: Alter>(
@@ -21,23 +43,14 @@ pub(crate) fn put_request<S: Alter>(
         (state S.Store tx.old.conn.now) (state S.Store tx.new.conn.now) result }
     ensures base { RestsOn (state S.Store tx.old.conn.now) (state S.Store tx.new.conn.now) }
     ensures keeps { KeepsBase (state S.Store tx.old.conn.now) (state S.Store tx.new.conn.now) }
+    ensures honest { WasClean (state S.Store tx.old.conn.now) (state S.Store tx.new.conn.now) }
+    ensures fault { IfErr result (λ e. e ≡ StoreFault.Refused) }
 {
     let _ = run(
         tx,
         "INSERT INTO request (id, queue, subject, status, owner, level, created, opened, turn, \
          since) VALUES (?1, ?2, ?3, ?4, ?5, ?6, ?7, ?8, ?9, ?10)",
-        &[
-            number(row.id),
-            words(&row.queue),
-            words(&row.subject),
-            words(&row.status),
-            nullable(&row.owner),
-            nullable(&row.level),
-            minute(row.created),
-            minute(row.opened),
-            turn(row.turn),
-            minute(row.since),
-        ],
+        &shown(row),
     )?;
     Ok(())
 }
@@ -52,22 +65,13 @@ pub(crate) fn set_request<S: Alter>(
         (state S.Store tx.old.conn.now) (state S.Store tx.new.conn.now) result }
     ensures base { RestsOn (state S.Store tx.old.conn.now) (state S.Store tx.new.conn.now) }
     ensures keeps { KeepsBase (state S.Store tx.old.conn.now) (state S.Store tx.new.conn.now) }
+    ensures honest { WasClean (state S.Store tx.old.conn.now) (state S.Store tx.new.conn.now) }
+    ensures fault { IfErr result (λ e. e ≡ StoreFault.Refused) }
 {
     run_on_one(
         tx,
         "UPDATE request SET queue = ?2, subject = ?3, status = ?4, owner = ?5, level = ?6, \
          created = ?7, opened = ?8, turn = ?9, since = ?10, due = NULL WHERE id = ?1",
-        &[
-            number(row.id),
-            words(&row.queue),
-            words(&row.subject),
-            words(&row.status),
-            nullable(&row.owner),
-            nullable(&row.level),
-            minute(row.created),
-            minute(row.opened),
-            turn(row.turn),
-            minute(row.since),
-        ],
+        &shown(row),
     )
 }

@@ -1,9 +1,10 @@
 //! A person that is put into a role on a request, or taken out of it.
-ghost use Rattle.std.specs.Prelude.{◌≡◌, fold};
+ghost use Rattle.std.specs.Prelude.{◌≡◌, fold, IfErr};
 ghost use Rattle.sqlite.specs.Held.{state};
-ghost use Rattle.store_core.specs.Calls.{Makes, RestsOn};
+ghost use Rattle.store_core.specs.Calls.{Makes, RestsOn, WasClean};
 ghost use Rattle.store_core.specs.Contents.{add_watcher, drop_watcher as without_watcher};
 ghost use Rattle.store_core.specs.Stands.{KeepsBase};
+ghost use Rattle.store_core.specs.declared.fault.StoreFault.{StoreFault};
 
 use crate::columns::{number, role, words};
 use crate::fault::StoreFault;
@@ -21,6 +22,8 @@ pub(crate) fn put_watcher<S: Alter>(
         (state S.Store tx.old.conn.now) (state S.Store tx.new.conn.now) result }
     ensures base { RestsOn (state S.Store tx.old.conn.now) (state S.Store tx.new.conn.now) }
     ensures keeps { KeepsBase (state S.Store tx.old.conn.now) (state S.Store tx.new.conn.now) }
+    ensures honest { WasClean (state S.Store tx.old.conn.now) (state S.Store tx.new.conn.now) }
+    ensures fault { IfErr result (λ e. e ≡ StoreFault.Refused) }
 {
     let _ = run(
         tx,
@@ -40,6 +43,8 @@ pub(crate) fn drop_watcher<S: Alter>(
         (state S.Store tx.old.conn.now) (state S.Store tx.new.conn.now) result }
     ensures base { RestsOn (state S.Store tx.old.conn.now) (state S.Store tx.new.conn.now) }
     ensures keeps { KeepsBase (state S.Store tx.old.conn.now) (state S.Store tx.new.conn.now) }
+    ensures honest { WasClean (state S.Store tx.old.conn.now) (state S.Store tx.new.conn.now) }
+    ensures fault { IfErr result (λ e. e ≡ StoreFault.Refused) }
 {
     run_on_one(
         tx,
@@ -57,6 +62,8 @@ pub(crate) fn put_watchers<S: Alter>(
     ensures put { Makes (λ c. fold add_watcher c rows.now)
         (state S.Store tx.old.conn.now) (state S.Store tx.new.conn.now) result }
     ensures base { RestsOn (state S.Store tx.old.conn.now) (state S.Store tx.new.conn.now) }
+    ensures honest { WasClean (state S.Store tx.old.conn.now) (state S.Store tx.new.conn.now) }
+    ensures fault { IfErr result (λ e. e ≡ StoreFault.Refused) }
 {
     for row in rows {
         put_watcher(tx, row)?;
@@ -73,6 +80,8 @@ pub(crate) fn drop_watchers<S: Alter>(
     ensures dropped { Makes (λ c. fold without_watcher c rows.now)
         (state S.Store tx.old.conn.now) (state S.Store tx.new.conn.now) result }
     ensures base { RestsOn (state S.Store tx.old.conn.now) (state S.Store tx.new.conn.now) }
+    ensures honest { WasClean (state S.Store tx.old.conn.now) (state S.Store tx.new.conn.now) }
+    ensures fault { IfErr result (λ e. e ≡ StoreFault.Refused) }
 {
     for row in rows {
         drop_watcher(tx, row)?;

@@ -16,10 +16,11 @@ loop-row-preserved g c =
     let low : i < length rows = search rules in
     record {
       same = search rules;
-      made = λ now was stand. one_more add_entry rows i now was new c.row-item.result low c.row-item.is
-          (c.in_ok-put_entry.ensures.put (fold add_entry now (take i rows)) was
+      made = λ now was stand. one_more add_entry rows i now was new c.row-item.result low
+          c.row-item.is (c.in_ok-put_entry.ensures.put (fold add_entry now (take i rows)) was
           (c.loop-row.invariant.made now was stand));
       base = λ d rests. c.in_ok-put_entry.ensures.base d (c.loop-row.invariant.base d rests);
+      honest = λ clean. c.loop-row.invariant.honest (c.in_ok-put_entry.ensures.honest clean);
     }
 
 pub returns-clause-put : goal.returns-clause-put

@@ -13,6 +13,13 @@ returns-clause-put g c now was =
     let old = state g.S.Store c.args.tx.now.conn.now in
     let new = state g.S.Store c.run.new.tx.conn.now in
     steps add_entry_text (entry_columns row) old new count now (add_entry now row) was
-    (rw (c.number.ensures, c.number-2.ensures, c.minute.ensures, c.words.ensures,
-    c.entry_kind.ensures, c.words-2.ensures, c.words-3.ensures) at c.in_ok-run.ensures.ran)
+    (rw (
+      c.number.ensures,
+      c.number-2.ensures,
+      c.minute.ensures,
+      c.words.ensures,
+      c.entry_kind.ensures,
+      c.words-2.ensures,
+      c.words-3.ensures,
+    ) at c.in_ok-run.ensures.ran)
     c.run.ensures.honest (adds_entry now row old new count)

@@ -11,7 +11,7 @@ returns-clause-dropped g c now was =
     let row = c.args.row.now in
     let old = state g.S.Store c.args.tx.now.conn.now in
     let new = state g.S.Store c.run_on_one.new.tx.conn.now in
-    if_done c.run_on_one.result (drop_link_text) (link_columns row) old new now (drop_link now
-    row) was
+    if_done c.run_on_one.result drop_link_text (link_columns row) old new now
+    (drop_link now row) was
     (rw (c.number.ensures, c.link_kind.ensures, c.number-2.ensures) at c.run_on_one.ensures.ran)
     c.run_on_one.ensures.honest (drops_link now row old new)

@@ -13,7 +13,5 @@ returns-clause-put g c now was =
     let old = state g.S.Store c.args.tx.now.conn.now in
     let new = state g.S.Store c.run.new.tx.conn.now in
     steps add_request_text (request_shown row) old new count now (add_request now row) was
-    (rw (c.number.ensures, c.words.ensures, c.words-2.ensures, c.words-3.ensures,
-    c.nullable.ensures, c.nullable-2.ensures, c.minute.ensures, c.minute-2.ensures,
-    c.turn.ensures, c.minute-3.ensures) at c.in_ok-run.ensures.ran)
+    (rw c.shown.ensures at c.in_ok-run.ensures.ran)
     c.run.ensures.honest (adds_request now row old new count)

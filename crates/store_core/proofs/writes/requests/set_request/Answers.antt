@@ -11,9 +11,7 @@ returns-clause-set g c now was =
     let row = c.args.row.now in
     let old = state g.S.Store c.args.tx.now.conn.now in
     let new = state g.S.Store c.run_on_one.new.tx.conn.now in
-    if_done c.run_on_one.result (set_request_text) (request_shown row) old new now (set_request
-    now row) was
-    (rw (c.number.ensures, c.words.ensures, c.words-2.ensures, c.words-3.ensures,
-    c.nullable.ensures, c.nullable-2.ensures, c.minute.ensures, c.minute-2.ensures,
-    c.turn.ensures, c.minute-3.ensures) at c.run_on_one.ensures.ran)
+    if_done c.run_on_one.result set_request_text (request_shown row) old new now
+    (set_request now row) was
+    (rw c.shown.ensures at c.run_on_one.ensures.ran)
     c.run_on_one.ensures.honest (sets_request now row old new)

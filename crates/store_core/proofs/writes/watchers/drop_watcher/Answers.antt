@@ -11,7 +11,7 @@ returns-clause-dropped g c now was =
     let row = c.args.row.now in
     let old = state g.S.Store c.args.tx.now.conn.now in
     let new = state g.S.Store c.run_on_one.new.tx.conn.now in
-    if_done c.run_on_one.result (drop_watcher_text) (watcher_columns row) old new now
+    if_done c.run_on_one.result drop_watcher_text (watcher_columns row) old new now
     (drop_watcher now row) was
     (rw (c.number.ensures, c.role.ensures, c.words.ensures) at c.run_on_one.ensures.ran)
     c.run_on_one.ensures.honest (drops_watcher now row old new)

@@ -16,10 +16,11 @@ loop-row-preserved g c =
     let low : i < length rows = search rules in
     record {
       same = search rules;
-      made = λ now was stand. one_more add_watcher rows i now was new c.row-item.result low c.row-item.is
-          (c.in_ok-put_watcher.ensures.put (fold add_watcher now (take i rows)) was
+      made = λ now was stand. one_more add_watcher rows i now was new c.row-item.result low
+          c.row-item.is (c.in_ok-put_watcher.ensures.put (fold add_watcher now (take i rows)) was
           (c.loop-row.invariant.made now was stand));
       base = λ d rests. c.in_ok-put_watcher.ensures.base d (c.loop-row.invariant.base d rests);
+      honest = λ clean. c.loop-row.invariant.honest (c.in_ok-put_watcher.ensures.honest clean);
     }
 
 pub returns-clause-put : goal.returns-clause-put

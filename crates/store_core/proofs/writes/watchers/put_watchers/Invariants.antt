@@ -1,6 +1,6 @@
 use Rattle.std.proofs.Common.{◌≡◌, take, fold}
 use Rattle.sqlite.specs.Held.{state}
-use Rattle.store_core.specs.Calls.{RestsOn}
+use Rattle.store_core.specs.Calls.{RestsOn, WasClean}
 use Rattle.store_core.specs.Contents.{Contents, add_watcher}
 use Rattle.store_core.specs.Stands.{Within}
 use Rattle.store_core.proofs.writes.watchers.put_watchers.Given as goal
@@ -14,4 +14,5 @@ invariant-loop-row g l =
       made : (now was : Contents) → Within now was old
           → Within (fold add_watcher now (take l.row-index l.rows)) was new;
       base : RestsOn old new;
+      honest : WasClean old new;
     }
