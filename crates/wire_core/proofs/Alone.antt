@@ -9,10 +9,13 @@ use Rattle.clap.specs.Words.{with_subcommand}
 use Rattle.clap.specs.Kinds.{Kinds, or_else}
 use Rattle.clap.specs.Simple.{built, entered, names_of}
 use Rattle.clap.specs.Walk.{idle, subcommand_met}
-use Rattle.wire_core.specs.Table.{comment, correspond, create, desk, desk_for, give, history}
-use Rattle.wire_core.specs.Table.{level, link, only_or_whole, queue, queues, resolve, root, show}
-use Rattle.wire_core.specs.Table.{status, steal, subcommand, subcommands, take, untake, unwatch}
-use Rattle.wire_core.specs.Table.{watch}
+use Rattle.wire_core.specs.Subcommands.{comment, correspond, create, give, history}
+use Rattle.wire_core.specs.Table.{desk, desk_for}
+use Rattle.wire_core.specs.Subcommands.{level, link, queue, queues, resolve, show}
+use Rattle.wire_core.specs.Table.{only_or_whole, root}
+use Rattle.wire_core.specs.Subcommands.{status, steal, subcommands, take, untake, unwatch}
+use Rattle.wire_core.specs.Table.{subcommand}
+use Rattle.wire_core.specs.Subcommands.{watch}
 use Rattle.wire_core.proofs.Free.{desk_is_free, desk_is_simple}
 use Rattle.wire_core.proofs.Meets.{faults_met, level_of, rows_met, stopped_at, turn_by}
 

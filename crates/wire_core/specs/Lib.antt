@@ -1,7 +1,9 @@
 pub use Rattle.text_core.specs.Form
+pub mod Arguments
 pub mod Faults
 pub mod Number
 pub mod Reader
 pub mod Spelling
+pub mod Subcommands
 pub mod Table
 pub mod Words

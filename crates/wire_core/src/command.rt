@@ -1,20 +1,19 @@
 ghost use Rattle.std.specs.Prelude.{◌≡◌, ◌≢◌, Err, Some, None, map, string_bytes, IfOk, IfErr};
 ghost use Rattle.wire_core.specs.Spelling as spelling;
-ghost use Rattle.wire_core.specs.Spelling.{given_to};
+ghost use Rattle.wire_core.specs.Subcommands as subcommands;
+ghost use Rattle.wire_core.specs.Subcommands.{given_to};
 
-use crate::command::links::link;
-use crate::command::people::{give, unwatch, watch};
-use crate::command::texts::{comment, correspond, status};
 use crate::fault::WordsFault;
 use crate::matches::{entered, first_text, id, matches_of, requestors};
+use crate::subcommands::command_in;
 use clap::ArgMatches;
 use desk_core::Command;
 use std::alloc::{AllocError, Global};
 use text_core::Text;
 
-mod links;
-mod people;
-mod texts;
+pub(crate) mod links;
+pub(crate) mod people;
+pub(crate) mod texts;
 
 /// The command that the words spell, or `BadWords` where they spell none. Names and texts are
 /// taken as they stand.
@@ -34,39 +33,9 @@ pub fn command_of_words(alloc: Global, words: &[String]) -> Result<Command, Word
     }
 }
 
-/// The command of a subcommand and of what it was given, where its words spell one.
-fn command_in(
-    alloc: Global,
-    name: &str,
-    given: &ArgMatches<'_>,
-) -> Result<Option<Command>, AllocError>
-    ensures { IfOk result (λ c. c ≡ spelling.command_in (name.now, given_to given.now)) }
-{
-    match name {
-        "queue" => queue(alloc, given),
-        "create" => create(alloc, given),
-        "status" => status(alloc, given),
-        "resolve" => resolve(alloc, given),
-        "level" => level(alloc, given),
-        "take" => Ok(id(given).map(|id| Command::Take { id })),
-        "steal" => Ok(id(given).map(|id| Command::Steal { id })),
-        "untake" => Ok(id(given).map(|id| Command::Untake { id })),
-        "give" => give(alloc, given),
-        "correspond" => correspond(alloc, given),
-        "comment" => comment(alloc, given),
-        "watch" => watch(alloc, given),
-        "unwatch" => unwatch(alloc, given),
-        "link" => Ok(link(given)),
-        "queues" => Ok(Some(Command::Queues)),
-        "show" => Ok(id(given).map(|id| Command::Show { id })),
-        "history" => Ok(id(given).map(|id| Command::History { id })),
-        _ => Ok(None),
-    }
-}
-
 /// queue NAME LIFECYCLE [LEVEL]
-fn queue(alloc: Global, given: &ArgMatches<'_>) -> Result<Option<Command>, AllocError>
-    ensures { IfOk result (λ c. c ≡ spelling.queue_of (given_to given.now)) }
+pub(crate) fn queue(alloc: Global, given: &ArgMatches<'_>) -> Result<Option<Command>, AllocError>
+    ensures { IfOk result (λ c. c ≡ subcommands.queue_of (given_to given.now)) }
 {
     let queue = first_text(alloc, given, "name")?;
     let lifecycle = first_text(alloc, given, "lifecycle")?;
@@ -82,8 +51,8 @@ fn queue(alloc: Global, given: &ArgMatches<'_>) -> Result<Option<Command>, Alloc
 }
 
 /// create [--status STATUS] QUEUE SUBJECT [REQUESTOR ..]
-fn create(alloc: Global, given: &ArgMatches<'_>) -> Result<Option<Command>, AllocError>
-    ensures { IfOk result (λ c. c ≡ spelling.create_of (given_to given.now)) }
+pub(crate) fn create(alloc: Global, given: &ArgMatches<'_>) -> Result<Option<Command>, AllocError>
+    ensures { IfOk result (λ c. c ≡ subcommands.create_of (given_to given.now)) }
 {
     let queue = first_text(alloc, given, "queue")?;
     let subject = first_text(alloc, given, "subject")?;
@@ -101,16 +70,16 @@ fn create(alloc: Global, given: &ArgMatches<'_>) -> Result<Option<Command>, Allo
 }
 
 /// resolve ID
-fn resolve(alloc: Global, given: &ArgMatches<'_>) -> Result<Option<Command>, AllocError>
-    ensures { IfOk result (λ c. c ≡ spelling.resolve_of (given_to given.now)) }
+pub(crate) fn resolve(alloc: Global, given: &ArgMatches<'_>) -> Result<Option<Command>, AllocError>
+    ensures { IfOk result (λ c. c ≡ subcommands.resolve_of (given_to given.now)) }
 {
     let status = Text::new(alloc, "resolved")?;
     Ok(id(given).map(|id| Command::SetStatus { id, status }))
 }
 
 /// level ID [LEVEL]
-fn level(alloc: Global, given: &ArgMatches<'_>) -> Result<Option<Command>, AllocError>
-    ensures { IfOk result (λ c. c ≡ spelling.level_of (given_to given.now)) }
+pub(crate) fn level(alloc: Global, given: &ArgMatches<'_>) -> Result<Option<Command>, AllocError>
+    ensures { IfOk result (λ c. c ≡ subcommands.level_of (given_to given.now)) }
 {
     let level = first_text(alloc, given, "level")?;
     Ok(id(given).map(|id| Command::SetLevel { id, level }))

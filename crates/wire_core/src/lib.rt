@@ -5,6 +5,7 @@ pub mod command;
 pub mod fault;
 mod matches;
 pub mod number;
+mod subcommands;
 mod table;
 pub mod words;
 

@@ -5,8 +5,8 @@ ghost use Rattle.clap.specs.Words.{is_simple, is_simple_and_free, subcommand_of}
 ghost use Rattle.clap.specs.Words.{subcommand_rows_of};
 ghost use Rattle.wire_core.specs.Table as table;
 ghost use Rattle.wire_core.specs.Table.{Is};
-ghost use Rattle.wire_core.specs.Spelling as spelling;
-ghost use Rattle.wire_core.specs.Spelling.{given_to, id_of, requestors_of};
+ghost use Rattle.wire_core.specs.Subcommands as subcommands;
+ghost use Rattle.wire_core.specs.Subcommands.{given_to, id_of, requestors_of};
 
 use crate::fault::WordsFault;
 use crate::number::number_of_word;
@@ -109,7 +109,7 @@ pub(crate) fn id_and_word(
     matches: &ArgMatches<'_>,
     key: &str,
 ) -> Result<Option<(u32, Text)>, AllocError>
-    ensures { IfOk result (λ found. found ≡ spelling.id_and_word key.now (given_to matches.now)) }
+    ensures { IfOk result (λ found. found ≡ subcommands.id_and_word key.now (given_to matches.now)) }
 {
     match (id(matches), first_text(alloc, matches, key)?) {
         (Some(id), Some(word)) => Ok(Some((id, word))),

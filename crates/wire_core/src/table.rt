@@ -1,32 +1,14 @@
 ghost use Rattle.std.specs.Prelude.{◌≡◌, map, string_bytes, IfOk, false};
 ghost use Rattle.clap.specs.Words.{App, Rule, rule_of, with_rule, with_subcommand};
+ghost use Rattle.wire_core.specs.Arguments.{allowed, bare, flag, option, several, wanted};
+ghost use Rattle.wire_core.specs.Arguments.{with_all};
+ghost use Rattle.wire_core.specs.Subcommands as subcommands;
 ghost use Rattle.wire_core.specs.Table as table;
-ghost use Rattle.wire_core.specs.Table.{Is, IsNamed, allowed, bare, flag, option, root, several};
-ghost use Rattle.wire_core.specs.Table.{wanted, with_all};
+ghost use Rattle.wire_core.specs.Table.{Is, IsNamed, root};
 
+use crate::subcommands::{NAMES, subcommand};
 use clap::{Arg, ArgAction, Command};
 use std::alloc::{AllocError, Global};
-
-/// The names of the subcommands.
-const NAMES: [&str; 17] = [
-    "queue",
-    "create",
-    "status",
-    "resolve",
-    "level",
-    "take",
-    "steal",
-    "untake",
-    "give",
-    "correspond",
-    "comment",
-    "watch",
-    "unwatch",
-    "link",
-    "queues",
-    "show",
-    "history",
-];
 
 /// The command line of the desk, as far as these words need it: with the subcommand that the first
 /// of them names alone, or whole where it names none. To make all subcommands takes longer than
@@ -78,57 +60,30 @@ fn with_named<'a>(command: Command<'a>, sub: Option<Command<'a>>) -> Result<Comm
     }
 }
 
-/// The subcommand of this name, if there is one.
-#[tactic(auto, unfolding(crate::specs::Table::subcommand, crate::specs::Table::subcommands))]
-fn subcommand<'a>(alloc: Global, name: &str) -> Result<Option<Command<'a>>, AllocError>
-    ensures { IfOk result (IsNamed (table.subcommand name.now)) }
-{
-    match name {
-        "queue" => Ok(Some(queue(alloc)?)),
-        "create" => Ok(Some(create(alloc)?)),
-        "status" => Ok(Some(leaf(alloc, "status", &["id", "status"])?)),
-        "resolve" => Ok(Some(leaf(alloc, "resolve", &["id"])?)),
-        "level" => Ok(Some(level(alloc)?)),
-        "take" => Ok(Some(leaf(alloc, "take", &["id"])?)),
-        "steal" => Ok(Some(leaf(alloc, "steal", &["id"])?)),
-        "untake" => Ok(Some(leaf(alloc, "untake", &["id"])?)),
-        "give" => Ok(Some(leaf(alloc, "give", &["id", "person"])?)),
-        "correspond" => Ok(Some(leaf(alloc, "correspond", &["id", "text"])?)),
-        "comment" => Ok(Some(leaf(alloc, "comment", &["id", "text"])?)),
-        "watch" => Ok(Some(leaf(alloc, "watch", &["id", "role", "person"])?)),
-        "unwatch" => Ok(Some(leaf(alloc, "unwatch", &["id", "role", "person"])?)),
-        "link" => Ok(Some(link(alloc)?)),
-        "queues" => Ok(Some(bare_command(alloc, "queues"))),
-        "show" => Ok(Some(leaf(alloc, "show", &["id"])?)),
-        "history" => Ok(Some(leaf(alloc, "history", &["id"])?)),
-        _ => Ok(None),
-    }
-}
-
-fn link<'a>(alloc: Global) -> Result<Command<'a>, AllocError>
-    ensures { IfOk result (Is table.link) }
+pub(crate) fn link<'a>(alloc: Global) -> Result<Command<'a>, AllocError>
+    ensures { IfOk result (Is subcommands.link) }
 {
     let command = leaf(alloc, "link", &["id", "kind", "other"])?;
     with_argument(command, flag_argument(alloc, "delete", 'd'))
 }
 
-fn queue<'a>(alloc: Global) -> Result<Command<'a>, AllocError>
-    ensures { IfOk result (Is table.queue) }
+pub(crate) fn queue<'a>(alloc: Global) -> Result<Command<'a>, AllocError>
+    ensures { IfOk result (Is subcommands.queue) }
 {
     let command = leaf(alloc, "queue", &["name", "lifecycle"])?;
     with_argument(command, allowed_argument(alloc, "level"))
 }
 
-fn create<'a>(alloc: Global) -> Result<Command<'a>, AllocError>
-    ensures { IfOk result (Is table.create) }
+pub(crate) fn create<'a>(alloc: Global) -> Result<Command<'a>, AllocError>
+    ensures { IfOk result (Is subcommands.create) }
 {
     let command = leaf(alloc, "create", &["queue", "subject"])?;
     let command = with_argument(command, several_argument(alloc, "requestor"))?;
     with_argument(command, option_argument(alloc, "status"))
 }
 
-fn level<'a>(alloc: Global) -> Result<Command<'a>, AllocError>
-    ensures { IfOk result (Is table.level) }
+pub(crate) fn level<'a>(alloc: Global) -> Result<Command<'a>, AllocError>
+    ensures { IfOk result (Is subcommands.level) }
 {
     let command = leaf(alloc, "level", &["id"])?;
     with_argument(command, allowed_argument(alloc, "level"))
@@ -145,7 +100,11 @@ fn root_command<'a>(alloc: Global) -> Command<'a>
 }
 
 /// A command with a wanted word for each id, in order.
-fn leaf<'a>(alloc: Global, name: &'a str, ids: &[&'a str]) -> Result<Command<'a>, AllocError>
+pub(crate) fn leaf<'a>(
+    alloc: Global,
+    name: &'a str,
+    ids: &[&'a str],
+) -> Result<Command<'a>, AllocError>
     ensures { IfOk result (Is (with_all (bare name.entry.now) (map (λ s. s.now) ids.entry.now))) }
 {
     let mut command = bare_command(alloc, name);
@@ -155,7 +114,7 @@ fn leaf<'a>(alloc: Global, name: &'a str, ids: &[&'a str]) -> Result<Command<'a>
     Ok(command)
 }
 
-fn bare_command<'a>(alloc: Global, name: &'a str) -> Command<'a>
+pub(crate) fn bare_command<'a>(alloc: Global, name: &'a str) -> Command<'a>
     ensures { Is (bare name.entry.now) result }
 {
     Command::new(alloc, name).disable_help_flag(true)

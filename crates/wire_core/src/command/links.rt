@@ -1,6 +1,6 @@
 ghost use Rattle.std.specs.Prelude.{◌≡◌};
-ghost use Rattle.wire_core.specs.Spelling as spelling;
-ghost use Rattle.wire_core.specs.Spelling.{given_to};
+ghost use Rattle.wire_core.specs.Subcommands as subcommands;
+ghost use Rattle.wire_core.specs.Subcommands.{given_to};
 
 use crate::matches::{first, id};
 use crate::number::number_of_word;
@@ -17,7 +17,7 @@ pub(crate) enum NamedKind {
 
 /// link [-d] ID KIND OTHER
 pub(crate) fn link(given: &ArgMatches<'_>) -> Option<Command>
-    ensures { result ≡ spelling.link_of (given_to given.now) }
+    ensures { result ≡ subcommands.link_of (given_to given.now) }
 {
     let away = takes_away(given);
     match (id(given), kind(given), other(given)) {
@@ -28,7 +28,7 @@ pub(crate) fn link(given: &ArgMatches<'_>) -> Option<Command>
 
 /// The link, or its removal. By an inverse the two requests change places.
 fn linking(away: bool, id: u32, kind: NamedKind, other: u32) -> Command
-    ensures { result ≡ spelling.linking away id kind other }
+    ensures { result ≡ subcommands.linking away id kind other }
 {
     match kind {
         NamedKind::Plain(kind) => link_or_unlink(away, id, kind, other),
@@ -37,7 +37,7 @@ fn linking(away: bool, id: u32, kind: NamedKind, other: u32) -> Command
 }
 
 fn link_or_unlink(away: bool, id: u32, kind: LinkKind, other: u32) -> Command
-    ensures { result ≡ spelling.link_or_unlink away id kind other }
+    ensures { result ≡ subcommands.link_or_unlink away id kind other }
 {
     if away {
         Command::Unlink { id, kind, other }
@@ -48,7 +48,7 @@ fn link_or_unlink(away: bool, id: u32, kind: LinkKind, other: u32) -> Command
 
 /// Whether the link is to be taken away.
 fn takes_away(given: &ArgMatches<'_>) -> bool
-    ensures { result ≡ spelling.takes_away (given_to given.now) }
+    ensures { result ≡ subcommands.takes_away (given_to given.now) }
 {
     match first(given, "delete") {
         Some(word) => word == "true",
@@ -58,7 +58,7 @@ fn takes_away(given: &ArgMatches<'_>) -> bool
 
 /// The request at the other end.
 fn other(given: &ArgMatches<'_>) -> Option<u32>
-    ensures { result ≡ spelling.other_of (given_to given.now) }
+    ensures { result ≡ subcommands.other_of (given_to given.now) }
 {
     match first(given, "other") {
         Some(word) => number_of_word(word),
@@ -67,7 +67,7 @@ fn other(given: &ArgMatches<'_>) -> Option<u32>
 }
 
 fn kind(given: &ArgMatches<'_>) -> Option<NamedKind>
-    ensures { result ≡ spelling.kind_of (given_to given.now) }
+    ensures { result ≡ subcommands.kind_of (given_to given.now) }
 {
     match first(given, "kind") {
         Some(word) => kind_named(word),
@@ -76,7 +76,7 @@ fn kind(given: &ArgMatches<'_>) -> Option<NamedKind>
 }
 
 fn kind_named(word: &str) -> Option<NamedKind>
-    ensures { result ≡ spelling.kind_named word.now }
+    ensures { result ≡ subcommands.kind_named word.now }
 {
     match word {
         "DependsOn" => Some(NamedKind::Plain(LinkKind::DependsOn)),

@@ -1,6 +1,6 @@
 ghost use Rattle.std.specs.Prelude.{◌≡◌, IfOk};
-ghost use Rattle.wire_core.specs.Spelling as spelling;
-ghost use Rattle.wire_core.specs.Spelling.{given_to};
+ghost use Rattle.wire_core.specs.Subcommands as subcommands;
+ghost use Rattle.wire_core.specs.Subcommands.{given_to};
 
 use crate::matches::{first, first_text, id, id_and_word};
 use clap::ArgMatches;
@@ -10,7 +10,7 @@ use text_core::Text;
 
 /// give ID PERSON
 pub(crate) fn give(alloc: Global, given: &ArgMatches<'_>) -> Result<Option<Command>, AllocError>
-    ensures { IfOk result (λ c. c ≡ spelling.give_of (given_to given.now)) }
+    ensures { IfOk result (λ c. c ≡ subcommands.give_of (given_to given.now)) }
 {
     let found = id_and_word(alloc, given, "person")?;
     Ok(found.map(|(id, person)| Command::Give { id, person }))
@@ -18,7 +18,7 @@ pub(crate) fn give(alloc: Global, given: &ArgMatches<'_>) -> Result<Option<Comma
 
 /// watch ID ROLE PERSON
 pub(crate) fn watch(alloc: Global, given: &ArgMatches<'_>) -> Result<Option<Command>, AllocError>
-    ensures { IfOk result (λ c. c ≡ spelling.watch_of (given_to given.now)) }
+    ensures { IfOk result (λ c. c ≡ subcommands.watch_of (given_to given.now)) }
 {
     let found = watcher(alloc, given)?;
     Ok(found.map(|(id, role, person)| Command::Watch { id, role, person }))
@@ -26,7 +26,7 @@ pub(crate) fn watch(alloc: Global, given: &ArgMatches<'_>) -> Result<Option<Comm
 
 /// unwatch ID ROLE PERSON
 pub(crate) fn unwatch(alloc: Global, given: &ArgMatches<'_>) -> Result<Option<Command>, AllocError>
-    ensures { IfOk result (λ c. c ≡ spelling.unwatch_of (given_to given.now)) }
+    ensures { IfOk result (λ c. c ≡ subcommands.unwatch_of (given_to given.now)) }
 {
     let found = watcher(alloc, given)?;
     Ok(found.map(|(id, role, person)| Command::Unwatch { id, role, person }))
@@ -37,7 +37,7 @@ fn watcher(
     alloc: Global,
     given: &ArgMatches<'_>,
 ) -> Result<Option<(u32, WatchRole, Text)>, AllocError>
-    ensures { IfOk result (λ found. found ≡ spelling.watcher_of (given_to given.now)) }
+    ensures { IfOk result (λ found. found ≡ subcommands.watcher_of (given_to given.now)) }
 {
     match (id(given), role(given), first_text(alloc, given, "person")?) {
         (Some(id), Some(role), Some(person)) => Ok(Some((id, role, person))),
@@ -46,7 +46,7 @@ fn watcher(
 }
 
 fn role(given: &ArgMatches<'_>) -> Option<WatchRole>
-    ensures { result ≡ spelling.role_of (given_to given.now) }
+    ensures { result ≡ subcommands.role_of (given_to given.now) }
 {
     match first(given, "role") {
         Some(word) => role_named(word),
@@ -55,7 +55,7 @@ fn role(given: &ArgMatches<'_>) -> Option<WatchRole>
 }
 
 fn role_named(word: &str) -> Option<WatchRole>
-    ensures { result ≡ spelling.role_named word.now }
+    ensures { result ≡ subcommands.role_named word.now }
 {
     match word {
         "requestor" => Some(WatchRole::Requestor),

@@ -1,6 +1,6 @@
 ghost use Rattle.std.specs.Prelude.{◌≡◌, IfOk};
-ghost use Rattle.wire_core.specs.Spelling as spelling;
-ghost use Rattle.wire_core.specs.Spelling.{given_to};
+ghost use Rattle.wire_core.specs.Subcommands as subcommands;
+ghost use Rattle.wire_core.specs.Subcommands.{given_to};
 
 use crate::matches::id_and_word;
 use clap::ArgMatches;
@@ -9,7 +9,7 @@ use std::alloc::{AllocError, Global};
 
 /// status ID STATUS
 pub(crate) fn status(alloc: Global, given: &ArgMatches<'_>) -> Result<Option<Command>, AllocError>
-    ensures { IfOk result (λ c. c ≡ spelling.status_of (given_to given.now)) }
+    ensures { IfOk result (λ c. c ≡ subcommands.status_of (given_to given.now)) }
 {
     let found = id_and_word(alloc, given, "status")?;
     Ok(found.map(|(id, status)| Command::SetStatus { id, status }))
@@ -20,7 +20,7 @@ pub(crate) fn correspond(
     alloc: Global,
     given: &ArgMatches<'_>,
 ) -> Result<Option<Command>, AllocError>
-    ensures { IfOk result (λ c. c ≡ spelling.correspond_of (given_to given.now)) }
+    ensures { IfOk result (λ c. c ≡ subcommands.correspond_of (given_to given.now)) }
 {
     let found = id_and_word(alloc, given, "text")?;
     Ok(found.map(|(id, text)| Command::Reply { id, text }))
@@ -28,7 +28,7 @@ pub(crate) fn correspond(
 
 /// comment ID TEXT
 pub(crate) fn comment(alloc: Global, given: &ArgMatches<'_>) -> Result<Option<Command>, AllocError>
-    ensures { IfOk result (λ c. c ≡ spelling.comment_of (given_to given.now)) }
+    ensures { IfOk result (λ c. c ≡ subcommands.comment_of (given_to given.now)) }
 {
     let found = id_and_word(alloc, given, "text")?;
     Ok(found.map(|(id, text)| Command::Comment { id, text }))

@@ -1,5 +1,5 @@
 use Rattle.std.proofs.Common.{codes}
-use Rattle.wire_core.specs.Table.{option, several}
+use Rattle.wire_core.specs.Arguments.{option, several}
 use Rattle.wire_core.proofs.table.create.Goals as goal
 
 pub returns : goal.returns

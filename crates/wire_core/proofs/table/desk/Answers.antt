@@ -1,4 +1,5 @@
-use Rattle.wire_core.specs.Table.{desk, subcommand, subcommands}
+use Rattle.wire_core.specs.Subcommands.{subcommands}
+use Rattle.wire_core.specs.Table.{desk, subcommand}
 use Rattle.wire_core.proofs.table.desk.Goals as goal
 
 pub returns : goal.returns

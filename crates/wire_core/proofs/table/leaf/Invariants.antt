@@ -1,7 +1,8 @@
 -- the command has the words so far, and with those that are left it has all
 use Rattle.std.proofs.Common.{◌≡◌, map, drop}
 use Rattle.clap.specs.Words.{App}
-use Rattle.wire_core.specs.Table.{Is, bare, with_all}
+use Rattle.wire_core.specs.Arguments.{bare, with_all}
+use Rattle.wire_core.specs.Table.{Is}
 use Rattle.wire_core.proofs.table.leaf.Given as goal
 
 abbrev pub invariant-loop-id : goal.invariant-loop-id

@@ -1,5 +1,5 @@
 use Rattle.std.proofs.Common.{codes}
-use Rattle.wire_core.specs.Table.{allowed}
+use Rattle.wire_core.specs.Arguments.{allowed}
 use Rattle.wire_core.proofs.table.level.Goals as goal
 
 pub returns : goal.returns

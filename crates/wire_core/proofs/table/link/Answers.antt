@@ -1,5 +1,5 @@
 use Rattle.std.proofs.Common.{codes}
-use Rattle.wire_core.specs.Table.{flag}
+use Rattle.wire_core.specs.Arguments.{flag}
 use Rattle.wire_core.proofs.table.link.Goals as goal
 
 pub returns : goal.returns
