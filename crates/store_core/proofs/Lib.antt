@@ -1,6 +1,8 @@
 pub mod BackLemmas
 pub mod ChangeLemmas
 pub mod FactsLemmas
+pub mod FactsLemmasInOrder
+pub mod FactsLemmasOfDesk
 pub mod FoundLemmas
 pub mod KeptLemmas
 pub mod LastLemmas

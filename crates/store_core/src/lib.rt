@@ -3,10 +3,13 @@
 #![tactic(auto)]
 
 mod columns;
+mod dependencies;
+mod facts;
 pub mod fault;
 mod lists;
 mod query;
 mod reads;
+mod standing;
 pub mod store;
 mod stored;
 mod transaction;

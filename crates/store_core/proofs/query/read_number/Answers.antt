@@ -1,3 +1,6 @@
+use Rattle.store_core.proofs.FactsLemmasOfDesk.{queues_counted}
+use Rattle.store_core.proofs.FactsLemmasInOrder.{the_links_from}
+use Rattle.store_core.proofs.FactsLemmas.{greatest_counts}
 use Rattle.std.proofs.Common.{inl, inr, refl}
 use Rattle.store_core.proofs.KeptLemmas.{empty_list, one_list}
 use Rattle.store_core.proofs.ReadingLemmas.{if_ok}
