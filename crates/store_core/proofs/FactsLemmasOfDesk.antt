@@ -137,4 +137,4 @@ requests_counted desk n is greatest =
 
 pub queues_counted : (desk : Desk) (qs : List QueueRow) → AreOrdered by_name desk.queues qs
     → length qs ≡ length desk.queues
-queues_counted desk qs listed = sym (length_permutation desk.queues qs listed.same)
+queues_counted desk qs listed = length_permutation desk.queues qs listed.same
