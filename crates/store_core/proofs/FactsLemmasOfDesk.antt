@@ -1,6 +1,7 @@
 -- What is read by key is what the desk has there.
 use Rattle.std.proofs.Common.{◌≡◌, ◌∙◌, ℕ, Bool, true, List, [], ◌∷◌, ◌++◌, map, filter, length}
-use Rattle.std.proofs.Common.{Option, Some, None, refl, sym, ap, subst}
+use Rattle.std.proofs.Common.{Option, Some, None, Result, Ok, Err, OnOk, IfOk, is_some, refl, sym, ap}
+use Rattle.std.proofs.Common.{subst}
 use Rattle.std.specs.List.{flat_map}
 use Rattle.std.specs.Option.{option_map, option_to_list}
 use Rattle.std.specs.Prelude.{option_and_then}
@@ -9,10 +10,16 @@ use Rattle.std.proofs.lemmas.List.Sorted.{length_permutation}
 use Rattle.sqlite_rules.proofs.ListLemmas.{test_has}
 use Rattle.sqlite_trees.proofs.ListLemmas.{map-map}
 use Rattle.desk_core.specs.Desk.{Desk, Request, queue_at, request_at}
-use Rattle.desk_core.specs.Facts.{as_dependency, dependencies_of, queue_of, standing, standing_at}
+use Rattle.desk_core.specs.Desk.{queue_count, request_count}
+use Rattle.desk_core.specs.Facts.{as_dependency, dependencies_of, facts_on_queue}
+use Rattle.desk_core.specs.Facts.{facts_on_request, queue_of, standing, standing_at}
+use Rattle.desk_core.specs.Links as links
+use Rattle.desk_core.specs.Links.{has_link}
+use Rattle.desk_core.specs.Plan.{Another, Dependencies, besides_on}
 use Rattle.desk_core.specs.IsDesk.{IsDesk, are_numbered, has_its_entries, persons_rise}
 use Rattle.desk_core.specs.Watchers.{watchers_of}
 use Rattle.desk_core.specs.declared.facts.Dependency.{Dependency}
+use Rattle.desk_core.specs.declared.facts.Facts.{Facts}
 use Rattle.desk_core.specs.declared.facts.Standing.{Standing}
 use Rattle.desk_core.specs.declared.rows.LinkKind.TheVariants.{DependsOn}
 use Rattle.desk_core.specs.declared.rows.LinkRow.{LinkRow}
@@ -21,13 +28,16 @@ use Rattle.desk_core.specs.declared.rows.RequestRow.{RequestRow}
 use Rattle.desk_core.specs.declared.rows.Watcher.{Watcher}
 use Rattle.store_core.specs.Contents.{entries, request_rows, watchers}
 use Rattle.store_core.specs.Found.{dependency_at, dependency_by, dependency_of, has_number}
-use Rattle.store_core.specs.Found.{number_of, place_of, queue_by, standing_of}
+use Rattle.store_core.specs.Found.{counted, filed, number_of, place_of, queue_by, standing_of}
+use Rattle.store_core.specs.Found.{with_dependencies, with_link}
 use Rattle.store_core.specs.Orders.{by_name, by_role, by_target}
 use Rattle.store_core.specs.Picked.{AreOrdered, IsGreatest}
+use Rattle.store_core.specs.Selection as chosen
 use Rattle.store_core.specs.Selection.{is_numbered, links_from, tells_of, watches}
 use Rattle.store_core.proofs.FactsLemmas.{IsOnly, entries_of_one, found_row, greatest_counts}
-use Rattle.store_core.proofs.FactsLemmas.{numbers_of, only_request, watchers_of_one}
+use Rattle.store_core.proofs.FactsLemmas.{numbers_of, only_request, some_found, watchers_of_one}
 use Rattle.store_core.proofs.FactsLemmasInOrder.{the_admin_cc, the_cc, the_dependency_links}
+use Rattle.store_core.proofs.FactsLemmasInOrder.{same_link_is}
 use Rattle.store_core.proofs.FactsLemmasInOrder.{the_links_from, the_requestors, the_watchers_of}
 
 -- ---- a request
@@ -138,3 +148,42 @@ requests_counted desk n is greatest =
 pub queues_counted : (desk : Desk) (qs : List QueueRow) → AreOrdered by_name desk.queues qs
     → length qs ≡ length desk.queues
 queues_counted desk qs listed = length_permutation desk.queues qs listed.same
+
+-- ---- facts, put together
+
+pub on_ok : {T E P Q : Type 0} (r : Result T E) → (P → Q) → OnOk r P → IfOk r (λ x. Q)
+on_ok (Ok x) f h = f h
+on_ok (Err e) f h = h
+
+pub queue_facts : (desk : Desk) (name : List ℕ) (q : Option QueueRow) (n m : ℕ)
+    → q ≡ queue_at desk name → n ≡ queue_count desk → m ≡ request_count desk
+    → counted q n m ≡ facts_on_queue desk name
+queue_facts desk name q n m q_is n_is m_is =
+    ap (λ v. counted v n m) q_is ∙ ap (λ v. counted (queue_at desk name) v m) n_is
+    ∙ ap (counted (queue_at desk name) (queue_count desk)) m_is
+
+pub request_facts : (desk : Desk) (id : ℕ) (q : Option QueueRow) (on : Option Standing)
+    → on ≡ standing_at desk id → q ≡ queue_by desk on → filed q on ≡ facts_on_request desk id
+request_facts desk id q on on_is q_is =
+    ap (λ v. filed v on) (q_is ∙ ap (queue_by desk) on_is ∙ queue_by_is desk id)
+    ∙ ap (filed (queue_of desk (request_at desk id))) on_is
+
+pub link_there : (desk : Desk) (l : LinkRow) (o : Option LinkRow)
+    → option_to_list o ≡ filter (chosen.is_link l) desk.links → is_some o ≡ has_link desk l
+link_there desk l o =
+    some_found (chosen.is_link l) (links.is_link l) (same_link_is l) desk.links o
+
+pub move_facts : (desk : Desk) (id : ℕ) (facts : Facts) (ds : List Dependency)
+    → facts ≡ facts_on_request desk id → ds ≡ dependencies_of desk id
+    → with_dependencies facts ds ≡ besides_on Dependencies id desk
+move_facts desk id facts ds facts_are ds_are =
+    ap (λ f. with_dependencies f ds) facts_are
+    ∙ ap (with_dependencies (facts_on_request desk id)) ds_are
+
+pub link_facts : (desk : Desk) (l : LinkRow) (facts : Facts) (other : Option Standing) (b : Bool)
+    → facts ≡ facts_on_request desk l.source → other ≡ standing_at desk l.target
+    → b ≡ has_link desk l → with_link facts other b ≡ besides_on (Another l.kind l.target) l.source desk
+link_facts desk l facts other b facts_are other_is b_is =
+    ap (λ f. with_link f other b) facts_are
+    ∙ ap (λ v. with_link (facts_on_request desk l.source) v b) other_is
+    ∙ ap (with_link (facts_on_request desk l.source) (standing_at desk l.target)) b_is

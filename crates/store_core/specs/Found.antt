@@ -4,9 +4,10 @@ use Rattle.std.specs.Prelude.{option_and_then}
 use Rattle.std.specs.Option.{option_map, option_to_list}
 use Rattle.sqlite.specs.Order.{Row, column}
 use Rattle.desk_core.specs.Desk.{Desk, Request, queue_at, request_at}
-use Rattle.desk_core.specs.Facts.{as_dependency}
+use Rattle.desk_core.specs.Facts.{as_dependency, no_facts}
 use Rattle.desk_core.specs.Watchers.{is_role}
 use Rattle.desk_core.specs.declared.facts.Dependency.{Dependency}
+use Rattle.desk_core.specs.declared.facts.Facts.{Facts}
 use Rattle.desk_core.specs.declared.facts.Standing.{Standing}
 use Rattle.desk_core.specs.declared.rows.Entry.{Entry}
 use Rattle.desk_core.specs.declared.rows.LinkRow.{LinkRow}
@@ -63,3 +64,18 @@ dependency_of row queue =
 -- what a link leads to
 unfoldable pub dependency_by : Desk → LinkRow → List Dependency
 dependency_by desk link = option_to_list (dependency_at desk link.target)
+
+-- ---- facts, put together
+
+abbrev pub counted : Option QueueRow → ℕ → ℕ → Facts
+counted queue queues requests =
+    record no_facts { queue = queue; queue_count = queues; request_count = requests }
+
+abbrev pub filed : Option QueueRow → Option Standing → Facts
+filed queue request = record no_facts { queue = queue; request = request }
+
+abbrev pub with_dependencies : Facts → List Dependency → Facts
+with_dependencies facts dependencies = record facts { dependencies = dependencies }
+
+abbrev pub with_link : Facts → Option Standing → Bool → Facts
+with_link facts other is_linked = record facts { other = other; is_linked = is_linked }

@@ -1,5 +1,5 @@
 //! What a request depends on, of its links and the rows that they lead to.
-ghost use Rattle.std.specs.Prelude.{◌≡◌, ◌++◌, false};
+ghost use Rattle.std.specs.Prelude.{◌≡◌, ◌++◌, ◌∷◌, [], false, OnOk};
 ghost use Rattle.std.specs.List.{flat_map};
 ghost use Rattle.sqlite.specs.Held.{state};
 ghost use Rattle.desk_core.specs.Facts as facts;
@@ -68,10 +68,16 @@ fn put_dependency<S: Alter>(
 {
     match dependency_at(conn, link.target)? {
         None => Ok(()),
-        Some(dependency) => match all.push(dependency) {
-            Ok(()) => Ok(()),
-            Err(_) => Err(StoreFault::Refused),
-        },
+        Some(dependency) => push_dependency(all, dependency),
+    }
+}
+
+fn push_dependency(all: &mut Vec<Dependency>, one: Dependency) -> Result<(), StoreFault>
+    ensures { OnOk result (all.new.items ≡ all.old.items ++ one ∷ []) }
+{
+    match all.push(one) {
+        Ok(()) => Ok(()),
+        Err(_) => Err(StoreFault::Refused),
     }
 }
 

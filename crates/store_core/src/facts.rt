@@ -1,11 +1,13 @@
 //! The facts of a command: what it looks at on the desk that the tables stand for.
-ghost use Rattle.std.specs.Prelude.{◌≡◌, ◌<◌, ◌^◌, false, length, IfOk};
+ghost use Rattle.std.specs.Prelude.{◌≡◌, false, length};
 ghost use Rattle.sqlite.specs.Held.{state};
 ghost use Rattle.desk_core.specs.Facts as facts;
+ghost use Rattle.desk_core.specs.Links.{has_link};
 ghost use Rattle.desk_core.specs.Plan.{Dependencies, besides_on};
 ghost use Rattle.desk_core.specs.Scope.{seen_in};
 ghost use Rattle.desk_core.specs.Step.{facts_of};
 ghost use Rattle.store_core.specs.Calls.{Leaves, Tells, WasClean};
+ghost use Rattle.store_core.specs.Found as found;
 ghost use Rattle.store_core.specs.Seen.{state_of};
 
 use crate::dependencies::dependencies_of;
@@ -15,7 +17,7 @@ use crate::reads::queues::queues;
 use crate::reads::requests_by_key::last_id;
 use crate::standing::{queue_at, queue_of, standing_at};
 use crate::store::Store;
-use desk_core::{Command, Facts, LinkRow, Scope};
+use desk_core::{Command, Dependency, Facts, LinkRow, QueueRow, Scope, Standing};
 use sqlite::{Alter, Connection};
 use std::alloc::Global;
 use text_core::{Sequence, Text};
@@ -66,14 +68,10 @@ fn facts_on_queue<S: Alter>(
         (state S.Store conn.old) (state S.Store conn.new) result }
     ensures kept { Leaves (state S.Store conn.old) (state S.Store conn.new) }
 {
-    let queue = queue_at(conn, name)?;
     let queue_count = count_queues(alloc, conn)?;
     let request_count = count_requests(conn)?;
-    let mut facts = no_facts(alloc);
-    facts.queue = queue;
-    facts.queue_count = queue_count;
-    facts.request_count = request_count;
-    Ok(facts)
+    let queue = queue_at(conn, name)?;
+    Ok(counted(alloc, queue, queue_count, request_count))
 }
 
 /// How many queues there are.
@@ -119,10 +117,7 @@ fn facts_on<S: Alter>(
 {
     let request = standing_at(alloc, conn, id)?;
     let queue = queue_of(conn, &request)?;
-    let mut facts = no_facts(alloc);
-    facts.queue = queue;
-    facts.request = request;
-    Ok(facts)
+    Ok(filed(alloc, queue, request))
 }
 
 /// Of a move: what the request depends on too.
@@ -137,9 +132,9 @@ fn facts_of_move<S: Alter>(
         (state S.Store conn.old) (state S.Store conn.new) result }
     ensures kept { Leaves (state S.Store conn.old) (state S.Store conn.new) }
 {
-    let mut facts = facts_on(alloc, conn, id)?;
-    facts.dependencies = dependencies_of(alloc, conn, id)?;
-    Ok(facts)
+    let dependencies = dependencies_of(alloc, conn, id)?;
+    let facts = facts_on(alloc, conn, id)?;
+    Ok(with_dependencies(facts, dependencies))
 }
 
 /// Of a link: the request at its other end too, and whether it is there.
@@ -154,10 +149,88 @@ fn facts_of_link<S: Alter>(
         (state S.Store conn.old) (state S.Store conn.new) result }
     ensures kept { Leaves (state S.Store conn.old) (state S.Store conn.new) }
 {
-    let mut facts = facts_on(alloc, conn, link.source)?;
-    facts.other = standing_at(alloc, conn, link.target)?;
-    facts.is_linked = link_like(conn, link)?.is_some();
-    Ok(facts)
+    let is_linked = is_there(conn, link)?;
+    let other = standing_at(alloc, conn, link.target)?;
+    let facts = facts_on(alloc, conn, link.source)?;
+    Ok(with_link(facts, other, is_linked))
+}
+
+/// Whether the link is there.
+fn is_there<S: Alter>(conn: &mut Connection<S>, link: LinkRow) -> Result<bool, StoreFault>
+    requires { conn.old.in_transaction ≡ false }
+    ensures idle { conn.new.in_transaction ≡ false }
+    ensures told { Tells (λ desk there. there ≡ has_link desk link)
+        (state S.Store conn.old) (state S.Store conn.new) result }
+    ensures kept { Leaves (state S.Store conn.old) (state S.Store conn.new) }
+    ensures honest { WasClean (state S.Store conn.old) (state S.Store conn.new) }
+{
+    let found = link_like(conn, link)?;
+    Ok(found.is_some())
+}
+
+/// Facts of a queue, with both counts.
+fn counted(
+    alloc: Global,
+    queue: Option<QueueRow>,
+    queue_count: u32,
+    request_count: u32,
+) -> Facts
+    ensures { result ≡ found.counted queue queue_count request_count }
+{
+    Facts {
+        queue,
+        queue_count,
+        request_count,
+        request: None,
+        other: None,
+        is_linked: false,
+        dependencies: Sequence::from(Vec::new(alloc)),
+    }
+}
+
+/// Facts of a request and its queue.
+fn filed(alloc: Global, queue: Option<QueueRow>, request: Option<Standing>) -> Facts
+    ensures { result ≡ found.filed queue request }
+{
+    Facts {
+        queue,
+        queue_count: 0,
+        request_count: 0,
+        request,
+        other: None,
+        is_linked: false,
+        dependencies: Sequence::from(Vec::new(alloc)),
+    }
+}
+
+/// The facts, with what the request depends on.
+fn with_dependencies(facts: Facts, dependencies: Sequence<Dependency>) -> Facts
+    ensures { result ≡ found.with_dependencies facts dependencies }
+{
+    Facts {
+        queue: facts.queue,
+        queue_count: facts.queue_count,
+        request_count: facts.request_count,
+        request: facts.request,
+        other: facts.other,
+        is_linked: facts.is_linked,
+        dependencies,
+    }
+}
+
+/// The facts, with the request at the other end of a link, and whether the link is there.
+fn with_link(facts: Facts, other: Option<Standing>, is_linked: bool) -> Facts
+    ensures { result ≡ found.with_link facts other is_linked }
+{
+    Facts {
+        queue: facts.queue,
+        queue_count: facts.queue_count,
+        request_count: facts.request_count,
+        request: facts.request,
+        other,
+        is_linked,
+        dependencies: facts.dependencies,
+    }
 }
 
 /// Of a command that looks at nothing.

@@ -5,5 +5,5 @@ use Rattle.store_core.proofs.facts.count_queues.Goals as goal
 
 pub returns-in-Ok-clause-told : goal.returns-in-Ok-clause-told
 returns-in-Ok-clause-told g c desk is stand clean =
-    c.in-Ok.ensures ∙ c.len.ensures.value
+    c.in-Ok.ensures.1 ∙ c.len.ensures
     ∙ queues_counted desk _ (c.in_ok-queues.ensures.listed (contents_of desk) stand clean)
