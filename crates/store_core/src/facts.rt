@@ -84,7 +84,7 @@ fn count_queues<S: Alter>(alloc: Global, conn: &mut Connection<S>) -> Result<u32
     ensures honest { WasClean (state S.Store conn.old) (state S.Store conn.new) }
 {
     let queues = queues(alloc, conn)?;
-    match u32::try_from(queues.len()) {
+    match u32::try_from(queues.as_slice().len()) {
         Ok(count) => Ok(count),
         Err(_) => Err(StoreFault::Refused),
     }
