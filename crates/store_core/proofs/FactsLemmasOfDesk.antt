@@ -1,11 +1,11 @@
 -- What is read by key is what the desk has there.
 use Rattle.std.proofs.Common.{◌≡◌, ◌∙◌, ℕ, Bool, true, List, [], ◌∷◌, ◌++◌, map, filter, length}
 use Rattle.std.proofs.Common.{Option, Some, None, Result, Ok, Err, OnOk, IfOk, is_some, refl, sym, ap}
-use Rattle.std.proofs.Common.{subst}
+use Rattle.std.proofs.Common.{subst, ◌+◌, ◌<◌, ◌≤◌, arith, get_or, take, zero, suc}
 use Rattle.std.specs.List.{flat_map}
 use Rattle.std.specs.Option.{option_map, option_to_list}
 use Rattle.std.specs.Prelude.{option_and_then}
-use Rattle.std.proofs.lemmas.List.{append-nil, length-map}
+use Rattle.std.proofs.lemmas.List.{append_assoc, append-nil, length-map, take_more}
 use Rattle.std.proofs.lemmas.List.Sorted.{length_permutation}
 use Rattle.sqlite_rules.proofs.ListLemmas.{test_has}
 use Rattle.sqlite_trees.proofs.ListLemmas.{map-map}
@@ -134,6 +134,26 @@ unfolding dependency_by
 dependencies_are desk id ls ds is listed all =
     all ∙ ap (flat_map (dependency_by desk)) (the_links_from id DependsOn desk.links ls is.links
     listed ∙ the_dependency_links desk id)
+
+-- a loop's step
+flat_map_last : {X Y : Type 0} (f : X → List Y) (xs : List X) (x : X)
+    → flat_map f (xs ++ x ∷ []) ≡ flat_map f xs ++ f x
+flat_map_last f [] x = append-nil (f x)
+flat_map_last f (y ∷ ys) x =
+    ap (λ zs. f y ++ zs) (flat_map_last f ys x) ∙ sym (append_assoc (f y) (flat_map f ys) (f x))
+
+pub flat_map_more : {X Y : Type 0} (f : X → List Y) (xs : List X) (i : ℕ) (d : X)
+    (was now : List Y) → i < length xs → now ≡ was ++ f (get_or xs i d)
+    → was ≡ flat_map f (take i xs) → now ≡ flat_map f (take (i + 1) xs)
+flat_map_more f xs i d was now low more so_far =
+    more ∙ ap (λ ys. ys ++ f (get_or xs i d)) so_far
+    ∙ sym (ap (flat_map f) (take_more xs i d low) ∙ flat_map_last f (take i xs) (get_or xs i d))
+
+pub take_all : {X : Type 0} (i : ℕ) (xs : List X) → length xs ≤ i → take i xs ≡ xs
+take_all zero [] h = refl
+take_all (suc i) [] h = refl
+take_all zero (x ∷ xs) h = absurd (omega arith)
+take_all (suc i) (x ∷ xs) h = ap (λ ys. x ∷ ys) (take_all i xs (omega arith))
 
 -- ---- counts
 
