@@ -43,7 +43,7 @@ fn facts_in<S: Alter>(
 ) -> Result<Facts, StoreFault>
     requires { conn.old.in_transaction ≡ false }
     ensures idle { conn.new.in_transaction ≡ false }
-    ensures told { Tells (λ desk facts. facts ≡ seen_in scope desk)
+    ensures told { Tells (λ desk facts. facts ≡ seen_in scope.entry desk)
         (state S.Store conn.old) (state S.Store conn.new) result }
     ensures kept { Leaves (state S.Store conn.old) (state S.Store conn.new) }
 {
