@@ -103,11 +103,7 @@ fn count_requests<S: Alter>(conn: &mut Connection<S>) -> Result<u32, StoreFault>
 }
 
 /// Of a command on a request: the request and its queue.
-fn facts_on<S: Alter>(
-    alloc: Global,
-    conn: &mut Connection<S>,
-    id: u32,
-) -> Result<Facts, StoreFault>
+fn facts_on<S: Alter>(alloc: Global, conn: &mut Connection<S>, id: u32) -> Result<Facts, StoreFault>
     requires { conn.old.in_transaction ≡ false }
     ensures idle { conn.new.in_transaction ≡ false }
     ensures told { Tells (λ desk seen. seen ≡ facts.facts_on_request desk id)
@@ -169,12 +165,7 @@ fn is_there<S: Alter>(conn: &mut Connection<S>, link: LinkRow) -> Result<bool, S
 }
 
 /// Facts of a queue, with both counts.
-fn counted(
-    alloc: Global,
-    queue: Option<QueueRow>,
-    queue_count: u32,
-    request_count: u32,
-) -> Facts
+fn counted(alloc: Global, queue: Option<QueueRow>, queue_count: u32, request_count: u32) -> Facts
     ensures { result ≡ found.counted queue queue_count request_count }
 {
     Facts {

@@ -14,4 +14,4 @@ returns-clause-told g c desk is stand clean =
     (λ ds. dependencies_are desk c.args.id c.in_ok-links.links.items ds is
     (c.in_ok-links.ensures.listed d stand (c.dependencies_by.ensures.honest clean)))
     (rw c.as_slice.ensures.value at
-        (c.dependencies_by.ensures.told desk is (c.links_from.ensures.kept d stand) clean))
+    (c.dependencies_by.ensures.told desk is (c.links_from.ensures.kept d stand) clean))

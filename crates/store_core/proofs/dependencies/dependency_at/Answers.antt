@@ -15,7 +15,7 @@ pub returns-in-None-clause-told : goal.returns-in-None-clause-told
 returns-in-None-clause-told g c desk is stand clean =
     no_dependency desk c.args.id
     (rw c.in-None.is at
-        (c.in_ok-request_numbered.ensures.found (contents_of desk) stand clean))
+    (c.in_ok-request_numbered.ensures.found (contents_of desk) stand clean))
 
 pub returns-in_ok-queue-in-Some-clause-told : goal.returns-in_ok-queue-in-Some-clause-told
 returns-in_ok-queue-in-Some-clause-told g c desk is stand clean =
