@@ -1,5 +1,5 @@
 -- From rows by key to the facts of a desk.
-use Rattle.std.proofs.Common.{◌≡◌, ◌∙◌, ℕ, zero, suc, ◌+◌, ◌<◌, Bool, true, false, cond, not}
+use Rattle.std.proofs.Common.{◌≡◌, ◌∙◌, ℕ, ◌+◌, ◌<◌, Bool, true, false, cond}
 use Rattle.std.proofs.Common.{List, [], ◌∷◌, ◌++◌, map, filter, find, length, Option, Some, None}
 use Rattle.std.proofs.Common.{inl, inr, refl, sym, ap, ap₂, subst, arith, is_some}
 use Rattle.std.specs.Prelude.{◌==◌, ◌||◌, ◌&&◌}
@@ -15,7 +15,7 @@ use Rattle.sqlite_rules.specs.Lists.{Has}
 use Rattle.sqlite_rules.proofs.ListLemmas.{all_from, has_filtered, test_has}
 use Rattle.sqlite_trees.proofs.ListLemmas.{all_of, all-append, all-map, filter-map, filter_all}
 use Rattle.sqlite_trees.proofs.ListLemmas.{filter_none, filter_same}
-use Rattle.desk_core.specs.Desk.{Desk, Request}
+use Rattle.desk_core.specs.Desk.{Request}
 use Rattle.desk_core.specs.IsDesk.{are_numbered, has_its_entries}
 use Rattle.desk_core.specs.Watchers.{watcher, watchers_of}
 use Rattle.desk_core.specs.declared.rows.Entry.{Entry}

@@ -1,20 +1,17 @@
 -- What is read in order is the desk's list.
-use Rattle.std.proofs.Common.{◌≡◌, ◌∙◌, ℕ, Bool, true, false, cond, List, [], ◌∷◌, ◌++◌, map}
+use Rattle.std.proofs.Common.{◌≡◌, ◌∙◌, ℕ, true, false, cond, List, [], ◌∷◌, ◌++◌, map}
 use Rattle.std.proofs.Common.{filter, refl, sym, ap, ap₂, arith, Ordering, Less}
 use Rattle.std.specs.Prelude.{◌==◌, ◌||◌, ◌&&◌, nat_lt}
 use Rattle.std.specs.List.{AllByRecursion}
 use Rattle.std.specs.Ordering.{is_lt, nat_cmp, ordering_then}
 use Rattle.std.specs.Cmp.{IsTotalOrder}
-use Rattle.std.specs.Cmp.Lexicographic.{slice_cmp}
 use Rattle.std.proofs.lemmas.Bool.{and_parts}
 use Rattle.std.proofs.lemmas.Bool.Decides.{nat_tests}
 use Rattle.std.proofs.lemmas.Cmp.{nat_cmp_total, nat_list_cmp_total, on_total, then_total}
 use Rattle.std.proofs.lemmas.Cmp.{tied_itself}
 use Rattle.std.proofs.lemmas.List.{append-nil}
-use Rattle.std.proofs.lemmas.List.Elements.{filter-append}
 use Rattle.sqlite_trees.specs.Tree.{IsAscending}
-use Rattle.sqlite_rules.specs.Lists.{Has}
-use Rattle.sqlite_rules.proofs.ListLemmas.{all_from, has_filtered, test_has}
+use Rattle.sqlite_rules.proofs.ListLemmas.{all_from, has_filtered}
 use Rattle.sqlite_trees.proofs.ListLemmas.{all_of, all-append, all-map, all_both, ascending-append}
 use Rattle.sqlite_trees.proofs.ListLemmas.{ascending-filter, ascending-map, filter_same}
 use Rattle.desk_core.specs.Desk.{Desk, Request}
@@ -248,5 +245,6 @@ pub the_dependency_links : (desk : Desk) (id : ℕ)
     → filter (links_from id DependsOn) desk.links ≡ dependency_links desk id
 the_dependency_links desk id =
     filter_same (links_from id DependsOn) (λ l. l.source == id && is_kind DependsOn l.kind)
-    desk.links (all_of (λ l. links_from id DependsOn l ≡ (l.source == id && is_kind DependsOn l.kind))
+    desk.links
+    (all_of (λ l. links_from id DependsOn l ≡ (l.source == id && is_kind DependsOn l.kind))
     (λ l. ap (λ b. l.source == id && b) (same_kinds l.kind DependsOn)) desk.links)

@@ -1,6 +1,7 @@
 -- What is read by key is what the desk has there.
-use Rattle.std.proofs.Common.{◌≡◌, ◌∙◌, ℕ, Bool, true, List, [], ◌∷◌, ◌++◌, map, filter, length}
-use Rattle.std.proofs.Common.{Option, Some, None, Result, Ok, Err, OnOk, IfOk, is_some, refl, sym, ap}
+use Rattle.std.proofs.Common.{◌≡◌, ◌∙◌, ℕ, Bool, List, [], ◌∷◌, ◌++◌, filter, length}
+use Rattle.std.proofs.Common.{Option, Some, None, Result, Ok, Err, OnOk, IfOk, is_some}
+use Rattle.std.proofs.Common.{refl, sym, ap}
 use Rattle.std.proofs.Common.{subst, ◌+◌, ◌<◌, ◌≤◌, arith, get_or, take, zero, suc}
 use Rattle.std.specs.List.{flat_map}
 use Rattle.std.specs.Option.{option_map, option_to_list}
@@ -27,14 +28,14 @@ use Rattle.desk_core.specs.declared.rows.QueueRow.{QueueRow}
 use Rattle.desk_core.specs.declared.rows.RequestRow.{RequestRow}
 use Rattle.desk_core.specs.declared.rows.Watcher.{Watcher}
 use Rattle.store_core.specs.Contents.{entries, request_rows, watchers}
-use Rattle.store_core.specs.Found.{dependency_at, dependency_by, dependency_of, has_number}
+use Rattle.store_core.specs.Found.{dependency_at, dependency_by, dependency_of}
 use Rattle.store_core.specs.Found.{counted, filed, number_of, place_of, queue_by, standing_of}
 use Rattle.store_core.specs.Found.{with_dependencies, with_link}
 use Rattle.store_core.specs.Orders.{by_name, by_role, by_target}
 use Rattle.store_core.specs.Picked.{AreOrdered, IsGreatest}
 use Rattle.store_core.specs.Selection as chosen
 use Rattle.store_core.specs.Selection.{is_numbered, links_from, tells_of, watches}
-use Rattle.store_core.proofs.FactsLemmas.{IsOnly, entries_of_one, found_row, greatest_counts}
+use Rattle.store_core.proofs.FactsLemmas.{entries_of_one, found_row, greatest_counts}
 use Rattle.store_core.proofs.FactsLemmas.{numbers_of, only_request, some_found, watchers_of_one}
 use Rattle.store_core.proofs.FactsLemmasInOrder.{the_admin_cc, the_cc, the_dependency_links}
 use Rattle.store_core.proofs.FactsLemmasInOrder.{same_link_is}
@@ -202,7 +203,8 @@ move_facts desk id facts ds facts_are ds_are =
 
 pub link_facts : (desk : Desk) (l : LinkRow) (facts : Facts) (other : Option Standing) (b : Bool)
     → facts ≡ facts_on_request desk l.source → other ≡ standing_at desk l.target
-    → b ≡ has_link desk l → with_link facts other b ≡ besides_on (Another l.kind l.target) l.source desk
+    → b ≡ has_link desk l
+    → with_link facts other b ≡ besides_on (Another l.kind l.target) l.source desk
 link_facts desk l facts other b facts_are other_is b_is =
     ap (λ f. with_link f other b) facts_are
     ∙ ap (λ v. with_link (facts_on_request desk l.source) v b) other_is
