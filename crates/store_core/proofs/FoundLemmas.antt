@@ -1,7 +1,7 @@
 -- What reads by key show of the tables.
-use Rattle.std.proofs.Common.{◌≡◌, ◌⊎◌, inl, inr, ℕ, List, [], ◌∷◌, filter, refl}
+use Rattle.std.proofs.Common.{inl, inr, ℕ, List, [], filter, refl}
 use Rattle.std.proofs.Common.{subst, sym}
-use Rattle.sqlite.specs.Order.{Row, column}
+use Rattle.sqlite.specs.Order.{Row}
 use Rattle.sqlite.specs.State.{State, HasCleanDisk, Shown}
 use Rattle.desk_core.specs.declared.rows.LinkRow.{LinkRow}
 use Rattle.store_core.specs.Contents.{Contents}
@@ -10,7 +10,7 @@ use Rattle.store_core.specs.Kept.{filed, value_of}
 use Rattle.store_core.specs.Picked.{IsGreatest, Shows, ShowsGreatest}
 use Rattle.store_core.specs.Queries.{link_like_text, three_shown, three_test}
 use Rattle.store_core.specs.Selection.{is_link}
-use Rattle.store_core.specs.Spelling.{count_value, link_columns}
+use Rattle.store_core.specs.Spelling.{link_columns}
 use Rattle.store_core.specs.Stands.{Stand}
 use Rattle.store_core.proofs.LastLemmas.{none_greatest, one_greatest}
 use Rattle.store_core.proofs.PickedLemmas.{picked_by}

@@ -18,8 +18,7 @@ use Rattle.sqlite_rules.proofs.ListLemmas.{all_has, has_contained, contains_had}
 use Rattle.store_core.specs.Kept.{Holds}
 use Rattle.store_core.specs.Queries.{last_of}
 use Rattle.store_core.specs.Spelling.{count_value}
-use Rattle.store_core.specs.Picked.{passes, shows, PicksLast, ShowsGreatest, IsGreatest, HasNoGaps}
-use Rattle.store_core.specs.Picked.{down_from}
+use Rattle.store_core.specs.Picked.{passes, shows, PicksLast, ShowsGreatest, IsGreatest}
 use Rattle.store_core.proofs.KeptLemmas.{found}
 use Rattle.store_core.proofs.ReadLemmas.{sorted_from, sorted_to}
 
@@ -101,33 +100,9 @@ one_greatest key xs rows row n (inr h) one reads =
     let is : key h.0 ≡ n = let e = sym (ap (λ r. column r 0) same) ∙ reads in cc in
     inr (h.0, h.2, is, λ y has. subst (λ m. key y ≤ m) is (h.3 y has))
 
--- numbers without gaps: the greatest is the count
-has_mapped : {X Y : Type 0} (f : X → Y) (xs : List X) (x : X) → Has xs x → Has (map f xs) (f x)
-has_mapped f [] x h = h
-has_mapped f (y ∷ ys) x (inl same) = inl (ap f same)
-has_mapped f (y ∷ ys) x (inr later) = inr (has_mapped f ys x later)
-
+-- what is among the images is the image of one
 pub mapped_has : {X Y : Type 0} (f : X → Y) (xs : List X) (y : Y) → Has (map f xs) y → (x : X)
     × Has xs x × (f x ≡ y)
 mapped_has f [] y h = absurd h
 mapped_has f (x ∷ xs) y (inl same) = (x, inl refl, sym same)
 mapped_has f (x ∷ xs) y (inr later) = let it = mapped_has f xs y later in (it.0, inr it.1, it.2)
-
-below_top : (n m : ℕ) → Has (down_from n) m → m ≤ n
-below_top zero m h = absurd h
-below_top (suc n) m (inl same) = omega (arith, same)
-below_top (suc n) m (inr later) = omega (arith, below_top n m later)
-
-pub no_gaps : {X : Type 0} (key : X → ℕ) (xs : List X) (n : ℕ) → IsGreatest key xs n
-    → HasNoGaps key xs → n ≡ length xs
-no_gaps key xs n (inl h) all = h.1 ∙ sym (ap length h.0)
-no_gaps key [] n (inr h) all = absurd h.1
-no_gaps key (y ∷ ys) n (inr h) all =
-    let low : key h.0 ≤ length (y ∷ ys) = below_top (length (y ∷ ys)) (key h.0)
-    (has_permuted (map key (y ∷ ys)) (down_from (length (y ∷ ys))) (key h.0) all
-    (has_mapped key (y ∷ ys) h.0 h.1)) in
-    let top = mapped_has key (y ∷ ys) (length (y ∷ ys))
-    (has_permuted (down_from (length (y ∷ ys))) (map key (y ∷ ys)) (length (y ∷ ys))
-    (IsPermutation-sym _ _ all) (inl refl)) in
-    let high : key top.0 ≤ n = h.3 top.0 top.1 in
-    omega (arith, low, high, top.2, h.2)

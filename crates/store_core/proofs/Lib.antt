@@ -2,6 +2,8 @@ pub mod Alike
 pub mod BackLemmas
 pub mod ChangeLemmas
 pub mod FactsLemmas
+pub mod FactsLemmasInOrder
+pub mod FactsLemmasOfDesk
 pub mod FoundLemmas
 pub mod KeptLemmas
 pub mod LastLemmas

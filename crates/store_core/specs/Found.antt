@@ -1,8 +1,21 @@
 -- What reads by key find of a desk.
-use Rattle.std.specs.Prelude.{◌≡◌, ◌⊎◌, ℕ, List, [], ◌∷◌}
+use Rattle.std.specs.Prelude.{◌≡◌, ◌⊎◌, ◌==◌, ℕ, Bool, List, [], ◌∷◌, filter, map, Option}
+use Rattle.std.specs.Prelude.{option_and_then}
+use Rattle.std.specs.Option.{option_map, option_to_list}
 use Rattle.sqlite.specs.Order.{Row, column}
+use Rattle.desk_core.specs.Desk.{Desk, Request, queue_at, request_at}
+use Rattle.desk_core.specs.Facts.{as_dependency, no_facts}
+use Rattle.desk_core.specs.Watchers.{is_role}
+use Rattle.desk_core.specs.declared.facts.Dependency.{Dependency}
+use Rattle.desk_core.specs.declared.facts.Facts.{Facts}
+use Rattle.desk_core.specs.declared.facts.Standing.{Standing}
 use Rattle.desk_core.specs.declared.rows.Entry.{Entry}
+use Rattle.desk_core.specs.declared.rows.LinkRow.{LinkRow}
+use Rattle.desk_core.specs.declared.rows.QueueRow.{QueueRow}
 use Rattle.desk_core.specs.declared.rows.RequestRow.{RequestRow}
+use Rattle.desk_core.specs.declared.rows.Watcher.{Watcher}
+use Rattle.desk_core.specs.declared.rows.WatchRole.{WatchRole}
+use Rattle.desk_core.specs.declared.rows.WatchRole.TheVariants.{Requestor, Cc, AdminCc}
 use Rattle.store_core.specs.Spelling.{count_value}
 
 -- the one row shows that number, or there is no row and the number is 0
@@ -16,3 +29,53 @@ number_of r = r.id
 -- the number of an entry within its history
 abbrev pub place_of : Entry → ℕ
 place_of e = e.number
+
+-- the persons in a role, in the order of the watchers
+abbrev pub persons_in : WatchRole → List Watcher → List (List ℕ)
+persons_in role watchers = map (λ w. w.person) (filter (λ w. is_role role w.role) watchers)
+
+-- a request's row with the persons among its watchers, and the number of its entries
+abbrev pub standing_of : RequestRow → List Watcher → ℕ → Standing
+standing_of row watchers entry_count =
+    record {
+      row = row;
+      requestors = persons_in Requestor watchers;
+      cc = persons_in Cc watchers;
+      admin_cc = persons_in AdminCc watchers;
+      entry_count = entry_count;
+    }
+
+abbrev pub has_number : ℕ → Request → Bool
+has_number id r = r.row.id == id
+
+-- the queue that a request is filed in
+abbrev pub queue_by : Desk → Option Standing → Option QueueRow
+queue_by desk on = option_and_then (λ s. queue_at desk s.row.queue) on
+
+-- what the request of that number is to one that depends on it
+abbrev pub dependency_at : Desk → ℕ → Option Dependency
+dependency_at desk id = option_and_then (as_dependency desk) (request_at desk id)
+
+-- what a request in that queue is to one that depends on it
+abbrev pub dependency_of : RequestRow → Option QueueRow → Option Dependency
+dependency_of row queue =
+    option_map (λ q. record { lifecycle = q.lifecycle; status = row.status }) queue
+
+-- what a link leads to
+unfoldable pub dependency_by : Desk → LinkRow → List Dependency
+dependency_by desk link = option_to_list (dependency_at desk link.target)
+
+-- ---- facts, put together
+
+abbrev pub counted : Option QueueRow → ℕ → ℕ → Facts
+counted queue queues requests =
+    record no_facts { queue = queue; queue_count = queues; request_count = requests }
+
+abbrev pub filed : Option QueueRow → Option Standing → Facts
+filed queue request = record no_facts { queue = queue; request = request }
+
+abbrev pub with_dependencies : Facts → List Dependency → Facts
+with_dependencies facts dependencies = record facts { dependencies = dependencies }
+
+abbrev pub with_link : Facts → Option Standing → Bool → Facts
+with_link facts other is_linked = record facts { other = other; is_linked = is_linked }

@@ -1,6 +1,6 @@
 -- What a query on one table answers.
-use Rattle.std.specs.Prelude.{◌≡◌, ◌⊎◌, ◌≤◌, ℕ, zero, suc, pos, Bool, List, [], ◌∷◌, map, filter}
-use Rattle.std.specs.Prelude.{take, length, IsPermutation, IsSorted}
+use Rattle.std.specs.Prelude.{◌≡◌, ◌⊎◌, ◌≤◌, ℕ, pos, Bool, List, [], ◌∷◌, map, filter}
+use Rattle.std.specs.Prelude.{take, IsPermutation, IsSorted}
 use Rattle.std.specs.declared.cmp.Ordering.{Ordering}
 use Rattle.sqlite_rules.specs.Lists.{Has}
 use Rattle.std.specs.List.{list_all}
@@ -62,11 +62,3 @@ abbrev pub ShowsGreatest : {X : Type 0} → (X → ℕ) → List X → List Row 
 ShowsGreatest key xs rows = ((rows ≡ []) × (xs ≡ []))
     ⊎ ((x : _) × (rows ≡ (Int (pos (key x)) ∷ []) ∷ []) × Has xs x
     × ((y : _) → Has xs y → key y ≤ key x))
-
-abbrev pub down_from : ℕ → List ℕ
-down_from zero = []
-down_from (suc n) = suc n ∷ down_from n
-
--- the numbers are 1 to the count, each once, in any order
-abbrev pub HasNoGaps : {X : Type 0} → (X → ℕ) → List X → Type 0
-HasNoGaps key xs = IsPermutation (map key xs) (down_from (length xs))

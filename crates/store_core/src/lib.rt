@@ -4,10 +4,13 @@
 
 mod apply;
 mod columns;
+mod dependencies;
+mod facts;
 pub mod fault;
 mod lists;
 mod query;
 mod reads;
+mod standing;
 pub mod store;
 mod stored;
 mod transaction;

@@ -67,7 +67,11 @@ fn rows_like<S: Alter>(conn: &mut Connection<S>, link: LinkRow) -> Result<Vec<Ro
     select(
         conn,
         "SELECT source, kind, target FROM link WHERE source = ?1 AND kind = ?2 AND target = ?3",
-        &[number(link.source), link_kind(link.kind), number(link.target)],
+        &[
+            number(link.source),
+            link_kind(link.kind),
+            number(link.target),
+        ],
     )
 }
 

@@ -10,7 +10,10 @@ pub returns-in-len1 : goal.returns-in-len1
 returns-in-len1 c =
     record {
       ok =
-          if_ok c.number_at.result (λ n reads. inr (c.row-item.result,
-          one_list c.row-item.result c.args.rows.now c.in-len1.len_at_least c.in-len1.len_below
-          c.row-item.is, reads)) c.number_at.ensures.ok;
+          if_ok c.number_at.result (λ n reads. inr (
+            c.row-item.result,
+            one_list c.row-item.result c.args.rows.now c.in-len1.len_at_least c.in-len1.len_below
+                c.row-item.is,
+            reads,
+          )) c.number_at.ensures.ok;
     }

@@ -11,5 +11,6 @@ returns-clause-shown g c d stand clean =
     let old = state g.S.Store c.args.conn.now in
     let new = state g.S.Store c.select.new.conn in
     if_ok c.select.result
-    (λ rows. lists_links_from d c.args.id c.args.kind old new c.select.ensures.honest stand clean rows.items)
+    (λ rows. lists_links_from d c.args.id c.args.kind old new c.select.ensures.honest stand clean
+    rows.items)
     (rw (c.number.ensures, c.link_kind.ensures) at (c.select.ensures.shown clean))

@@ -1,0 +1,211 @@
+-- What is read by key is what the desk has there.
+use Rattle.std.proofs.Common.{◌≡◌, ◌∙◌, ℕ, Bool, List, [], ◌∷◌, ◌++◌, filter, length}
+use Rattle.std.proofs.Common.{Option, Some, None, Result, Ok, Err, OnOk, IfOk, is_some}
+use Rattle.std.proofs.Common.{refl, sym, ap}
+use Rattle.std.proofs.Common.{subst, ◌+◌, ◌<◌, ◌≤◌, arith, get_or, take, zero, suc}
+use Rattle.std.specs.List.{flat_map}
+use Rattle.std.specs.Option.{option_map, option_to_list}
+use Rattle.std.specs.Prelude.{option_and_then}
+use Rattle.std.proofs.lemmas.List.{append_assoc, append-nil, length-map, take_more}
+use Rattle.std.proofs.lemmas.List.Sorted.{length_permutation}
+use Rattle.sqlite_rules.proofs.ListLemmas.{test_has}
+use Rattle.sqlite_trees.proofs.ListLemmas.{map-map}
+use Rattle.desk_core.specs.Desk.{Desk, Request, queue_at, request_at}
+use Rattle.desk_core.specs.Desk.{queue_count, request_count}
+use Rattle.desk_core.specs.Facts.{as_dependency, dependencies_of, facts_on_queue}
+use Rattle.desk_core.specs.Facts.{facts_on_request, queue_of, standing, standing_at}
+use Rattle.desk_core.specs.Links as links
+use Rattle.desk_core.specs.Links.{has_link}
+use Rattle.desk_core.specs.Plan.{Another, Dependencies, besides_on}
+use Rattle.desk_core.specs.IsDesk.{IsDesk, are_numbered, has_its_entries, persons_rise}
+use Rattle.desk_core.specs.Watchers.{watchers_of}
+use Rattle.desk_core.specs.declared.facts.Dependency.{Dependency}
+use Rattle.desk_core.specs.declared.facts.Facts.{Facts}
+use Rattle.desk_core.specs.declared.facts.Standing.{Standing}
+use Rattle.desk_core.specs.declared.rows.LinkKind.TheVariants.{DependsOn}
+use Rattle.desk_core.specs.declared.rows.LinkRow.{LinkRow}
+use Rattle.desk_core.specs.declared.rows.QueueRow.{QueueRow}
+use Rattle.desk_core.specs.declared.rows.RequestRow.{RequestRow}
+use Rattle.desk_core.specs.declared.rows.Watcher.{Watcher}
+use Rattle.store_core.specs.Contents.{entries, request_rows, watchers}
+use Rattle.store_core.specs.Found.{dependency_at, dependency_by, dependency_of}
+use Rattle.store_core.specs.Found.{counted, filed, number_of, place_of, queue_by, standing_of}
+use Rattle.store_core.specs.Found.{with_dependencies, with_link}
+use Rattle.store_core.specs.Orders.{by_name, by_role, by_target}
+use Rattle.store_core.specs.Picked.{AreOrdered, IsGreatest}
+use Rattle.store_core.specs.Selection as chosen
+use Rattle.store_core.specs.Selection.{is_numbered, links_from, tells_of, watches}
+use Rattle.store_core.proofs.FactsLemmas.{entries_of_one, found_row, greatest_counts}
+use Rattle.store_core.proofs.FactsLemmas.{numbers_of, only_request, some_found, watchers_of_one}
+use Rattle.store_core.proofs.FactsLemmasInOrder.{the_admin_cc, the_cc, the_dependency_links}
+use Rattle.store_core.proofs.FactsLemmasInOrder.{same_link_is}
+use Rattle.store_core.proofs.FactsLemmasInOrder.{the_links_from, the_requestors, the_watchers_of}
+
+-- ---- a request
+
+unmapped_none : {X Y : Type 0} (f : X → Y) (o : Option X) → None ≡ option_map f o → o ≡ None
+unmapped_none f None h = refl
+unmapped_none f (Some x) h = cc
+
+pub no_request : (desk : Desk) (id : ℕ) → [] ≡ filter (is_numbered id) (request_rows desk)
+    → request_at desk id ≡ None
+no_request desk id h =
+    unmapped_none (λ (r : Request). r.row) (request_at desk id) (found_row id desk.requests None h)
+
+pub no_standing : (desk : Desk) (id : ℕ) → [] ≡ filter (is_numbered id) (request_rows desk)
+    → None ≡ standing_at desk id
+no_standing desk id h = sym (ap (option_map standing) (no_request desk id h))
+
+abbrev made : Request → List (List ℕ) → List (List ℕ) → List (List ℕ) → Standing
+made r requestors cc admin_cc =
+    record {
+      row = r.row;
+      requestors = requestors;
+      cc = cc;
+      admin_cc = admin_cc;
+      entry_count = length r.entries;
+    }
+
+standing_is : (r : Request) (row : RequestRow) (ws : List Watcher) (n : ℕ) → r.row ≡ row
+    → ws ≡ watchers_of r → n ≡ length r.entries → standing_of row ws n ≡ standing r
+standing_is r row ws n row_is ws_are n_is =
+    ap (λ v. standing_of v ws n) (sym row_is)
+    ∙ ap (λ v. standing_of r.row v n) ws_are
+    ∙ ap (standing_of r.row (watchers_of r)) n_is
+    ∙ ap (λ v. made r v (standing_of r.row (watchers_of r) 0).cc
+    (standing_of r.row (watchers_of r) 0).admin_cc) (the_requestors r)
+    ∙ ap (λ v. made r r.requestors v (standing_of r.row (watchers_of r) 0).admin_cc) (the_cc r)
+    ∙ ap (λ v. made r r.requestors r.cc v) (the_admin_cc r)
+
+pub some_standing : (desk : Desk) (id : ℕ) (row : RequestRow) (ws : List Watcher) (n : ℕ)
+    → IsDesk desk → row ∷ [] ≡ filter (is_numbered id) (request_rows desk)
+    → AreOrdered by_role (filter (watches id) (watchers desk)) ws
+    → IsGreatest place_of (filter (tells_of id) (entries desk)) n
+    → Some (standing_of row ws n) ≡ standing_at desk id
+some_standing desk id row ws n is found listed greatest =
+    let it = only_request id desk.requests row found in
+    let r = it.request in
+    let rises = test_has persons_rise desk.requests r is.persons it.there in
+    let own = test_has has_its_entries desk.requests r is.entries it.there in
+    let ws_are = the_watchers_of r ws rises
+    (subst (λ xs. AreOrdered by_role xs ws) (watchers_of_one id desk.requests row it) listed) in
+    let n_is = greatest_counts place_of r.entries n (numbers_of r own)
+    (subst (λ xs. IsGreatest place_of xs n) (entries_of_one id desk.requests row it is.entries)
+    greatest) in
+    ap Some (standing_is r row ws n it.row_is ws_are n_is)
+    ∙ sym (ap (option_map standing) it.found)
+
+pub queue_by_is : (desk : Desk) (id : ℕ)
+    → queue_by desk (standing_at desk id) ≡ queue_of desk (request_at desk id)
+queue_by_is desk id = of (request_at desk id)
+  where
+    of : (o : Option Request) → queue_by desk (option_map standing o) ≡ queue_of desk o
+    of None = refl
+    of (Some r) = refl
+
+-- ---- what a request depends on
+
+pub no_dependency : (desk : Desk) (id : ℕ) → [] ≡ filter (is_numbered id) (request_rows desk)
+    → None ≡ dependency_at desk id
+no_dependency desk id h = sym (ap (option_and_then (as_dependency desk)) (no_request desk id h))
+
+pub some_dependency : (desk : Desk) (id : ℕ) (row : RequestRow) (q : Option QueueRow)
+    → row ∷ [] ≡ filter (is_numbered id) (request_rows desk) → q ≡ queue_at desk row.queue
+    → dependency_of row q ≡ dependency_at desk id
+some_dependency desk id row q found q_is =
+    let it = only_request id desk.requests row found in
+    ap (dependency_of row) q_is
+    ∙ ap (λ v. dependency_of v (queue_at desk v.queue)) (sym it.row_is)
+    ∙ sym (ap (option_and_then (as_dependency desk)) it.found)
+
+pub puts_none : (desk : Desk) (l : LinkRow) (xs : List Dependency)
+    → None ≡ dependency_at desk l.target → xs ≡ xs ++ dependency_by desk l
+unfolding dependency_by
+puts_none desk l xs none = sym (append-nil xs) ∙ ap (λ o. xs ++ option_to_list o) none
+
+pub puts_some : (desk : Desk) (l : LinkRow) (xs : List Dependency) (d : Dependency)
+    → Some d ≡ dependency_at desk l.target → xs ++ d ∷ [] ≡ xs ++ dependency_by desk l
+unfolding dependency_by
+puts_some desk l xs d some = ap (λ o. xs ++ option_to_list o) some
+
+pub dependencies_are : (desk : Desk) (id : ℕ) (ls : List LinkRow) (ds : List Dependency)
+    → IsDesk desk → AreOrdered by_target (filter (links_from id DependsOn) desk.links) ls
+    → ds ≡ flat_map (dependency_by desk) ls → ds ≡ dependencies_of desk id
+unfolding dependency_by
+dependencies_are desk id ls ds is listed all =
+    all ∙ ap (flat_map (dependency_by desk)) (the_links_from id DependsOn desk.links ls is.links
+    listed ∙ the_dependency_links desk id)
+
+-- a loop's step
+flat_map_last : {X Y : Type 0} (f : X → List Y) (xs : List X) (x : X)
+    → flat_map f (xs ++ x ∷ []) ≡ flat_map f xs ++ f x
+flat_map_last f [] x = append-nil (f x)
+flat_map_last f (y ∷ ys) x =
+    ap (λ zs. f y ++ zs) (flat_map_last f ys x) ∙ sym (append_assoc (f y) (flat_map f ys) (f x))
+
+pub flat_map_more : {X Y : Type 0} (f : X → List Y) (xs : List X) (i : ℕ) (d : X)
+    (was now : List Y) → i < length xs → now ≡ was ++ f (get_or xs i d)
+    → was ≡ flat_map f (take i xs) → now ≡ flat_map f (take (i + 1) xs)
+flat_map_more f xs i d was now low more so_far =
+    more ∙ ap (λ ys. ys ++ f (get_or xs i d)) so_far
+    ∙ sym (ap (flat_map f) (take_more xs i d low) ∙ flat_map_last f (take i xs) (get_or xs i d))
+
+pub take_all : {X : Type 0} (i : ℕ) (xs : List X) → length xs ≤ i → take i xs ≡ xs
+take_all zero [] h = refl
+take_all (suc i) [] h = refl
+take_all zero (x ∷ xs) h = absurd (omega arith)
+take_all (suc i) (x ∷ xs) h = ap (λ ys. x ∷ ys) (take_all i xs (omega arith))
+
+-- ---- counts
+
+pub requests_counted : (desk : Desk) (n : ℕ) → IsDesk desk
+    → IsGreatest number_of (request_rows desk) n → n ≡ length desk.requests
+requests_counted desk n is greatest =
+    greatest_counts number_of (request_rows desk) n
+    (ap (are_numbered 1) (map-map number_of (λ (r : Request). r.row) desk.requests) ∙ is.requests)
+    greatest
+    ∙ length-map desk.requests (λ (r : Request). r.row)
+
+pub queues_counted : (desk : Desk) (qs : List QueueRow) → AreOrdered by_name desk.queues qs
+    → length qs ≡ length desk.queues
+queues_counted desk qs listed = length_permutation desk.queues qs listed.same
+
+-- ---- facts, put together
+
+pub on_ok : {T E P Q : Type 0} (r : Result T E) → (P → Q) → OnOk r P → IfOk r (λ x. Q)
+on_ok (Ok x) f h = f h
+on_ok (Err e) f h = h
+
+pub queue_facts : (desk : Desk) (name : List ℕ) (q : Option QueueRow) (n m : ℕ)
+    → q ≡ queue_at desk name → n ≡ queue_count desk → m ≡ request_count desk
+    → counted q n m ≡ facts_on_queue desk name
+queue_facts desk name q n m q_is n_is m_is =
+    ap (λ v. counted v n m) q_is ∙ ap (λ v. counted (queue_at desk name) v m) n_is
+    ∙ ap (counted (queue_at desk name) (queue_count desk)) m_is
+
+pub request_facts : (desk : Desk) (id : ℕ) (q : Option QueueRow) (on : Option Standing)
+    → on ≡ standing_at desk id → q ≡ queue_by desk on → filed q on ≡ facts_on_request desk id
+request_facts desk id q on on_is q_is =
+    ap (λ v. filed v on) (q_is ∙ ap (queue_by desk) on_is ∙ queue_by_is desk id)
+    ∙ ap (filed (queue_of desk (request_at desk id))) on_is
+
+pub link_there : (desk : Desk) (l : LinkRow) (o : Option LinkRow)
+    → option_to_list o ≡ filter (chosen.is_link l) desk.links → is_some o ≡ has_link desk l
+link_there desk l o =
+    some_found (chosen.is_link l) (links.is_link l) (same_link_is l) desk.links o
+
+pub move_facts : (desk : Desk) (id : ℕ) (facts : Facts) (ds : List Dependency)
+    → facts ≡ facts_on_request desk id → ds ≡ dependencies_of desk id
+    → with_dependencies facts ds ≡ besides_on Dependencies id desk
+move_facts desk id facts ds facts_are ds_are =
+    ap (λ f. with_dependencies f ds) facts_are
+    ∙ ap (with_dependencies (facts_on_request desk id)) ds_are
+
+pub link_facts : (desk : Desk) (l : LinkRow) (facts : Facts) (other : Option Standing) (b : Bool)
+    → facts ≡ facts_on_request desk l.source → other ≡ standing_at desk l.target
+    → b ≡ has_link desk l
+    → with_link facts other b ≡ besides_on (Another l.kind l.target) l.source desk
+link_facts desk l facts other b facts_are other_is b_is =
+    ap (λ f. with_link f other b) facts_are
+    ∙ ap (λ v. with_link (facts_on_request desk l.source) v b) other_is
+    ∙ ap (with_link (facts_on_request desk l.source) (standing_at desk l.target)) b_is

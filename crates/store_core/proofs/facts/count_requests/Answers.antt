@@ -1,0 +1,9 @@
+use Rattle.store_core.specs.Contents.{contents_of}
+use Rattle.store_core.proofs.FactsLemmasOfDesk.{requests_counted}
+use Rattle.store_core.proofs.ReadingLemmas.{if_ok}
+use Rattle.store_core.proofs.facts.count_requests.Goals as goal
+
+pub returns-clause-told : goal.returns-clause-told
+returns-clause-told g c desk is stand clean =
+    if_ok c.last_id.result (λ n. requests_counted desk n is)
+    (c.last_id.ensures.greatest (contents_of desk) stand clean)

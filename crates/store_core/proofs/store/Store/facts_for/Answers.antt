@@ -1,0 +1,8 @@
+use Rattle.std.proofs.Common.{◌∙◌}
+use Rattle.store_core.proofs.ReadingLemmas.{if_ok}
+use Rattle.store_core.proofs.store.Store.facts_for.Goals as goal
+
+pub returns-clause-told : goal.returns-clause-told
+returns-clause-told g c desk is stand clean =
+    if_ok c.facts_in.result (λ facts same. same ∙ c.scope.ensures desk)
+    (c.facts_in.ensures.told desk is stand clean)

@@ -1,0 +1,240 @@
+//! The facts of a command: what it looks at on the desk that the tables stand for.
+ghost use Rattle.std.specs.Prelude.{◌≡◌, false, length};
+ghost use Rattle.sqlite.specs.Held.{state};
+ghost use Rattle.desk_core.specs.Facts as facts;
+ghost use Rattle.desk_core.specs.Links.{has_link};
+ghost use Rattle.desk_core.specs.Plan.{Dependencies, besides_on};
+ghost use Rattle.desk_core.specs.Scope.{seen_in};
+ghost use Rattle.desk_core.specs.Step.{facts_of};
+ghost use Rattle.store_core.specs.Calls.{Leaves, Tells, WasClean};
+ghost use Rattle.store_core.specs.Found as found;
+ghost use Rattle.store_core.specs.Seen.{state_of};
+
+use crate::dependencies::dependencies_of;
+use crate::fault::StoreFault;
+use crate::reads::links_by_key::link_like;
+use crate::reads::queues::queues;
+use crate::reads::requests_by_key::last_id;
+use crate::standing::{queue_at, queue_of, standing_at};
+use crate::store::Store;
+use desk_core::{Command, Dependency, Facts, LinkRow, QueueRow, Scope, Standing};
+use sqlite::{Alter, Connection};
+use std::alloc::Global;
+use text_core::{Sequence, Text};
+
+impl<S: Alter> Store<S> {
+    /// What a command looks at on the desk. `Mismatch` where a row is no value of its type,
+    /// `Refused` where the store or memory refuses it, or a key has two rows. The tables stay as
+    /// they are.
+    pub fn facts_for(&mut self, alloc: Global, command: &Command) -> Result<Facts, StoreFault>
+        ensures told { Tells (λ desk facts. facts ≡ facts_of command.now desk)
+            (state_of S.Store self.old) (state_of S.Store self.new) result }
+        ensures kept { Leaves (state_of S.Store self.old) (state_of S.Store self.new) }
+    {
+        facts_in(alloc, &mut self.conn, command.scope())
+    }
+}
+
+/// What is seen of a desk in a scope.
+fn facts_in<S: Alter>(
+    alloc: Global,
+    conn: &mut Connection<S>,
+    scope: Scope<'_>,
+) -> Result<Facts, StoreFault>
+    requires { conn.old.in_transaction ≡ false }
+    ensures idle { conn.new.in_transaction ≡ false }
+    ensures told { Tells (λ desk facts. facts ≡ seen_in scope.entry desk)
+        (state S.Store conn.old) (state S.Store conn.new) result }
+    ensures kept { Leaves (state S.Store conn.old) (state S.Store conn.new) }
+{
+    match scope {
+        Scope::Nothing => Ok(no_facts(alloc)),
+        Scope::Queue(name) => facts_on_queue(alloc, conn, name),
+        Scope::Request(id) => facts_on(alloc, conn, id),
+        Scope::Dependencies(id) => facts_of_move(alloc, conn, id),
+        Scope::Link(link) => facts_of_link(alloc, conn, link),
+    }
+}
+
+/// Of a command that names a queue: the queue and both counts.
+fn facts_on_queue<S: Alter>(
+    alloc: Global,
+    conn: &mut Connection<S>,
+    name: &Text,
+) -> Result<Facts, StoreFault>
+    requires { conn.old.in_transaction ≡ false }
+    ensures idle { conn.new.in_transaction ≡ false }
+    ensures told { Tells (λ desk seen. seen ≡ facts.facts_on_queue desk name.now)
+        (state S.Store conn.old) (state S.Store conn.new) result }
+    ensures kept { Leaves (state S.Store conn.old) (state S.Store conn.new) }
+{
+    let queue_count = count_queues(alloc, conn)?;
+    let request_count = count_requests(conn)?;
+    let queue = queue_at(conn, name)?;
+    Ok(counted(alloc, queue, queue_count, request_count))
+}
+
+/// How many queues there are.
+fn count_queues<S: Alter>(alloc: Global, conn: &mut Connection<S>) -> Result<u32, StoreFault>
+    requires { conn.old.in_transaction ≡ false }
+    ensures idle { conn.new.in_transaction ≡ false }
+    ensures told { Tells (λ desk n. n ≡ length desk.queues)
+        (state S.Store conn.old) (state S.Store conn.new) result }
+    ensures kept { Leaves (state S.Store conn.old) (state S.Store conn.new) }
+    ensures honest { WasClean (state S.Store conn.old) (state S.Store conn.new) }
+{
+    let queues = queues(alloc, conn)?;
+    match u32::try_from(queues.as_slice().len()) {
+        Ok(count) => Ok(count),
+        Err(_) => Err(StoreFault::Refused),
+    }
+}
+
+/// How many requests there are: the last number, since the numbers have no gaps.
+fn count_requests<S: Alter>(conn: &mut Connection<S>) -> Result<u32, StoreFault>
+    requires { conn.old.in_transaction ≡ false }
+    ensures idle { conn.new.in_transaction ≡ false }
+    ensures told { Tells (λ desk n. n ≡ length desk.requests)
+        (state S.Store conn.old) (state S.Store conn.new) result }
+    ensures kept { Leaves (state S.Store conn.old) (state S.Store conn.new) }
+    ensures honest { WasClean (state S.Store conn.old) (state S.Store conn.new) }
+{
+    last_id(conn)
+}
+
+/// Of a command on a request: the request and its queue.
+fn facts_on<S: Alter>(alloc: Global, conn: &mut Connection<S>, id: u32) -> Result<Facts, StoreFault>
+    requires { conn.old.in_transaction ≡ false }
+    ensures idle { conn.new.in_transaction ≡ false }
+    ensures told { Tells (λ desk seen. seen ≡ facts.facts_on_request desk id)
+        (state S.Store conn.old) (state S.Store conn.new) result }
+    ensures kept { Leaves (state S.Store conn.old) (state S.Store conn.new) }
+    ensures honest { WasClean (state S.Store conn.old) (state S.Store conn.new) }
+{
+    let request = standing_at(alloc, conn, id)?;
+    let queue = queue_of(conn, &request)?;
+    Ok(filed(alloc, queue, request))
+}
+
+/// Of a move: what the request depends on too.
+fn facts_of_move<S: Alter>(
+    alloc: Global,
+    conn: &mut Connection<S>,
+    id: u32,
+) -> Result<Facts, StoreFault>
+    requires { conn.old.in_transaction ≡ false }
+    ensures idle { conn.new.in_transaction ≡ false }
+    ensures told { Tells (λ desk seen. seen ≡ besides_on Dependencies id desk)
+        (state S.Store conn.old) (state S.Store conn.new) result }
+    ensures kept { Leaves (state S.Store conn.old) (state S.Store conn.new) }
+{
+    let dependencies = dependencies_of(alloc, conn, id)?;
+    let facts = facts_on(alloc, conn, id)?;
+    Ok(with_dependencies(facts, dependencies))
+}
+
+/// Of a link: the request at its other end too, and whether it is there.
+fn facts_of_link<S: Alter>(
+    alloc: Global,
+    conn: &mut Connection<S>,
+    link: LinkRow,
+) -> Result<Facts, StoreFault>
+    requires { conn.old.in_transaction ≡ false }
+    ensures idle { conn.new.in_transaction ≡ false }
+    ensures told { Tells (λ desk seen. seen ≡ seen_in (Scope.Link link) desk)
+        (state S.Store conn.old) (state S.Store conn.new) result }
+    ensures kept { Leaves (state S.Store conn.old) (state S.Store conn.new) }
+{
+    let is_linked = is_there(conn, link)?;
+    let other = standing_at(alloc, conn, link.target)?;
+    let facts = facts_on(alloc, conn, link.source)?;
+    Ok(with_link(facts, other, is_linked))
+}
+
+/// Whether the link is there.
+fn is_there<S: Alter>(conn: &mut Connection<S>, link: LinkRow) -> Result<bool, StoreFault>
+    requires { conn.old.in_transaction ≡ false }
+    ensures idle { conn.new.in_transaction ≡ false }
+    ensures told { Tells (λ desk there. there ≡ has_link desk link)
+        (state S.Store conn.old) (state S.Store conn.new) result }
+    ensures kept { Leaves (state S.Store conn.old) (state S.Store conn.new) }
+    ensures honest { WasClean (state S.Store conn.old) (state S.Store conn.new) }
+{
+    let found = link_like(conn, link)?;
+    Ok(found.is_some())
+}
+
+/// Facts of a queue, with both counts.
+fn counted(alloc: Global, queue: Option<QueueRow>, queue_count: u32, request_count: u32) -> Facts
+    ensures { result ≡ found.counted queue queue_count request_count }
+{
+    Facts {
+        queue,
+        queue_count,
+        request_count,
+        request: None,
+        other: None,
+        is_linked: false,
+        dependencies: Sequence::from(Vec::new(alloc)),
+    }
+}
+
+/// Facts of a request and its queue.
+fn filed(alloc: Global, queue: Option<QueueRow>, request: Option<Standing>) -> Facts
+    ensures { result ≡ found.filed queue request }
+{
+    Facts {
+        queue,
+        queue_count: 0,
+        request_count: 0,
+        request,
+        other: None,
+        is_linked: false,
+        dependencies: Sequence::from(Vec::new(alloc)),
+    }
+}
+
+/// The facts, with what the request depends on.
+fn with_dependencies(facts: Facts, dependencies: Sequence<Dependency>) -> Facts
+    ensures { result ≡ found.with_dependencies facts dependencies }
+{
+    Facts {
+        queue: facts.queue,
+        queue_count: facts.queue_count,
+        request_count: facts.request_count,
+        request: facts.request,
+        other: facts.other,
+        is_linked: facts.is_linked,
+        dependencies,
+    }
+}
+
+/// The facts, with the request at the other end of a link, and whether the link is there.
+fn with_link(facts: Facts, other: Option<Standing>, is_linked: bool) -> Facts
+    ensures { result ≡ found.with_link facts other is_linked }
+{
+    Facts {
+        queue: facts.queue,
+        queue_count: facts.queue_count,
+        request_count: facts.request_count,
+        request: facts.request,
+        other,
+        is_linked,
+        dependencies: facts.dependencies,
+    }
+}
+
+/// Of a command that looks at nothing.
+fn no_facts(alloc: Global) -> Facts
+    ensures { result ≡ facts.no_facts }
+{
+    Facts {
+        queue: None,
+        queue_count: 0,
+        request_count: 0,
+        request: None,
+        other: None,
+        is_linked: false,
+        dependencies: Sequence::from(Vec::new(alloc)),
+    }
+}

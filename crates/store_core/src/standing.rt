@@ -1,0 +1,130 @@
+//! A request with its people and the number of its entries, of its rows.
+ghost use Rattle.std.specs.Prelude.{◌≡◌, ◌++◌, ◌∷◌, [], false, IfOk, OnOk};
+ghost use Rattle.sqlite.specs.Held.{state};
+ghost use Rattle.desk_core.specs.Desk.{queue_at};
+ghost use Rattle.desk_core.specs.Facts as facts;
+ghost use Rattle.desk_core.specs.Watchers as watching;
+ghost use Rattle.store_core.specs.Calls.{Leaves, Tells, WasClean};
+ghost use Rattle.store_core.specs.Found as found;
+
+use crate::fault::StoreFault;
+use crate::reads::entries_by_key::last_number;
+use crate::reads::queues::queue_named;
+use crate::reads::requests_by_key::request_numbered;
+use crate::reads::watchers_by_key::watchers_of;
+use desk_core::{QueueRow, RequestRow, Standing, WatchRole, Watcher};
+use sqlite::{Alter, Connection};
+use std::alloc::Global;
+use text_core::{Text, Texts};
+
+/// The queue with that name, or none.
+pub(crate) fn queue_at<S: Alter>(
+    conn: &mut Connection<S>,
+    name: &Text,
+) -> Result<Option<QueueRow>, StoreFault>
+    requires { conn.old.in_transaction ≡ false }
+    ensures idle { conn.new.in_transaction ≡ false }
+    ensures told { Tells (λ desk q. q ≡ queue_at desk name.now)
+        (state S.Store conn.old) (state S.Store conn.new) result }
+    ensures kept { Leaves (state S.Store conn.old) (state S.Store conn.new) }
+    ensures honest { WasClean (state S.Store conn.old) (state S.Store conn.new) }
+{
+    queue_named(conn, name)
+}
+
+/// The queue that a request is filed in, or none.
+pub(crate) fn queue_of<S: Alter>(
+    conn: &mut Connection<S>,
+    request: &Option<Standing>,
+) -> Result<Option<QueueRow>, StoreFault>
+    requires { conn.old.in_transaction ≡ false }
+    ensures idle { conn.new.in_transaction ≡ false }
+    ensures told { Tells (λ desk q. q ≡ found.queue_by desk request.now)
+        (state S.Store conn.old) (state S.Store conn.new) result }
+    ensures kept { Leaves (state S.Store conn.old) (state S.Store conn.new) }
+    ensures honest { WasClean (state S.Store conn.old) (state S.Store conn.new) }
+{
+    match request {
+        Some(on) => queue_at(conn, &on.row.queue),
+        None => Ok(None),
+    }
+}
+
+/// The request with that number, with its people and the number of its entries, or none.
+pub(crate) fn standing_at<S: Alter>(
+    alloc: Global,
+    conn: &mut Connection<S>,
+    id: u32,
+) -> Result<Option<Standing>, StoreFault>
+    requires { conn.old.in_transaction ≡ false }
+    ensures idle { conn.new.in_transaction ≡ false }
+    ensures told { Tells (λ desk on. on ≡ facts.standing_at desk id)
+        (state S.Store conn.old) (state S.Store conn.new) result }
+    ensures kept { Leaves (state S.Store conn.old) (state S.Store conn.new) }
+    ensures honest { WasClean (state S.Store conn.old) (state S.Store conn.new) }
+{
+    match request_numbered(conn, id)? {
+        None => Ok(None),
+        Some(row) => {
+            let watchers = watchers_of(alloc, conn, id)?;
+            let entry_count = last_number(conn, id)?;
+            let standing = standing_of(alloc, row, watchers.as_slice(), entry_count)?;
+            Ok(Some(standing))
+        }
+    }
+}
+
+/// A request's row with the persons among its watchers, and the number of its entries.
+fn standing_of(
+    alloc: Global,
+    row: RequestRow,
+    watchers: &[Watcher],
+    entry_count: u32,
+) -> Result<Standing, StoreFault>
+    ensures { IfOk result (λ on. on ≡ found.standing_of row watchers.now entry_count) }
+{
+    Ok(Standing {
+        row,
+        requestors: persons_in(alloc, WatchRole::Requestor, watchers)?,
+        cc: persons_in(alloc, WatchRole::Cc, watchers)?,
+        admin_cc: persons_in(alloc, WatchRole::AdminCc, watchers)?,
+        entry_count,
+    })
+}
+
+/// The persons in a role, in the order of the watchers.
+fn persons_in(alloc: Global, role: WatchRole, watchers: &[Watcher]) -> Result<Texts, StoreFault>
+    ensures { IfOk result (λ persons. persons ≡ found.persons_in role watchers.now) }
+{
+    let mut persons = Vec::new(alloc);
+    for watcher in watchers {
+        if is_role(role, watcher.role) {
+            put_person(&mut persons, &watcher.person)?;
+        }
+    }
+    Ok(Texts::from(persons))
+}
+
+fn put_person(persons: &mut Vec<Text>, person: &Text) -> Result<(), StoreFault>
+    ensures { OnOk result (persons.new.items ≡ persons.old.items ++ person.now ∷ []) }
+{
+    let Ok(copy) = person.clone() else {
+        return Err(StoreFault::Refused);
+    };
+    match persons.push(copy) {
+        Ok(()) => Ok(()),
+        Err(_) => Err(StoreFault::Refused),
+    }
+}
+
+/// Whether both roles are one.
+fn is_role(role: WatchRole, other: WatchRole) -> bool
+    ensures { result ≡ watching.is_role role other }
+{
+    match (role, other) {
+        (WatchRole::Requestor, WatchRole::Requestor) => true,
+        (WatchRole::Cc, WatchRole::Cc) => true,
+        (WatchRole::AdminCc, WatchRole::AdminCc) => true,
+        _ => false,
+    }
+}
