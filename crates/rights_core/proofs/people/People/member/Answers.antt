@@ -26,7 +26,9 @@ returns-in-None-clause-value c =
     c.self.inside.parts
     c.args.person.now
     c.args.group.now
-    (nobody_kept c.self.inside.parts c.self.inside.memberships c.self.invariant.0 c.args.person.now (sym c.in-None.ensures.value)))
+    (nobody_kept c.self.inside.parts c.self.inside.memberships c.self.invariant.0 c.args.person.now
+    (sym c.in-None.ensures.value)))
 
 pub returns-in-None-clause-chain : goal.returns-in-None-clause-chain
-returns-in-None-clause-chain c = rw (returns-in-None-clause-value c) (member_chain c.args.self.now c.args.person.now c.args.group.now)
+returns-in-None-clause-chain c = rw (returns-in-None-clause-value c)
+    (member_chain c.args.self.now c.args.person.now c.args.group.now)
