@@ -1,7 +1,9 @@
-//! How long people take: `bench_rights PERSONS GROUPS GRANTS QUESTIONS` builds so many persons in so many groups, nested
-//! twenty deep, with so many grants on fifty queues, and asks so many times who holds what.
+//! How long people take: `bench_rights PERSONS GROUPS GRANTS QUESTIONS` builds so many persons in so
+//! many groups, nested twenty deep, with so many grants on fifty queues, and asks so many times who
+//! holds what.
 //!
-//! Standard output has the sizes and how many questions were answered with yes. The times go to standard error.
+//! Standard output has the sizes and how many questions were answered with yes. The times go to
+//! standard error.
 #![tactic(auto)]
 
 use rights_core::{Grant, Group, People, RightsFault, Roles, Subject, right};
@@ -61,7 +63,8 @@ fn named(names: &[Text], number: usize) -> &str {
     names[number % names.len()].as_str()
 }
 
-/// The groups of these names. Each lists the next but for every twentieth, and the persons are dealt out to them.
+/// The groups of these names. Each lists the next but for every twentieth, and the persons are dealt
+/// out to them.
 fn groups(
     rt: &impl AllocGlobal,
     names: &[Text],

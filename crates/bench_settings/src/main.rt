@@ -1,7 +1,9 @@
-//! How long settings take: `bench_settings PERSONS GROUPS GRANTS READS` writes a settings text of so many persons in so many
-//! groups, nested twenty deep, with so many grants on fifty queues, reads it so many times, and asks who holds what.
+//! How long settings take: `bench_settings PERSONS GROUPS GRANTS READS` writes a settings text of so
+//! many persons in so many groups, nested twenty deep, with so many grants on fifty queues, reads it
+//! so many times, and asks who holds what.
 //!
-//! Standard output has the sizes and how many questions were answered with yes. The times go to standard error.
+//! Standard output has the sizes and how many questions were answered with yes. The times go to
+//! standard error.
 #![tactic(auto)]
 
 use rights_core::{Roles, right};

@@ -76,7 +76,8 @@ reached_further groups name next place reached listed =
     (name_at groups place)
     (rw ((bytes_eq-Decides name next).0 own) (lists_there groups place next listed)))
     (λ further.
-    leads_further groups name (name_at groups place) next (lists_there groups place next listed) further)
+    leads_further groups name (name_at groups place) next
+    (lists_there groups place next listed) further)
     (or_cases (bytes_eq name next) (leads groups name next) reached))
 
 -- what has been found once the first of it have been looked at
@@ -86,11 +87,13 @@ IsSearch groups name next found marks =
     × (next ≤ length found)
     × IsTrue (is_among found name)
     × AreFound groups found marks
-    × ((k : ℕ) → k < next → (place : ℕ) → IsTrue (lists_at groups place (get_or found k [])) → IsTrue (is_marked marks place))
+    × ((k : ℕ) → k < next → (place : ℕ) → IsTrue (lists_at groups place (get_or found k []))
+    → IsTrue (is_marked marks place))
     × ((group : List ℕ) → IsTrue (is_among found group) → IsTrue (reaches groups name group))
 
 -- one more of it
-pub search_more : {Y Z S : Type 0} (groups : List Group) (kept : HashMap (String Y) (Vec ℕ Z) S) (name : List ℕ)
+pub search_more : {Y Z S : Type 0} (groups : List Group) (kept : HashMap (String Y) (Vec ℕ Z) S)
+    → (name : List ℕ)
     → (next : ℕ) (found found' : List (List ℕ)) (marks marks' : List Bool)
     → IsListers groups kept
     → IsSearch groups name next found marks
@@ -118,7 +121,8 @@ search_more groups kept name next found found' marks marks' listers s inside m =
           (λ now.
           let this : k ≡ next = omega arith in
           let listed' : IsTrue (lists_at groups place here) =
-          ap (lists_at groups place) (sym (ap (λ j. get_or found' j []) this ∙ stays next inside)) ∙ listed in
+          ap (lists_at groups place) (sym (ap (λ j. get_or found' j []) this ∙ stays next inside))
+          ∙ listed in
           m.4
           place
           (rw s.0 (listed_within groups place here listed'))
@@ -207,11 +211,13 @@ search_start groups name found marks one none =
     unmarked k = grind (arith, common_steps)
 
 -- one more group
-pub outer_more : (groups : List Group) (outer : List (List (List ℕ))) (i : ℕ) (own : List ℕ) (names : List (List ℕ))
+pub outer_more : (groups : List Group) (outer : List (List (List ℕ))) (i : ℕ) (own : List ℕ)
+    → (names : List (List ℕ))
     → length outer ≡ i
     → own ≡ name_at groups i
     → ((group : List ℕ) → is_among names group ≡ reaches groups own group)
-    → ((k : ℕ) → k < i → (group : List ℕ) → is_among (slice_index_or outer k []) group ≡ reaches groups (name_at groups k) group)
+    → ((k : ℕ) → k < i → (group : List ℕ) → is_among (slice_index_or outer k []) group
+    ≡ reaches groups (name_at groups k) group)
     → (k : ℕ)
     → k < i + 1
     → (group : List ℕ)
@@ -232,7 +238,8 @@ outer_more groups outer i own names size here found before k less group =
     (cases_lt k i)
 
 -- the groups around those that list a person are the ones from which a chain leads to the person
-pub around_lists : (groups : List Group) (outer : List (List (List ℕ))) (person : List ℕ) (places : List ℕ)
+pub around_lists : (groups : List Group) (outer : List (List (List ℕ))) (person : List ℕ)
+    → (places : List ℕ)
     → AreOuter groups outer
     → ((place : ℕ) → has_place places place ≡ lists_at groups place person)
     → (group : List ℕ)
@@ -271,7 +278,8 @@ around_lists groups outer person places around listers group =
           (λ name next listed found. leads_further groups person name next listed found)
           group
           further)
-          (or_cases (bytes_eq (name_at groups at.1) group) (leads groups (name_at groups at.1) group) reaching)),
+          (or_cases (bytes_eq (name_at groups at.1) group)
+          (leads groups (name_at groups at.1) group) reaching)),
       (λ leading.
           leads_least
           (length groups)

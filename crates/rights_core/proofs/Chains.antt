@@ -1,4 +1,5 @@
--- The bounded search for a chain of groups: what it finds is a chain, and it finds one where there is any.
+-- The bounded search for a chain of groups: what it finds is a chain, and it finds one where there
+-- is any.
 use Rattle.std.proofs.Common.{◌≡◌, ℕ, zero, suc, ◌<◌, Bool, true, ◌&&◌, ◌⊎◌, List, [], ◌∷◌, length}
 use Rattle.std.proofs.Common.{inl, inr, ⊎_elim, subst, sym, arith}
 use Rattle.std.specs.List.{list_any, Any, count_by}
@@ -43,7 +44,8 @@ none_within_zero groups person group found = cc
 
 -- from the one bound to the other, where the rest of a chain may go so too
 onward : (m n : ℕ) (groups : List Group) (person : List ℕ)
-    → ((next : List ℕ) → leads_within m groups person next ≡ true → leads_within n groups person next ≡ true)
+    → ((next : List ℕ) → leads_within m groups person next ≡ true
+    → leads_within n groups person next ≡ true)
     → (group : List ℕ)
     → leads_within (suc m) groups person group ≡ true
     → leads_within (suc n) groups person group ≡ true
@@ -62,7 +64,8 @@ onward m n groups person rest group found =
     (λ next passes.
     let parts =
     and_parts (lists groups group next.name) (leads_within m groups person next.name) passes in
-    and_from (lists groups group next.name) (leads_within n groups person next.name) parts.0 (rest next.name parts.1))
+    and_from (lists groups group next.name) (leads_within n groups person next.name) parts.0
+    (rest next.name parts.1))
     on))
     (both_ways m groups person group found)
 
@@ -76,7 +79,8 @@ longer (suc n) groups person group found =
 -- one group more finds no other chain
 abbrev IsSettled : ℕ → List Group → List ℕ → Type 0
 IsSettled n groups person =
-    (group : List ℕ) → leads_within (suc n) groups person group ≡ true → leads_within n groups person group ≡ true
+    (group : List ℕ) → leads_within (suc n) groups person group ≡ true
+    → leads_within n groups person group ≡ true
 
 -- a group that lists something is one of the groups
 pub lister : (groups : List Group) (group name : List ℕ)
@@ -106,16 +110,19 @@ abbrev count_within : ℕ → List Group → List ℕ → ℕ
 count_within n groups person = count_by (λ g. leads_within n groups person g.name) groups
 
 settled_or_more : (n : ℕ) (groups : List Group) (person : List ℕ)
-    → IsSettled n groups person ⊎ (count_within n groups person < count_within (suc n) groups person)
+    → IsSettled n groups person
+    ⊎ (count_within n groups person < count_within (suc n) groups person)
 settled_or_more n groups person =
     ⊎_elim
     (λ same. inl (λ group found.
     let at = leader n groups person group found in
     let P : Group → Type 0 =
-    λ g. leads_within (suc n) groups person g.name ≡ true → leads_within n groups person g.name ≡ true in
+    λ g. leads_within (suc n) groups person g.name ≡ true → leads_within n groups person g.name
+    ≡ true in
     let here : P at.1 = subst P at.3 (same at.0 at.1 at.2) in
     let Q : List ℕ → Type 0 =
-    λ name. leads_within (suc n) groups person name ≡ true → leads_within n groups person name ≡ true in
+    λ name. leads_within (suc n) groups person name ≡ true → leads_within n groups person name
+    ≡ true in
     subst Q at.4 here found))
     (λ more. inr more)
     (same_or_more
@@ -139,7 +146,12 @@ settled : (groups : List Group) (person : List ℕ) → IsSettled (length groups
 settled groups person =
     ⊎_elim
     (λ settled. settled)
-    (λ many. absurd (omega (arith, count_by-le-length (λ g. leads_within (suc (length groups)) groups person g.name) groups)))
+    (λ many. absurd
+    (omega (
+      arith,
+      count_by-le-length
+          (λ g. leads_within (suc (length groups)) groups person g.name) groups,
+    )))
     (settled_or_many (length groups) groups person)
 
 -- a group that lists the person leads to the person
@@ -160,7 +172,9 @@ leads_further groups person group next listed found =
     let P : List ℕ → Type 0 =
     λ name. (lists groups group name && leads_within (length groups) groups person name) ≡ true in
     let passes : P at.1.name =
-    subst P (sym at.4) (and_from (lists groups group next) (leads_within (length groups) groups person next) listed found) in
+    subst P (sym at.4)
+    (and_from (lists groups group next)
+    (leads_within (length groups) groups person next) listed found) in
     settled
     groups
     person
@@ -170,12 +184,14 @@ leads_further groups person group next listed found =
     groups
     person
     group
-    (list_any-from_Any (goes_on (length groups) groups person group) groups (at.0, at.1, at.2, at.3, passes)))
+    (list_any-from_Any (goes_on (length groups) groups person group) groups
+    (at.0, at.1, at.2, at.3, passes)))
 
 -- and no other group: a test that these pass is passed by each group that leads to the person
 pub leads_least : (n : ℕ) (groups : List Group) (person : List ℕ) (test : List ℕ → Bool)
     → ((group : List ℕ) → lists groups group person ≡ true → test group ≡ true)
-    → ((group next : List ℕ) → lists groups group next ≡ true → test next ≡ true → test group ≡ true)
+    → ((group next : List ℕ) → lists groups group next ≡ true → test next ≡ true → test group
+    ≡ true)
     → (group : List ℕ)
     → leads_within n groups person group ≡ true
     → test group ≡ true
@@ -188,7 +204,8 @@ leads_least (suc n) groups person test first then group found =
     let next = Any-from_list_any (goes_on n groups person group) groups on in
     let parts =
     and_parts (lists groups group next.1.name) (leads_within n groups person next.1.name) next.4 in
-    then group next.1.name parts.0 (leads_least n groups person test first then next.1.name parts.1))
+    then group next.1.name parts.0
+    (leads_least n groups person test first then next.1.name parts.1))
     (both_ways n groups person group found)
 
 -- a chain is found

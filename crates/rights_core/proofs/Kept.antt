@@ -31,7 +31,8 @@ use Rattle.rights_core.proofs.Chains.{leads_along, chain_within}
 use Rattle.rights_core.proofs.Lists.{any_by_name, any_filtered, any_never, any_same}
 
 -- one more person, with the groups that lead there
-pub one_more_person : {Y : Type 0} (persons : List (List ℕ)) (groups : List Group) (i : ℕ) (person : List ℕ) (names : List (List ℕ))
+pub one_more_person : {Y : Type 0} (persons : List (List ℕ)) (groups : List Group) (i : ℕ)
+    → (person : List ℕ) (names : List (List ℕ))
     → (old new : BTreeMap (String Y) (List (List ℕ)))
     → i < length persons
     → person ≡ get_or persons i []
@@ -40,7 +41,8 @@ pub one_more_person : {Y : Type 0} (persons : List (List ℕ)) (groups : List Gr
     → IsMemberships (take i persons) groups old
     → IsMemberships (take (i + 1) persons) groups new
 one_more_person persons groups i person names old new inside here leading updates before q =
-    let more : is_among (take (i + 1) persons) q ≡ (is_among (take i persons) q || bytes_eq person q) =
+    let more : is_among (take (i + 1) persons) q
+    ≡ (is_among (take i persons) q || bytes_eq person q) =
     list_any_more (λ t. bytes_eq t q) persons i [] inside
     ∙ ap (λ p. is_among (take i persons) q || bytes_eq p q) (sym here) in
     ⊎_elim
@@ -48,7 +50,8 @@ one_more_person persons groups i person names old new inside here leading update
     let now : get_by_text new q ≡ Some names =
     updates q ∙ ap (λ b. cond b (Some names) (get_by_text old q)) same in
     let known : is_among (take (i + 1) persons) q ≡ true =
-    more ∙ ap (λ b. is_among (take i persons) q || b) same ∙ or_true (is_among (take i persons) q) in (
+    more ∙ ap (λ b. is_among (take i persons) q || b) same
+    ∙ or_true (is_among (take i persons) q) in (
       ap is_some now ∙ sym known,
       λ group.
           ap (λ o. is_among (unwrap_or o []) group) now
@@ -60,7 +63,8 @@ one_more_person persons groups i person names old new inside here leading update
     let now : get_by_text new q ≡ get_by_text old q =
     updates q ∙ ap (λ b. cond b (Some names) (get_by_text old q)) other in
     let known : is_among (take (i + 1) persons) q ≡ is_among (take i persons) q =
-    more ∙ ap (λ b. is_among (take i persons) q || b) other ∙ or_false (is_among (take i persons) q) in (
+    more ∙ ap (λ b. is_among (take i persons) q || b) other
+    ∙ or_false (is_among (take i persons) q) in (
       ap is_some now ∙ (before q).0 ∙ sym known,
       λ group.
           ap (λ o. is_among (unwrap_or o []) group) now
@@ -104,7 +108,8 @@ no_member people person group unknown = ap (λ b. b && leads people.groups perso
 -- a member is known, and a chain of groups leads there
 pub member_chain : (people : Parts) (person group : List ℕ)
     → IsTrue (is_member people person group)
-    ↔ (IsTrue (knows people person) × ((others : List (List ℕ)) × IsChain people.groups group others person))
+    ↔ (IsTrue (knows people person)
+    × ((others : List (List ℕ)) × IsChain people.groups group others person))
 unfolding is_member
 member_chain people person group = (
   (λ member.
@@ -148,7 +153,8 @@ meant_kept people person names roles same (subject.Group name) = same name
 meant_kept people person names roles same (subject.Role role) = refl
 
 -- one more grant
-pub grant_more : (old new : List ℕ → List ℕ → List Grant) (grants : List Grant) (i : ℕ) (grant : Grant)
+pub grant_more : (old new : List ℕ → List ℕ → List Grant) (grants : List Grant) (i : ℕ)
+    → (grant : Grant)
     → i < length grants
     → grant ≡ get_or grants i grant
     → ((r n : List ℕ) → new r n ≡ (if is_of r n grant then old r n ++ grant ∷ [] else old r n))
@@ -176,7 +182,8 @@ named_among person names roles (subject.Person name) meant =
     or_right
     (bytes_eq [] name)
     (bytes_eq person name || is_among names name)
-    (or_left (bytes_eq person name) (is_among names name) (nat_list_eq_equiv.symm person name ∙ meant))
+    (or_left (bytes_eq person name) (is_among names name)
+    (nat_list_eq_equiv.symm person name ∙ meant))
 named_among person names roles (subject.Group name) meant =
     or_right
     (bytes_eq [] name)
@@ -185,7 +192,8 @@ named_among person names roles (subject.Group name) meant =
 named_among person names roles (subject.Role role) meant = refl
 
 -- what is kept for a right, if anything is
-any_kept : {Y Z S : Type 0} (p : Grant → Bool) (names : List (List ℕ)) (o : Option (HashMap (String Y) (Vec Grant Z) S))
+any_kept : {Y Z S : Type 0} (p : Grant → Bool) (names : List (List ℕ))
+    → (o : Option (HashMap (String Y) (Vec Grant Z) S))
     → option_map_or (λ m. list_any (λ name. list_any p (grants_to m name)) names) o false
     ≡ list_any (λ name. list_any p (option_map_or (λ m. grants_to m name) o [])) names
 any_kept p names (Some m) = refl
@@ -202,7 +210,8 @@ under_right grants kept sound right queue person names roles =
     any_kept meet keys (hash.get_by_text kept right)
     ∙ any_same
     (λ name. list_any meet (grants_under kept right name))
-    (λ name. list_any (λ g. bytes_eq right g.right && meet g) (filter (λ g. bytes_eq name (subject_name g.subject)) grants))
+    (λ name. list_any (λ g. bytes_eq right g.right && meet g)
+    (filter (λ g. bytes_eq name (subject_name g.subject)) grants))
     (λ name.
     ap (list_any meet) (sound right name)
     ∙ any_filtered (is_of right name) meet grants
@@ -246,7 +255,8 @@ pub granted_kept : {Y Z S T : Type 0} (people : Parts)
     → (person right queue : List ℕ) (roles : Roles) (names : List (List ℕ))
     → true ≡ knows people person
     → ((group : List ℕ) → is_among names group ≡ is_member people person group)
-    → (meets_under kept right queue person names roles || meets_under kept super_user queue person names roles)
+    → (meets_under kept right queue person names roles
+    || meets_under kept super_user queue person names roles)
     ≡ holds people person right queue roles
 unfolding holds
 granted_kept people kept sound person right queue roles names known same =
@@ -266,10 +276,12 @@ granted_kept people kept sound person right queue roles names known same =
     (λ g. gives g right && covers g queue && is_meant people person roles g.subject)
     (λ g. rw
     (meant_kept people person names roles same g.subject)
-    (shared (bytes_eq right g.right) (bytes_eq super_user g.right) (covers g queue) (is_meant people person roles g.subject)))
+    (shared (bytes_eq right g.right) (bytes_eq super_user g.right) (covers g queue)
+    (is_meant people person roles g.subject)))
     people.grants
     ∙ ap
-    (λ b. b && list_any (λ g. gives g right && covers g queue && is_meant people person roles g.subject) people.grants)
+    (λ b. b && list_any
+    (λ g. gives g right && covers g queue && is_meant people person roles g.subject) people.grants)
     known
   where
     shared : (a b c d : Bool) → ((a && (c && d)) || (b && (c && d))) ≡ (((a || b) && c) && d)
@@ -288,5 +300,6 @@ pub unknown_holds_nothing : (people : Parts) (person right queue : List ℕ) (ro
 unfolding holds
 unknown_holds_nothing people person right queue roles unknown =
     ap
-    (λ b. b && list_any (λ g. gives g right && covers g queue && is_meant people person roles g.subject) people.grants)
+    (λ b. b && list_any
+    (λ g. gives g right && covers g queue && is_meant people person roles g.subject) people.grants)
     unknown

@@ -13,7 +13,8 @@ use Rattle.text_core.specs.Texts.{is_among}
 one_more : (old : List ℕ) (place q : ℕ) (here : Bool)
     → has_place (if here then old ++ place ∷ [] else old) q
     ≡ (has_place old q || (nat_eq q place && here))
-one_more old place q true = list_any-append (nat_eq q) old (place ∷ []) ∙ ap (λ b. has_place old q || b) (last (nat_eq q place))
+one_more old place q true = list_any-append (nat_eq q) old (place ∷ [])
+    ∙ ap (λ b. has_place old q || b) (last (nat_eq q place))
   where
     last : (b : Bool) → (b || false) ≡ (b && true)
     last true = refl
@@ -26,11 +27,13 @@ one_more old place q false = either (has_place old q) (nat_eq q place)
     either false false = refl
 
 -- one more member of the group at the place
-pub member_more : (first old new : List ℕ → List ℕ) (members : List (List ℕ)) (i place : ℕ) (member : List ℕ)
+pub member_more : (first old new : List ℕ → List ℕ) (members : List (List ℕ)) (i place : ℕ)
+    → (member : List ℕ)
     → i < length members
     → member ≡ get_or members i []
     → ((q : List ℕ) → new q ≡ (if bytes_eq q member then old q ++ place ∷ [] else old q))
-    → ((name : List ℕ) (q : ℕ) → has_place (old name) q ≡ (has_place (first name) q || (nat_eq q place && is_among (take i members) name)))
+    → ((name : List ℕ) (q : ℕ) → has_place (old name) q
+    ≡ (has_place (first name) q || (nat_eq q place && is_among (take i members) name)))
     → (name : List ℕ) (q : ℕ)
     → has_place (new name) q
     ≡ (has_place (first name) q || (nat_eq q place && is_among (take (i + 1) members) name))

@@ -19,7 +19,9 @@ pub any_filtered : {X : Type 0} (p q : X → Bool) (xs : List X)
     → list_any q (filter p xs) ≡ list_any (λ x. p x && q x) xs
 any_filtered p q [] = refl
 any_filtered p q (x ∷ xs) =
-    elim (p x) as (λ b. list_any q (cond b (x ∷ filter p xs) (filter p xs)) ≡ ((b && q x) || list_any (λ x. p x && q x) xs))
+    elim (p x) as
+    (λ b. list_any q (cond b (x ∷ filter p xs) (filter p xs))
+    ≡ ((b && q x) || list_any (λ x. p x && q x) xs))
     [ true ↦ ap (λ b. q x || b) (any_filtered p q xs) | false ↦ any_filtered p q xs ]
 
 pub any_same : {X : Type 0} (p q : X → Bool) → ((x : X) → p x ≡ q x) → (xs : List X)
@@ -52,10 +54,17 @@ count_weaker : {X : Type 0} (p q : X → Bool) (xs : List X)
     → count_by p xs ≤ count_by q xs
 count_weaker p q [] weaker = omega arith
 count_weaker p q (x ∷ xs) weaker =
-    omega
-    (arith, one_at_most (p x) (q x) (weaker x), count_weaker p q xs weaker, count_cons p x xs, count_cons q x xs)
+    omega (
+      arith,
+      one_at_most (p x) (q x)
+          (weaker x),
+      count_weaker p q xs weaker,
+      count_cons p x xs,
+      count_cons q x xs,
+    )
 
--- of two tests, one of which passes wherever the other does, either both pass for the same elements, or one for more
+-- of two tests, one of which passes wherever the other does, either both pass for the same
+-- elements, or one for more
 pub same_or_more : {X : Type 0} (p q : X → Bool) (xs : List X)
     → ((x : X) → p x ≡ true → q x ≡ true)
     → All (λ x. q x ≡ true → p x ≡ true) xs ⊎ (count_by p xs < count_by q xs)
@@ -65,11 +74,20 @@ same_or_more p q (x ∷ xs) weaker =
     (λ rest. ⊎_elim
     (λ passes. inl (All-cons (λ x. q x ≡ true → p x ≡ true) x xs (λ _. passes) rest))
     (λ fails. ⊎_elim
-    (λ other. inr (omega (arith, one_more (p x) (q x) fails other, count_weaker p q xs weaker, count_cons p x xs, count_cons q x xs)))
+    (λ other. inr
+    (omega (
+      arith,
+      one_more (p x)
+          (q x) fails other,
+      count_weaker p q xs weaker,
+      count_cons p x xs,
+      count_cons q x xs,
+    )))
     (λ neither. inl (All-cons (λ x. q x ≡ true → p x ≡ true) x xs (λ other. absurd (cc)) rest))
     (cases_Bool (q x)))
     (cases_Bool (p x)))
-    (λ more. inr (omega (arith, one_at_most (p x) (q x) (weaker x), count_cons p x xs, count_cons q x xs)))
+    (λ more. inr
+    (omega (arith, one_at_most (p x) (q x) (weaker x), count_cons p x xs, count_cons q x xs)))
     (same_or_more p q xs weaker)
 
 pub any_never : {X : Type 0} (xs : List X) → list_any (λ _. false) xs ≡ false
@@ -77,7 +95,8 @@ any_never [] = refl
 any_never (x ∷ xs) = any_never xs
 
 -- what passes a test has one of the names, so it is found under these
-pub any_by_name : {X : Type 0} (p : X → Bool) (name : X → List ℕ) (names : List (List ℕ)) (xs : List X)
+pub any_by_name : {X : Type 0} (p : X → Bool) (name : X → List ℕ) (names : List (List ℕ))
+    → (xs : List X)
     → ((x : X) → p x ≡ true → is_among names (name x) ≡ true)
     → list_any (λ n. list_any p (filter (λ x. bytes_eq n (name x)) xs)) names ≡ list_any p xs
 any_by_name p name names xs among =

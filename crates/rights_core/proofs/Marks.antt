@@ -35,7 +35,8 @@ one_fewer : (marks : List Bool) (i : ℕ)
     → unmarked_count (set marks i true) + 1 ≡ unmarked_count marks
 one_fewer marks i inside unmarked =
     let weight : Bool → ℕ = λ b. cond (not b) 1 0 in
-    let moved : sum_by weight (set marks i true) + weight (get_or marks i false) ≡ sum_by weight marks + 0 =
+    let moved : sum_by weight (set marks i true) + weight (get_or marks i false)
+    ≡ sum_by weight marks + 0 =
     sum_by-set weight marks i true false inside in
     let one : weight (get_or marks i false) ≡ 1 = rw unmarked refl in
     let fewer : sum_by weight (set marks i true) + 1 ≡ sum_by weight marks = omega arith in
@@ -80,7 +81,8 @@ so_far : (places : List ℕ) (i place k : ℕ)
     → IsTrue (has_place (take i places) k)
     → IsTrue (has_place (take (i + 1) places) k)
 so_far places i place k inside here found =
-    more_places places i place k inside here ∙ or_left (has_place (take i places) k) (nat_eq k place) found
+    more_places places i place k inside here
+    ∙ or_left (has_place (take i places) k) (nat_eq k place) found
 
 this_one : (places : List ℕ) (i place : ℕ)
     → i < length places
@@ -130,7 +132,8 @@ mark_none groups places found marks found' marks' i inside already m =
           within),
       m.5,
       (λ test old new name among.
-          m.6 test old (λ k earlier. new k (so_far places i place k inside refl earlier)) name among),
+          m.6 test old
+          (λ k earlier. new k (so_far places i place k inside refl earlier)) name among),
     )
 
 -- a place that wasn't marked
@@ -183,7 +186,8 @@ mark_one groups places found marks found' marks' i inside within unmarked m =
           (cases_eq k place)),
       (λ test old new text among.
           ⊎_elim
-          (λ earlier. m.6 test old (λ k so. new k (so_far places i place k inside refl so)) text earlier)
+          (λ earlier. m.6 test old
+          (λ k so. new k (so_far places i place k inside refl so)) text earlier)
           (λ last.
           let P : List ℕ → Type 0 = λ t. IsTrue (test t) in
           subst
@@ -220,5 +224,7 @@ mark_one groups places found marks found' marks' i inside within unmarked m =
     found_cases names name text e =
         ⊎_elim
         inl
-        (λ last. ⊎_elim inr (λ no. absurd (false≢true no)) (or_cases (bytes_eq name text) false last))
-        (or_cases (is_among names text) (bytes_eq name text || false) (sym (with_last names name text) ∙ e))
+        (λ last. ⊎_elim inr (λ no. absurd (false≢true no))
+        (or_cases (bytes_eq name text) false last))
+        (or_cases (is_among names text) (bytes_eq name text || false)
+        (sym (with_last names name text) ∙ e))

@@ -23,7 +23,8 @@ has_group_named groups name = any_mapped (λ t. bytes_eq t name) (λ g. g.name) 
 -- a name stands twice among the persons, among the groups, or in both
 pub repeats_in_either : (persons : List (List ℕ)) (groups : List Group)
     → repeats_name persons groups
-    ≡ ((repeats_text persons || repeats_text (group_names groups)) || list_any (has_group groups) persons)
+    ≡ ((repeats_text persons || repeats_text (group_names groups))
+    || list_any (has_group groups) persons)
 repeats_in_either persons groups =
     repeats_text-append persons (group_names groups)
     ∙ ap
@@ -31,10 +32,12 @@ repeats_in_either persons groups =
     (any_same (is_among (group_names groups)) (has_group groups) (has_group_named groups) persons)
 
 -- the same, from a set of the names of groups
-pub repeats_in_sets : {Y S : Type 0} (persons : List (List ℕ)) (groups : List Group) (set : HashSet (String Y) S)
+pub repeats_in_sets : {Y S : Type 0} (persons : List (List ℕ)) (groups : List Group)
+    → (set : HashSet (String Y) S)
     → IsSetOf (group_names groups) set
     → repeats_name persons groups
-    ≡ ((repeats_text persons || repeats_text (group_names groups)) || list_any (contains_text set) persons)
+    ≡ ((repeats_text persons || repeats_text (group_names groups))
+    || list_any (contains_text set) persons)
 repeats_in_sets persons groups set sound =
     repeats_text-append persons (group_names groups)
     ∙ ap
@@ -46,7 +49,8 @@ pub repeats_from : (groups : List Group) (i : ℕ) (group : Group)
     → i < length groups
     → group ≡ get_or groups i group
     → repeats_text (group_names (drop i groups))
-    ≡ (has_group (drop (i + 1) groups) group.name || repeats_text (group_names (drop (i + 1) groups)))
+    ≡ (has_group (drop (i + 1) groups) group.name
+    || repeats_text (group_names (drop (i + 1) groups)))
 repeats_from groups i group inside here =
     let split : drop i groups ≡ group ∷ drop (i + 1) groups = grind (arith, common_steps) in
     rw (split, any_mapped (λ t. bytes_eq t group.name) (λ g. g.name) (drop (i + 1) groups)) refl
@@ -56,8 +60,12 @@ repeats_push : (texts : List (List ℕ)) (text : List ℕ)
     → repeats_text (texts ++ text ∷ []) ≡ (repeats_text texts || is_among texts text)
 repeats_push [] text = refl
 repeats_push (first ∷ rest) text =
-    rw
-    (list_any-append (λ t. bytes_eq t first) rest (text ∷ []), repeats_push rest text, nat_list_eq_equiv.symm text first)
+    rw (
+      list_any-append (λ t. bytes_eq t first) rest
+          (text ∷ []),
+      repeats_push rest text,
+      nat_list_eq_equiv.symm text first,
+    )
     (reordered (is_among rest first) (bytes_eq first text) (repeats_text rest) (is_among rest text))
   where
     reordered : (a b c d : Bool) → ((a || (b || false)) || (c || d)) ≡ ((a || c) || (b || d))
@@ -89,7 +97,8 @@ repeats_front texts i found =
     found
 
 -- a set of the front of a list, and one more text
-pub set_more : {Y S : Type 0} (texts : List (List ℕ)) (i : ℕ) (text : List ℕ) (old new : HashSet (String Y) S)
+pub set_more : {Y S : Type 0} (texts : List (List ℕ)) (i : ℕ) (text : List ℕ)
+    → (old new : HashSet (String Y) S)
     → i < length texts
     → text ≡ get_or texts i []
     → ((q : List ℕ) → contains_text new q ≡ cond (bytes_eq text q) true (contains_text old q))

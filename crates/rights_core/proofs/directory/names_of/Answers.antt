@@ -20,7 +20,8 @@ returns-in_default-clause-some c =
     (ap
     not
     (repeats_in_either persons groups
-    ∙ ap (λ b. (b || repeats_text (group_names groups)) || list_any (has_group groups) persons) twice))
+    ∙ ap (λ b. (b || repeats_text (group_names groups))
+    || list_any (has_group groups) persons) twice))
 
 pub returns-in_default-2-clause-some : goal.returns-in_default-2-clause-some
 returns-in_default-2-clause-some c =
@@ -69,7 +70,8 @@ returns-clause-some c =
     (ap
     not
     (repeats_in_sets persons groups c.in-Some-2.group_set (rw names at sound)
-    ∙ ap (λ b. (b || repeats_text (group_names groups)) || list_any (contains_text c.in-Some-2.group_set) persons) once
+    ∙ ap (λ b. (b || repeats_text (group_names groups))
+    || list_any (contains_text c.in-Some-2.group_set) persons) once
     ∙ ap (λ b. b || list_any (contains_text c.in-Some-2.group_set) persons)
     (ap repeats_text (sym names) ∙ also)
     ∙ shared))

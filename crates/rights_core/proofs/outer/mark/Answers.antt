@@ -28,8 +28,10 @@ loop-place-preserved c =
           w.index-groups-place.is ∙ get_or_default groups place _ no_group inside in
           let named : w.in_ok-clone.field-0 ≡ name_at groups place =
           copied ∙ ap (λ (g : Group). g.name) there in
-          let pushed : c.if-place-marks.found.items ≡ c.loop-place.found.items ++ name_at groups place ∷ [] =
-          rw w.found-is (w.in_ok-push.ensures.items ∙ ap (λ n. c.loop-place.found.items ++ n ∷ []) named) in
+          let pushed : c.if-place-marks.found.items ≡ c.loop-place.found.items
+          ++ name_at groups place ∷ [] =
+          rw w.found-is
+          (w.in_ok-push.ensures.items ∙ ap (λ n. c.loop-place.found.items ++ n ∷ []) named) in
           rw
           (w.marks-is, pushed)
           (mark_one
@@ -45,7 +47,8 @@ loop-place-preserved c =
           unmarked
           c.loop-place.invariant)
       | else-place-marks w ↦
-          let already : place < length c.loop-place.marks → IsTrue (is_marked c.loop-place.marks place) =
+          let already : place < length c.loop-place.marks
+          → IsTrue (is_marked c.loop-place.marks place) =
           elim w.else-place-marks.branch [
             | else-place-marks-via-then-place-marks+else-not-marks-place w' ↦ (λ _. search rules)
             | else-place-marks-via-else-place-marks w' ↦

@@ -9,7 +9,13 @@ use Rattle.rights_core.proofs.outer.outer_of.Goals as goal
 pub loop-next-init : goal.loop-next-init
 loop-next-init c =
     let one : c.push.new.self.items ≡ c.args.name.now ∷ [] = search rules in
-    search_start c.args.groups.now c.args.name.now c.push.new.self.items c.as_mut_slice-marks.result.now one (search rules)
+    search_start
+    c.args.groups.now
+    c.args.name.now
+    c.push.new.self.items
+    c.as_mut_slice-marks.result.now
+    one
+    (search rules)
 
 pub loop-next-preserved : goal.loop-next-preserved
 loop-next-preserved c =

@@ -15,7 +15,8 @@ loop-group-preserved c =
     ∙ ap
     (λ (g : Group). g.name)
     (c.group-item.is ∙ get_or_default groups i _ no_group c.loop-group-test.true) in
-    let longer : length (c.loop-group.outer.items ++ c.in_ok-outer_of.field-0 ∷ []) ≡ length c.loop-group.outer.items + 1 =
+    let longer : length (c.loop-group.outer.items ++ c.in_ok-outer_of.field-0 ∷ [])
+    ≡ length c.loop-group.outer.items + 1 =
     grind (arith, common_steps) in
     rw
     c.in_ok-push.ensures.items

@@ -38,4 +38,5 @@ returns-in-None c =
     c.args.right.now
     c.args.queue.now
     c.args.roles
-    (nobody_kept c.self.inside.parts c.self.inside.memberships c.self.invariant.0 c.args.person.now (sym c.in-None.ensures.value)))
+    (nobody_kept c.self.inside.parts c.self.inside.memberships c.self.invariant.0 c.args.person.now
+    (sym c.in-None.ensures.value)))

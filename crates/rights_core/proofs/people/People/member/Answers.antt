@@ -9,7 +9,14 @@ returns-in-Some-clause-value c =
     (← c.self.view_is)
     (c.is_among.ensures
     ∙ ap (λ names. is_among names c.args.group.now) c.as_slice.ensures
-    ∙ member_kept c.self.inside.parts c.self.inside.memberships c.self.invariant.0 c.args.person.now c.in-Some.groups.now (sym c.in-Some.ensures.value) c.args.group.now)
+    ∙ member_kept
+    c.self.inside.parts
+    c.self.inside.memberships
+    c.self.invariant.0
+    c.args.person.now
+    c.in-Some.groups.now
+    (sym c.in-Some.ensures.value)
+    c.args.group.now)
 
 pub returns-in-Some-clause-chain : goal.returns-in-Some-clause-chain
 returns-in-Some-clause-chain c =
@@ -26,7 +33,9 @@ returns-in-None-clause-value c =
     c.self.inside.parts
     c.args.person.now
     c.args.group.now
-    (nobody_kept c.self.inside.parts c.self.inside.memberships c.self.invariant.0 c.args.person.now (sym c.in-None.ensures.value)))
+    (nobody_kept c.self.inside.parts c.self.inside.memberships c.self.invariant.0 c.args.person.now
+    (sym c.in-None.ensures.value)))
 
 pub returns-in-None-clause-chain : goal.returns-in-None-clause-chain
-returns-in-None-clause-chain c = rw (returns-in-None-clause-value c) (member_chain c.args.self.now c.args.person.now c.args.group.now)
+returns-in-None-clause-chain c = rw (returns-in-None-clause-value c)
+    (member_chain c.args.self.now c.args.person.now c.args.group.now)
