@@ -3,6 +3,7 @@ pub mod ChangeLemmas
 pub mod KeptLemmas
 pub mod LastLemmas
 pub mod MakeLemmas
+pub mod MakeStatements
 pub mod Meaning
 pub mod OrderLemmas
 pub mod PickedLemmas

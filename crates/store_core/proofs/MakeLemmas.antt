@@ -15,7 +15,8 @@ use Rattle.sqlite_trees.proofs.ListLemmas.{all_both, all-append}
 use Rattle.store_core.specs.Tables.{desk_schema}
 use Rattle.store_core.specs.Contents.{Contents}
 use Rattle.store_core.specs.Stands.{Tables, Within, Ran}
-use Rattle.store_core.specs.Making.{Made, AreEmpty}
+use Rattle.store_core.specs.Making.{AreEmpty, Made}
+use Rattle.store_core.proofs.Meaning.{Changes}
 use Rattle.store_core.proofs.WriteLemmas.{went, same_value}
 
 -- what the check computes of the text of a CREATE TABLE
@@ -67,15 +68,14 @@ makes base next text table it old new count ran clean made c o =
     (done.0, done.1, r.shown.mode)
 
 -- where the tables are there, it does nothing
-pub is_there : (text : List ℕ) → command_of (understood desk_schema text) ≡ Nothing
-    → IsPlain (understood desk_schema text) → (old new : State) (count : ℕ) (now was : Contents)
-    → (HasCleanDisk new → Ran text [] old new count) → (HasCleanDisk new → HasCleanDisk old)
-    → Within now was old → Within now was new
-is_there text nothing plain old new count now was ran clean within c o =
+pub is_there : (text : List ℕ) → Changes text Nothing → (old new : State) (count : ℕ)
+    → (now was : Contents) → (HasCleanDisk new → Ran text [] old new count)
+    → (HasCleanDisk new → HasCleanDisk old) → Within now was old → Within now was new
+is_there text there old new count now was ran clean within c o =
     let r = ran c in
     let before = within (clean c) r.shown.was_open in
-    let it = runs_as text [] old new desk_schema before.0.schema Nothing nothing plain count
-    r.runs in (
+    let it = runs_as text [] old new desk_schema before.0.schema Nothing there.is there.plain
+    count r.runs in (
       subst (Tables now) (sym it.0.0.now_is) before.0,
       subst (Tables was) (sym it.0.0.committed_is)
           before.1,

@@ -5,6 +5,7 @@
 mod columns;
 pub mod fault;
 mod lists;
+mod making;
 mod query;
 mod reads;
 pub mod store;

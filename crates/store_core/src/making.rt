@@ -1,0 +1,155 @@
+//! Making the tables, in a transaction.
+ghost use Rattle.std.specs.Prelude.{◌≡◌, ◌≢◌, ℕ, [], IfErr, IfOk, None, OnOk, Some};
+ghost use Rattle.sqlite.specs.Held.{state};
+ghost use Rattle.sqlite.specs.State.{HasCleanDisk};
+ghost use Rattle.store_core.specs.Calls.{Makes, WasClean};
+ghost use Rattle.store_core.specs.Making.{Inside, Made, ShowsVersion};
+ghost use Rattle.store_core.specs.Stands.{HasTables, KeepsBase};
+ghost use Rattle.store_core.specs.Tables.{desk_schema, no_schema, request_schema};
+ghost use Rattle.store_core.specs.declared.fault.StoreFault.{StoreFault};
+
+use crate::columns::number_at;
+use crate::fault::StoreFault;
+use crate::transaction::run;
+use sqlite::{Alter, Row, Transaction};
+
+/// Makes the first three tables where they are missing.
+fn make_first<S: Alter>(tx: &mut Transaction<'_, S>) -> Result<(), StoreFault>
+    ensures same_reference { tx.new.conn.ghost_name ≡ tx.old.conn.ghost_name }
+    ensures made { Made no_schema (state S.Store tx.old.conn.now) →
+        OnOk result (Made request_schema (state S.Store tx.new.conn.now)) }
+    ensures there { Makes (λ c. c)
+        (state S.Store tx.old.conn.now) (state S.Store tx.new.conn.now) result }
+    ensures keeps { KeepsBase (state S.Store tx.old.conn.now) (state S.Store tx.new.conn.now) }
+    ensures fault { IfErr result (λ e. e ≡ StoreFault.Refused) }
+{
+    let _ = run(
+        tx,
+        "CREATE TABLE IF NOT EXISTS meta (one INTEGER PRIMARY KEY CHECK (one = 1), version \
+         INTEGER NOT NULL) STRICT",
+        &[],
+    )?;
+    let _ = run(
+        tx,
+        "CREATE TABLE IF NOT EXISTS queue (name TEXT NOT NULL PRIMARY KEY, lifecycle TEXT \
+         NOT NULL, level TEXT) STRICT",
+        &[],
+    )?;
+    let _ = run(
+        tx,
+        "CREATE TABLE IF NOT EXISTS request (id INTEGER PRIMARY KEY, queue TEXT NOT NULL \
+         REFERENCES queue(name), subject TEXT NOT NULL, status TEXT NOT NULL, owner TEXT, \
+         level TEXT, created INTEGER NOT NULL, opened INTEGER NOT NULL, turn INTEGER NOT NULL, \
+         since INTEGER NOT NULL, due INTEGER) STRICT",
+        &[],
+    )?;
+    Ok(())
+}
+
+/// Makes the last three tables where they are missing.
+fn make_last<S: Alter>(tx: &mut Transaction<'_, S>) -> Result<(), StoreFault>
+    ensures same_reference { tx.new.conn.ghost_name ≡ tx.old.conn.ghost_name }
+    ensures made { Made request_schema (state S.Store tx.old.conn.now) →
+        OnOk result (Made desk_schema (state S.Store tx.new.conn.now)) }
+    ensures there { Makes (λ c. c)
+        (state S.Store tx.old.conn.now) (state S.Store tx.new.conn.now) result }
+    ensures keeps { KeepsBase (state S.Store tx.old.conn.now) (state S.Store tx.new.conn.now) }
+    ensures fault { IfErr result (λ e. e ≡ StoreFault.Refused) }
+{
+    let _ = run(
+        tx,
+        "CREATE TABLE IF NOT EXISTS watcher (request INTEGER NOT NULL REFERENCES request(id), \
+         role INTEGER NOT NULL, person TEXT NOT NULL, PRIMARY KEY (request, role, person)) \
+         STRICT",
+        &[],
+    )?;
+    let _ = run(
+        tx,
+        "CREATE TABLE IF NOT EXISTS link (source INTEGER NOT NULL REFERENCES request(id), \
+         kind INTEGER NOT NULL, target INTEGER NOT NULL REFERENCES request(id), PRIMARY KEY \
+         (source, kind, target)) STRICT",
+        &[],
+    )?;
+    let _ = run(
+        tx,
+        "CREATE TABLE IF NOT EXISTS entry (request INTEGER NOT NULL REFERENCES request(id), \
+         number INTEGER NOT NULL, moment INTEGER NOT NULL, actor TEXT NOT NULL, kind \
+         INTEGER NOT NULL, head TEXT NOT NULL, body TEXT NOT NULL, PRIMARY KEY (request, \
+         number)) STRICT",
+        &[],
+    )?;
+    Ok(())
+}
+
+/// Makes the tables that are missing.
+fn make_tables<S: Alter>(tx: &mut Transaction<'_, S>) -> Result<(), StoreFault>
+    ensures same_reference { tx.new.conn.ghost_name ≡ tx.old.conn.ghost_name }
+    ensures made { Made no_schema (state S.Store tx.old.conn.now) →
+        OnOk result (Made desk_schema (state S.Store tx.new.conn.now)) }
+    ensures there { Makes (λ c. c)
+        (state S.Store tx.old.conn.now) (state S.Store tx.new.conn.now) result }
+    ensures keeps { KeepsBase (state S.Store tx.old.conn.now) (state S.Store tx.new.conn.now) }
+    ensures fault { IfErr result (λ e. e ≡ StoreFault.Refused) }
+{
+    make_first(tx)?;
+    make_last(tx)
+}
+
+/// The version that the rows show, or none where there is no row.
+fn version_in(rows: &[Row]) -> Result<Option<u32>, StoreFault>
+    ensures none { rows.now ≡ [] → IfOk result (λ v. v ≡ None) }
+    ensures one { (n : ℕ) → ShowsVersion n rows.now → IfOk result (λ v. v ≡ Some n) }
+    ensures fault { IfErr result (λ e. e ≢ StoreFault.WrongVersion) }
+{
+    match rows {
+        [] => Ok(None),
+        [row] => match number_at(row, 0) {
+            Ok(n) => Ok(Some(n)),
+            Err(StoreFault::Mismatch) => Err(StoreFault::Mismatch),
+            Err(_) => Err(StoreFault::Refused),
+        },
+        _ => Err(StoreFault::Refused),
+    }
+}
+
+/// The rows of the version.
+fn version_rows<S: Alter>(tx: &mut Transaction<'_, S>) -> Result<Vec<Row>, StoreFault>
+    ensures same_reference { tx.new.conn.ghost_name ≡ tx.old.conn.ghost_name }
+    ensures none { Made desk_schema (state S.Store tx.old.conn.now) →
+        HasCleanDisk (state S.Store tx.new.conn.now) → IfOk result (λ rows. rows.items ≡ []) }
+    ensures one { Inside (λ c rows. ShowsVersion c.version rows.items)
+        (state S.Store tx.old.conn.now) (state S.Store tx.new.conn.now) result }
+    ensures made { Made desk_schema (state S.Store tx.old.conn.now) →
+        OnOk result (Made desk_schema (state S.Store tx.new.conn.now)) }
+    ensures there { Makes (λ c. c)
+        (state S.Store tx.old.conn.now) (state S.Store tx.new.conn.now) result }
+    ensures keeps { HasTables (state S.Store tx.old.conn.now) →
+        KeepsBase (state S.Store tx.old.conn.now) (state S.Store tx.new.conn.now) }
+    ensures honest { WasClean (state S.Store tx.old.conn.now) (state S.Store tx.new.conn.now) }
+    ensures fault { IfErr result (λ e. e ≡ StoreFault.Refused) }
+{
+    match tx.query_all("SELECT version FROM meta", &[]) {
+        Ok(rows) => Ok(rows),
+        Err(_) => Err(StoreFault::Refused),
+    }
+}
+
+/// The version that the tables hold, or none where `meta` has no row.
+fn read_version<S: Alter>(tx: &mut Transaction<'_, S>) -> Result<Option<u32>, StoreFault>
+    ensures same_reference { tx.new.conn.ghost_name ≡ tx.old.conn.ghost_name }
+    ensures none { Made desk_schema (state S.Store tx.old.conn.now) →
+        HasCleanDisk (state S.Store tx.new.conn.now) → IfOk result (λ v. v ≡ None) }
+    ensures one { Inside (λ c v. v ≡ Some c.version)
+        (state S.Store tx.old.conn.now) (state S.Store tx.new.conn.now) result }
+    ensures made { Made desk_schema (state S.Store tx.old.conn.now) →
+        OnOk result (Made desk_schema (state S.Store tx.new.conn.now)) }
+    ensures there { Makes (λ c. c)
+        (state S.Store tx.old.conn.now) (state S.Store tx.new.conn.now) result }
+    ensures keeps { HasTables (state S.Store tx.old.conn.now) →
+        KeepsBase (state S.Store tx.old.conn.now) (state S.Store tx.new.conn.now) }
+    ensures honest { WasClean (state S.Store tx.old.conn.now) (state S.Store tx.new.conn.now) }
+    ensures fault { IfErr result (λ e. e ≢ StoreFault.WrongVersion) }
+{
+    let rows = version_rows(tx)?;
+    version_in(rows.as_slice())
+}
