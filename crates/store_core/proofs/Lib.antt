@@ -1,5 +1,6 @@
 pub mod BackLemmas
 pub mod ChangeLemmas
+pub mod EndLemmas
 pub mod KeptLemmas
 pub mod LastLemmas
 pub mod MakeLemmas

@@ -1,15 +1,18 @@
 -- How far the tables are made.
-use Rattle.std.specs.Prelude.{◌≡◌, ℕ, pos, IfOk, List, [], ◌∷◌, IsTrue, Result, true}
+use Rattle.std.specs.Prelude.{◌≡◌, ◌≢◌, ℕ, pos, IfErr, IfOk, List, [], ◌∷◌, IsTrue}
+use Rattle.std.specs.Prelude.{OnErr, OnOk, Result, true}
 use Rattle.std.specs.List.{AllByRecursion}
 use Rattle.sqlite.specs.Order.{Row}
 use Rattle.sqlite.specs.Schema.{Schema}
 use Rattle.sqlite.specs.State.{State, HasCleanDisk}
 use Rattle.sqlite.specs.Tree.{Trees}
 use Rattle.sqlite.specs.declared.types.Value.TheVariants.{Int}
+use Rattle.desk_core.specs.Desk.{empty_desk}
 use Rattle.store_core.specs.Contents.{Contents, no_contents}
-use Rattle.store_core.specs.Stands.{Tables, Within}
+use Rattle.store_core.specs.Stands.{Stand, StandsFor, Tables, Within}
 use Rattle.store_core.specs.Tables.{no_schema}
 use Rattle.store_core.specs.declared.fault.StoreFault.{StoreFault}
+use Rattle.store_core.specs.declared.fault.StoreFault.TheVariants.{WrongVersion}
 
 abbrev pub AreEmpty : Schema → Trees → Type 0
 AreEmpty schema db = AllByRecursion (λ t. db t.tree ≡ []) schema.tables
@@ -43,3 +46,25 @@ abbrev pub Inside : {X : Type 0} → (Contents → X → Type 0) → State → S
     → Type 0
 Inside P old new result =
     (now was : Contents) → Within now was old → HasCleanDisk new → IfOk result (P now)
+
+-- and the version is told to be wrong only where it isn't the present one
+abbrev pub WrongInside : {X : Type 0} → State → State → Result X StoreFault → Type 0
+WrongInside old new result =
+    (now was : Contents) → Within now was old → HasCleanDisk new
+    → IfErr result (λ e. e ≡ WrongVersion → now.version ≢ 1)
+
+-- ---- of a whole call
+
+-- from no table the tables come to stand for the empty desk; on a fault there is no table, and
+-- the version isn't to blame
+abbrev pub MakesDesk : {X : Type 0} → State → State → Result X StoreFault → Type 0
+MakesDesk old new result =
+    IsBlank old
+    → OnOk result (StandsFor empty_desk new) × OnErr result (IsBlank new)
+    × (HasCleanDisk new → IfErr result (λ e. e ≢ WrongVersion))
+
+-- it goes well only over the present version, and is the wrong version only over another
+abbrev pub NeedsVersion : {X : Type 0} → State → State → Result X StoreFault → Type 0
+NeedsVersion old new result =
+    (c : Contents) → Stand c old → HasCleanDisk new
+    → IfOk result (λ done. c.version ≡ 1) × IfErr result (λ e. e ≡ WrongVersion → c.version ≢ 1)

@@ -1,17 +1,20 @@
 //! Making the tables, in a transaction.
-ghost use Rattle.std.specs.Prelude.{◌≡◌, ◌≢◌, ℕ, [], IfErr, IfOk, None, OnOk, Some};
+ghost use Rattle.std.specs.Prelude.{◌≡◌, ◌≢◌, ℕ, [], false, IfErr, IfOk, None, OnErr};
+ghost use Rattle.std.specs.Prelude.{OnOk, Some};
 ghost use Rattle.sqlite.specs.Held.{state};
 ghost use Rattle.sqlite.specs.State.{HasCleanDisk};
-ghost use Rattle.store_core.specs.Calls.{Makes, WasClean};
-ghost use Rattle.store_core.specs.Making.{Inside, Made, ShowsVersion};
-ghost use Rattle.store_core.specs.Stands.{HasTables, KeepsBase};
+ghost use Rattle.store_core.specs.Calls.{Leaves, Makes, WasClean};
+ghost use Rattle.store_core.specs.Contents.{Contents, no_contents};
+ghost use Rattle.store_core.specs.Making.{Fresh, Inside, IsBlank, Made, ShowsVersion, WasBlank};
+ghost use Rattle.store_core.specs.Making.{NeedsVersion, WrongInside};
+ghost use Rattle.store_core.specs.Stands.{HasTables, KeepsBase, Stand, Within};
 ghost use Rattle.store_core.specs.Tables.{desk_schema, no_schema, request_schema};
 ghost use Rattle.store_core.specs.declared.fault.StoreFault.{StoreFault};
 
 use crate::columns::number_at;
 use crate::fault::StoreFault;
 use crate::transaction::run;
-use sqlite::{Alter, Row, Transaction};
+use sqlite::{Alter, Connection, Row, Transaction};
 
 /// Makes the first three tables where they are missing.
 fn make_first<S: Alter>(tx: &mut Transaction<'_, S>) -> Result<(), StoreFault>
@@ -152,4 +155,96 @@ fn read_version<S: Alter>(tx: &mut Transaction<'_, S>) -> Result<Option<u32>, St
 {
     let rows = version_rows(tx)?;
     version_in(rows.as_slice())
+}
+
+/// Writes the present version where there is none. `WrongVersion` where there is another.
+fn fill_meta<S: Alter>(tx: &mut Transaction<'_, S>) -> Result<(), StoreFault>
+    ensures same_reference { tx.new.conn.ghost_name ≡ tx.old.conn.ghost_name }
+    ensures fresh { Made desk_schema (state S.Store tx.old.conn.now) →
+        OnOk result (Fresh (state S.Store tx.new.conn.now)) }
+    ensures there { Makes (λ c. c)
+        (state S.Store tx.old.conn.now) (state S.Store tx.new.conn.now) result }
+    ensures present { Inside (λ c done. c.version ≡ 1)
+        (state S.Store tx.old.conn.now) (state S.Store tx.new.conn.now) result }
+    ensures wrong { WrongInside
+        (state S.Store tx.old.conn.now) (state S.Store tx.new.conn.now) result }
+    ensures not_wrong { Made desk_schema (state S.Store tx.old.conn.now) →
+        HasCleanDisk (state S.Store tx.new.conn.now) →
+        IfErr result (λ e. e ≢ StoreFault.WrongVersion) }
+    ensures keeps { HasTables (state S.Store tx.old.conn.now) →
+        KeepsBase (state S.Store tx.old.conn.now) (state S.Store tx.new.conn.now) }
+    ensures honest { WasClean (state S.Store tx.old.conn.now) (state S.Store tx.new.conn.now) }
+{
+    match read_version(tx)? {
+        None => {
+            let _ = run(tx, "INSERT INTO meta (one, version) VALUES (1, 1)", &[])?;
+            Ok(())
+        }
+        Some(1) => Ok(()),
+        Some(_) => Err(StoreFault::WrongVersion),
+    }
+}
+
+/// Makes the tables that are missing, and writes the version where there is none.
+fn make_all<S: Alter>(tx: &mut Transaction<'_, S>) -> Result<(), StoreFault>
+    ensures same_reference { tx.new.conn.ghost_name ≡ tx.old.conn.ghost_name }
+    ensures fresh { Made no_schema (state S.Store tx.old.conn.now) →
+        OnOk result (Fresh (state S.Store tx.new.conn.now)) }
+    ensures there { Makes (λ c. c)
+        (state S.Store tx.old.conn.now) (state S.Store tx.new.conn.now) result }
+    ensures present { Inside (λ c done. c.version ≡ 1)
+        (state S.Store tx.old.conn.now) (state S.Store tx.new.conn.now) result }
+    ensures wrong { WrongInside
+        (state S.Store tx.old.conn.now) (state S.Store tx.new.conn.now) result }
+    ensures not_wrong { Made no_schema (state S.Store tx.old.conn.now) →
+        HasCleanDisk (state S.Store tx.new.conn.now) →
+        IfErr result (λ e. e ≢ StoreFault.WrongVersion) }
+    ensures keeps_none { Made no_schema (state S.Store tx.old.conn.now) →
+        KeepsBase (state S.Store tx.old.conn.now) (state S.Store tx.new.conn.now) }
+    ensures keeps { (now was : Contents) → Within now was (state S.Store tx.old.conn.now) →
+        KeepsBase (state S.Store tx.old.conn.now) (state S.Store tx.new.conn.now) }
+    ensures honest { WasClean (state S.Store tx.old.conn.now) (state S.Store tx.new.conn.now) }
+{
+    make_tables(tx)?;
+    fill_meta(tx)
+}
+
+/// Commits what was made, or leaves what was committed before.
+fn end_making<S: Alter>(tx: Transaction<'_, S>) -> Result<(), StoreFault>
+    ensures ended { tx.exit.0.now.in_transaction ≡ false }
+    ensures done { (now was : Contents) → Within now was (state S.Store tx.entry.conn.now) →
+        OnOk result (Stand now (state S.Store tx.exit.0.now)) }
+    ensures undone { (now was : Contents) → Within now was (state S.Store tx.entry.conn.now) →
+        OnErr result (Stand was (state S.Store tx.exit.0.now)) }
+    ensures fresh { Fresh (state S.Store tx.entry.conn.now) →
+        OnOk result (Stand no_contents (state S.Store tx.exit.0.now)) }
+    ensures blank { Fresh (state S.Store tx.entry.conn.now) →
+        WasBlank (state S.Store tx.entry.conn.now) →
+        OnErr result (IsBlank (state S.Store tx.exit.0.now)) }
+    ensures honest { WasClean (state S.Store tx.entry.conn.now) (state S.Store tx.exit.0.now) }
+    ensures fault { IfErr result (λ e. e ≡ StoreFault.Refused) }
+{
+    match tx.commit() {
+        Ok(()) => Ok(()),
+        Err(_) => Err(StoreFault::Refused),
+    }
+}
+
+/// Makes the tables in one transaction.
+pub(crate) fn make_schema<S: Alter>(conn: &mut Connection<S>) -> Result<(), StoreFault>
+    requires { conn.old.in_transaction ≡ false }
+    ensures idle { conn.new.in_transaction ≡ false }
+    ensures made { IsBlank (state S.Store conn.old) →
+        OnOk result (Stand no_contents (state S.Store conn.new)) }
+    ensures unmade { IsBlank (state S.Store conn.old) →
+        OnErr result (IsBlank (state S.Store conn.new)) }
+    ensures not_wrong { IsBlank (state S.Store conn.old) →
+        HasCleanDisk (state S.Store conn.new) →
+        IfErr result (λ e. e ≢ StoreFault.WrongVersion) }
+    ensures kept { Leaves (state S.Store conn.old) (state S.Store conn.new) }
+    ensures version { NeedsVersion (state S.Store conn.old) (state S.Store conn.new) result }
+{
+    let mut tx = conn.transaction();
+    make_all(&mut tx)?;
+    end_making(tx)
 }
