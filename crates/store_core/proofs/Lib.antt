@@ -1,6 +1,6 @@
 pub mod BackLemmas
+pub mod BlankLemmas
 pub mod ChangeLemmas
-pub mod EndLemmas
 pub mod KeptLemmas
 pub mod LastLemmas
 pub mod MakeLemmas

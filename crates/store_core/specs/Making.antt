@@ -1,6 +1,6 @@
 -- How far the tables are made.
 use Rattle.std.specs.Prelude.{◌≡◌, ◌≢◌, ℕ, pos, IfErr, IfOk, List, [], ◌∷◌, IsTrue}
-use Rattle.std.specs.Prelude.{OnErr, OnOk, Result, true}
+use Rattle.std.specs.Prelude.{Err, OnErr, OnOk, Result, true}
 use Rattle.std.specs.List.{AllByRecursion}
 use Rattle.sqlite.specs.Order.{Row}
 use Rattle.sqlite.specs.Schema.{Schema}
@@ -12,7 +12,7 @@ use Rattle.store_core.specs.Contents.{Contents, no_contents}
 use Rattle.store_core.specs.Stands.{Stand, StandsFor, Tables, Within}
 use Rattle.store_core.specs.Tables.{no_schema}
 use Rattle.store_core.specs.declared.fault.StoreFault.{StoreFault}
-use Rattle.store_core.specs.declared.fault.StoreFault.TheVariants.{WrongVersion}
+use Rattle.store_core.specs.declared.fault.StoreFault.TheVariants.{Refused, WrongVersion}
 
 abbrev pub AreEmpty : Schema → Trees → Type 0
 AreEmpty schema db = AllByRecursion (λ t. db t.tree ≡ []) schema.tables
@@ -68,3 +68,8 @@ abbrev pub NeedsVersion : {X : Type 0} → State → State → Result X StoreFau
 NeedsVersion old new result =
     (c : Contents) → Stand c old → HasCleanDisk new
     → IfOk result (λ done. c.version ≡ 1) × IfErr result (λ e. e ≡ WrongVersion → c.version ≢ 1)
+
+-- where there is no table it is refused, and there is none still
+abbrev pub RefusesBlank : {X : Type 0} → State → State → Result X StoreFault → Type 0
+RefusesBlank old new result =
+    IsBlank old → IsBlank new × (HasCleanDisk new → result ≡ Err Refused)

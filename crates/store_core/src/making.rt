@@ -1,5 +1,5 @@
 //! Making the tables, in a transaction.
-ghost use Rattle.std.specs.Prelude.{◌≡◌, ◌≢◌, ℕ, [], false, IfErr, IfOk, None, OnErr};
+ghost use Rattle.std.specs.Prelude.{◌≡◌, ◌≢◌, [], false, IfErr, IfOk, None, OnErr};
 ghost use Rattle.std.specs.Prelude.{OnOk, Some};
 ghost use Rattle.sqlite.specs.Held.{state};
 ghost use Rattle.sqlite.specs.State.{HasCleanDisk};
@@ -11,8 +11,8 @@ ghost use Rattle.store_core.specs.Stands.{HasTables, KeepsBase, Stand, Within};
 ghost use Rattle.store_core.specs.Tables.{desk_schema, no_schema, request_schema};
 ghost use Rattle.store_core.specs.declared.fault.StoreFault.{StoreFault};
 
-use crate::columns::number_at;
 use crate::fault::StoreFault;
+use crate::reads::version::version_in;
 use crate::transaction::run;
 use sqlite::{Alter, Connection, Row, Transaction};
 
@@ -24,6 +24,7 @@ fn make_first<S: Alter>(tx: &mut Transaction<'_, S>) -> Result<(), StoreFault>
     ensures there { Makes (λ c. c)
         (state S.Store tx.old.conn.now) (state S.Store tx.new.conn.now) result }
     ensures keeps { KeepsBase (state S.Store tx.old.conn.now) (state S.Store tx.new.conn.now) }
+    ensures honest { WasClean (state S.Store tx.old.conn.now) (state S.Store tx.new.conn.now) }
     ensures fault { IfErr result (λ e. e ≡ StoreFault.Refused) }
 {
     let _ = run(
@@ -57,6 +58,7 @@ fn make_last<S: Alter>(tx: &mut Transaction<'_, S>) -> Result<(), StoreFault>
     ensures there { Makes (λ c. c)
         (state S.Store tx.old.conn.now) (state S.Store tx.new.conn.now) result }
     ensures keeps { KeepsBase (state S.Store tx.old.conn.now) (state S.Store tx.new.conn.now) }
+    ensures honest { WasClean (state S.Store tx.old.conn.now) (state S.Store tx.new.conn.now) }
     ensures fault { IfErr result (λ e. e ≡ StoreFault.Refused) }
 {
     let _ = run(
@@ -92,27 +94,11 @@ fn make_tables<S: Alter>(tx: &mut Transaction<'_, S>) -> Result<(), StoreFault>
     ensures there { Makes (λ c. c)
         (state S.Store tx.old.conn.now) (state S.Store tx.new.conn.now) result }
     ensures keeps { KeepsBase (state S.Store tx.old.conn.now) (state S.Store tx.new.conn.now) }
+    ensures honest { WasClean (state S.Store tx.old.conn.now) (state S.Store tx.new.conn.now) }
     ensures fault { IfErr result (λ e. e ≡ StoreFault.Refused) }
 {
     make_first(tx)?;
     make_last(tx)
-}
-
-/// The version that the rows show, or none where there is no row.
-fn version_in(rows: &[Row]) -> Result<Option<u32>, StoreFault>
-    ensures none { rows.now ≡ [] → IfOk result (λ v. v ≡ None) }
-    ensures one { (n : ℕ) → ShowsVersion n rows.now → IfOk result (λ v. v ≡ Some n) }
-    ensures fault { IfErr result (λ e. e ≢ StoreFault.WrongVersion) }
-{
-    match rows {
-        [] => Ok(None),
-        [row] => match number_at(row, 0) {
-            Ok(n) => Ok(Some(n)),
-            Err(StoreFault::Mismatch) => Err(StoreFault::Mismatch),
-            Err(_) => Err(StoreFault::Refused),
-        },
-        _ => Err(StoreFault::Refused),
-    }
 }
 
 /// The rows of the version.

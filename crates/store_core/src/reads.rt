@@ -1,3 +1,4 @@
 //! Reading: one query each.
 
 pub(crate) mod queues;
+pub(crate) mod version;

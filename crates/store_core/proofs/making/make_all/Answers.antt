@@ -1,0 +1,16 @@
+use Rattle.std.proofs.Common.{◌∙◌}
+use Rattle.sqlite.specs.Held.{state}
+use Rattle.store_core.proofs.StandLemmas.{desk_is_there}
+use Rattle.store_core.proofs.making.make_all.Goals as goal
+
+pub returns-clause-present : goal.returns-clause-present
+returns-clause-present g c now was within clean =
+    c.fill_meta.ensures.present now was (c.in_ok-make_tables.ensures.there now was within) clean
+
+pub returns-clause-keeps : goal.returns-clause-keeps
+returns-clause-keeps g c now was within clean live =
+    let middle = state g.S.Store c.make_tables.new.tx.conn.now in
+    let there = c.in_ok-make_tables.ensures.there now was within in
+    let last = c.fill_meta.ensures.keeps (desk_is_there now was middle there) clean live in
+    let first = c.make_tables.ensures.keeps last.0 last.1 in
+    (first.0, first.1, last.2 ∙ first.2)

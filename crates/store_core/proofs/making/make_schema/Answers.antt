@@ -1,0 +1,25 @@
+use Rattle.std.proofs.Common.{◌≡◌, rules, subst}
+use Rattle.sqlite.specs.Held.{state}
+use Rattle.store_core.specs.Stands.{Stand}
+use Rattle.store_core.proofs.StandLemmas.{begins, dropped_stands, either_way, was_clean}
+use Rattle.store_core.proofs.making.make_schema.Goals as goal
+
+pub returns-in_err-make_all-clause-kept : goal.returns-in_err-make_all-clause-kept
+returns-in_err-make_all-clause-kept g c d stand =
+    let begun = begins g.S.Store c.args.conn.now c.transaction-tx.result.conn.now d
+    c.transaction-tx.ensures.begun stand in
+    let same : c.drop-tx.new.self.0 ≡ c.conn-1.given.0 = search rules in
+    subst (λ h. Stand d (state g.S.Store h)) same
+    (dropped_stands d (state g.S.Store c.transaction-tx.result.conn.now)
+    (state g.S.Store c.make_all.new.tx.conn.now) (state g.S.Store c.drop-tx.new.self.0) begun
+    (c.make_all.ensures.keeps d d begun)
+    (was_clean _ _ _ c.drop-tx.ensures.survives) c.drop-tx.ensures.undone)
+
+pub returns-clause-kept : goal.returns-clause-kept
+returns-clause-kept g c d stand =
+    let begun = begins g.S.Store c.args.conn.now c.transaction-tx.result.conn.now d
+    c.transaction-tx.ensures.begun stand in
+    let made = c.in_ok-make_all.ensures.there d d begun in
+    let same : c.end_making.new.tx.0 ≡ c.conn-2-1.given.0 = search rules in
+    subst (λ h. Stand d (state g.S.Store h)) same (either_way c.end_making.result
+    (c.end_making.ensures.done d d made) (c.end_making.ensures.undone d d made))
