@@ -6,6 +6,7 @@ mod columns;
 pub mod fault;
 mod lists;
 mod making;
+mod opening;
 mod query;
 mod reads;
 pub mod store;
