@@ -10,6 +10,7 @@ pub mod OrderLemmas
 pub mod PickedLemmas
 pub mod ReadLemmas
 pub mod ReadingLemmas
+pub mod RiseLemmas
 pub mod SortedLemmas
 pub mod StandLemmas
 pub mod Statements
