@@ -1,6 +1,7 @@
 pub mod BackLemmas
 pub mod BlankLemmas
 pub mod ChangeLemmas
+pub mod HistoryLemmas
 pub mod KeptLemmas
 pub mod LastLemmas
 pub mod MakeLemmas

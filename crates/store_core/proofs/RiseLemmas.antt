@@ -107,12 +107,11 @@ links_rise desk is = all_rise is_lower_link by_link link_total lower_is desk.lin
 -- ---- lists of the requests, one after another
 
 -- where each list tells its request's number, and the numbers rise, all rises
-module _ {X Y : Type 0} (list : X → List Y) (number : X → ℕ) (told : Y → ℕ) (R : Y → Y → Type 0)
-    (apart : (a b : Y) → nat_cmp (told a) (told b) ≡ Less → R a b) where
+module _ {X Y : Type 0} (list : X → List Y) (number : X → ℕ) (told : Y → ℕ) where
   abbrev pub Tells : X → Type 0
   Tells x = AllByRecursion (λ y. told y ≡ number x) (list x)
 
-  all_later : (n : ℕ) (xs : List X) → AllByRecursion (λ x. nat_cmp n (number x) ≡ Less) xs
+  pub all_later : (n : ℕ) (xs : List X) → AllByRecursion (λ x. nat_cmp n (number x) ≡ Less) xs
       → AllByRecursion Tells xs → AllByRecursion (λ y. nat_cmp n (told y) ≡ Less) (flat_map list xs)
   all_later n [] low tells = tt
   all_later n (x ∷ xs) low tells =
@@ -121,20 +120,22 @@ module _ {X Y : Type 0} (list : X → List Y) (number : X → ℕ) (told : Y →
       (λ y is. ap (nat_cmp n) is ∙ low.0) (list x) tells.0)
       (all_later n xs low.1 tells.1)
 
-  pub lists_rise : (xs : List X) → IsAscending (λ a b. nat_cmp (number a) (number b) ≡ Less) xs
+  pub lists_rise : (R : Y → Y → Type 0)
+      → (apart : (a b : Y) → nat_cmp (told a) (told b) ≡ Less → R a b) → (xs : List X)
+      → IsAscending (λ a b. nat_cmp (number a) (number b) ≡ Less) xs
       → AllByRecursion Tells xs → AllByRecursion (λ x. IsAscending R (list x)) xs
       → IsAscending R (flat_map list xs)
-  lists_rise [] rises tells each = tt
-  lists_rise (x ∷ xs) rises tells each =
+  lists_rise R apart [] rises tells each = tt
+  lists_rise R apart (x ∷ xs) rises tells each =
       ascending-append R (list x) (flat_map list xs) each.0
-      (lists_rise xs rises.1 tells.1 each.1)
+      (lists_rise R apart xs rises.1 tells.1 each.1)
       (all_weaker (λ y. told y ≡ number x) (λ y. AllByRecursion (R y) (flat_map list xs))
       (λ y is. all_weaker (λ z. nat_cmp (number x) (told z) ≡ Less) (R y)
       (λ z low. apart y z (ap (λ n. nat_cmp n (told z)) is ∙ low)) (flat_map list xs)
       (all_later (number x) xs rises.0 tells.1)) (list x) tells.0)
 
 -- what a test says of all elements, as a fact about each
-all_tested : {X : Type 0} (test : X → Bool) (P : X → Type 0) → ((x : X) → test x ≡ true → P x)
+pub all_tested : {X : Type 0} (test : X → Bool) (P : X → Type 0) → ((x : X) → test x ≡ true → P x)
     → (xs : List X) → list_all test xs ≡ true → AllByRecursion P xs
 all_tested test P so [] h = tt
 all_tested test P so (x ∷ xs) h =
@@ -220,7 +221,7 @@ watchers_rise desk is =
 
 -- ---- entries
 
-own_entries : (r : Request) → has_its_entries r ≡ true
+pub own_entries : (r : Request) → has_its_entries r ≡ true
     → AllByRecursion (λ e. e.id ≡ r.row.id) r.entries
 own_entries r h =
     let parts = and_parts (list_all (λ e. e.id == r.row.id) r.entries)

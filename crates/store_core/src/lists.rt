@@ -1,16 +1,17 @@
 //! The lists of a store, each in the order of its key.
 ghost use Rattle.std.specs.Prelude.{◌≡◌, filter};
 ghost use Rattle.store_core.specs.Calls.{Leaves, MismatchesIn, Tells};
-ghost use Rattle.store_core.specs.Contents.{request_rows, watchers};
-ghost use Rattle.store_core.specs.Queries.{queue_shown, request_shown_terms, three_shown};
-ghost use Rattle.store_core.specs.Reading.{IsLinkRow, IsQueueRow, IsRequestRow, IsWatcherRow};
+ghost use Rattle.store_core.specs.Contents.{history_at, request_rows, watchers};
+ghost use Rattle.store_core.specs.Queries.{entry_shown_terms, queue_shown, request_shown_terms};
+ghost use Rattle.store_core.specs.Queries.{three_shown};
+ghost use Rattle.store_core.specs.Reading.{IsEntryRow, IsLinkRow, IsQueueRow, IsRequestRow, IsWatcherRow};
 ghost use Rattle.store_core.specs.Seen.{state_of};
 ghost use Rattle.store_core.specs.Selection.{is_filed_in};
 
 use crate::fault::StoreFault;
 use crate::reads;
 use crate::store::Store;
-use desk_core::{LinkRow, QueueRow, RequestRow, Watcher};
+use desk_core::{Entry, LinkRow, QueueRow, RequestRow, Watcher};
 use sqlite::Alter;
 use std::alloc::Global;
 use text_core::Text;
@@ -79,5 +80,18 @@ impl<S: Alter> Store<S> {
         ensures kept { Leaves (state_of S.Store self.old) (state_of S.Store self.new) }
     {
         reads::lists_watchers::watchers(alloc, &mut self.conn)
+    }
+
+    /// The entries of a request, from the first, none where there is no such request. `Mismatch`
+    /// where a row is no entry, `Refused` where the store or memory refuses it. The tables stay as
+    /// they are.
+    pub fn entries_of(&mut self, alloc: Global, id: u32) -> Result<Vec<Entry>, StoreFault>
+        ensures listed { Tells (λ desk xs. xs.items ≡ history_at desk id)
+            (state_of S.Store self.old) (state_of S.Store self.new) result }
+        ensures mismatch { MismatchesIn 8 entry_shown_terms IsEntryRow
+            (state_of S.Store self.old) (state_of S.Store self.new) result }
+        ensures kept { Leaves (state_of S.Store self.old) (state_of S.Store self.new) }
+    {
+        reads::lists_entries::entries_of(alloc, &mut self.conn, id)
     }
 }
