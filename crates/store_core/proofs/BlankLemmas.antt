@@ -1,6 +1,6 @@
 -- Without tables no version is told, and there are no tables still.
-use Rattle.std.proofs.Common.{◌≡◌, [], true, false, inl, inr, List, Ok, Err, Result, refl, sym, ap}
-use Rattle.std.proofs.Common.{subst, ◌∙◌, IsTrue}
+use Rattle.std.proofs.Common.{◌≡◌, [], true, false, inl, inr, List, Ok, Result, refl, sym, ap}
+use Rattle.std.proofs.Common.{subst, ◌∙◌}
 use Rattle.std.specs.Prelude.{is_ok}
 use Rattle.sqlite_tied.specs.Compute.{everything}
 use Rattle.sqlite.specs.Clock.{timed}

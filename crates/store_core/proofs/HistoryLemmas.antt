@@ -1,6 +1,6 @@
 -- The entries of one request, in order, are its history.
 use Rattle.std.proofs.Common.{◌≡◌, ◌∙◌, ◌==◌, ℕ, Bool, true, false, cond, List, [], ◌∷◌, ◌++◌, map}
-use Rattle.std.proofs.Common.{flat_map, filter, Option, None, Some, refl, sym, ap, ap₂, subst}
+use Rattle.std.proofs.Common.{flat_map, filter, Some, refl, ap, ap₂, subst}
 use Rattle.std.proofs.Common.{append-nil, arith, Less}
 use Rattle.std.proofs.lemmas.Bool.{and_parts, eqb-true}
 use Rattle.std.proofs.lemmas.Bool.Decides.{nat_tests}

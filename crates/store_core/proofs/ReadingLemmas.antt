@@ -15,14 +15,14 @@ use Rattle.desk_core.specs.declared.rows.RequestRow.{RequestRow}
 use Rattle.desk_core.specs.declared.rows.Entry.{Entry}
 use Rattle.desk_core.specs.declared.rows.LinkKind.{LinkKind}
 use Rattle.store_core.specs.Kept.{filed, numbered_as, value_of, itself}
-use Rattle.store_core.specs.Tables.{desk_schema}
 use Rattle.store_core.specs.Queries.{reads, queues_text, queue_order, entries_text, entries_of_text}
 use Rattle.store_core.specs.Queries.{entry_order, entry_shown_terms, id_order, last_id_text}
 use Rattle.store_core.specs.Queries.{last_number_text, links_from_test, links_from_text, links_text}
 use Rattle.store_core.specs.Queries.{links_to_test, links_to_text, named_test, number_order}
 use Rattle.store_core.specs.Queries.{numbered_test, queue_named_text, queue_shown}
 use Rattle.store_core.specs.Queries.{request_shown_terms, request_test, request_numbered_text}
-use Rattle.store_core.specs.Queries.{filed_test, requests_of_text, requests_text, role_order, source_order, target_order}
+use Rattle.store_core.specs.Queries.{filed_test, requests_of_text}
+use Rattle.store_core.specs.Queries.{requests_text, role_order, source_order, target_order}
 use Rattle.store_core.specs.Queries.{three_order, three_shown, watchers_of_text}
 use Rattle.store_core.specs.Queries.{watchers_text}
 use Rattle.store_core.specs.Picked.{passes, shows, Picks, Shows, Lists, ShowsGreatest}
@@ -38,7 +38,8 @@ use Rattle.desk_core.specs.Links.{kind_number}
 use Rattle.store_core.proofs.TestLemmas.{name_order_is, named, numbered, watched, told, from_source}
 use Rattle.store_core.proofs.TestLemmas.{to_target, order_numbers, id_order_is, number_order_is}
 use Rattle.store_core.proofs.TestLemmas.{entry_order_is, link_order_is, watcher_order_is}
-use Rattle.store_core.proofs.TestLemmas.{filed_in, filed_order_is, role_order_is, target_order_is, source_order_is}
+use Rattle.store_core.proofs.TestLemmas.{filed_in, filed_order_is}
+use Rattle.store_core.proofs.TestLemmas.{role_order_is, target_order_is, source_order_is}
 use Rattle.store_core.proofs.PickedLemmas.{picked_by, last_by}
 use Rattle.store_core.proofs.ReadLemmas.{shows_values, lists_values}
 use Rattle.store_core.proofs.LastLemmas.{shows_greatest, mapped_has, has_permuted}

@@ -1,6 +1,6 @@
 -- The lists of a well-formed desk rise by their keys.
 use Rattle.std.proofs.Common.{◌≡◌, ◌∙◌, ◌+◌, ◌<◌, ◌==◌, ℕ, Bool, true, false, cond, List, [], ◌∷◌}
-use Rattle.std.proofs.Common.{◌++◌, map, flat_map, filter, arith, refl, sym, ap, Ordering, Less}
+use Rattle.std.proofs.Common.{◌++◌, map, flat_map, arith, refl, ap, Ordering, Less}
 use Rattle.std.proofs.Common.{Equal, Greater}
 use Rattle.std.proofs.lemmas.Bool.{and_parts, eqb-true}
 use Rattle.std.proofs.lemmas.Bool.Decides.{nat_tests}
@@ -15,7 +15,7 @@ use Rattle.sqlite_trees.proofs.ListLemmas.{all_both, all_of, all_weaker, all-app
 use Rattle.sqlite_trees.proofs.ListLemmas.{ascending-append, ascending-map}
 use Rattle.sqlite_trees.proofs.ListLemmas.{ascending_weaker}
 use Rattle.desk_core.specs.Desk.{Desk, Request}
-use Rattle.desk_core.specs.IsDesk.{IsDesk, are_numbered, has_its_entries, ids, is_rising, names_rise}
+use Rattle.desk_core.specs.IsDesk.{IsDesk, are_numbered, has_its_entries, names_rise}
 use Rattle.desk_core.specs.IsDesk.{persons_rise}
 use Rattle.desk_core.specs.Links.{is_lower_link, kind_number}
 use Rattle.desk_core.specs.Names.{text_order}
@@ -85,9 +85,9 @@ lower_then x y o =
       | true ↦ refl
       | false ↦ elim (x == y) as (λ b. (b && is_lt o)
           ≡ is_lt (ordering_then (cond b Equal Greater) o)) [
-        | true ↦ refl
-        | false ↦ refl
-      ]
+            | true ↦ refl
+            | false ↦ refl
+          ]
     ]
 
 lower_is : (a b : LinkRow) → is_lower_link a b ≡ is_lt (by_link a b)
@@ -163,7 +163,8 @@ role_rises id role persons rise =
 
 lower_role : (id : ℕ) (one two : WatchRole) → nat_cmp (role_number one) (role_number two) ≡ Less
     → (first second : List (List ℕ))
-    → AllByRecursion (λ a. AllByRecursion (λ b. by_watcher a b ≡ Less) (map (watcher id two) second))
+    → AllByRecursion
+    (λ a. AllByRecursion (λ b. by_watcher a b ≡ Less) (map (watcher id two) second))
     (map (watcher id one) first)
 lower_role id one two low first second =
     all-map (λ a. AllByRecursion (λ b. by_watcher a b ≡ Less) (map (watcher id two) second))

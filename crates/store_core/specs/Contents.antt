@@ -1,7 +1,7 @@
 -- What the tables of a desk hold: a version, and the rows of five lists, in no order that matters.
 use Rattle.std.specs.Prelude.{ℕ, List, [], ◌∷◌, filter, flat_map, map, not}
 use Rattle.std.specs.Option.{option_map_or}
-use Rattle.desk_core.specs.Desk.{Desk, Request, request_at}
+use Rattle.desk_core.specs.Desk.{Desk, request_at}
 use Rattle.desk_core.specs.Watchers.{watchers_of}
 use Rattle.desk_core.specs.declared.rows.Entry.{Entry}
 use Rattle.desk_core.specs.declared.rows.LinkRow.{LinkRow}

@@ -4,7 +4,8 @@ ghost use Rattle.store_core.specs.Calls.{Leaves, MismatchesIn, Tells};
 ghost use Rattle.store_core.specs.Contents.{history_at, request_rows, watchers};
 ghost use Rattle.store_core.specs.Queries.{entry_shown_terms, queue_shown, request_shown_terms};
 ghost use Rattle.store_core.specs.Queries.{three_shown};
-ghost use Rattle.store_core.specs.Reading.{IsEntryRow, IsLinkRow, IsQueueRow, IsRequestRow, IsWatcherRow};
+ghost use Rattle.store_core.specs.Reading.{IsEntryRow, IsLinkRow, IsQueueRow, IsRequestRow};
+ghost use Rattle.store_core.specs.Reading.{IsWatcherRow};
 ghost use Rattle.store_core.specs.Seen.{state_of};
 ghost use Rattle.store_core.specs.Selection.{is_filed_in};
 
@@ -41,8 +42,8 @@ impl<S: Alter> Store<S> {
         reads::lists_requests::requests(alloc, &mut self.conn)
     }
 
-    /// The requests of a queue, in the order of their numbers. `Mismatch` where a row is no request,
-    /// `Refused` where the store or memory refuses it. The tables stay as they are.
+    /// The requests of a queue, in the order of their numbers. `Mismatch` where a row is no
+    /// request, `Refused` where the store or memory refuses it. The tables stay as they are.
     pub fn requests_of(
         &mut self,
         alloc: Global,
@@ -70,8 +71,8 @@ impl<S: Alter> Store<S> {
         reads::lists_links::links(alloc, &mut self.conn)
     }
 
-    /// The watchers, in the order of request, role and person. `Mismatch` where a row is no watcher,
-    /// `Refused` where the store or memory refuses it. The tables stay as they are.
+    /// The watchers, in the order of request, role and person. `Mismatch` where a row is no
+    /// watcher, `Refused` where the store or memory refuses it. The tables stay as they are.
     pub fn watchers(&mut self, alloc: Global) -> Result<Vec<Watcher>, StoreFault>
         ensures listed { Tells (λ desk xs. xs.items ≡ watchers desk)
             (state_of S.Store self.old) (state_of S.Store self.new) result }

@@ -35,8 +35,8 @@ fn rows_watchers<S: Alter>(conn: &mut Connection<S>) -> Result<Vec<Row>, StoreFa
     )
 }
 
-/// The watchers, by request, role and person. `Mismatch` where a row is no watcher, `Refused` where the
-/// store refuses it.
+/// The watchers, by request, role and person. `Mismatch` where a row is no watcher,
+/// `Refused` where the store refuses it.
 pub(crate) fn watchers<S: Alter>(
     alloc: Global,
     conn: &mut Connection<S>,

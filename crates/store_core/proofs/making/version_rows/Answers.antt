@@ -10,7 +10,8 @@ use Rattle.store_core.proofs.making.version_rows.Goals as goal
 
 pub returns-in-Ok-clause-none : goal.returns-in-Ok-clause-none
 returns-in-Ok-clause-none g c made clean =
-    shows_none (state g.S.Store c.args.tx.now.conn.now) (state g.S.Store c.query_all.new.self.conn.now)
+    shows_none (state g.S.Store c.args.tx.now.conn.now)
+    (state g.S.Store c.query_all.new.self.conn.now)
     (was_clean _ _ _ c.query_all.ensures.survives) made clean c.in-Ok.rows.items
     (c.in-Ok.ensures.ok clean)
 
