@@ -23,5 +23,6 @@ returns-clause-of_table g c has clean =
     let new = state g.S.Store c.select.new.conn in
     if_ok c.select.result
     (λ rows. table_rows entries_of_text (count_value c.args.id ∷ []) 8 request_test
-    entry_shown_terms number_order entries_of_is old new c.select.ensures.honest has clean rows.items)
+    entry_shown_terms number_order entries_of_is old new
+    c.select.ensures.honest has clean rows.items)
     (rw (c.number.ensures) at (c.select.ensures.shown clean))

@@ -24,5 +24,6 @@ returns-clause-of_table g c has clean =
     let new = state g.S.Store c.select.new.conn in
     if_ok c.select.result
     (λ rows. table_rows requests_of_text (Words c.args.queue.now ∷ []) 3 filed_test
-    request_shown_terms id_order requests_of_is old new c.select.ensures.honest has clean rows.items)
+    request_shown_terms id_order requests_of_is old new
+    c.select.ensures.honest has clean rows.items)
     (rw (c.words.ensures) at (c.select.ensures.shown clean))
