@@ -15,7 +15,7 @@ use Rattle.sqlite_trees.proofs.ListLemmas.{all_both, all-append}
 use Rattle.store_core.specs.Tables.{desk_schema}
 use Rattle.store_core.specs.Contents.{Contents}
 use Rattle.store_core.specs.Stands.{Tables, Within, Ran}
-use Rattle.store_core.specs.Making.{AreEmpty, Made}
+use Rattle.store_core.specs.Making.{AreEmpty, Made, Stays}
 use Rattle.store_core.proofs.Meaning.{Changes}
 use Rattle.store_core.proofs.WriteLemmas.{went, same_value}
 
@@ -81,3 +81,19 @@ is_there text there old new count now was ran clean within c o =
           before.1,
       r.shown.mode,
     )
+
+pub stays_there : (text : List ℕ) → Changes text Nothing → (old new : State) (count : ℕ)
+    → (HasCleanDisk new → Ran text [] old new count) → (HasCleanDisk new → HasCleanDisk old)
+    → Stays old new
+stays_there text there old new count ran clean has =
+    let same : HasCleanDisk new → new.now ≡ old.now = λ c. let r = ran c in
+    (runs_as text [] old new desk_schema (has (clean c) r.shown.was_open) Nothing there.is
+    there.plain count r.runs).0.0.now_is in
+    (λ c o. ap (λ (d : Database). d.schema) (same c) ∙ has (clean c) (ran c).shown.was_open, same)
+
+pub stays_on : (a b c : State) → (HasCleanDisk c → HasCleanDisk b) → Stays a b → Stays b c
+    → Stays a c
+stays_on a b c clean one two has =
+    let first = one has in
+    let last = two first.0 in
+    (last.0, λ d. last.1 d ∙ first.1 (clean d))

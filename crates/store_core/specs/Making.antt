@@ -2,14 +2,18 @@
 use Rattle.std.specs.Prelude.{◌≡◌, ◌≢◌, ℕ, pos, IfErr, IfOk, List, [], ◌∷◌, IsTrue}
 use Rattle.std.specs.Prelude.{Err, OnErr, OnOk, Result, true}
 use Rattle.std.specs.List.{AllByRecursion}
-use Rattle.sqlite.specs.Order.{Row}
+use Rattle.sqlite.specs.Order.{Row, column}
 use Rattle.sqlite.specs.Schema.{Schema}
 use Rattle.sqlite.specs.State.{State, HasCleanDisk}
 use Rattle.sqlite.specs.Tree.{Trees}
 use Rattle.sqlite.specs.declared.types.Value.TheVariants.{Int}
+use Rattle.sqlite_rules.specs.Lists.{Has}
 use Rattle.desk_core.specs.Desk.{empty_desk}
 use Rattle.store_core.specs.Contents.{Contents, no_contents}
-use Rattle.store_core.specs.Stands.{Stand, StandsFor, Tables, Within}
+use Rattle.store_core.specs.Picked.{shows}
+use Rattle.store_core.specs.Queries.{version_shown}
+use Rattle.store_core.specs.Spelling.{count_value}
+use Rattle.store_core.specs.Stands.{HasTables, Stand, StandsFor, Tables, Within}
 use Rattle.store_core.specs.Tables.{no_schema}
 use Rattle.store_core.specs.declared.fault.StoreFault.{StoreFault}
 use Rattle.store_core.specs.declared.fault.StoreFault.TheVariants.{Refused, WrongVersion}
@@ -52,6 +56,21 @@ abbrev pub WrongInside : {X : Type 0} → State → State → Result X StoreFaul
 WrongInside old new result =
     (now was : Contents) → Within now was old → HasCleanDisk new
     → IfErr result (λ e. e ≡ WrongVersion → now.version ≢ 1)
+
+-- tables that are there stay as they are
+abbrev pub Stays : State → State → Type 0
+Stays old new = HasTables old → HasTables new × (HasCleanDisk new → new.now ≡ old.now)
+
+-- the number is one that a row of meta shows
+abbrev pub IsOfMeta : State → ℕ → Type 0
+IsOfMeta s n =
+    (r : Row) × Has (s.now.trees 0) r × (column (shows version_shown [] r) 0 ≡ count_value n)
+
+-- a version is told to be wrong only where a row of meta shows another than the present one
+abbrev pub BlamesMeta : {X : Type 0} → State → State → Result X StoreFault → Type 0
+BlamesMeta old new result =
+    HasTables old → HasCleanDisk new
+    → IfErr result (λ e. e ≡ WrongVersion → (n : ℕ) × IsOfMeta old n × (n ≢ 1))
 
 -- ---- of a whole call
 

@@ -1,12 +1,13 @@
 //! Making the tables, in a transaction.
 ghost use Rattle.std.specs.Prelude.{◌≡◌, ◌≢◌, [], false, IfErr, IfOk, None, OnErr};
-ghost use Rattle.std.specs.Prelude.{OnOk, Some};
+ghost use Rattle.std.specs.Prelude.{IfSome, OnOk, Some};
 ghost use Rattle.sqlite.specs.Held.{state};
 ghost use Rattle.sqlite.specs.State.{HasCleanDisk};
-ghost use Rattle.store_core.specs.Calls.{Leaves, Makes, WasClean};
+ghost use Rattle.store_core.specs.Calls.{Leaves, Makes, ShowsRowsOf, WasClean};
 ghost use Rattle.store_core.specs.Contents.{Contents, no_contents};
 ghost use Rattle.store_core.specs.Making.{Fresh, Inside, IsBlank, Made, ShowsVersion, WasBlank};
-ghost use Rattle.store_core.specs.Making.{NeedsVersion, WrongInside};
+ghost use Rattle.store_core.specs.Making.{BlamesMeta, IsOfMeta, NeedsVersion, Stays, WrongInside};
+ghost use Rattle.store_core.specs.Queries.{version_shown};
 ghost use Rattle.store_core.specs.Stands.{HasTables, KeepsBase, Stand, Within};
 ghost use Rattle.store_core.specs.Tables.{desk_schema, no_schema, request_schema};
 ghost use Rattle.store_core.specs.declared.fault.StoreFault.{StoreFault};
@@ -25,6 +26,8 @@ fn make_first<S: Alter>(tx: &mut Transaction<'_, S>) -> Result<(), StoreFault>
         (state S.Store tx.old.conn.now) (state S.Store tx.new.conn.now) result }
     ensures keeps { KeepsBase (state S.Store tx.old.conn.now) (state S.Store tx.new.conn.now) }
     ensures honest { WasClean (state S.Store tx.old.conn.now) (state S.Store tx.new.conn.now) }
+    ensures stays { OnOk result
+        (Stays (state S.Store tx.old.conn.now) (state S.Store tx.new.conn.now)) }
     ensures fault { IfErr result (λ e. e ≡ StoreFault.Refused) }
 {
     let _ = run(
@@ -59,6 +62,8 @@ fn make_last<S: Alter>(tx: &mut Transaction<'_, S>) -> Result<(), StoreFault>
         (state S.Store tx.old.conn.now) (state S.Store tx.new.conn.now) result }
     ensures keeps { KeepsBase (state S.Store tx.old.conn.now) (state S.Store tx.new.conn.now) }
     ensures honest { WasClean (state S.Store tx.old.conn.now) (state S.Store tx.new.conn.now) }
+    ensures stays { OnOk result
+        (Stays (state S.Store tx.old.conn.now) (state S.Store tx.new.conn.now)) }
     ensures fault { IfErr result (λ e. e ≡ StoreFault.Refused) }
 {
     let _ = run(
@@ -95,6 +100,8 @@ fn make_tables<S: Alter>(tx: &mut Transaction<'_, S>) -> Result<(), StoreFault>
         (state S.Store tx.old.conn.now) (state S.Store tx.new.conn.now) result }
     ensures keeps { KeepsBase (state S.Store tx.old.conn.now) (state S.Store tx.new.conn.now) }
     ensures honest { WasClean (state S.Store tx.old.conn.now) (state S.Store tx.new.conn.now) }
+    ensures stays { OnOk result
+        (Stays (state S.Store tx.old.conn.now) (state S.Store tx.new.conn.now)) }
     ensures fault { IfErr result (λ e. e ≡ StoreFault.Refused) }
 {
     make_first(tx)?;
@@ -115,6 +122,8 @@ fn version_rows<S: Alter>(tx: &mut Transaction<'_, S>) -> Result<Vec<Row>, Store
     ensures keeps { HasTables (state S.Store tx.old.conn.now) →
         KeepsBase (state S.Store tx.old.conn.now) (state S.Store tx.new.conn.now) }
     ensures honest { WasClean (state S.Store tx.old.conn.now) (state S.Store tx.new.conn.now) }
+    ensures of_table { ShowsRowsOf 0 version_shown (λ rows. rows.items)
+        (state S.Store tx.old.conn.now) (state S.Store tx.new.conn.now) result }
     ensures fault { IfErr result (λ e. e ≡ StoreFault.Refused) }
 {
     match tx.query_all("SELECT version FROM meta", &[]) {
@@ -137,6 +146,9 @@ fn read_version<S: Alter>(tx: &mut Transaction<'_, S>) -> Result<Option<u32>, St
     ensures keeps { HasTables (state S.Store tx.old.conn.now) →
         KeepsBase (state S.Store tx.old.conn.now) (state S.Store tx.new.conn.now) }
     ensures honest { WasClean (state S.Store tx.old.conn.now) (state S.Store tx.new.conn.now) }
+    ensures of_meta { HasTables (state S.Store tx.old.conn.now) →
+        HasCleanDisk (state S.Store tx.new.conn.now) →
+        IfOk result (λ v. IfSome v (IsOfMeta (state S.Store tx.old.conn.now))) }
     ensures fault { IfErr result (λ e. e ≢ StoreFault.WrongVersion) }
 {
     let rows = version_rows(tx)?;
@@ -160,6 +172,8 @@ fn fill_meta<S: Alter>(tx: &mut Transaction<'_, S>) -> Result<(), StoreFault>
     ensures keeps { HasTables (state S.Store tx.old.conn.now) →
         KeepsBase (state S.Store tx.old.conn.now) (state S.Store tx.new.conn.now) }
     ensures honest { WasClean (state S.Store tx.old.conn.now) (state S.Store tx.new.conn.now) }
+    ensures blames { BlamesMeta
+        (state S.Store tx.old.conn.now) (state S.Store tx.new.conn.now) result }
 {
     match read_version(tx)? {
         None => {
@@ -190,6 +204,8 @@ fn make_all<S: Alter>(tx: &mut Transaction<'_, S>) -> Result<(), StoreFault>
     ensures keeps { (now was : Contents) → Within now was (state S.Store tx.old.conn.now) →
         KeepsBase (state S.Store tx.old.conn.now) (state S.Store tx.new.conn.now) }
     ensures honest { WasClean (state S.Store tx.old.conn.now) (state S.Store tx.new.conn.now) }
+    ensures blames { BlamesMeta
+        (state S.Store tx.old.conn.now) (state S.Store tx.new.conn.now) result }
 {
     make_tables(tx)?;
     fill_meta(tx)
@@ -229,6 +245,7 @@ pub(crate) fn make_schema<S: Alter>(conn: &mut Connection<S>) -> Result<(), Stor
         IfErr result (λ e. e ≢ StoreFault.WrongVersion) }
     ensures kept { Leaves (state S.Store conn.old) (state S.Store conn.new) }
     ensures version { NeedsVersion (state S.Store conn.old) (state S.Store conn.new) result }
+    ensures blames { BlamesMeta (state S.Store conn.old) (state S.Store conn.new) result }
 {
     let mut tx = conn.transaction();
     make_all(&mut tx)?;

@@ -2,7 +2,7 @@
 ghost use Rattle.std.specs.Prelude.{◌≡◌, false, IfOk};
 ghost use Rattle.sqlite.specs.Steps.{over_memory};
 ghost use Rattle.store_core.specs.Calls.{Answers, Leaves};
-ghost use Rattle.store_core.specs.Making.{IsBlank, MakesDesk, NeedsVersion, RefusesBlank};
+ghost use Rattle.store_core.specs.Making.{BlamesMeta, IsBlank, MakesDesk, NeedsVersion, RefusesBlank};
 ghost use Rattle.store_core.specs.Seen.{connection_of, state_of};
 
 use crate::fault::StoreFault;
@@ -42,6 +42,8 @@ impl<S: Alter> Store<S> {
         ensures made { MakesDesk (state_of S.Store self.old) (state_of S.Store self.new) result }
         ensures kept { Leaves (state_of S.Store self.old) (state_of S.Store self.new) }
         ensures version { NeedsVersion
+            (state_of S.Store self.old) (state_of S.Store self.new) result }
+        ensures blames { BlamesMeta
             (state_of S.Store self.old) (state_of S.Store self.new) result }
     {
         make_schema(&mut self.conn)

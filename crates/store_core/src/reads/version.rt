@@ -1,5 +1,9 @@
 //! The version that the tables hold.
-ghost use Rattle.std.specs.Prelude.{◌≡◌, ◌≢◌, ℕ, [], false, IfErr, IfOk, None, Some};
+ghost use Rattle.std.specs.Prelude.{◌≡◌, ◌≢◌, ℕ, [], false, IfErr, IfOk, IfSome, None};
+ghost use Rattle.std.specs.Prelude.{Some};
+ghost use Rattle.sqlite.specs.Order.{column};
+ghost use Rattle.sqlite_rules.specs.Lists.{Has};
+ghost use Rattle.store_core.specs.Spelling.{count_value};
 ghost use Rattle.sqlite.specs.Held.{state};
 ghost use Rattle.store_core.specs.Calls.{Answers, Leaves};
 ghost use Rattle.store_core.specs.Making.{RefusesBlank, ShowsVersion};
@@ -13,6 +17,8 @@ use sqlite::{Alter, Connection, Row};
 pub(crate) fn version_in(rows: &[Row]) -> Result<Option<u32>, StoreFault>
     ensures none { rows.now ≡ [] → IfOk result (λ v. v ≡ None) }
     ensures one { (n : ℕ) → ShowsVersion n rows.now → IfOk result (λ v. v ≡ Some n) }
+    ensures shown { IfOk result (λ v. IfSome v (λ n.
+        (r : _) × Has rows.now r × (column r 0 ≡ count_value n))) }
     ensures fault { IfErr result (λ e. e ≢ StoreFault.WrongVersion) }
 {
     match rows {

@@ -1,7 +1,8 @@
 use Rattle.std.proofs.Common.{[]}
 use Rattle.sqlite.specs.Held.{state}
-use Rattle.store_core.specs.Queries.{version_text}
+use Rattle.store_core.specs.Queries.{version_shown, version_text}
 use Rattle.store_core.specs.Tables.{desk_schema}
+use Rattle.store_core.proofs.ReadingLemmas.{table_rows}
 use Rattle.store_core.proofs.StandLemmas.{failed_keeps, same_made, same_within, shown_keeps}
 use Rattle.store_core.proofs.StandLemmas.{shown_open, shown_same, was_clean}
 use Rattle.store_core.proofs.Statements.{version_is}
@@ -55,3 +56,10 @@ returns-in-Err-clause-keeps g c has =
     failed_keeps version_text [] (state g.S.Store c.args.tx.now.conn.now)
     (state g.S.Store c.query_all.new.self.conn.now) c.in-Err.field-0 version_is.plain
     (was_clean _ _ _ c.query_all.ensures.survives) has c.in-Err.ensures.err
+
+pub returns-in-Ok-clause-of_table : goal.returns-in-Ok-clause-of_table
+returns-in-Ok-clause-of_table g c has clean =
+    table_rows version_text [] 0 [] version_shown [] version_is
+    (state g.S.Store c.args.tx.now.conn.now) (state g.S.Store c.query_all.new.self.conn.now)
+    (was_clean _ _ _ c.query_all.ensures.survives) has clean c.in-Ok.rows.items
+    (c.in-Ok.ensures.ok clean)
