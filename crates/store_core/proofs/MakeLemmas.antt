@@ -1,5 +1,5 @@
 -- What CREATE TABLE makes.
-use Rattle.std.proofs.Common.{◌≡◌, ℕ, false, List, [], ◌∷◌, ◌++◌, None, Ok, sym, ap, subst, ◌∙◌}
+use Rattle.std.proofs.Common.{◌≡◌, ℕ, true, false, List, [], ◌∷◌, ◌++◌, None, Ok, sym, ap, subst, ◌∙◌}
 use Rattle.std.specs.List.{AllByRecursion}
 use Rattle.sqlite.specs.Table.{Table}
 use Rattle.sqlite.specs.Schema.{Schema}
@@ -8,14 +8,21 @@ use Rattle.sqlite.specs.Command.TheVariants.{CreateTable, Nothing}
 use Rattle.sqlite.specs.Compile.{table_defined_by}
 use Rattle.sqlite.specs.Does.{Tally, lacks_sequence}
 use Rattle.sqlite.specs.Effect.{Database}
+use Rattle.sqlite.specs.Held.{Held, state}
+use Rattle.sqlite.specs.Order.{Row, column}
+use Rattle.sqlite.specs.Store.{Ghosts}
+use Rattle.sqlite_rules.specs.Lists.{Has}
 use Rattle.sqlite.specs.State.{State, HasCleanDisk, Writes, Executes}
 use Rattle.sqlite.specs.Listing.{understood}
 use Rattle.sqlite.proofs.Callers.{IsPlain, command_of, statement_of, runs_as}
 use Rattle.sqlite_trees.proofs.ListLemmas.{all_both, all-append}
 use Rattle.store_core.specs.Tables.{desk_schema}
 use Rattle.store_core.specs.Contents.{Contents}
-use Rattle.store_core.specs.Stands.{Tables, Within, Ran}
-use Rattle.store_core.specs.Making.{AreEmpty, Made, Stays}
+use Rattle.store_core.specs.Stands.{HasTables, Tables, Within, Ran}
+use Rattle.store_core.specs.Making.{AreEmpty, IsOfMeta, Made, Stays}
+use Rattle.store_core.specs.Picked.{shows}
+use Rattle.store_core.specs.Queries.{version_shown}
+use Rattle.store_core.specs.Spelling.{count_value}
 use Rattle.store_core.proofs.Meaning.{Changes}
 use Rattle.store_core.proofs.WriteLemmas.{went, same_value}
 
@@ -97,3 +104,15 @@ stays_on a b c clean one two has =
     let first = one has in
     let last = two first.0 in
     (last.0, λ d. last.1 d ∙ first.1 (clean d))
+
+pub of_meta_still : (old new : State) (n : ℕ) → new.now ≡ old.now → IsOfMeta new n → IsOfMeta old n
+of_meta_still old new n same h = subst (λ (d : Database). (r : Row) × Has (d.trees 0) r
+    × (column (shows version_shown [] r) 0 ≡ count_value n)) same h
+
+module _ {S : Type 0} (g : Ghosts S) (old tx : Held S) (is : tx ≡ record old { in_transaction = true })
+  where
+    pub begins_there : HasTables (state g old) → HasTables (state g tx)
+    begins_there has = subst (λ h. HasTables (state g h)) (sym is) has
+
+    pub begins_of_meta : (n : ℕ) → IsOfMeta (state g tx) n → IsOfMeta (state g old) n
+    begins_of_meta n h = subst (λ h. IsOfMeta (state g h) n) is h

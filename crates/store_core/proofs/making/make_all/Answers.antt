@@ -1,5 +1,7 @@
 use Rattle.std.proofs.Common.{◌∙◌}
 use Rattle.sqlite.specs.Held.{state}
+use Rattle.store_core.proofs.MakeLemmas.{of_meta_still}
+use Rattle.store_core.proofs.ReadingLemmas.{if_err}
 use Rattle.store_core.proofs.StandLemmas.{desk_is_there}
 use Rattle.store_core.proofs.making.make_all.Goals as goal
 
@@ -14,3 +16,13 @@ returns-clause-keeps g c now was within clean live =
     let last = c.fill_meta.ensures.keeps (desk_is_there now was middle there) clean live in
     let first = c.make_tables.ensures.keeps last.0 last.1 in
     (first.0, first.1, last.2 ∙ first.2)
+
+pub returns-clause-blames : goal.returns-clause-blames
+returns-clause-blames g c has clean =
+    let old = state g.S.Store c.args.tx.now.conn.now in
+    let middle = state g.S.Store c.make_tables.new.tx.conn.now in
+    let stays = c.in_ok-make_tables.ensures.stays has in
+    if_err c.fill_meta.result
+    (λ e why wrong. let it = why wrong in
+    (it.0, of_meta_still old middle it.0 (stays.1 (c.fill_meta.ensures.honest clean)) it.1, it.2))
+    (c.fill_meta.ensures.blames stays.0 clean)
