@@ -1,8 +1,10 @@
 //! A store is opened, and its tables are made.
 ghost use Rattle.std.specs.Prelude.{◌≡◌, false, IfOk};
 ghost use Rattle.sqlite.specs.Steps.{over_memory};
-ghost use Rattle.store_core.specs.Calls.{Answers, Leaves};
-ghost use Rattle.store_core.specs.Making.{BlamesMeta, IsBlank, MakesDesk, NeedsVersion, RefusesBlank};
+ghost use Rattle.store_core.specs.Calls.{Answers, Leaves, MismatchesIn};
+ghost use Rattle.store_core.specs.Making.{BlamesMeta, IsBlank, IsVersionRow, MakesDesk};
+ghost use Rattle.store_core.specs.Making.{NeedsVersion, RefusesBlank};
+ghost use Rattle.store_core.specs.Queries.{version_shown};
 ghost use Rattle.store_core.specs.Seen.{connection_of, state_of};
 
 use crate::fault::StoreFault;
@@ -55,6 +57,8 @@ impl<S: Alter> Store<S> {
         ensures told { Answers (λ c n. n ≡ c.version)
             (state_of S.Store self.old) (state_of S.Store self.new) result }
         ensures blank { RefusesBlank
+            (state_of S.Store self.old) (state_of S.Store self.new) result }
+        ensures mismatch { MismatchesIn 0 version_shown IsVersionRow
             (state_of S.Store self.old) (state_of S.Store self.new) result }
         ensures kept { Leaves (state_of S.Store self.old) (state_of S.Store self.new) }
     {

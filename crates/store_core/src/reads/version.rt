@@ -5,8 +5,9 @@ ghost use Rattle.sqlite.specs.Order.{column};
 ghost use Rattle.sqlite_rules.specs.Lists.{Has};
 ghost use Rattle.store_core.specs.Spelling.{count_value};
 ghost use Rattle.sqlite.specs.Held.{state};
-ghost use Rattle.store_core.specs.Calls.{Answers, Leaves};
-ghost use Rattle.store_core.specs.Making.{RefusesBlank, ShowsVersion};
+ghost use Rattle.store_core.specs.Calls.{Answers, Leaves, MismatchesIn, ShowsRowsOf};
+ghost use Rattle.store_core.specs.Making.{IsVersionRow, RefusesBlank, ShowsVersion};
+ghost use Rattle.store_core.specs.Queries.{version_shown};
 ghost use Rattle.store_core.specs.declared.fault.StoreFault.{StoreFault};
 
 use crate::columns::number_at;
@@ -19,6 +20,8 @@ pub(crate) fn version_in(rows: &[Row]) -> Result<Option<u32>, StoreFault>
     ensures one { (n : ℕ) → ShowsVersion n rows.now → IfOk result (λ v. v ≡ Some n) }
     ensures shown { IfOk result (λ v. IfSome v (λ n.
         (r : _) × Has rows.now r × (column r 0 ≡ count_value n))) }
+    ensures mismatch { IfErr result (λ e. e ≡ StoreFault.Mismatch →
+        (r : _) × Has rows.now r × ¬ IsVersionRow r) }
     ensures fault { IfErr result (λ e. e ≢ StoreFault.WrongVersion) }
 {
     match rows {
@@ -40,6 +43,9 @@ fn rows_version<S: Alter>(conn: &mut Connection<S>) -> Result<Vec<Row>, StoreFau
         (state S.Store conn.old) (state S.Store conn.new) result }
     ensures kept { Leaves (state S.Store conn.old) (state S.Store conn.new) }
     ensures blank { RefusesBlank (state S.Store conn.old) (state S.Store conn.new) result }
+    ensures of_table { ShowsRowsOf 0 version_shown (λ rows. rows.items)
+        (state S.Store conn.old) (state S.Store conn.new) result }
+    ensures fault { IfErr result (λ e. e ≡ StoreFault.Refused) }
 {
     match conn.query_all("SELECT version FROM meta", &[]) {
         Ok(rows) => Ok(rows),
@@ -56,6 +62,8 @@ pub(crate) fn version<S: Alter>(conn: &mut Connection<S>) -> Result<u32, StoreFa
         (state S.Store conn.old) (state S.Store conn.new) result }
     ensures kept { Leaves (state S.Store conn.old) (state S.Store conn.new) }
     ensures blank { RefusesBlank (state S.Store conn.old) (state S.Store conn.new) result }
+    ensures mismatch { MismatchesIn 0 version_shown IsVersionRow
+        (state S.Store conn.old) (state S.Store conn.new) result }
 {
     let rows = rows_version(conn)?;
     match version_in(rows.as_slice())? {

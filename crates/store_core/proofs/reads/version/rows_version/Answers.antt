@@ -1,8 +1,9 @@
 use Rattle.std.proofs.Common.{[], rules}
 use Rattle.sqlite.specs.Held.{state}
 use Rattle.sqlite.specs.State.{HasCleanDisk}
-use Rattle.store_core.specs.Queries.{version_text}
+use Rattle.store_core.specs.Queries.{version_shown, version_text}
 use Rattle.store_core.proofs.BlankLemmas.{fails_blank, shows_nothing}
+use Rattle.store_core.proofs.ReadingLemmas.{table_rows}
 use Rattle.store_core.proofs.StandLemmas.{failed_stands, shown_stands, shown_tables, was_clean}
 use Rattle.store_core.proofs.Statements.{version_is}
 use Rattle.store_core.proofs.VersionLemmas.{shows_version}
@@ -44,3 +45,9 @@ returns-in-Err-clause-blank g c blank = (
       c.in-Err.field-0 (was_clean _ _ _ c.query_all.ensures.survives) c.in-Err.ensures.err blank,
   search rules,
 )
+
+pub returns-in-Ok-clause-of_table : goal.returns-in-Ok-clause-of_table
+returns-in-Ok-clause-of_table g c has clean =
+    table_rows version_text [] 0 [] version_shown [] version_is (state g.S.Store c.args.conn.now)
+    (state g.S.Store c.query_all.new.self) (was_clean _ _ _ c.query_all.ensures.survives) has clean
+    c.in-Ok.rows.items (c.in-Ok.ensures.ok clean)
