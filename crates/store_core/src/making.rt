@@ -3,10 +3,11 @@ ghost use Rattle.std.specs.Prelude.{◌≡◌, ◌≢◌, [], false, IfErr, IfOk
 ghost use Rattle.std.specs.Prelude.{IfSome, OnOk, Some};
 ghost use Rattle.sqlite.specs.Held.{state};
 ghost use Rattle.sqlite.specs.State.{HasCleanDisk};
-ghost use Rattle.store_core.specs.Calls.{Leaves, Makes, ShowsRowsOf, WasClean};
+ghost use Rattle.store_core.specs.Calls.{Leaves, Makes, MismatchesIn, ShowsRowsOf, WasClean};
 ghost use Rattle.store_core.specs.Contents.{Contents, no_contents};
 ghost use Rattle.store_core.specs.Making.{Fresh, Inside, IsBlank, Made, ShowsVersion, WasBlank};
-ghost use Rattle.store_core.specs.Making.{BlamesMeta, IsOfMeta, NeedsVersion, Stays, WrongInside};
+ghost use Rattle.store_core.specs.Making.{BlamesMeta, IsOfMeta, IsVersionRow, NeedsVersion};
+ghost use Rattle.store_core.specs.Making.{Stays, WrongInside};
 ghost use Rattle.store_core.specs.Queries.{version_shown};
 ghost use Rattle.store_core.specs.Stands.{HasTables, KeepsBase, Stand, Within};
 ghost use Rattle.store_core.specs.Tables.{desk_schema, no_schema, request_schema};
@@ -146,6 +147,8 @@ fn read_version<S: Alter>(tx: &mut Transaction<'_, S>) -> Result<Option<u32>, St
     ensures keeps { HasTables (state S.Store tx.old.conn.now) →
         KeepsBase (state S.Store tx.old.conn.now) (state S.Store tx.new.conn.now) }
     ensures honest { WasClean (state S.Store tx.old.conn.now) (state S.Store tx.new.conn.now) }
+    ensures mismatch { MismatchesIn 0 version_shown IsVersionRow
+        (state S.Store tx.old.conn.now) (state S.Store tx.new.conn.now) result }
     ensures of_meta { HasTables (state S.Store tx.old.conn.now) →
         HasCleanDisk (state S.Store tx.new.conn.now) →
         IfOk result (λ v. IfSome v (IsOfMeta (state S.Store tx.old.conn.now))) }
@@ -172,6 +175,8 @@ fn fill_meta<S: Alter>(tx: &mut Transaction<'_, S>) -> Result<(), StoreFault>
     ensures keeps { HasTables (state S.Store tx.old.conn.now) →
         KeepsBase (state S.Store tx.old.conn.now) (state S.Store tx.new.conn.now) }
     ensures honest { WasClean (state S.Store tx.old.conn.now) (state S.Store tx.new.conn.now) }
+    ensures mismatch { MismatchesIn 0 version_shown IsVersionRow
+        (state S.Store tx.old.conn.now) (state S.Store tx.new.conn.now) result }
     ensures blames { BlamesMeta
         (state S.Store tx.old.conn.now) (state S.Store tx.new.conn.now) result }
 {
@@ -204,6 +209,8 @@ fn make_all<S: Alter>(tx: &mut Transaction<'_, S>) -> Result<(), StoreFault>
     ensures keeps { (now was : Contents) → Within now was (state S.Store tx.old.conn.now) →
         KeepsBase (state S.Store tx.old.conn.now) (state S.Store tx.new.conn.now) }
     ensures honest { WasClean (state S.Store tx.old.conn.now) (state S.Store tx.new.conn.now) }
+    ensures mismatch { MismatchesIn 0 version_shown IsVersionRow
+        (state S.Store tx.old.conn.now) (state S.Store tx.new.conn.now) result }
     ensures blames { BlamesMeta
         (state S.Store tx.old.conn.now) (state S.Store tx.new.conn.now) result }
 {
@@ -246,6 +253,8 @@ pub(crate) fn make_schema<S: Alter>(conn: &mut Connection<S>) -> Result<(), Stor
     ensures kept { Leaves (state S.Store conn.old) (state S.Store conn.new) }
     ensures version { NeedsVersion (state S.Store conn.old) (state S.Store conn.new) result }
     ensures blames { BlamesMeta (state S.Store conn.old) (state S.Store conn.new) result }
+    ensures mismatch { MismatchesIn 0 version_shown IsVersionRow
+        (state S.Store conn.old) (state S.Store conn.new) result }
 {
     let mut tx = conn.transaction();
     make_all(&mut tx)?;

@@ -47,6 +47,8 @@ impl<S: Alter> Store<S> {
             (state_of S.Store self.old) (state_of S.Store self.new) result }
         ensures blames { BlamesMeta
             (state_of S.Store self.old) (state_of S.Store self.new) result }
+        ensures mismatch { MismatchesIn 0 version_shown IsVersionRow
+            (state_of S.Store self.old) (state_of S.Store self.new) result }
     {
         make_schema(&mut self.conn)
     }

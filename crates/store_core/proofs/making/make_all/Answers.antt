@@ -1,5 +1,7 @@
-use Rattle.std.proofs.Common.{◌∙◌}
+use Rattle.std.proofs.Common.{◌∙◌, subst}
+use Rattle.sqlite.specs.Effect.{Database}
 use Rattle.sqlite.specs.Held.{state}
+use Rattle.sqlite_rules.specs.Lists.{Has}
 use Rattle.store_core.proofs.MakeLemmas.{of_meta_still}
 use Rattle.store_core.proofs.ReadingLemmas.{if_err}
 use Rattle.store_core.proofs.StandLemmas.{desk_is_there}
@@ -26,3 +28,12 @@ returns-clause-blames g c has clean =
     (λ e why wrong. let it = why wrong in
     (it.0, of_meta_still old middle it.0 (stays.1 (c.fill_meta.ensures.honest clean)) it.1, it.2))
     (c.fill_meta.ensures.blames stays.0 clean)
+
+pub returns-clause-mismatch : goal.returns-clause-mismatch
+returns-clause-mismatch g c =
+    if_err c.fill_meta.result (λ e why wrong has clean.
+    let stays = c.in_ok-make_tables.ensures.stays has in
+    let it = why wrong stays.0 clean in
+    (it.0, subst (λ (d : Database). Has (d.trees 0) it.0)
+    (stays.1 (c.fill_meta.ensures.honest clean)) it.1, it.2))
+    c.fill_meta.ensures.mismatch
