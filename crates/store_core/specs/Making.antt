@@ -97,3 +97,7 @@ NeedsVersion old new result =
 abbrev pub RefusesBlank : {X : Type 0} → State → State → Result X StoreFault → Type 0
 RefusesBlank old new result =
     IsBlank old → IsBlank new × (HasCleanDisk new → result ≡ Err Refused)
+
+-- both of these of the version
+abbrev pub TellsVersion : {X : Type 0} → State → State → Result X StoreFault → Type 0
+TellsVersion old new result = NeedsVersion old new result × BlamesMeta old new result

@@ -2,8 +2,8 @@
 ghost use Rattle.std.specs.Prelude.{◌≡◌, false, IfOk};
 ghost use Rattle.sqlite.specs.Steps.{over_memory};
 ghost use Rattle.store_core.specs.Calls.{Answers, Leaves, MismatchesIn};
-ghost use Rattle.store_core.specs.Making.{BlamesMeta, IsBlank, IsVersionRow, MakesDesk};
-ghost use Rattle.store_core.specs.Making.{NeedsVersion, RefusesBlank};
+ghost use Rattle.store_core.specs.Making.{IsBlank, IsVersionRow, MakesDesk, RefusesBlank};
+ghost use Rattle.store_core.specs.Making.{TellsVersion};
 ghost use Rattle.store_core.specs.Queries.{version_shown};
 ghost use Rattle.store_core.specs.Seen.{connection_of, state_of};
 
@@ -43,9 +43,7 @@ impl<S: Alter> Store<S> {
     pub fn create_schema(&mut self) -> Result<(), StoreFault>
         ensures made { MakesDesk (state_of S.Store self.old) (state_of S.Store self.new) result }
         ensures kept { Leaves (state_of S.Store self.old) (state_of S.Store self.new) }
-        ensures version { NeedsVersion
-            (state_of S.Store self.old) (state_of S.Store self.new) result }
-        ensures blames { BlamesMeta
+        ensures version { TellsVersion
             (state_of S.Store self.old) (state_of S.Store self.new) result }
         ensures mismatch { MismatchesIn 0 version_shown IsVersionRow
             (state_of S.Store self.old) (state_of S.Store self.new) result }

@@ -33,7 +33,10 @@ pub returns-clause-mismatch : goal.returns-clause-mismatch
 returns-clause-mismatch g c =
     if_err c.fill_meta.result (λ e why wrong has clean.
     let stays = c.in_ok-make_tables.ensures.stays has in
-    let it = why wrong stays.0 clean in
-    (it.0, subst (λ (d : Database). Has (d.trees 0) it.0)
-    (stays.1 (c.fill_meta.ensures.honest clean)) it.1, it.2))
+    let it = why wrong stays.0 clean in (
+      it.0,
+      subst (λ (d : Database). Has (d.trees 0) it.0)
+          (stays.1 (c.fill_meta.ensures.honest clean)) it.1,
+      it.2,
+    ))
     c.fill_meta.ensures.mismatch
