@@ -1,5 +1,6 @@
 -- What CREATE TABLE makes.
-use Rattle.std.proofs.Common.{◌≡◌, ℕ, true, false, List, [], ◌∷◌, ◌++◌, None, Ok, sym, ap, subst, ◌∙◌}
+use Rattle.std.proofs.Common.{◌≡◌, ℕ, true, false, List, [], ◌∷◌, ◌++◌, None}
+use Rattle.std.proofs.Common.{Ok, sym, ap, subst, ◌∙◌}
 use Rattle.std.specs.List.{AllByRecursion}
 use Rattle.sqlite.specs.Table.{Table}
 use Rattle.sqlite.specs.Schema.{Schema}
@@ -109,8 +110,8 @@ pub of_meta_still : (old new : State) (n : ℕ) → new.now ≡ old.now → IsOf
 of_meta_still old new n same h = subst (λ (d : Database). (r : Row) × Has (d.trees 0) r
     × (column (shows version_shown [] r) 0 ≡ count_value n)) same h
 
-module _ {S : Type 0} (g : Ghosts S) (old tx : Held S) (is : tx ≡ record old { in_transaction = true })
-  where
+module _ {S : Type 0} (g : Ghosts S) (old tx : Held S)
+    (is : tx ≡ record old { in_transaction = true }) where
     pub begins_there : HasTables (state g old) → HasTables (state g tx)
     begins_there has = subst (λ h. HasTables (state g h)) (sym is) has
 
