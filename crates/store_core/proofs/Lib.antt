@@ -1,13 +1,16 @@
 pub mod Alike
 pub mod BackLemmas
+pub mod BlankLemmas
 pub mod ChangeLemmas
 pub mod FactsLemmas
 pub mod FactsLemmasInOrder
 pub mod FactsLemmasOfDesk
 pub mod FoundLemmas
+pub mod HistoryLemmas
 pub mod KeptLemmas
 pub mod LastLemmas
 pub mod MakeLemmas
+pub mod MakeStatements
 pub mod Meaning
 pub mod OrderLemmas
 pub mod PickedLemmas
@@ -15,6 +18,7 @@ pub mod ReadLemmas
 pub mod ReadingLemmas
 pub mod Revised
 pub mod RoleRows
+pub mod RiseLemmas
 pub mod SortedLemmas
 pub mod StandLemmas
 pub mod StandsAlike

@@ -15,13 +15,13 @@ use Rattle.desk_core.specs.declared.rows.RequestRow.{RequestRow}
 use Rattle.desk_core.specs.declared.rows.Entry.{Entry}
 use Rattle.desk_core.specs.declared.rows.LinkKind.{LinkKind}
 use Rattle.store_core.specs.Kept.{filed, numbered_as, value_of, itself}
-use Rattle.store_core.specs.Tables.{desk_schema}
 use Rattle.store_core.specs.Queries.{reads, queues_text, queue_order, entries_text, entries_of_text}
 use Rattle.store_core.specs.Queries.{entry_order, entry_shown_terms, id_order, last_id_text}
 use Rattle.store_core.specs.Queries.{last_number_text, links_from_test, links_from_text, links_text}
 use Rattle.store_core.specs.Queries.{links_to_test, links_to_text, named_test, number_order}
 use Rattle.store_core.specs.Queries.{numbered_test, queue_named_text, queue_shown}
 use Rattle.store_core.specs.Queries.{request_shown_terms, request_test, request_numbered_text}
+use Rattle.store_core.specs.Queries.{filed_test, requests_of_text}
 use Rattle.store_core.specs.Queries.{requests_text, role_order, source_order, target_order}
 use Rattle.store_core.specs.Queries.{three_order, three_shown, watchers_of_text}
 use Rattle.store_core.specs.Queries.{watchers_text}
@@ -33,11 +33,12 @@ use Rattle.store_core.specs.Stands.{Stand, HasTables}
 use Rattle.store_core.specs.Spelling.{queue_columns, request_columns, request_shown}
 use Rattle.store_core.specs.Spelling.{watcher_columns, link_columns, entry_columns, count_value}
 use Rattle.store_core.specs.Selection.{is_named, is_numbered, watches, links_from, links_to}
-use Rattle.store_core.specs.Selection.{tells_of}
+use Rattle.store_core.specs.Selection.{is_filed_in, tells_of}
 use Rattle.desk_core.specs.Links.{kind_number}
 use Rattle.store_core.proofs.TestLemmas.{name_order_is, named, numbered, watched, told, from_source}
 use Rattle.store_core.proofs.TestLemmas.{to_target, order_numbers, id_order_is, number_order_is}
 use Rattle.store_core.proofs.TestLemmas.{entry_order_is, link_order_is, watcher_order_is}
+use Rattle.store_core.proofs.TestLemmas.{filed_in, filed_order_is}
 use Rattle.store_core.proofs.TestLemmas.{role_order_is, target_order_is, source_order_is}
 use Rattle.store_core.proofs.PickedLemmas.{picked_by, last_by}
 use Rattle.store_core.proofs.ReadLemmas.{shows_values, lists_values}
@@ -46,7 +47,7 @@ use Rattle.store_core.proofs.StandLemmas.{shown_tables, shown_open}
 use Rattle.store_core.proofs.Statements.{queues_is, entries_is, entries_of_is, last_id_is}
 use Rattle.store_core.proofs.Statements.{last_number_is, links_from_is, links_is, links_to_is}
 use Rattle.store_core.proofs.Statements.{queue_named_is, request_numbered_is, requests_is}
-use Rattle.store_core.proofs.Statements.{watchers_is, watchers_of_is}
+use Rattle.store_core.proofs.Statements.{requests_of_is, watchers_is, watchers_of_is}
 use Rattle.store_core.proofs.Meaning.{Selects}
 
 pub if_err : {T E : Type 0} {P Q : E → Type 0} (r : Result T E) → ((e : E) → P e → Q e) → IfErr r P
@@ -98,6 +99,18 @@ lists_requests d old new clean stand c rows h =
     (lists_values (numbered_as (λ (x : RequestRow). x.id) request_columns) itself request_shown
     3 [] request_shown_terms id_order [] d.requests (old.now.trees 3) rows (λ _. true)
     (λ k. refl) (λ k. refl) t.requests p by_id id_order_is)
+
+pub lists_requests_of : (d : Contents) (name : List ℕ) (old new : State)
+    → (HasCleanDisk new → HasCleanDisk old) → Stand d old → HasCleanDisk new → (rows : List Row)
+    → Shown requests_of_text (Words name ∷ []) old new rows
+    → Lists by_id request_shown (filter (is_filed_in name) d.requests) rows
+lists_requests_of d name old new clean stand c rows h =
+    let t = shown_tables d requests_of_text (Words name ∷ []) old new rows clean stand c h in
+    let p = picked_by requests_of_text (Words name ∷ []) old new t.schema 3 filed_test
+    request_shown_terms id_order requests_of_is rows h in
+    lists_values (numbered_as (λ (x : RequestRow). x.id) request_columns) itself request_shown
+    3 filed_test request_shown_terms id_order (Words name ∷ []) d.requests (old.now.trees 3) rows
+    (is_filed_in name) (filed_in name) (λ k. refl) t.requests p by_id (filed_order_is name)
 
 pub lists_watchers_of : (d : Contents) (id : ℕ) (old new : State)
     → (HasCleanDisk new → HasCleanDisk old) → Stand d old → HasCleanDisk new → (rows : List Row)

@@ -52,7 +52,7 @@ shown_was_open : (old new : State) (sql : List ℕ) (c : Compiled) (full : Row) 
 shown_was_open old new sql c full rows None h = h.3.0.was_open
 shown_was_open old new sql c full rows (Some what) h = h.1.shown.was_open
 
-failed_was_open : (old new : State) (sql : List ℕ) (c : Compiled) (full : Row) (e : Error)
+pub failed_was_open : (old new : State) (sql : List ℕ) (c : Compiled) (full : Row) (e : Error)
     (shown : Option Returning) → IsTrue new.is_open → FailsToShow old new sql c full e shown
     → IsTrue old.is_open
 failed_was_open old new sql c full e None o h = h.3.0.was_open

@@ -20,7 +20,8 @@ use Rattle.store_core.specs.Queries.{reads, request_shown_terms, request_test}
 use Rattle.store_core.specs.Queries.{request_numbered_text}
 use Rattle.store_core.specs.Queries.{requests_text, role_order, source_order, target_order}
 use Rattle.store_core.specs.Queries.{three_order, three_test, three_shown}
-use Rattle.store_core.specs.Queries.{watchers_of_text, watchers_text}
+use Rattle.store_core.specs.Queries.{filed_test, requests_of_text}
+use Rattle.store_core.specs.Queries.{version_query, version_text, watchers_of_text, watchers_text}
 use Rattle.sqlite.specs.Listing.{understood}
 use Rattle.store_core.proofs.Meaning.{Changes, Selects}
 
@@ -137,3 +138,13 @@ set_request_is = record { is = refl; plain = (refl, refl) }
 pub add_version_is : Changes add_version_text (Insert 0 (Values add_version_terms 3))
 unfolding understood everything
 add_version_is = record { is = refl; plain = (refl, refl) }
+
+pub version_is : Selects version_text version_query (codes "version" ∷ [])
+unfolding understood everything
+version_is = record { is = refl; plain = (refl, refl); unlisted = refl }
+
+pub requests_of_is : Selects requests_of_text (reads 3 filed_test request_shown_terms id_order)
+    (codes "id" ∷ codes "queue" ∷ codes "subject" ∷ codes "status" ∷ codes "owner" ∷ codes "level"
+    ∷ codes "created" ∷ codes "opened" ∷ codes "turn" ∷ codes "since" ∷ [])
+unfolding understood everything
+requests_of_is = record { is = refl; plain = (refl, refl); unlisted = refl }

@@ -24,14 +24,14 @@ use Rattle.desk_core.specs.declared.rows.LinkKind.{LinkKind}
 use Rattle.store_core.specs.Kept.{filed, numbered_as}
 use Rattle.store_core.specs.Picked.{passes}
 use Rattle.store_core.specs.Selection.{is_numbered, watches, is_watcher, is_link, links_from}
-use Rattle.store_core.specs.Selection.{links_to, tells_of, is_named}
+use Rattle.store_core.specs.Selection.{is_filed_in, links_to, tells_of, is_named}
 use Rattle.store_core.specs.Orders.{by_id, by_entry, by_number, by_link, by_watcher, by_role}
 use Rattle.store_core.specs.Orders.{by_target, by_source, by_name}
 use Rattle.store_core.specs.Spelling.{role_number, request_columns, watcher_columns, link_columns}
 use Rattle.store_core.specs.Spelling.{entry_columns, count_value, queue_columns}
 use Rattle.desk_core.specs.Links.{kind_number}
 use Rattle.store_core.specs.Queries.{reads, queue_shown, queue_order, named_test, numbered_test}
-use Rattle.store_core.specs.Queries.{request_test, three_test, links_from_test}
+use Rattle.store_core.specs.Queries.{filed_test, request_test, three_test, links_from_test}
 use Rattle.store_core.specs.Queries.{links_to_test, request_shown_terms, id_order}
 use Rattle.store_core.specs.Queries.{three_shown, role_order, three_order, target_order}
 use Rattle.store_core.specs.Queries.{source_order, entry_shown_terms, number_order, entry_order}
@@ -107,7 +107,21 @@ pub named : (name : List ℕ) (more : Row) (k : ℤ × QueueRow)
     → passes named_test (Words name ∷ more) (filed queue_columns k) ≡ is_named name k.1
 named name more k = and_true _ ∙ equal_texts k.1.name name
 
+pub filed_in : (name : List ℕ) (r : RequestRow) → passes filed_test (Words name ∷ [])
+    (numbered_as (λ (x : RequestRow). x.id) request_columns r) ≡ is_filed_in name r
+filed_in name r = and_true _ ∙ equal_texts r.queue name
+
 -- ---- the orders
+
+pub filed_order_is : (name : List ℕ) (a b : RequestRow)
+    → output_cmp (reads 3 filed_test request_shown_terms id_order)
+    (output (reads 3 filed_test request_shown_terms id_order)
+    ((Words name ∷ []) ∷ numbered_as (λ (x : RequestRow). x.id) request_columns a ∷ []))
+    (output (reads 3 filed_test request_shown_terms id_order)
+    ((Words name ∷ []) ∷ numbered_as (λ (x : RequestRow). x.id) request_columns b ∷ []))
+    ≡ by_id a b
+filed_order_is name a b = then-Equal (value_cmp (count_value a.id) (count_value b.id))
+    ∙ order_numbers a.id b.id
 
 pub id_order_is : (a b : RequestRow)
     → output_cmp (reads 3 [] request_shown_terms id_order)

@@ -1,17 +1,23 @@
 -- The row of the version, in tables that were made no_contents.
-use Rattle.std.proofs.Common.{◌≡◌, ℕ, pos, List, [], ◌∷◌, Ok, refl, sym, ap, subst, ◌∙◌}
-use Rattle.std.proofs.lemmas.List.Sorted.{IsPermutation-refl}
+use Rattle.std.proofs.Common.{◌≡◌, ℕ, pos, List, [], ◌∷◌, Ok, map, filter, arith, refl, sym, ap}
+use Rattle.std.proofs.Common.{subst, ◌∙◌, IsPermutation}
+use Rattle.std.proofs.lemmas.List.Sorted.{IsPermutation-refl, length_permutation}
+use Rattle.sqlite.proofs.Callers.{one_permutation}
 use Rattle.sqlite.specs.Order.{Row}
 use Rattle.sqlite.specs.Tree.{Trees, IsTable, put_row}
-use Rattle.sqlite.specs.State.{State, HasCleanDisk, Executes}
+use Rattle.sqlite.specs.State.{State, HasCleanDisk, Executes, Shown}
 use Rattle.store_core.specs.Kept.{Holds}
 use Rattle.store_core.specs.Tables.{desk_schema, meta}
-use Rattle.store_core.specs.Queries.{add_version_text, add_version_terms}
+use Rattle.store_core.specs.Queries.{add_version_text, add_version_terms, version_shown}
+use Rattle.store_core.specs.Queries.{version_text}
+use Rattle.store_core.specs.Picked.{passes, shows}
 use Rattle.store_core.specs.Stands.{Tables, Ran}
-use Rattle.store_core.specs.Making.{AreEmpty, Made, Fresh}
-use Rattle.store_core.specs.Contents.{no_contents}
+use Rattle.store_core.specs.Making.{AreEmpty, Made, Fresh, ShowsVersion}
+use Rattle.store_core.specs.Contents.{Contents, no_contents}
 use Rattle.store_core.specs.Spelling.{version_row}
-use Rattle.store_core.proofs.Statements.{add_version_is}
+use Rattle.store_core.proofs.PickedLemmas.{picked_by}
+use Rattle.store_core.proofs.StandLemmas.{shown_open}
+use Rattle.store_core.proofs.Statements.{add_version_is, version_is}
 use Rattle.store_core.proofs.ChangeLemmas.{adds, apart, cast_int, cast_null}
 use Rattle.store_core.proofs.WriteLemmas.{inserting}
 
@@ -50,3 +56,25 @@ pub fills : (old new : State) (count : ℕ) → (HasCleanDisk new
 fills old new count ran clean made c o =
     let it = ran c in let before = made (clean c) it.shown.was_open in
     (adds_version old new count before.0 before.1 it.runs, it.shown.mode)
+
+-- ---- the version that is read
+
+nothing_permuted : {X : Type 0} (xs : List X) → IsPermutation [] xs → xs ≡ []
+nothing_permuted [] h = refl
+nothing_permuted (x ∷ xs) h = absurd (omega (arith, length_permutation [] (x ∷ xs) h))
+
+pub shows_none : (old new : State) → (HasCleanDisk new → HasCleanDisk old)
+    → Made desk_schema old → HasCleanDisk new → (rows : List Row)
+    → Shown version_text [] old new rows → rows ≡ []
+shows_none old new clean made c rows h =
+    let before = made (clean c) (shown_open version_text [] old new rows h) in
+    let p = picked_by version_text [] old new before.0 0 [] version_shown [] version_is rows h in
+    p.shown ∙ ap (map (shows version_shown [])) (nothing_permuted p.picked
+    (subst (λ rs. IsPermutation (filter (passes [] []) rs) p.picked) before.1.0 p.same))
+
+pub shows_version : (c : Contents) (old new : State) → Tables c old.now → (rows : List Row)
+    → Shown version_text [] old new rows → ShowsVersion c.version rows
+shows_version c old new t rows h =
+    let p = picked_by version_text [] old new t.schema 0 [] version_shown [] version_is rows h in
+    p.shown ∙ ap (map (shows version_shown [])) (one_permutation (version_row c.version) p.picked
+    (subst (λ rs. IsPermutation (filter (passes [] []) rs) p.picked) t.meta p.same))

@@ -1,6 +1,7 @@
 -- What the tables of a desk hold: a version, and the rows of five lists, in no order that matters.
 use Rattle.std.specs.Prelude.{ℕ, List, [], ◌∷◌, filter, flat_map, map, not}
-use Rattle.desk_core.specs.Desk.{Desk, Request}
+use Rattle.std.specs.Option.{option_map_or}
+use Rattle.desk_core.specs.Desk.{Desk, request_at}
 use Rattle.desk_core.specs.Watchers.{watchers_of}
 use Rattle.desk_core.specs.declared.rows.Entry.{Entry}
 use Rattle.desk_core.specs.declared.rows.LinkRow.{LinkRow}
@@ -26,6 +27,10 @@ watchers desk = flat_map watchers_of desk.requests
 
 abbrev pub entries : Desk → List Entry
 entries desk = flat_map (λ r. r.entries) desk.requests
+
+-- the history of the request with that number, empty where there is none
+abbrev pub history_at : Desk → ℕ → List Entry
+history_at desk id = option_map_or (λ r. r.entries) (request_at desk id) []
 
 -- what tables of the present version hold of a desk
 abbrev pub contents_of : Desk → Contents

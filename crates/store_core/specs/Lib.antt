@@ -2,6 +2,7 @@ pub mod Applying
 pub mod Calls
 pub mod Contents
 pub mod Found
+pub mod Fault
 pub mod Kept
 pub mod Making
 pub mod Orders

@@ -234,3 +234,13 @@ last_of tree test column = record {
   limit = lit (Int (pos 1));
   offset = lit (Int (pos 0));
 }
+
+-- ---- the requests of a queue
+
+abbrev pub requests_of_text : List ℕ
+requests_of_text =
+    codes "SELECT id, queue, subject, status, owner, level, created, opened, turn, since FROM "
+    ++ codes "request WHERE queue = ?1 ORDER BY id"
+
+abbrev pub filed_test : List Term
+filed_test = eq (col 1 2) (col 0 0) ∷ []

@@ -8,6 +8,8 @@ mod dependencies;
 mod facts;
 pub mod fault;
 mod lists;
+mod making;
+mod opening;
 mod query;
 mod reads;
 mod standing;

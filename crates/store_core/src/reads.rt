@@ -5,3 +5,8 @@ pub(crate) mod links_by_key;
 pub(crate) mod queues;
 pub(crate) mod requests_by_key;
 pub(crate) mod watchers_by_key;
+pub(crate) mod lists_entries;
+pub(crate) mod lists_links;
+pub(crate) mod lists_requests;
+pub(crate) mod lists_watchers;
+pub(crate) mod version;

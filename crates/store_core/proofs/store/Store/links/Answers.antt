@@ -1,0 +1,10 @@
+use Rattle.store_core.specs.Contents.{contents_of}
+use Rattle.store_core.proofs.OrderLemmas.{the_links}
+use Rattle.store_core.proofs.ReadingLemmas.{if_ok}
+use Rattle.store_core.proofs.RiseLemmas.{links_rise}
+use Rattle.store_core.proofs.store.Store.links.Goals as goal
+
+pub returns-clause-listed : goal.returns-clause-listed
+returns-clause-listed g c desk is stand clean =
+    if_ok c.links.result (λ xs. the_links desk.links xs.items (links_rise desk is))
+    (c.links.ensures.listed (contents_of desk) stand clean)

@@ -1,0 +1,11 @@
+use Rattle.store_core.specs.Contents.{contents_of, request_rows}
+use Rattle.store_core.proofs.OrderLemmas.{the_requests}
+use Rattle.store_core.proofs.ReadingLemmas.{if_ok}
+use Rattle.store_core.proofs.RiseLemmas.{requests_rise}
+use Rattle.store_core.proofs.store.Store.requests.Goals as goal
+
+pub returns-clause-listed : goal.returns-clause-listed
+returns-clause-listed g c desk is stand clean =
+    if_ok c.requests.result
+    (λ xs. the_requests (request_rows desk) xs.items (requests_rise desk is))
+    (c.requests.ensures.listed (contents_of desk) stand clean)

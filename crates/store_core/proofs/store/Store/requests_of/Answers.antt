@@ -1,0 +1,19 @@
+use Rattle.std.proofs.Common.{◌≡◌, filter, Less}
+use Rattle.sqlite_trees.proofs.ListLemmas.{ascending-filter}
+use Rattle.desk_core.specs.declared.rows.RequestRow.{RequestRow}
+use Rattle.store_core.specs.Contents.{contents_of, request_rows}
+use Rattle.store_core.specs.Orders.{by_id}
+use Rattle.store_core.specs.Selection.{is_filed_in}
+use Rattle.store_core.proofs.OrderLemmas.{the_requests}
+use Rattle.store_core.proofs.ReadingLemmas.{if_ok}
+use Rattle.store_core.proofs.RiseLemmas.{requests_rise}
+use Rattle.store_core.proofs.store.Store.requests_of.Goals as goal
+
+pub returns-clause-listed : goal.returns-clause-listed
+returns-clause-listed g c desk is stand clean =
+    let filed = is_filed_in c.args.queue.now in
+    if_ok c.requests_of.result
+    (λ xs. the_requests (filter filed (request_rows desk)) xs.items
+    (ascending-filter (λ (a b : RequestRow). by_id a b ≡ Less) filed (request_rows desk)
+    (requests_rise desk is)))
+    (c.requests_of.ensures.listed (contents_of desk) stand clean)

@@ -1,0 +1,67 @@
+//! A store is opened, and its tables are made.
+ghost use Rattle.std.specs.Prelude.{◌≡◌, false, IfOk};
+ghost use Rattle.sqlite.specs.Steps.{over_memory};
+ghost use Rattle.store_core.specs.Calls.{Answers, Leaves, MismatchesIn};
+ghost use Rattle.store_core.specs.Making.{IsBlank, IsVersionRow, MakesDesk, RefusesBlank};
+ghost use Rattle.store_core.specs.Making.{TellsVersion};
+ghost use Rattle.store_core.specs.Queries.{version_shown};
+ghost use Rattle.store_core.specs.Seen.{connection_of, state_of};
+
+use crate::fault::StoreFault;
+use crate::making::make_schema;
+use crate::reads;
+use crate::store::Store;
+use sqlite::{Alter, Connection, MemStore};
+use std::alloc::Global;
+
+impl Store<MemStore> {
+    /// A store in memory, without tables. `Refused` where out of memory.
+    pub fn open_in_memory(alloc: Global) -> Result<Store<MemStore>, StoreFault>
+        ensures { IfOk result (λ store. IsBlank (state_of over_memory store)) }
+    {
+        match Connection::open_in_memory(alloc) {
+            Ok(conn) => Ok(Store { conn }),
+            Err(_) => Err(StoreFault::Refused),
+        }
+    }
+}
+
+impl<S: Alter> Store<S> {
+    /// The store over a connection that is in no transaction, with its tables as they are. Takes no
+    /// memory.
+    pub fn adopt(conn: Connection<S>) -> Store<S>
+        requires { conn.in_transaction ≡ false }
+        ensures { connection_of S.Store result ≡ conn }
+    {
+        Store { conn }
+    }
+
+    /// Makes the tables that are missing and, where there is no version, writes version 1, in one
+    /// transaction. `WrongVersion` where the tables are of another version, `Mismatch` where their
+    /// version is no number, `Refused` where the store or memory refuses it. A fault leaves what
+    /// there was, and so do tables of version 1.
+    pub fn create_schema(&mut self) -> Result<(), StoreFault>
+        ensures made { MakesDesk (state_of S.Store self.old) (state_of S.Store self.new) result }
+        ensures kept { Leaves (state_of S.Store self.old) (state_of S.Store self.new) }
+        ensures version { TellsVersion
+            (state_of S.Store self.old) (state_of S.Store self.new) result }
+        ensures mismatch { MismatchesIn 0 version_shown IsVersionRow
+            (state_of S.Store self.old) (state_of S.Store self.new) result }
+    {
+        make_schema(&mut self.conn)
+    }
+
+    /// The version that the tables hold. `Refused` before `create_schema`, and where the store or
+    /// memory refuses it, `Mismatch` where it is no number. The tables stay as they are.
+    pub fn version(&mut self) -> Result<u32, StoreFault>
+        ensures told { Answers (λ c n. n ≡ c.version)
+            (state_of S.Store self.old) (state_of S.Store self.new) result }
+        ensures blank { RefusesBlank
+            (state_of S.Store self.old) (state_of S.Store self.new) result }
+        ensures mismatch { MismatchesIn 0 version_shown IsVersionRow
+            (state_of S.Store self.old) (state_of S.Store self.new) result }
+        ensures kept { Leaves (state_of S.Store self.old) (state_of S.Store self.new) }
+    {
+        reads::version::version(&mut self.conn)
+    }
+}
