@@ -26,7 +26,7 @@ pub placed_alike : {X : Type 0} (lower : X → X → Bool) (xs : List X) (x : X)
 placed_alike lower [] x = IsPermutation-refl _
 placed_alike lower (y ∷ ys) x =
     elim (lower x y) as
-        (λ b. IsPermutation (x ∷ y ∷ ys) (cond b (x ∷ y ∷ ys) (y ∷ placed lower ys x))) [
+    (λ b. IsPermutation (x ∷ y ∷ ys) (cond b (x ∷ y ∷ ys) (y ∷ placed lower ys x))) [
       | true ↦ IsPermutation-refl _
       | false ↦ more_after (y ∷ []) ys (placed lower ys x) x (placed_alike lower ys x)
     ]

@@ -112,8 +112,8 @@ of_meta_still old new n same h = subst (λ (d : Database). (r : Row) × Has (d.t
 
 module _ {S : Type 0} (g : Ghosts S) (old tx : Held S)
     (is : tx ≡ record old { in_transaction = true }) where
-    pub begins_there : HasTables (state g old) → HasTables (state g tx)
-    begins_there has = subst (λ h. HasTables (state g h)) (sym is) has
+  pub begins_there : HasTables (state g old) → HasTables (state g tx)
+  begins_there has = subst (λ h. HasTables (state g h)) (sym is) has
 
-    pub begins_of_meta : (n : ℕ) → IsOfMeta (state g tx) n → IsOfMeta (state g old) n
-    begins_of_meta n h = subst (λ h. IsOfMeta (state g h) n) is h
+  pub begins_of_meta : (n : ℕ) → IsOfMeta (state g tx) n → IsOfMeta (state g old) n
+  begins_of_meta n h = subst (λ h. IsOfMeta (state g h) n) is h

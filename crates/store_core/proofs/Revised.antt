@@ -33,7 +33,7 @@ pub none_revised : (id : ℕ) (f : Request → Request) (rs : List Request)
 none_revised id f [] none = refl
 none_revised id f (r ∷ rs) none =
     elim (r.row.id == id) as (λ b. (b || list_any (λ n. n == id) (map id_of rs)) ≡ false
-        → cond b (f r) r ∷ map (revised_at id f) rs ≡ r ∷ rs) [
+    → cond b (f r) r ∷ map (revised_at id f) rs ≡ r ∷ rs) [
       | true ↦ λ e. cc
       | false ↦ λ e. ap (λ l. r ∷ l) (none_revised id f rs e)
     ] none
@@ -59,14 +59,14 @@ module _ {B : Type 0} (g : Request → List B) (f : Request → Request) (id : �
       let parts = and_parts (r.row.id == next) (are_numbered (next + 1) (map id_of rs)) numbered in
       let each = and_parts (fits r) (list_all fits rs) all in
       elim (r.row.id == id) as
-          (λ c. (r.row.id == id) ≡ c → (c || list_any (λ n. n == id) (map id_of rs)) ≡ true
-          → IsPermutation (b ∷ (g r ++ flat_map g rs))
-              (g (cond c (f r) r) ++ flat_map g (map (revised_at id f) rs))) [
+      (λ c. (r.row.id == id) ≡ c → (c || list_any (λ n. n == id) (map id_of rs)) ≡ true
+      → IsPermutation (b ∷ (g r ++ flat_map g rs))
+      (g (cond c (f r) r) ++ flat_map g (map (revised_at id f) rs))) [
         | true ↦ λ same any.
             let here = eqb-true r.row.id id same in
             let first = eqb-true r.row.id next parts.0 in
             let none = none_before (next + 1) id (map id_of rs)
-                (omega (arith, here, first)) parts.1 in
+            (omega (arith, here, first)) parts.1 in
             rw (none_revised id f rs none)
             (more_before (g r) (flat_map g rs) (g (f r)) b (grows r here each.0))
         | false ↦ λ other any.
@@ -104,7 +104,7 @@ pub there_by_number : (id : ℕ) (rs : List Request)
 there_by_number id [] = refl
 there_by_number id (r ∷ rs) =
     elim (r.row.id == id) as (λ b. is_some (cond b (Some r) (find (λ x. x.row.id == id) rs))
-        ≡ (b || list_any (λ n. n == id) (map id_of rs))) [
+    ≡ (b || list_any (λ n. n == id) (map id_of rs))) [
       | true ↦ refl
       | false ↦ there_by_number id rs
     ]
@@ -115,7 +115,7 @@ pub none_each : {B : Type 0} (p : B → Bool) (g : Request → List B) (rs : Lis
 none_each p g [] none = refl
 none_each p g (r ∷ rs) none =
     let parts = or_parts (list_any p (g r)) (list_any p (flat_map g rs))
-        (sym (list_any-append p (g r) (flat_map g rs)) ∙ none) in
+    (sym (list_any-append p (g r) (flat_map g rs)) ∙ none) in
     and_from (not (list_any p (g r))) (list_all (λ x. not (list_any p (g x))) rs)
     (not_from_false _ parts.0) (none_each p g rs parts.1)
 
@@ -131,17 +131,17 @@ one_set row next (r ∷ rs) numbered there =
     let others = filter (λ x. not (is_numbered row.id x)) (map (λ x. x.row) rs) in
     let left = map (revised_at row.id (with_row row)) rs in
     elim (r.row.id == row.id) as (λ c. (r.row.id == row.id) ≡ c
-        → (c || list_any (λ n. n == row.id) (map id_of rs)) ≡ true
-        → IsPermutation (row ∷ cond (not c) (r.row ∷ others) others)
-        (map (λ x. x.row) (cond c (with_row row r) r ∷ left))) [
+    → (c || list_any (λ n. n == row.id) (map id_of rs)) ≡ true
+    → IsPermutation (row ∷ cond (not c) (r.row ∷ others) others)
+    (map (λ x. x.row) (cond c (with_row row r) r ∷ left))) [
       | true ↦ λ same any.
           let here = eqb-true r.row.id row.id same in
           let first = eqb-true r.row.id next parts.0 in
           let none = none_before (next + 1) row.id (map id_of rs)
-              (omega (arith, here, first)) parts.1 in
+          (omega (arith, here, first)) parts.1 in
           rw (none_revised row.id (with_row row) rs none, none_filtered row.id rs none)
           (IsPermutation-refl _)
       | false ↦ λ other any.
           more_after (r.row ∷ []) others (map (λ x. x.row) left) row
-              (one_set row (next + 1) rs parts.1 any)
+          (one_set row (next + 1) rs parts.1 any)
     ] refl there

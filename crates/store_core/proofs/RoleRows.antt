@@ -31,14 +31,14 @@ named_alike [] name none = IsPermutation-refl _
 named_alike (y ∷ ys) name none =
     let parts = or_parts (bytes_eq y name) (list_any (λ n. bytes_eq n name) ys) none in
     elim (text_order name y) as (λ o. text_order name y ≡ o
-        → IsPermutation (name ∷ y ∷ ys)
-        (match_ordering o (name ∷ y ∷ ys) (y ∷ ys) (y ∷ with_name ys name))) [
+    → IsPermutation (name ∷ y ∷ ys)
+    (match_ordering o (name ∷ y ∷ ys) (y ∷ ys) (y ∷ with_name ys name))) [
       | Less ↦ λ e. IsPermutation-refl _
       | Equal ↦ λ e.
           let ties = texts_ties name y ∙ ap is_eq e in
           let same : name ≡ y = same_text name y (sym ties) in
           absurd (let other : bytes_eq name y
-              ≡ bytes_eq y name = ap₂ bytes_eq same (sym same) in cc)
+          ≡ bytes_eq y name = ap₂ bytes_eq same (sym same) in cc)
       | Greater ↦ λ e.
           more_after (y ∷ []) ys (with_name ys name) name (named_alike ys name parts.1)
     ] refl
@@ -82,13 +82,13 @@ put_row_alike role person r none =
     let c = map (watcher id AdminCc) r.admin_cc in
     let is = is_row_of id role person in
     let first = or_parts (list_any is a) (list_any is (b ++ c))
-        (sym (list_any-append is a (b ++ c)) ∙ none) in
+    (sym (list_any-append is a (b ++ c)) ∙ none) in
     let rest = or_parts (list_any is b) (list_any is c) (sym (list_any-append is b c) ∙ first.1) in
     elim role as (λ k. list_any (is_row_of id k person) a ≡ false
-        → list_any (is_row_of id k person) b ≡ false
-        → list_any (is_row_of id k person) c ≡ false
-        → IsPermutation (watcher id k person ∷ (a ++ (b ++ c)))
-        (watchers_of (in_role k (λ names. with_name names person) r))) [
+    → list_any (is_row_of id k person) b ≡ false
+    → list_any (is_row_of id k person) c ≡ false
+    → IsPermutation (watcher id k person ∷ (a ++ (b ++ c)))
+    (watchers_of (in_role k (λ names. with_name names person) r))) [
       | Requestor ↦ λ x y z.
           more_before a (b ++ c) _ _ (put_alike id Requestor person r.requestors x)
       | Cc ↦ λ x y z.
@@ -125,14 +125,14 @@ module _ (id other : ℕ) (role : WatchRole) (person : List ℕ) (names : List (
   kept_of : (in_it : WatchRole) → (other == id) ≡ true
       → (role_number in_it == role_number role) ≡ false
       → filter (stays id role person) (map (watcher other in_it) names)
-          ≡ map (watcher other in_it) names
+      ≡ map (watcher other in_it) names
   kept_of in_it number kind =
       filter-map (stays id role person) (watcher other in_it) names
       ∙ ap (map (watcher other in_it)) (all_kept _ (λ n. rw (number, kind) refl) names)
 
   left_of : (in_it : WatchRole) → (other == id) ≡ false
       → filter (stays id role person) (map (watcher other in_it) names)
-          ≡ map (watcher other in_it) names
+      ≡ map (watcher other in_it) names
   left_of in_it number =
       filter-map (stays id role person) (watcher other in_it) names
       ∙ ap (map (watcher other in_it)) (all_kept _ (λ n. rw number refl) names)
@@ -154,9 +154,9 @@ take_row id role person r number =
     parted (stays id role person) (map (watcher other Requestor) r.requestors)
     (map (watcher other Cc) r.cc) (map (watcher other AdminCc) r.admin_cc)
     ∙ elim role as (λ k. filter (stays id k person) (map (watcher other Requestor) r.requestors)
-        ++ (filter (stays id k person) (map (watcher other Cc) r.cc)
-        ++ filter (stays id k person) (map (watcher other AdminCc) r.admin_cc))
-        ≡ watchers_of (in_role k (λ names. without_name names person) r)) [
+    ++ (filter (stays id k person) (map (watcher other Cc) r.cc)
+    ++ filter (stays id k person) (map (watcher other AdminCc) r.admin_cc))
+    ≡ watchers_of (in_role k (λ names. without_name names person) r)) [
       | Requestor ↦ joined (taken_of id other Requestor person r.requestors number)
           (kept_of id other Requestor person r.cc Cc number refl)
           (kept_of id other Requestor person r.admin_cc AdminCc number refl)
@@ -183,14 +183,14 @@ leave_rows id role person r number =
 pub taken_each : (id : ℕ) (role : WatchRole) (person : List ℕ) (rs : List Request)
     → filter (stays id role person) (flat_map watchers_of rs)
     ≡ flat_map watchers_of
-        (map (revised_at id (in_role role (λ names. without_name names person))) rs)
+    (map (revised_at id (in_role role (λ names. without_name names person))) rs)
 taken_each id role person [] = refl
 taken_each id role person (r ∷ rs) =
     let f = in_role role (λ names. without_name names person) in
     filter-append (stays id role person) (watchers_of r) (flat_map watchers_of rs)
     ∙ ap₂ (λ l m. l ++ m)
     (elim (r.row.id == id) as (λ b. (r.row.id == id) ≡ b
-        → filter (stays id role person) (watchers_of r) ≡ watchers_of (cond b (f r) r)) [
+    → filter (stays id role person) (watchers_of r) ≡ watchers_of (cond b (f r) r)) [
       | true ↦ take_row id role person r
       | false ↦ leave_rows id role person r
     ] refl)

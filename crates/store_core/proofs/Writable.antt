@@ -75,16 +75,16 @@ nobody id role person next (x ∷ xs) r numbered there none =
     let parts = and_parts (x.row.id == next) (are_numbered (next + 1) (map id_of xs)) numbered in
     list_any-append (is_row_of id role person) (watchers_of x) (flat_map watchers_of xs)
     ∙ elim (x.row.id == id) as (λ b. (x.row.id == id) ≡ b
-        → cond b (Some x) (find (λ y. y.row.id == id) xs) ≡ Some r
-        → (is_watching person id role (watchers_of x)
-        || is_watching person id role (flat_map watchers_of xs)) ≡ false) [
+    → cond b (Some x) (find (λ y. y.row.id == id) xs) ≡ Some r
+    → (is_watching person id role (watchers_of x)
+    || is_watching person id role (flat_map watchers_of xs)) ≡ false) [
       | true ↦ λ same one.
           let is : x ≡ r = cc in
           let here = eqb-true x.row.id id same in
           let first = eqb-true x.row.id next parts.0 in
           or_from _ _
-              (subst (λ (y : Request). is_watching person id role (watchers_of y) ≡ false)
-              (sym is) none)
+          (subst (λ (y : Request). is_watching person id role (watchers_of y) ≡ false)
+          (sym is) none)
           (nobody_at_all id role person xs
           (none_before (next + 1) id (map id_of xs) (omega (arith, here, first)) parts.1))
       | false ↦ λ other further.
@@ -95,7 +95,7 @@ nobody id role person next (x ∷ xs) r numbered there none =
 -- who is in a role by the rows is among those in it
 pub watching_is : (role : WatchRole) (person : List ℕ) (r : Request)
     → is_watching person r.row.id role (watchers_of r)
-        ≡ is_among (persons_in role (standing r)) person
+    ≡ is_among (persons_in role (standing r)) person
 watching_is Requestor person r = ap (λ roles. roles.requestor) (roles_kept person r)
 watching_is Cc person r = ap (λ roles. roles.cc) (roles_kept person r)
 watching_is AdminCc person r = ap (λ roles. roles.admin_cc) (roles_kept person r)
@@ -110,7 +110,7 @@ are_apart (n ∷ ns) = list_all (λ m. not (bytes_eq n m)) ns && are_apart ns
 lower_differs : (a b : List ℕ) → is_lower_name a b ≡ true → not (bytes_eq a b) ≡ true
 lower_differs a b below =
     elim (text_order a b) as
-        (λ o. bytes_eq a b ≡ is_eq o → is_lt o ≡ true → not (bytes_eq a b) ≡ true) [
+    (λ o. bytes_eq a b ≡ is_eq o → is_lt o ≡ true → not (bytes_eq a b) ≡ true) [
       | Less ↦ λ ties less. not_from_false _ ties
       | Equal ↦ λ ties less. cc
       | Greater ↦ λ ties less. cc
@@ -182,8 +182,8 @@ last_watches desk others last role person h none =
     let is = is_row_of last.row.id role person in
     ap (λ rs. list_any is (flat_map watchers_of rs)) h.is
     ∙ ap (list_any is)
-        (flat_map-append watchers_of others (last ∷ [])
-        ∙ ap (λ l. flat_map watchers_of others ++ l) (append-nil (watchers_of last)))
+    (flat_map-append watchers_of others (last ∷ [])
+    ∙ ap (λ l. flat_map watchers_of others ++ l) (append-nil (watchers_of last)))
     ∙ list_any-append is (flat_map watchers_of others) (watchers_of last)
     ∙ or_from _ _ (nobody_at_all last.row.id role person others h.alone) none
 
@@ -210,10 +210,9 @@ pub requestors_anew : (names : List (List ℕ)) (desk : Desk) (others : List Req
 requestors_anew [] desk others last h new apart = tt
 requestors_anew (n ∷ ns) desk others last h new apart =
     let first = and_parts (not (is_among last.requestors n)) (are_new last.requestors ns) new in
-    let parts = and_parts (list_all (λ m. not (bytes_eq n m)) ns) (are_apart ns) apart in
-    (
+    let parts = and_parts (list_all (λ m. not (bytes_eq n m)) ns) (are_apart ns) apart in (
       last_there desk others last h,
       last_watches desk others last Requestor n h (watching_is Requestor n last ∙ is_new _ first.0),
       requestors_anew ns (person_put desk (requestor last.row.id n)) others (with_requestor last n)
-      (last_put desk others last n h) (new_after last.requestors n ns parts.0 first.1) parts.1,
+          (last_put desk others last n h) (new_after last.requestors n ns parts.0 first.1) parts.1,
     )

@@ -137,7 +137,7 @@ change_writable s at caller command desk is free =
     let asks = call s at caller in
     let plan = plan_of command in
     let front : List Condition =
-        (UnknownCaller, not (knows s caller)) ∷ (BadMoment, not (is_moment at)) ∷ [] in
+    (UnknownCaller, not (knows s caller)) ∷ (BadMoment, not (is_moment at)) ∷ [] in
     let change = change_by asks (facts_of command desk) plan in
     let one = by_plan SetsOne asks plan front desk (0, refl, λ e. cc) (sets desk command) free in
     record {

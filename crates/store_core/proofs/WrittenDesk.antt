@@ -65,14 +65,14 @@ in_role_entries AdminCc f r = refl
 
 ids_revised : (desk : Desk) (id : ℕ) (f : Request → Request)
     → ((r : Request) → r.row.id ≡ id → (f r).row.id ≡ r.row.id)
-        → ids (with_revised desk id f) ≡ ids desk
+    → ids (with_revised desk id f) ≡ ids desk
 ids_revised desk id f keeps = kept_each f id (λ r. r.row.id) keeps desk.requests
 
 ids_role : (role : WatchRole) (g : List (List ℕ) → List (List ℕ)) (id : ℕ) (desk : Desk)
     → ids (with_revised desk id (in_role role g)) ≡ ids desk
 ids_role role g id desk =
     ids_revised desk id (in_role role g)
-        (λ r here. ap (λ (x : RequestRow). x.id) (in_role_row role g r))
+    (λ r here. ap (λ (x : RequestRow). x.id) (in_role_row role g r))
 
 ids_folded : {X : Type 0} (step : Desk → X → Desk)
     → ((desk : Desk) (x : X) → ids (step desk x) ≡ ids desk)
@@ -135,12 +135,12 @@ all_true (r ∷ rs) = all_true rs
 put_row_here : (w : Watcher) (r : Request) → r.row.id ≡ w.id
     → is_watching w.person w.id w.role (watchers_of r) ≡ false
     → IsPermutation (w ∷ watchers_of r)
-        (watchers_of (in_role w.role (λ names. with_name names w.person) r))
+    (watchers_of (in_role w.role (λ names. with_name names w.person) r))
 put_row_here w r here none =
     subst (λ id. IsPermutation (watcher id w.role w.person ∷ watchers_of r)
     (watchers_of (in_role w.role (λ names. with_name names w.person) r))) here
     (put_row_alike w.role w.person r
-        (ap (λ id. is_watching w.person id w.role (watchers_of r)) here ∙ none))
+    (ap (λ id. is_watching w.person id w.role (watchers_of r)) here ∙ none))
 
 -- another row of the same number has the same persons
 rows_moved : (row : RequestRow) (r : Request) → r.row.id ≡ row.id
@@ -157,8 +157,8 @@ alike_put c desk w numbered there none h =
     let is = is_row_of w.id w.role w.person in
     let rs = desk.requests in
     let grows = λ (r : Request) (here : r.row.id ≡ w.id)
-        (free : not (list_any is (watchers_of r)) ≡ true).
-        put_row_here w r here (not_watching _ free) in
+    (free : not (list_any is (watchers_of r)) ≡ true).
+    put_row_here w r here (not_watching _ free) in
     record {
       version = h.version;
       queues = h.queues;
@@ -170,7 +170,7 @@ alike_put c desk w numbered there none h =
       links = h.links;
       entries = subst (IsPermutation c.entries)
           (sym (kept_all f w.id (λ r. r.entries) (λ r here. in_role_entries w.role _ r) rs))
-              h.entries;
+          h.entries;
     }
 
 alike_taken : (c : Contents) (desk : Desk) (w : Watcher) → AreAlike c (contents_of desk)
@@ -189,7 +189,7 @@ alike_taken c desk w h =
       links = h.links;
       entries = subst (IsPermutation c.entries)
           (sym (kept_all f w.id (λ r. r.entries) (λ r here. in_role_entries w.role _ r) rs))
-              h.entries;
+          h.entries;
     }
 
 alike_noted : (c : Contents) (desk : Desk) (e : Entry) → IsNumbered desk → is_there desk e.id ≡ true
@@ -214,7 +214,7 @@ alike_noted c desk e numbered there h =
 alike_set : (c : Contents) (desk : Desk) (row : RequestRow) → IsNumbered desk
     → is_there desk row.id ≡ true
     → AreAlike c (contents_of desk)
-        → AreAlike (request_set (Some row) c) (contents_of (row_set (Some row) desk))
+    → AreAlike (request_set (Some row) c) (contents_of (row_set (Some row) desk))
 alike_set c desk row numbered there h =
     let f = with_row row in
     let rs = desk.requests in
@@ -223,7 +223,7 @@ alike_set c desk row numbered there h =
       queues = h.queues;
       requests = IsPermutation-trans _ _ _
           (IsPermutation-cons row _ _
-              (IsPermutation-filter _ c.requests (request_rows desk) h.requests))
+          (IsPermutation-filter _ c.requests (request_rows desk) h.requests))
           (one_set row 1 rs numbered (among desk row.id there));
       watchers = subst (IsPermutation c.watchers)
           (sym (kept_all f row.id watchers_of (λ r here. rows_moved row r here) rs)) h.watchers;
@@ -395,13 +395,13 @@ written_alike desk change is fits =
     let opened_ids = ap (map (λ r. r.row.id)) (requests_queued change.queue desk) in
     let from_one = numbered_by opened desk opened_ids is.requests in
     let grown = numbered_filed change.filed opened
-        (next_queued change.filed change.queue desk fits.files) from_one in
+    (next_queued change.filed change.queue desk fits.files) from_one in
     let in_rows = numbered_by rows wider (ids_set change.row wider) grown in
     let same : ids noted ≡ ids rows =
-        ap (map (λ r. r.row.id))
-            (requests_unlinked change.unlinked linked ∙ requests_linked change.linked taken)
-        ∙ ids_folded person_taken ids_taken change.taken put
-            ∙ ids_folded person_put ids_put change.put rows in
+    ap (map (λ r. r.row.id))
+    (requests_unlinked change.unlinked linked ∙ requests_linked change.linked taken)
+    ∙ ids_folded person_taken ids_taken change.taken put
+    ∙ ids_folded person_put ids_put change.put rows in
     let start : AreAlike (contents_of desk) (contents_of desk) = alike_itself (contents_of desk) in
     alike_notes change.entries _ noted (numbered_by noted rows same in_rows)
     (every_there noted wider (same ∙ ids_set change.row wider) change.entries fits.notes)

@@ -14,4 +14,4 @@ returns-clause-shown g c d stand clean =
     if_ok c.select.result
     (λ rows. shows_like d c.args.link old new c.select.ensures.honest stand clean rows.items)
     (rw (c.number.ensures, c.link_kind.ensures, c.number-2.ensures) at
-        (c.select.ensures.shown clean))
+    (c.select.ensures.shown clean))
