@@ -1,7 +1,9 @@
 -- A column is what the formatter makes of its text.
-use Rattle.std.proofs.Common.{◌≡◌, ℕ, ◌-◌, ◌^◌, ◌≤◌, ◌==◌, Bool, true, false, cond, List, [], ◌∷◌, length, decimal, refl, arith, append-nil}
+use Rattle.std.proofs.Common.{◌≡◌, ℕ, ◌-◌, ◌^◌, ◌≤◌, ◌==◌, Bool, true, false, cond, List, [], ◌∷◌}
+use Rattle.std.proofs.Common.{length, decimal, refl, arith, append-nil}
 use Rattle.std.proofs.lemmas.Str.{encode_ascii}
-use Rattle.std.specs.Fmt.{is_char_start, take_chars, char_count, padded, padded_integral, format_spec}
+use Rattle.std.specs.Fmt.{is_char_start, take_chars, char_count, padded, padded_integral}
+use Rattle.std.specs.Fmt.{format_spec}
 use Rattle.service_core.specs.Columns.{left, right, right_number}
 
 -- a text that isn't cut, whether its first byte begins a character or not
@@ -33,11 +35,18 @@ pub right-padded : (width : ℕ) (text : List ℕ) → length text ≤ 2 ^ 64 - 
 unfolding padded
 right-padded width text short =
     let none : width - char_count text - (width - char_count text) ≡ 0 = omega arith in
-    rw (take_chars_whole (2 ^ 64 - 1) text short, none, append-nil text, encode_ascii 32 (omega arith))
+    rw (
+      take_chars_whole (2 ^ 64 - 1) text short,
+      none,
+      append-nil text,
+      encode_ascii 32
+          (omega arith),
+    )
 
 -- a number in digits
 pub number-padded : (width number : ℕ)
-    → padded_integral (format_spec 32 3 0 width (2 ^ 64 - 1)) false [] (decimal number) ≡ right_number width number
+    → padded_integral (format_spec 32 3 0 width (2 ^ 64 - 1)) false [] (decimal number)
+    ≡ right_number width number
 unfolding padded_integral char_count
 number-padded width number =
     let m = width - length (decimal number) in

@@ -109,7 +109,8 @@ pub(crate) fn id_and_word(
     matches: &ArgMatches<'_>,
     key: &str,
 ) -> Result<Option<(u32, Text)>, AllocError>
-    ensures { IfOk result (λ found. found ≡ subcommands.id_and_word key.now (given_to matches.now)) }
+    ensures { IfOk result (λ found.
+        found ≡ subcommands.id_and_word key.now (given_to matches.now)) }
 {
     match (id(matches), first_text(alloc, matches, key)?) {
         (Some(id), Some(word)) => Ok(Some((id, word))),

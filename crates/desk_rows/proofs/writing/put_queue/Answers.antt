@@ -7,13 +7,15 @@ use Rattle.desk_rows.proofs.writing.put_queue.Goals as goal
 
 pub insert-requires : goal.insert-requires
 insert-requires c =
-    let at : position_from (has_lower_name c.args.queue) 0 c.args.queues.now.items ≡ Some c.in-Some.place = cc in
+    let at : position_from (has_lower_name c.args.queue) 0 c.args.queues.now.items
+    ≡ Some c.in-Some.place = cc in
     let p = placed_at has_lower_name c.args.queue 0 c.args.queues.now.items c.in-Some.place at in
     omega (arith, p.1, p.2, c.args.queues.now.ok.0)
 
 pub returns-in_ok-insert-in-Some-clause-ok : goal.returns-in_ok-insert-in-Some-clause-ok
 returns-in_ok-insert-in-Some-clause-ok c =
-    let at : position_from (has_lower_name c.args.queue) 0 c.args.queues.now.items ≡ Some c.in-Some.place = cc in
+    let at : position_from (has_lower_name c.args.queue) 0 c.args.queues.now.items
+    ≡ Some c.in-Some.place = cc in
     let p = placed_at has_lower_name c.args.queue 0 c.args.queues.now.items c.in-Some.place at in
     let place : c.in-Some.place ≡ p.0 = omega (arith, p.1) in
     c.in_ok-insert-in-Some.ensures.items
@@ -22,4 +24,5 @@ returns-in_ok-insert-in-Some-clause-ok c =
 pub returns-in_ok-push-in-None-clause-ok : goal.returns-in_ok-push-in-None-clause-ok
 returns-in_ok-push-in-None-clause-ok c =
     let at : position_from (has_lower_name c.args.queue) 0 c.args.queues.now.items ≡ None = cc in
-    c.in_ok-push-in-None.ensures.items ∙ sym (placed_last has_lower_name c.args.queue 0 c.args.queues.now.items at)
+    c.in_ok-push-in-None.ensures.items
+    ∙ sym (placed_last has_lower_name c.args.queue 0 c.args.queues.now.items at)

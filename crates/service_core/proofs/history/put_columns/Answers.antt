@@ -6,4 +6,5 @@ use Rattle.service_core.proofs.history.put_columns.Goals as goal
 
 pub returns : goal.returns
 unfolding columns
-returns c = rw (← left-padded 20 c.args.person.now (omega arith), ← number-padded 5 c.args.number) (search rules)
+returns c = rw (← left-padded 20 c.args.person.now (omega arith), ← number-padded 5 c.args.number)
+    (search rules)

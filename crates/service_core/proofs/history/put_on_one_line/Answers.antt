@@ -12,6 +12,9 @@ as_they_are (x ∷ xs) = ap (λ l. x ∷ l) (as_they_are xs)
 
 pub returns : goal.returns
 returns c =
-    let t = YieldsList-end (YieldsList-from_chars c.args.text.now c.utf8.text cc) c.loop-character.yielded _ c.loop-character.yielded_by _ _ c.in-None.is c.next.ensures.steps in
+    let t = YieldsList-end
+    (YieldsList-from_chars c.args.text.now c.utf8.text cc) c.loop-character.yielded _
+    c.loop-character.yielded_by _ _ c.in-None.is c.next.ensures.steps in
     c.loop-character.invariant
-    ∙ ap (λ l. string_bytes c.args.out.now ++ flat_map escape l) (as_they_are c.loop-character.yielded ∙ t.0)
+    ∙ ap (λ l. string_bytes c.args.out.now ++ flat_map escape l)
+    (as_they_are c.loop-character.yielded ∙ t.0)

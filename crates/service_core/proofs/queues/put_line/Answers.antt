@@ -4,4 +4,8 @@ use Rattle.service_core.proofs.queues.put_line.Goals as goal
 
 pub returns : goal.returns
 returns c =
-    rw (← left-padded 20 c.args.queue.now (omega arith), ← left-padded 20 c.args.lifecycle.now (omega arith)) (search rules)
+    rw (
+      ← left-padded 20 c.args.queue.now (omega arith),
+      ← left-padded 20 c.args.lifecycle.now
+          (omega arith),
+    ) (search rules)

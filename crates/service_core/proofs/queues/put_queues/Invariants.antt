@@ -6,4 +6,5 @@ use Rattle.service_core.proofs.queues.put_queues.Given as goal
 
 abbrev pub invariant-loop-queue : goal.invariant-loop-queue
 invariant-loop-queue l =
-    string_bytes l.out ≡ string_bytes l.initial.out ++ flat_map line_of_queue (take l.queue-index l.queues)
+    string_bytes l.out
+    ≡ string_bytes l.initial.out ++ flat_map line_of_queue (take l.queue-index l.queues)

@@ -5,4 +5,5 @@ use Rattle.service_core.proofs.shown.put_minute.Goals as goal
 
 pub unreachable-requires : goal.unreachable-requires
 unreachable-requires c =
-    c.in-Err.ensures.cases.0 (rw c.minute_text.ensures (IsUtf8-from_ascii _ (ascii_minute c.in-Some.minute)))
+    c.in-Err.ensures.cases.0
+    (rw c.minute_text.ensures (IsUtf8-from_ascii _ (ascii_minute c.in-Some.minute)))

@@ -6,4 +6,5 @@ use Rattle.service_core.proofs.shown.put_more.Given as goal
 
 abbrev pub invariant-loop-text : goal.invariant-loop-text
 invariant-loop-text l =
-    string_bytes l.out ≡ string_bytes l.initial.out ++ flat_map after_space (take l.text-index l.texts)
+    string_bytes l.out
+    ≡ string_bytes l.initial.out ++ flat_map after_space (take l.text-index l.texts)

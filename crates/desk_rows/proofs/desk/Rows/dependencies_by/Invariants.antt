@@ -6,4 +6,5 @@ use Rattle.desk_rows.specs.Rows.{desk_of}
 use Rattle.desk_rows.proofs.desk.Rows.dependencies_by.Given as goal
 
 abbrev pub invariant-loop-link : goal.invariant-loop-link
-invariant-loop-link l = l.found.items ≡ flat_map (dependency_by (desk_of l.self)) (take l.link-index l.links)
+invariant-loop-link l = l.found.items
+    ≡ flat_map (dependency_by (desk_of l.self)) (take l.link-index l.links)

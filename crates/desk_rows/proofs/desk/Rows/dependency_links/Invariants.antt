@@ -6,4 +6,6 @@ use Rattle.desk_rows.proofs.desk.Rows.dependency_links.Given as goal
 
 abbrev pub invariant-loop-link : goal.invariant-loop-link
 invariant-loop-link l =
-    l.links.items ≡ filter (λ k. k.source == l.id && is_kind DependsOn k.kind) (take l.link-index l.self.links.items)
+    l.links.items
+    ≡ filter (λ k. k.source == l.id && is_kind DependsOn k.kind)
+    (take l.link-index l.self.links.items)

@@ -12,7 +12,11 @@ on_ok (Err e) P Q f p = tt
 
 pub returns-in-Some-clause-ok : goal.returns-in-Some-clause-ok
 returns-in-Some-clause-ok c =
-    let numbered = ap (are_numbered 1) (ids_are c.args.self.now.records.inner.items) ∙ c.args.self.now.records.numbered in
+    let numbered = ap (are_numbered 1) (ids_are c.args.self.now.records.inner.items)
+    ∙ c.args.self.now.records.numbered in
     on_ok c.file_row.result _ _
-    (λ h. h.2 ∙ sym (files_alone c.args.change (desk_of c.args.self.now) c.in-Some.row h.0 (length (requests_of c.args.self.now.records) + 1) refl c.requires c.in-Some.is numbered h.1))
+    (λ h. h.2
+    ∙ sym (files_alone c.args.change (desk_of c.args.self.now) c.in-Some.row h.0
+    (length (requests_of c.args.self.now.records) + 1) refl c.requires c.in-Some.is numbered
+    h.1))
     c.file_row.ensures.ok

@@ -4,4 +4,5 @@ use Rattle.desk_core.specs.Rights.{sees_queue}
 use Rattle.desk_rows.proofs.desk.Rows.queues_seen.Given as goal
 
 abbrev pub invariant-loop-queue : goal.invariant-loop-queue
-invariant-loop-queue l = l.seen.items ≡ filter (sees_queue l.settings l.caller) (take l.queue-index l.self.queues.items)
+invariant-loop-queue l = l.seen.items
+    ≡ filter (sees_queue l.settings l.caller) (take l.queue-index l.self.queues.items)

@@ -7,4 +7,5 @@ use Rattle.desk_rows.proofs.people.People.with_all.Given as goal
 abbrev pub invariant-loop-watcher : goal.invariant-loop-watcher
 invariant-loop-watcher l =
     (request : Request)
-    → with_people l.people request ≡ fold put_person (with_people l.fn.self request) (take l.watcher-index l.watchers)
+    → with_people l.people request
+    ≡ fold put_person (with_people l.fn.self request) (take l.watcher-index l.watchers)

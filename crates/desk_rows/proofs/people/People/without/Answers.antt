@@ -10,6 +10,7 @@ returns c request =
     let role = c.args.watcher.now.role in
     let person = c.args.watcher.now.person in
     let same : c.with_names.result
-    ≡ with_names role (without_name (names_in role c.args.self) person) c.args.self = search rules in
+    ≡ with_names role
+    (without_name (names_in role c.args.self) person) c.args.self = search rules in
     ap (λ (p : People). with_people p request) same
     ∙ revised_in role (λ names. without_name names person) c.args.self request

@@ -7,5 +7,7 @@ use Rattle.desk_rows.proofs.reading.Reader.linked_from.Given as goal
 abbrev pub invariant-loop-link : goal.invariant-loop-link
 invariant-loop-link l =
     l.found.items
-    ≡ map (λ k. k.target) (filter (leads_from l.self.settings.now l.self.caller.now (desk_of l.self.rows.now) l.kind l.id)
+    ≡ map (λ k. k.target)
+    (filter (leads_from l.self.settings.now l.self.caller.now
+    (desk_of l.self.rows.now) l.kind l.id)
     (take l.link-index l.self.rows.now.links.items))

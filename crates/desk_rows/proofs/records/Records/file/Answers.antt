@@ -5,6 +5,8 @@ use Rattle.desk_rows.proofs.records.Records.file.Goals as goal
 
 pub invariant_of-self : goal.invariant_of-self
 invariant_of-self c = record {
-  numbered = numbered_or (is_ok c.push.result) c.args.self.now.inner.items c.push.new.self.items c.args.request c.push.ensures.items
+  numbered = numbered_or
+      (is_ok c.push.result) c.args.self.now.inner.items c.push.new.self.items c.args.request
+      c.push.ensures.items
       c.args.self.now.numbered (omega (arith, c.requires, as_many c.args.self.now.inner.items));
 }
