@@ -4,10 +4,16 @@ use Rattle.std.specs.Prelude.{◌≡◌, ◌+◌, ℕ, Bool, true, false, List, 
 use Rattle.std.specs.Prelude.{IsPermutation, fold, length}
 use Rattle.std.specs.List.{list_all}
 use Rattle.std.specs.Option.{is_some}
+use Rattle.settings_core.specs.declared.settings.Settings.{Settings}
 use Rattle.desk_core.specs.Change.{person_put, queue_put, request_filed, row_set}
+use Rattle.desk_core.specs.Commands.{plan_of}
 use Rattle.desk_core.specs.Desk.{Desk, request_at}
+use Rattle.desk_core.specs.IsDesk.{IsDesk}
+use Rattle.desk_core.specs.Plan.{change_by}
+use Rattle.desk_core.specs.Step.{call, facts_of, guard}
 use Rattle.desk_core.specs.Watchers.{is_watching}
 use Rattle.desk_core.specs.declared.change.Change.{Change}
+use Rattle.desk_core.specs.declared.command.Command.{Command}
 use Rattle.desk_core.specs.declared.rows.LinkRow.{LinkRow}
 use Rattle.desk_core.specs.declared.rows.QueueRow.{QueueRow}
 use Rattle.desk_core.specs.declared.rows.RequestRow.{RequestRow}
@@ -88,3 +94,11 @@ pub record IsWritable (desk : Desk) (change : Change) : Type 0 where
   pub sets : SetsThere (with_filed change desk) change.row
   pub puts : PutsAnew (with_rows change desk) change.put
   pub notes : list_all (λ e. is_there (with_filed change desk) e.id) change.entries ≡ true
+
+-- on a well-formed desk, the change of a command that isn't refused can be written
+abbrev pub CanBeWritten : Type 0
+CanBeWritten =
+    (settings : Settings) (at : ℕ) (caller : List ℕ) (command : Command) (desk : Desk)
+    → IsDesk desk → guard settings at caller command desk ≡ None
+    → IsWritable desk
+    (change_by (call settings at caller) (facts_of command desk) (plan_of command))

@@ -7,6 +7,7 @@ mod columns;
 mod dependencies;
 mod facts;
 pub mod fault;
+pub mod laws;
 mod lists;
 mod making;
 mod opening;

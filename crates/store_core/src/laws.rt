@@ -1,0 +1,9 @@
+//! What leads from a decision to the tables.
+ghost use Rattle.store_core.specs.Written.{CanBeWritten};
+
+/// On a well-formed desk, the change of a command that isn't refused can be written: what it names
+/// is there, and what it puts isn't there yet.
+#[tactic(auto, using(crate::proofs::WritableByKind::change_writable))]
+pub fn writing_law()
+    ensures { CanBeWritten }
+{}
