@@ -1,0 +1,181 @@
+//! What is read of a store: a line for the call, and one for each row.
+
+use crate::changes::number;
+use crate::failure::Failure;
+use crate::tell;
+use desk_core::{Command, Facts, LinkKind, RequestRow, Turn, WatchRole};
+use sqlite::Alter;
+use store_core::{Store, StoreFault};
+use text_core::Text;
+
+/// What stands where there is nothing to tell.
+const NONE: &str = "-";
+
+pub fn queues<S: Alter>(rt: &HostRuntime, line: &str, store: &mut Store<S>) -> Result<(), Failure> {
+    let rows = match store.queues(rt.alloc()) {
+        Ok(rows) => rows,
+        Err(fault) => return tell(rt, line, Err(fault)),
+    };
+    println!(rt; "{line}:")?;
+    for row in rows.as_slice() {
+        let level = optional(&row.level);
+        println!(rt;
+            "  {} {} {level}",
+            row.name.as_str(),
+            row.lifecycle.as_str()
+        )?;
+    }
+    Ok(())
+}
+
+/// The requests, or those of a queue.
+pub fn requests<S: Alter>(
+    rt: &HostRuntime,
+    line: &str,
+    store: &mut Store<S>,
+    queue: &str,
+) -> Result<(), Failure> {
+    let read = if queue.is_empty() {
+        store.requests(rt.alloc())
+    } else {
+        let queue = Text::new(rt.alloc(), queue)?;
+        store.requests_of(rt.alloc(), &queue)
+    };
+    let rows = match read {
+        Ok(rows) => rows,
+        Err(fault) => return tell(rt, line, Err(fault)),
+    };
+    println!(rt; "{line}:")?;
+    for row in rows.as_slice() {
+        request(rt, row)?;
+    }
+    Ok(())
+}
+
+fn request(rt: &HostRuntime, row: &RequestRow) -> Result<(), Failure> {
+    let id = row.id;
+    let queue = row.queue.as_str();
+    let status = row.status.as_str();
+    let owner = optional(&row.owner);
+    let level = optional(&row.level);
+    let turn = turn(row.turn);
+    let since = row.since.get();
+    println!(rt; "  {id} {queue} {status} {owner} {level} {turn} {since}")?;
+    Ok(())
+}
+
+pub fn watchers<S: Alter>(
+    rt: &HostRuntime,
+    line: &str,
+    store: &mut Store<S>,
+) -> Result<(), Failure> {
+    let rows = match store.watchers(rt.alloc()) {
+        Ok(rows) => rows,
+        Err(fault) => return tell(rt, line, Err(fault)),
+    };
+    println!(rt; "{line}:")?;
+    for row in rows.as_slice() {
+        let id = row.id;
+        let role = role(row.role);
+        println!(rt; "  {id} {role} {}", row.person.as_str())?;
+    }
+    Ok(())
+}
+
+pub fn links<S: Alter>(rt: &HostRuntime, line: &str, store: &mut Store<S>) -> Result<(), Failure> {
+    let rows = match store.links(rt.alloc()) {
+        Ok(rows) => rows,
+        Err(fault) => return tell(rt, line, Err(fault)),
+    };
+    println!(rt; "{line}:")?;
+    for row in rows.as_slice() {
+        let source = row.source;
+        let kind = kind(row.kind);
+        let target = row.target;
+        println!(rt; "  {source} {kind} {target}")?;
+    }
+    Ok(())
+}
+
+/// The entries of a request.
+pub fn entries<S: Alter>(
+    rt: &HostRuntime,
+    line: &str,
+    store: &mut Store<S>,
+    id: &str,
+) -> Result<(), Failure> {
+    let rows = match store.entries_of(rt.alloc(), number(id)?) {
+        Ok(rows) => rows,
+        Err(fault) => return tell(rt, line, Err(fault)),
+    };
+    println!(rt; "{line}:")?;
+    for row in rows.as_slice() {
+        let number = row.number;
+        println!(rt; "  {number} {} {}", row.actor.as_str(), row.body.as_str())?;
+    }
+    Ok(())
+}
+
+/// What a move of a request looks at: its status, how many entries it has, and the statuses of what
+/// it depends on.
+pub fn facts<S: Alter>(
+    rt: &HostRuntime,
+    line: &str,
+    store: &mut Store<S>,
+    id: &str,
+) -> Result<(), Failure> {
+    let command = Command::SetStatus {
+        id: number(id)?,
+        status: Text::new(rt.alloc(), "resolved")?,
+    };
+    match store.facts_for(rt.alloc(), &command) {
+        Ok(facts) => seen(rt, line, &facts),
+        Err(fault) => tell(rt, line, Err(fault)),
+    }
+}
+
+fn seen(rt: &HostRuntime, line: &str, facts: &Facts) -> Result<(), Failure> {
+    println!(rt; "{line}:")?;
+    if let Some(on) = &facts.request {
+        let count = on.entry_count;
+        println!(rt; "  {} {count}", on.row.status.as_str())?;
+    }
+    for dependency in facts.dependencies.as_slice() {
+        println!(rt;
+            "  {} {}",
+            dependency.lifecycle.as_str(),
+            dependency.status.as_str()
+        )?;
+    }
+    Ok(())
+}
+
+fn optional(text: &Option<Text>) -> &str {
+    match text {
+        Some(text) => text.as_str(),
+        None => NONE,
+    }
+}
+
+fn turn(turn: Turn) -> &'static str {
+    match turn {
+        Turn::Desk => "desk",
+        Turn::Requestor => "requestor",
+    }
+}
+
+fn role(role: WatchRole) -> &'static str {
+    match role {
+        WatchRole::Requestor => "requestor",
+        WatchRole::Cc => "cc",
+        WatchRole::AdminCc => "admincc",
+    }
+}
+
+fn kind(kind: LinkKind) -> &'static str {
+    match kind {
+        LinkKind::DependsOn => "DependsOn",
+        LinkKind::MemberOf => "MemberOf",
+        LinkKind::RefersTo => "RefersTo",
+    }
+}
