@@ -10,7 +10,8 @@ mod lists;
 use crate::changes::change_of;
 use crate::failure::Failure;
 use crate::lists::{entries, facts, links, queues, requests, watchers};
-use sqlite::{Alter, Connection};
+use sqlite::{Alter, Connection, MemStore};
+use std::alloc::Global;
 use std::io::Read;
 use std::process::ExitCode;
 use store_core::{Store, StoreFault};
@@ -44,16 +45,24 @@ fn run(rt: &HostRuntime) -> Result<(), Failure> {
 }
 
 fn run_case(rt: &HostRuntime, statements: &str, calls: &str) -> Result<(), Failure> {
-    let mut conn = Connection::open_in_memory(rt.alloc())?;
-    conn.execute_batch(statements)?;
-    if !conn.is_autocommit() {
-        return Err(Failure::BadLine);
-    }
-    let mut store = Store::adopt(conn);
+    let mut store = opened(rt.alloc(), statements)?;
     for line in calls.lines() {
         answer(rt, &mut store, line)?;
     }
     Ok(())
+}
+
+/// A store without tables, or with those that the statements make.
+fn opened(alloc: Global, statements: &str) -> Result<Store<MemStore>, Failure> {
+    if statements.is_empty() {
+        return Store::open_in_memory(alloc).map_err(|_| Failure::Statement);
+    }
+    let mut conn = Connection::open_in_memory(alloc)?;
+    conn.execute_batch(statements)?;
+    if !conn.is_autocommit() {
+        return Err(Failure::BadLine);
+    }
+    Ok(Store::adopt(conn))
 }
 
 /// Writes a call with its answer.
