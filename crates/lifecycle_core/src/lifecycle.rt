@@ -1,5 +1,6 @@
-ghost use Rattle.std.specs.Prelude.{◌≡◌, ◌≢◌, None, Some, IfOk, IfErr, is_some};
+ghost use Rattle.std.specs.Prelude.{◌≡◌, ◌≢◌, true, None, Some, IfOk, IfErr, is_some};
 ghost use Rattle.std.specs.Option.{option_copied};
+ghost use Rattle.text_core.specs.Form.{is_right_name};
 ghost use Rattle.lifecycle_core.specs.Lifecycle as words;
 ghost use Rattle.lifecycle_core.specs.Fault.{fault_of};
 ghost use Rattle.lifecycle_core.specs.Standard.{default_lifecycle};
@@ -116,10 +117,10 @@ impl Lifecycle {
     /// `to`, for `from` and any status, or for any two, whichever is found first. Without such an
     /// entry it is `DeleteTicket` where `to` is `deleted`, and `ModifyTicket` otherwise.
     ///
-    /// It answers for any two texts, also for a status and itself.
-    #[tactic(auto, unfolding(crate::specs::Lifecycle::right_of_move))]
+    /// It answers for any two texts, also for a status and itself. The answer is a right's name.
     pub fn right_for(&self, from: &str, to: &str) -> &str
-        ensures { result.now ≡ words.right_of_move self.now from.now to.now }
+        ensures right { result.now ≡ words.right_of_move self.now from.now to.now }
+        ensures named { is_right_name result.now ≡ true }
     {
         self.right_of_entry(from, to)
             .or_else(|| self.right_of_entry(ANY_STATUS, to))
@@ -163,7 +164,8 @@ impl Lifecycle {
 
     /// The right of the entry for just these two texts.
     fn right_of_entry(&self, from: &str, to: &str) -> Option<&str>
-        ensures { option_copied result ≡ words.right_of_entry self.now from.now to.now }
+        ensures right { option_copied result ≡ words.right_of_entry self.now from.now to.now }
+        ensures sound { fault_of self.now ≡ None }
     {
         self.parts
             .rights

@@ -26,15 +26,17 @@ pub struct People {
 }
 
 impl Model for People {
+    ghost use Rattle.std.specs.Prelude.{◌≡◌, None};
     ghost use Rattle.rights_core.specs.declared.parts.Parts.{Parts};
     ghost use Rattle.rights_core.specs.Index.{IsMemberships, IsGrantsByRight};
+    ghost use Rattle.rights_core.specs.RightsFaults.{fault_of};
 
     ghost Value = { Parts };
 
     ghost view = { λ p. p.parts };
 
     ghost invariant = { λ p. IsMemberships p.parts.persons p.parts.groups p.memberships
-        × IsGrantsByRight p.parts.grants p.grants };
+        × IsGrantsByRight p.parts.grants p.grants × (fault_of p.parts ≡ None) };
 }
 
 impl People {
@@ -67,9 +69,10 @@ impl People {
         }
     }
 
-    /// The persons, groups and grants that the people were built from.
+    /// The persons, groups and grants that the people were built from, which have no fault.
     pub fn parts(&self) -> &Parts
-        ensures { result.now ≡ self.now }
+        ensures parts { result.now ≡ self.now }
+        ensures sound { fault_of self.now ≡ None }
     {
         &self.parts
     }

@@ -6,10 +6,6 @@ use Rattle.rights_core.specs.declared.parts.Group.{Group}
 use Rattle.rights_core.specs.Closure.{Marks, is_marked, name_at, no_group}
 use Rattle.rights_core.proofs.Marks.{mark_none, mark_one}
 use Rattle.rights_core.proofs.outer.mark.Goals as goal
-use Rattle.rights_core.proofs.outer.mark.Goals.{then-place-marks+then-not-marks-place+in_ok-clone+in_ok-push}
-use Rattle.rights_core.proofs.outer.mark.Goals.{else-place-marks}
-use Rattle.rights_core.proofs.outer.mark.Goals.{else-place-marks-via-then-place-marks+else-not-marks-place}
-use Rattle.rights_core.proofs.outer.mark.Goals.{else-place-marks-via-else-place-marks}
 
 pub loop-place-preserved : goal.loop-place-preserved
 loop-place-preserved c =
@@ -18,7 +14,7 @@ loop-place-preserved c =
     let i = c.loop-place.place-index in
     let place = get_or places i 0 in
     elim c.if-place-marks.branch [
-      | then-place-marks+then-not-marks-place+in_ok-clone+in_ok-push w ↦
+      | goal.then-place-marks+then-not-marks-place+in_ok-clone+in_ok-push w ↦
           let within : place < length c.loop-place.marks = w.if-place-marks.true in
           let unmarked : get_or c.loop-place.marks place false ≡ false = search rules in
           let inside : place < length groups =
@@ -46,12 +42,13 @@ loop-place-preserved c =
           within
           unmarked
           c.loop-place.invariant)
-      | else-place-marks w ↦
+      | goal.else-place-marks w ↦
           let already : place < length c.loop-place.marks
           → IsTrue (is_marked c.loop-place.marks place) =
           elim w.else-place-marks.branch [
-            | else-place-marks-via-then-place-marks+else-not-marks-place w' ↦ (λ _. search rules)
-            | else-place-marks-via-else-place-marks w' ↦
+            | goal.else-place-marks-via-then-place-marks+else-not-marks-place w' ↦
+                (λ _. search rules)
+            | goal.else-place-marks-via-else-place-marks w' ↦
                 (λ within. absurd (omega (arith, within, w'.if-place-marks.false)))
           ] in
           rw
