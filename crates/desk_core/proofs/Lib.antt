@@ -6,6 +6,7 @@ pub mod DueLaw
 pub mod Every
 pub mod Goes
 pub mod Kept
+pub mod NamedRights
 pub mod NamesLaw
 pub mod Placing
 pub mod Rising

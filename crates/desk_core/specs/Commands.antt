@@ -1,4 +1,5 @@
--- The commands: the plan of each, which requests it names, and whether it only reads.
+-- The commands: the plan of each, which requests it names, and whether it only reads or moves a
+-- request.
 use Rattle.std.specs.Prelude.{ℕ, ⊤, List, [], ◌∷◌, Some, None}
 use Rattle.desk_core.specs.Commands.Comment as comment
 use Rattle.desk_core.specs.Commands.Create as create
@@ -104,3 +105,8 @@ IsReading (command.SetLevel id level) = ⊥
 IsReading command.Queues = ⊤
 IsReading (command.Show id) = ⊤
 IsReading (command.History id) = ⊤
+
+-- the command asks for the right of a move of its lifecycle
+abbrev pub IsMove : Command → Type 0
+IsMove (command.SetStatus id status) = ⊤
+IsMove other = ⊥

@@ -18,7 +18,7 @@ use Rattle.desk_core.specs.Links.{has_link, link}
 use Rattle.desk_core.specs.Reading.{answer_of, is_shown}
 use Rattle.desk_core.specs.Refusals.{number_of}
 use Rattle.desk_core.specs.Rights.{holds_on, may_show}
-use Rattle.desk_core.specs.Step.{desk_after, outcome_of}
+use Rattle.desk_core.specs.Step.{Outcome, desk_after, outcome_of}
 use Rattle.desk_core.specs.View.{view}
 use Rattle.desk_core.specs.Watchers.{may_show_by, watchers_of}
 use Rattle.desk_core.specs.declared.answer.Answer.{Answer}
@@ -38,19 +38,21 @@ AtEveryStep Holds =
     (settings : Settings) (at : ℕ) (caller : List ℕ) (command : Command) (desk : Desk)
     → Holds settings at caller command desk
 
--- each request stays, and this holds of it as it was before the step and as it is after it
-abbrev pub EachStays : Settings → ℕ → List ℕ → Command → Desk → (Request → Request → Type 0)
-    → Type 0
-EachStays settings at caller command desk Holds =
-    (id : ℕ) (before : Request) → request_at desk id ≡ Some before
-    → (after : Request) × (request_at (desk_after settings at caller command desk) id ≡ Some after)
-    × Holds before after
+-- each request of the one desk stays on the other, and this holds of it as it was and as it is
+abbrev pub EachStays : Desk → Desk → (Request → Request → Type 0) → Type 0
+EachStays old new Holds =
+    (id : ℕ) (before : Request) → request_at old id ≡ Some before
+    → (after : Request) × (request_at new id ≡ Some after) × Holds before after
 
 -- The history law: a request stays, and its old entries are a prefix of its new ones.
+abbrev pub HistoryLaw : Desk → Desk → Type 0
+HistoryLaw old new =
+    EachStays old new (λ before after.
+    (added : List Entry) × (after.entries ≡ before.entries ++ added))
+
 abbrev pub KeepsHistory : Settings → ℕ → List ℕ → Command → Desk → Type 0
 KeepsHistory settings at caller command desk =
-    EachStays settings at caller command desk (λ before after.
-    (added : List Entry) × (after.entries ≡ before.entries ++ added))
+    HistoryLaw desk (desk_after settings at caller command desk)
 
 -- the command gives a request this owner, or leaves it without one
 abbrev pub SetsOwner : List ℕ → Command → ℕ → Option (List ℕ) → Type 0
@@ -66,12 +68,16 @@ MayOwn settings on (Some person) = holds_on settings person own_ticket on ≡ tr
 
 -- The owner law: where an owner changes, the command sets that owner, and a new one holds OwnTicket
 -- before the step.
-abbrev pub KeepsOwnerLaw : Settings → ℕ → List ℕ → Command → Desk → Type 0
-KeepsOwnerLaw settings at caller command desk =
-    EachStays settings at caller command desk (λ before after.
+abbrev pub OwnerLaw : Settings → List ℕ → Command → Desk → Desk → Type 0
+OwnerLaw settings caller command old new =
+    EachStays old new (λ before after.
     after.row.owner ≢ before.row.owner
     → SetsOwner caller command before.row.id after.row.owner
     × MayOwn settings (standing before) after.row.owner)
+
+abbrev pub KeepsOwnerLaw : Settings → ℕ → List ℕ → Command → Desk → Type 0
+KeepsOwnerLaw settings at caller command desk =
+    OwnerLaw settings caller command desk (desk_after settings at caller command desk)
 
 -- the command moves a request to this status, by this lifecycle: it asks for the move and the
 -- caller holds its right, or it is a reply and the status is the one to which the request is opened
@@ -90,26 +96,33 @@ IsLawfulMove settings caller lifecycle command on to =
 
 -- The status law: where a status changes, the lifecycle of the request's queue allows it, and the
 -- command moves it so.
+abbrev pub StatusLaw : Settings → List ℕ → Command → Desk → Desk → Type 0
+StatusLaw settings caller command old new =
+    EachStays old new (λ before after.
+    after.row.status ≢ before.row.status
+    → IsLawfulMove settings caller (lifecycle_of settings (queue_at old before.row.queue)) command
+    (standing before) after.row.status)
+
 abbrev pub KeepsStatusLaw : Settings → ℕ → List ℕ → Command → Desk → Type 0
 KeepsStatusLaw settings at caller command desk =
-    EachStays settings at caller command desk (λ before after.
-    after.row.status ≢ before.row.status
-    → IsLawfulMove settings caller (lifecycle_of settings (queue_at desk before.row.queue)) command
-    (standing before) after.row.status)
+    StatusLaw settings caller command desk (desk_after settings at caller command desk)
 
 -- the command names the request with that number
 abbrev pub names : Command → ℕ → Bool
 names command id = list_any (λ n. n == id) (requests_named command)
 
--- A request that the caller may not show is refused as one that isn't there, at either end of a
--- link too, whatever the command that names it.
-abbrev pub RefusesAsMissing : Settings → ℕ → List ℕ → Command → Desk → Type 0
-RefusesAsMissing settings at caller command desk =
+-- A command that names a request which the caller may not show is refused as where there is no such
+-- request, at either end of a link too.
+abbrev pub HiddenLaw : Settings → ℕ → List ℕ → Command → Desk → Outcome → Type 0
+HiddenLaw settings at caller command desk outcome =
     (id : ℕ) → names command id ≡ true → is_shown settings caller desk id ≡ false
-    → (refusal : Refusal) × (number_of refusal ≤ 4)
-    × (outcome_of settings at caller command desk ≡ Err refusal)
+    → (refusal : Refusal) × (number_of refusal ≤ 4) × (outcome ≡ Err refusal)
     × ((other : Desk) → request_at other id ≡ None
     → outcome_of settings at caller command other ≡ Err refusal)
+
+abbrev pub RefusesAsMissing : Settings → ℕ → List ℕ → Command → Desk → Type 0
+RefusesAsMissing settings at caller command desk =
+    HiddenLaw settings at caller command desk (outcome_of settings at caller command desk)
 
 -- a dependency of the request that isn't inactive by the lifecycle of its own queue
 pub record IsOpenDependency (settings : Settings) (desk : Desk) (id : ℕ)
@@ -122,12 +135,16 @@ pub record IsOpenDependency (settings : Settings) (desk : Desk) (id : ℕ)
 
 -- The dependency law: where a status changes to an inactive one, the request has no open
 -- dependency.
+abbrev pub DependencyLaw : Settings → Desk → Desk → Type 0
+DependencyLaw settings old new =
+    EachStays old new (λ before after.
+    after.row.status ≢ before.row.status
+    → is_inactive (lifecycle_of settings (queue_at old before.row.queue)) after.row.status ≡ true
+    → (other : Request) → IsOpenDependency settings old before.row.id other → ⊥)
+
 abbrev pub KeepsDependencyLaw : Settings → ℕ → List ℕ → Command → Desk → Type 0
 KeepsDependencyLaw settings at caller command desk =
-    EachStays settings at caller command desk (λ before after.
-    after.row.status ≢ before.row.status
-    → is_inactive (lifecycle_of settings (queue_at desk before.row.queue)) after.row.status ≡ true
-    → (other : Request) → IsOpenDependency settings desk before.row.id other → ⊥)
+    DependencyLaw settings desk (desk_after settings at caller command desk)
 
 -- the due moments that an answer tells, each with the number of its request
 abbrev pub dues_told : Answer → List (ℕ × Option ℕ)
@@ -144,17 +161,24 @@ IsDue settings desk told =
     × (told.1 ≡ due_on settings desk request)
 
 -- The due law: each due moment in an answer is that of its request, by the level that it has.
+abbrev pub DueLaw : Settings → Desk → Answer → Type 0
+DueLaw settings desk answer = All (IsDue settings desk) (dues_told answer)
+
 abbrev pub TellsDueMoments : Settings → ℕ → List ℕ → Command → Desk → Type 0
 TellsDueMoments settings at caller command desk =
-    All (IsDue settings desk) (dues_told (answer_of settings at caller command desk))
+    DueLaw settings desk (answer_of settings at caller command desk)
 
--- Nothing leaks by reading: what comes of a reading command is told of the caller's view of the
--- desk alone.
+-- Nothing leaks by reading: what comes of a reading command on the desk is what comes of it on the
+-- caller's view.
+abbrev pub ViewLaw : Settings → ℕ → List ℕ → Command → Desk → Outcome → Type 0
+ViewLaw settings at caller command desk outcome =
+    IsReading command
+    → outcome ≡ outcome_of settings at caller command (view settings caller desk)
+
 abbrev pub TellsOfTheView : Settings → ℕ → List ℕ → Command → Desk → Type 0
 TellsOfTheView settings at caller command desk =
-    IsDesk desk → IsReading command
-    → outcome_of settings at caller command desk
-    ≡ outcome_of settings at caller command (view settings caller desk)
+    IsDesk desk
+    → ViewLaw settings at caller command desk (outcome_of settings at caller command desk)
 
 -- A request outside the caller's view isn't there, or the caller may not show it.
 abbrev pub HidesTheRest : Settings → List ℕ → Desk → Type 0

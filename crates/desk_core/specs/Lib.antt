@@ -12,6 +12,7 @@ pub mod Due
 pub mod Entries
 pub mod Facts
 pub mod IsDesk
+pub mod Known
 pub mod Laws
 pub mod Lifecycles
 pub mod Links

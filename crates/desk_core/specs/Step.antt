@@ -79,11 +79,16 @@ pub record Ask : Type 0 where
   pub caller : List ℕ
   pub command : Command
 
--- one step after the other, each from the desk that the one before left
+-- one after the other, each from the desk that the one before left
+abbrev pub RunsBy : (Ask → Desk → Outcome → Desk → Type 0) → Desk → List Ask → List Outcome → Desk
+    → Type 0
+RunsBy Does old [] [] new = new ≡ old
+RunsBy Does old (ask ∷ asks) (outcome ∷ outcomes) new =
+    (mid : Desk) × Does ask old outcome mid × RunsBy Does mid asks outcomes new
+RunsBy Does old [] (outcome ∷ outcomes) new = ⊥
+RunsBy Does old (ask ∷ asks) [] new = ⊥
+
+-- a run of steps
 abbrev pub Runs : Settings → Desk → List Ask → List Outcome → Desk → Type 0
-Runs settings old [] [] new = new ≡ old
-Runs settings old (ask ∷ asks) (outcome ∷ outcomes) new =
-    (mid : Desk) × Steps settings ask.at ask.caller ask.command old outcome mid
-    × Runs settings mid asks outcomes new
-Runs settings old [] (outcome ∷ outcomes) new = ⊥
-Runs settings old (ask ∷ asks) [] new = ⊥
+Runs settings =
+    RunsBy (λ ask old outcome new. Steps settings ask.at ask.caller ask.command old outcome new)

@@ -4,12 +4,13 @@ ghost use Rattle.std.specs.Prelude.{if◌then◌else◌, IfOk, IfErr, OnOk, None
 ghost use Rattle.hours_core.specs.Moment.{is_moment};
 ghost use Rattle.rights_core.specs.Right.{own_ticket};
 ghost use Rattle.desk_core.specs.Change.{no_change};
-ghost use Rattle.desk_core.specs.Commands.{plan_of, IsReading};
+ghost use Rattle.desk_core.specs.Commands.{plan_of, IsMove, IsReading};
 ghost use Rattle.desk_core.specs.Condition.{Decides};
 ghost use Rattle.desk_core.specs.Context.{call_of};
 ghost use Rattle.desk_core.specs.Decision.{Accepts, FollowsPlan, Refuses};
 ghost use Rattle.desk_core.specs.Entries as entries;
 ghost use Rattle.desk_core.specs.Plan.{change_by, conditions_by, is_missing};
+ghost use Rattle.desk_core.specs.Refusals.{names_its_right};
 ghost use Rattle.desk_core.specs.Rights as rights;
 
 use crate::change::Change;
@@ -43,8 +44,8 @@ mod watch;
 /// that it makes, or the first refusal that is called for.
 ///
 /// On the facts of a desk, that is the refusal that the desk gives, or the change that leads to the
-/// desk after the command. A reading command changes nothing. Out of memory, the answer may be
-/// `Unavailable`.
+/// desk after the command. A reading command changes nothing. The right that `Denied` names is a
+/// right's name. Out of memory, the answer may be `Unavailable`.
 pub fn decide(
     alloc: Global,
     settings: &Settings,
@@ -57,6 +58,7 @@ pub fn decide(
     ensures refuses { Refuses settings.now at caller.now facts.now command.now result }
     ensures planned { FollowsPlan settings.now at caller.now facts.now command.now result }
     ensures reads { IsReading command.now → IfOk result (λ change. change ≡ no_change) }
+    ensures named { IfErr result (λ refusal. names_its_right refusal ≡ true) }
 {
     decide_on_facts(alloc, settings, at, caller, facts, command)
 }
@@ -70,7 +72,8 @@ fn decide_on_facts(
     facts: &Facts,
     command: &Command,
 ) -> Result<Change, Refusal>
-    ensures { FollowsPlan settings.now at caller.now facts.now command.now result }
+    ensures planned { FollowsPlan settings.now at caller.now facts.now command.now result }
+    ensures named { IfErr result (λ refusal. names_its_right refusal ≡ true) }
 {
     if !settings.people().knows(caller) {
         return Err(Refusal::UnknownCaller);
@@ -108,9 +111,11 @@ struct Context<'c> {
 impl<'c> Context<'c> {
     /// The decision, command by command.
     fn decide(&self, command: &Command) -> Result<Change, Refusal>
-        ensures { Decides result
+        ensures decides { Decides result
             (conditions_by (call_of self.now) self.now.facts.now (plan_of command.now))
             (change_by (call_of self.now) self.now.facts.now (plan_of command.now)) }
+        ensures moves { IsMove command.now
+            → IfErr result (λ refusal. names_its_right refusal ≡ true) }
     {
         match command {
             Command::OpenQueue {

@@ -34,8 +34,8 @@ pub fn dependency_law()
     ensures { AtEveryStep KeepsDependencyLaw }
 {}
 
-/// A request that the caller may not show is refused as one that isn't there, whatever the command
-/// that names it.
+/// A command that names a request which the caller may not show is refused as where there is no
+/// such request.
 pub fn hidden_law()
     ensures { AtEveryStep RefusesAsMissing }
 {}

@@ -1,6 +1,6 @@
 ghost use Rattle.std.specs.Prelude.{◌≡◌};
 ghost use Rattle.desk_core.specs.Rights as rights;
-ghost use Rattle.desk_core.specs.Watchers as watching;
+ghost use Rattle.desk_core.specs.Watchers as words;
 
 use crate::facts::Standing;
 use crate::rows::{QueueRow, RequestRow, WatchRole, Watcher};
@@ -16,7 +16,7 @@ pub fn may_show(
     request: &RequestRow,
     watchers: &[Watcher],
 ) -> bool
-    ensures { result ≡ watching.may_show_by settings.now person.now request.now watchers.now }
+    ensures { result ≡ words.may_show_by settings.now person.now request.now watchers.now }
 {
     let roles = roles_among(person, request, watchers);
     settings
@@ -88,7 +88,7 @@ impl Standing {
 
 /// The roles of a person on a request, as its watchers tell them.
 fn roles_among(person: &str, row: &RequestRow, watchers: &[Watcher]) -> Roles
-    ensures { result ≡ watching.roles_among person.now row.now watchers.now }
+    ensures { result ≡ words.roles_among person.now row.now watchers.now }
 {
     Roles {
         owner: match &row.owner {
@@ -103,13 +103,13 @@ fn roles_among(person: &str, row: &RequestRow, watchers: &[Watcher]) -> Roles
 
 /// Whether the person is in that role on the request with this number.
 fn is_watching(person: &str, id: u32, role: WatchRole, watchers: &[Watcher]) -> bool
-    ensures { result ≡ watching.is_watching person.now id role watchers.now }
+    ensures { result ≡ words.is_watching person.now id role watchers.now }
 {
     watchers.iter().any(|w| w.id == id && is_role(role, w.role) && w.person.as_str() == person)
 }
 
 fn is_role(role: WatchRole, other: WatchRole) -> bool
-    ensures { result ≡ watching.is_role role other }
+    ensures { result ≡ words.is_role role other }
 {
     match (role, other) {
         (WatchRole::Requestor, WatchRole::Requestor) => true,

@@ -1,13 +1,13 @@
 -- Opens a queue.
-use Rattle.std.specs.Prelude.{ℕ, Bool, true, not, ◌||◌, List, [], ◌∷◌}
+use Rattle.std.specs.Prelude.{ℕ, Bool, not, ◌||◌, List, [], ◌∷◌}
 use Rattle.std.specs.Prelude.{nat_le, Option, is_some, is_none}
-use Rattle.std.specs.Option.{option_map_or}
 use Rattle.text_core.specs.Form.{is_name}
 use Rattle.rights_core.specs.Right.{admin_queue}
-use Rattle.settings_core.specs.Settings.{lifecycle_named, level_named}
+use Rattle.settings_core.specs.Settings.{lifecycle_named}
 use Rattle.settings_core.specs.declared.settings.Settings.{Settings}
 use Rattle.desk_core.specs.Change.{opening}
 use Rattle.desk_core.specs.Condition.{Condition}
+use Rattle.desk_core.specs.Known.{knows_level}
 use Rattle.desk_core.specs.Plan.{Call}
 use Rattle.desk_core.specs.Rights.{holds_on_queue}
 use Rattle.desk_core.specs.declared.change.Change.{Change}
@@ -18,10 +18,6 @@ use Rattle.desk_core.specs.declared.refusal.Refusal.TheVariants.{Denied, Exists,
 -- no more queues than these are opened
 abbrev pub queue_limit : ℕ
 queue_limit = 1000
-
--- a level that is given is one of the settings
-abbrev pub knows_level : Settings → Option (List ℕ) → Bool
-knows_level settings level = option_map_or (λ l. is_some (level_named settings l)) level true
 
 -- the lifecycle or the level isn't one of the settings
 abbrev pub is_unknown : Settings → List ℕ → Option (List ℕ) → Bool

@@ -4,9 +4,9 @@ use Rattle.std.specs.Prelude.{Option, Some, None, unwrap_or, codes}
 use Rattle.std.specs.Str.{bytes_eq}
 use Rattle.rights_core.specs.Right.{modify_ticket}
 use Rattle.desk_core.specs.Change.{revising}
-use Rattle.desk_core.specs.Commands.OpenQueue.{knows_level}
 use Rattle.desk_core.specs.Condition.{Condition}
 use Rattle.desk_core.specs.Entries.{entry_of, lacks_room}
+use Rattle.desk_core.specs.Known.{knows_level}
 use Rattle.desk_core.specs.Plan.{Call}
 use Rattle.desk_core.specs.Rights.{holds_on}
 use Rattle.desk_core.specs.declared.change.Change.{Change}

@@ -1,5 +1,5 @@
 ghost use Rattle.std.specs.Prelude.{◌+◌, ◌^◌, ◌<◌, OnOk};
-ghost use Rattle.desk_core.specs.Commands.Comment as commenting;
+ghost use Rattle.desk_core.specs.Commands.Comment as comment;
 ghost use Rattle.desk_core.specs.Context.{DecidesOn, MakesOn, PassesOn};
 
 use crate::change::Change;
@@ -14,7 +14,7 @@ use text_core::{Sequence, Text};
 impl Context<'_> {
     /// Comments on the request.
     pub(super) fn comment(&self, on: &Standing, text: &Text) -> Result<Change, Refusal>
-        ensures { DecidesOn result commenting.conditions (commenting.change text.now)
+        ensures { DecidesOn result comment.conditions (comment.change text.now)
             self.now on.now }
     {
         self.ask_to_comment(on)?;
@@ -23,7 +23,7 @@ impl Context<'_> {
 
     #[tactic(auto, unfolding(rights_core::specs::Right::comment_on_ticket))]
     fn ask_to_comment(&self, on: &Standing) -> Result<(), Refusal>
-        ensures asks { PassesOn result commenting.conditions self.now on.now }
+        ensures asks { PassesOn result comment.conditions self.now on.now }
         ensures fits { OnOk result (on.now.entry_count + 1 < 2 ^ 32) }
     {
         self.ask(right::COMMENT_ON_TICKET, on)?;
@@ -32,7 +32,7 @@ impl Context<'_> {
 
     fn commented(&self, on: &Standing, text: &Text) -> Result<Change, AllocError>
         requires { on.now.entry_count + 1 < 2 ^ 32 }
-        ensures { MakesOn result (commenting.change text.now) self.now on.now }
+        ensures { MakesOn result (comment.change text.now) self.now on.now }
     {
         let empty = Text::new(self.alloc, "")?;
         let entry = self.entry(on, 1, EntryKind::Comment, empty, text.clone()?)?;

@@ -2,7 +2,7 @@ ghost use Rattle.std.specs.Prelude.{◌≡◌, map, IfOk, OnOk, ◌+◌, ◌^◌
 ghost use Rattle.std.specs.Option.{option_map};
 ghost use Rattle.std.specs.List.{list_all};
 ghost use Rattle.settings_core.specs.Settings.{knows};
-ghost use Rattle.desk_core.specs.Commands.Create as creating;
+ghost use Rattle.desk_core.specs.Commands.Create as create;
 ghost use Rattle.desk_core.specs.Condition.{Passes};
 ghost use Rattle.desk_core.specs.Context.{call_of, DecidesOnQueue};
 ghost use Rattle.desk_core.specs.Lifecycles as lifecycles;
@@ -28,8 +28,8 @@ impl Context<'_> {
         requestors: &Texts,
     ) -> Result<Change, Refusal>
         ensures { DecidesOnQueue result
-            (creating.conditions queue.now subject.now status.now requestors.now)
-            (creating.change queue.now subject.now status.now requestors.now) self.now }
+            (create.conditions queue.now subject.now status.now requestors.now)
+            (create.change queue.now subject.now status.now requestors.now) self.now }
     {
         self.ask_to_create(queue, subject, status, requestors)?;
         Ok(self.created(queue, subject, status, requestors)?)
@@ -44,7 +44,7 @@ impl Context<'_> {
         requestors: &Texts,
     ) -> Result<(), Refusal>
         ensures asks { Passes result
-            (creating.conditions queue.now subject.now status.now requestors.now
+            (create.conditions queue.now subject.now status.now requestors.now
             (call_of self.now) self.now.facts.now) }
         ensures fits { OnOk result (self.now.facts.now.request_count + 1 < 2 ^ 32) }
     {
@@ -86,7 +86,7 @@ impl Context<'_> {
     ) -> Result<Change, AllocError>
         requires { self.now.facts.now.request_count + 1 < 2 ^ 32 }
         ensures { IfOk result (λ change. change
-            ≡ creating.change queue.now subject.now status.now requestors.now
+            ≡ create.change queue.now subject.now status.now requestors.now
             (call_of self.now) self.now.facts.now) }
     {
         let lifecycle = lifecycle_of(self.settings, &self.facts.queue);
@@ -102,7 +102,7 @@ impl Context<'_> {
     fn new_row(&self, queue: &Text, subject: &Text, status: &str) -> Result<RequestRow, AllocError>
         requires { self.now.facts.now.request_count + 1 < 2 ^ 32 }
         ensures { IfOk result (λ row. row
-            ≡ creating.new_row (self.now.facts.now.request_count + 1) self.now.moment
+            ≡ create.new_row (self.now.facts.now.request_count + 1) self.now.moment
             queue.now subject.now status.now self.now.facts.now.queue) }
     {
         let level = match &self.facts.queue {
@@ -126,7 +126,7 @@ impl Context<'_> {
     /// The first entry of a request.
     fn first_entry(&self, id: u32, status: &str) -> Result<Entry, AllocError>
         ensures { IfOk result (λ entry.
-            entry ≡ creating.first_entry id (call_of self.now) status.now) }
+            entry ≡ create.first_entry id (call_of self.now) status.now) }
     {
         Ok(Entry {
             id,
@@ -142,7 +142,7 @@ impl Context<'_> {
     /// The persons given as requestors, each once, or the caller where none is given.
     fn requestors_of(&self, id: u32, given: &Texts) -> Result<Sequence<Watcher>, AllocError>
         ensures { IfOk result (λ watchers.
-            watchers ≡ creating.requestors_of id (call_of self.now) given.now) }
+            watchers ≡ create.requestors_of id (call_of self.now) given.now) }
     {
         let persons = if given.is_empty() {
             Texts::from(vec![in self.alloc; Text::new(self.alloc, self.caller)?]?)
@@ -155,7 +155,7 @@ impl Context<'_> {
 
 /// The persons as requestors of a request.
 fn as_requestors(alloc: Global, id: u32, persons: Texts) -> Result<Sequence<Watcher>, AllocError>
-    ensures { IfOk result (λ watchers. watchers ≡ map (creating.requestor id) persons) }
+    ensures { IfOk result (λ watchers. watchers ≡ map (create.requestor id) persons) }
 {
     let mut watchers = Vec::with_capacity(alloc, persons.len())?;
     for person in persons.as_slice() {

@@ -1,5 +1,5 @@
 ghost use Rattle.std.specs.Prelude.{◌≡◌, ◌+◌, ◌^◌, ◌<◌, OnOk};
-ghost use Rattle.desk_core.specs.Commands.Give as giving;
+ghost use Rattle.desk_core.specs.Commands.Give as give;
 ghost use Rattle.desk_core.specs.Context.{call_of, DecidesOn, PassesOn};
 
 use crate::change::Change;
@@ -12,7 +12,7 @@ use text_core::Text;
 impl Context<'_> {
     /// Makes a person the owner of a request.
     pub(super) fn give(&self, on: &Standing, person: &Text) -> Result<Change, Refusal>
-        ensures { DecidesOn result (giving.conditions person.now) (giving.change person.now)
+        ensures { DecidesOn result (give.conditions person.now) (give.change person.now)
             self.now on.now }
     {
         self.ask_to_give(on, person)?;
@@ -21,7 +21,7 @@ impl Context<'_> {
 
     #[tactic(auto, unfolding(rights_core::specs::Right::reassign_ticket))]
     fn ask_to_give(&self, on: &Standing, person: &Text) -> Result<(), Refusal>
-        ensures asks { PassesOn result (giving.conditions person.now) self.now on.now }
+        ensures asks { PassesOn result (give.conditions person.now) self.now on.now }
         ensures fits { OnOk result (on.now.entry_count + 1 < 2 ^ 32) }
     {
         if !self.settings.people().knows(person.as_str()) {
@@ -40,7 +40,7 @@ impl Context<'_> {
     /// Whether the caller owns the request, or may give away what others own.
     #[tactic(auto, unfolding(rights_core::specs::Right::reassign_ticket))]
     fn may_give(&self, on: &Standing) -> bool
-        ensures { result ≡ giving.may_give (call_of self.now) on.now }
+        ensures { result ≡ give.may_give (call_of self.now) on.now }
     {
         on.is_owned_by(self.caller) || self.holds(self.caller, right::REASSIGN_TICKET, on)
     }

@@ -1,5 +1,6 @@
-ghost use Rattle.std.specs.Prelude.{◌≡◌};
+ghost use Rattle.std.specs.Prelude.{◌≡◌, true};
 ghost use Rattle.std.specs.Option.{option_map};
+ghost use Rattle.text_core.specs.Form.{is_right_name};
 ghost use Rattle.desk_core.specs.Lifecycles as lifecycles;
 
 use crate::rows::QueueRow;
@@ -52,10 +53,12 @@ pub(super) fn is_allowed(lifecycle: Option<&Lifecycle>, from: &Text, to: &Text) 
     }
 }
 
-/// The right that a move asks for.
+/// The right that a move asks for: a right's name, where the lifecycle has the status.
 pub(super) fn right_of<'s>(lifecycle: Option<&'s Lifecycle>, from: &Text, to: &Text) -> &'s str
-    ensures { result.now
+    ensures right { result.now
         ≡ lifecycles.right_of (option_map (λ l. l.now) lifecycle.entry) from.now to.now }
+    ensures named { lifecycles.has_status (option_map (λ l. l.now) lifecycle.entry) to.now ≡ true
+        → is_right_name result.now ≡ true }
 {
     match lifecycle {
         Some(lifecycle) => lifecycle.right_for(from.as_str(), to.as_str()),

@@ -1,5 +1,5 @@
 ghost use Rattle.std.specs.Prelude.{◌≡◌, ◌+◌, ◌^◌, ◌<◌, IfOk, OnOk, decimal};
-ghost use Rattle.desk_core.specs.Commands.Link as linking;
+ghost use Rattle.desk_core.specs.Commands.Link as link;
 ghost use Rattle.desk_core.specs.Context.{DecidesOn, MakesOn, PassesOn};
 
 use crate::change::Change;
@@ -14,7 +14,7 @@ use text_core::{Sequence, Text};
 impl Context<'_> {
     /// Links the request with another one.
     pub(super) fn link(&self, on: &Standing, kind: LinkKind, other: u32) -> Result<Change, Refusal>
-        ensures { DecidesOn result (linking.conditions other) (linking.change kind other)
+        ensures { DecidesOn result (link.conditions other) (link.change kind other)
             self.now on.now }
     {
         self.ask_to_link(on, other)?;
@@ -23,7 +23,7 @@ impl Context<'_> {
 
     #[tactic(auto, unfolding(rights_core::specs::Right::modify_ticket))]
     fn ask_to_link(&self, on: &Standing, other: u32) -> Result<(), Refusal>
-        ensures asks { PassesOn result (linking.conditions other) self.now on.now }
+        ensures asks { PassesOn result (link.conditions other) self.now on.now }
         ensures fits { OnOk result (on.now.entry_count + 1 < 2 ^ 32) }
     {
         self.ask(right::MODIFY_TICKET, on)?;
@@ -38,7 +38,7 @@ impl Context<'_> {
 
     fn linked(&self, on: &Standing, kind: LinkKind, other: u32) -> Result<Change, AllocError>
         requires { on.now.entry_count + 1 < 2 ^ 32 }
-        ensures { MakesOn result (linking.change kind other) self.now on.now }
+        ensures { MakesOn result (link.change kind other) self.now on.now }
     {
         let head = Text::new(self.alloc, kind_word(kind))?;
         let body = in_digits(self.alloc, other)?;
@@ -54,7 +54,7 @@ impl Context<'_> {
 }
 
 pub(super) fn kind_word(kind: LinkKind) -> &'static str
-    ensures { result.now ≡ linking.kind_word kind }
+    ensures { result.now ≡ link.kind_word kind }
 {
     match kind {
         LinkKind::DependsOn => "DependsOn",

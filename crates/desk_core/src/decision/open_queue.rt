@@ -1,6 +1,7 @@
 ghost use Rattle.std.specs.Prelude.{◌≡◌};
-ghost use Rattle.desk_core.specs.Commands.OpenQueue as opening;
+ghost use Rattle.desk_core.specs.Commands.OpenQueue as open_queue;
 ghost use Rattle.desk_core.specs.Context.{DecidesOnQueue};
+ghost use Rattle.desk_core.specs.Known as known;
 
 use crate::change::Change;
 use crate::decision::Context;
@@ -21,8 +22,8 @@ impl Context<'_> {
         lifecycle: &Text,
         level: &Option<Text>,
     ) -> Result<Change, Refusal>
-        ensures { DecidesOnQueue result (opening.conditions name.now lifecycle.now level.now)
-            (opening.change name.now lifecycle.now level.now) self.now }
+        ensures { DecidesOnQueue result (open_queue.conditions name.now lifecycle.now level.now)
+            (open_queue.change name.now lifecycle.now level.now) self.now }
     {
         if !is_name(name.as_str()) {
             return Err(Refusal::BadText);
@@ -47,7 +48,7 @@ impl Context<'_> {
 
     /// Whether a level that is given is one of the settings.
     pub(super) fn knows_level(&self, level: &Option<Text>) -> bool
-        ensures { result ≡ opening.knows_level self.now.settings.now level.now }
+        ensures { result ≡ known.knows_level self.now.settings.now level.now }
     {
         match level {
             Some(level) => self.settings.level(level.as_str()).is_some(),

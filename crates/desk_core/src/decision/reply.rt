@@ -1,6 +1,6 @@
 ghost use Rattle.std.specs.Prelude.{◌≡◌, ◌+◌, ◌^◌, ◌<◌, IfOk, OnOk};
 ghost use Rattle.std.specs.Option.{option_map};
-ghost use Rattle.desk_core.specs.Commands.Reply as replying;
+ghost use Rattle.desk_core.specs.Commands.Reply as reply;
 ghost use Rattle.desk_core.specs.Context.{call_of, DecidesOn, MakesOn, PassesOn};
 
 use crate::change::Change;
@@ -18,7 +18,7 @@ use text_core::{Sequence, Text};
 impl Context<'_> {
     /// Replies to the request: the reply may open it again, and the turn passes.
     pub(super) fn reply(&self, on: &Standing, text: &Text) -> Result<Change, Refusal>
-        ensures { DecidesOn result replying.conditions (replying.change text.now) self.now on.now }
+        ensures { DecidesOn result reply.conditions (reply.change text.now) self.now on.now }
     {
         self.ask_to_reply(on)?;
         Ok(self.replied(on, text)?)
@@ -26,9 +26,9 @@ impl Context<'_> {
 
     #[tactic(auto, unfolding(rights_core::specs::Right::reply_to_ticket))]
     fn ask_to_reply(&self, on: &Standing) -> Result<(), Refusal>
-        ensures asks { PassesOn result replying.conditions self.now on.now }
+        ensures asks { PassesOn result reply.conditions self.now on.now }
         ensures fits { OnOk result (on.now.entry_count
-            + replying.entries_wanted (call_of self.now) self.now.facts.now on.now < 2 ^ 32) }
+            + reply.entries_wanted (call_of self.now) self.now.facts.now on.now < 2 ^ 32) }
     {
         self.ask(right::REPLY_TO_TICKET, on)?;
         self.ask_for_room(on, self.entries_wanted(on)?)
@@ -37,7 +37,7 @@ impl Context<'_> {
     /// How many entries a reply appends.
     fn entries_wanted(&self, on: &Standing) -> Result<u32, AllocError>
         ensures { IfOk result (λ count.
-            count ≡ replying.entries_wanted (call_of self.now) self.now.facts.now on.now) }
+            count ≡ reply.entries_wanted (call_of self.now) self.now.facts.now on.now) }
     {
         let reopened = self.move_of(on)?;
         Ok(entries_of_move(&reopened))
@@ -45,8 +45,8 @@ impl Context<'_> {
 
     fn replied(&self, on: &Standing, text: &Text) -> Result<Change, AllocError>
         requires { on.now.entry_count
-            + replying.entries_wanted (call_of self.now) self.now.facts.now on.now < 2 ^ 32 }
-        ensures { MakesOn result (replying.change text.now) self.now on.now }
+            + reply.entries_wanted (call_of self.now) self.now.facts.now on.now < 2 ^ 32 }
+        ensures { MakesOn result (reply.change text.now) self.now on.now }
     {
         let reopened = self.move_of(on)?;
         let row = self.replied_row(on, &reopened)?;
@@ -57,7 +57,7 @@ impl Context<'_> {
     /// The status that a reply moves the request to, if it moves it.
     fn move_of(&self, on: &Standing) -> Result<Option<Text>, AllocError>
         ensures { IfOk result (λ move.
-            move ≡ replying.move_of (call_of self.now) self.now.facts.now on.now) }
+            move ≡ reply.move_of (call_of self.now) self.now.facts.now on.now) }
     {
         let lifecycle = lifecycle_of(self.settings, &self.facts.queue);
         let is_requestor = on.requestors.contains(self.caller);
@@ -70,7 +70,7 @@ impl Context<'_> {
     /// The row after a reply.
     fn replied_row(&self, on: &Standing, reopened: &Option<Text>) -> Result<RequestRow, AllocError>
         ensures { IfOk result (λ row. row
-            ≡ replying.replied_row (call_of self.now) self.now.facts.now reopened.now on.now) }
+            ≡ reply.replied_row (call_of self.now) self.now.facts.now reopened.now on.now) }
     {
         let lifecycle = lifecycle_of(self.settings, &self.facts.queue);
         let is_requestor = on.requestors.contains(self.caller);
@@ -88,9 +88,9 @@ impl Context<'_> {
         text: &Text,
         reopened: &Option<Text>,
     ) -> Result<Sequence<Entry>, AllocError>
-        requires { on.now.entry_count + replying.entries_of_move reopened.now < 2 ^ 32 }
+        requires { on.now.entry_count + reply.entries_of_move reopened.now < 2 ^ 32 }
         ensures { IfOk result (λ entries. entries
-            ≡ replying.entries_of text.now (call_of self.now) on.now reopened.now) }
+            ≡ reply.entries_of text.now (call_of self.now) on.now reopened.now) }
     {
         let empty = Text::new(self.alloc, "")?;
         let mut entries = Vec::new(self.alloc);
@@ -109,7 +109,7 @@ impl Context<'_> {
 
 /// How many entries a reply appends.
 fn entries_of_move(reopened: &Option<Text>) -> u32
-    ensures { result ≡ replying.entries_of_move reopened.now }
+    ensures { result ≡ reply.entries_of_move reopened.now }
 {
     match reopened {
         Some(_) => 2,
@@ -124,7 +124,7 @@ fn reply_target<'s>(
     status: &Text,
 ) -> Option<&'s str>
     ensures { option_map (λ s. s.now) result
-        ≡ replying.reply_target (option_map (λ l. l.now) lifecycle.entry) is_requestor status.now }
+        ≡ reply.reply_target (option_map (λ l. l.now) lifecycle.entry) is_requestor status.now }
 {
     if is_inactive(lifecycle, status) || (is_initial(lifecycle, status) && !is_requestor) {
         reopening_of(lifecycle, status)
@@ -135,7 +135,7 @@ fn reply_target<'s>(
 
 /// The row after the turn has passed.
 fn turned(is_requestor: bool, at: Minute, row: RequestRow) -> RequestRow
-    ensures { result ≡ replying.turned is_requestor at row }
+    ensures { result ≡ reply.turned is_requestor at row }
 {
     let mut turned = row;
     if is_requestor {

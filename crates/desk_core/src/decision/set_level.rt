@@ -1,5 +1,5 @@
 ghost use Rattle.std.specs.Prelude.{◌≡◌, ◌+◌, ◌^◌, ◌<◌, IfOk, OnOk};
-ghost use Rattle.desk_core.specs.Commands.SetLevel as levelling;
+ghost use Rattle.desk_core.specs.Commands.SetLevel as set_level;
 ghost use Rattle.desk_core.specs.Context.{DecidesOn, MakesOn, PassesOn};
 
 use crate::change::Change;
@@ -14,7 +14,7 @@ use text_core::{Sequence, Text};
 impl Context<'_> {
     /// Gives the request another level, or none.
     pub(super) fn set_level(&self, on: &Standing, level: &Option<Text>) -> Result<Change, Refusal>
-        ensures { DecidesOn result (levelling.conditions level.now) (levelling.change level.now)
+        ensures { DecidesOn result (set_level.conditions level.now) (set_level.change level.now)
             self.now on.now }
     {
         self.ask_to_set_level(on, level)?;
@@ -23,7 +23,7 @@ impl Context<'_> {
 
     #[tactic(auto, unfolding(rights_core::specs::Right::modify_ticket))]
     fn ask_to_set_level(&self, on: &Standing, level: &Option<Text>) -> Result<(), Refusal>
-        ensures asks { PassesOn result (levelling.conditions level.now) self.now on.now }
+        ensures asks { PassesOn result (set_level.conditions level.now) self.now on.now }
         ensures fits { OnOk result (on.now.entry_count + 1 < 2 ^ 32) }
     {
         if !self.knows_level(level) {
@@ -38,7 +38,7 @@ impl Context<'_> {
 
     fn levelled(&self, on: &Standing, level: &Option<Text>) -> Result<Change, AllocError>
         requires { on.now.entry_count + 1 < 2 ^ 32 }
-        ensures { MakesOn result (levelling.change level.now) self.now on.now }
+        ensures { MakesOn result (set_level.change level.now) self.now on.now }
     {
         let old = level_word(self.alloc, &on.row.level)?;
         let new = level_word(self.alloc, level)?;
@@ -51,7 +51,7 @@ impl Context<'_> {
 
 /// The row with this level, or with none.
 fn with_level(row: &RequestRow, level: &Option<Text>) -> Result<RequestRow, AllocError>
-    ensures { IfOk result (λ levelled. levelled ≡ levelling.with_level level.now row.now) }
+    ensures { IfOk result (λ levelled. levelled ≡ set_level.with_level level.now row.now) }
 {
     let mut levelled = row.clone()?;
     levelled.level = level.clone()?;
@@ -59,7 +59,7 @@ fn with_level(row: &RequestRow, level: &Option<Text>) -> Result<RequestRow, Allo
 }
 
 fn is_same_level(a: &Option<Text>, b: &Option<Text>) -> bool
-    ensures { result ≡ levelling.is_same_level a.now b.now }
+    ensures { result ≡ set_level.is_same_level a.now b.now }
 {
     match (a, b) {
         (Some(a), Some(b)) => *a == *b,
@@ -70,7 +70,7 @@ fn is_same_level(a: &Option<Text>, b: &Option<Text>) -> bool
 
 /// A level in an entry, or a dash for none.
 fn level_word(alloc: Global, level: &Option<Text>) -> Result<Text, AllocError>
-    ensures { IfOk result (λ word. word ≡ levelling.level_word level.now) }
+    ensures { IfOk result (λ word. word ≡ set_level.level_word level.now) }
 {
     match level {
         Some(level) => level.clone(),

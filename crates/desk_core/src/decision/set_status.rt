@@ -1,7 +1,8 @@
-ghost use Rattle.std.specs.Prelude.{◌≡◌, ◌+◌, ◌^◌, ◌<◌, IfOk};
+ghost use Rattle.std.specs.Prelude.{◌≡◌, ◌+◌, ◌^◌, ◌<◌, true, IfOk, IfErr};
 ghost use Rattle.std.specs.Option.{option_map};
-ghost use Rattle.desk_core.specs.Commands.SetStatus as setting;
+ghost use Rattle.desk_core.specs.Commands.SetStatus as set_status;
 ghost use Rattle.desk_core.specs.Context.{call_of, DecidesOn};
+ghost use Rattle.desk_core.specs.Refusals.{names_its_right};
 
 use crate::change::Change;
 use crate::decision::Context;
@@ -19,8 +20,9 @@ use text_core::{Sequence, Text};
 impl Context<'_> {
     /// Moves the request to another status.
     pub(super) fn set_status(&self, on: &Standing, status: &Text) -> Result<Change, Refusal>
-        ensures { DecidesOn result (setting.conditions status.now) (setting.change status.now)
-            self.now on.now }
+        ensures decides { DecidesOn result (set_status.conditions status.now)
+            (set_status.change status.now) self.now on.now }
+        ensures named { IfErr result (λ refusal. names_its_right refusal ≡ true) }
     {
         let lifecycle = lifecycle_of(self.settings, &self.facts.queue);
         if !has_status(lifecycle, status) {
@@ -52,7 +54,7 @@ impl Context<'_> {
         row: &RequestRow,
         status: &Text,
     ) -> Result<RequestRow, AllocError>
-        ensures { IfOk result (λ moved. moved ≡ setting.row_in_status
+        ensures { IfOk result (λ moved. moved ≡ set_status.row_in_status
             (option_map (λ l. l.now) lifecycle.entry) self.now.moment status.now row.now) }
     {
         let mut moved = row.clone()?;
@@ -73,7 +75,7 @@ impl Context<'_> {
     ) -> Result<Entry, AllocError>
         requires { on.now.entry_count + number < 2 ^ 32 }
         ensures { IfOk result (λ entry.
-            entry ≡ setting.moving (call_of self.now) on.now number status.now) }
+            entry ≡ set_status.moving (call_of self.now) on.now number status.now) }
     {
         self.entry(
             on,
@@ -87,7 +89,7 @@ impl Context<'_> {
 
 /// Whether one of the requests that another one depends on isn't inactive.
 fn has_open_dependency(settings: &Settings, dependencies: &Sequence<Dependency>) -> bool
-    ensures { result ≡ setting.has_open_dependency settings.now dependencies.now }
+    ensures { result ≡ set_status.has_open_dependency settings.now dependencies.now }
 {
     dependencies
         .as_slice()
@@ -96,7 +98,7 @@ fn has_open_dependency(settings: &Settings, dependencies: &Sequence<Dependency>)
 }
 
 fn is_open_dependency(settings: &Settings, dependency: &Dependency) -> bool
-    ensures { result ≡ setting.is_open_dependency settings.now dependency.now }
+    ensures { result ≡ set_status.is_open_dependency settings.now dependency.now }
 {
     !is_inactive(
         settings.lifecycle(dependency.lifecycle.as_str()),

@@ -1,5 +1,5 @@
 ghost use Rattle.std.specs.Prelude.{◌+◌, ◌^◌, ◌<◌, OnOk};
-ghost use Rattle.desk_core.specs.Commands.Steal as stealing;
+ghost use Rattle.desk_core.specs.Commands.Steal as steal;
 ghost use Rattle.desk_core.specs.Context.{DecidesOn, PassesOn};
 
 use crate::change::Change;
@@ -12,7 +12,7 @@ use text_core::Text;
 impl Context<'_> {
     /// Makes the caller the owner of a request that another person owns.
     pub(super) fn steal(&self, on: &Standing) -> Result<Change, Refusal>
-        ensures { DecidesOn result stealing.conditions stealing.change self.now on.now }
+        ensures { DecidesOn result steal.conditions steal.change self.now on.now }
     {
         self.ask_to_steal(on)?;
         let caller = Text::new(self.alloc, self.caller)?;
@@ -21,7 +21,7 @@ impl Context<'_> {
 
     #[tactic(auto, unfolding(rights_core::specs::Right::steal_ticket))]
     fn ask_to_steal(&self, on: &Standing) -> Result<(), Refusal>
-        ensures asks { PassesOn result stealing.conditions self.now on.now }
+        ensures asks { PassesOn result steal.conditions self.now on.now }
         ensures fits { OnOk result (on.now.entry_count + 1 < 2 ^ 32) }
     {
         self.ask(right::STEAL_TICKET, on)?;

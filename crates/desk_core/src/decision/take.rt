@@ -1,5 +1,5 @@
 ghost use Rattle.std.specs.Prelude.{◌≡◌, ◌+◌, ◌^◌, ◌<◌, IfOk, OnOk, Some};
-ghost use Rattle.desk_core.specs.Commands.Take as taking;
+ghost use Rattle.desk_core.specs.Commands.Take as take;
 ghost use Rattle.desk_core.specs.Entries as entries;
 ghost use Rattle.desk_core.specs.Context.{call_of, DecidesOn, PassesOn};
 
@@ -15,7 +15,7 @@ use text_core::{Sequence, Text};
 impl Context<'_> {
     /// Makes the caller the owner of a request that nobody owns.
     pub(super) fn take(&self, on: &Standing) -> Result<Change, Refusal>
-        ensures { DecidesOn result taking.conditions taking.change self.now on.now }
+        ensures { DecidesOn result take.conditions take.change self.now on.now }
     {
         self.ask_to_take(on)?;
         let caller = Text::new(self.alloc, self.caller)?;
@@ -24,7 +24,7 @@ impl Context<'_> {
 
     #[tactic(auto, unfolding(rights_core::specs::Right::take_ticket))]
     fn ask_to_take(&self, on: &Standing) -> Result<(), Refusal>
-        ensures asks { PassesOn result taking.conditions self.now on.now }
+        ensures asks { PassesOn result take.conditions self.now on.now }
         ensures fits { OnOk result (on.now.entry_count + 1 < 2 ^ 32) }
     {
         self.ask(right::TAKE_TICKET, on)?;
@@ -46,7 +46,7 @@ impl Context<'_> {
     ) -> Result<Change, AllocError>
         requires { on.now.entry_count + 1 < 2 ^ 32 }
         ensures { IfOk result (λ change.
-            change ≡ taking.giving_owner owner (call_of self.now) on.now) }
+            change ≡ take.giving_owner owner (call_of self.now) on.now) }
     {
         let old = owner_word(self.alloc, &on.row.owner)?;
         let new = owner_word(self.alloc, &owner)?;
@@ -59,7 +59,7 @@ impl Context<'_> {
 
 /// The row with this owner, or with none.
 fn with_owner(row: &RequestRow, owner: Option<Text>) -> Result<RequestRow, AllocError>
-    ensures { IfOk result (λ owned. owned ≡ taking.with_owner owner row.now) }
+    ensures { IfOk result (λ owned. owned ≡ take.with_owner owner row.now) }
 {
     let mut owned = row.clone()?;
     owned.owner = owner;

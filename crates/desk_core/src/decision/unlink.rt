@@ -1,5 +1,5 @@
 ghost use Rattle.std.specs.Prelude.{◌+◌, ◌^◌, ◌<◌, OnOk};
-ghost use Rattle.desk_core.specs.Commands.Unlink as unlinking;
+ghost use Rattle.desk_core.specs.Commands.Unlink as unlink;
 ghost use Rattle.desk_core.specs.Context.{DecidesOn, MakesOn, PassesOn};
 
 use crate::change::Change;
@@ -20,7 +20,7 @@ impl Context<'_> {
         kind: LinkKind,
         other: u32,
     ) -> Result<Change, Refusal>
-        ensures { DecidesOn result unlinking.conditions (unlinking.change kind other)
+        ensures { DecidesOn result unlink.conditions (unlink.change kind other)
             self.now on.now }
     {
         self.ask_to_unlink(on)?;
@@ -29,7 +29,7 @@ impl Context<'_> {
 
     #[tactic(auto, unfolding(rights_core::specs::Right::modify_ticket))]
     fn ask_to_unlink(&self, on: &Standing) -> Result<(), Refusal>
-        ensures asks { PassesOn result unlinking.conditions self.now on.now }
+        ensures asks { PassesOn result unlink.conditions self.now on.now }
         ensures fits { OnOk result (on.now.entry_count + 1 < 2 ^ 32) }
     {
         self.ask(right::MODIFY_TICKET, on)?;
@@ -41,7 +41,7 @@ impl Context<'_> {
 
     fn unlinked(&self, on: &Standing, kind: LinkKind, other: u32) -> Result<Change, AllocError>
         requires { on.now.entry_count + 1 < 2 ^ 32 }
-        ensures { MakesOn result (unlinking.change kind other) self.now on.now }
+        ensures { MakesOn result (unlink.change kind other) self.now on.now }
     {
         let head = Text::new(self.alloc, kind_word(kind))?;
         let body = in_digits(self.alloc, other)?;

@@ -1,5 +1,5 @@
 ghost use Rattle.std.specs.Prelude.{◌+◌, ◌^◌, ◌<◌, OnOk};
-ghost use Rattle.desk_core.specs.Commands.Untake as untaking;
+ghost use Rattle.desk_core.specs.Commands.Untake as untake;
 ghost use Rattle.desk_core.specs.Context.{DecidesOn, PassesOn};
 
 use crate::change::Change;
@@ -10,14 +10,14 @@ use crate::refusal::Refusal;
 impl Context<'_> {
     /// Leaves a request that the caller owns without an owner.
     pub(super) fn untake(&self, on: &Standing) -> Result<Change, Refusal>
-        ensures { DecidesOn result untaking.conditions untaking.change self.now on.now }
+        ensures { DecidesOn result untake.conditions untake.change self.now on.now }
     {
         self.ask_to_untake(on)?;
         Ok(self.giving_owner(None, on)?)
     }
 
     fn ask_to_untake(&self, on: &Standing) -> Result<(), Refusal>
-        ensures asks { PassesOn result untaking.conditions self.now on.now }
+        ensures asks { PassesOn result untake.conditions self.now on.now }
         ensures fits { OnOk result (on.now.entry_count + 1 < 2 ^ 32) }
     {
         if on.row.owner.is_none() {

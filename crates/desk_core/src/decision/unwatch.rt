@@ -1,5 +1,5 @@
 ghost use Rattle.std.specs.Prelude.{◌+◌, ◌^◌, ◌<◌, OnOk};
-ghost use Rattle.desk_core.specs.Commands.Unwatch as unwatching;
+ghost use Rattle.desk_core.specs.Commands.Unwatch as unwatch;
 ghost use Rattle.desk_core.specs.Context.{DecidesOn, MakesOn, PassesOn};
 
 use crate::change::Change;
@@ -20,8 +20,8 @@ impl Context<'_> {
         role: WatchRole,
         person: &Text,
     ) -> Result<Change, Refusal>
-        ensures { DecidesOn result (unwatching.conditions role person.now)
-            (unwatching.change role person.now) self.now on.now }
+        ensures { DecidesOn result (unwatch.conditions role person.now)
+            (unwatch.change role person.now) self.now on.now }
     {
         self.ask_to_unwatch(on, role, person)?;
         Ok(self.unwatched(on, role, person)?)
@@ -29,7 +29,7 @@ impl Context<'_> {
 
     #[tactic(auto, unfolding(rights_core::specs::Right::modify_ticket))]
     fn ask_to_unwatch(&self, on: &Standing, role: WatchRole, person: &Text) -> Result<(), Refusal>
-        ensures asks { PassesOn result (unwatching.conditions role person.now) self.now on.now }
+        ensures asks { PassesOn result (unwatch.conditions role person.now) self.now on.now }
         ensures fits { OnOk result (on.now.entry_count + 1 < 2 ^ 32) }
     {
         if !self.settings.people().knows(person.as_str()) {
@@ -46,7 +46,7 @@ impl Context<'_> {
 
     fn unwatched(&self, on: &Standing, role: WatchRole, person: &Text) -> Result<Change, AllocError>
         requires { on.now.entry_count + 1 < 2 ^ 32 }
-        ensures { MakesOn result (unwatching.change role person.now) self.now on.now }
+        ensures { MakesOn result (unwatch.change role person.now) self.now on.now }
     {
         let head = Text::new(self.alloc, role_word(role))?;
         let entry = self.entry(on, 1, EntryKind::Unwatch, head, person.clone()?)?;

@@ -1,5 +1,5 @@
 ghost use Rattle.std.specs.Prelude.{◌≡◌, ◌+◌, ◌^◌, ◌<◌, IfOk, OnOk};
-ghost use Rattle.desk_core.specs.Commands.Watch as watching;
+ghost use Rattle.desk_core.specs.Commands.Watch as watch;
 ghost use Rattle.desk_core.specs.Watchers as watchers;
 ghost use Rattle.desk_core.specs.Context.{call_of, DecidesOn, MakesOn, PassesOn};
 
@@ -20,8 +20,8 @@ impl Context<'_> {
         role: WatchRole,
         person: &Text,
     ) -> Result<Change, Refusal>
-        ensures { DecidesOn result (watching.conditions role person.now)
-            (watching.change role person.now) self.now on.now }
+        ensures { DecidesOn result (watch.conditions role person.now)
+            (watch.change role person.now) self.now on.now }
     {
         self.ask_to_watch(on, role, person)?;
         Ok(self.watched(on, role, person)?)
@@ -29,7 +29,7 @@ impl Context<'_> {
 
     #[tactic(auto, unfolding(rights_core::specs::Right::modify_ticket))]
     fn ask_to_watch(&self, on: &Standing, role: WatchRole, person: &Text) -> Result<(), Refusal>
-        ensures asks { PassesOn result (watching.conditions role person.now) self.now on.now }
+        ensures asks { PassesOn result (watch.conditions role person.now) self.now on.now }
         ensures fits { OnOk result (on.now.entry_count + 1 < 2 ^ 32) }
     {
         if !self.settings.people().knows(person.as_str()) {
@@ -46,7 +46,7 @@ impl Context<'_> {
 
     fn watched(&self, on: &Standing, role: WatchRole, person: &Text) -> Result<Change, AllocError>
         requires { on.now.entry_count + 1 < 2 ^ 32 }
-        ensures { MakesOn result (watching.change role person.now) self.now on.now }
+        ensures { MakesOn result (watch.change role person.now) self.now on.now }
     {
         let head = Text::new(self.alloc, role_word(role))?;
         let entry = self.entry(on, 1, EntryKind::Watch, head, person.clone()?)?;
@@ -58,7 +58,7 @@ impl Context<'_> {
     /// Whether the caller may modify the request, or names himself and may watch it.
     #[tactic(auto, unfolding(rights_core::specs::Right::modify_ticket))]
     pub(super) fn may_set_role(&self, on: &Standing, role: WatchRole, person: &Text) -> bool
-        ensures { result ≡ watching.may_set_role role person.now (call_of self.now) on.now }
+        ensures { result ≡ watch.may_set_role role person.now (call_of self.now) on.now }
     {
         self.holds(self.caller, right::MODIFY_TICKET, on)
             || (person.as_str() == self.caller && self.holds(self.caller, right_to_watch(role), on))
@@ -77,7 +77,7 @@ pub(super) fn watcher(on: &Standing, role: WatchRole, person: &Text) -> Result<W
 }
 
 pub(super) fn persons_in(role: WatchRole, on: &Standing) -> &Texts
-    ensures { result.now ≡ watching.persons_in role on.now }
+    ensures { result.now ≡ watch.persons_in role on.now }
 {
     match role {
         WatchRole::Requestor => &on.requestors,
@@ -87,9 +87,8 @@ pub(super) fn persons_in(role: WatchRole, on: &Standing) -> &Texts
 }
 
 /// The right to put oneself into a role.
-#[tactic(auto, unfolding(rights_core::specs::Right::watch, rights_core::specs::Right::watch_as_admin_cc))]
 fn right_to_watch(role: WatchRole) -> &'static str
-    ensures { result.now ≡ watching.right_to_watch role }
+    ensures { result.now ≡ watch.right_to_watch role }
 {
     match role {
         WatchRole::Requestor => right::WATCH,
@@ -99,7 +98,7 @@ fn right_to_watch(role: WatchRole) -> &'static str
 }
 
 pub(super) fn role_word(role: WatchRole) -> &'static str
-    ensures { result.now ≡ watching.role_word role }
+    ensures { result.now ≡ watch.role_word role }
 {
     match role {
         WatchRole::Requestor => "requestor",
