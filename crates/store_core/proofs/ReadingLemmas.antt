@@ -1,5 +1,6 @@
 -- What each query shows of the desk that the tables stand for.
-use Rattle.std.proofs.Common.{◌≡◌, ℕ, true, List, [], ◌∷◌, filter, Ok, Err, Result, IfOk, IfErr}
+use Rattle.std.proofs.Common.{◌≡◌, ℕ, ℤ, Bool, true, List, [], ◌∷◌, filter}
+use Rattle.std.proofs.Common.{Ok, Err, Result, IfOk, IfErr}
 use Rattle.std.proofs.Common.{refl, sym, subst, ◌∙◌}
 use Rattle.sqlite.specs.Order.{Row}
 use Rattle.sqlite.specs.Term.{Term, col}
@@ -14,38 +15,39 @@ use Rattle.sqlite_trees.proofs.ListLemmas.{filter_all, all_of}
 use Rattle.desk_core.specs.declared.rows.RequestRow.{RequestRow}
 use Rattle.desk_core.specs.declared.rows.Entry.{Entry}
 use Rattle.desk_core.specs.declared.rows.LinkKind.{LinkKind}
+use Rattle.desk_core.specs.declared.rows.LinkRow.{LinkRow}
 use Rattle.store_core.specs.Kept.{filed, numbered_as, value_of, itself}
 use Rattle.store_core.specs.Queries.{reads, queues_text, queue_order, entries_text, entries_of_text}
 use Rattle.store_core.specs.Queries.{entry_order, entry_shown_terms, id_order, last_id_text}
 use Rattle.store_core.specs.Queries.{last_number_text, links_from_test, links_from_text, links_text}
-use Rattle.store_core.specs.Queries.{links_to_test, links_to_text, named_test, number_order}
+use Rattle.store_core.specs.Queries.{named_test, number_order}
 use Rattle.store_core.specs.Queries.{numbered_test, queue_named_text, queue_shown}
 use Rattle.store_core.specs.Queries.{request_shown_terms, request_test, request_numbered_text}
 use Rattle.store_core.specs.Queries.{filed_test, requests_of_text}
-use Rattle.store_core.specs.Queries.{requests_text, role_order, source_order, target_order}
+use Rattle.store_core.specs.Queries.{requests_text, role_order, target_order}
 use Rattle.store_core.specs.Queries.{three_order, three_shown, watchers_of_text}
 use Rattle.store_core.specs.Queries.{watchers_text}
 use Rattle.store_core.specs.Picked.{passes, shows, Picks, Shows, Lists, ShowsGreatest}
-use Rattle.store_core.specs.Orders.{by_name, by_id, by_role, by_watcher, by_target, by_source}
+use Rattle.store_core.specs.Orders.{by_name, by_id, by_role, by_watcher, by_target}
 use Rattle.store_core.specs.Orders.{by_link, by_number, by_entry}
 use Rattle.store_core.specs.Contents.{Contents}
 use Rattle.store_core.specs.Stands.{Stand, HasTables}
 use Rattle.store_core.specs.Spelling.{queue_columns, request_columns, request_shown}
 use Rattle.store_core.specs.Spelling.{watcher_columns, link_columns, entry_columns, count_value}
-use Rattle.store_core.specs.Selection.{is_named, is_numbered, watches, links_from, links_to}
+use Rattle.store_core.specs.Selection.{is_named, is_numbered, watches, links_from}
 use Rattle.store_core.specs.Selection.{is_filed_in, tells_of}
 use Rattle.desk_core.specs.Links.{kind_number}
 use Rattle.store_core.proofs.TestLemmas.{name_order_is, named, numbered, watched, told, from_source}
-use Rattle.store_core.proofs.TestLemmas.{to_target, order_numbers, id_order_is, number_order_is}
+use Rattle.store_core.proofs.TestLemmas.{order_numbers, id_order_is, number_order_is}
 use Rattle.store_core.proofs.TestLemmas.{entry_order_is, link_order_is, watcher_order_is}
 use Rattle.store_core.proofs.TestLemmas.{filed_in, filed_order_is}
-use Rattle.store_core.proofs.TestLemmas.{role_order_is, target_order_is, source_order_is}
+use Rattle.store_core.proofs.TestLemmas.{role_order_is, target_order_is}
 use Rattle.store_core.proofs.PickedLemmas.{picked_by, last_by}
 use Rattle.store_core.proofs.ReadLemmas.{shows_values, lists_values}
 use Rattle.store_core.proofs.LastLemmas.{shows_greatest, mapped_has, has_permuted}
 use Rattle.store_core.proofs.StandLemmas.{shown_tables, shown_open}
 use Rattle.store_core.proofs.Statements.{queues_is, entries_is, entries_of_is, last_id_is}
-use Rattle.store_core.proofs.Statements.{last_number_is, links_from_is, links_is, links_to_is}
+use Rattle.store_core.proofs.Statements.{last_number_is, links_from_is, links_is}
 use Rattle.store_core.proofs.Statements.{queue_named_is, request_numbered_is, requests_is}
 use Rattle.store_core.proofs.Statements.{requests_of_is, watchers_is, watchers_of_is}
 use Rattle.store_core.proofs.Meaning.{Selects}
@@ -150,19 +152,19 @@ lists_links_from d id kind old new clean stand c rows h =
     (old.now.trees 6) rows (links_from id kind) (from_source id kind) (λ k. refl) t.links p
     by_target (target_order_is (count_value id ∷ count_value (kind_number kind) ∷ []))
 
-pub lists_links_to : (d : Contents) (id : ℕ) (kind : LinkKind) (old new : State)
-    → (HasCleanDisk new → HasCleanDisk old) → Stand d old → HasCleanDisk new → (rows : List Row)
-    → Shown links_to_text (count_value id ∷ count_value (kind_number kind) ∷ []) old new rows
-    → Lists by_source link_columns (filter (links_to id kind) d.links) rows
-lists_links_to d id kind old new clean stand c rows h =
-    let t = shown_tables d links_to_text (count_value id ∷ count_value (kind_number kind) ∷ []) old
-    new rows clean stand c h in
-    let p = picked_by links_to_text (count_value id ∷ count_value (kind_number kind) ∷ []) old new
-    t.schema 6 links_to_test three_shown source_order links_to_is rows h in
-    lists_values (filed link_columns) value_of link_columns 6 links_to_test three_shown
-    source_order (count_value id ∷ count_value (kind_number kind) ∷ []) d.links
-    (old.now.trees 6) rows (links_to id kind) (to_target id kind) (λ k. refl) t.links p
-    by_source (source_order_is (count_value id ∷ count_value (kind_number kind) ∷ []))
+-- the links that pass a test
+pub lists_links_by : {names : List (List ℕ)} (sql : List ℕ) (test : List Term) (params : Row)
+    (p : LinkRow → Bool) → Selects sql (reads 6 test three_shown three_order) names
+    → ((k : ℤ × LinkRow) → passes test params (filed link_columns k) ≡ p k.1)
+    → (d : Contents) (old new : State) → (HasCleanDisk new → HasCleanDisk old) → Stand d old
+    → HasCleanDisk new → (rows : List Row) → Shown sql params old new rows
+    → Lists by_link link_columns (filter p d.links) rows
+lists_links_by sql test params p is same d old new clean stand c rows h =
+    let t = shown_tables d sql params old new rows clean stand c h in
+    let picked = picked_by sql params old new t.schema 6 test three_shown three_order is rows h in
+    lists_values (filed link_columns) value_of link_columns 6 test three_shown three_order params
+    d.links (old.now.trees 6) rows p same (λ k. refl) t.links picked by_link
+    (link_order_is test params)
 
 pub lists_links : (d : Contents) (old new : State) → (HasCleanDisk new → HasCleanDisk old)
     → Stand d old → HasCleanDisk new → (rows : List Row) → Shown links_text [] old new rows
@@ -174,7 +176,7 @@ lists_links d old new clean stand c rows h =
     subst (λ xs. Lists by_link link_columns xs rows) (every d.links)
     (lists_values (filed link_columns) value_of link_columns 6 [] three_shown
     three_order [] d.links (old.now.trees 6) rows (λ _. true) (λ k. refl) (λ k. refl) t.links p
-    by_link link_order_is)
+    by_link (link_order_is [] []))
 
 pub lists_entries_of : (d : Contents) (id : ℕ) (old new : State)
     → (HasCleanDisk new → HasCleanDisk old) → Stand d old → HasCleanDisk new → (rows : List Row)

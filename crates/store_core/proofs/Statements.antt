@@ -14,11 +14,12 @@ use Rattle.store_core.specs.Queries.{entry_order}
 use Rattle.store_core.specs.Queries.{entry_shown_terms, id_order, last_id_text, last_number_text}
 use Rattle.store_core.specs.Queries.{last_of, links_from_test, links_from_text, links_text}
 use Rattle.store_core.specs.Queries.{link_like_text}
-use Rattle.store_core.specs.Queries.{links_to_test, links_to_text, number_order, numbered_test}
+use Rattle.store_core.specs.Queries.{all_from_text, all_to_text, number_order, numbered_test}
 use Rattle.store_core.specs.Queries.{queue_named_query, queue_named_text, queues_query, queues_text}
 use Rattle.store_core.specs.Queries.{reads, request_shown_terms, request_test}
 use Rattle.store_core.specs.Queries.{request_numbered_text}
-use Rattle.store_core.specs.Queries.{requests_text, role_order, source_order, target_order}
+use Rattle.store_core.specs.Queries.{requests_text, role_order, source_test, target_order}
+use Rattle.store_core.specs.Queries.{target_test}
 use Rattle.store_core.specs.Queries.{three_order, three_test, three_shown}
 use Rattle.store_core.specs.Queries.{filed_test, requests_of_text}
 use Rattle.store_core.specs.Queries.{version_query, version_text, watchers_of_text, watchers_text}
@@ -53,10 +54,15 @@ pub links_from_is : Selects links_from_text (reads 6 links_from_test three_shown
 unfolding understood everything
 links_from_is = record { is = refl; plain = (refl, refl); unlisted = refl }
 
-pub links_to_is : Selects links_to_text (reads 6 links_to_test three_shown source_order)
+pub all_from_is : Selects all_from_text (reads 6 source_test three_shown three_order)
     (codes "source" ∷ codes "kind" ∷ codes "target" ∷ [])
 unfolding understood everything
-links_to_is = record { is = refl; plain = (refl, refl); unlisted = refl }
+all_from_is = record { is = refl; plain = (refl, refl); unlisted = refl }
+
+pub all_to_is : Selects all_to_text (reads 6 target_test three_shown three_order)
+    (codes "source" ∷ codes "kind" ∷ codes "target" ∷ [])
+unfolding understood everything
+all_to_is = record { is = refl; plain = (refl, refl); unlisted = refl }
 
 pub links_is : Selects links_text (reads 6 [] three_shown three_order)
     (codes "source" ∷ codes "kind" ∷ codes "target" ∷ [])

@@ -14,6 +14,7 @@ use Rattle.sqlite_sql.specs.declared.ops.CompareOp.TheVariants.{Eq}
 use Rattle.sqlite_value.specs.Order.{value_cmp}
 use Rattle.sqlite_value.proofs.OrderLemmas.{value_cmp-Text, value_cmp-Int, then-Equal}
 use Rattle.sqlite.specs.Order.{Row}
+use Rattle.sqlite.specs.Term.{Term}
 use Rattle.desk_core.specs.declared.rows.QueueRow.{QueueRow}
 use Rattle.sqlite.specs.Query.{output, output_cmp}
 use Rattle.desk_core.specs.declared.rows.RequestRow.{RequestRow}
@@ -24,17 +25,17 @@ use Rattle.desk_core.specs.declared.rows.LinkKind.{LinkKind}
 use Rattle.store_core.specs.Kept.{filed, numbered_as}
 use Rattle.store_core.specs.Picked.{passes}
 use Rattle.store_core.specs.Selection.{is_numbered, watches, is_watcher, is_link, links_from}
-use Rattle.store_core.specs.Selection.{is_filed_in, links_to, tells_of, is_named}
+use Rattle.store_core.specs.Selection.{ends_at, is_filed_in, is_named, starts_at, tells_of}
 use Rattle.store_core.specs.Orders.{by_id, by_entry, by_number, by_link, by_watcher, by_role}
-use Rattle.store_core.specs.Orders.{by_target, by_source, by_name}
+use Rattle.store_core.specs.Orders.{by_target, by_name}
 use Rattle.store_core.specs.Spelling.{role_number, request_columns, watcher_columns, link_columns}
 use Rattle.store_core.specs.Spelling.{entry_columns, count_value, queue_columns}
 use Rattle.desk_core.specs.Links.{kind_number}
 use Rattle.store_core.specs.Queries.{reads, queue_shown, queue_order, named_test, numbered_test}
 use Rattle.store_core.specs.Queries.{filed_test, request_test, three_test, links_from_test}
-use Rattle.store_core.specs.Queries.{links_to_test, request_shown_terms, id_order}
+use Rattle.store_core.specs.Queries.{request_shown_terms, id_order, source_test, target_test}
 use Rattle.store_core.specs.Queries.{three_shown, role_order, three_order, target_order}
-use Rattle.store_core.specs.Queries.{source_order, entry_shown_terms, number_order, entry_order}
+use Rattle.store_core.specs.Queries.{entry_shown_terms, number_order, entry_order}
 
 true_again : (b : Bool) → is_true (from_truth (Some b)) ≡ b
 true_again true = refl
@@ -97,11 +98,13 @@ pub from_source : (id : ℕ) (kind : LinkKind) (k : ℤ × LinkRow)
 from_source id kind k = ap₂ (λ a b. a && b) (equal_numbers k.1.source id)
     (and_true _ ∙ equal_numbers (kind_number k.1.kind) (kind_number kind))
 
-pub to_target : (id : ℕ) (kind : LinkKind) (k : ℤ × LinkRow)
-    → passes links_to_test (count_value id ∷ count_value (kind_number kind) ∷ [])
-    (filed link_columns k) ≡ links_to id kind k.1
-to_target id kind k = ap₂ (λ a b. a && b) (equal_numbers k.1.target id)
-    (and_true _ ∙ equal_numbers (kind_number k.1.kind) (kind_number kind))
+pub starts : (id : ℕ) (k : ℤ × LinkRow) → passes source_test (count_value id ∷ [])
+    (filed link_columns k) ≡ starts_at id k.1
+starts id k = and_true _ ∙ equal_numbers k.1.source id
+
+pub ends : (id : ℕ) (k : ℤ × LinkRow) → passes target_test (count_value id ∷ [])
+    (filed link_columns k) ≡ ends_at id k.1
+ends id k = and_true _ ∙ equal_numbers k.1.target id
 
 pub named : (name : List ℕ) (more : Row) (k : ℤ × QueueRow)
     → passes named_test (Words name ∷ more) (filed queue_columns k) ≡ is_named name k.1
@@ -150,12 +153,12 @@ entry_order_is a b = ap₂ ordering_then (order_numbers a.1.id b.1.id)
     (then-Equal (value_cmp (count_value a.1.number) (count_value b.1.number))
     ∙ order_numbers a.1.number b.1.number)
 
-pub link_order_is : (a b : ℤ × LinkRow)
-    → output_cmp (reads 6 [] three_shown three_order)
-    (output (reads 6 [] three_shown three_order) ([] ∷ filed link_columns a ∷ []))
-    (output (reads 6 [] three_shown three_order) ([] ∷ filed link_columns b ∷ [])) ≡ by_link
-    a.1 b.1
-link_order_is a b =
+pub link_order_is : (test : List Term) (params : Row) (a b : ℤ × LinkRow)
+    → output_cmp (reads 6 test three_shown three_order)
+    (output (reads 6 test three_shown three_order) (params ∷ filed link_columns a ∷ []))
+    (output (reads 6 test three_shown three_order) (params ∷ filed link_columns b ∷ []))
+    ≡ by_link a.1 b.1
+link_order_is test params a b =
     ap₂ ordering_then (order_numbers a.1.source b.1.source)
     (ap₂ ordering_then (order_numbers (kind_number a.1.kind) (kind_number b.1.kind))
     (then-Equal (value_cmp (count_value a.1.target) (count_value b.1.target))
@@ -191,15 +194,6 @@ pub target_order_is : (params : Row) (a b : ℤ × LinkRow)
     (params ∷ filed link_columns b ∷ [])) ≡ by_target a.1 b.1
 target_order_is params a b = then-Equal (value_cmp (count_value a.1.target)
     (count_value b.1.target)) ∙ order_numbers a.1.target b.1.target
-
-pub source_order_is : (params : Row) (a b : ℤ × LinkRow)
-    → output_cmp (reads 6 links_to_test three_shown source_order)
-    (output (reads 6 links_to_test three_shown source_order)
-    (params ∷ filed link_columns a ∷ []))
-    (output (reads 6 links_to_test three_shown source_order)
-    (params ∷ filed link_columns b ∷ [])) ≡ by_source a.1 b.1
-source_order_is params a b = then-Equal (value_cmp (count_value a.1.source)
-    (count_value b.1.source)) ∙ order_numbers a.1.source b.1.source
 
 pub name_order_is : (a b : ℤ × QueueRow)
     → output_cmp (reads 1 [] queue_shown queue_order)

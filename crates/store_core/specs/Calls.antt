@@ -26,7 +26,7 @@ abbrev pub Answers : {X : Type 0} → (Contents → X → Type 0) → State → 
 Answers P old new result = (c : Contents) → Stand c old → HasCleanDisk new → IfOk result (P c)
 
 -- what is answered is so of the desk that the tables stand for
-abbrev pub Tells : {X : Type 0} → (Desk → X → Type 0) → State → State → Result X StoreFault → Type 0
+abbrev pub Tells : {X E : Type 0} → (Desk → X → Type 0) → State → State → Result X E → Type 0
 Tells P old new result =
     (desk : Desk) → IsDesk desk → StandsFor desk old → HasCleanDisk new → IfOk result (P desk)
 

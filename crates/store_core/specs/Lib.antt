@@ -5,6 +5,7 @@ pub mod Found
 pub mod Fault
 pub mod Kept
 pub mod Making
+pub mod Mismatches
 pub mod Orders
 pub mod Picked
 pub mod Queries

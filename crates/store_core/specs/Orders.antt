@@ -26,10 +26,7 @@ by_watcher =
     then_cmp (on (λ w. w.id) nat_cmp)
     (then_cmp (on (λ w. role_number w.role) nat_cmp) (on (λ w. w.person) (slice_cmp nat_cmp)))
 
--- of links with one end and kind: by the other end
-abbrev pub by_source : LinkRow → LinkRow → Ordering
-by_source a b = nat_cmp a.source b.source
-
+-- of links with one source and kind: by the target
 abbrev pub by_target : LinkRow → LinkRow → Ordering
 by_target a b = nat_cmp a.target b.target
 

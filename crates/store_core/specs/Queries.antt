@@ -161,18 +161,22 @@ links_from_text =
 abbrev pub links_from_test : List Term
 links_from_test = eq (col 1 1) (col 0 0) ∷ eq (col 1 2) (col 0 1) ∷ []
 
-abbrev pub links_to_text : List ℕ
-links_to_text =
-    codes "SELECT source, kind, target FROM link WHERE target = ?1 AND kind = ?2 ORDER BY source"
-
-abbrev pub links_to_test : List Term
-links_to_test = eq (col 1 3) (col 0 0) ∷ eq (col 1 2) (col 0 1) ∷ []
-
 abbrev pub target_order : List Term
 target_order = col 1 3 ∷ []
 
-abbrev pub source_order : List Term
-source_order = col 1 1 ∷ []
+abbrev pub all_from_text : List ℕ
+all_from_text =
+    codes "SELECT source, kind, target FROM link WHERE source = ?1 ORDER BY source, kind, target"
+
+abbrev pub source_test : List Term
+source_test = eq (col 1 1) (col 0 0) ∷ []
+
+abbrev pub all_to_text : List ℕ
+all_to_text =
+    codes "SELECT source, kind, target FROM link WHERE target = ?1 ORDER BY source, kind, target"
+
+abbrev pub target_test : List Term
+target_test = eq (col 1 3) (col 0 0) ∷ []
 
 abbrev pub links_text : List ℕ
 links_text = codes "SELECT source, kind, target FROM link ORDER BY source, kind, target"

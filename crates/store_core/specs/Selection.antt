@@ -34,12 +34,9 @@ abbrev pub is_watcher : Watcher → Watcher → Bool
 is_watcher v w =
     (w.id == v.id) && ((role_number w.role == role_number v.role) && same_text w.person v.person)
 
--- a link of that kind from that request, or to it
+-- a link of that kind from that request
 abbrev pub links_from : ℕ → LinkKind → LinkRow → Bool
 links_from source k l = (l.source == source) && (kind_number l.kind == kind_number k)
-
-abbrev pub links_to : ℕ → LinkKind → LinkRow → Bool
-links_to target k l = (l.target == target) && (kind_number l.kind == kind_number k)
 
 abbrev pub is_link : LinkRow → LinkRow → Bool
 is_link k l =
@@ -48,3 +45,11 @@ is_link k l =
 -- an entry of that request
 abbrev pub tells_of : ℕ → Entry → Bool
 tells_of id e = e.id == id
+
+-- the link leads from the request with that number
+abbrev pub starts_at : ℕ → LinkRow → Bool
+starts_at id link = link.source == id
+
+-- the link leads to the request with that number
+abbrev pub ends_at : ℕ → LinkRow → Bool
+ends_at id link = link.target == id

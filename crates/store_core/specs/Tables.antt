@@ -30,8 +30,8 @@ abbrev pub request_text : List ℕ
 request_text =
     codes "CREATE TABLE IF NOT EXISTS request (id INTEGER PRIMARY KEY, queue TEXT NOT NULL "
     ++ codes "REFERENCES queue(name), subject TEXT NOT NULL, status TEXT NOT NULL, owner TEXT, "
-    ++ codes "level TEXT, created INTEGER NOT NULL, opened INTEGER NOT NULL, turn INTEGER NOT NULL, "
-    ++ codes "since INTEGER NOT NULL, due INTEGER) STRICT"
+    ++ codes "level TEXT, created INTEGER NOT NULL, opened INTEGER NOT NULL, turn INTEGER NOT "
+    ++ codes "NULL, since INTEGER NOT NULL, due INTEGER) STRICT"
 
 abbrev pub watcher_text : List ℕ
 watcher_text =

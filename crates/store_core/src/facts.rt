@@ -30,6 +30,7 @@ impl<S: Alter> Store<S> {
         ensures told { Tells (λ desk facts. facts ≡ facts_of command.now desk)
             (state_of S.Store self.old) (state_of S.Store self.new) result }
         ensures kept { Leaves (state_of S.Store self.old) (state_of S.Store self.new) }
+        ensures honest { WasClean (state_of S.Store self.old) (state_of S.Store self.new) }
     {
         facts_in(alloc, &mut self.conn, command.scope())
     }
@@ -46,6 +47,7 @@ fn facts_in<S: Alter>(
     ensures told { Tells (λ desk facts. facts ≡ seen_in scope.entry desk)
         (state S.Store conn.old) (state S.Store conn.new) result }
     ensures kept { Leaves (state S.Store conn.old) (state S.Store conn.new) }
+    ensures honest { WasClean (state S.Store conn.old) (state S.Store conn.new) }
 {
     match scope {
         Scope::Nothing => Ok(no_facts(alloc)),
@@ -67,6 +69,7 @@ fn facts_on_queue<S: Alter>(
     ensures told { Tells (λ desk seen. seen ≡ facts.facts_on_queue desk name.now)
         (state S.Store conn.old) (state S.Store conn.new) result }
     ensures kept { Leaves (state S.Store conn.old) (state S.Store conn.new) }
+    ensures honest { WasClean (state S.Store conn.old) (state S.Store conn.new) }
 {
     let queue_count = count_queues(alloc, conn)?;
     let request_count = count_requests(conn)?;
@@ -127,6 +130,7 @@ fn facts_of_move<S: Alter>(
     ensures told { Tells (λ desk seen. seen ≡ besides_on Dependencies id desk)
         (state S.Store conn.old) (state S.Store conn.new) result }
     ensures kept { Leaves (state S.Store conn.old) (state S.Store conn.new) }
+    ensures honest { WasClean (state S.Store conn.old) (state S.Store conn.new) }
 {
     let dependencies = dependencies_of(alloc, conn, id)?;
     let facts = facts_on(alloc, conn, id)?;
@@ -144,6 +148,7 @@ fn facts_of_link<S: Alter>(
     ensures told { Tells (λ desk seen. seen ≡ seen_in (Scope.Link link) desk)
         (state S.Store conn.old) (state S.Store conn.new) result }
     ensures kept { Leaves (state S.Store conn.old) (state S.Store conn.new) }
+    ensures honest { WasClean (state S.Store conn.old) (state S.Store conn.new) }
 {
     let is_linked = is_there(conn, link)?;
     let other = standing_at(alloc, conn, link.target)?;

@@ -1,7 +1,9 @@
 //! The faults of a store.
 ghost use Rattle.std.specs.Prelude.{◌≡◌};
+ghost use Rattle.desk_core.specs.declared.refusal.Refusal.TheVariants.{Unavailable};
 ghost use Rattle.store_core.specs.Fault.{number_of, name_of};
 
+use desk_core::Refusal;
 use thiserror::Error;
 
 /// Why the store didn't do what it was asked.
@@ -35,5 +37,13 @@ impl StoreFault {
             StoreFault::Mismatch => "Mismatch",
             StoreFault::Refused => "Refused",
         }
+    }
+}
+
+impl From<StoreFault> for Refusal {
+    ghost from_gives = { λ _ r. r ≡ Unavailable };
+
+    fn from(_fault: StoreFault) -> Refusal {
+        Refusal::Unavailable
     }
 }

@@ -1,13 +1,12 @@
 //! The lists of a store, each in the order of its key.
 ghost use Rattle.std.specs.Prelude.{◌≡◌, filter};
-ghost use Rattle.store_core.specs.Calls.{Leaves, MismatchesIn, Tells};
+ghost use Rattle.store_core.specs.Calls.{Leaves, Tells, WasClean};
 ghost use Rattle.store_core.specs.Contents.{history_at, request_rows, watchers};
-ghost use Rattle.store_core.specs.Queries.{entry_shown_terms, queue_shown, request_shown_terms};
-ghost use Rattle.store_core.specs.Queries.{three_shown};
-ghost use Rattle.store_core.specs.Reading.{IsEntryRow, IsLinkRow, IsQueueRow, IsRequestRow};
-ghost use Rattle.store_core.specs.Reading.{IsWatcherRow};
+ghost use Rattle.store_core.specs.Mismatches.{MismatchesInEntries, MismatchesInLinks};
+ghost use Rattle.store_core.specs.Mismatches.{MismatchesInQueues, MismatchesInRequests};
+ghost use Rattle.store_core.specs.Mismatches.{MismatchesInWatchers};
 ghost use Rattle.store_core.specs.Seen.{state_of};
-ghost use Rattle.store_core.specs.Selection.{is_filed_in};
+ghost use Rattle.store_core.specs.Selection.{ends_at, is_filed_in, starts_at};
 
 use crate::fault::StoreFault;
 use crate::reads;
@@ -23,9 +22,10 @@ impl<S: Alter> Store<S> {
     pub fn queues(&mut self, alloc: Global) -> Result<Vec<QueueRow>, StoreFault>
         ensures listed { Tells (λ desk xs. xs.items ≡ desk.queues)
             (state_of S.Store self.old) (state_of S.Store self.new) result }
-        ensures mismatch { MismatchesIn 1 queue_shown IsQueueRow
+        ensures mismatch { MismatchesInQueues
             (state_of S.Store self.old) (state_of S.Store self.new) result }
         ensures kept { Leaves (state_of S.Store self.old) (state_of S.Store self.new) }
+        ensures honest { WasClean (state_of S.Store self.old) (state_of S.Store self.new) }
     {
         reads::queues::queues(alloc, &mut self.conn)
     }
@@ -35,9 +35,10 @@ impl<S: Alter> Store<S> {
     pub fn requests(&mut self, alloc: Global) -> Result<Vec<RequestRow>, StoreFault>
         ensures listed { Tells (λ desk xs. xs.items ≡ request_rows desk)
             (state_of S.Store self.old) (state_of S.Store self.new) result }
-        ensures mismatch { MismatchesIn 3 request_shown_terms IsRequestRow
+        ensures mismatch { MismatchesInRequests
             (state_of S.Store self.old) (state_of S.Store self.new) result }
         ensures kept { Leaves (state_of S.Store self.old) (state_of S.Store self.new) }
+        ensures honest { WasClean (state_of S.Store self.old) (state_of S.Store self.new) }
     {
         reads::lists_requests::requests(alloc, &mut self.conn)
     }
@@ -52,9 +53,10 @@ impl<S: Alter> Store<S> {
         ensures listed { Tells (λ desk xs.
             xs.items ≡ filter (is_filed_in queue.now) (request_rows desk))
             (state_of S.Store self.old) (state_of S.Store self.new) result }
-        ensures mismatch { MismatchesIn 3 request_shown_terms IsRequestRow
+        ensures mismatch { MismatchesInRequests
             (state_of S.Store self.old) (state_of S.Store self.new) result }
         ensures kept { Leaves (state_of S.Store self.old) (state_of S.Store self.new) }
+        ensures honest { WasClean (state_of S.Store self.old) (state_of S.Store self.new) }
     {
         reads::lists_requests::requests_of(alloc, &mut self.conn, queue)
     }
@@ -64,11 +66,40 @@ impl<S: Alter> Store<S> {
     pub fn links(&mut self, alloc: Global) -> Result<Vec<LinkRow>, StoreFault>
         ensures listed { Tells (λ desk xs. xs.items ≡ desk.links)
             (state_of S.Store self.old) (state_of S.Store self.new) result }
-        ensures mismatch { MismatchesIn 6 three_shown IsLinkRow
+        ensures mismatch { MismatchesInLinks
             (state_of S.Store self.old) (state_of S.Store self.new) result }
         ensures kept { Leaves (state_of S.Store self.old) (state_of S.Store self.new) }
+        ensures honest { WasClean (state_of S.Store self.old) (state_of S.Store self.new) }
     {
         reads::lists_links::links(alloc, &mut self.conn)
+    }
+
+    /// The links that lead from a request, in the order of kind and target. `Mismatch`
+    /// where a row is no link, `Refused` where the store or memory refuses it. The tables stay as
+    /// they are.
+    pub fn links_from(&mut self, alloc: Global, source: u32) -> Result<Vec<LinkRow>, StoreFault>
+        ensures listed { Tells (λ desk xs. xs.items ≡ filter (starts_at source) desk.links)
+            (state_of S.Store self.old) (state_of S.Store self.new) result }
+        ensures mismatch { MismatchesInLinks
+            (state_of S.Store self.old) (state_of S.Store self.new) result }
+        ensures kept { Leaves (state_of S.Store self.old) (state_of S.Store self.new) }
+        ensures honest { WasClean (state_of S.Store self.old) (state_of S.Store self.new) }
+    {
+        reads::lists_links::links_from(alloc, &mut self.conn, source)
+    }
+
+    /// The links that lead to a request, in the order of source and kind. `Mismatch`
+    /// where a row is no link, `Refused` where the store or memory refuses it. The tables stay as
+    /// they are.
+    pub fn links_to(&mut self, alloc: Global, target: u32) -> Result<Vec<LinkRow>, StoreFault>
+        ensures listed { Tells (λ desk xs. xs.items ≡ filter (ends_at target) desk.links)
+            (state_of S.Store self.old) (state_of S.Store self.new) result }
+        ensures mismatch { MismatchesInLinks
+            (state_of S.Store self.old) (state_of S.Store self.new) result }
+        ensures kept { Leaves (state_of S.Store self.old) (state_of S.Store self.new) }
+        ensures honest { WasClean (state_of S.Store self.old) (state_of S.Store self.new) }
+    {
+        reads::lists_links::links_to(alloc, &mut self.conn, target)
     }
 
     /// The watchers, in the order of request, role and person. `Mismatch` where a row is no
@@ -76,9 +107,10 @@ impl<S: Alter> Store<S> {
     pub fn watchers(&mut self, alloc: Global) -> Result<Vec<Watcher>, StoreFault>
         ensures listed { Tells (λ desk xs. xs.items ≡ watchers desk)
             (state_of S.Store self.old) (state_of S.Store self.new) result }
-        ensures mismatch { MismatchesIn 4 three_shown IsWatcherRow
+        ensures mismatch { MismatchesInWatchers
             (state_of S.Store self.old) (state_of S.Store self.new) result }
         ensures kept { Leaves (state_of S.Store self.old) (state_of S.Store self.new) }
+        ensures honest { WasClean (state_of S.Store self.old) (state_of S.Store self.new) }
     {
         reads::lists_watchers::watchers(alloc, &mut self.conn)
     }
@@ -89,9 +121,10 @@ impl<S: Alter> Store<S> {
     pub fn entries_of(&mut self, alloc: Global, id: u32) -> Result<Vec<Entry>, StoreFault>
         ensures listed { Tells (λ desk xs. xs.items ≡ history_at desk id)
             (state_of S.Store self.old) (state_of S.Store self.new) result }
-        ensures mismatch { MismatchesIn 8 entry_shown_terms IsEntryRow
+        ensures mismatch { MismatchesInEntries
             (state_of S.Store self.old) (state_of S.Store self.new) result }
         ensures kept { Leaves (state_of S.Store self.old) (state_of S.Store self.new) }
+        ensures honest { WasClean (state_of S.Store self.old) (state_of S.Store self.new) }
     {
         reads::lists_entries::entries_of(alloc, &mut self.conn, id)
     }

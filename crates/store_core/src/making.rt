@@ -3,11 +3,12 @@ ghost use Rattle.std.specs.Prelude.{◌≡◌, ◌≢◌, [], false, IfErr, IfOk
 ghost use Rattle.std.specs.Prelude.{IfSome, OnOk, Some};
 ghost use Rattle.sqlite.specs.Held.{state};
 ghost use Rattle.sqlite.specs.State.{HasCleanDisk};
-ghost use Rattle.store_core.specs.Calls.{Leaves, Makes, MismatchesIn, ShowsRowsOf, WasClean};
+ghost use Rattle.store_core.specs.Calls.{Leaves, Makes, ShowsRowsOf, WasClean};
 ghost use Rattle.store_core.specs.Contents.{Contents, no_contents};
 ghost use Rattle.store_core.specs.Making.{Fresh, Inside, IsBlank, Made, ShowsVersion, WasBlank};
-ghost use Rattle.store_core.specs.Making.{BlamesMeta, IsOfMeta, IsVersionRow, NeedsVersion};
+ghost use Rattle.store_core.specs.Making.{BlamesMeta, IsOfMeta, NeedsVersion};
 ghost use Rattle.store_core.specs.Making.{Stays, WrongInside};
+ghost use Rattle.store_core.specs.Mismatches.{MismatchesInMeta};
 ghost use Rattle.store_core.specs.Queries.{version_shown};
 ghost use Rattle.store_core.specs.Stands.{HasTables, KeepsBase, Stand, Within};
 ghost use Rattle.store_core.specs.Tables.{desk_schema, no_schema, request_schema};
@@ -147,7 +148,7 @@ fn read_version<S: Alter>(tx: &mut Transaction<'_, S>) -> Result<Option<u32>, St
     ensures keeps { HasTables (state S.Store tx.old.conn.now) →
         KeepsBase (state S.Store tx.old.conn.now) (state S.Store tx.new.conn.now) }
     ensures honest { WasClean (state S.Store tx.old.conn.now) (state S.Store tx.new.conn.now) }
-    ensures mismatch { MismatchesIn 0 version_shown IsVersionRow
+    ensures mismatch { MismatchesInMeta
         (state S.Store tx.old.conn.now) (state S.Store tx.new.conn.now) result }
     ensures of_meta { HasTables (state S.Store tx.old.conn.now) →
         HasCleanDisk (state S.Store tx.new.conn.now) →
@@ -175,7 +176,7 @@ fn fill_meta<S: Alter>(tx: &mut Transaction<'_, S>) -> Result<(), StoreFault>
     ensures keeps { HasTables (state S.Store tx.old.conn.now) →
         KeepsBase (state S.Store tx.old.conn.now) (state S.Store tx.new.conn.now) }
     ensures honest { WasClean (state S.Store tx.old.conn.now) (state S.Store tx.new.conn.now) }
-    ensures mismatch { MismatchesIn 0 version_shown IsVersionRow
+    ensures mismatch { MismatchesInMeta
         (state S.Store tx.old.conn.now) (state S.Store tx.new.conn.now) result }
     ensures blames { BlamesMeta
         (state S.Store tx.old.conn.now) (state S.Store tx.new.conn.now) result }
@@ -209,7 +210,7 @@ fn make_all<S: Alter>(tx: &mut Transaction<'_, S>) -> Result<(), StoreFault>
     ensures keeps { (now was : Contents) → Within now was (state S.Store tx.old.conn.now) →
         KeepsBase (state S.Store tx.old.conn.now) (state S.Store tx.new.conn.now) }
     ensures honest { WasClean (state S.Store tx.old.conn.now) (state S.Store tx.new.conn.now) }
-    ensures mismatch { MismatchesIn 0 version_shown IsVersionRow
+    ensures mismatch { MismatchesInMeta
         (state S.Store tx.old.conn.now) (state S.Store tx.new.conn.now) result }
     ensures blames { BlamesMeta
         (state S.Store tx.old.conn.now) (state S.Store tx.new.conn.now) result }
@@ -251,9 +252,10 @@ pub(crate) fn make_schema<S: Alter>(conn: &mut Connection<S>) -> Result<(), Stor
         HasCleanDisk (state S.Store conn.new) →
         IfErr result (λ e. e ≢ StoreFault.WrongVersion) }
     ensures kept { Leaves (state S.Store conn.old) (state S.Store conn.new) }
+    ensures honest { WasClean (state S.Store conn.old) (state S.Store conn.new) }
     ensures version { NeedsVersion (state S.Store conn.old) (state S.Store conn.new) result }
     ensures blames { BlamesMeta (state S.Store conn.old) (state S.Store conn.new) result }
-    ensures mismatch { MismatchesIn 0 version_shown IsVersionRow
+    ensures mismatch { MismatchesInMeta
         (state S.Store conn.old) (state S.Store conn.new) result }
 {
     let mut tx = conn.transaction();

@@ -1,11 +1,12 @@
 //! A store is opened, and its tables are made.
-ghost use Rattle.std.specs.Prelude.{◌≡◌, false, IfOk};
+ghost use Rattle.std.specs.Prelude.{◌≡◌, false, IfErr, IfOk};
 ghost use Rattle.sqlite.specs.Steps.{over_memory};
-ghost use Rattle.store_core.specs.Calls.{Answers, Leaves, MismatchesIn};
-ghost use Rattle.store_core.specs.Making.{IsBlank, IsVersionRow, MakesDesk, RefusesBlank};
+ghost use Rattle.store_core.specs.Calls.{Answers, Leaves, WasClean};
+ghost use Rattle.store_core.specs.Making.{IsBlank, MakesDesk, RefusesBlank};
 ghost use Rattle.store_core.specs.Making.{TellsVersion};
-ghost use Rattle.store_core.specs.Queries.{version_shown};
+ghost use Rattle.store_core.specs.Mismatches.{MismatchesInMeta};
 ghost use Rattle.store_core.specs.Seen.{connection_of, state_of};
+ghost use Rattle.store_core.specs.declared.fault.StoreFault.{StoreFault};
 
 use crate::fault::StoreFault;
 use crate::making::make_schema;
@@ -17,7 +18,8 @@ use std::alloc::Global;
 impl Store<MemStore> {
     /// A store in memory, without tables. `Refused` where out of memory.
     pub fn open_in_memory(alloc: Global) -> Result<Store<MemStore>, StoreFault>
-        ensures { IfOk result (λ store. IsBlank (state_of over_memory store)) }
+        ensures blank { IfOk result (λ store. IsBlank (state_of over_memory store)) }
+        ensures fault { IfErr result (λ e. e ≡ StoreFault.Refused) }
     {
         match Connection::open_in_memory(alloc) {
             Ok(conn) => Ok(Store { conn }),
@@ -39,13 +41,14 @@ impl<S: Alter> Store<S> {
     /// Makes the tables that are missing and, where there is no version, writes version 1, in one
     /// transaction. `WrongVersion` where the tables are of another version, `Mismatch` where their
     /// version is no number, `Refused` where the store or memory refuses it. A fault leaves what
-    /// there was, and so do tables of version 1.
+    /// there was, where there was no table or all of them. Tables of version 1 stay as they are.
     pub fn create_schema(&mut self) -> Result<(), StoreFault>
         ensures made { MakesDesk (state_of S.Store self.old) (state_of S.Store self.new) result }
         ensures kept { Leaves (state_of S.Store self.old) (state_of S.Store self.new) }
+        ensures honest { WasClean (state_of S.Store self.old) (state_of S.Store self.new) }
         ensures version { TellsVersion
             (state_of S.Store self.old) (state_of S.Store self.new) result }
-        ensures mismatch { MismatchesIn 0 version_shown IsVersionRow
+        ensures mismatch { MismatchesInMeta
             (state_of S.Store self.old) (state_of S.Store self.new) result }
     {
         make_schema(&mut self.conn)
@@ -58,9 +61,10 @@ impl<S: Alter> Store<S> {
             (state_of S.Store self.old) (state_of S.Store self.new) result }
         ensures blank { RefusesBlank
             (state_of S.Store self.old) (state_of S.Store self.new) result }
-        ensures mismatch { MismatchesIn 0 version_shown IsVersionRow
+        ensures mismatch { MismatchesInMeta
             (state_of S.Store self.old) (state_of S.Store self.new) result }
         ensures kept { Leaves (state_of S.Store self.old) (state_of S.Store self.new) }
+        ensures honest { WasClean (state_of S.Store self.old) (state_of S.Store self.new) }
     {
         reads::version::version(&mut self.conn)
     }

@@ -1,11 +1,11 @@
 //! The entries of a request.
 ghost use Rattle.std.specs.Prelude.{◌≡◌, false, filter, IfErr};
 ghost use Rattle.sqlite.specs.Held.{state};
-ghost use Rattle.store_core.specs.Calls.{Answers, Leaves, MismatchesIn, ShowsRowsOf, WasClean};
+ghost use Rattle.store_core.specs.Calls.{Answers, Leaves, ShowsRowsOf, WasClean};
+ghost use Rattle.store_core.specs.Mismatches.{MismatchesInEntries};
 ghost use Rattle.store_core.specs.Orders.{by_number};
 ghost use Rattle.store_core.specs.Picked.{AreOrdered, Lists};
 ghost use Rattle.store_core.specs.Queries.{entry_shown_terms};
-ghost use Rattle.store_core.specs.Reading.{IsEntryRow};
 ghost use Rattle.store_core.specs.Selection.{tells_of};
 ghost use Rattle.store_core.specs.Spelling.{entry_columns};
 ghost use Rattle.store_core.specs.declared.fault.StoreFault.{StoreFault};
@@ -50,7 +50,7 @@ pub(crate) fn entries_of<S: Alter>(
     ensures listed { Answers (λ c xs.
         AreOrdered by_number (filter (tells_of id) c.entries) xs.items)
         (state S.Store conn.old) (state S.Store conn.new) result }
-    ensures mismatch { MismatchesIn 8 entry_shown_terms IsEntryRow
+    ensures mismatch { MismatchesInEntries
         (state S.Store conn.old) (state S.Store conn.new) result }
     ensures kept { Leaves (state S.Store conn.old) (state S.Store conn.new) }
     ensures honest { WasClean (state S.Store conn.old) (state S.Store conn.new) }

@@ -1,11 +1,11 @@
 //! The requests, and those of a queue.
 ghost use Rattle.std.specs.Prelude.{◌≡◌, false, filter, IfErr};
 ghost use Rattle.sqlite.specs.Held.{state};
-ghost use Rattle.store_core.specs.Calls.{Answers, Leaves, MismatchesIn, ShowsRowsOf, WasClean};
+ghost use Rattle.store_core.specs.Calls.{Answers, Leaves, ShowsRowsOf, WasClean};
+ghost use Rattle.store_core.specs.Mismatches.{MismatchesInRequests};
 ghost use Rattle.store_core.specs.Orders.{by_id};
 ghost use Rattle.store_core.specs.Picked.{AreOrdered, Lists};
 ghost use Rattle.store_core.specs.Queries.{request_shown_terms};
-ghost use Rattle.store_core.specs.Reading.{IsRequestRow};
 ghost use Rattle.store_core.specs.Selection.{is_filed_in};
 ghost use Rattle.store_core.specs.Spelling.{request_shown};
 ghost use Rattle.store_core.specs.declared.fault.StoreFault.{StoreFault};
@@ -50,7 +50,7 @@ pub(crate) fn requests<S: Alter>(
     ensures listed { Answers (λ c xs.
         AreOrdered by_id c.requests xs.items)
         (state S.Store conn.old) (state S.Store conn.new) result }
-    ensures mismatch { MismatchesIn 3 request_shown_terms IsRequestRow
+    ensures mismatch { MismatchesInRequests
         (state S.Store conn.old) (state S.Store conn.new) result }
     ensures kept { Leaves (state S.Store conn.old) (state S.Store conn.new) }
     ensures honest { WasClean (state S.Store conn.old) (state S.Store conn.new) }
@@ -95,7 +95,7 @@ pub(crate) fn requests_of<S: Alter>(
     ensures listed { Answers (λ c xs.
         AreOrdered by_id (filter (is_filed_in queue.now) c.requests) xs.items)
         (state S.Store conn.old) (state S.Store conn.new) result }
-    ensures mismatch { MismatchesIn 3 request_shown_terms IsRequestRow
+    ensures mismatch { MismatchesInRequests
         (state S.Store conn.old) (state S.Store conn.new) result }
     ensures kept { Leaves (state S.Store conn.old) (state S.Store conn.new) }
     ensures honest { WasClean (state S.Store conn.old) (state S.Store conn.new) }

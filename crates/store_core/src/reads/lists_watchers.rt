@@ -1,11 +1,11 @@
 //! The watchers of all requests.
 ghost use Rattle.std.specs.Prelude.{◌≡◌, false, IfErr};
 ghost use Rattle.sqlite.specs.Held.{state};
-ghost use Rattle.store_core.specs.Calls.{Answers, Leaves, MismatchesIn, ShowsRowsOf, WasClean};
+ghost use Rattle.store_core.specs.Calls.{Answers, Leaves, ShowsRowsOf, WasClean};
+ghost use Rattle.store_core.specs.Mismatches.{MismatchesInWatchers};
 ghost use Rattle.store_core.specs.Orders.{by_watcher};
 ghost use Rattle.store_core.specs.Picked.{AreOrdered, Lists};
 ghost use Rattle.store_core.specs.Queries.{three_shown};
-ghost use Rattle.store_core.specs.Reading.{IsWatcherRow};
 ghost use Rattle.store_core.specs.Spelling.{watcher_columns};
 ghost use Rattle.store_core.specs.declared.fault.StoreFault.{StoreFault};
 
@@ -46,7 +46,7 @@ pub(crate) fn watchers<S: Alter>(
     ensures listed { Answers (λ c xs.
         AreOrdered by_watcher c.watchers xs.items)
         (state S.Store conn.old) (state S.Store conn.new) result }
-    ensures mismatch { MismatchesIn 4 three_shown IsWatcherRow
+    ensures mismatch { MismatchesInWatchers
         (state S.Store conn.old) (state S.Store conn.new) result }
     ensures kept { Leaves (state S.Store conn.old) (state S.Store conn.new) }
     ensures honest { WasClean (state S.Store conn.old) (state S.Store conn.new) }

@@ -1,11 +1,11 @@
 //! The queues, and the queue of a name.
 ghost use Rattle.std.specs.Prelude.{◌≡◌, false, filter, option_to_list, IfErr};
 ghost use Rattle.sqlite.specs.Held.{state};
-ghost use Rattle.store_core.specs.Calls.{Answers, Leaves, MismatchesIn, ShowsRowsOf, WasClean};
+ghost use Rattle.store_core.specs.Calls.{Answers, Leaves, ShowsRowsOf, WasClean};
+ghost use Rattle.store_core.specs.Mismatches.{MismatchesInQueues};
 ghost use Rattle.store_core.specs.Orders.{by_name};
 ghost use Rattle.store_core.specs.Picked.{AreOrdered, Lists, Shows};
 ghost use Rattle.store_core.specs.Queries.{queue_shown};
-ghost use Rattle.store_core.specs.Reading.{IsQueueRow};
 ghost use Rattle.store_core.specs.Selection.{is_named};
 ghost use Rattle.store_core.specs.Spelling.{queue_columns};
 ghost use Rattle.store_core.specs.declared.fault.StoreFault.{StoreFault};
@@ -46,7 +46,7 @@ pub(crate) fn queues<S: Alter>(
     ensures idle { conn.new.in_transaction ≡ false }
     ensures listed { Answers (λ c xs. AreOrdered by_name c.queues xs.items)
         (state S.Store conn.old) (state S.Store conn.new) result }
-    ensures mismatch { MismatchesIn 1 queue_shown IsQueueRow
+    ensures mismatch { MismatchesInQueues
         (state S.Store conn.old) (state S.Store conn.new) result }
     ensures kept { Leaves (state S.Store conn.old) (state S.Store conn.new) }
     ensures honest { WasClean (state S.Store conn.old) (state S.Store conn.new) }
@@ -84,7 +84,7 @@ pub(crate) fn queue_named<S: Alter>(
     ensures idle { conn.new.in_transaction ≡ false }
     ensures found { Answers (λ c q. option_to_list q ≡ filter (is_named name.now) c.queues)
         (state S.Store conn.old) (state S.Store conn.new) result }
-    ensures mismatch { MismatchesIn 1 queue_shown IsQueueRow
+    ensures mismatch { MismatchesInQueues
         (state S.Store conn.old) (state S.Store conn.new) result }
     ensures kept { Leaves (state S.Store conn.old) (state S.Store conn.new) }
     ensures honest { WasClean (state S.Store conn.old) (state S.Store conn.new) }

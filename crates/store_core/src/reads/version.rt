@@ -3,9 +3,10 @@ ghost use Rattle.std.specs.Prelude.{◌≡◌, ◌≢◌, ℕ, [], false, IfErr,
 ghost use Rattle.std.specs.Prelude.{Some};
 ghost use Rattle.sqlite.specs.Order.{column};
 ghost use Rattle.sqlite_rules.specs.Lists.{Has};
+ghost use Rattle.store_core.specs.Mismatches.{MismatchesInMeta};
 ghost use Rattle.store_core.specs.Spelling.{count_value};
 ghost use Rattle.sqlite.specs.Held.{state};
-ghost use Rattle.store_core.specs.Calls.{Answers, Leaves, MismatchesIn, ShowsRowsOf};
+ghost use Rattle.store_core.specs.Calls.{Answers, Leaves, ShowsRowsOf, WasClean};
 ghost use Rattle.store_core.specs.Making.{IsVersionRow, RefusesBlank, ShowsVersion};
 ghost use Rattle.store_core.specs.Queries.{version_shown};
 ghost use Rattle.store_core.specs.declared.fault.StoreFault.{StoreFault};
@@ -42,6 +43,7 @@ fn rows_version<S: Alter>(conn: &mut Connection<S>) -> Result<Vec<Row>, StoreFau
     ensures shown { Answers (λ c rows. ShowsVersion c.version rows.items)
         (state S.Store conn.old) (state S.Store conn.new) result }
     ensures kept { Leaves (state S.Store conn.old) (state S.Store conn.new) }
+    ensures honest { WasClean (state S.Store conn.old) (state S.Store conn.new) }
     ensures blank { RefusesBlank (state S.Store conn.old) (state S.Store conn.new) result }
     ensures of_table { ShowsRowsOf 0 version_shown (λ rows. rows.items)
         (state S.Store conn.old) (state S.Store conn.new) result }
@@ -61,8 +63,9 @@ pub(crate) fn version<S: Alter>(conn: &mut Connection<S>) -> Result<u32, StoreFa
     ensures told { Answers (λ c n. n ≡ c.version)
         (state S.Store conn.old) (state S.Store conn.new) result }
     ensures kept { Leaves (state S.Store conn.old) (state S.Store conn.new) }
+    ensures honest { WasClean (state S.Store conn.old) (state S.Store conn.new) }
     ensures blank { RefusesBlank (state S.Store conn.old) (state S.Store conn.new) result }
-    ensures mismatch { MismatchesIn 0 version_shown IsVersionRow
+    ensures mismatch { MismatchesInMeta
         (state S.Store conn.old) (state S.Store conn.new) result }
 {
     let rows = rows_version(conn)?;

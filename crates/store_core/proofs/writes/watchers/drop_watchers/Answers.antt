@@ -17,8 +17,8 @@ loop-row-preserved g c =
     record {
       same = search rules;
       made = λ now was stand. one_more drop_watcher rows i now was new c.row-item.result low
-          c.row-item.is (c.in_ok-drop_watcher.ensures.dropped (fold drop_watcher now (take i rows)) was
-          (c.loop-row.invariant.made now was stand));
+          c.row-item.is (c.in_ok-drop_watcher.ensures.dropped
+          (fold drop_watcher now (take i rows)) was (c.loop-row.invariant.made now was stand));
       base = λ d rests. c.in_ok-drop_watcher.ensures.base d (c.loop-row.invariant.base d rests);
       honest = λ clean.
           c.loop-row.invariant.honest (c.in_ok-drop_watcher.ensures.honest clean);
