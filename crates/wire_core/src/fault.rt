@@ -8,7 +8,7 @@ use thiserror::Error;
 /// Why a line has no words, or its words are no command.
 #[derive(Clone, Copy, Debug, Error, PartialEq, Eq)]
 pub enum WordsFault {
-    #[error("quotes hold a whole word, and a backslash in them stands before a quote, a backslash, `n` or `t`")]
+    #[error("quotes hold a whole word; a backslash in them escapes a quote, itself, `n` or `t`")]
     BadQuote = 1,
     #[error("the words must be those of a command")]
     BadWords = 2,
