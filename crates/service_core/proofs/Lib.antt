@@ -1,3 +1,9 @@
 pub mod Ascii
 pub mod Columns
 pub mod Puts
+pub mod KnownLemmas
+pub mod Laws
+pub mod Stepping
+pub mod Running
+pub mod Linked
+pub mod Told

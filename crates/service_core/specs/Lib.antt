@@ -4,6 +4,7 @@ pub use Rattle.desk_core.specs.Desk
 pub use Rattle.desk_core.specs.Due
 pub use Rattle.desk_core.specs.Facts
 pub use Rattle.desk_core.specs.IsDesk
+pub use Rattle.desk_core.specs.Known
 pub use Rattle.desk_core.specs.Laws
 pub use Rattle.desk_core.specs.Links
 pub use Rattle.desk_core.specs.Names
@@ -13,8 +14,15 @@ pub use Rattle.desk_core.specs.Refusals
 pub use Rattle.desk_core.specs.Rights
 pub use Rattle.desk_core.specs.Step
 pub use Rattle.desk_core.specs.View
+pub mod Attaching
 pub mod Columns
+pub mod Decided
+pub mod Fault
 pub mod History
 pub mod Queues
+pub mod Seen
+pub mod Short
+pub mod Shown
+pub mod TableSteps
 pub mod Texts
 pub mod Words

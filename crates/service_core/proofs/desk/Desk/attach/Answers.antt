@@ -1,0 +1,10 @@
+use Rattle.std.proofs.Common.{◌∙◌}
+use Rattle.service_core.proofs.desk.Desk.attach.Goals as goal
+
+pub returns-in-Ok-true-clause-known : goal.returns-in-Ok-true-clause-known
+returns-in-Ok-true-clause-known g c desk is stand clean =
+    c.in-Ok-true.ensures.told desk is stand clean ∙ c.in-Ok-true.field-0-test
+
+pub returns-in-Ok-false-clause-unknown : goal.returns-in-Ok-false-clause-unknown
+returns-in-Ok-false-clause-unknown g c told desk is stand clean =
+    c.in-Ok-false.ensures.told desk is stand clean ∙ c.in-Ok-false.field-0-test

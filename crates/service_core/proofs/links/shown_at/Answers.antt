@@ -1,0 +1,54 @@
+use Rattle.std.proofs.Common.{◌≡◌, ◌∙◌, ◌<◌, ◌++◌, [], ◌∷◌, ap, cond, filter, get_or, length}
+use Rattle.std.proofs.Common.{rules, sym}
+use Rattle.std.proofs.lemmas.List.{append-nil, take_all}
+use Rattle.desk_core.specs.Reading.{is_shown}
+use Rattle.desk_core.specs.declared.rows.LinkKind.TheVariants.{DependsOn}
+use Rattle.desk_core.specs.declared.rows.LinkRow.{LinkRow}
+use Rattle.store_core.specs.Contents.{contents_of}
+use Rattle.service_core.specs.Shown.{is_shown_at}
+use Rattle.service_core.proofs.Linked.{filtered_more}
+use Rattle.service_core.proofs.links.shown_at.Goals as goal
+use Rattle.service_core.proofs.links.shown_at.Goals.{then-shown+in_ok-push, else-shown}
+
+pub returns-in_err-shown-clause-kept : goal.returns-in_err-shown-clause-kept
+returns-in_err-shown-clause-kept g c d stand =
+    c.is_shown.ensures.kept d (c.loop-link.invariant.kept d stand)
+
+pub returns-in_err-push-clause-kept : goal.returns-in_err-push-clause-kept
+returns-in_err-push-clause-kept g c d stand =
+    c.is_shown.ensures.kept d (c.loop-link.invariant.kept d stand)
+
+pub loop-link-preserved : goal.loop-link-preserved
+loop-link-preserved g c =
+    let low : c.loop-link.link-index < length c.args.links.now = search rules in
+    let so_far = c.loop-link.invariant in
+    let shows = c.is_shown.ensures in
+    let first : LinkRow = record { source = 0; kind = DependsOn; target = 0 } in
+    let item = get_or c.args.links.now c.loop-link.link-index first in
+    let put : (c.if-shown.found.items
+    ≡ c.loop-link.found.items ++ cond c.in_ok-shown.shown (item ∷ []) []) =
+    elim c.if-shown.branch [
+      | then-shown+in_ok-push w ↦
+          ap (λ v. v.items) w.found-is ∙ w.in_ok-push.ensures.items
+          ∙ sym (ap (λ b. c.loop-link.found.items ++ cond b (item ∷ []) []) w.if-shown.true)
+      | else-shown w ↦
+          ap (λ v. v.items) w.found-is ∙ sym (append-nil c.loop-link.found.items)
+          ∙ sym (ap (λ b. c.loop-link.found.items ++ cond b (item ∷ []) []) w.if-shown.false)
+    ] in
+    record {
+      told =
+          λ desk is stand clean.
+          filtered_more (is_shown_at c.args.settings.now c.args.caller.now desk c.args.end)
+          c.args.links.now c.loop-link.link-index first _ _ _ low
+          (c.in_ok-shown.ensures.told desk is (so_far.kept (contents_of desk) stand) clean
+          ∙ ap (is_shown c.args.settings.now c.args.caller.now desk) c.number.ensures)
+          put (so_far.told desk is stand (shows.honest clean));
+      kept = λ d stand. shows.kept d (so_far.kept d stand);
+      honest = λ clean. so_far.honest (shows.honest clean);
+    }
+
+pub returns-clause-told : goal.returns-clause-told
+returns-clause-told g c desk is stand clean =
+    c.loop-link.invariant.told desk is stand clean
+    ∙ ap (filter (is_shown_at c.args.settings.now c.args.caller.now desk c.args.end))
+    (take_all c.loop-link.link-index c.args.links.now c.loop-link-test.false)

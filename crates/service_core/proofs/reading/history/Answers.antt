@@ -1,0 +1,16 @@
+use Rattle.std.proofs.Common.{◌∙◌}
+use Rattle.store_core.proofs.ReadingLemmas.{if_ok}
+use Rattle.service_core.proofs.Told.{nothing_told, tells}
+use Rattle.service_core.proofs.reading.history.Goals as goal
+
+pub returns-in-Some-clause-told : goal.returns-in-Some-clause-told
+returns-in-Some-clause-told g c at id desk is stand clean =
+    if_ok c.told_to.result
+    (λ answer told seen. told
+    ∙ tells c.args.settings.now at c.args.caller.now desk id c.args.facts c.in-Some.on c.in-Some.is
+    seen)
+    (c.told_to.ensures.told desk is stand clean)
+
+pub returns-clause-told : goal.returns-clause-told
+returns-clause-told g c at id desk is stand clean seen =
+    nothing_told c.args.settings.now at c.args.caller.now desk id c.args.facts c.in-None.is seen

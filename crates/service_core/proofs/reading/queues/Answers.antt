@@ -1,0 +1,10 @@
+use Rattle.std.proofs.Common.{◌∙◌, ap, filter}
+use Rattle.desk_core.specs.Rights.{sees_queue}
+use Rattle.desk_core.specs.declared.answer.Answer.TheVariants.{Queues}
+use Rattle.service_core.proofs.reading.queues.Goals as goal
+
+pub returns-clause-told : goal.returns-clause-told
+returns-clause-told g c desk is stand clean =
+    ap Queues (c.in_ok-seen.ensures
+    ∙ ap (filter (sees_queue c.args.settings.now c.args.caller.now)) (c.as_slice.ensures.value
+    ∙ c.in_ok-queues.ensures.listed desk is stand clean))

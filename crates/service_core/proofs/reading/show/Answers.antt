@@ -1,0 +1,20 @@
+use Rattle.std.proofs.Common.{◌∙◌, ap}
+use Rattle.desk_core.specs.declared.answer.Answer.TheVariants.{Shown}
+use Rattle.store_core.proofs.ReadingLemmas.{if_ok}
+use Rattle.service_core.specs.Shown.{shown_to}
+use Rattle.service_core.proofs.Told.{nothing_shown, shows}
+use Rattle.service_core.proofs.reading.show.Goals as goal
+
+pub returns-in-Some-clause-told : goal.returns-in-Some-clause-told
+returns-in-Some-clause-told g c at id desk is stand clean =
+    let settings = c.args.settings.now in
+    let caller = c.args.caller.now in
+    if_ok c.shown_to.result
+    (λ answer told seen. told
+    ∙ ap (λ due. Shown (shown_to settings caller due c.in-Some.on desk)) c.due_in-due.ensures
+    ∙ shows settings at caller desk id c.args.facts c.in-Some.on c.in-Some.is seen)
+    (c.shown_to.ensures.told desk is stand clean)
+
+pub returns-clause-told : goal.returns-clause-told
+returns-clause-told g c at id desk is stand clean seen =
+    nothing_shown c.args.settings.now at c.args.caller.now desk id c.args.facts c.in-None.is seen

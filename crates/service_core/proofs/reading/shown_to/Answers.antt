@@ -1,0 +1,9 @@
+use Rattle.std.proofs.Common.{◌∙◌, ap}
+use Rattle.desk_core.specs.declared.answer.Answer.TheVariants.{Shown}
+use Rattle.service_core.specs.Shown.{shown_with}
+use Rattle.service_core.proofs.reading.shown_to.Goals as goal
+
+pub returns-clause-told : goal.returns-clause-told
+returns-clause-told g c desk is stand clean =
+    ap Shown (c.shown_with.ensures
+    ∙ ap (shown_with c.args.on c.args.due) (c.in_ok-links.ensures.told desk is stand clean))

@@ -1,0 +1,37 @@
+-- What it is that settings are attached to tables.
+use Rattle.std.specs.Prelude.{◌≡◌, ℕ, Bool, ◌&&◌, List}
+use Rattle.std.specs.List.{list_all}
+use Rattle.sqlite.specs.State.{State, HasCleanDisk}
+use Rattle.settings_core.specs.Settings.{knows}
+use Rattle.settings_core.specs.declared.settings.Settings.{Settings}
+use Rattle.desk_core.specs.Desk.{Desk, empty_desk}
+use Rattle.desk_core.specs.IsDesk.{IsDesk}
+use Rattle.desk_core.specs.Known.{is_known, knows_queue, knows_row}
+use Rattle.desk_core.specs.declared.rows.QueueRow.{QueueRow}
+use Rattle.desk_core.specs.declared.rows.RequestRow.{RequestRow}
+use Rattle.desk_core.specs.declared.rows.Watcher.{Watcher}
+use Rattle.store_core.specs.Contents.{history_at}
+use Rattle.store_core.specs.Stands.{StandsFor}
+
+-- whether the settings know each name of whatever desk the tables stand for
+abbrev pub TellsKnown : Settings → State → State → Bool → Type 0
+TellsKnown settings old new known =
+    (desk : Desk) → IsDesk desk → StandsFor desk old → HasCleanDisk new
+    → is_known settings desk ≡ known
+
+-- ---- what is asked of the rows
+
+-- a desk of these queues alone
+abbrev pub of_queues : List QueueRow → Desk
+of_queues queues = record empty_desk { queues = queues }
+
+-- the settings know each name in these rows of queues, requests and watchers
+unfoldable pub knows_rows : Settings → List QueueRow → List RequestRow → List Watcher → Bool
+knows_rows settings queues requests watchers =
+    list_all (knows_queue settings) queues
+    && (list_all (knows_row settings (of_queues queues)) requests
+    && list_all (λ w. knows settings w.person) watchers)
+
+-- the settings know those who made the entries of the request with that number
+unfoldable pub knows_history : Settings → Desk → ℕ → Bool
+knows_history settings desk id = list_all (λ e. knows settings e.actor) (history_at desk id)

@@ -1,0 +1,66 @@
+-- What is decided of a command by its facts, and what that makes of the tables.
+use Rattle.std.specs.Prelude.{◌≡◌, Bool, true, false, Option, Some, None}
+use Rattle.sqlite.specs.State.{State, HasCleanDisk}
+use Rattle.settings_core.specs.declared.settings.Settings.{Settings}
+use Rattle.desk_core.specs.Change.{applied}
+use Rattle.desk_core.specs.Commands.{plan_of}
+use Rattle.desk_core.specs.Desk.{Desk}
+use Rattle.desk_core.specs.IsDesk.{IsDesk}
+use Rattle.desk_core.specs.Plan.{change_by}
+use Rattle.desk_core.specs.Step.{Ask, Outcome, call, facts_of, guard}
+use Rattle.desk_core.specs.declared.answer.Answer.{Answer}
+use Rattle.desk_core.specs.declared.answer.Answer.TheVariants as answer
+use Rattle.desk_core.specs.declared.change.Change.{Change}
+use Rattle.desk_core.specs.declared.command.Command.{Command}
+use Rattle.desk_core.specs.declared.command.Command.TheVariants as command
+use Rattle.desk_core.specs.declared.facts.Facts.{Facts}
+use Rattle.desk_core.specs.declared.rows.RequestRow.{RequestRow}
+use Rattle.store_core.specs.Stands.{StandsFor}
+use Rattle.store_core.specs.Written.{IsWritable}
+use Rattle.service_core.specs.TableSteps.{IsStep}
+
+-- from whatever desk the tables stand for, of which this holds, the command makes a step
+abbrev pub StepsWhere : (Desk → Type 0) → Settings → Ask → Outcome → State → State → Type 0
+StepsWhere Holds settings ask outcome old new =
+    (desk : Desk) → IsDesk desk → Holds desk → StandsFor desk old → HasCleanDisk new
+    → (after : Desk) × IsStep settings ask desk outcome after × StandsFor after new
+
+-- where the command sees this
+abbrev pub StepsSeeing : Facts → Settings → Ask → Outcome → State → State → Type 0
+StepsSeeing facts settings ask = StepsWhere (λ desk. facts ≡ facts_of ask.command desk) settings ask
+
+-- the command sees this, isn't refused, and makes this change
+unfoldable pub IsDecided : Facts → Change → Settings → Ask → Desk → Type 0
+IsDecided facts change settings ask desk =
+    (facts ≡ facts_of ask.command desk)
+    × (guard settings ask.at ask.caller ask.command desk ≡ None)
+    × (change
+    ≡ change_by (call settings ask.at ask.caller) (facts_of ask.command desk)
+    (plan_of ask.command))
+
+-- where it is so decided
+abbrev pub CarriesOut : Facts → Change → Settings → Ask → Outcome → State → State → Type 0
+CarriesOut facts change settings ask =
+    StepsWhere (IsDecided facts change settings ask) settings ask
+
+-- the change is written, of whatever desk the tables stand for on which it can be
+abbrev pub Writes : Change → State → State → Type 0
+Writes change old new =
+    (desk : Desk) → IsDesk desk → IsWritable desk change → StandsFor desk old
+    → StandsFor (applied change desk) new
+
+abbrev pub reads : Command → Bool
+reads command.Queues = true
+reads (command.Show id) = true
+reads (command.History id) = true
+reads other = false
+
+-- `Created` with the number of the request that was filed, or `Done` where none was
+abbrev pub created_if : Option RequestRow → Answer
+created_if None = answer.Done
+created_if (Some row) = answer.Created row.id
+
+-- what a command that makes this change answers
+abbrev pub answered : Command → Change → Answer
+answered (command.Create queue subject status requestors) change = created_if change.filed
+answered other change = answer.Done

@@ -1,0 +1,144 @@
+//! Settings are attached to tables.
+ghost use Rattle.std.specs.Prelude.{◌≡◌, ◌&&◌, false, true, IfErr, IfOk};
+ghost use Rattle.std.specs.List.{list_all};
+ghost use Rattle.desk_core.specs.Known as known;
+ghost use Rattle.store_core.specs.Calls.{Leaves, Tells, WasClean};
+ghost use Rattle.store_core.specs.Contents.{watchers};
+ghost use Rattle.store_core.specs.Seen.{state_of};
+ghost use Rattle.service_core.specs.Attaching as attaching;
+ghost use Rattle.service_core.specs.Attaching.{TellsKnown};
+ghost use Rattle.service_core.specs.Seen.{settings_of, tables_of};
+
+use crate::desk::Desk;
+use crate::fault::AttachFault;
+use crate::known::{knows_actors, knows_rows};
+use desk_core::RequestRow;
+use settings_core::Settings;
+use sqlite::Alter;
+use std::alloc::Global;
+use store_core::{Store, StoreFault};
+
+impl<S: Alter> Desk<S> {
+    /// The desk over these tables, with these settings. Answers `Store` where the tables can't be
+    /// read or memory is refused, and otherwise `UnknownName` where the settings lack a name of the
+    /// tables; the store is given back with either. The tables stay as they are.
+    pub fn attach(
+        alloc: Global,
+        store: Store<S>,
+        settings: Settings,
+    ) -> Result<Desk<S>, (AttachFault, Store<S>)>
+        ensures settings { IfOk result (λ desk. settings_of S.Store desk ≡ settings) }
+        ensures known { IfOk result (λ desk.
+            TellsKnown settings (state_of S.Store store) (tables_of S.Store desk) true) }
+        ensures kept { IfOk result (λ desk.
+            Leaves (state_of S.Store store) (tables_of S.Store desk)) }
+        ensures honest { IfOk result (λ desk.
+            WasClean (state_of S.Store store) (tables_of S.Store desk)) }
+        ensures unknown { IfErr result (λ back. back.0 ≡ AttachFault.UnknownName
+            → TellsKnown settings (state_of S.Store store) (state_of S.Store back.1) false) }
+        ensures given_back { IfErr result (λ back.
+            Leaves (state_of S.Store store) (state_of S.Store back.1)) }
+        ensures clean_back { IfErr result (λ back.
+            WasClean (state_of S.Store store) (state_of S.Store back.1)) }
+    {
+        let mut store = store;
+        match is_known(alloc, &mut store, &settings) {
+            Ok(true) => Ok(Desk { store, settings }),
+            Ok(false) => Err((AttachFault::UnknownName, store)),
+            Err(fault) => Err((AttachFault::Store(fault), store)),
+        }
+    }
+}
+
+/// Whether the settings know each name of the tables. The tables stay as they are.
+fn is_known<S: Alter>(
+    alloc: Global,
+    store: &mut Store<S>,
+    settings: &Settings,
+) -> Result<bool, StoreFault>
+    ensures told { Tells (λ desk found. known.is_known settings.now desk ≡ found)
+        (state_of S.Store store.old) (state_of S.Store store.new) result }
+    ensures kept { Leaves (state_of S.Store store.old) (state_of S.Store store.new) }
+    ensures honest { WasClean (state_of S.Store store.old) (state_of S.Store store.new) }
+{
+    let requests = store.requests(alloc)?;
+    let histories = knows_histories(alloc, store, settings, requests.as_slice())?;
+    let lists = knows_lists(alloc, store, settings, requests.as_slice())?;
+    Ok(both(lists, histories))
+}
+
+/// Whether the settings know each name in the lists of queues and watchers, and in these requests.
+/// The tables stay as they are.
+fn knows_lists<S: Alter>(
+    alloc: Global,
+    store: &mut Store<S>,
+    settings: &Settings,
+    requests: &[RequestRow],
+) -> Result<bool, StoreFault>
+    ensures told { Tells (λ desk found. found
+        ≡ attaching.knows_rows settings.now desk.queues requests.now (watchers desk))
+        (state_of S.Store store.old) (state_of S.Store store.new) result }
+    ensures kept { Leaves (state_of S.Store store.old) (state_of S.Store store.new) }
+    ensures honest { WasClean (state_of S.Store store.old) (state_of S.Store store.new) }
+{
+    read_links(alloc, store)?;
+    let queues = store.queues(alloc)?;
+    let watchers = store.watchers(alloc)?;
+    Ok(knows_rows(settings, queues.as_slice(), requests, watchers.as_slice()))
+}
+
+/// Reads the links: they have no names, but each has to be one. The tables stay as they are.
+fn read_links<S: Alter>(alloc: Global, store: &mut Store<S>) -> Result<(), StoreFault>
+    ensures kept { Leaves (state_of S.Store store.old) (state_of S.Store store.new) }
+    ensures honest { WasClean (state_of S.Store store.old) (state_of S.Store store.new) }
+{
+    match store.links(alloc) {
+        Ok(_) => Ok(()),
+        Err(fault) => Err(fault),
+    }
+}
+
+/// Whether the settings know those who made the entries of these requests. The tables stay as they
+/// are.
+fn knows_histories<S: Alter>(
+    alloc: Global,
+    store: &mut Store<S>,
+    settings: &Settings,
+    requests: &[RequestRow],
+) -> Result<bool, StoreFault>
+    ensures told { Tells (λ desk found. found
+        ≡ list_all (λ r. attaching.knows_history settings.now desk r.id) requests.now)
+        (state_of S.Store store.old) (state_of S.Store store.new) result }
+    ensures kept { Leaves (state_of S.Store store.old) (state_of S.Store store.new) }
+    ensures honest { WasClean (state_of S.Store store.old) (state_of S.Store store.new) }
+{
+    let mut known = true;
+    for request in requests {
+        let of_request = knows_history(alloc, store, settings, request.id)?;
+        known = both(known, of_request);
+    }
+    Ok(known)
+}
+
+/// Whether the settings know those who made the entries of the request with that number. The
+/// tables stay as they are.
+fn knows_history<S: Alter>(
+    alloc: Global,
+    store: &mut Store<S>,
+    settings: &Settings,
+    id: u32,
+) -> Result<bool, StoreFault>
+    ensures told { Tells (λ desk found. found ≡ attaching.knows_history settings.now desk id)
+        (state_of S.Store store.old) (state_of S.Store store.new) result }
+    ensures kept { Leaves (state_of S.Store store.old) (state_of S.Store store.new) }
+    ensures honest { WasClean (state_of S.Store store.old) (state_of S.Store store.new) }
+{
+    let entries = store.entries_of(alloc, id)?;
+    Ok(knows_actors(settings, entries.as_slice()))
+}
+
+fn both(one: bool, other: bool) -> bool
+    ensures { result ≡ (one && other) }
+{
+    one && other
+}

@@ -1,0 +1,144 @@
+//! One command on the desk.
+ghost use Rattle.std.specs.Prelude.{◌≡◌, ℕ, true, IfErr, IfOk, OnErr, OnOk};
+ghost use Rattle.desk_core.specs.Refusals.{names_its_right};
+ghost use Rattle.store_core.specs.Calls.{Leaves, WasClean};
+ghost use Rattle.store_core.specs.Seen.{state_of};
+ghost use Rattle.service_core.specs.Decided as decided;
+ghost use Rattle.service_core.specs.Decided.{CarriesOut, StepsSeeing, Writes};
+ghost use Rattle.service_core.specs.TableSteps.{StepsOn, ask_by};
+ghost use Rattle.service_core.specs.Seen.{settings_of, tables_of};
+
+use crate::desk::Desk;
+use crate::reading;
+use desk_core::{Answer, Change, Command, Facts, Refusal, decide};
+use settings_core::Settings;
+use sqlite::Alter;
+use std::alloc::Global;
+use store_core::Store;
+
+impl<S: Alter> Desk<S> {
+    /// One command by a caller at a moment, in minutes since 1970-01-01 00:00 UTC: its answer, or
+    /// the refusal that is called for. A change is written in one transaction.
+    ///
+    /// `Unavailable` may come in place of any answer, where memory or the store refused. After a
+    /// refusal the tables are as they were.
+    pub fn execute(
+        &mut self,
+        alloc: Global,
+        at: u32,
+        caller: &str,
+        command: &Command,
+    ) -> Result<Answer, Refusal>
+        ensures step { StepsOn (settings_of S.Store self.old)
+            (ask_by at caller.now command.now) result
+            (tables_of S.Store self.old) (tables_of S.Store self.new) }
+        ensures refused { OnErr result
+            (Leaves (tables_of S.Store self.old) (tables_of S.Store self.new)) }
+        ensures named { IfErr result (λ refusal. names_its_right refusal ≡ true) }
+        ensures honest { WasClean (tables_of S.Store self.old) (tables_of S.Store self.new) }
+        ensures same { settings_of S.Store self.new ≡ settings_of S.Store self.old }
+    {
+        step(alloc, &mut self.store, &self.settings, at, caller, command)
+    }
+}
+
+/// One command on the desk of these tables.
+fn step<S: Alter>(
+    alloc: Global,
+    store: &mut Store<S>,
+    settings: &Settings,
+    at: u32,
+    caller: &str,
+    command: &Command,
+) -> Result<Answer, Refusal>
+    ensures step { StepsOn settings.now (ask_by at caller.now command.now) result
+        (state_of S.Store store.old) (state_of S.Store store.new) }
+    ensures refused { OnErr result
+        (Leaves (state_of S.Store store.old) (state_of S.Store store.new)) }
+    ensures named { IfErr result (λ refusal. names_its_right refusal ≡ true) }
+    ensures honest { WasClean (state_of S.Store store.old) (state_of S.Store store.new) }
+{
+    match store.facts_for(alloc, command) {
+        Ok(facts) => decided(alloc, store, settings, at, caller, command, facts),
+        Err(fault) => Err(Refusal::from(fault)),
+    }
+}
+
+/// One command with its facts.
+fn decided<S: Alter>(
+    alloc: Global,
+    store: &mut Store<S>,
+    settings: &Settings,
+    at: u32,
+    caller: &str,
+    command: &Command,
+    facts: Facts,
+) -> Result<Answer, Refusal>
+    ensures step { StepsSeeing facts settings.now (ask_by at caller.now command.now) result
+        (state_of S.Store store.old) (state_of S.Store store.new) }
+    ensures refused { OnErr result
+        (Leaves (state_of S.Store store.old) (state_of S.Store store.new)) }
+    ensures named { IfErr result (λ refusal. names_its_right refusal ≡ true) }
+    ensures honest { WasClean (state_of S.Store store.old) (state_of S.Store store.new) }
+{
+    match decide(alloc, settings, at, caller, &facts, command) {
+        Ok(change) => carry_out(alloc, store, settings, caller, command, facts, &change),
+        Err(refusal) => Err(refusal),
+    }
+}
+
+/// A command that isn't refused: its answer, once its change is made.
+fn carry_out<S: Alter>(
+    alloc: Global,
+    store: &mut Store<S>,
+    settings: &Settings,
+    caller: &str,
+    command: &Command,
+    facts: Facts,
+    change: &Change,
+) -> Result<Answer, Refusal>
+    ensures done { (at : ℕ) → CarriesOut facts change.now settings.now
+        (ask_by at caller.now command.now) result
+        (state_of S.Store store.old) (state_of S.Store store.new) }
+    ensures refused { OnErr result
+        (Leaves (state_of S.Store store.old) (state_of S.Store store.new)) }
+    ensures named { IfErr result (λ refusal. names_its_right refusal ≡ true) }
+    ensures honest { WasClean (state_of S.Store store.old) (state_of S.Store store.new) }
+{
+    match command {
+        Command::Queues => reading::queues(alloc, store, settings, caller),
+        Command::Show { .. } => reading::show(alloc, store, settings, caller, facts),
+        Command::History { .. } => reading::history(alloc, store, settings, caller, facts),
+        _ => write(store, command, change),
+    }
+}
+
+/// Writes a change, and tells what a command that changes the desk answers.
+fn write<S: Alter>(
+    store: &mut Store<S>,
+    command: &Command,
+    change: &Change,
+) -> Result<Answer, Refusal>
+    ensures told { IfOk result (λ answer. answer ≡ decided.answered command.now change.now) }
+    ensures done { OnOk result
+        (Writes change.now (state_of S.Store store.old) (state_of S.Store store.new)) }
+    ensures undone { OnErr result
+        (Leaves (state_of S.Store store.old) (state_of S.Store store.new)) }
+    ensures honest { WasClean (state_of S.Store store.old) (state_of S.Store store.new) }
+    ensures fault { IfErr result (λ refusal. refusal ≡ Refusal.Unavailable) }
+{
+    match store.apply(change) {
+        Ok(()) => Ok(answered(command, change)),
+        Err(_) => Err(Refusal::Unavailable),
+    }
+}
+
+/// The answer of a command that makes this change: which request was filed, or that it is done.
+fn answered(command: &Command, change: &Change) -> Answer
+    ensures { result ≡ decided.answered command.now change.now }
+{
+    match (command, &change.filed) {
+        (Command::Create { .. }, Some(row)) => Answer::Created(row.id),
+        _ => Answer::Done,
+    }
+}

@@ -1,0 +1,155 @@
+//! The links of a request, as far as the caller may show what is at their other ends.
+ghost use Rattle.std.specs.Prelude.{◌≡◌, IfErr, IfOk, filter};
+ghost use Rattle.desk_core.specs.Facts.{facts_on_request};
+ghost use Rattle.desk_core.specs.Reading as reading;
+ghost use Rattle.store_core.specs.Calls.{Leaves, Tells, WasClean};
+ghost use Rattle.store_core.specs.Seen.{state_of};
+ghost use Rattle.service_core.specs.Shown as shown;
+
+use desk_core::{Command, Facts, LinkKind, LinkRow, Links, Refusal, is_kind};
+use settings_core::Settings;
+use sqlite::Alter;
+use std::alloc::{AllocError, Global};
+use store_core::Store;
+use text_core::Sequence;
+
+/// An end of a link.
+#[derive(Clone, Copy)]
+pub(crate) enum End {
+    Source,
+    Target,
+}
+
+impl End {
+    /// The number of the request at this end.
+    fn number(self, link: &LinkRow) -> u32
+        ensures { result ≡ shown.number_at self link.now }
+    {
+        match self {
+            End::Source => link.source,
+            End::Target => link.target,
+        }
+    }
+}
+
+/// The requests that one is linked with, as far as the caller may show them. `Unavailable` where
+/// memory or the store refused. The tables stay as they are.
+pub(crate) fn links_of<S: Alter>(
+    alloc: Global,
+    store: &mut Store<S>,
+    settings: &Settings,
+    caller: &str,
+    id: u32,
+) -> Result<Links, Refusal>
+    ensures told { Tells (λ desk links. links
+        ≡ reading.links_of settings.now caller.now desk id)
+        (state_of S.Store store.old) (state_of S.Store store.new) result }
+    ensures kept { Leaves (state_of S.Store store.old) (state_of S.Store store.new) }
+    ensures honest { WasClean (state_of S.Store store.old) (state_of S.Store store.new) }
+    ensures fault { IfErr result (λ refusal. refusal ≡ Refusal.Unavailable) }
+{
+    let from = store.links_from(alloc, id)?;
+    let targets = shown_at(alloc, store, settings, caller, End::Target, from.as_slice())?;
+    let to = store.links_to(alloc, id)?;
+    let sources = shown_at(alloc, store, settings, caller, End::Source, to.as_slice())?;
+    let links = links_by(alloc, targets.as_slice(), sources.as_slice())?;
+    Ok(links)
+}
+
+/// The links of which the caller may show the request at this end.
+fn shown_at<S: Alter>(
+    alloc: Global,
+    store: &mut Store<S>,
+    settings: &Settings,
+    caller: &str,
+    end: End,
+    links: &[LinkRow],
+) -> Result<Vec<LinkRow>, Refusal>
+    ensures told { Tells (λ desk found. found.items
+        ≡ filter (shown.is_shown_at settings.now caller.now desk end) links.now)
+        (state_of S.Store store.old) (state_of S.Store store.new) result }
+    ensures kept { Leaves (state_of S.Store store.old) (state_of S.Store store.new) }
+    ensures honest { WasClean (state_of S.Store store.old) (state_of S.Store store.new) }
+    ensures fault { IfErr result (λ refusal. refusal ≡ Refusal.Unavailable) }
+{
+    let mut found = Vec::new(alloc);
+    for link in links {
+        let shown = is_shown(alloc, store, settings, caller, end.number(link))?;
+        if shown {
+            found.push(*link)?;
+        }
+    }
+    Ok(found)
+}
+
+/// Whether the request with this number is there and the caller may show it.
+fn is_shown<S: Alter>(
+    alloc: Global,
+    store: &mut Store<S>,
+    settings: &Settings,
+    caller: &str,
+    id: u32,
+) -> Result<bool, Refusal>
+    ensures told { Tells (λ desk shown. shown ≡ reading.is_shown settings.now caller.now desk id)
+        (state_of S.Store store.old) (state_of S.Store store.new) result }
+    ensures kept { Leaves (state_of S.Store store.old) (state_of S.Store store.new) }
+    ensures honest { WasClean (state_of S.Store store.old) (state_of S.Store store.new) }
+    ensures fault { IfErr result (λ refusal. refusal ≡ Refusal.Unavailable) }
+{
+    let facts = facts_on(alloc, store, id)?;
+    Ok(may_show(settings, caller, &facts))
+}
+
+/// What is seen of the request with this number, and of its queue.
+fn facts_on<S: Alter>(alloc: Global, store: &mut Store<S>, id: u32) -> Result<Facts, Refusal>
+    ensures told { Tells (λ desk facts. facts ≡ facts_on_request desk id)
+        (state_of S.Store store.old) (state_of S.Store store.new) result }
+    ensures kept { Leaves (state_of S.Store store.old) (state_of S.Store store.new) }
+    ensures honest { WasClean (state_of S.Store store.old) (state_of S.Store store.new) }
+    ensures fault { IfErr result (λ refusal. refusal ≡ Refusal.Unavailable) }
+{
+    let facts = store.facts_for(alloc, &Command::Show { id })?;
+    Ok(facts)
+}
+
+/// Whether the request of these facts is there and the caller may show it.
+fn may_show(settings: &Settings, caller: &str, facts: &Facts) -> bool
+    ensures { result ≡ shown.may_show_in settings.now caller.now facts.now }
+{
+    match &facts.request {
+        Some(on) => on.may_show(settings, caller),
+        None => false,
+    }
+}
+
+/// The six lists of numbers, of the links that lead from a request and of those that lead to it.
+fn links_by(alloc: Global, from: &[LinkRow], to: &[LinkRow]) -> Result<Links, AllocError>
+    ensures { IfOk result (λ links. links ≡ shown.links_by from.now to.now) }
+{
+    Ok(Links {
+        depends_on: numbers_at(alloc, End::Target, LinkKind::DependsOn, from)?,
+        depended_on_by: numbers_at(alloc, End::Source, LinkKind::DependsOn, to)?,
+        member_of: numbers_at(alloc, End::Target, LinkKind::MemberOf, from)?,
+        has_member: numbers_at(alloc, End::Source, LinkKind::MemberOf, to)?,
+        refers_to: numbers_at(alloc, End::Target, LinkKind::RefersTo, from)?,
+        referred_to_by: numbers_at(alloc, End::Source, LinkKind::RefersTo, to)?,
+    })
+}
+
+/// The numbers at that end of the links of a kind.
+fn numbers_at(
+    alloc: Global,
+    end: End,
+    kind: LinkKind,
+    links: &[LinkRow],
+) -> Result<Sequence<u32>, AllocError>
+    ensures { IfOk result (λ numbers. numbers ≡ shown.numbers_at end kind links.now) }
+{
+    let mut numbers = Vec::new(alloc);
+    for link in links {
+        if is_kind(kind, link.kind) {
+            numbers.push(end.number(link))?;
+        }
+    }
+    Ok(Sequence::from(numbers))
+}

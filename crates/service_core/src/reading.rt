@@ -1,0 +1,189 @@
+//! What commands that read answer, of the tables.
+ghost use Rattle.std.specs.Prelude.{◌≡◌, ℕ, IfErr, IfOk, filter};
+ghost use Rattle.desk_core.specs.Reading as reading;
+ghost use Rattle.desk_core.specs.Rights as rights;
+ghost use Rattle.desk_core.specs.Step.{facts_of};
+ghost use Rattle.store_core.specs.Calls.{Leaves, Tells, WasClean};
+ghost use Rattle.store_core.specs.Seen.{state_of};
+ghost use Rattle.service_core.specs.Shown as shown;
+
+use crate::links::links_of;
+use desk_core::{
+    Answer, Command, Entry, Facts, Links, QueueRow, Refusal, Shown, Standing, due_of, sees_queue,
+};
+use hours_core::Minute;
+use settings_core::Settings;
+use sqlite::Alter;
+use std::alloc::{AllocError, Global};
+use store_core::Store;
+use text_core::Sequence;
+
+/// The queues that the caller may see. `Unavailable` where memory or the store refused. The tables
+/// stay as they are.
+pub(crate) fn queues<S: Alter>(
+    alloc: Global,
+    store: &mut Store<S>,
+    settings: &Settings,
+    caller: &str,
+) -> Result<Answer, Refusal>
+    ensures told { Tells (λ desk answer. answer
+        ≡ Answer.Queues (filter (rights.sees_queue settings.now caller.now) desk.queues))
+        (state_of S.Store store.old) (state_of S.Store store.new) result }
+    ensures kept { Leaves (state_of S.Store store.old) (state_of S.Store store.new) }
+    ensures honest { WasClean (state_of S.Store store.old) (state_of S.Store store.new) }
+    ensures fault { IfErr result (λ refusal. refusal ≡ Refusal.Unavailable) }
+{
+    let queues = store.queues(alloc)?;
+    let seen = queues_seen(alloc, settings, caller, queues.as_slice())?;
+    Ok(Answer::Queues(seen))
+}
+
+/// Those of the queues that the caller may see.
+fn queues_seen(
+    alloc: Global,
+    settings: &Settings,
+    caller: &str,
+    queues: &[QueueRow],
+) -> Result<Sequence<QueueRow>, AllocError>
+    ensures { IfOk result (λ seen. seen
+        ≡ filter (rights.sees_queue settings.now caller.now) queues.now) }
+{
+    let mut seen = Vec::new(alloc);
+    for queue in queues {
+        if sees_queue(settings, caller, queue) {
+            seen.push(queue.clone()?)?;
+        }
+    }
+    Ok(Sequence::from(seen))
+}
+
+/// The request that a command sees, as it is shown to the caller. `Unavailable` where memory or the
+/// store refused. The tables stay as they are.
+pub(crate) fn show<S: Alter>(
+    alloc: Global,
+    store: &mut Store<S>,
+    settings: &Settings,
+    caller: &str,
+    facts: Facts,
+) -> Result<Answer, Refusal>
+    ensures told { (at id : ℕ) → Tells (λ desk answer. facts ≡ facts_of (Command.Show id) desk
+        → answer ≡ reading.answer_of settings.now at caller.now (Command.Show id) desk)
+        (state_of S.Store store.old) (state_of S.Store store.new) result }
+    ensures kept { Leaves (state_of S.Store store.old) (state_of S.Store store.new) }
+    ensures honest { WasClean (state_of S.Store store.old) (state_of S.Store store.new) }
+    ensures fault { IfErr result (λ refusal. refusal ≡ Refusal.Unavailable) }
+{
+    let due = due_in(settings, &facts);
+    let request = facts.request;
+    match request {
+        Some(on) => shown_to(alloc, store, settings, caller, due, on),
+        None => Ok(Answer::Done),
+    }
+}
+
+/// When the request of these facts is due, if it and its queue are there.
+fn due_in(settings: &Settings, facts: &Facts) -> Option<Minute>
+    ensures { result ≡ shown.due_in settings.now facts.now }
+{
+    match (&facts.queue, &facts.request) {
+        (Some(queue), Some(on)) => due_of(settings, queue, &on.row),
+        _ => None,
+    }
+}
+
+/// A request with this due moment, as it is shown to the caller.
+fn shown_to<S: Alter>(
+    alloc: Global,
+    store: &mut Store<S>,
+    settings: &Settings,
+    caller: &str,
+    due: Option<Minute>,
+    on: Standing,
+) -> Result<Answer, Refusal>
+    ensures told { Tells (λ desk answer. answer
+        ≡ Answer.Shown (shown.shown_to settings.now caller.now due on desk))
+        (state_of S.Store store.old) (state_of S.Store store.new) result }
+    ensures kept { Leaves (state_of S.Store store.old) (state_of S.Store store.new) }
+    ensures honest { WasClean (state_of S.Store store.old) (state_of S.Store store.new) }
+    ensures fault { IfErr result (λ refusal. refusal ≡ Refusal.Unavailable) }
+{
+    let links = links_of(alloc, store, settings, caller, on.row.id)?;
+    Ok(Answer::Shown(shown_with(on, due, links)))
+}
+
+/// What is shown of a request with this due moment and these links.
+fn shown_with(on: Standing, due: Option<Minute>, links: Links) -> Shown
+    ensures { result ≡ shown.shown_with on due links }
+{
+    Shown {
+        row: on.row,
+        requestors: on.requestors,
+        cc: on.cc,
+        admin_cc: on.admin_cc,
+        due,
+        links,
+    }
+}
+
+/// The history of the request that a command sees, as far as it is told to the caller.
+/// `Unavailable` where memory or the store refused. The tables stay as they are.
+pub(crate) fn history<S: Alter>(
+    alloc: Global,
+    store: &mut Store<S>,
+    settings: &Settings,
+    caller: &str,
+    facts: Facts,
+) -> Result<Answer, Refusal>
+    ensures told { (at id : ℕ) → Tells (λ desk answer. facts ≡ facts_of (Command.History id) desk
+        → answer ≡ reading.answer_of settings.now at caller.now (Command.History id) desk)
+        (state_of S.Store store.old) (state_of S.Store store.new) result }
+    ensures kept { Leaves (state_of S.Store store.old) (state_of S.Store store.new) }
+    ensures honest { WasClean (state_of S.Store store.old) (state_of S.Store store.new) }
+    ensures fault { IfErr result (λ refusal. refusal ≡ Refusal.Unavailable) }
+{
+    match &facts.request {
+        Some(on) => told_to(alloc, store, settings, caller, on),
+        None => Ok(Answer::Done),
+    }
+}
+
+/// The history of a request, as far as it is told to the caller.
+fn told_to<S: Alter>(
+    alloc: Global,
+    store: &mut Store<S>,
+    settings: &Settings,
+    caller: &str,
+    on: &Standing,
+) -> Result<Answer, Refusal>
+    ensures told { Tells (λ desk answer. answer
+        ≡ Answer.History (shown.told_to settings.now caller.now on.now desk))
+        (state_of S.Store store.old) (state_of S.Store store.new) result }
+    ensures kept { Leaves (state_of S.Store store.old) (state_of S.Store store.new) }
+    ensures honest { WasClean (state_of S.Store store.old) (state_of S.Store store.new) }
+    ensures fault { IfErr result (λ refusal. refusal ≡ Refusal.Unavailable) }
+{
+    let comments = on.may_show_comments(settings, caller);
+    let entries = store.entries_of(alloc, on.row.id)?;
+    let told = told(alloc, entries.as_slice(), comments)?;
+    Ok(Answer::History(told))
+}
+
+/// The entries, with the comments or without them.
+fn told(alloc: Global, entries: &[Entry], comments: bool) -> Result<Sequence<Entry>, AllocError>
+    ensures { IfOk result (λ told. told ≡ filter (shown.is_told comments) entries.now) }
+{
+    let mut told = Vec::new(alloc);
+    for entry in entries {
+        if is_told(entry, comments) {
+            told.push(entry.clone()?)?;
+        }
+    }
+    Ok(Sequence::from(told))
+}
+
+/// Whether an entry is told: a comment only where comments may be shown.
+fn is_told(entry: &Entry, comments: bool) -> bool
+    ensures { result ≡ shown.is_told comments entry.now }
+{
+    !entry.kind.is_comment() || comments
+}

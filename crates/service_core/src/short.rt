@@ -1,0 +1,69 @@
+//! Short answers, put after other bytes without taking memory.
+ghost use Rattle.std.specs.Prelude.{◌≡◌, ◌++◌, ◌+◌, ◌≤◌, true, length, decimal};
+ghost use Rattle.desk_core.specs.Refusals.{names_its_right};
+ghost use Rattle.std.specs.Vec.{vec_capacity, vec_len};
+ghost use Rattle.service_core.specs.Short.{is_short};
+ghost use Rattle.service_core.specs.Texts as text;
+
+use desk_core::{Answer, Refusal};
+use itoa::Buffer;
+
+/// Room for any short answer, in bytes.
+pub const SHORT_TEXT: usize = 64;
+
+/// Puts the text of `Done`, of `Created`, or of a refusal whose right is a right's name (as
+/// `decide` and `execute` give it) at the end, where there is room for 64 bytes. Takes no memory.
+pub fn put_short(outcome: &Result<Answer, Refusal>, out: &mut Vec<u8>)
+    requires short { is_short outcome.now ≡ true }
+    requires room { vec_len out.old + 64 ≤ vec_capacity out.old }
+    ensures { out.new.items ≡ out.old.items ++ text.outcome_text outcome.now }
+{
+    match outcome {
+        Ok(Answer::Created(id)) => put_created(out, *id),
+        Ok(_) => put(out, "ok\n"),
+        Err(refusal) => put_refusal(out, refusal),
+    }
+}
+
+fn put_created(out: &mut Vec<u8>, id: u32)
+    requires { vec_len out.old + 64 ≤ vec_capacity out.old }
+    ensures { out.new.items ≡ out.old.items ++ text.created_text id }
+{
+    put(out, "request ");
+    put_number(out, id);
+    put(out, "\n");
+}
+
+fn put_refusal(out: &mut Vec<u8>, refusal: &Refusal)
+    requires short { names_its_right refusal.now ≡ true }
+    requires room { vec_len out.old + 64 ≤ vec_capacity out.old }
+    ensures { out.new.items ≡ out.old.items ++ text.refusal_text refusal.now }
+{
+    put(out, "refused ");
+    put_number(out, u32::from(refusal.number()));
+    put(out, " ");
+    put(out, refusal.name());
+    if let Refusal::Denied(right) = refusal {
+        put(out, " ");
+        put(out, right.as_str());
+    }
+    put(out, "\n");
+}
+
+fn put_number(out: &mut Vec<u8>, number: u32)
+    requires { vec_len out.old + 10 ≤ vec_capacity out.old }
+    ensures put { out.new.items ≡ out.old.items ++ decimal number }
+    ensures short { vec_len out.new ≤ vec_len out.old + 10 }
+    ensures room { vec_capacity out.old ≤ vec_capacity out.new }
+{
+    let mut buffer = Buffer::new();
+    put(out, buffer.format(number));
+}
+
+fn put(out: &mut Vec<u8>, text: &str)
+    requires { vec_len out.old + length text.now ≤ vec_capacity out.old }
+    ensures put { out.new.items ≡ out.old.items ++ text.now }
+    ensures room { vec_capacity out.old ≤ vec_capacity out.new }
+{
+    out.extend_from_slice(text.as_bytes()).unwrap();
+}
