@@ -1,22 +1,22 @@
 -- A command that shows something leaves the desk as it was, and so may be left out of a run.
-use Rattle.std.proofs.Common.{◌≡◌, ◌∙◌, inl, inr, ℕ, ◌+◌, List, Option, Some, None, Ok, refl, subst}
-use Rattle.std.proofs.Common.{sym}
+use Rattle.std.proofs.Common.{◌≡◌, ◌∙◌, inl, inr, ℕ, ◌+◌, true, false, List, Option, Some, None, Ok}
+use Rattle.std.proofs.Common.{Err, IfErr, refl, subst, sym}
 use Rattle.std.specs.Prelude.{⊤}
 use Rattle.settings_core.specs.declared.settings.Settings.{Settings}
 use Rattle.desk_core.specs.declared.answer.Answer.{Answer}
 use Rattle.desk_core.specs.declared.answer.Answer.TheVariants as answer
-use Rattle.desk_core.specs.declared.answer.Shown as shown
 use Rattle.desk_core.specs.declared.command.Command.{Command}
 use Rattle.desk_core.specs.declared.command.Command.TheVariants.{Create, Queues, Show, History}
 use Rattle.desk_core.specs.declared.facts.Standing.{Standing}
 use Rattle.desk_core.specs.declared.refusal.Refusal.{Refusal}
-use Rattle.desk_core.specs.declared.rows.Entry.{Entry}
-use Rattle.desk_core.specs.declared.rows.QueueRow.{QueueRow}
 use Rattle.service_core.specs.Change.{applied, no_change}
 use Rattle.service_core.specs.Desk.{Desk, request_count}
 use Rattle.service_core.specs.Plan.{change_of_request}
 use Rattle.service_core.specs.Reading.{answer_of}
-use Rattle.service_core.specs.Step.{Steps, desk_unless, effect, facts_of, guard, outcome_unless}
+use Rattle.service_core.specs.Refusals.{names_its_right}
+use Rattle.service_core.specs.Short.{is_short}
+use Rattle.service_core.specs.Step.{Outcome, Steps, desk_unless, effect, facts_of, guard}
+use Rattle.service_core.specs.Step.{outcome_unless}
 
 -- an answer that shows something
 abbrev Tells : Answer → Type 0
@@ -53,20 +53,16 @@ unchanged s at caller command old new x t (inr made) =
     made.1
     ∙ unchanged_by_plan s at caller (guard s at caller command old) command old x t (sym made.0)
 
-pub unchanged_by_show : (s : Settings) (at : ℕ) (caller : List ℕ) (command : Command)
-    (old new : Desk) (x : shown.Shown)
-    → Steps s at caller command old (Ok (answer.Shown x)) new → new ≡ old
-unchanged_by_show s at caller command old new x =
-    unchanged s at caller command old new (answer.Shown x) tt
-
-pub unchanged_by_queues : (s : Settings) (at : ℕ) (caller : List ℕ) (command : Command)
-    (old new : Desk) (queues : List QueueRow)
-    → Steps s at caller command old (Ok (answer.Queues queues)) new → new ≡ old
-unchanged_by_queues s at caller command old new queues =
+-- what isn't told shortly is shown
+pub unchanged_if_long : (s : Settings) (at : ℕ) (caller : List ℕ) (command : Command)
+    (old new : Desk) (outcome : Outcome) → IfErr outcome (λ r. names_its_right r ≡ true)
+    → is_short outcome ≡ false → Steps s at caller command old outcome new → new ≡ old
+unchanged_if_long s at caller command old new (Err refusal) named long = absurd cc
+unchanged_if_long s at caller command old new (Ok answer.Done) named long = absurd cc
+unchanged_if_long s at caller command old new (Ok (answer.Created id)) named long = absurd cc
+unchanged_if_long s at caller command old new (Ok (answer.Queues queues)) named long =
     unchanged s at caller command old new (answer.Queues queues) tt
-
-pub unchanged_by_history : (s : Settings) (at : ℕ) (caller : List ℕ) (command : Command)
-    (old new : Desk) (entries : List Entry)
-    → Steps s at caller command old (Ok (answer.History entries)) new → new ≡ old
-unchanged_by_history s at caller command old new entries =
+unchanged_if_long s at caller command old new (Ok (answer.Shown x)) named long =
+    unchanged s at caller command old new (answer.Shown x) tt
+unchanged_if_long s at caller command old new (Ok (answer.History entries)) named long =
     unchanged s at caller command old new (answer.History entries) tt

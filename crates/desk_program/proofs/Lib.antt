@@ -1,5 +1,6 @@
 pub mod DeskUnchanged
 pub mod InputFaults
+pub mod LedLines
 pub mod MarkerSearch
 pub mod PrintedLines
 pub mod ReadSettings

@@ -107,22 +107,35 @@ pub unavailable_prints : (s : Settings) (line : List ℕ) (desk : Desk)
     → is_passed_over line ≡ false → LinePrints s (line_of line) desk unavailable_text desk
 unavailable_prints s line desk e = rw e (if_words_unavailable s (words_of line) desk)
 
--- ---- whatever comes, lines print something
+-- ---- lines that are left out
 
-line_prints_some : (s : Settings) (line : Line) (old : Desk)
-    → (text : List ℕ) × LinePrints s line old text old
-line_prints_some s PassedOver old = ([], (refl, refl))
-line_prints_some s BadWords old = (bad_words_text, (inl refl, refl))
-line_prints_some s (Asked at caller command) old =
-    (unavailable_text, (Err Unavailable, inl (refl, refl), refl))
+-- what a line prints that is left out
+abbrev left_out_text : Line → List ℕ
+left_out_text PassedOver = []
+left_out_text BadWords = bad_words_text
+left_out_text (Asked at caller command) = unavailable_text
 
-lines_print_some : (s : Settings) (lines : List (List ℕ)) (old : Desk)
-    → (text : List ℕ) × (new : Desk) × LinesPrint s lines old text new
-lines_print_some s [] old = ([], old, (refl, refl))
-lines_print_some s (line ∷ lines) old =
-    let first = line_prints_some s (line_of line) old in
-    let rest = lines_print_some s lines old in
-    (first.0 ++ rest.0, rest.1, (first.0, rest.0, old, first.1, rest.2, refl))
+abbrev left_out_texts : List (List ℕ) → List ℕ
+left_out_texts [] = []
+left_out_texts (line ∷ lines) = left_out_text (line_of line) ++ left_out_texts lines
+
+line_left_out : (s : Settings) (line : Line) (desk : Desk)
+    → LinePrints s line desk (left_out_text line) desk
+line_left_out s PassedOver desk = (refl, refl)
+line_left_out s BadWords desk = (inl refl, refl)
+line_left_out s (Asked at caller command) desk = (Err Unavailable, inl (refl, refl), refl)
+
+lines_left_out : (s : Settings) (lines : List (List ℕ)) (desk : Desk)
+    → LinesPrint s lines desk (left_out_texts lines) desk
+lines_left_out s [] desk = (refl, refl)
+lines_left_out s (line ∷ lines) desk = (
+  left_out_text (line_of line),
+  left_out_texts lines,
+  desk,
+  line_left_out s (line_of line) desk,
+  lines_left_out s lines desk,
+  refl,
+)
 
 -- ---- the lines so far
 
@@ -147,14 +160,16 @@ print_one_more s lines i line here mid new text piece run prints =
     ap (λ (l : List ℕ). front ++ l ∷ []) here.1 ∙ sym (take_more lines i line here.0) in
     subst (λ (ls : List (List ℕ)). LinesPrint s ls empty_desk (text ++ piece) new) more all
 
--- the lines so far, and something that the rest prints
+-- the lines so far, and the rest left out
 pub print_the_rest : (s : Settings) (lines : List (List ℕ)) (i : ℕ) (mid : Desk) (text : List ℕ)
     → PrintUpTo s lines i text mid
-    → (others : List ℕ) × (last : Desk) × LinesPrint s lines empty_desk (text ++ others) last
+    → (others : List ℕ) × LinesPrint s lines empty_desk (text ++ others) mid
 print_the_rest s lines i mid text run =
-    let rest = lines_print_some s (drop i lines) mid in
-    let all = lines_print_both s (take i lines) (drop i lines) empty_desk mid rest.1 text rest.0
-    run rest.2 in
-    let whole = subst (λ (ls : List (List ℕ)). LinesPrint s ls empty_desk (text ++ rest.0) rest.1)
-    (take-append-drop i lines) all in
-    (rest.0, rest.1, whole)
+    let others = left_out_texts (drop i lines) in
+    let rest = lines_left_out s (drop i lines) mid in
+    let all = lines_print_both s (take i lines) (drop i lines) empty_desk mid mid text others
+    run rest in (
+      others,
+      subst (λ (ls : List (List ℕ)). LinesPrint s ls empty_desk (text ++ others) mid)
+          (take-append-drop i lines) all,
+    )

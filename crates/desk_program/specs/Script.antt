@@ -1,18 +1,27 @@
 -- What a script prints, and the status that it ends with.
 use Rattle.std.specs.Prelude.{◌≡◌, ◌≤◌, ℕ, Bool, true, false, ◌==◌, List, [], ◌∷◌, ◌++◌, length}
-use Rattle.std.specs.Prelude.{◌⊎◌}
+use Rattle.std.specs.Prelude.{◌⊎◌, ◌≢◌}
 use Rattle.std.specs.Prelude.{Option, Some, None, IfSome, Result, Ok, Err, codes, if◌then◌else◌}
 use Rattle.std.specs.Str.Lines.{lines}
+use Rattle.sqlite.specs.Held.{Held, state}
+use Rattle.sqlite.specs.State.{State, HasCleanDisk}
+use Rattle.sqlite.specs.Store.{Ghosts}
 use Rattle.settings_core.specs.declared.fault.SettingsFault.{SettingsFault}
 use Rattle.settings_core.specs.declared.settings.Settings.{Settings}
 use Rattle.desk_core.specs.declared.command.Command.{Command}
+use Rattle.store_core.specs.declared.fault.StoreFault.{StoreFault}
 use Rattle.service_core.specs.Desk.{Desk, empty_desk}
+use Rattle.service_core.specs.IsDesk.{IsDesk}
+use Rattle.service_core.specs.TableSteps.{LeadsOn}
 use Rattle.service_core.specs.Step.{Ask, Outcome, Runs, Steps}
 use Rattle.service_core.specs.Texts.{outcome_text}
+use Rattle.service_core.specs.declared.fault.AttachFault.{AttachFault}
+use Rattle.service_core.specs.declared.fault.AttachFault.TheVariants.{UnknownName}
 use Rattle.wire_core.specs.Number.{number_of}
 use Rattle.wire_core.specs.Spelling.{command_of}
 use Rattle.wire_core.specs.Words.{words_of}
-use Rattle.desk_program.specs.FaultLines.{input_fault_text, settings_fault_text, unavailable_text}
+use Rattle.desk_program.specs.FaultLines.{attach_fault_text, input_fault_text}
+use Rattle.desk_program.specs.FaultLines.{settings_fault_text, store_fault_text, unavailable_text}
 use Rattle.desk_program.specs.Input.{GivesSettings, IsScript, Script}
 use Rattle.desk_program.specs.Written.{IsWritten}
 use Rattle.desk_program.specs.declared.fault.InputFault.{InputFault}
@@ -54,7 +63,7 @@ line_of text = if is_passed_over text then PassedOver else line_if_words (words_
 abbrev pub bad_words_text : List ℕ
 bad_words_text = codes "bad words\n"
 
--- what is printed for a line without a command: a line that is out of memory says that instead
+-- what is printed for a line without a command: `bad words`, or that there was no memory for it
 abbrev pub IsBadWordsText : List ℕ → Type 0
 IsBadWordsText text = (text ≡ bad_words_text) ⊎ (text ≡ unavailable_text)
 
@@ -66,6 +75,16 @@ LinePrints settings BadWords old text new = IsBadWordsText text × (new ≡ old)
 LinePrints settings (Asked at caller command) old text new =
     (outcome : Outcome) × Steps settings at caller command old outcome new
     × (text ≡ outcome_text outcome)
+
+-- over tables: whatever desk they stand for before a line, afterwards they stand for a well-formed
+-- one, which the line leaves
+abbrev pub LineLeads : Settings → Line → List ℕ → State → State → Type 0
+LineLeads settings line text =
+    LeadsOn (λ desk after. LinePrints settings line desk text after × IsDesk after)
+
+-- whatever a connection shows, its disk is clean
+abbrev pub HasCleanDisks : {S : Type 0} → Ghosts S → Type 0
+HasCleanDisks {S} g = (conn : Held S) → HasCleanDisk (state g conn)
 
 -- ---- lines
 
@@ -105,12 +124,20 @@ AnswersCommands settings commands text =
 
 -- ---- a script
 
--- the text and the status of commands with settings, or of the settings' fault
+-- The line where there is no desk for commands: its store isn't opened or its tables aren't made,
+-- or the settings aren't attached. An empty desk has no name that settings could lack.
+abbrev pub IsNoDesk : List ℕ → Type 0
+IsNoDesk text =
+    ((fault : StoreFault) × (text ≡ store_fault_text fault))
+    ⊎ ((fault : AttachFault) × (fault ≢ UnknownName) × (text ≡ attach_fault_text fault))
+
+-- the text and the status of commands with settings, on an empty desk if there is one, or of the
+-- settings' fault
 abbrev pub IsCommandsOutput : Result Settings SettingsFault → List ℕ → List ℕ → ℕ → Type 0
 IsCommandsOutput (Err fault) commands text status =
     (text ≡ settings_fault_text fault) × (status ≡ 3)
 IsCommandsOutput (Ok settings) commands text status =
-    AnswersCommands settings commands text × (status ≡ 0)
+    (AnswersCommands settings commands text × (status ≡ 0)) ⊎ (IsNoDesk text × (status ≡ 4))
 
 -- the text and the status of a script, or of the fault of its input
 abbrev pub IsScriptOutput : Result Script InputFault → List ℕ → ℕ → Type 0

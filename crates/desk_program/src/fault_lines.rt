@@ -1,14 +1,17 @@
 ghost use Rattle.std.specs.Prelude.{◌≡◌};
-ghost use Rattle.desk_program.specs.FaultLines.{input_fault_text, inner_text, numbered};
-ghost use Rattle.desk_program.specs.FaultLines.{settings_fault_text, unavailable_text};
+ghost use Rattle.desk_program.specs.FaultLines.{attach_fault_text, input_fault_text, inner_text};
+ghost use Rattle.desk_program.specs.FaultLines.{numbered, numbered_line, settings_fault_text};
+ghost use Rattle.desk_program.specs.FaultLines.{store_fault_text, unavailable_text};
 ghost use Rattle.desk_program.specs.Written.{Prints};
 
 use crate::fault::InputFault;
 use crate::writer::CountedWriter;
 use desk_core::Refusal;
 use itoa::Buffer;
+use service_core::AttachFault;
 use settings_core::SettingsFault;
 use std::io::Write;
+use store_core::StoreFault;
 
 /// Prints the line of a fault of the input.
 pub(crate) fn put_input_fault<W: Write>(output: &mut CountedWriter<'_, W>, fault: InputFault)
@@ -39,6 +42,38 @@ fn put_inner<W: Write>(output: &mut CountedWriter<'_, W>, fault: SettingsFault)
     if let Some((number, name)) = fault.inner() {
         put_numbered(output, number, name);
     }
+}
+
+/// Prints the line of a fault of the store.
+pub(crate) fn put_store_fault<W: Write>(output: &mut CountedWriter<'_, W>, fault: StoreFault)
+    ensures same_writer { output.new.writer.ghost_name ≡ output.old.writer.ghost_name }
+    ensures printed { Prints W.contents output.old output.new (store_fault_text fault) }
+{
+    put_numbered_line(output, b"store:", fault.number(), fault.name());
+}
+
+/// Prints the line of a fault of attaching.
+pub(crate) fn put_attach_fault<W: Write>(output: &mut CountedWriter<'_, W>, fault: AttachFault)
+    ensures same_writer { output.new.writer.ghost_name ≡ output.old.writer.ghost_name }
+    ensures printed { Prints W.contents output.old output.new (attach_fault_text fault) }
+{
+    put_numbered_line(output, b"attach:", fault.number(), fault.name());
+}
+
+/// Prints a line of a word, a number and a name.
+fn put_numbered_line<W: Write>(
+    output: &mut CountedWriter<'_, W>,
+    word: &[u8],
+    number: u8,
+    name: &str,
+)
+    ensures same_writer { output.new.writer.ghost_name ≡ output.old.writer.ghost_name }
+    ensures printed { Prints W.contents output.old output.new
+        (numbered_line word.now number name.now) }
+{
+    output.put(word);
+    put_numbered(output, number, name);
+    output.put(b"\n");
 }
 
 /// Prints that a line was left out, since there was no memory for it.

@@ -6,6 +6,7 @@ mod fault_lines;
 mod input;
 mod line;
 mod reader;
+mod run;
 mod script;
 mod writer;
 

@@ -1,23 +1,20 @@
-ghost use Rattle.std.specs.Prelude.{◌≡◌, ◌+◌, ◌≤◌, ◌++◌, ℕ, List, map, false, IfOk, OnErr, codes};
-ghost use Rattle.std.specs.Prelude.{decimal, string_bytes};
-ghost use Rattle.std.specs.String.{string_capacity, string_len};
-ghost use Rattle.service_core.specs.Step.{Outcome, Steps};
-ghost use Rattle.service_core.specs.Texts.{created_text, outcome_text};
-ghost use Rattle.desk_rows.specs.Rows.{desk_of};
-ghost use Rattle.desk_program.specs.Script.{LinePrints, line_of, line_of_words, is_passed_over};
+ghost use Rattle.std.specs.Prelude.{◌≡◌, ◌≤◌, ◌+◌, [], map, true, false, is_ok, IfOk};
+ghost use Rattle.std.specs.Prelude.{IfErr, OnErr, string_bytes};
+ghost use Rattle.std.specs.Vec.{vec_capacity, vec_len};
+ghost use Rattle.service_core.specs.Seen.{settings_of, tables_of};
+ghost use Rattle.service_core.specs.Refusals.{names_its_right};
+ghost use Rattle.service_core.specs.Short.{is_short};
+ghost use Rattle.service_core.specs.Texts.{outcome_text};
+ghost use Rattle.desk_program.specs.FaultLines.{unavailable_text};
+ghost use Rattle.desk_program.specs.Script.{LineLeads, line_of, line_of_words, is_passed_over};
 ghost use Rattle.desk_program.specs.Script.{is_comment};
 
-use desk_core::{Answer, Command};
-use desk_rows::Rows;
-use itoa::Buffer;
-use service_core::{history_text, queues_text, refusal_text, show_text};
-use settings_core::Settings;
+use desk_core::{Answer, Command, Refusal};
+use service_core::{Desk, SHORT_TEXT, history_text, put_short, queues_text, show_text};
+use sqlite::Alter;
 use std::alloc::{AllocError, Global};
 use text_core::Text;
 use wire_core::{WordsFault, command_of_words, number_of_word, words_of};
-
-/// Room for the answer of a command that changes the desk: no such answer is longer.
-const SHORT_TEXT: usize = 64;
 
 /// What a line of a script says.
 #[derive(Drop)]
@@ -35,69 +32,92 @@ pub(crate) enum Line {
 }
 
 /// What a line prints, after its command is done. Out of memory the desk stays as it was.
-pub(crate) fn answer_line(
+pub(crate) fn answer_line<S: Alter>(
     alloc: Global,
-    settings: &Settings,
-    rows: &mut Rows,
+    desk: &mut Desk<S>,
     text: &str,
-) -> Result<String, AllocError>
-    ensures ok { IfOk result (λ printed. LinePrints settings.now (line_of text.now)
-        (desk_of rows.old) (string_bytes printed) (desk_of rows.new)) }
-    ensures err { OnErr result (desk_of rows.new ≡ desk_of rows.old) }
-    ensures asked { OnErr result (is_passed_over text.now ≡ false) }
+) -> Result<Vec<u8>, AllocError>
+    ensures ok { IfOk result (λ printed. LineLeads (settings_of S.Store desk.old)
+        (line_of text.now) printed.items
+        (tables_of S.Store desk.old) (tables_of S.Store desk.new)) }
+    ensures err { OnErr result (LineLeads (settings_of S.Store desk.old)
+        (line_of text.now) unavailable_text
+        (tables_of S.Store desk.old) (tables_of S.Store desk.new)) }
+    ensures same { settings_of S.Store desk.new ≡ settings_of S.Store desk.old }
 {
-    match line_of(alloc, text)? {
-        Line::PassedOver => Ok(String::new(alloc)),
-        Line::BadWords => String::from_str(alloc, "bad words\n"),
-        Line::Asked {
-            at,
-            caller,
-            command,
-        } => answer_command(alloc, settings, rows, at, caller.as_str(), &command),
+    match line_of(alloc, text) {
+        Ok(Line::PassedOver) => Ok(Vec::new(alloc)),
+        Ok(Line::BadWords) => Vec::from_slice(alloc, b"bad words\n"),
+        Ok(
+            Line::Asked {
+                at,
+                caller,
+                command,
+            },
+        ) => answer_command(alloc, desk, at, caller.as_str(), &command),
+        Err(_) => Err(AllocError),
     }
 }
 
 /// What a command prints, after it is done. A change of the desk is made only once there is room
 /// for its answer.
-fn answer_command(
+fn answer_command<S: Alter>(
     alloc: Global,
-    settings: &Settings,
-    rows: &mut Rows,
+    desk: &mut Desk<S>,
     at: u32,
     caller: &str,
     command: &Command,
-) -> Result<String, AllocError>
-    ensures ok { IfOk result (λ printed. (outcome : Outcome)
-        × Steps settings.now at caller.now command.now (desk_of rows.old) outcome (desk_of rows.new)
-        × (string_bytes printed ≡ outcome_text outcome)) }
-    ensures err { OnErr result (desk_of rows.new ≡ desk_of rows.old) }
+) -> Result<Vec<u8>, AllocError>
+    ensures ok { IfOk result (λ printed. LineLeads (settings_of S.Store desk.old)
+        (Line.Asked at caller.now command.now) printed.items
+        (tables_of S.Store desk.old) (tables_of S.Store desk.new)) }
+    ensures err { OnErr result (LineLeads (settings_of S.Store desk.old)
+        (Line.Asked at caller.now command.now) unavailable_text
+        (tables_of S.Store desk.old) (tables_of S.Store desk.new)) }
+    ensures same { settings_of S.Store desk.new ≡ settings_of S.Store desk.old }
 {
-    let mut room = String::with_capacity(alloc, SHORT_TEXT)?;
-    match rows.step(alloc, settings, at, caller, command) {
-        Ok(Answer::Done) => {
-            room.push_str("ok\n").unwrap();
-            Ok(room)
+    match Vec::with_capacity(alloc, SHORT_TEXT) {
+        Ok(room) => {
+            let outcome = desk.execute(alloc, at, caller, command);
+            text_of(alloc, &outcome, room)
         }
-        Ok(Answer::Created(id)) => {
-            put_created(&mut room, id);
-            Ok(room)
-        }
-        Ok(Answer::Queues(queues)) => queues_text(alloc, queues.as_slice()),
-        Ok(Answer::Shown(shown)) => show_text(alloc, &shown),
-        Ok(Answer::History(entries)) => history_text(alloc, entries.as_slice()),
-        Err(refusal) => refusal_text(alloc, &refusal),
+        Err(_) => Err(AllocError),
     }
 }
 
-/// The text of a request that was filed, where there is room for it.
-fn put_created(room: &mut String, id: u32)
-    requires { string_len room.old + 64 ≤ string_capacity room.old }
-    ensures { string_bytes room.new ≡ string_bytes room.old ++ created_text id }
+/// The text of what came of a command: a short one is put into the room, and one that shows
+/// something takes memory.
+fn text_of(
+    alloc: Global,
+    outcome: &Result<Answer, Refusal>,
+    mut room: Vec<u8>,
+) -> Result<Vec<u8>, AllocError>
+    requires named { IfErr outcome.now (λ refusal. names_its_right refusal ≡ true) }
+    requires empty { room.items ≡ [] }
+    requires room { vec_len room + 64 ≤ vec_capacity room }
+    ensures ok { IfOk result (λ text. text.items ≡ outcome_text outcome.now) }
+    ensures err { OnErr result (is_short outcome.now ≡ false) }
 {
-    let mut buffer = Buffer::new();
-    room.push_str("request ").unwrap();
-    room.push_str(buffer.format(id)).unwrap();
-    room.push_str("\n").unwrap();
+    match outcome {
+        Ok(Answer::Queues(queues)) => bytes_of(queues_text(alloc, queues.as_slice())),
+        Ok(Answer::Shown(shown)) => bytes_of(show_text(alloc, shown)),
+        Ok(Answer::History(entries)) => bytes_of(history_text(alloc, entries.as_slice())),
+        _ => {
+            put_short(outcome, &mut room);
+            Ok(room)
+        }
+    }
+}
+
+/// The bytes of a text, if there was memory for it.
+fn bytes_of(text: Result<String, AllocError>) -> Result<Vec<u8>, AllocError>
+    ensures ok { IfOk result (λ bytes. IfOk text (λ t. bytes.items ≡ string_bytes t)) }
+    ensures same { is_ok result ≡ is_ok text }
+{
+    match text {
+        Ok(text) => Ok(text.into_bytes()),
+        Err(_) => Err(AllocError),
+    }
 }
 
 /// What a line says.

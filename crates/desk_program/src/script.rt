@@ -1,5 +1,4 @@
 ghost use Rattle.std.specs.Prelude.{◌≡◌, ◌≤◌, ◌+◌, ℕ, List, IfSome, Result, if◌then◌else◌};
-ghost use Rattle.desk_rows.specs.Rows.{desk_of};
 ghost use Rattle.desk_program.specs.Input as form;
 ghost use Rattle.desk_program.specs.Input.{ConsumesAtMost};
 ghost use Rattle.desk_program.specs.Script as script;
@@ -7,18 +6,14 @@ ghost use Rattle.desk_program.specs.Script.{RunsScript};
 ghost use Rattle.desk_program.specs.Written.{Prints};
 
 use crate::fault::InputFault;
-use crate::fault_lines::{put_input_fault, put_settings_fault, put_unavailable};
+use crate::fault_lines::{put_input_fault, put_settings_fault};
 use crate::input::{script_of, take_input};
-use crate::line::answer_line;
 use crate::reader::CountedReader;
+use crate::run::run_in_memory;
 use crate::writer::CountedWriter;
-use desk_rows::Rows;
 use settings_core::{Settings, SettingsFault};
 use std::alloc::Global;
 use std::io::{Read, Write};
-
-/// The exit status of a script that ran, refused lines included.
-const DONE: u8 = 0;
 
 /// The exit status where the settings have a fault.
 const BAD_SETTINGS: u8 = 3;
@@ -64,9 +59,9 @@ impl Ended {
 ///
 /// The input has settings, a line `%%`, and a command on each line after it: a moment in minutes
 /// since 1970-01-01 00:00 UTC, a caller, and the words of the command. Each line's answer is
-/// written as it is done. A fault of the whole is one line. A failed write, or one that takes no
-/// byte, ends the run with status 4: what was written is then a part from the front of what the
-/// script prints.
+/// written as it is done. A fault of the whole, such as a store in memory that can't be opened, is
+/// one line. A failed write, or one that takes no byte, ends the run with status 4: what was
+/// written is then a part from the front of what the script prints.
 ///
 /// At most 1,048,577 bytes are taken of the reader, in at most as many reads, and at most as many
 /// writes are made as bytes are printed. The writer isn't flushed. A read or a write that was
@@ -146,10 +141,7 @@ fn run_commands<W: Write>(
         × Prints W.contents output.old output.new text }
 {
     match settings_of(alloc, settings) {
-        Ok(settings) => {
-            run_lines(alloc, &settings, commands, output);
-            DONE
-        }
+        Ok(settings) => run_in_memory(alloc, settings, commands, output),
         Err(fault) => {
             put_settings_fault(output, fault);
             BAD_SETTINGS
@@ -162,45 +154,4 @@ fn settings_of(alloc: Global, text: &[u8]) -> Result<Settings, SettingsFault>
     ensures { form.GivesSettings text.now result }
 {
     Settings::read(alloc, text)
-}
-
-/// Prints what each line prints, after its command is done, on an empty desk. A write that fails
-/// ends the run.
-fn run_lines<W: Write>(
-    alloc: Global,
-    settings: &Settings,
-    commands: &str,
-    output: &mut CountedWriter<'_, W>,
-)
-    ensures same_writer { output.new.writer.ghost_name ≡ output.old.writer.ghost_name }
-    ensures printed { (text : List ℕ) × script.AnswersCommands settings.now commands.now text
-        × Prints W.contents output.old output.new text }
-{
-    let mut rows = Rows::new(alloc);
-    for line in commands.lines() {
-        run_line(alloc, settings, &mut rows, line, output);
-        if output.failed() {
-            return;
-        }
-    }
-}
-
-/// Prints what a line prints, after its command is done.
-fn run_line<W: Write>(
-    alloc: Global,
-    settings: &Settings,
-    rows: &mut Rows,
-    line: &str,
-    output: &mut CountedWriter<'_, W>,
-)
-    ensures same_writer { output.new.writer.ghost_name ≡ output.old.writer.ghost_name }
-    ensures printed { (text : List ℕ)
-        × script.LinePrints settings.now (script.line_of line.now)
-        (desk_of rows.old) text (desk_of rows.new)
-        × Prints W.contents output.old output.new text }
-{
-    match answer_line(alloc, settings, rows, line) {
-        Ok(text) => output.put(text.as_bytes()),
-        Err(_) => put_unavailable(output),
-    }
 }

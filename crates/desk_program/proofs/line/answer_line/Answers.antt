@@ -1,21 +1,38 @@
 -- the line is what was said, and its command is done
-use Rattle.std.proofs.Common.{◌≡◌, ◌∙◌, ℕ, List, sym, subst, IfOk, string_bytes}
-use Rattle.service_core.specs.Step.{Outcome, Steps}
-use Rattle.service_core.specs.Texts.{outcome_text}
-use Rattle.desk_rows.specs.Rows.{desk_of}
-use Rattle.desk_program.specs.Script.{LinePrints}
+use Rattle.std.proofs.Common.{◌≡◌, rules, subst, IfOk, OnErr}
+use Rattle.service_core.specs.Seen.{settings_of, tables_of}
+use Rattle.desk_program.specs.FaultLines.{unavailable_text}
+use Rattle.desk_program.specs.Script.{LineLeads, line_of}
 use Rattle.desk_program.specs.declared.line.Line.{Line}
+use Rattle.desk_program.specs.declared.line.Line.TheVariants.{Asked}
+use Rattle.desk_program.proofs.LedLines.{left_out}
 use Rattle.desk_program.proofs.line.answer_line.Goals as goal
 
-pub returns-in-Asked-clause-ok : goal.returns-in-Asked-clause-ok
-returns-in-Asked-clause-ok c =
-    let settings = c.args.settings.now in
-    let old = desk_of c.args.rows.now in
-    let new = desk_of c.answer_command.new.rows in
+pub returns-in-Ok-Asked-clause-ok : goal.returns-in-Ok-Asked-clause-ok
+returns-in-Ok-Asked-clause-ok g c =
+    let settings = settings_of g.S.Store c.args.desk.now in
+    let old = tables_of g.S.Store c.args.desk.now in
+    let new = tables_of g.S.Store c.answer_command.new.desk in
+    let at = c.in-Ok-Asked.at in
+    let command = c.in-Ok-Asked.command in
+    let said : Asked at c.as_str.result.now command ≡ line_of c.args.text.now = search rules in
     subst (λ (line : Line). IfOk c.answer_command.result
-    (λ printed. LinePrints settings line old (string_bytes printed) new))
-    (sym c.in-Asked.is ∙ c.in_ok-line_of.ensures.ok)
-    (subst (λ (caller : List ℕ). IfOk c.answer_command.result (λ printed. (outcome : Outcome)
-    × Steps settings c.in-Asked.at caller c.in-Asked.command old outcome new
-    × (string_bytes printed ≡ outcome_text outcome)))
-    c.as_str.ensures c.answer_command.ensures.ok)
+    (λ printed. LineLeads settings line printed.items old new)) said
+    c.answer_command.ensures.ok
+
+pub returns-in-Ok-Asked-clause-err : goal.returns-in-Ok-Asked-clause-err
+returns-in-Ok-Asked-clause-err g c =
+    let settings = settings_of g.S.Store c.args.desk.now in
+    let old = tables_of g.S.Store c.args.desk.now in
+    let new = tables_of g.S.Store c.answer_command.new.desk in
+    let at = c.in-Ok-Asked.at in
+    let command = c.in-Ok-Asked.command in
+    let said : Asked at c.as_str.result.now command ≡ line_of c.args.text.now = search rules in
+    subst (λ (line : Line). OnErr c.answer_command.result
+    (LineLeads settings line unavailable_text old new)) said
+    c.answer_command.ensures.err
+
+pub returns-in-Err-clause-err : goal.returns-in-Err-clause-err
+returns-in-Err-clause-err g c =
+    left_out (settings_of g.S.Store c.args.desk.now) c.args.text.now
+    (tables_of g.S.Store c.args.desk.now) c.in-Err.ensures.asked

@@ -1,0 +1,112 @@
+-- Lines over tables: where the desk is led by a line.
+use Rattle.std.proofs.Common.{◌≡◌, inl, inr, ℕ, true, false, List, Result, Ok, Err, IfErr, IfOk}
+use Rattle.std.proofs.Common.{◌≢◌, OnErr, refl}
+use Rattle.sqlite.specs.State.{State, HasCleanDisk}
+use Rattle.settings_core.specs.declared.settings.Settings.{Settings}
+use Rattle.desk_core.specs.declared.command.Command.{Command}
+use Rattle.desk_core.specs.declared.refusal.Refusal.TheVariants.{Unavailable}
+use Rattle.store_core.specs.Stands.{StandsFor}
+use Rattle.service_core.specs.Attaching.{TellsKnown}
+use Rattle.service_core.specs.Desk.{Desk, empty_desk}
+use Rattle.service_core.specs.IsDesk.{IsDesk}
+use Rattle.service_core.specs.Known.{is_known}
+use Rattle.service_core.specs.TableSteps.{StepsOn, ask_by}
+use Rattle.service_core.specs.Refusals.{names_its_right}
+use Rattle.service_core.specs.Short.{is_short}
+use Rattle.service_core.specs.Step.{Outcome}
+use Rattle.service_core.specs.Texts.{outcome_text}
+use Rattle.service_core.specs.declared.fault.AttachFault.{AttachFault}
+use Rattle.service_core.specs.declared.fault.AttachFault.TheVariants.{UnknownName}
+use Rattle.desk_program.specs.FaultLines.{attach_fault_text, unavailable_text}
+use Rattle.desk_program.specs.Script.{IsCommandsOutput, LineLeads, LinePrints, is_passed_over}
+use Rattle.desk_program.specs.Script.{line_of}
+use Rattle.desk_program.specs.declared.line.Line.{Line}
+use Rattle.desk_program.specs.declared.line.Line.TheVariants.{Asked}
+use Rattle.desk_program.proofs.DeskUnchanged.{unchanged_if_long}
+use Rattle.desk_program.proofs.PrintedLines.{unavailable_prints}
+
+-- ---- results
+
+pub if_ok : {A E : Type 0} (r : Result A E) (P Q : A → Type 0) → IfOk r P
+    → ((a : A) → P a → Q a) → IfOk r Q
+if_ok (Ok a) P Q h then = then a h
+if_ok (Err e) P Q h then = tt
+
+pub on_err : {A E : Type 0} (r : Result A E) (P Q : Type 0) → OnErr r P → (P → Q) → OnErr r Q
+on_err (Ok a) P Q h then = tt
+on_err (Err e) P Q h then = then h
+
+-- ---- lines
+
+-- a line that leaves whatever desk as it was, over tables that stay
+pub led_nowhere : (s : Settings) (line : Line) (text : List ℕ) (tables : State)
+    → ((desk : Desk) → LinePrints s line desk text desk) → LineLeads s line text tables tables
+led_nowhere s line text tables prints desk formed stands clean =
+    (desk, (prints desk, formed), stands)
+
+-- a line that is out of memory
+pub left_out : (s : Settings) (line : List ℕ) (tables : State) → is_passed_over line ≡ false
+    → LineLeads s (line_of line) unavailable_text tables tables
+left_out s line tables asked =
+    led_nowhere s (line_of line) unavailable_text tables
+    (λ desk. unavailable_prints s line desk asked)
+
+-- a command for which there was no room
+pub not_asked : (s : Settings) (at : ℕ) (caller : List ℕ) (command : Command) (tables : State)
+    → LineLeads s (Asked at caller command) unavailable_text tables tables
+not_asked s at caller command tables =
+    led_nowhere s (Asked at caller command) unavailable_text tables
+    (λ desk. (Err Unavailable, inl (refl, refl), refl))
+
+-- a command that was done
+pub led_by_step : (s : Settings) (at : ℕ) (caller : List ℕ) (command : Command)
+    (outcome : Outcome) (old new : State) (text : List ℕ) → text ≡ outcome_text outcome
+    → StepsOn s (ask_by at caller command) outcome old new
+    → LineLeads s (Asked at caller command) text old new
+led_by_step s at caller command outcome old new text told steps desk formed stands clean =
+    let done = steps desk formed stands clean in
+    (done.0, ((outcome, done.1.step, told), done.1.formed), done.2)
+
+-- a command that was done, and for whose text there was no memory
+pub left_out_if_long : (s : Settings) (at : ℕ) (caller : List ℕ) (command : Command)
+    (outcome : Outcome) (old new : State) → IfErr outcome (λ r. names_its_right r ≡ true)
+    → is_short outcome ≡ false → StepsOn s (ask_by at caller command) outcome old new
+    → LineLeads s (Asked at caller command) unavailable_text old new
+left_out_if_long s at caller command outcome old new named long steps desk formed stands clean =
+    let done = steps desk formed stands clean in
+    let same = unchanged_if_long s at caller command desk done.0 outcome named long done.1.step in
+    (done.0, ((Err Unavailable, inl (refl, same), refl), done.1.formed), done.2)
+
+-- ---- the beginning
+
+pub empty_is_desk : IsDesk empty_desk
+empty_is_desk =
+    record {
+      queues = refl;
+      requests = refl;
+      persons = refl;
+      entries = refl;
+      filed_in = refl;
+      links = refl;
+      ends = refl;
+    }
+
+-- an empty desk has no name that settings could lack
+knows_empty : (s : Settings) → is_known s empty_desk ≡ true
+unfolding is_known
+knows_empty s = refl
+
+is_known_empty : (s : Settings) (fault : AttachFault) (old new : State)
+    → (fault ≡ UnknownName → TellsKnown s old new false) → StandsFor empty_desk old
+    → HasCleanDisk new → fault ≢ UnknownName
+is_known_empty s fault old new unknown empty clean e =
+    let no = unknown e empty_desk empty_is_desk empty clean in
+    let yes = knows_empty s in
+    cc
+
+-- where the settings aren't attached, that is what is printed
+pub not_attached : (s : Settings) (commands : List ℕ) (fault : AttachFault) (old new : State)
+    → (fault ≡ UnknownName → TellsKnown s old new false) → StandsFor empty_desk old
+    → HasCleanDisk new → IsCommandsOutput (Ok s) commands (attach_fault_text fault) 4
+not_attached s commands fault old new unknown empty clean =
+    inr (inr (fault, is_known_empty s fault old new unknown empty clean, refl), refl)

@@ -1,0 +1,9 @@
+-- the pieces of the line, one after the other
+use Rattle.desk_program.proofs.WriterLemmas.{prints_both}
+use Rattle.desk_program.proofs.fault_lines.put_numbered_line.Goals as goal
+
+pub returns-clause-printed : goal.returns-clause-printed
+returns-clause-printed g c =
+    let contents = g.W.Write.contents in
+    prints_both contents _ _ _ _ _ c.put.ensures.printed
+    (prints_both contents _ _ _ _ _ c.put_numbered.ensures.printed c.put-2.ensures.printed)

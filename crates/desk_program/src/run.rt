@@ -1,0 +1,141 @@
+//! Commands are run on a desk in memory.
+ghost use Rattle.std.specs.Prelude.{◌≡◌, ℕ, List, Ok};
+ghost use Rattle.store_core.specs.Making.{IsBlank};
+ghost use Rattle.store_core.specs.Seen.{state_of};
+ghost use Rattle.store_core.specs.Stands.{StandsFor};
+ghost use Rattle.service_core.specs.Desk.{empty_desk};
+ghost use Rattle.service_core.specs.Seen.{settings_of, tables_of};
+ghost use Rattle.desk_program.specs.Script.{AnswersCommands, HasCleanDisks, IsCommandsOutput};
+ghost use Rattle.desk_program.specs.Script.{LineLeads, line_of};
+ghost use Rattle.desk_program.specs.Written.{Prints};
+
+use crate::fault_lines::{put_attach_fault, put_store_fault, put_unavailable};
+use crate::line::answer_line;
+use crate::writer::CountedWriter;
+use service_core::Desk;
+use settings_core::Settings;
+use sqlite::Alter;
+use std::alloc::Global;
+use std::io::Write;
+use store_core::Store;
+
+/// The exit status of a script that ran, refused lines included.
+const DONE: u8 = 0;
+
+/// The exit status where there is no desk for the commands.
+const NO_DESK: u8 = 4;
+
+/// Runs the commands on an empty desk in memory with these settings.
+pub(crate) fn run_in_memory<W: Write>(
+    alloc: Global,
+    settings: Settings,
+    commands: &str,
+    output: &mut CountedWriter<'_, W>,
+) -> u8
+    ensures same_writer { output.new.writer.ghost_name ≡ output.old.writer.ghost_name }
+    ensures printed { (text : List ℕ)
+        × IsCommandsOutput (Ok settings) commands.now text result
+        × Prints W.contents output.old output.new text }
+{
+    match Store::open_in_memory(alloc) {
+        Ok(store) => run_in_store(alloc, store, settings, commands, output),
+        Err(fault) => {
+            put_store_fault(output, fault);
+            NO_DESK
+        }
+    }
+}
+
+/// Makes the tables of a store without any, and runs the commands on its desk.
+fn run_in_store<S: Alter + Drop, W: Write>(
+    alloc: Global,
+    mut store: Store<S>,
+    settings: Settings,
+    commands: &str,
+    output: &mut CountedWriter<'_, W>,
+) -> u8
+    requires clean { HasCleanDisks S.Store }
+    requires blank { IsBlank (state_of S.Store store) }
+    ensures same_writer { output.new.writer.ghost_name ≡ output.old.writer.ghost_name }
+    ensures printed { (text : List ℕ)
+        × IsCommandsOutput (Ok settings) commands.now text result
+        × Prints W.contents output.old output.new text }
+{
+    match store.create_schema() {
+        Ok(()) => run_on_tables(alloc, store, settings, commands, output),
+        Err(fault) => {
+            put_store_fault(output, fault);
+            NO_DESK
+        }
+    }
+}
+
+/// Attaches the settings to the tables of the empty desk, and runs the commands.
+fn run_on_tables<S: Alter + Drop, W: Write>(
+    alloc: Global,
+    store: Store<S>,
+    settings: Settings,
+    commands: &str,
+    output: &mut CountedWriter<'_, W>,
+) -> u8
+    requires clean { HasCleanDisks S.Store }
+    requires empty { StandsFor empty_desk (state_of S.Store store) }
+    ensures same_writer { output.new.writer.ghost_name ≡ output.old.writer.ghost_name }
+    ensures printed { (text : List ℕ)
+        × IsCommandsOutput (Ok settings) commands.now text result
+        × Prints W.contents output.old output.new text }
+{
+    match Desk::attach(alloc, store, settings) {
+        Ok(mut desk) => {
+            run_lines(alloc, &mut desk, commands, output);
+            DONE
+        }
+        Err((fault, _)) => {
+            put_attach_fault(output, fault);
+            NO_DESK
+        }
+    }
+}
+
+/// Prints what each line prints, after its command is done, on an empty desk. A write that fails
+/// ends the run.
+fn run_lines<S: Alter, W: Write>(
+    alloc: Global,
+    desk: &mut Desk<S>,
+    commands: &str,
+    output: &mut CountedWriter<'_, W>,
+)
+    requires clean { HasCleanDisks S.Store }
+    requires empty { StandsFor empty_desk (tables_of S.Store desk.old) }
+    ensures same_writer { output.new.writer.ghost_name ≡ output.old.writer.ghost_name }
+    ensures printed { (text : List ℕ)
+        × AnswersCommands (settings_of S.Store desk.old) commands.now text
+        × Prints W.contents output.old output.new text }
+{
+    for line in commands.lines() {
+        run_line(alloc, desk, line, output);
+        if output.failed() {
+            return;
+        }
+    }
+}
+
+/// Prints what a line prints, after its command is done.
+fn run_line<S: Alter, W: Write>(
+    alloc: Global,
+    desk: &mut Desk<S>,
+    line: &str,
+    output: &mut CountedWriter<'_, W>,
+)
+    ensures same_writer { output.new.writer.ghost_name ≡ output.old.writer.ghost_name }
+    ensures same { settings_of S.Store desk.new ≡ settings_of S.Store desk.old }
+    ensures printed { (text : List ℕ)
+        × LineLeads (settings_of S.Store desk.old) (line_of line.now) text
+        (tables_of S.Store desk.old) (tables_of S.Store desk.new)
+        × Prints W.contents output.old output.new text }
+{
+    match answer_line(alloc, desk, line) {
+        Ok(text) => output.put(text.as_slice()),
+        Err(_) => put_unavailable(output),
+    }
+}
