@@ -1,6 +1,5 @@
-//! How long people take: `bench_rights PERSONS GROUPS GRANTS QUESTIONS` builds so many persons in so
-//! many groups, nested twenty deep, with so many grants on fifty queues, and asks so many times who
-//! holds what.
+//! How long people take: `bench_rights PERSONS GROUPS GRANTS QUESTIONS` builds that many persons in
+//! groups, nested twenty deep, with grants on fifty queues, and asks that often who holds what.
 //!
 //! Standard output has the sizes and how many questions were answered with yes. The times go to
 //! standard error.
@@ -63,8 +62,8 @@ fn named(names: &[Text], number: usize) -> &str {
     names[number % names.len()].as_str()
 }
 
-/// The groups of these names. Each lists the next but for every twentieth, and the persons are dealt
-/// out to them.
+/// The groups of these names. Each lists the next but for every twentieth, and the persons are
+/// dealt out to them.
 fn groups(
     rt: &impl AllocGlobal,
     names: &[Text],
@@ -157,9 +156,8 @@ fn measure(
     let start = Instant::now(rt)?;
     let held = ask(&people, persons.as_slice(), queues.as_slice(), questions);
     let asked = start.elapsed(rt)?.as_micros();
-    println!(rt;
-        "{person_count} persons, {group_count} groups, {grant_count} grants: {held} of {questions} held"
-    )?;
+    println!(rt; "{person_count} persons, {group_count} groups, {grant_count} grants")?;
+    println!(rt; "{held} of {questions} held")?;
     eprintln!(rt; "built in {built} us, asked in {asked} us")?;
     Ok(())
 }

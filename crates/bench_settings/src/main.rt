@@ -1,6 +1,6 @@
-//! How long settings take: `bench_settings PERSONS GROUPS GRANTS READS` writes a settings text of so
-//! many persons in so many groups, nested twenty deep, with so many grants on fifty queues, reads it
-//! so many times, and asks who holds what.
+//! How long settings take: `bench_settings PERSONS GROUPS GRANTS READS` writes a settings text of
+//! that many persons in groups, nested twenty deep, with grants on fifty queues, reads it that
+//! often, and asks who holds what.
 //!
 //! Standard output has the sizes and how many questions were answered with yes. The times go to
 //! standard error.

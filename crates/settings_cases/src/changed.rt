@@ -2,8 +2,8 @@ use settings_core::{Settings, SettingsFault};
 use std::alloc::{AllocError, Global};
 use std::io;
 
-/// The bytes that take the place of one of a text: a quote, an opening bracket, an equals sign, a line feed, and one that
-/// no text in UTF-8 has.
+/// The bytes that take the place of one of a text: a quote, an opening bracket, an equals sign, a
+/// line feed, and one that no text in UTF-8 has.
 const OTHERS: [u8; 5] = [b'"', b'[', b'=', b'\n', 0xff];
 
 /// Answers a question about the text cut off or changed.
@@ -34,7 +34,8 @@ fn cuts(alloc: Global, text: &[u8]) -> (usize, usize) {
     (read, all)
 }
 
-/// How many of the texts with one byte changed are read as settings or have a fault, and how many there are.
+/// How many of the texts with one byte changed are read as settings or have a fault, and how many
+/// there are.
 fn changes(alloc: Global, text: &[u8], byte: u8) -> Result<(usize, usize), AllocError> {
     let mut read = 0_usize;
     let mut all = 0_usize;

@@ -1,8 +1,9 @@
 //! The suite of settings: what each text of the standard input is read as.
 //!
-//! A line `=== NAME` begins a case: a text, and after a line `---` questions to its settings, a line each. The text
-//! `built_in` alone stands for the settings without a text. A line `%COUNT LINE` of a text stands for so many lines, in
-//! which `#` is a number from 0 on, and `+` the one after it.
+//! A line `=== NAME` begins a case: a text, and after a line `---` questions to its settings, one
+//! in each line. The text `built_in` alone stands for the settings without a text. A line
+//! `%COUNT LINE` of a text stands for that many lines, in which `#` is a number from 0 on, and `+`
+//! the one after it.
 #![tactic(auto)]
 
 mod changed;

@@ -18,7 +18,8 @@ const MOMENT: u32 = 29_546_970;
 /// | `queue NAME LIFECYCLE` | a queue is opened |
 /// | `file ID QUEUE STATUS PERSON` | a request is filed, with a requestor and its first entry |
 /// | `row ID QUEUE STATUS NUMBER` | a request gets another row, and an entry of that number |
-/// | `put ID ROLE PERSON`, `take ID ROLE PERSON` | a person is put into a role, or taken out of it |
+/// | `put ID ROLE PERSON` | a person is put into a role |
+/// | `take ID ROLE PERSON` | a person is taken out of it |
 /// | `link ID KIND OTHER`, `unlink ID KIND OTHER` | a link is put, or taken away |
 pub fn change_of(alloc: Global, call: &str, rest: &str) -> Result<Change, Failure> {
     let mut words = Vec::new(alloc);

@@ -3,7 +3,7 @@
 use crate::changes::number;
 use crate::failure::Failure;
 use crate::tell;
-use desk_core::{Command, Facts, LinkKind, RequestRow, Turn, WatchRole};
+use desk_core::{Command, Facts, LinkKind, LinkRow, RequestRow, Turn, WatchRole};
 use sqlite::Alter;
 use store_core::{Store, StoreFault};
 use text_core::Text;
@@ -82,8 +82,13 @@ pub fn watchers<S: Alter>(
     Ok(())
 }
 
-pub fn links<S: Alter>(rt: &HostRuntime, line: &str, store: &mut Store<S>) -> Result<(), Failure> {
-    let rows = match store.links(rt.alloc()) {
+/// The links that were read.
+pub fn links(
+    rt: &HostRuntime,
+    line: &str,
+    read: Result<Vec<LinkRow>, StoreFault>,
+) -> Result<(), Failure> {
+    let rows = match read {
         Ok(rows) => rows,
         Err(fault) => return tell(rt, line, Err(fault)),
     };

@@ -7,7 +7,7 @@ mod changes;
 mod failure;
 mod lists;
 
-use crate::changes::change_of;
+use crate::changes::{change_of, number};
 use crate::failure::Failure;
 use crate::lists::{entries, facts, links, queues, requests, watchers};
 use sqlite::{Alter, Connection, MemStore};
@@ -74,7 +74,9 @@ fn answer<S: Alter>(rt: &HostRuntime, store: &mut Store<S>, line: &str) -> Resul
         "queues" => queues(rt, line, store),
         "requests" => requests(rt, line, store, rest),
         "watchers" => watchers(rt, line, store),
-        "links" => links(rt, line, store),
+        "links" => links(rt, line, store.links(rt.alloc())),
+        "links_from" => links(rt, line, store.links_from(rt.alloc(), number(rest)?)),
+        "links_to" => links(rt, line, store.links_to(rt.alloc(), number(rest)?)),
         "entries" => entries(rt, line, store, rest),
         "facts" => facts(rt, line, store, rest),
         _ => {

@@ -1,0 +1,67 @@
+//! What is written of a case: the outcomes of its commands, or what is left of its store.
+
+use crate::asks::Ask;
+use crate::failure::Failure;
+use desk_core::{Answer, Refusal};
+use service_core::{AttachFault, Desk, answer_text, refusal_text};
+use sqlite::Alter;
+use store_core::{Store, StoreFault};
+
+/// Writes that the settings are attached and what comes of each command, all asked at once.
+pub(crate) fn tell_run<S: Alter>(
+    rt: &HostRuntime,
+    desk: &mut Desk<S>,
+    asks: &[Ask],
+) -> Result<(), Failure> {
+    let room = desk.settings().max_requests();
+    println!(rt; "attach: ok, room for {room} requests")?;
+    let outcomes = desk.execute_all(rt.alloc(), asks)?;
+    for outcome in outcomes.as_slice() {
+        tell_outcome(rt, outcome)?;
+    }
+    Ok(())
+}
+
+fn tell_outcome(rt: &HostRuntime, outcome: &Result<Answer, Refusal>) -> Result<(), Failure> {
+    let text = match outcome {
+        Ok(answer) => answer_text(rt.alloc(), answer)?,
+        Err(refusal) => refusal_text(rt.alloc(), refusal)?,
+    };
+    print!(rt; "{}", text.as_str())?;
+    Ok(())
+}
+
+/// Writes why the settings can't be attached, and how many rows the store lists that is given back.
+pub(crate) fn tell_given_back<S: Alter>(
+    rt: &HostRuntime,
+    fault: AttachFault,
+    store: &mut Store<S>,
+) -> Result<(), Failure> {
+    let number = fault.number();
+    let name = fault.name();
+    println!(rt; "attach: {number} {name}")?;
+    tell_count(rt, "queues", store.queues(rt.alloc()))?;
+    tell_count(rt, "requests", store.requests(rt.alloc()))?;
+    tell_count(rt, "watchers", store.watchers(rt.alloc()))?;
+    tell_count(rt, "entries of 1", store.entries_of(rt.alloc(), 1))
+}
+
+/// Writes how many rows were read, or why they weren't.
+fn tell_count<T: Drop>(
+    rt: &HostRuntime,
+    call: &str,
+    read: Result<Vec<T>, StoreFault>,
+) -> Result<(), Failure> {
+    match read {
+        Ok(rows) => {
+            let count = rows.len();
+            println!(rt; "{call}: {count}")?;
+        }
+        Err(fault) => {
+            let number = fault.number();
+            let name = fault.name();
+            println!(rt; "{call}: {number} {name}")?;
+        }
+    }
+    Ok(())
+}
