@@ -3,7 +3,7 @@ PREFIX ?= /usr/local
 
 .PHONY: demo test desk install
 
-# The first look: the printer script, run within about a minute on a fresh machine, before any proof.
+# The first look: the printer script, run in two to three minutes on a fresh machine, before any proof.
 demo:
 	@echo "Not proved: this runs the desk as it stands. 'make test' proves it."
 	cd crates/desk && rt try < ../../examples/printer.desk
