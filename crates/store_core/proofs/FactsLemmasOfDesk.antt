@@ -7,7 +7,6 @@ use Rattle.std.specs.List.{flat_map}
 use Rattle.std.specs.Option.{option_map, option_to_list}
 use Rattle.std.specs.Prelude.{option_and_then}
 use Rattle.std.proofs.lemmas.List.{append_assoc, append-nil, length-map, take_more}
-use Rattle.std.proofs.lemmas.List.Sorted.{length_permutation}
 use Rattle.sqlite_rules.proofs.ListLemmas.{test_has}
 use Rattle.sqlite_trees.proofs.ListLemmas.{map-map}
 use Rattle.desk_core.specs.Desk.{Desk, Request, queue_at, request_at}
@@ -31,7 +30,7 @@ use Rattle.store_core.specs.Contents.{entries, request_rows, watchers}
 use Rattle.store_core.specs.Found.{dependency_at, dependency_by, dependency_of}
 use Rattle.store_core.specs.Found.{counted, filed, number_of, place_of, queue_by, standing_of}
 use Rattle.store_core.specs.Found.{with_dependencies, with_link}
-use Rattle.store_core.specs.Orders.{by_name, by_role, by_target}
+use Rattle.store_core.specs.Orders.{by_role, by_target}
 use Rattle.store_core.specs.Picked.{AreOrdered, IsGreatest}
 use Rattle.store_core.specs.Selection as chosen
 use Rattle.store_core.specs.Selection.{is_numbered, links_from, tells_of, watches}
@@ -165,10 +164,6 @@ requests_counted desk n is greatest =
     (ap (are_numbered 1) (map-map number_of (λ (r : Request). r.row) desk.requests) ∙ is.requests)
     greatest
     ∙ length-map desk.requests (λ (r : Request). r.row)
-
-pub queues_counted : (desk : Desk) (qs : List QueueRow) → AreOrdered by_name desk.queues qs
-    → length qs ≡ length desk.queues
-queues_counted desk qs listed = length_permutation desk.queues qs listed.same
 
 -- ---- facts, put together
 

@@ -1,6 +1,6 @@
 -- The last by a number, from the query with LIMIT 1.
-use Rattle.std.proofs.Common.{◌≡◌, ◌≤◌, inl, inr, ℕ, zero, suc, false, Bool, List, [], ◌∷◌, map}
-use Rattle.std.proofs.Common.{filter, take, length, refl, sym, ap, subst, ◌∙◌, IsPermutation, arith}
+use Rattle.std.proofs.Common.{◌≡◌, ◌≤◌, inl, inr, ℕ, suc, false, Bool, List, [], ◌∷◌, map}
+use Rattle.std.proofs.Common.{filter, take, refl, sym, ap, subst, ◌∙◌, IsPermutation, arith}
 use Rattle.std.specs.Prelude.{IsSorted}
 use Rattle.std.specs.Ordering.{is_lt, nat_cmp}
 use Rattle.std.proofs.lemmas.Bool.Decides.{nat_tests}

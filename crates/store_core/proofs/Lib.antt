@@ -2,6 +2,7 @@ pub mod Alike
 pub mod BackLemmas
 pub mod BlankLemmas
 pub mod ChangeLemmas
+pub mod CountLemmas
 pub mod FactsLemmas
 pub mod FactsLemmasInOrder
 pub mod FactsLemmasOfDesk
@@ -18,14 +19,17 @@ pub mod ReadLemmas
 pub mod ReadingLemmas
 pub mod Revised
 pub mod RoleRows
+pub mod RefusalLemmas
 pub mod RiseLemmas
 pub mod SortedLemmas
+pub mod Spared
 pub mod StandLemmas
 pub mod StandsAlike
 pub mod Statements
 pub mod StepLemmas
 pub mod TableLemmas
 pub mod TestLemmas
+pub mod ValueLemmas
 pub mod VersionLemmas
 pub mod WriteLemmas
 pub mod Writable

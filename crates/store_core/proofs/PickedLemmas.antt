@@ -22,7 +22,7 @@ neither true x = refl
 neither false x = refl
 
 -- a query with no tables of its own reads those of the database
-bare : (db : Trees) (tree : ℕ) → overlay db [] tree ≡ db tree
+pub bare : (db : Trees) (tree : ℕ) → overlay db [] tree ≡ db tree
 bare db tree = ap (λ o. unwrap_or o (db tree)) (neither _ None)
 
 slots : Row → Row → Env

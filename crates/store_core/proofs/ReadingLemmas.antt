@@ -1,7 +1,7 @@
 -- What each query shows of the desk that the tables stand for.
 use Rattle.std.proofs.Common.{◌≡◌, ℕ, ℤ, Bool, true, List, [], ◌∷◌, filter}
-use Rattle.std.proofs.Common.{Ok, Err, Result, IfOk, IfErr}
-use Rattle.std.proofs.Common.{refl, sym, subst, ◌∙◌}
+use Rattle.std.proofs.Common.{Ok, Err, Result, IfOk, IfErr, IsTrue, ◌≢◌}
+use Rattle.std.proofs.Common.{inl, inr, take, refl, sym, subst, ◌∙◌}
 use Rattle.sqlite.specs.Order.{Row}
 use Rattle.sqlite.specs.Term.{Term, col}
 use Rattle.std.proofs.lemmas.List.Sorted.{IsPermutation-sym}
@@ -17,7 +17,8 @@ use Rattle.desk_core.specs.declared.rows.Entry.{Entry}
 use Rattle.desk_core.specs.declared.rows.LinkKind.{LinkKind}
 use Rattle.desk_core.specs.declared.rows.LinkRow.{LinkRow}
 use Rattle.store_core.specs.Kept.{filed, numbered_as, value_of, itself}
-use Rattle.store_core.specs.Queries.{reads, queues_text, queue_order, entries_text, entries_of_text}
+use Rattle.store_core.specs.Queries.{last_of, reads, queues_text, queue_order, entries_text}
+use Rattle.store_core.specs.Queries.{entries_of_text}
 use Rattle.store_core.specs.Queries.{entry_order, entry_shown_terms, id_order, last_id_text}
 use Rattle.store_core.specs.Queries.{last_number_text, links_from_test, links_from_text, links_text}
 use Rattle.store_core.specs.Queries.{named_test, number_order}
@@ -31,7 +32,10 @@ use Rattle.store_core.specs.Picked.{passes, shows, Picks, Shows, Lists, ShowsGre
 use Rattle.store_core.specs.Orders.{by_name, by_id, by_role, by_watcher, by_target}
 use Rattle.store_core.specs.Orders.{by_link, by_number, by_entry}
 use Rattle.store_core.specs.Contents.{Contents}
+use Rattle.store_core.specs.Calls.{FailsIn}
 use Rattle.store_core.specs.Stands.{Stand, HasTables}
+use Rattle.store_core.specs.declared.fault.StoreFault.{StoreFault}
+use Rattle.store_core.specs.declared.fault.StoreFault.TheVariants.{Mismatch, WrongVersion}
 use Rattle.store_core.specs.Spelling.{queue_columns, request_columns, request_shown}
 use Rattle.store_core.specs.Spelling.{watcher_columns, link_columns, entry_columns, count_value}
 use Rattle.store_core.specs.Selection.{is_named, is_numbered, watches, links_from}
@@ -76,11 +80,50 @@ pub table_rows : {names : List (List ℕ)} (sql : List ℕ) (params : Row) (tree
     (test project order : List Term) → Selects sql (reads tree test project order) names
     → (old new : State) → (HasCleanDisk new → HasCleanDisk old) → HasTables old → HasCleanDisk new
     → (rows : List Row) → Shown sql params old new rows → (row : Row) → Has rows row
-    → (r : Row) × Has (old.now.trees tree) r × (row ≡ shows project params r)
-table_rows sql params tree test project order is old new clean has c rows h =
-    has_picked tree test project order params (old.now.trees tree) rows
-    (picked_by sql params old new (has (clean c) (shown_open sql params old new rows h)) tree test
-    project order is rows h)
+    → IsTrue old.is_open × (r : Row) × Has (old.now.trees tree) r × (row ≡ shows project params r)
+table_rows sql params tree test project order is old new clean has c rows h row within =
+    let live = shown_open sql params old new rows h in
+    let it = has_picked tree test project order params (old.now.trees tree) rows
+    (picked_by sql params old new (has (clean c) live) tree test project order is rows h) row within
+    in (live, it.0, it.1, it.2)
+
+-- of the last row too
+has_first : {X : Type 0} (xs : List X) (x : X) → Has (take 1 xs) x → Has xs x
+has_first [] x h = absurd h
+has_first (y ∷ ys) x (inl same) = inl same
+has_first (y ∷ ys) x (inr h) = absurd h
+
+pub last_rows : {names : List (List ℕ)} (sql : List ℕ) (params : Row) (tree : ℕ) (test : List Term)
+    (at : Term) → Selects sql (last_of tree test at) names
+    → (old new : State) → (HasCleanDisk new → HasCleanDisk old) → HasTables old → HasCleanDisk new
+    → (rows : List Row) → Shown sql params old new rows → (row : Row) → Has rows row
+    → IsTrue old.is_open × (r : Row) × Has (old.now.trees tree) r
+    × (row ≡ shows (at ∷ []) params r)
+last_rows sql params tree test at is old new clean has c rows h row within =
+    let live = shown_open sql params old new rows h in
+    let p = last_by sql params old new (has (clean c) live) tree test at is rows h in
+    let it = mapped_has (shows (at ∷ []) params) p.picked row
+    (has_first _ row (subst (λ rs. Has rs row) p.shown within)) in
+    let from = has_filtered (passes test params) (old.now.trees tree) it.0
+    (has_permuted p.picked (filter (passes test params) (old.now.trees tree)) it.0
+    (IsPermutation-sym _ _ p.same) it.1) in
+    (live, it.0, from.0, sym it.2)
+
+-- what is no value among the rows that are shown is none in the table
+pub fails_in : {X : Type 0} (tree : ℕ) (terms : List Term) (IsValue : Row → Type 0)
+    (old new : State) (rows : List Row) (r : Result X StoreFault)
+    → (HasTables old → HasCleanDisk new → (row : Row) → Has rows row → IsTrue old.is_open
+    × (x : Row) × Has (old.now.trees tree) x × (row ≡ shows terms [] x))
+    → IfErr r (λ e. e ≡ Mismatch → (row : Row) × Has rows row × ¬ IsValue row)
+    → IfErr r (λ e. e ≢ WrongVersion) → FailsIn tree terms IsValue old new r
+fails_in tree terms IsValue old new rows (Ok x) of_table mismatch known = tt
+fails_in tree terms IsValue old new rows (Err e) of_table mismatch known = (
+  known,
+  λ wrong has clean.
+      let it = mismatch wrong in
+      let at = of_table has clean it.0 it.1 in
+      (at.0, (at.1, at.2, λ is. it.2 (subst IsValue (sym at.3) is))),
+)
 
 pub if_ok : {T E : Type 0} {P Q : T → Type 0} (r : Result T E) → ((x : T) → P x → Q x) → IfOk r P
     → IfOk r Q

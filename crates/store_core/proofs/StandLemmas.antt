@@ -1,4 +1,4 @@
--- A read leaves the tables.
+-- What stands on tables: where a query showed rows, in a transaction, and at its end.
 use Rattle.std.proofs.Common.{◌≡◌, ℕ, List, inl, inr, Option, None, Some, Ok, Err, Result, IsTrue}
 use Rattle.std.proofs.Common.{Bool, true, false, ◌⊎◌, refl, sym, ap, subst, ◌∙◌, arith}
 use Rattle.sqlite.specs.Order.{Row}
@@ -27,22 +27,7 @@ use Rattle.sqlite.specs.Schema.{Schema}
 use Rattle.store_core.specs.Tables.{desk_schema, no_schema}
 use Rattle.store_core.specs.Stands.{Tables, Stand, Within, Rests, KeepsBase, Ran}
 
--- what stands for a desk before a step that changes nothing, or is rolled back, stands for it
--- afterwards
-pub unchanged_stands : (d : Contents) (old new : State) → Stand d old
-    → (HasCleanDisk new → HasCleanDisk old) → (HasCleanDisk new → IsUnchanged old new) → Stand d new
-unchanged_stands d old new stand clean same c o =
-    let it = same c in let was = stand (clean c) it.0.was_open in
-    (subst (Tables d) (sym it.0.now_is) was.0, subst (Tables d) (sym it.0.committed_is) was.1)
-
-pub undone_stands : (d : Contents) (old new : State) → Stand d old
-    → (HasCleanDisk new → HasCleanDisk old) → (HasCleanDisk new → IsRolledBack old new)
-    → Stand d new
-undone_stands d old new stand clean same c o =
-    let it = same c in let was = stand (clean c) (it.was_open o) in
-    (subst (Tables d) (sym (it.undone o).0) was.1, subst (Tables d) (sym (it.undone o).1) was.1)
-
-never_both : (r : Result Compiled CompileError) (c : Compiled) → IsPlain r → r ≡ Ok c
+pub never_both : (r : Result Compiled CompileError) (c : Compiled) → IsPlain r → r ≡ Ok c
     → c.returning ≡ None
 never_both r c plain is = (subst IsPlain is plain).0
 
@@ -58,43 +43,6 @@ pub failed_was_open : (old new : State) (sql : List ℕ) (c : Compiled) (full : 
 failed_was_open old new sql c full e None o h = h.3.0.was_open
 failed_was_open old new sql c full e (Some what) o (inl h) = h.1.0.was_open
 failed_was_open old new sql c full e (Some what) o (inr h) = h.3.was_open o
-
-not_run_stands : (d : Contents) (sql : List ℕ) (params : Row) (old new : State) (e : Error)
-    → (HasCleanDisk new → HasCleanDisk old) → Stand d old → HasCleanDisk new
-    → IsNotRun old new sql params e → Stand d new
-unfolding IsNotRun
-not_run_stands d sql params old new e clean stand c (inl h) =
-    unchanged_stands d old new stand clean (λ _. h.1)
-not_run_stands d sql params old new e clean stand c (inr h) =
-    undone_stands d old new stand clean (λ _. h.3)
-
-pub shown_stands : (d : Contents) (sql : List ℕ) (params : Row) (old new : State) (rows : List Row)
-    → IsPlain (understood desk_schema sql) → (HasCleanDisk new → HasCleanDisk old)
-    → (HasCleanDisk new → Shown sql params old new rows) → Stand d old → Stand d new
-unfolding Shown
-shown_stands d sql params old new rows plain clean shown stand c o =
-    let h = shown c in
-    let full = timed params h.0.formats h.1.now in
-    let was = stand (clean c) (shown_was_open old new sql h.0 full rows h.0.returning h.2) in
-    let none = never_both _ h.0 plain (subst (λ s. understood s sql ≡ Ok h.0) was.0.schema
-    h.1.is) in
-    let it = subst (ShowsRows old new sql h.0 full rows) none h.2 in
-    unchanged_stands d old new stand clean (λ _. it.3) c o
-
-pub failed_stands : (d : Contents) (sql : List ℕ) (params : Row) (old new : State) (e : Error)
-    → IsPlain (understood desk_schema sql) → (HasCleanDisk new → HasCleanDisk old)
-    → (HasCleanDisk new → FailsToQuery sql params old new e) → Stand d old → Stand d new
-unfolding FailsToQuery
-failed_stands d sql params old new e plain clean fails stand c o = elim (fails c) [
-  | inl not_run ↦ not_run_stands d sql params old new e clean stand c not_run c o
-  | inr h ↦
-      let full = timed params h.0.formats h.1.now in
-      let was = stand (clean c) (failed_was_open old new sql h.0 full e h.0.returning o h.2) in
-      let none = never_both _ h.0 plain (subst (λ s. understood s sql ≡ Ok h.0) was.0.schema
-      h.1.is) in
-      let it = subst (FailsToShow old new sql h.0 full e) none h.2 in
-      unchanged_stands d old new stand clean (λ _. it.3) c o
-]
 
 pub was_clean : (old new : State) (P : Trees → Type 0) → Survives old new P → HasCleanDisk new
     → HasCleanDisk old
@@ -261,10 +209,6 @@ dropped_stands d a b end within keeps clean undone c o =
 
 pub desk_is_there : (now was : Contents) (s : State) → Within now was s → HasTables s
 desk_is_there now was s within c o = (within c o).0.schema
-
-pub kept_blank : (a b : State) → KeepsBase a b → WasBlank a → WasBlank b
-kept_blank a b keeps blank c o = let it = keeps c o in
-    ap (λ (d : Database). d.schema) it.2 ∙ blank it.0 it.1
 
 pub begins_blank : {S : Type 0} (g : Ghosts S) (old tx : Held S)
     → tx ≡ record old { in_transaction = true } → IsBlank (state g old) → WasBlank (state g tx)

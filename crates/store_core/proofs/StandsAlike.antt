@@ -1,7 +1,8 @@
 -- Tables that hold some rows hold them in any order.
-use Rattle.std.proofs.Common.{List, [], ◌∷◌, Ok, Err, OnOk, OnErr, Result, ap, ◌∙◌}
+use Rattle.std.proofs.Common.{◌<◌, List, [], ◌∷◌, Ok, Err, OnOk, OnErr, Result, ap, subst, ◌∙◌}
+use Rattle.std.specs.Prelude.{◌^◌}
 use Rattle.std.proofs.Common.{IsPermutation}
-use Rattle.std.proofs.lemmas.List.Sorted.{IsPermutation-trans}
+use Rattle.std.proofs.lemmas.List.Sorted.{IsPermutation-sym, IsPermutation-trans}
 use Rattle.sqlite.specs.Effect.{Database}
 use Rattle.sqlite.specs.Order.{Row}
 use Rattle.sqlite.specs.State.{State}
@@ -10,7 +11,10 @@ use Rattle.store_core.specs.Contents.{Contents}
 use Rattle.store_core.specs.Kept.{Holds}
 use Rattle.store_core.specs.Spelling.{version_row}
 use Rattle.store_core.specs.Stands.{Stand, Tables}
+use Rattle.store_core.specs.Values.{AreValues}
 use Rattle.store_core.specs.Written.{AreAlike}
+use Rattle.store_core.proofs.LastLemmas.{has_permuted}
+use Rattle.store_core.proofs.ValueLemmas.{are_values, values_of}
 
 holds_alike : {K X : Type 0} (row : K → Row) (value : K → X) (xs ys : List X) (rows : List Row)
     → IsPermutation xs ys → Holds row value xs rows → Holds row value ys rows
@@ -21,6 +25,20 @@ holds_alike row value xs ys rows same h = record {
   same = IsPermutation-trans _ _ _ h.same same;
 }
 
+values_alike : (a b : Contents) → AreAlike a b → AreValues a → AreValues b
+values_alike a b same values =
+    let v = values_of a values in
+    are_values b (record {
+      version = subst (λ n. n < 2 ^ 32) same.version v.version;
+      queues = λ x has. v.queues x (has_permuted _ _ x (IsPermutation-sym _ _ same.queues) has);
+      requests =
+          λ x has. v.requests x (has_permuted _ _ x (IsPermutation-sym _ _ same.requests) has);
+      watchers =
+          λ x has. v.watchers x (has_permuted _ _ x (IsPermutation-sym _ _ same.watchers) has);
+      links = λ x has. v.links x (has_permuted _ _ x (IsPermutation-sym _ _ same.links) has);
+      entries = λ x has. v.entries x (has_permuted _ _ x (IsPermutation-sym _ _ same.entries) has);
+    })
+
 tables_alike : (a b : Contents) (db : Database) → AreAlike a b → Tables a db → Tables b db
 tables_alike a b db same t = record {
   schema = t.schema;
@@ -30,6 +48,7 @@ tables_alike a b db same t = record {
   watchers = holds_alike _ _ _ _ _ same.watchers t.watchers;
   links = holds_alike _ _ _ _ _ same.links t.links;
   entries = holds_alike _ _ _ _ _ same.entries t.entries;
+  values = values_alike a b same t.values;
 }
 
 stand_alike : (a b : Contents) (s : State) → AreAlike a b → Stand a s → Stand b s

@@ -1,5 +1,6 @@
 -- What each INSERT, UPDATE and DELETE makes of the desk that the tables stand for.
-use Rattle.std.proofs.Common.{◌≡◌, inl, true, arith, drop, ℕ, pos, List, [], ◌∷◌, Ok, refl, sym}
+use Rattle.std.proofs.Common.{◌≡◌, inl, inr, Bool, filter, true, arith, drop, ℕ, pos, List, [], ◌∷◌}
+use Rattle.std.proofs.Common.{Ok, refl, sym}
 use Rattle.std.proofs.Common.{ap, subst, ◌∙◌}
 use Rattle.std.specs.Prelude.{◌==◌}
 use Rattle.std.proofs.lemmas.Bool.Decides.{nat_tests}
@@ -20,6 +21,7 @@ use Rattle.desk_core.specs.declared.rows.Watcher.{Watcher}
 use Rattle.desk_core.specs.declared.rows.Entry.{Entry}
 use Rattle.desk_core.specs.declared.rows.LinkRow.{LinkRow}
 use Rattle.store_core.specs.Kept.{Keeps, Numbers, filed, numbered_as, value_of, itself}
+use Rattle.store_core.specs.Reading.{IsEntryRow, IsLinkRow, IsQueueRow, IsRequestRow, IsWatcherRow}
 use Rattle.store_core.specs.Tables.{desk_schema, queue, request, watcher, link, entry}
 use Rattle.store_core.specs.Queries.{add_entry_terms, add_entry_text, add_link_text}
 use Rattle.store_core.specs.Queries.{add_queue_terms, add_queue_text, add_request_terms}
@@ -42,12 +44,26 @@ use Rattle.store_core.proofs.KeptLemmas.{inserted, removed, replaced, one_kept}
 use Rattle.store_core.proofs.TestLemmas.{numbered, the_watcher, the_link}
 use Rattle.store_core.proofs.ChangeLemmas.{Moves, apart, adds, sets, drops, cast_null, cast_int}
 use Rattle.store_core.proofs.ChangeLemmas.{cast_text}
+use Rattle.store_core.proofs.ValueLemmas.{are_values, values_of}
 use Rattle.store_core.proofs.WriteLemmas.{inserting}
+
+-- each element is so
+abbrev AreEach : {X : Type 0} → (X → Type 0) → List X → Type 0
+AreEach {X} P xs = (x : X) → Has xs x → P x
+
+also : {X : Type 0} (P : X → Type 0) (x : X) (xs : List X) → P x → AreEach P xs
+    → AreEach P (x ∷ xs)
+also P x xs one others y (inl same) = subst P (sym same) one
+also P x xs one others y (inr later) = others y later
+
+still : {X : Type 0} (P : X → Type 0) (p : X → Bool) (xs : List X) → AreEach P xs
+    → AreEach P (filter p xs)
+still P p xs each x has = each x (has_filtered p xs x has).0
 
 pub queues_now : (d : Contents) (xs : List QueueRow) (old new : Database) → Tables d old
     → new.schema ≡ desk_schema → Moves 1 old.trees new.trees → Keeps queue_columns xs (new.trees 1)
-    → Tables (record d { queues = xs }) new
-queues_now d xs old new t schema m now = record {
+    → AreEach (λ x. IsQueueRow (queue_columns x)) xs → Tables (record d { queues = xs }) new
+queues_now d xs old new t schema m now each = record {
   schema = schema;
   meta = m.0 (apart 0 1 refl) ∙ t.meta;
   queues = now;
@@ -56,12 +72,21 @@ queues_now d xs old new t schema m now = record {
   watchers = subst (Keeps watcher_columns d.watchers) (sym (m.1.1.1.0 (apart 4 1 refl))) t.watchers;
   links = subst (Keeps link_columns d.links) (sym (m.1.1.1.1.0 (apart 6 1 refl))) t.links;
   entries = subst (Keeps entry_columns d.entries) (sym (m.1.1.1.1.1.0 (apart 8 1 refl))) t.entries;
+  values = are_values _ (record {
+    version = (values_of d t.values).version;
+    queues = each;
+    requests = (values_of d t.values).requests;
+    watchers = (values_of d t.values).watchers;
+    links = (values_of d t.values).links;
+    entries = (values_of d t.values).entries;
+  });
 }
 
 pub requests_now : (d : Contents) (xs : List RequestRow) (old new : Database) → Tables d old
     → new.schema ≡ desk_schema → Moves 3 old.trees new.trees
-    → Numbers (λ r. r.id) request_columns xs (new.trees 3) → Tables (record d { requests = xs }) new
-requests_now d xs old new t schema m now = record {
+    → Numbers (λ r. r.id) request_columns xs (new.trees 3)
+    → AreEach (λ x. IsRequestRow (request_shown x)) xs → Tables (record d { requests = xs }) new
+requests_now d xs old new t schema m now each = record {
   schema = schema;
   meta = m.0 (apart 0 3 refl) ∙ t.meta;
   queues = subst (Keeps queue_columns d.queues) (sym (m.1.0 (apart 1 3 refl))) t.queues;
@@ -69,12 +94,21 @@ requests_now d xs old new t schema m now = record {
   watchers = subst (Keeps watcher_columns d.watchers) (sym (m.1.1.1.0 (apart 4 3 refl))) t.watchers;
   links = subst (Keeps link_columns d.links) (sym (m.1.1.1.1.0 (apart 6 3 refl))) t.links;
   entries = subst (Keeps entry_columns d.entries) (sym (m.1.1.1.1.1.0 (apart 8 3 refl))) t.entries;
+  values = are_values _ (record {
+    version = (values_of d t.values).version;
+    queues = (values_of d t.values).queues;
+    requests = each;
+    watchers = (values_of d t.values).watchers;
+    links = (values_of d t.values).links;
+    entries = (values_of d t.values).entries;
+  });
 }
 
 pub watchers_now : (d : Contents) (xs : List Watcher) (old new : Database) → Tables d old
     → new.schema ≡ desk_schema → Moves 4 old.trees new.trees
-    → Keeps watcher_columns xs (new.trees 4) → Tables (record d { watchers = xs }) new
-watchers_now d xs old new t schema m now = record {
+    → Keeps watcher_columns xs (new.trees 4)
+    → AreEach (λ x. IsWatcherRow (watcher_columns x)) xs → Tables (record d { watchers = xs }) new
+watchers_now d xs old new t schema m now each = record {
   schema = schema;
   meta = m.0 (apart 0 4 refl) ∙ t.meta;
   queues = subst (Keeps queue_columns d.queues) (sym (m.1.0 (apart 1 4 refl))) t.queues;
@@ -83,12 +117,20 @@ watchers_now d xs old new t schema m now = record {
   watchers = now;
   links = subst (Keeps link_columns d.links) (sym (m.1.1.1.1.0 (apart 6 4 refl))) t.links;
   entries = subst (Keeps entry_columns d.entries) (sym (m.1.1.1.1.1.0 (apart 8 4 refl))) t.entries;
+  values = are_values _ (record {
+    version = (values_of d t.values).version;
+    queues = (values_of d t.values).queues;
+    requests = (values_of d t.values).requests;
+    watchers = each;
+    links = (values_of d t.values).links;
+    entries = (values_of d t.values).entries;
+  });
 }
 
 pub links_now : (d : Contents) (xs : List LinkRow) (old new : Database) → Tables d old
     → new.schema ≡ desk_schema → Moves 6 old.trees new.trees → Keeps link_columns xs (new.trees 6)
-    → Tables (record d { links = xs }) new
-links_now d xs old new t schema m now = record {
+    → AreEach (λ x. IsLinkRow (link_columns x)) xs → Tables (record d { links = xs }) new
+links_now d xs old new t schema m now each = record {
   schema = schema;
   meta = m.0 (apart 0 6 refl) ∙ t.meta;
   queues = subst (Keeps queue_columns d.queues) (sym (m.1.0 (apart 1 6 refl))) t.queues;
@@ -97,12 +139,20 @@ links_now d xs old new t schema m now = record {
   watchers = subst (Keeps watcher_columns d.watchers) (sym (m.1.1.1.0 (apart 4 6 refl))) t.watchers;
   links = now;
   entries = subst (Keeps entry_columns d.entries) (sym (m.1.1.1.1.1.0 (apart 8 6 refl))) t.entries;
+  values = are_values _ (record {
+    version = (values_of d t.values).version;
+    queues = (values_of d t.values).queues;
+    requests = (values_of d t.values).requests;
+    watchers = (values_of d t.values).watchers;
+    links = each;
+    entries = (values_of d t.values).entries;
+  });
 }
 
 pub entries_now : (d : Contents) (xs : List Entry) (old new : Database) → Tables d old
     → new.schema ≡ desk_schema → Moves 8 old.trees new.trees → Keeps entry_columns xs (new.trees 8)
-    → Tables (record d { entries = xs }) new
-entries_now d xs old new t schema m now = record {
+    → AreEach (λ x. IsEntryRow (entry_columns x)) xs → Tables (record d { entries = xs }) new
+entries_now d xs old new t schema m now each = record {
   schema = schema;
   meta = m.0 (apart 0 8 refl) ∙ t.meta;
   queues = subst (Keeps queue_columns d.queues) (sym (m.1.0 (apart 1 8 refl))) t.queues;
@@ -111,15 +161,24 @@ entries_now d xs old new t schema m now = record {
   watchers = subst (Keeps watcher_columns d.watchers) (sym (m.1.1.1.0 (apart 4 8 refl))) t.watchers;
   links = subst (Keeps link_columns d.links) (sym (m.1.1.1.1.0 (apart 6 8 refl))) t.links;
   entries = now;
+  values = are_values _ (record {
+    version = (values_of d t.values).version;
+    queues = (values_of d t.values).queues;
+    requests = (values_of d t.values).requests;
+    watchers = (values_of d t.values).watchers;
+    links = (values_of d t.values).links;
+    entries = each;
+  });
 }
 
 new_queue : (db : Trees) (q : QueueRow) → (inserting queue db (queue_columns q) add_queue_terms
     4).news ≡ (Int (next_rowid (db 1)) ∷ queue_columns q) ∷ []
 new_queue db q = rw (cast_null, cast_text q.level)
 
-pub adds_queue : (d : Contents) (q : QueueRow) (old new : State) (count : ℕ) → Tables d old.now
+pub adds_queue : (d : Contents) (q : QueueRow) (old new : State) (count : ℕ)
+    → IsQueueRow (queue_columns q) → Tables d old.now
     → Executes add_queue_text (queue_columns q) old new (Ok count) → Tables (add_queue d q) new.now
-adds_queue d q old new count t h =
+adds_queue d q old new count row t h =
     let db = old.now.trees in
     let it = adds add_queue_text (queue_columns q) 1 4 add_queue_terms queue
     ((Int (next_rowid (db 1)) ∷ queue_columns q)) old new count add_queue_is refl refl
@@ -128,6 +187,7 @@ adds_queue d q old new count t h =
     (subst (Keeps queue_columns (q ∷ d.queues)) (sym it.rows)
     (inserted (filed queue_columns) value_of d.queues (db 1) (next_rowid (db 1), q) t.queues
     it.free))
+    (also (λ x. IsQueueRow (queue_columns x)) q d.queues row (values_of d t.values).queues)
 
 new_request : (db : Trees) (r : RequestRow) → (inserting request db (request_shown r)
     add_request_terms 12).news ≡ (numbered_as (λ (x : RequestRow). x.id) request_columns r) ∷ []
@@ -143,10 +203,11 @@ new_request db r = rw (
       (pos r.since),
 )
 
-pub adds_request : (d : Contents) (r : RequestRow) (old new : State) (count : ℕ) → Tables d old.now
+pub adds_request : (d : Contents) (r : RequestRow) (old new : State) (count : ℕ)
+    → IsRequestRow (request_shown r) → Tables d old.now
     → Executes add_request_text (request_shown r) old new (Ok count)
     → Tables (add_request d r) new.now
-adds_request d r old new count t h =
+adds_request d r old new count row t h =
     let db = old.now.trees in
     let it = adds add_request_text (request_shown r) 2 12 add_request_terms request
     ((numbered_as (λ (x : RequestRow). x.id) request_columns r)) old new count add_request_is
@@ -155,15 +216,17 @@ adds_request d r old new count t h =
     (subst (Numbers (λ x. x.id) request_columns (r ∷ d.requests)) (sym it.rows)
     (inserted (numbered_as (λ (x : RequestRow). x.id) request_columns) itself d.requests (db 3)
     r t.requests it.free))
+    (also (λ x. IsRequestRow (request_shown x)) r d.requests row (values_of d t.values).requests)
 
 new_watcher : (db : Trees) (w : Watcher) → (inserting watcher db (watcher_columns w) add_three_terms
     4).news ≡ (Int (next_rowid (db 4)) ∷ watcher_columns w) ∷ []
 new_watcher db w = rw (cast_null, cast_int (pos w.id), cast_int (pos (role_number w.role)))
 
-pub adds_watcher : (d : Contents) (w : Watcher) (old new : State) (count : ℕ) → Tables d old.now
+pub adds_watcher : (d : Contents) (w : Watcher) (old new : State) (count : ℕ)
+    → IsWatcherRow (watcher_columns w) → Tables d old.now
     → Executes add_watcher_text (watcher_columns w) old new (Ok count)
     → Tables (add_watcher d w) new.now
-adds_watcher d w old new count t h =
+adds_watcher d w old new count row t h =
     let db = old.now.trees in
     let it = adds add_watcher_text (watcher_columns w) 3 4 add_three_terms watcher
     ((Int (next_rowid (db 4)) ∷ watcher_columns w)) old new count add_watcher_is refl refl
@@ -172,6 +235,7 @@ adds_watcher d w old new count t h =
     (subst (Keeps watcher_columns (w ∷ d.watchers)) (sym it.rows)
     (inserted (filed watcher_columns) value_of d.watchers (db 4) (next_rowid (db 4), w)
     t.watchers it.free))
+    (also (λ x. IsWatcherRow (watcher_columns x)) w d.watchers row (values_of d t.values).watchers)
 
 new_link : (db : Trees) (l : LinkRow) → (inserting link db (link_columns l) add_three_terms 4).news
     ≡ (Int (next_rowid (db 6)) ∷ link_columns l) ∷ []
@@ -182,9 +246,10 @@ new_link db l = rw (
   cast_int (pos l.target),
 )
 
-pub adds_link : (d : Contents) (l : LinkRow) (old new : State) (count : ℕ) → Tables d old.now
+pub adds_link : (d : Contents) (l : LinkRow) (old new : State) (count : ℕ)
+    → IsLinkRow (link_columns l) → Tables d old.now
     → Executes add_link_text (link_columns l) old new (Ok count) → Tables (add_link d l) new.now
-adds_link d l old new count t h =
+adds_link d l old new count row t h =
     let db = old.now.trees in
     let it = adds add_link_text (link_columns l) 4 4 add_three_terms link
     ((Int (next_rowid (db 6)) ∷ link_columns l)) old new count add_link_is refl refl
@@ -193,6 +258,7 @@ adds_link d l old new count t h =
     (subst (Keeps link_columns (l ∷ d.links)) (sym it.rows)
     (inserted (filed link_columns) value_of d.links (db 6) (next_rowid (db 6), l) t.links
     it.free))
+    (also (λ x. IsLinkRow (link_columns x)) l d.links row (values_of d t.values).links)
 
 new_entry : (db : Trees) (e : Entry) → (inserting entry db (entry_columns e) add_entry_terms 8).news
     ≡ (Int (next_rowid (db 8)) ∷ entry_columns e) ∷ []
@@ -205,9 +271,10 @@ new_entry db e = rw (
   cast_int (pos (entry_kind_number e.kind)),
 )
 
-pub adds_entry : (d : Contents) (e : Entry) (old new : State) (count : ℕ) → Tables d old.now
+pub adds_entry : (d : Contents) (e : Entry) (old new : State) (count : ℕ)
+    → IsEntryRow (entry_columns e) → Tables d old.now
     → Executes add_entry_text (entry_columns e) old new (Ok count) → Tables (add_entry d e) new.now
-adds_entry d e old new count t h =
+adds_entry d e old new count row t h =
     let db = old.now.trees in
     let it = adds add_entry_text (entry_columns e) 5 8 add_entry_terms entry
     ((Int (next_rowid (db 8)) ∷ entry_columns e)) old new count add_entry_is refl refl
@@ -216,6 +283,7 @@ adds_entry d e old new count t h =
     (subst (Keeps entry_columns (e ∷ d.entries)) (sym it.rows)
     (inserted (filed entry_columns) value_of d.entries (db 8) (next_rowid (db 8), e) t.entries
     it.free))
+    (also (λ x. IsEntryRow (entry_columns x)) e d.entries row (values_of d t.values).entries)
 
 -- the new row keeps the number of the old one
 changed_row : (r x : RequestRow) → cast_row request
@@ -244,10 +312,11 @@ the_id : (x r : RequestRow) {it : Row} → passes numbered_test (request_shown r
 the_id x r passed is = same_number (sym (numbered r.id (drop 1 (request_shown r)) x)
     ∙ sym (ap (passes numbered_test (request_shown r)) is) ∙ passed)
 
-pub sets_request : (d : Contents) (r : RequestRow) (old new : State) → Tables d old.now
+pub sets_request : (d : Contents) (r : RequestRow) (old new : State)
+    → IsRequestRow (request_shown r) → Tables d old.now
     → Executes set_request_text (request_shown r) old new (Ok 1)
     → Tables (set_request d r) new.now
-sets_request d r old new t h =
+sets_request d r old new is t h =
     let spelt = numbered_as (λ (x : RequestRow). x.id) request_columns in
     let params = request_shown r in
     let db = old.now.trees in
@@ -269,6 +338,8 @@ sets_request d r old new t h =
     (replaced spelt itself d.requests (db 3) t.requests (passes numbered_test params)
     (is_numbered r.id) (λ x. numbered r.id (drop 1 params) x) (pos k.0.id) s.it (ap rowid k.1)
     s.one r (sym (ap (is_taken (without_rowid (pos k.0.id) (db 3))) row) ∙ to.free)))
+    (also (λ x. IsRequestRow (request_shown x)) r _ is
+    (still (λ x. IsRequestRow (request_shown x)) _ d.requests (values_of d t.values).requests))
 
 pub drops_watcher : (d : Contents) (w : Watcher) (old new : State) → Tables d old.now
     → Executes drop_watcher_text (watcher_columns w) old new (Ok 1)
@@ -286,6 +357,7 @@ drops_watcher d w old new t h =
     (subst (Keeps watcher_columns _) (sym rows) (removed (filed watcher_columns) value_of d.watchers
     (db 4) t.watchers (passes three_test params) (is_watcher w) (the_watcher w) k.0.0 s.it
     (ap rowid k.1) s.one))
+    (still (λ x. IsWatcherRow (watcher_columns x)) _ d.watchers (values_of d t.values).watchers)
 
 pub drops_link : (d : Contents) (l : LinkRow) (old new : State) → Tables d old.now
     → Executes drop_link_text (link_columns l) old new (Ok 1) → Tables (drop_link d l) new.now
@@ -302,3 +374,4 @@ drops_link d l old new t h =
     (subst (Keeps link_columns _) (sym rows) (removed (filed link_columns) value_of d.links (db 6)
     t.links (passes three_test params) (is_link l) (the_link l) k.0.0 s.it (ap rowid k.1)
     s.one))
+    (still (λ x. IsLinkRow (link_columns x)) _ d.links (values_of d t.values).links)

@@ -19,6 +19,7 @@ use Rattle.store_core.proofs.PickedLemmas.{picked_by}
 use Rattle.store_core.proofs.StandLemmas.{shown_open}
 use Rattle.store_core.proofs.Statements.{add_version_is, version_is}
 use Rattle.store_core.proofs.ChangeLemmas.{adds, apart, cast_int, cast_null}
+use Rattle.store_core.proofs.ValueLemmas.{are_values}
 use Rattle.store_core.proofs.WriteLemmas.{inserting}
 
 new_version : (db : Trees) → (inserting meta db [] add_version_terms 3).news ≡ version_row 1 ∷ []
@@ -48,6 +49,14 @@ adds_version old new count has none h =
       watchers = holds_none _ _ _ (it.others.1.1.1.0 (apart 4 0 refl) ∙ none.1.1.1.0);
       links = holds_none _ _ _ (it.others.1.1.1.1.0 (apart 6 0 refl) ∙ none.1.1.1.1.0);
       entries = holds_none _ _ _ (it.others.1.1.1.1.1.0 (apart 8 0 refl) ∙ none.1.1.1.1.1.0);
+      values = are_values no_contents (record {
+        version = omega arith;
+        queues = λ _ has. absurd has;
+        requests = λ _ has. absurd has;
+        watchers = λ _ has. absurd has;
+        links = λ _ has. absurd has;
+        entries = λ _ has. absurd has;
+      });
     }
 
 pub fills : (old new : State) (count : ℕ) → (HasCleanDisk new

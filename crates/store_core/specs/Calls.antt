@@ -1,5 +1,5 @@
 -- What calls over the tables answer, and what they leave.
-use Rattle.std.specs.Prelude.{◌≡◌, ℕ, [], IfErr, IfOk, List, OnOk, Result}
+use Rattle.std.specs.Prelude.{◌≡◌, ◌≢◌, ◌⊎◌, ℕ, [], IfErr, IfOk, IsTrue, List, OnOk, Result}
 use Rattle.sqlite.specs.Order.{Row}
 use Rattle.sqlite.specs.State.{State, HasCleanDisk}
 use Rattle.sqlite.specs.Term.{Term}
@@ -9,12 +9,27 @@ use Rattle.desk_core.specs.IsDesk.{IsDesk}
 use Rattle.store_core.specs.Contents.{Contents}
 use Rattle.store_core.specs.Picked.{shows}
 use Rattle.store_core.specs.Stands.{HasTables, Rests, Stand, StandsFor, Within}
+use Rattle.store_core.specs.Tables.{desk_schema}
 use Rattle.store_core.specs.declared.fault.StoreFault.{StoreFault}
-use Rattle.store_core.specs.declared.fault.StoreFault.TheVariants.{Mismatch}
+use Rattle.store_core.specs.declared.fault.StoreFault.TheVariants.{Mismatch, Refused, WrongVersion}
 
 -- what the tables hold before the call, they hold after it
 abbrev pub Leaves : State → State → Type 0
 Leaves old new = (c : Contents) → Stand c old → Stand c new
+
+-- the tables are there, in the transaction and in the last commit, whatever rows they have
+abbrev pub AreThere : State → Type 0
+AreThere s =
+    HasCleanDisk s → IsTrue s.is_open
+    → (s.now.schema ≡ desk_schema) × (s.committed.schema ≡ desk_schema)
+
+-- Whatever rows they have, the last commit stays, and the tables show what they showed or what it
+-- has.
+pub record Spares (old new : State) : Type 0 where
+  pub clean : HasCleanDisk new → HasCleanDisk old
+  pub left : AreThere old → HasCleanDisk new → IsTrue new.is_open
+      → IsTrue old.is_open × (new.committed ≡ old.committed)
+      × ((new.now ≡ old.now) ⊎ (new.now ≡ old.committed))
 
 -- a disk that is clean after the call was clean before it
 abbrev pub WasClean : State → State → Type 0
@@ -35,15 +50,32 @@ abbrev pub ShowsRowsOf : {X : Type 0} → ℕ → List Term → (X → List Row)
     → Result X StoreFault → Type 0
 ShowsRowsOf tree terms rows old new result =
     HasTables old → HasCleanDisk new
-    → IfOk result (λ x. (row : Row) → Has (rows x) row
-    → (r : Row) × Has (old.now.trees tree) r × (row ≡ shows terms [] r))
+    → IfOk result (λ x. (row : Row) → Has (rows x) row → IsTrue old.is_open
+    × (r : Row) × Has (old.now.trees tree) r × (row ≡ shows terms [] r))
 
--- a mismatch comes only where these columns of a row of that tree are no value of the type
+-- these columns of a row of that tree are no value of the type
+abbrev pub HasBadRow : ℕ → List Term → (Row → Type 0) → State → Type 0
+HasBadRow tree terms IsValue s =
+    (r : Row) × Has (s.now.trees tree) r × ¬ IsValue (shows terms [] r)
+
+-- a mismatch comes only of a bad row
 abbrev pub MismatchesIn : {X : Type 0} → ℕ → List Term → (Row → Type 0) → State → State
     → Result X StoreFault → Type 0
 MismatchesIn tree terms IsValue old new result =
     IfErr result (λ e. e ≡ Mismatch → HasTables old → HasCleanDisk new
-    → (r : Row) × Has (old.now.trees tree) r × ¬ IsValue (shows terms [] r))
+    → HasBadRow tree terms IsValue old)
+
+-- no fault is of the version, and a mismatch comes only of a bad row in an open store
+abbrev pub FailsIn : {X : Type 0} → ℕ → List Term → (Row → Type 0) → State → State
+    → Result X StoreFault → Type 0
+FailsIn tree terms IsValue old new result =
+    IfErr result (λ e. (e ≢ WrongVersion) × (e ≡ Mismatch → HasTables old → HasCleanDisk new
+    → IsTrue old.is_open × HasBadRow tree terms IsValue old))
+
+-- where the tables hold values, the fault is that the store or memory refused it
+abbrev pub OnlyRefuses : {X : Type 0} → State → State → Result X StoreFault → Type 0
+OnlyRefuses old new result =
+    (c : Contents) → Stand c old → HasCleanDisk new → IfErr result (λ e. e ≡ Refused)
 
 -- ---- in a transaction
 

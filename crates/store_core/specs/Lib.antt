@@ -15,4 +15,5 @@ pub mod Selection
 pub mod Spelling
 pub mod Stands
 pub mod Tables
+pub mod Values
 pub mod Written

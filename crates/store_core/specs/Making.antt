@@ -1,5 +1,5 @@
 -- How far the tables are made.
-use Rattle.std.specs.Prelude.{◌≡◌, ◌<◌, ◌≢◌, ℕ, pos, length, IfErr, IfOk, List, [], ◌∷◌, IsTrue}
+use Rattle.std.specs.Prelude.{◌≡◌, ◌≢◌, ℕ, pos, IfErr, IfOk, List, [], ◌∷◌, IsTrue}
 use Rattle.std.specs.Prelude.{Err, OnErr, OnOk, Result, true}
 use Rattle.std.specs.List.{AllByRecursion}
 use Rattle.sqlite.specs.Order.{Row, column}
@@ -12,7 +12,6 @@ use Rattle.desk_core.specs.Desk.{empty_desk}
 use Rattle.store_core.specs.Contents.{Contents, no_contents}
 use Rattle.store_core.specs.Picked.{shows}
 use Rattle.store_core.specs.Queries.{version_shown}
-use Rattle.store_core.specs.Reading.{IsCount}
 use Rattle.store_core.specs.Spelling.{count_value}
 use Rattle.store_core.specs.Stands.{HasTables, Stand, StandsFor, Tables, Within}
 use Rattle.store_core.specs.Tables.{no_schema}
@@ -67,10 +66,6 @@ abbrev pub IsOfMeta : State → ℕ → Type 0
 IsOfMeta s n =
     (r : Row) × Has (s.now.trees 0) r × (column (shows version_shown [] r) 0 ≡ count_value n)
 
-pub record IsVersionRow (row : Row) : Type 0 where
-  pub wide : 0 < length row
-  pub version : IsCount (column row 0)
-
 -- a version is told to be wrong only where a row of meta shows another than the present one
 abbrev pub BlamesMeta : {X : Type 0} → State → State → Result X StoreFault → Type 0
 BlamesMeta old new result =
@@ -80,12 +75,12 @@ BlamesMeta old new result =
 -- ---- of a whole call
 
 -- from no table the tables come to stand for the empty desk; on a fault there is no table, and
--- the version isn't to blame
+-- the store or memory refused it
 abbrev pub MakesDesk : {X : Type 0} → State → State → Result X StoreFault → Type 0
 MakesDesk old new result =
     IsBlank old
     → OnOk result (StandsFor empty_desk new) × OnErr result (IsBlank new)
-    × (HasCleanDisk new → IfErr result (λ e. e ≢ WrongVersion))
+    × (HasCleanDisk new → IfErr result (λ e. e ≡ Refused))
 
 -- it goes well only over the present version, and is the wrong version only over another
 abbrev pub NeedsVersion : {X : Type 0} → State → State → Result X StoreFault → Type 0

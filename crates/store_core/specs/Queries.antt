@@ -1,11 +1,13 @@
 -- The statements, and what they mean.
-use Rattle.std.specs.Prelude.{true, false, [], ◌∷◌, ◌++◌, Some, None, codes, List, ℕ, pos, negsuc}
+use Rattle.std.specs.Prelude.{true, false, [], ◌∷◌, ◌++◌, None, Some, codes, List, ℕ, pos, negsuc}
 use Rattle.sqlite.specs.Collation.TheVariants.{Binary}
 use Rattle.sqlite_value.specs.Keys.{ascending}
 use Rattle.sqlite.specs.declared.types.Value.TheVariants.{Null, Int}
 use Rattle.sqlite.specs.Term.{Term, lit, col, op2}
 use Rattle.sqlite.specs.Query.{Query, inner, end}
 use Rattle.sqlite_value.specs.declared.keys.Key.{Key}
+use Rattle.sqlite_sql.specs.Group.{Grouping}
+use Rattle.sqlite_sql.specs.declared.aggregate.AggregateOp.TheVariants.{CountRows}
 use Rattle.sqlite_sql.specs.declared.ops.BinaryOp.TheVariants.{Compare}
 use Rattle.sqlite_sql.specs.declared.ops.CompareOp.TheVariants.{Eq}
 
@@ -34,6 +36,32 @@ version_query = reads 0 [] (col 1 2 ∷ []) []
 
 abbrev pub queues_text : List ℕ
 queues_text = codes "SELECT name, lifecycle, level FROM queue ORDER BY name"
+
+abbrev pub queue_count_text : List ℕ
+queue_count_text = codes "SELECT count(*) FROM queue"
+
+-- how many rows there are
+abbrev pub counting : Grouping
+counting = record {
+  keys = [];
+  collations = [];
+  aggregates = record { op = CountRows; distinct = false; collation = Binary; argument = lit Null }
+      ∷ [];
+  having = [];
+}
+
+abbrev pub counts : ℕ → Query
+counts tree = record {
+  from = inner tree end;
+  filter = [];
+  group = Some counting;
+  project = col 1 0 ∷ [];
+  distinct = false;
+  collations = [];
+  order = [];
+  limit = lit (Int (negsuc 0));
+  offset = lit (Int (pos 0));
+}
 
 abbrev pub queue_shown : List Term
 queue_shown = col 1 1 ∷ col 1 2 ∷ col 1 3 ∷ []

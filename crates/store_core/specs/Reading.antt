@@ -1,5 +1,5 @@
 -- Rows that a query shows, as values.
-use Rattle.std.specs.Prelude.{◌≡◌, ◌<◌, ◌^◌, ◌⊎◌, ◌≢◌, ℕ, List, length, IsUtf8, Result, IfErr}
+use Rattle.std.specs.Prelude.{◌≡◌, ◌<◌, ◌^◌, ◌⊎◌, ℕ, List, length, IsUtf8, Result, IfErr}
 use Rattle.std.specs.Prelude.{IfOk}
 use Rattle.sqlite.specs.Order.{Row, column}
 use Rattle.sqlite.specs.Values.{or_null}
@@ -133,3 +133,8 @@ pub record IsEntryRow (row : Row) : Type 0 where
   pub kind : IsEntryKind (column row 4)
   pub head : IsText (column row 5)
   pub body : IsText (column row 6)
+
+-- a row of one number: a version, or the last number
+pub record IsNumberRow (row : Row) : Type 0 where
+  pub wide : 0 < length row
+  pub number : IsCount (column row 0)

@@ -10,8 +10,9 @@ use Rattle.store_core.specs.Kept.{Keeps, Numbers}
 use Rattle.store_core.specs.Spelling.{version_row, queue_columns, request_columns}
 use Rattle.store_core.specs.Spelling.{watcher_columns, link_columns, entry_columns}
 use Rattle.store_core.specs.Tables.{desk_schema}
+use Rattle.store_core.specs.Values.{AreValues}
 
--- meta has its one row, and the other five tables are, up to order, the five lists
+-- meta has its one row, and the other five tables are, up to order, the five lists of values
 pub record Tables (c : Contents) (db : Database) : Type 0 where
   pub schema : db.schema ≡ desk_schema
   pub meta : db.trees 0 ≡ version_row c.version ∷ []
@@ -20,6 +21,7 @@ pub record Tables (c : Contents) (db : Database) : Type 0 where
   pub watchers : Keeps watcher_columns c.watchers (db.trees 4)
   pub links : Keeps link_columns c.links (db.trees 6)
   pub entries : Keeps entry_columns c.entries (db.trees 8)
+  pub values : AreValues c
 
 -- where the store is open and its disk is clean, the tables hold this, and so do those of the last
 -- commit

@@ -1,5 +1,5 @@
 //! Values of the desk as values of SQL, and back.
-ghost use Rattle.std.specs.Prelude.{◌≡◌, ◌<◌, length, IfOk, IfErr};
+ghost use Rattle.std.specs.Prelude.{◌≡◌, ◌≢◌, ◌<◌, length, IfOk, IfErr};
 ghost use Rattle.sqlite.specs.Order.{column as value_at};
 ghost use Rattle.sqlite.specs.Values.{or_null, bound_value};
 ghost use Rattle.sqlite_value.specs.Value.{owned};
@@ -20,14 +20,16 @@ use text_core::Text;
 
 /// A text, to be bound.
 pub(crate) fn words(text: &Text) -> ValueRef<'_>
-    ensures { bound_value (owned result) ≡ Words text.now }
+    ensures bound { bound_value (owned result) ≡ Words text.now }
+    ensures value { IsText (Words text.now) }
 {
     text.as_str().to_sql()
 }
 
 /// A text that may be absent, to be bound.
 pub(crate) fn nullable(text: &Option<Text>) -> ValueRef<'_>
-    ensures { bound_value (owned result) ≡ or_null Words text.now }
+    ensures bound { bound_value (owned result) ≡ or_null Words text.now }
+    ensures value { IsTextOrNull (or_null Words text.now) }
 {
     match text {
         Some(text) => text.as_str().to_sql(),
@@ -37,14 +39,16 @@ pub(crate) fn nullable(text: &Option<Text>) -> ValueRef<'_>
 
 /// A number, to be bound.
 pub(crate) fn number<'a>(n: u32) -> ValueRef<'a>
-    ensures { bound_value (owned result) ≡ count_value n }
+    ensures bound { bound_value (owned result) ≡ count_value n }
+    ensures value { IsCount (count_value n) }
 {
     n.to_sql()
 }
 
 /// A minute, to be bound.
 pub(crate) fn minute<'a>(minute: Minute) -> ValueRef<'a>
-    ensures { bound_value (owned result) ≡ count_value minute }
+    ensures bound { bound_value (owned result) ≡ count_value minute }
+    ensures value { IsMinute (count_value minute) }
 {
     minute.get().to_sql()
 }
@@ -104,6 +108,7 @@ fn column<T: FromSql>(row: &Row, at: usize) -> Result<T, StoreFault>
     ensures ok { IfOk result (λ x. T.FromSql.reads_as (value_at row.now at) x) }
     ensures mismatch { IfErr result (λ e. e ≡ StoreFault.Mismatch → at < length row.now →
         ¬ T.FromSql.is_readable (value_at row.now at)) }
+    ensures fault { IfErr result (λ e. e ≢ StoreFault.WrongVersion) }
 {
     match row.get(at) {
         Ok(value) => Ok(value),
@@ -116,6 +121,7 @@ fn column<T: FromSql>(row: &Row, at: usize) -> Result<T, StoreFault>
 pub(crate) fn text_at(row: &Row, at: usize) -> Result<Text, StoreFault>
     ensures ok { ReadsAt Words row.now at result }
     ensures mismatch { MismatchesAt IsText row.now at result }
+    ensures fault { IfErr result (λ e. e ≢ StoreFault.WrongVersion) }
 {
     let text: String = column(row, at)?;
     Ok(Text::from(text))
@@ -125,6 +131,7 @@ pub(crate) fn text_at(row: &Row, at: usize) -> Result<Text, StoreFault>
 pub(crate) fn nullable_at(row: &Row, at: usize) -> Result<Option<Text>, StoreFault>
     ensures ok { ReadsAt (or_null Words) row.now at result }
     ensures mismatch { MismatchesAt IsTextOrNull row.now at result }
+    ensures fault { IfErr result (λ e. e ≢ StoreFault.WrongVersion) }
 {
     let text: Option<String> = column(row, at)?;
     match text {
@@ -137,6 +144,7 @@ pub(crate) fn nullable_at(row: &Row, at: usize) -> Result<Option<Text>, StoreFau
 pub(crate) fn number_at(row: &Row, at: usize) -> Result<u32, StoreFault>
     ensures ok { ReadsAt count_value row.now at result }
     ensures mismatch { MismatchesAt IsCount row.now at result }
+    ensures fault { IfErr result (λ e. e ≢ StoreFault.WrongVersion) }
 {
     column(row, at)
 }
@@ -145,6 +153,7 @@ pub(crate) fn number_at(row: &Row, at: usize) -> Result<u32, StoreFault>
 pub(crate) fn minute_at(row: &Row, at: usize) -> Result<Minute, StoreFault>
     ensures ok { ReadsAt count_value row.now at result }
     ensures mismatch { MismatchesAt IsMinute row.now at result }
+    ensures fault { IfErr result (λ e. e ≢ StoreFault.WrongVersion) }
 {
     let n = number_at(row, at)?;
     match Minute::new(n) {
@@ -157,6 +166,7 @@ pub(crate) fn minute_at(row: &Row, at: usize) -> Result<Minute, StoreFault>
 pub(crate) fn turn_at(row: &Row, at: usize) -> Result<Turn, StoreFault>
     ensures ok { ReadsAt (λ t. count_value (turn_number t)) row.now at result }
     ensures mismatch { MismatchesAt IsTurn row.now at result }
+    ensures fault { IfErr result (λ e. e ≢ StoreFault.WrongVersion) }
 {
     match number_at(row, at)? {
         0 => Ok(Turn::Desk),
@@ -169,6 +179,7 @@ pub(crate) fn turn_at(row: &Row, at: usize) -> Result<Turn, StoreFault>
 pub(crate) fn role_at(row: &Row, at: usize) -> Result<WatchRole, StoreFault>
     ensures ok { ReadsAt (λ r. count_value (role_number r)) row.now at result }
     ensures mismatch { MismatchesAt IsRole row.now at result }
+    ensures fault { IfErr result (λ e. e ≢ StoreFault.WrongVersion) }
 {
     match number_at(row, at)? {
         1 => Ok(WatchRole::Requestor),
@@ -182,6 +193,7 @@ pub(crate) fn role_at(row: &Row, at: usize) -> Result<WatchRole, StoreFault>
 pub(crate) fn link_kind_at(row: &Row, at: usize) -> Result<LinkKind, StoreFault>
     ensures ok { ReadsAt (λ k. count_value (kind_number k)) row.now at result }
     ensures mismatch { MismatchesAt IsLinkKind row.now at result }
+    ensures fault { IfErr result (λ e. e ≢ StoreFault.WrongVersion) }
 {
     match number_at(row, at)? {
         1 => Ok(LinkKind::DependsOn),
@@ -195,6 +207,7 @@ pub(crate) fn link_kind_at(row: &Row, at: usize) -> Result<LinkKind, StoreFault>
 pub(crate) fn entry_kind_at(row: &Row, at: usize) -> Result<EntryKind, StoreFault>
     ensures ok { ReadsAt (λ k. count_value (entry_kind_number k)) row.now at result }
     ensures mismatch { MismatchesAt IsEntryKind row.now at result }
+    ensures fault { IfErr result (λ e. e ≢ StoreFault.WrongVersion) }
 {
     match number_at(row, at)? {
         1 => Ok(EntryKind::Create),

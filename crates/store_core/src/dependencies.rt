@@ -1,9 +1,10 @@
 //! What a request depends on, of its links and the rows that they lead to.
-ghost use Rattle.std.specs.Prelude.{◌≡◌, ◌++◌, ◌∷◌, [], false, OnOk};
+ghost use Rattle.std.specs.Prelude.{◌++◌, ◌∷◌, ◌≡◌, ◌≢◌, IfErr, OnOk, [], false};
 ghost use Rattle.std.specs.List.{flat_map};
 ghost use Rattle.sqlite.specs.Held.{state};
 ghost use Rattle.desk_core.specs.Facts as facts;
-ghost use Rattle.store_core.specs.Calls.{Leaves, Tells, WasClean};
+ghost use Rattle.store_core.specs.declared.fault.StoreFault.{StoreFault};
+ghost use Rattle.store_core.specs.Calls.{OnlyRefuses, Spares, Tells};
 ghost use Rattle.store_core.specs.Found as found;
 
 use crate::fault::StoreFault;
@@ -16,6 +17,7 @@ use std::alloc::Global;
 use text_core::Sequence;
 
 /// What a request depends on.
+#[tactic(auto, using(crate::proofs::Spared::joined, crate::proofs::Spared::stands))]
 pub(crate) fn dependencies_of<S: Alter>(
     alloc: Global,
     conn: &mut Connection<S>,
@@ -25,14 +27,17 @@ pub(crate) fn dependencies_of<S: Alter>(
     ensures idle { conn.new.in_transaction ≡ false }
     ensures told { Tells (λ desk all. all ≡ facts.dependencies_of desk id)
         (state S.Store conn.old) (state S.Store conn.new) result }
-    ensures kept { Leaves (state S.Store conn.old) (state S.Store conn.new) }
-    ensures honest { WasClean (state S.Store conn.old) (state S.Store conn.new) }
+    ensures kept { Spares (state S.Store conn.old) (state S.Store conn.new) }
+    ensures refuses { OnlyRefuses
+        (state S.Store conn.old) (state S.Store conn.new) result }
+    ensures fault { IfErr result (λ e. e ≢ StoreFault.WrongVersion) }
 {
     let links = links_from(alloc, conn, id, LinkKind::DependsOn)?;
     dependencies_by(alloc, conn, links.as_slice())
 }
 
 /// What the links lead to.
+#[tactic(auto, using(crate::proofs::Spared::joined, crate::proofs::Spared::stands))]
 fn dependencies_by<S: Alter>(
     alloc: Global,
     conn: &mut Connection<S>,
@@ -42,8 +47,10 @@ fn dependencies_by<S: Alter>(
     ensures idle { conn.new.in_transaction ≡ false }
     ensures told { Tells (λ desk all. all ≡ flat_map (found.dependency_by desk) links.now)
         (state S.Store conn.old) (state S.Store conn.new) result }
-    ensures kept { Leaves (state S.Store conn.old) (state S.Store conn.new) }
-    ensures honest { WasClean (state S.Store conn.old) (state S.Store conn.new) }
+    ensures kept { Spares (state S.Store conn.old) (state S.Store conn.new) }
+    ensures refuses { OnlyRefuses
+        (state S.Store conn.old) (state S.Store conn.new) result }
+    ensures fault { IfErr result (λ e. e ≢ StoreFault.WrongVersion) }
 {
     let mut all = Vec::new(alloc);
     for link in links {
@@ -63,8 +70,10 @@ fn put_dependency<S: Alter>(
     ensures told { Tells (λ desk done.
         all.new.items ≡ all.old.items ++ found.dependency_by desk link.now)
         (state S.Store conn.old) (state S.Store conn.new) result }
-    ensures kept { Leaves (state S.Store conn.old) (state S.Store conn.new) }
-    ensures honest { WasClean (state S.Store conn.old) (state S.Store conn.new) }
+    ensures kept { Spares (state S.Store conn.old) (state S.Store conn.new) }
+    ensures refuses { OnlyRefuses
+        (state S.Store conn.old) (state S.Store conn.new) result }
+    ensures fault { IfErr result (λ e. e ≢ StoreFault.WrongVersion) }
 {
     match dependency_at(conn, link.target)? {
         None => Ok(()),
@@ -73,7 +82,8 @@ fn put_dependency<S: Alter>(
 }
 
 fn push_dependency(all: &mut Vec<Dependency>, one: Dependency) -> Result<(), StoreFault>
-    ensures { OnOk result (all.new.items ≡ all.old.items ++ one ∷ []) }
+    ensures ok { OnOk result (all.new.items ≡ all.old.items ++ one ∷ []) }
+    ensures fault { IfErr result (λ e. e ≡ StoreFault.Refused) }
 {
     match all.push(one) {
         Ok(()) => Ok(()),
@@ -82,6 +92,7 @@ fn push_dependency(all: &mut Vec<Dependency>, one: Dependency) -> Result<(), Sto
 }
 
 /// What a request is to one that depends on it, if it and its queue are there.
+#[tactic(auto, using(crate::proofs::Spared::joined, crate::proofs::Spared::stands))]
 fn dependency_at<S: Alter>(
     conn: &mut Connection<S>,
     id: u32,
@@ -90,8 +101,10 @@ fn dependency_at<S: Alter>(
     ensures idle { conn.new.in_transaction ≡ false }
     ensures told { Tells (λ desk one. one ≡ found.dependency_at desk id)
         (state S.Store conn.old) (state S.Store conn.new) result }
-    ensures kept { Leaves (state S.Store conn.old) (state S.Store conn.new) }
-    ensures honest { WasClean (state S.Store conn.old) (state S.Store conn.new) }
+    ensures kept { Spares (state S.Store conn.old) (state S.Store conn.new) }
+    ensures refuses { OnlyRefuses
+        (state S.Store conn.old) (state S.Store conn.new) result }
+    ensures fault { IfErr result (λ e. e ≢ StoreFault.WrongVersion) }
 {
     match request_numbered(conn, id)? {
         None => Ok(None),

@@ -1,19 +1,20 @@
 //! The facts of a command: what it looks at on the desk that the tables stand for.
-ghost use Rattle.std.specs.Prelude.{◌≡◌, false, length};
+ghost use Rattle.std.specs.Prelude.{◌≡◌, ◌≢◌, IfErr, false, length};
 ghost use Rattle.sqlite.specs.Held.{state};
 ghost use Rattle.desk_core.specs.Facts as facts;
 ghost use Rattle.desk_core.specs.Links.{has_link};
 ghost use Rattle.desk_core.specs.Plan.{Dependencies, besides_on};
 ghost use Rattle.desk_core.specs.Scope.{seen_in};
 ghost use Rattle.desk_core.specs.Step.{facts_of};
-ghost use Rattle.store_core.specs.Calls.{Leaves, Tells, WasClean};
+ghost use Rattle.store_core.specs.declared.fault.StoreFault.{StoreFault};
+ghost use Rattle.store_core.specs.Calls.{OnlyRefuses, Spares, Tells};
 ghost use Rattle.store_core.specs.Found as found;
 ghost use Rattle.store_core.specs.Seen.{state_of};
 
 use crate::dependencies::dependencies_of;
 use crate::fault::StoreFault;
 use crate::reads::links_by_key::link_like;
-use crate::reads::queues::queues;
+use crate::reads::queue_count::queue_count;
 use crate::reads::requests_by_key::last_id;
 use crate::standing::{queue_at, queue_of, standing_at};
 use crate::store::Store;
@@ -29,8 +30,10 @@ impl<S: Alter> Store<S> {
     pub fn facts_for(&mut self, alloc: Global, command: &Command) -> Result<Facts, StoreFault>
         ensures told { Tells (λ desk facts. facts ≡ facts_of command.now desk)
             (state_of S.Store self.old) (state_of S.Store self.new) result }
-        ensures kept { Leaves (state_of S.Store self.old) (state_of S.Store self.new) }
-        ensures honest { WasClean (state_of S.Store self.old) (state_of S.Store self.new) }
+        ensures kept { Spares (state_of S.Store self.old) (state_of S.Store self.new) }
+        ensures refuses { OnlyRefuses
+            (state_of S.Store self.old) (state_of S.Store self.new) result }
+        ensures fault { IfErr result (λ e. e ≢ StoreFault.WrongVersion) }
     {
         facts_in(alloc, &mut self.conn, command.scope())
     }
@@ -46,8 +49,10 @@ fn facts_in<S: Alter>(
     ensures idle { conn.new.in_transaction ≡ false }
     ensures told { Tells (λ desk facts. facts ≡ seen_in scope.entry desk)
         (state S.Store conn.old) (state S.Store conn.new) result }
-    ensures kept { Leaves (state S.Store conn.old) (state S.Store conn.new) }
-    ensures honest { WasClean (state S.Store conn.old) (state S.Store conn.new) }
+    ensures kept { Spares (state S.Store conn.old) (state S.Store conn.new) }
+    ensures refuses { OnlyRefuses
+        (state S.Store conn.old) (state S.Store conn.new) result }
+    ensures fault { IfErr result (λ e. e ≢ StoreFault.WrongVersion) }
 {
     match scope {
         Scope::Nothing => Ok(no_facts(alloc)),
@@ -59,6 +64,7 @@ fn facts_in<S: Alter>(
 }
 
 /// Of a command that names a queue: the queue and both counts.
+#[tactic(auto, using(crate::proofs::Spared::joined, crate::proofs::Spared::stands))]
 fn facts_on_queue<S: Alter>(
     alloc: Global,
     conn: &mut Connection<S>,
@@ -68,29 +74,27 @@ fn facts_on_queue<S: Alter>(
     ensures idle { conn.new.in_transaction ≡ false }
     ensures told { Tells (λ desk seen. seen ≡ facts.facts_on_queue desk name.now)
         (state S.Store conn.old) (state S.Store conn.new) result }
-    ensures kept { Leaves (state S.Store conn.old) (state S.Store conn.new) }
-    ensures honest { WasClean (state S.Store conn.old) (state S.Store conn.new) }
+    ensures kept { Spares (state S.Store conn.old) (state S.Store conn.new) }
+    ensures refuses { OnlyRefuses
+        (state S.Store conn.old) (state S.Store conn.new) result }
+    ensures fault { IfErr result (λ e. e ≢ StoreFault.WrongVersion) }
 {
-    let queue_count = count_queues(alloc, conn)?;
+    let queue_count = count_queues(conn)?;
     let request_count = count_requests(conn)?;
     let queue = queue_at(conn, name)?;
     Ok(counted(alloc, queue, queue_count, request_count))
 }
 
 /// How many queues there are.
-fn count_queues<S: Alter>(alloc: Global, conn: &mut Connection<S>) -> Result<u32, StoreFault>
+fn count_queues<S: Alter>(conn: &mut Connection<S>) -> Result<u32, StoreFault>
     requires { conn.old.in_transaction ≡ false }
     ensures idle { conn.new.in_transaction ≡ false }
     ensures told { Tells (λ desk n. n ≡ length desk.queues)
         (state S.Store conn.old) (state S.Store conn.new) result }
-    ensures kept { Leaves (state S.Store conn.old) (state S.Store conn.new) }
-    ensures honest { WasClean (state S.Store conn.old) (state S.Store conn.new) }
+    ensures kept { Spares (state S.Store conn.old) (state S.Store conn.new) }
+    ensures fault { IfErr result (λ e. e ≡ StoreFault.Refused) }
 {
-    let queues = queues(alloc, conn)?;
-    match u32::try_from(queues.as_slice().len()) {
-        Ok(count) => Ok(count),
-        Err(_) => Err(StoreFault::Refused),
-    }
+    queue_count(conn)
 }
 
 /// How many requests there are: the last number, since the numbers have no gaps.
@@ -99,20 +103,25 @@ fn count_requests<S: Alter>(conn: &mut Connection<S>) -> Result<u32, StoreFault>
     ensures idle { conn.new.in_transaction ≡ false }
     ensures told { Tells (λ desk n. n ≡ length desk.requests)
         (state S.Store conn.old) (state S.Store conn.new) result }
-    ensures kept { Leaves (state S.Store conn.old) (state S.Store conn.new) }
-    ensures honest { WasClean (state S.Store conn.old) (state S.Store conn.new) }
+    ensures kept { Spares (state S.Store conn.old) (state S.Store conn.new) }
+    ensures refuses { OnlyRefuses
+        (state S.Store conn.old) (state S.Store conn.new) result }
+    ensures fault { IfErr result (λ e. e ≢ StoreFault.WrongVersion) }
 {
     last_id(conn)
 }
 
 /// Of a command on a request: the request and its queue.
+#[tactic(auto, using(crate::proofs::Spared::joined, crate::proofs::Spared::stands))]
 fn facts_on<S: Alter>(alloc: Global, conn: &mut Connection<S>, id: u32) -> Result<Facts, StoreFault>
     requires { conn.old.in_transaction ≡ false }
     ensures idle { conn.new.in_transaction ≡ false }
     ensures told { Tells (λ desk seen. seen ≡ facts.facts_on_request desk id)
         (state S.Store conn.old) (state S.Store conn.new) result }
-    ensures kept { Leaves (state S.Store conn.old) (state S.Store conn.new) }
-    ensures honest { WasClean (state S.Store conn.old) (state S.Store conn.new) }
+    ensures kept { Spares (state S.Store conn.old) (state S.Store conn.new) }
+    ensures refuses { OnlyRefuses
+        (state S.Store conn.old) (state S.Store conn.new) result }
+    ensures fault { IfErr result (λ e. e ≢ StoreFault.WrongVersion) }
 {
     let request = standing_at(alloc, conn, id)?;
     let queue = queue_of(conn, &request)?;
@@ -120,6 +129,7 @@ fn facts_on<S: Alter>(alloc: Global, conn: &mut Connection<S>, id: u32) -> Resul
 }
 
 /// Of a move: what the request depends on too.
+#[tactic(auto, using(crate::proofs::Spared::joined, crate::proofs::Spared::stands))]
 fn facts_of_move<S: Alter>(
     alloc: Global,
     conn: &mut Connection<S>,
@@ -129,8 +139,10 @@ fn facts_of_move<S: Alter>(
     ensures idle { conn.new.in_transaction ≡ false }
     ensures told { Tells (λ desk seen. seen ≡ besides_on Dependencies id desk)
         (state S.Store conn.old) (state S.Store conn.new) result }
-    ensures kept { Leaves (state S.Store conn.old) (state S.Store conn.new) }
-    ensures honest { WasClean (state S.Store conn.old) (state S.Store conn.new) }
+    ensures kept { Spares (state S.Store conn.old) (state S.Store conn.new) }
+    ensures refuses { OnlyRefuses
+        (state S.Store conn.old) (state S.Store conn.new) result }
+    ensures fault { IfErr result (λ e. e ≢ StoreFault.WrongVersion) }
 {
     let dependencies = dependencies_of(alloc, conn, id)?;
     let facts = facts_on(alloc, conn, id)?;
@@ -138,6 +150,7 @@ fn facts_of_move<S: Alter>(
 }
 
 /// Of a link: the request at its other end too, and whether it is there.
+#[tactic(auto, using(crate::proofs::Spared::joined, crate::proofs::Spared::stands))]
 fn facts_of_link<S: Alter>(
     alloc: Global,
     conn: &mut Connection<S>,
@@ -147,8 +160,10 @@ fn facts_of_link<S: Alter>(
     ensures idle { conn.new.in_transaction ≡ false }
     ensures told { Tells (λ desk seen. seen ≡ seen_in (Scope.Link link) desk)
         (state S.Store conn.old) (state S.Store conn.new) result }
-    ensures kept { Leaves (state S.Store conn.old) (state S.Store conn.new) }
-    ensures honest { WasClean (state S.Store conn.old) (state S.Store conn.new) }
+    ensures kept { Spares (state S.Store conn.old) (state S.Store conn.new) }
+    ensures refuses { OnlyRefuses
+        (state S.Store conn.old) (state S.Store conn.new) result }
+    ensures fault { IfErr result (λ e. e ≢ StoreFault.WrongVersion) }
 {
     let is_linked = is_there(conn, link)?;
     let other = standing_at(alloc, conn, link.target)?;
@@ -162,8 +177,10 @@ fn is_there<S: Alter>(conn: &mut Connection<S>, link: LinkRow) -> Result<bool, S
     ensures idle { conn.new.in_transaction ≡ false }
     ensures told { Tells (λ desk there. there ≡ has_link desk link)
         (state S.Store conn.old) (state S.Store conn.new) result }
-    ensures kept { Leaves (state S.Store conn.old) (state S.Store conn.new) }
-    ensures honest { WasClean (state S.Store conn.old) (state S.Store conn.new) }
+    ensures kept { Spares (state S.Store conn.old) (state S.Store conn.new) }
+    ensures refuses { OnlyRefuses
+        (state S.Store conn.old) (state S.Store conn.new) result }
+    ensures fault { IfErr result (λ e. e ≢ StoreFault.WrongVersion) }
 {
     let found = link_like(conn, link)?;
     Ok(found.is_some())

@@ -1,6 +1,6 @@
 //! The lists of a store, each in the order of its key.
 ghost use Rattle.std.specs.Prelude.{◌≡◌, filter};
-ghost use Rattle.store_core.specs.Calls.{Leaves, Tells, WasClean};
+ghost use Rattle.store_core.specs.Calls.{Spares, Tells};
 ghost use Rattle.store_core.specs.Contents.{history_at, request_rows, watchers};
 ghost use Rattle.store_core.specs.Mismatches.{MismatchesInEntries, MismatchesInLinks};
 ghost use Rattle.store_core.specs.Mismatches.{MismatchesInQueues, MismatchesInRequests};
@@ -24,8 +24,7 @@ impl<S: Alter> Store<S> {
             (state_of S.Store self.old) (state_of S.Store self.new) result }
         ensures mismatch { MismatchesInQueues
             (state_of S.Store self.old) (state_of S.Store self.new) result }
-        ensures kept { Leaves (state_of S.Store self.old) (state_of S.Store self.new) }
-        ensures honest { WasClean (state_of S.Store self.old) (state_of S.Store self.new) }
+        ensures kept { Spares (state_of S.Store self.old) (state_of S.Store self.new) }
     {
         reads::queues::queues(alloc, &mut self.conn)
     }
@@ -37,8 +36,7 @@ impl<S: Alter> Store<S> {
             (state_of S.Store self.old) (state_of S.Store self.new) result }
         ensures mismatch { MismatchesInRequests
             (state_of S.Store self.old) (state_of S.Store self.new) result }
-        ensures kept { Leaves (state_of S.Store self.old) (state_of S.Store self.new) }
-        ensures honest { WasClean (state_of S.Store self.old) (state_of S.Store self.new) }
+        ensures kept { Spares (state_of S.Store self.old) (state_of S.Store self.new) }
     {
         reads::lists_requests::requests(alloc, &mut self.conn)
     }
@@ -55,8 +53,7 @@ impl<S: Alter> Store<S> {
             (state_of S.Store self.old) (state_of S.Store self.new) result }
         ensures mismatch { MismatchesInRequests
             (state_of S.Store self.old) (state_of S.Store self.new) result }
-        ensures kept { Leaves (state_of S.Store self.old) (state_of S.Store self.new) }
-        ensures honest { WasClean (state_of S.Store self.old) (state_of S.Store self.new) }
+        ensures kept { Spares (state_of S.Store self.old) (state_of S.Store self.new) }
     {
         reads::lists_requests::requests_of(alloc, &mut self.conn, queue)
     }
@@ -68,8 +65,7 @@ impl<S: Alter> Store<S> {
             (state_of S.Store self.old) (state_of S.Store self.new) result }
         ensures mismatch { MismatchesInLinks
             (state_of S.Store self.old) (state_of S.Store self.new) result }
-        ensures kept { Leaves (state_of S.Store self.old) (state_of S.Store self.new) }
-        ensures honest { WasClean (state_of S.Store self.old) (state_of S.Store self.new) }
+        ensures kept { Spares (state_of S.Store self.old) (state_of S.Store self.new) }
     {
         reads::lists_links::links(alloc, &mut self.conn)
     }
@@ -82,8 +78,7 @@ impl<S: Alter> Store<S> {
             (state_of S.Store self.old) (state_of S.Store self.new) result }
         ensures mismatch { MismatchesInLinks
             (state_of S.Store self.old) (state_of S.Store self.new) result }
-        ensures kept { Leaves (state_of S.Store self.old) (state_of S.Store self.new) }
-        ensures honest { WasClean (state_of S.Store self.old) (state_of S.Store self.new) }
+        ensures kept { Spares (state_of S.Store self.old) (state_of S.Store self.new) }
     {
         reads::lists_links::links_from(alloc, &mut self.conn, source)
     }
@@ -96,8 +91,7 @@ impl<S: Alter> Store<S> {
             (state_of S.Store self.old) (state_of S.Store self.new) result }
         ensures mismatch { MismatchesInLinks
             (state_of S.Store self.old) (state_of S.Store self.new) result }
-        ensures kept { Leaves (state_of S.Store self.old) (state_of S.Store self.new) }
-        ensures honest { WasClean (state_of S.Store self.old) (state_of S.Store self.new) }
+        ensures kept { Spares (state_of S.Store self.old) (state_of S.Store self.new) }
     {
         reads::lists_links::links_to(alloc, &mut self.conn, target)
     }
@@ -109,8 +103,7 @@ impl<S: Alter> Store<S> {
             (state_of S.Store self.old) (state_of S.Store self.new) result }
         ensures mismatch { MismatchesInWatchers
             (state_of S.Store self.old) (state_of S.Store self.new) result }
-        ensures kept { Leaves (state_of S.Store self.old) (state_of S.Store self.new) }
-        ensures honest { WasClean (state_of S.Store self.old) (state_of S.Store self.new) }
+        ensures kept { Spares (state_of S.Store self.old) (state_of S.Store self.new) }
     {
         reads::lists_watchers::watchers(alloc, &mut self.conn)
     }
@@ -123,8 +116,7 @@ impl<S: Alter> Store<S> {
             (state_of S.Store self.old) (state_of S.Store self.new) result }
         ensures mismatch { MismatchesInEntries
             (state_of S.Store self.old) (state_of S.Store self.new) result }
-        ensures kept { Leaves (state_of S.Store self.old) (state_of S.Store self.new) }
-        ensures honest { WasClean (state_of S.Store self.old) (state_of S.Store self.new) }
+        ensures kept { Spares (state_of S.Store self.old) (state_of S.Store self.new) }
     {
         reads::lists_entries::entries_of(alloc, &mut self.conn, id)
     }

@@ -139,6 +139,9 @@ fn read_version<S: Alter>(tx: &mut Transaction<'_, S>) -> Result<Option<u32>, St
     ensures same_reference { tx.new.conn.ghost_name ≡ tx.old.conn.ghost_name }
     ensures none { Made desk_schema (state S.Store tx.old.conn.now) →
         HasCleanDisk (state S.Store tx.new.conn.now) → IfOk result (λ v. v ≡ None) }
+    ensures refused { Made desk_schema (state S.Store tx.old.conn.now) →
+        HasCleanDisk (state S.Store tx.new.conn.now) →
+        IfErr result (λ e. e ≡ StoreFault.Refused) }
     ensures one { Inside (λ c v. v ≡ Some c.version)
         (state S.Store tx.old.conn.now) (state S.Store tx.new.conn.now) result }
     ensures made { Made desk_schema (state S.Store tx.old.conn.now) →
@@ -170,9 +173,9 @@ fn fill_meta<S: Alter>(tx: &mut Transaction<'_, S>) -> Result<(), StoreFault>
         (state S.Store tx.old.conn.now) (state S.Store tx.new.conn.now) result }
     ensures wrong { WrongInside
         (state S.Store tx.old.conn.now) (state S.Store tx.new.conn.now) result }
-    ensures not_wrong { Made desk_schema (state S.Store tx.old.conn.now) →
+    ensures refused { Made desk_schema (state S.Store tx.old.conn.now) →
         HasCleanDisk (state S.Store tx.new.conn.now) →
-        IfErr result (λ e. e ≢ StoreFault.WrongVersion) }
+        IfErr result (λ e. e ≡ StoreFault.Refused) }
     ensures keeps { HasTables (state S.Store tx.old.conn.now) →
         KeepsBase (state S.Store tx.old.conn.now) (state S.Store tx.new.conn.now) }
     ensures honest { WasClean (state S.Store tx.old.conn.now) (state S.Store tx.new.conn.now) }
@@ -202,9 +205,9 @@ fn make_all<S: Alter>(tx: &mut Transaction<'_, S>) -> Result<(), StoreFault>
         (state S.Store tx.old.conn.now) (state S.Store tx.new.conn.now) result }
     ensures wrong { WrongInside
         (state S.Store tx.old.conn.now) (state S.Store tx.new.conn.now) result }
-    ensures not_wrong { Made no_schema (state S.Store tx.old.conn.now) →
+    ensures refused { Made no_schema (state S.Store tx.old.conn.now) →
         HasCleanDisk (state S.Store tx.new.conn.now) →
-        IfErr result (λ e. e ≢ StoreFault.WrongVersion) }
+        IfErr result (λ e. e ≡ StoreFault.Refused) }
     ensures keeps_none { Made no_schema (state S.Store tx.old.conn.now) →
         KeepsBase (state S.Store tx.old.conn.now) (state S.Store tx.new.conn.now) }
     ensures keeps { (now was : Contents) → Within now was (state S.Store tx.old.conn.now) →
@@ -248,9 +251,9 @@ pub(crate) fn make_schema<S: Alter>(conn: &mut Connection<S>) -> Result<(), Stor
         OnOk result (Stand no_contents (state S.Store conn.new)) }
     ensures unmade { IsBlank (state S.Store conn.old) →
         OnErr result (IsBlank (state S.Store conn.new)) }
-    ensures not_wrong { IsBlank (state S.Store conn.old) →
+    ensures refused { IsBlank (state S.Store conn.old) →
         HasCleanDisk (state S.Store conn.new) →
-        IfErr result (λ e. e ≢ StoreFault.WrongVersion) }
+        IfErr result (λ e. e ≡ StoreFault.Refused) }
     ensures kept { Leaves (state S.Store conn.old) (state S.Store conn.new) }
     ensures honest { WasClean (state S.Store conn.old) (state S.Store conn.new) }
     ensures version { NeedsVersion (state S.Store conn.old) (state S.Store conn.new) result }

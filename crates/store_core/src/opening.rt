@@ -1,7 +1,7 @@
 //! A store is opened, and its tables are made.
-ghost use Rattle.std.specs.Prelude.{◌≡◌, false, IfErr, IfOk};
+ghost use Rattle.std.specs.Prelude.{◌≡◌, ◌≢◌, false, IfErr, IfOk};
 ghost use Rattle.sqlite.specs.Steps.{over_memory};
-ghost use Rattle.store_core.specs.Calls.{Answers, Leaves, WasClean};
+ghost use Rattle.store_core.specs.Calls.{Answers, Leaves, WasClean, Spares};
 ghost use Rattle.store_core.specs.Making.{IsBlank, MakesDesk, RefusesBlank};
 ghost use Rattle.store_core.specs.Making.{TellsVersion};
 ghost use Rattle.store_core.specs.Mismatches.{MismatchesInMeta};
@@ -63,8 +63,8 @@ impl<S: Alter> Store<S> {
             (state_of S.Store self.old) (state_of S.Store self.new) result }
         ensures mismatch { MismatchesInMeta
             (state_of S.Store self.old) (state_of S.Store self.new) result }
-        ensures kept { Leaves (state_of S.Store self.old) (state_of S.Store self.new) }
-        ensures honest { WasClean (state_of S.Store self.old) (state_of S.Store self.new) }
+        ensures fault { IfErr result (λ e. e ≢ StoreFault.WrongVersion) }
+        ensures kept { Spares (state_of S.Store self.old) (state_of S.Store self.new) }
     {
         reads::version::version(&mut self.conn)
     }

@@ -1,5 +1,5 @@
 //! A query, and the values that its rows show.
-ghost use Rattle.std.specs.Prelude.{◌≡◌, false, option_to_list, IfOk, IfErr};
+ghost use Rattle.std.specs.Prelude.{◌≡◌, ◌≢◌, false, option_to_list, IfOk, IfErr};
 ghost use Rattle.std.specs.List.{AllZip};
 ghost use Rattle.sqlite.specs.Given.{IsPlain};
 ghost use Rattle.sqlite.specs.Held.{state};
@@ -7,8 +7,9 @@ ghost use Rattle.sqlite.specs.Listing.{understood};
 ghost use Rattle.sqlite.specs.State.{HasCleanDisk, Shown};
 ghost use Rattle.sqlite.specs.Values.{bound};
 ghost use Rattle.sqlite_rules.specs.Lists.{Has};
-ghost use Rattle.store_core.specs.Calls.{Leaves, WasClean};
+ghost use Rattle.store_core.specs.Calls.{Spares};
 ghost use Rattle.store_core.specs.Found.{ReadsNumber};
+ghost use Rattle.store_core.specs.Reading.{IsNumberRow};
 ghost use Rattle.store_core.specs.Tables.{desk_schema};
 ghost use Rattle.store_core.specs.declared.fault.StoreFault.{StoreFault};
 
@@ -31,8 +32,7 @@ pub(crate) fn select<S: Alter>(
     ensures shown { HasCleanDisk (state S.Store conn.new) → IfOk result (λ rows.
         Shown sql.now (bound params.now) (state S.Store conn.old) (state S.Store conn.new)
         rows.items) }
-    ensures kept { Leaves (state S.Store conn.old) (state S.Store conn.new) }
-    ensures honest { WasClean (state S.Store conn.old) (state S.Store conn.new) }
+    ensures kept { Spares (state S.Store conn.old) (state S.Store conn.new) }
     ensures fault { IfErr result (λ e. e ≡ StoreFault.Refused) }
 {
     match conn.query_all(sql, params) {
@@ -46,6 +46,7 @@ pub(crate) fn read_all<T: Stored + Drop>(alloc: Global, rows: &[Row]) -> Result<
     ensures ok { IfOk result (λ xs. AllZip T.Stored.reads rows.now xs.items) }
     ensures mismatch { IfErr result (λ e. e ≡ StoreFault.Mismatch →
         (r : _) × Has rows.now r × ¬ T.Stored.is_value r) }
+    ensures fault { IfErr result (λ e. e ≢ StoreFault.WrongVersion) }
 {
     let mut values = Vec::new(alloc);
     for row in rows {
@@ -64,6 +65,7 @@ pub(crate) fn read_one<T: Stored + Drop>(rows: &[Row]) -> Result<Option<T>, Stor
     ensures ok { IfOk result (λ x. AllZip T.Stored.reads rows.now (option_to_list x)) }
     ensures mismatch { IfErr result (λ e. e ≡ StoreFault.Mismatch →
         (r : _) × Has rows.now r × ¬ T.Stored.is_value r) }
+    ensures fault { IfErr result (λ e. e ≢ StoreFault.WrongVersion) }
 {
     match rows {
         [] => Ok(None),
@@ -76,6 +78,9 @@ pub(crate) fn read_one<T: Stored + Drop>(rows: &[Row]) -> Result<Option<T>, Stor
 /// number, `Refused` where there are more rows.
 pub(crate) fn read_number(rows: &[Row]) -> Result<u32, StoreFault>
     ensures ok { IfOk result (ReadsNumber rows.now) }
+    ensures mismatch { IfErr result (λ e. e ≡ StoreFault.Mismatch →
+        (r : _) × Has rows.now r × ¬ IsNumberRow r) }
+    ensures fault { IfErr result (λ e. e ≢ StoreFault.WrongVersion) }
 {
     match rows {
         [] => Ok(0),

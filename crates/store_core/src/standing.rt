@@ -1,10 +1,11 @@
 //! A request with its people and the number of its entries, of its rows.
-ghost use Rattle.std.specs.Prelude.{◌≡◌, ◌++◌, ◌∷◌, [], false, IfOk, OnOk};
+ghost use Rattle.std.specs.Prelude.{◌++◌, ◌∷◌, ◌≡◌, ◌≢◌, IfErr, IfOk, OnOk, [], false};
 ghost use Rattle.sqlite.specs.Held.{state};
 ghost use Rattle.desk_core.specs.Desk.{queue_at};
 ghost use Rattle.desk_core.specs.Facts as facts;
 ghost use Rattle.desk_core.specs.Watchers as watching;
-ghost use Rattle.store_core.specs.Calls.{Leaves, Tells, WasClean};
+ghost use Rattle.store_core.specs.declared.fault.StoreFault.{StoreFault};
+ghost use Rattle.store_core.specs.Calls.{OnlyRefuses, Spares, Tells};
 ghost use Rattle.store_core.specs.Found as found;
 
 use crate::fault::StoreFault;
@@ -26,8 +27,10 @@ pub(crate) fn queue_at<S: Alter>(
     ensures idle { conn.new.in_transaction ≡ false }
     ensures told { Tells (λ desk q. q ≡ queue_at desk name.now)
         (state S.Store conn.old) (state S.Store conn.new) result }
-    ensures kept { Leaves (state S.Store conn.old) (state S.Store conn.new) }
-    ensures honest { WasClean (state S.Store conn.old) (state S.Store conn.new) }
+    ensures kept { Spares (state S.Store conn.old) (state S.Store conn.new) }
+    ensures refuses { OnlyRefuses
+        (state S.Store conn.old) (state S.Store conn.new) result }
+    ensures fault { IfErr result (λ e. e ≢ StoreFault.WrongVersion) }
 {
     queue_named(conn, name)
 }
@@ -41,8 +44,10 @@ pub(crate) fn queue_of<S: Alter>(
     ensures idle { conn.new.in_transaction ≡ false }
     ensures told { Tells (λ desk q. q ≡ found.queue_by desk request.now)
         (state S.Store conn.old) (state S.Store conn.new) result }
-    ensures kept { Leaves (state S.Store conn.old) (state S.Store conn.new) }
-    ensures honest { WasClean (state S.Store conn.old) (state S.Store conn.new) }
+    ensures kept { Spares (state S.Store conn.old) (state S.Store conn.new) }
+    ensures refuses { OnlyRefuses
+        (state S.Store conn.old) (state S.Store conn.new) result }
+    ensures fault { IfErr result (λ e. e ≢ StoreFault.WrongVersion) }
 {
     match request {
         Some(on) => queue_at(conn, &on.row.queue),
@@ -51,6 +56,7 @@ pub(crate) fn queue_of<S: Alter>(
 }
 
 /// The request with that number, with its people and the number of its entries, or none.
+#[tactic(auto, using(crate::proofs::Spared::joined, crate::proofs::Spared::stands))]
 pub(crate) fn standing_at<S: Alter>(
     alloc: Global,
     conn: &mut Connection<S>,
@@ -60,8 +66,10 @@ pub(crate) fn standing_at<S: Alter>(
     ensures idle { conn.new.in_transaction ≡ false }
     ensures told { Tells (λ desk on. on ≡ facts.standing_at desk id)
         (state S.Store conn.old) (state S.Store conn.new) result }
-    ensures kept { Leaves (state S.Store conn.old) (state S.Store conn.new) }
-    ensures honest { WasClean (state S.Store conn.old) (state S.Store conn.new) }
+    ensures kept { Spares (state S.Store conn.old) (state S.Store conn.new) }
+    ensures refuses { OnlyRefuses
+        (state S.Store conn.old) (state S.Store conn.new) result }
+    ensures fault { IfErr result (λ e. e ≢ StoreFault.WrongVersion) }
 {
     match request_numbered(conn, id)? {
         None => Ok(None),
@@ -81,7 +89,8 @@ fn standing_of(
     watchers: &[Watcher],
     entry_count: u32,
 ) -> Result<Standing, StoreFault>
-    ensures { IfOk result (λ on. on ≡ found.standing_of row watchers.now entry_count) }
+    ensures ok { IfOk result (λ on. on ≡ found.standing_of row watchers.now entry_count) }
+    ensures fault { IfErr result (λ e. e ≡ StoreFault.Refused) }
 {
     Ok(Standing {
         row,
@@ -94,7 +103,8 @@ fn standing_of(
 
 /// The persons in a role, in the order of the watchers.
 fn persons_in(alloc: Global, role: WatchRole, watchers: &[Watcher]) -> Result<Texts, StoreFault>
-    ensures { IfOk result (λ persons. persons ≡ found.persons_in role watchers.now) }
+    ensures ok { IfOk result (λ persons. persons ≡ found.persons_in role watchers.now) }
+    ensures fault { IfErr result (λ e. e ≡ StoreFault.Refused) }
 {
     let mut persons = Vec::new(alloc);
     for watcher in watchers {
@@ -106,7 +116,8 @@ fn persons_in(alloc: Global, role: WatchRole, watchers: &[Watcher]) -> Result<Te
 }
 
 fn put_person(persons: &mut Vec<Text>, person: &Text) -> Result<(), StoreFault>
-    ensures { OnOk result (persons.new.items ≡ persons.old.items ++ person.now ∷ []) }
+    ensures ok { OnOk result (persons.new.items ≡ persons.old.items ++ person.now ∷ []) }
+    ensures fault { IfErr result (λ e. e ≡ StoreFault.Refused) }
 {
     let Ok(copy) = person.clone() else {
         return Err(StoreFault::Refused);

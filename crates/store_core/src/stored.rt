@@ -1,6 +1,6 @@
 //! Values that rows show.
 
-ghost use Rattle.std.specs.Prelude.{◌≡◌, IfOk, IfErr};
+ghost use Rattle.std.specs.Prelude.{◌≡◌, ◌≢◌, IfOk, IfErr};
 ghost use Rattle.sqlite.specs.Order.{Row as Columns};
 ghost use Rattle.store_core.specs.declared.fault.StoreFault.{StoreFault};
 ghost use Rattle.store_core.specs.Reading.{ReadsQueue, ReadsRequest, ReadsWatcher, ReadsLink};
@@ -25,7 +25,8 @@ pub(crate) trait Stored: Sized {
     /// The value that the row shows. `Mismatch` where it shows none, `Refused` where out of memory.
     fn read(row: &Row) -> Result<Self, StoreFault>
         ensures ok { IfOk result (reads row.now) }
-        ensures mismatch { IfErr result (λ e. e ≡ StoreFault.Mismatch → ¬ is_value row.now) };
+        ensures mismatch { IfErr result (λ e. e ≡ StoreFault.Mismatch → ¬ is_value row.now) }
+        ensures fault { IfErr result (λ e. e ≢ StoreFault.WrongVersion) };
 }
 
 impl Stored for QueueRow {

@@ -1,7 +1,9 @@
 //! The last number of an entry of a request.
-ghost use Rattle.std.specs.Prelude.{◌≡◌, false, filter};
+ghost use Rattle.std.specs.Prelude.{◌≡◌, ◌≢◌, IfErr, false, filter};
 ghost use Rattle.sqlite.specs.Held.{state};
-ghost use Rattle.store_core.specs.Calls.{Answers, Leaves, WasClean};
+ghost use Rattle.store_core.specs.declared.fault.StoreFault.{StoreFault};
+ghost use Rattle.store_core.specs.Queries.{last_number_terms};
+ghost use Rattle.store_core.specs.Calls.{Answers, OnlyRefuses, ShowsRowsOf, Spares};
 ghost use Rattle.store_core.specs.Found.{place_of};
 ghost use Rattle.store_core.specs.Picked.{IsGreatest, ShowsGreatest};
 ghost use Rattle.store_core.specs.Selection.{tells_of};
@@ -18,8 +20,10 @@ fn rows_last_number<S: Alter>(conn: &mut Connection<S>, id: u32) -> Result<Vec<R
     ensures shown { Answers (λ c rows.
         ShowsGreatest place_of (filter (tells_of id) c.entries) rows.items)
         (state S.Store conn.old) (state S.Store conn.new) result }
-    ensures kept { Leaves (state S.Store conn.old) (state S.Store conn.new) }
-    ensures honest { WasClean (state S.Store conn.old) (state S.Store conn.new) }
+    ensures kept { Spares (state S.Store conn.old) (state S.Store conn.new) }
+    ensures of_table { ShowsRowsOf 8 last_number_terms (λ rows. rows.items)
+        (state S.Store conn.old) (state S.Store conn.new) result }
+    ensures fault { IfErr result (λ e. e ≡ StoreFault.Refused) }
 {
     select(
         conn,
@@ -34,8 +38,10 @@ pub(crate) fn last_number<S: Alter>(conn: &mut Connection<S>, id: u32) -> Result
     ensures idle { conn.new.in_transaction ≡ false }
     ensures greatest { Answers (λ c n. IsGreatest place_of (filter (tells_of id) c.entries) n)
         (state S.Store conn.old) (state S.Store conn.new) result }
-    ensures kept { Leaves (state S.Store conn.old) (state S.Store conn.new) }
-    ensures honest { WasClean (state S.Store conn.old) (state S.Store conn.new) }
+    ensures kept { Spares (state S.Store conn.old) (state S.Store conn.new) }
+    ensures refuses { OnlyRefuses
+        (state S.Store conn.old) (state S.Store conn.new) result }
+    ensures fault { IfErr result (λ e. e ≢ StoreFault.WrongVersion) }
 {
     let rows = rows_last_number(conn, id)?;
     read_number(rows.as_slice())

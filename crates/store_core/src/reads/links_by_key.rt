@@ -1,7 +1,9 @@
 //! The links from a request, and the link that is like another.
-ghost use Rattle.std.specs.Prelude.{◌≡◌, false, filter, option_to_list};
+ghost use Rattle.std.specs.Prelude.{◌≡◌, ◌≢◌, IfErr, false, filter, option_to_list};
 ghost use Rattle.sqlite.specs.Held.{state};
-ghost use Rattle.store_core.specs.Calls.{Answers, Leaves, WasClean};
+ghost use Rattle.store_core.specs.declared.fault.StoreFault.{StoreFault};
+ghost use Rattle.store_core.specs.Queries.{three_shown};
+ghost use Rattle.store_core.specs.Calls.{Answers, OnlyRefuses, ShowsRowsOf, Spares};
 ghost use Rattle.store_core.specs.Orders.{by_target};
 ghost use Rattle.store_core.specs.Picked.{AreOrdered, Lists, Shows};
 ghost use Rattle.store_core.specs.Selection as chosen;
@@ -25,8 +27,10 @@ fn rows_links_from<S: Alter>(
     ensures shown { Answers (λ c rows.
         Lists by_target link_columns (filter (chosen.links_from id kind) c.links) rows.items)
         (state S.Store conn.old) (state S.Store conn.new) result }
-    ensures kept { Leaves (state S.Store conn.old) (state S.Store conn.new) }
-    ensures honest { WasClean (state S.Store conn.old) (state S.Store conn.new) }
+    ensures kept { Spares (state S.Store conn.old) (state S.Store conn.new) }
+    ensures of_table { ShowsRowsOf 6 three_shown (λ rows. rows.items)
+        (state S.Store conn.old) (state S.Store conn.new) result }
+    ensures fault { IfErr result (λ e. e ≡ StoreFault.Refused) }
 {
     select(
         conn,
@@ -47,8 +51,10 @@ pub(crate) fn links_from<S: Alter>(
     ensures listed { Answers (λ c xs.
         AreOrdered by_target (filter (chosen.links_from id kind) c.links) xs.items)
         (state S.Store conn.old) (state S.Store conn.new) result }
-    ensures kept { Leaves (state S.Store conn.old) (state S.Store conn.new) }
-    ensures honest { WasClean (state S.Store conn.old) (state S.Store conn.new) }
+    ensures kept { Spares (state S.Store conn.old) (state S.Store conn.new) }
+    ensures refuses { OnlyRefuses
+        (state S.Store conn.old) (state S.Store conn.new) result }
+    ensures fault { IfErr result (λ e. e ≢ StoreFault.WrongVersion) }
 {
     let rows = rows_links_from(conn, id, kind)?;
     read_all(alloc, rows.as_slice())
@@ -61,8 +67,10 @@ fn rows_like<S: Alter>(conn: &mut Connection<S>, link: LinkRow) -> Result<Vec<Ro
     ensures shown { Answers (λ c rows.
         Shows link_columns (filter (chosen.is_link link) c.links) rows.items)
         (state S.Store conn.old) (state S.Store conn.new) result }
-    ensures kept { Leaves (state S.Store conn.old) (state S.Store conn.new) }
-    ensures honest { WasClean (state S.Store conn.old) (state S.Store conn.new) }
+    ensures kept { Spares (state S.Store conn.old) (state S.Store conn.new) }
+    ensures of_table { ShowsRowsOf 6 three_shown (λ rows. rows.items)
+        (state S.Store conn.old) (state S.Store conn.new) result }
+    ensures fault { IfErr result (λ e. e ≡ StoreFault.Refused) }
 {
     select(
         conn,
@@ -84,8 +92,10 @@ pub(crate) fn link_like<S: Alter>(
     ensures idle { conn.new.in_transaction ≡ false }
     ensures found { Answers (λ c l. option_to_list l ≡ filter (chosen.is_link link) c.links)
         (state S.Store conn.old) (state S.Store conn.new) result }
-    ensures kept { Leaves (state S.Store conn.old) (state S.Store conn.new) }
-    ensures honest { WasClean (state S.Store conn.old) (state S.Store conn.new) }
+    ensures kept { Spares (state S.Store conn.old) (state S.Store conn.new) }
+    ensures refuses { OnlyRefuses
+        (state S.Store conn.old) (state S.Store conn.new) result }
+    ensures fault { IfErr result (λ e. e ≢ StoreFault.WrongVersion) }
 {
     let rows = rows_like(conn, link)?;
     read_one(rows.as_slice())

@@ -1,7 +1,7 @@
 //! The entries of a request.
 ghost use Rattle.std.specs.Prelude.{◌≡◌, false, filter, IfErr};
 ghost use Rattle.sqlite.specs.Held.{state};
-ghost use Rattle.store_core.specs.Calls.{Answers, Leaves, ShowsRowsOf, WasClean};
+ghost use Rattle.store_core.specs.Calls.{Answers, ShowsRowsOf, Spares};
 ghost use Rattle.store_core.specs.Mismatches.{MismatchesInEntries};
 ghost use Rattle.store_core.specs.Orders.{by_number};
 ghost use Rattle.store_core.specs.Picked.{AreOrdered, Lists};
@@ -24,8 +24,7 @@ fn rows_entries_of<S: Alter>(conn: &mut Connection<S>, id: u32) -> Result<Vec<Ro
     ensures shown { Answers (λ c rows.
         Lists by_number entry_columns (filter (tells_of id) c.entries) rows.items)
         (state S.Store conn.old) (state S.Store conn.new) result }
-    ensures kept { Leaves (state S.Store conn.old) (state S.Store conn.new) }
-    ensures honest { WasClean (state S.Store conn.old) (state S.Store conn.new) }
+    ensures kept { Spares (state S.Store conn.old) (state S.Store conn.new) }
     ensures of_table { ShowsRowsOf 8 entry_shown_terms (λ rows. rows.items)
         (state S.Store conn.old) (state S.Store conn.new) result }
     ensures fault { IfErr result (λ e. e ≡ StoreFault.Refused) }
@@ -52,8 +51,7 @@ pub(crate) fn entries_of<S: Alter>(
         (state S.Store conn.old) (state S.Store conn.new) result }
     ensures mismatch { MismatchesInEntries
         (state S.Store conn.old) (state S.Store conn.new) result }
-    ensures kept { Leaves (state S.Store conn.old) (state S.Store conn.new) }
-    ensures honest { WasClean (state S.Store conn.old) (state S.Store conn.new) }
+    ensures kept { Spares (state S.Store conn.old) (state S.Store conn.new) }
 {
     let rows = rows_entries_of(conn, id)?;
     read_all(alloc, rows.as_slice())

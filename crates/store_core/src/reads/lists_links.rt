@@ -1,7 +1,7 @@
 //! The links, those from a request and those to it.
 ghost use Rattle.std.specs.Prelude.{◌≡◌, false, filter, IfErr};
 ghost use Rattle.sqlite.specs.Held.{state};
-ghost use Rattle.store_core.specs.Calls.{Answers, Leaves, ShowsRowsOf, WasClean};
+ghost use Rattle.store_core.specs.Calls.{Answers, ShowsRowsOf, Spares};
 ghost use Rattle.store_core.specs.Mismatches.{MismatchesInLinks};
 ghost use Rattle.store_core.specs.Orders.{by_link};
 ghost use Rattle.store_core.specs.Picked.{AreOrdered, Lists};
@@ -24,8 +24,7 @@ fn rows_links<S: Alter>(conn: &mut Connection<S>) -> Result<Vec<Row>, StoreFault
     ensures shown { Answers (λ c rows.
         Lists by_link link_columns c.links rows.items)
         (state S.Store conn.old) (state S.Store conn.new) result }
-    ensures kept { Leaves (state S.Store conn.old) (state S.Store conn.new) }
-    ensures honest { WasClean (state S.Store conn.old) (state S.Store conn.new) }
+    ensures kept { Spares (state S.Store conn.old) (state S.Store conn.new) }
     ensures of_table { ShowsRowsOf 6 three_shown (λ rows. rows.items)
         (state S.Store conn.old) (state S.Store conn.new) result }
     ensures fault { IfErr result (λ e. e ≡ StoreFault.Refused) }
@@ -50,8 +49,7 @@ pub(crate) fn links<S: Alter>(
         (state S.Store conn.old) (state S.Store conn.new) result }
     ensures mismatch { MismatchesInLinks
         (state S.Store conn.old) (state S.Store conn.new) result }
-    ensures kept { Leaves (state S.Store conn.old) (state S.Store conn.new) }
-    ensures honest { WasClean (state S.Store conn.old) (state S.Store conn.new) }
+    ensures kept { Spares (state S.Store conn.old) (state S.Store conn.new) }
 {
     let rows = rows_links(conn)?;
     read_all(alloc, rows.as_slice())
@@ -64,8 +62,7 @@ fn rows_links_from<S: Alter>(conn: &mut Connection<S>, source: u32) -> Result<Ve
     ensures shown { Answers (λ c rows.
         Lists by_link link_columns (filter (starts_at source) c.links) rows.items)
         (state S.Store conn.old) (state S.Store conn.new) result }
-    ensures kept { Leaves (state S.Store conn.old) (state S.Store conn.new) }
-    ensures honest { WasClean (state S.Store conn.old) (state S.Store conn.new) }
+    ensures kept { Spares (state S.Store conn.old) (state S.Store conn.new) }
     ensures of_table { ShowsRowsOf 6 three_shown (λ rows. rows.items)
         (state S.Store conn.old) (state S.Store conn.new) result }
     ensures fault { IfErr result (λ e. e ≡ StoreFault.Refused) }
@@ -91,8 +88,7 @@ pub(crate) fn links_from<S: Alter>(
         (state S.Store conn.old) (state S.Store conn.new) result }
     ensures mismatch { MismatchesInLinks
         (state S.Store conn.old) (state S.Store conn.new) result }
-    ensures kept { Leaves (state S.Store conn.old) (state S.Store conn.new) }
-    ensures honest { WasClean (state S.Store conn.old) (state S.Store conn.new) }
+    ensures kept { Spares (state S.Store conn.old) (state S.Store conn.new) }
 {
     let rows = rows_links_from(conn, source)?;
     read_all(alloc, rows.as_slice())
@@ -105,8 +101,7 @@ fn rows_links_to<S: Alter>(conn: &mut Connection<S>, target: u32) -> Result<Vec<
     ensures shown { Answers (λ c rows.
         Lists by_link link_columns (filter (ends_at target) c.links) rows.items)
         (state S.Store conn.old) (state S.Store conn.new) result }
-    ensures kept { Leaves (state S.Store conn.old) (state S.Store conn.new) }
-    ensures honest { WasClean (state S.Store conn.old) (state S.Store conn.new) }
+    ensures kept { Spares (state S.Store conn.old) (state S.Store conn.new) }
     ensures of_table { ShowsRowsOf 6 three_shown (λ rows. rows.items)
         (state S.Store conn.old) (state S.Store conn.new) result }
     ensures fault { IfErr result (λ e. e ≡ StoreFault.Refused) }
@@ -132,8 +127,7 @@ pub(crate) fn links_to<S: Alter>(
         (state S.Store conn.old) (state S.Store conn.new) result }
     ensures mismatch { MismatchesInLinks
         (state S.Store conn.old) (state S.Store conn.new) result }
-    ensures kept { Leaves (state S.Store conn.old) (state S.Store conn.new) }
-    ensures honest { WasClean (state S.Store conn.old) (state S.Store conn.new) }
+    ensures kept { Spares (state S.Store conn.old) (state S.Store conn.new) }
 {
     let rows = rows_links_to(conn, target)?;
     read_all(alloc, rows.as_slice())

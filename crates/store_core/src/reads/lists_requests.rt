@@ -1,7 +1,7 @@
 //! The requests, and those of a queue.
 ghost use Rattle.std.specs.Prelude.{◌≡◌, false, filter, IfErr};
 ghost use Rattle.sqlite.specs.Held.{state};
-ghost use Rattle.store_core.specs.Calls.{Answers, Leaves, ShowsRowsOf, WasClean};
+ghost use Rattle.store_core.specs.Calls.{Answers, ShowsRowsOf, Spares};
 ghost use Rattle.store_core.specs.Mismatches.{MismatchesInRequests};
 ghost use Rattle.store_core.specs.Orders.{by_id};
 ghost use Rattle.store_core.specs.Picked.{AreOrdered, Lists};
@@ -25,8 +25,7 @@ fn rows_requests<S: Alter>(conn: &mut Connection<S>) -> Result<Vec<Row>, StoreFa
     ensures shown { Answers (λ c rows.
         Lists by_id request_shown c.requests rows.items)
         (state S.Store conn.old) (state S.Store conn.new) result }
-    ensures kept { Leaves (state S.Store conn.old) (state S.Store conn.new) }
-    ensures honest { WasClean (state S.Store conn.old) (state S.Store conn.new) }
+    ensures kept { Spares (state S.Store conn.old) (state S.Store conn.new) }
     ensures of_table { ShowsRowsOf 3 request_shown_terms (λ rows. rows.items)
         (state S.Store conn.old) (state S.Store conn.new) result }
     ensures fault { IfErr result (λ e. e ≡ StoreFault.Refused) }
@@ -52,8 +51,7 @@ pub(crate) fn requests<S: Alter>(
         (state S.Store conn.old) (state S.Store conn.new) result }
     ensures mismatch { MismatchesInRequests
         (state S.Store conn.old) (state S.Store conn.new) result }
-    ensures kept { Leaves (state S.Store conn.old) (state S.Store conn.new) }
-    ensures honest { WasClean (state S.Store conn.old) (state S.Store conn.new) }
+    ensures kept { Spares (state S.Store conn.old) (state S.Store conn.new) }
 {
     let rows = rows_requests(conn)?;
     read_all(alloc, rows.as_slice())
@@ -69,8 +67,7 @@ fn rows_requests_of<S: Alter>(
     ensures shown { Answers (λ c rows.
         Lists by_id request_shown (filter (is_filed_in queue.now) c.requests) rows.items)
         (state S.Store conn.old) (state S.Store conn.new) result }
-    ensures kept { Leaves (state S.Store conn.old) (state S.Store conn.new) }
-    ensures honest { WasClean (state S.Store conn.old) (state S.Store conn.new) }
+    ensures kept { Spares (state S.Store conn.old) (state S.Store conn.new) }
     ensures of_table { ShowsRowsOf 3 request_shown_terms (λ rows. rows.items)
         (state S.Store conn.old) (state S.Store conn.new) result }
     ensures fault { IfErr result (λ e. e ≡ StoreFault.Refused) }
@@ -97,8 +94,7 @@ pub(crate) fn requests_of<S: Alter>(
         (state S.Store conn.old) (state S.Store conn.new) result }
     ensures mismatch { MismatchesInRequests
         (state S.Store conn.old) (state S.Store conn.new) result }
-    ensures kept { Leaves (state S.Store conn.old) (state S.Store conn.new) }
-    ensures honest { WasClean (state S.Store conn.old) (state S.Store conn.new) }
+    ensures kept { Spares (state S.Store conn.old) (state S.Store conn.new) }
 {
     let rows = rows_requests_of(conn, queue)?;
     read_all(alloc, rows.as_slice())

@@ -1,7 +1,7 @@
 //! The watchers of all requests.
 ghost use Rattle.std.specs.Prelude.{◌≡◌, false, IfErr};
 ghost use Rattle.sqlite.specs.Held.{state};
-ghost use Rattle.store_core.specs.Calls.{Answers, Leaves, ShowsRowsOf, WasClean};
+ghost use Rattle.store_core.specs.Calls.{Answers, ShowsRowsOf, Spares};
 ghost use Rattle.store_core.specs.Mismatches.{MismatchesInWatchers};
 ghost use Rattle.store_core.specs.Orders.{by_watcher};
 ghost use Rattle.store_core.specs.Picked.{AreOrdered, Lists};
@@ -22,8 +22,7 @@ fn rows_watchers<S: Alter>(conn: &mut Connection<S>) -> Result<Vec<Row>, StoreFa
     ensures shown { Answers (λ c rows.
         Lists by_watcher watcher_columns c.watchers rows.items)
         (state S.Store conn.old) (state S.Store conn.new) result }
-    ensures kept { Leaves (state S.Store conn.old) (state S.Store conn.new) }
-    ensures honest { WasClean (state S.Store conn.old) (state S.Store conn.new) }
+    ensures kept { Spares (state S.Store conn.old) (state S.Store conn.new) }
     ensures of_table { ShowsRowsOf 4 three_shown (λ rows. rows.items)
         (state S.Store conn.old) (state S.Store conn.new) result }
     ensures fault { IfErr result (λ e. e ≡ StoreFault.Refused) }
@@ -48,8 +47,7 @@ pub(crate) fn watchers<S: Alter>(
         (state S.Store conn.old) (state S.Store conn.new) result }
     ensures mismatch { MismatchesInWatchers
         (state S.Store conn.old) (state S.Store conn.new) result }
-    ensures kept { Leaves (state S.Store conn.old) (state S.Store conn.new) }
-    ensures honest { WasClean (state S.Store conn.old) (state S.Store conn.new) }
+    ensures kept { Spares (state S.Store conn.old) (state S.Store conn.new) }
 {
     let rows = rows_watchers(conn)?;
     read_all(alloc, rows.as_slice())

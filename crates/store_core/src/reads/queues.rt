@@ -1,7 +1,7 @@
 //! The queues, and the queue of a name.
-ghost use Rattle.std.specs.Prelude.{◌≡◌, false, filter, option_to_list, IfErr};
+ghost use Rattle.std.specs.Prelude.{◌≡◌, ◌≢◌, IfErr, false, filter, option_to_list};
 ghost use Rattle.sqlite.specs.Held.{state};
-ghost use Rattle.store_core.specs.Calls.{Answers, Leaves, ShowsRowsOf, WasClean};
+ghost use Rattle.store_core.specs.Calls.{Answers, OnlyRefuses, ShowsRowsOf, Spares};
 ghost use Rattle.store_core.specs.Mismatches.{MismatchesInQueues};
 ghost use Rattle.store_core.specs.Orders.{by_name};
 ghost use Rattle.store_core.specs.Picked.{AreOrdered, Lists, Shows};
@@ -24,8 +24,7 @@ fn rows_queues<S: Alter>(conn: &mut Connection<S>) -> Result<Vec<Row>, StoreFaul
     ensures idle { conn.new.in_transaction ≡ false }
     ensures shown { Answers (λ c rows. Lists by_name queue_columns c.queues rows.items)
         (state S.Store conn.old) (state S.Store conn.new) result }
-    ensures kept { Leaves (state S.Store conn.old) (state S.Store conn.new) }
-    ensures honest { WasClean (state S.Store conn.old) (state S.Store conn.new) }
+    ensures kept { Spares (state S.Store conn.old) (state S.Store conn.new) }
     ensures of_table { ShowsRowsOf 1 queue_shown (λ rows. rows.items)
         (state S.Store conn.old) (state S.Store conn.new) result }
     ensures fault { IfErr result (λ e. e ≡ StoreFault.Refused) }
@@ -48,8 +47,7 @@ pub(crate) fn queues<S: Alter>(
         (state S.Store conn.old) (state S.Store conn.new) result }
     ensures mismatch { MismatchesInQueues
         (state S.Store conn.old) (state S.Store conn.new) result }
-    ensures kept { Leaves (state S.Store conn.old) (state S.Store conn.new) }
-    ensures honest { WasClean (state S.Store conn.old) (state S.Store conn.new) }
+    ensures kept { Spares (state S.Store conn.old) (state S.Store conn.new) }
 {
     let rows = rows_queues(conn)?;
     read_all(alloc, rows.as_slice())
@@ -62,8 +60,7 @@ fn rows_named<S: Alter>(conn: &mut Connection<S>, name: &Text) -> Result<Vec<Row
     ensures shown { Answers (λ c rows.
         Shows queue_columns (filter (is_named name.now) c.queues) rows.items)
         (state S.Store conn.old) (state S.Store conn.new) result }
-    ensures kept { Leaves (state S.Store conn.old) (state S.Store conn.new) }
-    ensures honest { WasClean (state S.Store conn.old) (state S.Store conn.new) }
+    ensures kept { Spares (state S.Store conn.old) (state S.Store conn.new) }
     ensures of_table { ShowsRowsOf 1 queue_shown (λ rows. rows.items)
         (state S.Store conn.old) (state S.Store conn.new) result }
     ensures fault { IfErr result (λ e. e ≡ StoreFault.Refused) }
@@ -86,8 +83,10 @@ pub(crate) fn queue_named<S: Alter>(
         (state S.Store conn.old) (state S.Store conn.new) result }
     ensures mismatch { MismatchesInQueues
         (state S.Store conn.old) (state S.Store conn.new) result }
-    ensures kept { Leaves (state S.Store conn.old) (state S.Store conn.new) }
-    ensures honest { WasClean (state S.Store conn.old) (state S.Store conn.new) }
+    ensures kept { Spares (state S.Store conn.old) (state S.Store conn.new) }
+    ensures refuses { OnlyRefuses
+        (state S.Store conn.old) (state S.Store conn.new) result }
+    ensures fault { IfErr result (λ e. e ≢ StoreFault.WrongVersion) }
 {
     let rows = rows_named(conn, name)?;
     read_one(rows.as_slice())

@@ -1,7 +1,9 @@
 //! The request of a number, and the last number.
-ghost use Rattle.std.specs.Prelude.{◌≡◌, false, filter, option_to_list};
+ghost use Rattle.std.specs.Prelude.{◌≡◌, ◌≢◌, IfErr, false, filter, option_to_list};
 ghost use Rattle.sqlite.specs.Held.{state};
-ghost use Rattle.store_core.specs.Calls.{Answers, Leaves, WasClean};
+ghost use Rattle.store_core.specs.declared.fault.StoreFault.{StoreFault};
+ghost use Rattle.store_core.specs.Queries.{last_id_terms, request_shown_terms};
+ghost use Rattle.store_core.specs.Calls.{Answers, OnlyRefuses, ShowsRowsOf, Spares};
 ghost use Rattle.store_core.specs.Found.{number_of};
 ghost use Rattle.store_core.specs.Picked.{IsGreatest, Shows, ShowsGreatest};
 ghost use Rattle.store_core.specs.Selection.{is_numbered};
@@ -20,8 +22,10 @@ fn rows_numbered<S: Alter>(conn: &mut Connection<S>, id: u32) -> Result<Vec<Row>
     ensures shown { Answers (λ c rows.
         Shows request_shown (filter (is_numbered id) c.requests) rows.items)
         (state S.Store conn.old) (state S.Store conn.new) result }
-    ensures kept { Leaves (state S.Store conn.old) (state S.Store conn.new) }
-    ensures honest { WasClean (state S.Store conn.old) (state S.Store conn.new) }
+    ensures kept { Spares (state S.Store conn.old) (state S.Store conn.new) }
+    ensures of_table { ShowsRowsOf 3 request_shown_terms (λ rows. rows.items)
+        (state S.Store conn.old) (state S.Store conn.new) result }
+    ensures fault { IfErr result (λ e. e ≡ StoreFault.Refused) }
 {
     select(
         conn,
@@ -40,8 +44,10 @@ pub(crate) fn request_numbered<S: Alter>(
     ensures idle { conn.new.in_transaction ≡ false }
     ensures found { Answers (λ c r. option_to_list r ≡ filter (is_numbered id) c.requests)
         (state S.Store conn.old) (state S.Store conn.new) result }
-    ensures kept { Leaves (state S.Store conn.old) (state S.Store conn.new) }
-    ensures honest { WasClean (state S.Store conn.old) (state S.Store conn.new) }
+    ensures kept { Spares (state S.Store conn.old) (state S.Store conn.new) }
+    ensures refuses { OnlyRefuses
+        (state S.Store conn.old) (state S.Store conn.new) result }
+    ensures fault { IfErr result (λ e. e ≢ StoreFault.WrongVersion) }
 {
     let rows = rows_numbered(conn, id)?;
     read_one(rows.as_slice())
@@ -53,8 +59,10 @@ fn rows_last_id<S: Alter>(conn: &mut Connection<S>) -> Result<Vec<Row>, StoreFau
     ensures idle { conn.new.in_transaction ≡ false }
     ensures shown { Answers (λ c rows. ShowsGreatest number_of c.requests rows.items)
         (state S.Store conn.old) (state S.Store conn.new) result }
-    ensures kept { Leaves (state S.Store conn.old) (state S.Store conn.new) }
-    ensures honest { WasClean (state S.Store conn.old) (state S.Store conn.new) }
+    ensures kept { Spares (state S.Store conn.old) (state S.Store conn.new) }
+    ensures of_table { ShowsRowsOf 3 last_id_terms (λ rows. rows.items)
+        (state S.Store conn.old) (state S.Store conn.new) result }
+    ensures fault { IfErr result (λ e. e ≡ StoreFault.Refused) }
 {
     select(conn, "SELECT id FROM request ORDER BY id DESC LIMIT 1", &[])
 }
@@ -65,8 +73,10 @@ pub(crate) fn last_id<S: Alter>(conn: &mut Connection<S>) -> Result<u32, StoreFa
     ensures idle { conn.new.in_transaction ≡ false }
     ensures greatest { Answers (λ c n. IsGreatest number_of c.requests n)
         (state S.Store conn.old) (state S.Store conn.new) result }
-    ensures kept { Leaves (state S.Store conn.old) (state S.Store conn.new) }
-    ensures honest { WasClean (state S.Store conn.old) (state S.Store conn.new) }
+    ensures kept { Spares (state S.Store conn.old) (state S.Store conn.new) }
+    ensures refuses { OnlyRefuses
+        (state S.Store conn.old) (state S.Store conn.new) result }
+    ensures fault { IfErr result (λ e. e ≢ StoreFault.WrongVersion) }
 {
     let rows = rows_last_id(conn)?;
     read_number(rows.as_slice())

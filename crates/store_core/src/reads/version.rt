@@ -1,14 +1,15 @@
 //! The version that the tables hold.
-ghost use Rattle.std.specs.Prelude.{◌≡◌, ◌≢◌, ℕ, [], false, IfErr, IfOk, IfSome, None};
+ghost use Rattle.std.specs.Prelude.{◌≡◌, ◌≢◌, ℕ, [], false, IfErr, IfOk, IfSome, None, Ok};
 ghost use Rattle.std.specs.Prelude.{Some};
 ghost use Rattle.sqlite.specs.Order.{column};
 ghost use Rattle.sqlite_rules.specs.Lists.{Has};
 ghost use Rattle.store_core.specs.Mismatches.{MismatchesInMeta};
 ghost use Rattle.store_core.specs.Spelling.{count_value};
 ghost use Rattle.sqlite.specs.Held.{state};
-ghost use Rattle.store_core.specs.Calls.{Answers, Leaves, ShowsRowsOf, WasClean};
-ghost use Rattle.store_core.specs.Making.{IsVersionRow, RefusesBlank, ShowsVersion};
+ghost use Rattle.store_core.specs.Calls.{Answers, ShowsRowsOf, Spares};
+ghost use Rattle.store_core.specs.Making.{RefusesBlank, ShowsVersion};
 ghost use Rattle.store_core.specs.Queries.{version_shown};
+ghost use Rattle.store_core.specs.Reading.{IsNumberRow};
 ghost use Rattle.store_core.specs.declared.fault.StoreFault.{StoreFault};
 
 use crate::columns::number_at;
@@ -17,12 +18,12 @@ use sqlite::{Alter, Connection, Row};
 
 /// The version that the rows show, or none where there is no row.
 pub(crate) fn version_in(rows: &[Row]) -> Result<Option<u32>, StoreFault>
-    ensures none { rows.now ≡ [] → IfOk result (λ v. v ≡ None) }
+    ensures none { rows.now ≡ [] → result ≡ Ok None }
     ensures one { (n : ℕ) → ShowsVersion n rows.now → IfOk result (λ v. v ≡ Some n) }
     ensures shown { IfOk result (λ v. IfSome v (λ n.
         (r : _) × Has rows.now r × (column r 0 ≡ count_value n))) }
     ensures mismatch { IfErr result (λ e. e ≡ StoreFault.Mismatch →
-        (r : _) × Has rows.now r × ¬ IsVersionRow r) }
+        (r : _) × Has rows.now r × ¬ IsNumberRow r) }
     ensures fault { IfErr result (λ e. e ≢ StoreFault.WrongVersion) }
 {
     match rows {
@@ -42,8 +43,7 @@ fn rows_version<S: Alter>(conn: &mut Connection<S>) -> Result<Vec<Row>, StoreFau
     ensures idle { conn.new.in_transaction ≡ false }
     ensures shown { Answers (λ c rows. ShowsVersion c.version rows.items)
         (state S.Store conn.old) (state S.Store conn.new) result }
-    ensures kept { Leaves (state S.Store conn.old) (state S.Store conn.new) }
-    ensures honest { WasClean (state S.Store conn.old) (state S.Store conn.new) }
+    ensures kept { Spares (state S.Store conn.old) (state S.Store conn.new) }
     ensures blank { RefusesBlank (state S.Store conn.old) (state S.Store conn.new) result }
     ensures of_table { ShowsRowsOf 0 version_shown (λ rows. rows.items)
         (state S.Store conn.old) (state S.Store conn.new) result }
@@ -62,11 +62,11 @@ pub(crate) fn version<S: Alter>(conn: &mut Connection<S>) -> Result<u32, StoreFa
     ensures idle { conn.new.in_transaction ≡ false }
     ensures told { Answers (λ c n. n ≡ c.version)
         (state S.Store conn.old) (state S.Store conn.new) result }
-    ensures kept { Leaves (state S.Store conn.old) (state S.Store conn.new) }
-    ensures honest { WasClean (state S.Store conn.old) (state S.Store conn.new) }
+    ensures kept { Spares (state S.Store conn.old) (state S.Store conn.new) }
     ensures blank { RefusesBlank (state S.Store conn.old) (state S.Store conn.new) result }
     ensures mismatch { MismatchesInMeta
         (state S.Store conn.old) (state S.Store conn.new) result }
+    ensures fault { IfErr result (λ e. e ≢ StoreFault.WrongVersion) }
 {
     let rows = rows_version(conn)?;
     match version_in(rows.as_slice())? {

@@ -1,7 +1,9 @@
 //! The watchers of a request.
-ghost use Rattle.std.specs.Prelude.{◌≡◌, false, filter};
+ghost use Rattle.std.specs.Prelude.{◌≡◌, ◌≢◌, IfErr, false, filter};
 ghost use Rattle.sqlite.specs.Held.{state};
-ghost use Rattle.store_core.specs.Calls.{Answers, Leaves, WasClean};
+ghost use Rattle.store_core.specs.declared.fault.StoreFault.{StoreFault};
+ghost use Rattle.store_core.specs.Queries.{three_shown};
+ghost use Rattle.store_core.specs.Calls.{Answers, OnlyRefuses, ShowsRowsOf, Spares};
 ghost use Rattle.store_core.specs.Orders.{by_role};
 ghost use Rattle.store_core.specs.Picked.{AreOrdered, Lists};
 ghost use Rattle.store_core.specs.Selection.{watches};
@@ -21,8 +23,10 @@ fn rows_watchers_of<S: Alter>(conn: &mut Connection<S>, id: u32) -> Result<Vec<R
     ensures shown { Answers (λ c rows.
         Lists by_role watcher_columns (filter (watches id) c.watchers) rows.items)
         (state S.Store conn.old) (state S.Store conn.new) result }
-    ensures kept { Leaves (state S.Store conn.old) (state S.Store conn.new) }
-    ensures honest { WasClean (state S.Store conn.old) (state S.Store conn.new) }
+    ensures kept { Spares (state S.Store conn.old) (state S.Store conn.new) }
+    ensures of_table { ShowsRowsOf 4 three_shown (λ rows. rows.items)
+        (state S.Store conn.old) (state S.Store conn.new) result }
+    ensures fault { IfErr result (λ e. e ≡ StoreFault.Refused) }
 {
     select(
         conn,
@@ -41,8 +45,10 @@ pub(crate) fn watchers_of<S: Alter>(
     ensures idle { conn.new.in_transaction ≡ false }
     ensures listed { Answers (λ c xs. AreOrdered by_role (filter (watches id) c.watchers) xs.items)
         (state S.Store conn.old) (state S.Store conn.new) result }
-    ensures kept { Leaves (state S.Store conn.old) (state S.Store conn.new) }
-    ensures honest { WasClean (state S.Store conn.old) (state S.Store conn.new) }
+    ensures kept { Spares (state S.Store conn.old) (state S.Store conn.new) }
+    ensures refuses { OnlyRefuses
+        (state S.Store conn.old) (state S.Store conn.new) result }
+    ensures fault { IfErr result (λ e. e ≢ StoreFault.WrongVersion) }
 {
     let rows = rows_watchers_of(conn, id)?;
     read_all(alloc, rows.as_slice())

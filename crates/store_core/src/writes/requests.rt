@@ -4,6 +4,7 @@ ghost use Rattle.sqlite.specs.Held.{state};
 ghost use Rattle.sqlite.specs.Values.{bound};
 ghost use Rattle.store_core.specs.Calls.{Makes, RestsOn, WasClean};
 ghost use Rattle.store_core.specs.Contents.{add_request, set_request as with_row};
+ghost use Rattle.store_core.specs.Reading.{IsRequestRow};
 ghost use Rattle.store_core.specs.Spelling.{request_shown};
 ghost use Rattle.store_core.specs.Stands.{KeepsBase};
 ghost use Rattle.store_core.specs.declared.fault.StoreFault.{StoreFault};
@@ -17,7 +18,8 @@ use sqlite::{Alter, Transaction};
 
 /// The columns of a request, to be bound.
 fn shown(row: &RequestRow) -> [ValueRef<'_>; 10]
-    ensures { bound result ≡ request_shown row.now }
+    ensures bound { bound result ≡ request_shown row.now }
+    ensures value { IsRequestRow (request_shown row.now) }
 {
     [
         number(row.id),

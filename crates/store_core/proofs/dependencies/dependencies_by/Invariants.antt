@@ -5,7 +5,7 @@ use Rattle.sqlite.specs.Held.{state}
 use Rattle.sqlite.specs.State.{HasCleanDisk}
 use Rattle.desk_core.specs.Desk.{Desk}
 use Rattle.desk_core.specs.IsDesk.{IsDesk}
-use Rattle.store_core.specs.Calls.{Leaves, WasClean}
+use Rattle.store_core.specs.Calls.{Spares}
 use Rattle.store_core.specs.Found.{dependency_by}
 use Rattle.store_core.specs.Stands.{StandsFor}
 use Rattle.store_core.proofs.dependencies.dependencies_by.Given as goal
@@ -18,6 +18,5 @@ invariant-loop-link g l =
       told :
           (desk : Desk) → IsDesk desk → StandsFor desk old → HasCleanDisk now
           → l.all.items ≡ flat_map (dependency_by desk) (take l.link-index l.links);
-      kept : Leaves old now;
-      honest : WasClean old now;
+      kept : Spares old now;
     }

@@ -1,17 +1,14 @@
 use Rattle.store_core.specs.Contents.{contents_of}
 use Rattle.store_core.proofs.FactsLemmasOfDesk.{dependencies_are}
 use Rattle.store_core.proofs.ReadingLemmas.{if_ok}
+use Rattle.store_core.proofs.Spared.{stands}
 use Rattle.store_core.proofs.dependencies.dependencies_of.Goals as goal
-
-pub returns-clause-kept : goal.returns-clause-kept
-returns-clause-kept g c d stand =
-    c.dependencies_by.ensures.kept d (c.links_from.ensures.kept d stand)
 
 pub returns-clause-told : goal.returns-clause-told
 returns-clause-told g c desk is stand clean =
     let d = contents_of desk in
     if_ok c.dependencies_by.result
     (λ ds. dependencies_are desk c.args.id c.in_ok-links.links.items ds is
-    (c.in_ok-links.ensures.listed d stand (c.dependencies_by.ensures.honest clean)))
+    (c.in_ok-links.ensures.listed d stand (c.dependencies_by.ensures.kept.clean clean)))
     (rw c.as_slice.ensures.value at
-    (c.dependencies_by.ensures.told desk is (c.links_from.ensures.kept d stand) clean))
+    (c.dependencies_by.ensures.told desk is (stands c.links_from.ensures.kept d stand) clean))

@@ -1,15 +1,8 @@
 use Rattle.std.proofs.Common.{◌∙◌}
 use Rattle.store_core.specs.Contents.{contents_of}
 use Rattle.store_core.proofs.FactsLemmasOfDesk.{no_dependency, some_dependency}
+use Rattle.store_core.proofs.Spared.{stands}
 use Rattle.store_core.proofs.dependencies.dependency_at.Goals as goal
-
-pub returns-in_err-queue-in-Some-clause-kept : goal.returns-in_err-queue-in-Some-clause-kept
-returns-in_err-queue-in-Some-clause-kept g c d stand =
-    c.queue_at.ensures.kept d (c.request_numbered.ensures.kept d stand)
-
-pub returns-in_ok-queue-in-Some-clause-kept : goal.returns-in_ok-queue-in-Some-clause-kept
-returns-in_ok-queue-in-Some-clause-kept g c d stand =
-    c.queue_at.ensures.kept d (c.request_numbered.ensures.kept d stand)
 
 pub returns-in-None-clause-told : goal.returns-in-None-clause-told
 returns-in-None-clause-told g c desk is stand clean =
@@ -19,9 +12,9 @@ returns-in-None-clause-told g c desk is stand clean =
 
 pub returns-in_ok-queue-in-Some-clause-told : goal.returns-in_ok-queue-in-Some-clause-told
 returns-in_ok-queue-in-Some-clause-told g c desk is stand clean =
-    let first = c.request_numbered.ensures.kept (contents_of desk) stand in
+    let first = stands c.request_numbered.ensures.kept (contents_of desk) stand in
     c.dependency_of.ensures
     ∙ some_dependency desk c.args.id _ _
     (rw c.in-Some.is at (c.in_ok-request_numbered.ensures.found (contents_of desk) stand
-    (c.queue_at.ensures.honest clean)))
+    (c.queue_at.ensures.kept.clean clean)))
     (c.in_ok-queue-in-Some.ensures.told desk is first clean)

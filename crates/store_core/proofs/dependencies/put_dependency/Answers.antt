@@ -12,4 +12,4 @@ returns-in-Some-clause-told g c desk is stand clean =
     on_ok c.push_dependency.result
     (λ pushed. pushed ∙ puts_some desk c.args.link.now c.args.all.now.items c.in-Some.dependency
     (rw c.in-Some.is at (c.in_ok-dependency_at.ensures.told desk is stand clean)))
-    c.push_dependency.ensures
+    c.push_dependency.ensures.ok

@@ -1,20 +1,13 @@
 use Rattle.std.proofs.Common.{◌∙◌}
 use Rattle.store_core.specs.Contents.{contents_of}
 use Rattle.store_core.proofs.FactsLemmasOfDesk.{request_facts}
+use Rattle.store_core.proofs.Spared.{stands}
 use Rattle.store_core.proofs.facts.facts_on.Goals as goal
-
-pub returns-in_err-queue-clause-kept : goal.returns-in_err-queue-clause-kept
-returns-in_err-queue-clause-kept g c d stand =
-    c.queue_of.ensures.kept d (c.standing_at.ensures.kept d stand)
-
-pub returns-clause-kept : goal.returns-clause-kept
-returns-clause-kept g c d stand =
-    c.queue_of.ensures.kept d (c.standing_at.ensures.kept d stand)
 
 pub returns-clause-told : goal.returns-clause-told
 returns-clause-told g c desk is stand clean =
-    let first = c.standing_at.ensures.kept (contents_of desk) stand in
+    let first = stands c.standing_at.ensures.kept (contents_of desk) stand in
     c.filed.ensures
     ∙ request_facts desk c.args.id _ _
-    (c.in_ok-request.ensures.told desk is stand (c.queue_of.ensures.honest clean))
+    (c.in_ok-request.ensures.told desk is stand (c.queue_of.ensures.kept.clean clean))
     (c.in_ok-queue.ensures.told desk is first clean)

@@ -1,28 +1,15 @@
 use Rattle.std.proofs.Common.{◌∙◌}
 use Rattle.store_core.specs.Contents.{contents_of}
 use Rattle.store_core.proofs.FactsLemmasOfDesk.{queue_facts}
+use Rattle.store_core.proofs.Spared.{stands}
 use Rattle.store_core.proofs.facts.facts_on_queue.Goals as goal
-
-pub returns-in_err-request_count-clause-kept : goal.returns-in_err-request_count-clause-kept
-returns-in_err-request_count-clause-kept g c d stand =
-    c.count_requests.ensures.kept d (c.count_queues.ensures.kept d stand)
-
-pub returns-in_err-queue-clause-kept : goal.returns-in_err-queue-clause-kept
-returns-in_err-queue-clause-kept g c d stand =
-    c.queue_at.ensures.kept d
-    (c.count_requests.ensures.kept d (c.count_queues.ensures.kept d stand))
-
-pub returns-clause-kept : goal.returns-clause-kept
-returns-clause-kept g c d stand =
-    c.queue_at.ensures.kept d
-    (c.count_requests.ensures.kept d (c.count_queues.ensures.kept d stand))
 
 pub returns-clause-told : goal.returns-clause-told
 returns-clause-told g c desk is stand clean =
-    let first = c.count_queues.ensures.kept (contents_of desk) stand in
-    let second = c.count_requests.ensures.kept (contents_of desk) first in
-    let clean-second = c.queue_at.ensures.honest clean in
-    let clean-first = c.count_requests.ensures.honest clean-second in
+    let first = stands c.count_queues.ensures.kept (contents_of desk) stand in
+    let second = stands c.count_requests.ensures.kept (contents_of desk) first in
+    let clean-second = c.queue_at.ensures.kept.clean clean in
+    let clean-first = c.count_requests.ensures.kept.clean clean-second in
     c.counted.ensures
     ∙ queue_facts desk c.args.name.now _ _ _ (c.in_ok-queue.ensures.told desk is second clean)
     (c.in_ok-queue_count.ensures.told desk is stand clean-first)

@@ -1,5 +1,5 @@
 use Rattle.std.proofs.Common.{subst, sym}
-use Rattle.store_core.specs.Making.{IsVersionRow}
+use Rattle.store_core.specs.Reading.{IsNumberRow}
 use Rattle.store_core.proofs.ReadingLemmas.{if_err}
 use Rattle.store_core.proofs.making.read_version.Goals as goal
 
@@ -8,5 +8,5 @@ returns-clause-mismatch g c =
     if_err c.version_in.result (λ e why wrong has clean.
     let it = why wrong in
     let at = c.in_ok-rows.ensures.of_table has clean it.0 (rw c.as_slice.ensures.value at it.1) in
-    (at.0, at.1, λ is. it.2 (subst IsVersionRow (sym at.2) is)))
+    (at.1, at.2, λ is. it.2 (subst IsNumberRow (sym at.3) is)))
     c.version_in.ensures.mismatch

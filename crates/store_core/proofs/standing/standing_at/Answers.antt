@@ -1,27 +1,8 @@
 use Rattle.std.proofs.Common.{◌∙◌, ap, Some}
 use Rattle.store_core.specs.Contents.{contents_of}
 use Rattle.store_core.proofs.FactsLemmasOfDesk.{no_standing, some_standing}
+use Rattle.store_core.proofs.Spared.{stands}
 use Rattle.store_core.proofs.standing.standing_at.Goals as goal
-
-pub returns-in_err-watchers-in-Some-clause-kept : goal.returns-in_err-watchers-in-Some-clause-kept
-returns-in_err-watchers-in-Some-clause-kept g c d stand =
-    c.watchers_of.ensures.kept d (c.request_numbered.ensures.kept d stand)
-
-pub returns-in_err-entry_count-in-Some-clause-kept :
-    goal.returns-in_err-entry_count-in-Some-clause-kept
-returns-in_err-entry_count-in-Some-clause-kept g c d stand =
-    c.last_number.ensures.kept d
-    (c.watchers_of.ensures.kept d (c.request_numbered.ensures.kept d stand))
-
-pub returns-in_err-standing-in-Some-clause-kept : goal.returns-in_err-standing-in-Some-clause-kept
-returns-in_err-standing-in-Some-clause-kept g c d stand =
-    c.last_number.ensures.kept d
-    (c.watchers_of.ensures.kept d (c.request_numbered.ensures.kept d stand))
-
-pub returns-in_ok-standing-in-Some-clause-kept : goal.returns-in_ok-standing-in-Some-clause-kept
-returns-in_ok-standing-in-Some-clause-kept g c d stand =
-    c.last_number.ensures.kept d
-    (c.watchers_of.ensures.kept d (c.request_numbered.ensures.kept d stand))
 
 pub returns-in-None-clause-told : goal.returns-in-None-clause-told
 returns-in-None-clause-told g c desk is stand clean =
@@ -32,11 +13,11 @@ returns-in-None-clause-told g c desk is stand clean =
 pub returns-in_ok-standing-in-Some-clause-told : goal.returns-in_ok-standing-in-Some-clause-told
 returns-in_ok-standing-in-Some-clause-told g c desk is stand clean =
     let d = contents_of desk in
-    let first = c.request_numbered.ensures.kept d stand in
-    let second = c.watchers_of.ensures.kept d first in
-    let clean-second = c.last_number.ensures.honest clean in
-    let clean-first = c.watchers_of.ensures.honest clean-second in
-    ap Some (rw c.as_slice.ensures.value at c.in_ok-standing-in-Some.ensures)
+    let first = stands c.request_numbered.ensures.kept d stand in
+    let second = stands c.watchers_of.ensures.kept d first in
+    let clean-second = c.last_number.ensures.kept.clean clean in
+    let clean-first = c.watchers_of.ensures.kept.clean clean-second in
+    ap Some (rw c.as_slice.ensures.value at c.in_ok-standing-in-Some.ensures.ok)
     ∙ some_standing desk c.args.id _ _ _ is
     (rw c.in-Some.is at (c.in_ok-request_numbered.ensures.found d stand clean-first))
     (c.in_ok-watchers-in-Some.ensures.listed d first clean-second)

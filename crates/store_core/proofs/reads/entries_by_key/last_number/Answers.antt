@@ -2,7 +2,11 @@ use Rattle.std.proofs.Common.{filter}
 use Rattle.store_core.specs.Found.{place_of}
 use Rattle.store_core.specs.Selection.{tells_of}
 use Rattle.store_core.proofs.FoundLemmas.{greatest_read}
-use Rattle.store_core.proofs.ReadingLemmas.{if_ok}
+use Rattle.store_core.proofs.ReadingLemmas.{if_ok, fails_in}
+use Rattle.store_core.proofs.RefusalLemmas.{last_number_refuses}
+use Rattle.store_core.specs.Queries.{last_number_terms}
+use Rattle.store_core.specs.Reading.{IsNumberRow}
+use Rattle.sqlite.specs.Held.{state}
 use Rattle.store_core.proofs.reads.entries_by_key.last_number.Goals as goal
 
 pub returns-clause-greatest : goal.returns-clause-greatest
@@ -12,3 +16,12 @@ returns-clause-greatest g c d stand clean =
     c.in_ok-rows.rows.items n
     (c.in_ok-rows.ensures.shown d stand clean))
     (rw c.as_slice.ensures.value at c.read_number.ensures.ok)
+
+pub returns-clause-refuses : goal.returns-clause-refuses
+returns-clause-refuses g c =
+    let old = state g.S.Store c.args.conn.now in
+    let new = state g.S.Store c.rows_last_number.new.conn in
+    last_number_refuses old new c.rows_last_number.ensures.kept.clean c.read_number.result
+    (fails_in 8 last_number_terms IsNumberRow old new c.in_ok-rows.rows.items c.read_number.result
+    c.in_ok-rows.ensures.of_table (rw c.as_slice.ensures.value at c.read_number.ensures.mismatch)
+    c.read_number.ensures.fault)

@@ -1,10 +1,13 @@
 use Rattle.std.proofs.Common.{filter}
-use Rattle.store_core.specs.Reading.{ReadsLink}
+use Rattle.store_core.specs.Reading.{ReadsLink, IsLinkRow}
 use Rattle.store_core.specs.Selection.{is_link}
 use Rattle.store_core.specs.Spelling.{link_columns}
 use Rattle.store_core.proofs.BackLemmas.{link_back}
 use Rattle.store_core.proofs.ReadLemmas.{one_read}
-use Rattle.store_core.proofs.ReadingLemmas.{if_ok}
+use Rattle.store_core.proofs.ReadingLemmas.{if_ok, fails_in}
+use Rattle.store_core.proofs.RefusalLemmas.{links_refuse}
+use Rattle.store_core.specs.Queries.{three_shown}
+use Rattle.sqlite.specs.Held.{state}
 use Rattle.store_core.proofs.reads.links_by_key.link_like.Goals as goal
 
 pub returns-clause-found : goal.returns-clause-found
@@ -14,3 +17,12 @@ returns-clause-found g c d stand clean =
     (filter (is_link c.args.link) d.links) c.in_ok-rows.rows.items l
     (c.in_ok-rows.ensures.shown d stand clean))
     (rw c.as_slice.ensures.value at c.read_one.ensures.ok)
+
+pub returns-clause-refuses : goal.returns-clause-refuses
+returns-clause-refuses g c =
+    let old = state g.S.Store c.args.conn.now in
+    let new = state g.S.Store c.rows_like.new.conn in
+    links_refuse old new c.rows_like.ensures.kept.clean c.read_one.result
+    (fails_in 6 three_shown IsLinkRow old new c.in_ok-rows.rows.items c.read_one.result
+    c.in_ok-rows.ensures.of_table (rw c.as_slice.ensures.value at c.read_one.ensures.mismatch)
+    c.read_one.ensures.fault)

@@ -14,8 +14,9 @@ returns-clause-shown g c d stand clean =
     let old = state g.S.Store c.args.conn.now in
     let new = state g.S.Store c.select.new.conn in
     if_ok c.select.result
-    (λ rows. lists_entries_of d c.args.id old new c.select.ensures.honest stand clean rows.items)
-    (rw (c.number.ensures) at (c.select.ensures.shown clean))
+    (λ rows. lists_entries_of d c.args.id old new c.select.ensures.kept.clean stand clean
+    rows.items)
+    (rw (c.number.ensures.bound) at (c.select.ensures.shown clean))
 
 pub returns-clause-of_table : goal.returns-clause-of_table
 returns-clause-of_table g c has clean =
@@ -24,5 +25,5 @@ returns-clause-of_table g c has clean =
     if_ok c.select.result
     (λ rows. table_rows entries_of_text (count_value c.args.id ∷ []) 8 request_test
     entry_shown_terms number_order entries_of_is old new
-    c.select.ensures.honest has clean rows.items)
-    (rw (c.number.ensures) at (c.select.ensures.shown clean))
+    c.select.ensures.kept.clean has clean rows.items)
+    (rw (c.number.ensures.bound) at (c.select.ensures.shown clean))

@@ -18,8 +18,8 @@ returns-clause-shown g c d stand clean =
     if_ok c.select.result
     (λ rows. lists_links_by all_from_text source_test (count_value c.args.source ∷ [])
     (starts_at c.args.source) all_from_is (starts c.args.source) d old new
-    c.select.ensures.honest stand clean rows.items)
-    (rw (c.number.ensures) at (c.select.ensures.shown clean))
+    c.select.ensures.kept.clean stand clean rows.items)
+    (rw (c.number.ensures.bound) at (c.select.ensures.shown clean))
 
 pub returns-clause-of_table : goal.returns-clause-of_table
 returns-clause-of_table g c has clean =
@@ -27,5 +27,5 @@ returns-clause-of_table g c has clean =
     let new = state g.S.Store c.select.new.conn in
     if_ok c.select.result
     (λ rows. table_rows all_from_text (count_value c.args.source ∷ []) 6 source_test
-    three_shown three_order all_from_is old new c.select.ensures.honest has clean rows.items)
-    (rw (c.number.ensures) at (c.select.ensures.shown clean))
+    three_shown three_order all_from_is old new c.select.ensures.kept.clean has clean rows.items)
+    (rw (c.number.ensures.bound) at (c.select.ensures.shown clean))

@@ -1,10 +1,11 @@
-use Rattle.std.proofs.Common.{sym, subst}
+use Rattle.sqlite.specs.Held.{state}
 use Rattle.store_core.specs.Orders.{by_id}
+use Rattle.store_core.specs.Queries.{request_shown_terms}
 use Rattle.store_core.specs.Reading.{IsRequestRow, ReadsRequest}
 use Rattle.store_core.specs.Spelling.{request_shown}
 use Rattle.store_core.proofs.BackLemmas.{request_back}
 use Rattle.store_core.proofs.ReadLemmas.{all_read}
-use Rattle.store_core.proofs.ReadingLemmas.{if_ok, if_err}
+use Rattle.store_core.proofs.ReadingLemmas.{fails_in, if_ok}
 use Rattle.store_core.proofs.reads.lists_requests.requests.Goals as goal
 
 pub returns-clause-listed : goal.returns-clause-listed
@@ -16,8 +17,8 @@ returns-clause-listed g c d stand clean =
 
 pub returns-clause-mismatch : goal.returns-clause-mismatch
 returns-clause-mismatch g c =
-    if_err c.read_all.result (λ e why same desk clean.
-    let it = why same in let at = c.in_ok-rows.ensures.of_table desk clean it.0
-    (rw c.as_slice.ensures.value at it.1) in
-    (at.0, at.1, λ is. it.2 (subst IsRequestRow (sym at.2) is)))
-    c.read_all.ensures.mismatch
+    let old = state g.S.Store c.args.conn.now in
+    let new = state g.S.Store c.rows_requests.new.conn in
+    fails_in 3 request_shown_terms IsRequestRow old new c.in_ok-rows.rows.items c.read_all.result
+    c.in_ok-rows.ensures.of_table (rw c.as_slice.ensures.value at c.read_all.ensures.mismatch)
+    c.read_all.ensures.fault

@@ -14,9 +14,9 @@ returns-clause-shown g c d stand clean =
     let old = state g.S.Store c.args.conn.now in
     let new = state g.S.Store c.select.new.conn in
     if_ok c.select.result
-    (λ rows. lists_requests_of d c.args.queue.now old new c.select.ensures.honest stand clean
+    (λ rows. lists_requests_of d c.args.queue.now old new c.select.ensures.kept.clean stand clean
     rows.items)
-    (rw (c.words.ensures) at (c.select.ensures.shown clean))
+    (rw (c.words.ensures.bound) at (c.select.ensures.shown clean))
 
 pub returns-clause-of_table : goal.returns-clause-of_table
 returns-clause-of_table g c has clean =
@@ -25,5 +25,5 @@ returns-clause-of_table g c has clean =
     if_ok c.select.result
     (λ rows. table_rows requests_of_text (Words c.args.queue.now ∷ []) 3 filed_test
     request_shown_terms id_order requests_of_is old new
-    c.select.ensures.honest has clean rows.items)
-    (rw (c.words.ensures) at (c.select.ensures.shown clean))
+    c.select.ensures.kept.clean has clean rows.items)
+    (rw (c.words.ensures.bound) at (c.select.ensures.shown clean))

@@ -13,7 +13,7 @@ returns-clause-shown g c d stand clean =
     let old = state g.S.Store c.args.conn.now in
     let new = state g.S.Store c.select.new.conn in
     if_ok c.select.result
-    (λ rows. lists_watchers d old new c.select.ensures.honest stand clean rows.items)
+    (λ rows. lists_watchers d old new c.select.ensures.kept.clean stand clean rows.items)
     (c.select.ensures.shown clean)
 
 pub returns-clause-of_table : goal.returns-clause-of_table
@@ -22,5 +22,5 @@ returns-clause-of_table g c has clean =
     let new = state g.S.Store c.select.new.conn in
     if_ok c.select.result
     (λ rows. table_rows watchers_text [] 4 [] three_shown
-    three_order watchers_is old new c.select.ensures.honest has clean rows.items)
+    three_order watchers_is old new c.select.ensures.kept.clean has clean rows.items)
     (c.select.ensures.shown clean)

@@ -1,10 +1,13 @@
-use Rattle.std.proofs.Common.{filter, sym, subst}
+use Rattle.std.proofs.Common.{filter}
+use Rattle.sqlite.specs.Held.{state}
+use Rattle.store_core.specs.Queries.{queue_shown}
 use Rattle.store_core.specs.Reading.{ReadsQueue, IsQueueRow}
 use Rattle.store_core.specs.Selection.{is_named}
 use Rattle.store_core.specs.Spelling.{queue_columns}
 use Rattle.store_core.proofs.BackLemmas.{queue_back}
 use Rattle.store_core.proofs.ReadLemmas.{one_read}
-use Rattle.store_core.proofs.ReadingLemmas.{if_ok, if_err}
+use Rattle.store_core.proofs.ReadingLemmas.{fails_in, if_ok}
+use Rattle.store_core.proofs.RefusalLemmas.{queues_refuse}
 use Rattle.store_core.proofs.reads.queues.queue_named.Goals as goal
 
 pub returns-clause-found : goal.returns-clause-found
@@ -16,8 +19,17 @@ returns-clause-found g c d stand clean =
 
 pub returns-clause-mismatch : goal.returns-clause-mismatch
 returns-clause-mismatch g c =
-    if_err c.read_one.result (λ e why same desk clean.
-    let it = why same in
-    let at = c.in_ok-rows.ensures.of_table desk clean it.0 (rw c.as_slice.ensures.value at it.1) in
-    (at.0, at.1, λ is. it.2 (subst IsQueueRow (sym at.2) is)))
-    c.read_one.ensures.mismatch
+    let old = state g.S.Store c.args.conn.now in
+    let new = state g.S.Store c.rows_named.new.conn in
+    fails_in 1 queue_shown IsQueueRow old new c.in_ok-rows.rows.items c.read_one.result
+    c.in_ok-rows.ensures.of_table (rw c.as_slice.ensures.value at c.read_one.ensures.mismatch)
+    c.read_one.ensures.fault
+
+pub returns-clause-refuses : goal.returns-clause-refuses
+returns-clause-refuses g c =
+    let old = state g.S.Store c.args.conn.now in
+    let new = state g.S.Store c.rows_named.new.conn in
+    queues_refuse old new c.rows_named.ensures.kept.clean c.read_one.result
+    (fails_in 1 queue_shown IsQueueRow old new c.in_ok-rows.rows.items c.read_one.result
+    c.in_ok-rows.ensures.of_table (rw c.as_slice.ensures.value at c.read_one.ensures.mismatch)
+    c.read_one.ensures.fault)

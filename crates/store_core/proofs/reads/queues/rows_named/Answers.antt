@@ -14,8 +14,9 @@ returns-clause-shown g c d stand clean =
     let old = state g.S.Store c.args.conn.now in
     let new = state g.S.Store c.select.new.conn in
     if_ok c.select.result
-    (λ rows. shows_named d c.args.name.now old new c.select.ensures.honest stand clean rows.items)
-    (rw (c.words.ensures) at (c.select.ensures.shown clean))
+    (λ rows. shows_named d c.args.name.now old new c.select.ensures.kept.clean stand clean
+    rows.items)
+    (rw (c.words.ensures.bound) at (c.select.ensures.shown clean))
 
 pub returns-clause-of_table : goal.returns-clause-of_table
 returns-clause-of_table g c has clean =
@@ -23,5 +24,5 @@ returns-clause-of_table g c has clean =
     let new = state g.S.Store c.select.new.conn in
     if_ok c.select.result
     (λ rows. table_rows queue_named_text (Words c.args.name.now ∷ []) 1 named_test queue_shown []
-    queue_named_is old new c.select.ensures.honest has clean rows.items)
-    (rw (c.words.ensures) at (c.select.ensures.shown clean))
+    queue_named_is old new c.select.ensures.kept.clean has clean rows.items)
+    (rw (c.words.ensures.bound) at (c.select.ensures.shown clean))

@@ -1,6 +1,9 @@
 use Rattle.sqlite.specs.Held.{state}
-use Rattle.store_core.proofs.ReadingLemmas.{if_ok, shows_numbered}
+use Rattle.store_core.proofs.ReadingLemmas.{if_ok, shows_numbered, table_rows}
 use Rattle.store_core.proofs.Statements.{request_numbered_is}
+use Rattle.store_core.specs.Queries.{numbered_test, request_numbered_text, request_shown_terms}
+use Rattle.store_core.specs.Spelling.{count_value}
+use Rattle.std.proofs.Common.{[], ◌∷◌}
 use Rattle.store_core.proofs.reads.requests_by_key.rows_numbered.Goals as goal
 
 pub select-requires-clause-plain : goal.select-requires-clause-plain
@@ -11,5 +14,15 @@ returns-clause-shown g c d stand clean =
     let old = state g.S.Store c.args.conn.now in
     let new = state g.S.Store c.select.new.conn in
     if_ok c.select.result
-    (λ rows. shows_numbered d c.args.id old new c.select.ensures.honest stand clean rows.items)
-    (rw (c.number.ensures) at (c.select.ensures.shown clean))
+    (λ rows. shows_numbered d c.args.id old new c.select.ensures.kept.clean stand clean rows.items)
+    (rw (c.number.ensures.bound) at (c.select.ensures.shown clean))
+
+pub returns-clause-of_table : goal.returns-clause-of_table
+returns-clause-of_table g c has clean =
+    let old = state g.S.Store c.args.conn.now in
+    let new = state g.S.Store c.select.new.conn in
+    if_ok c.select.result
+    (λ rows. table_rows request_numbered_text (count_value c.args.id ∷ []) 3 numbered_test
+    request_shown_terms [] request_numbered_is
+    old new c.select.ensures.kept.clean has clean rows.items)
+    (rw (c.number.ensures.bound) at (c.select.ensures.shown clean))

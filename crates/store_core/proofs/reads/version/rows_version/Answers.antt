@@ -4,9 +4,10 @@ use Rattle.sqlite.specs.State.{HasCleanDisk}
 use Rattle.store_core.specs.Queries.{version_shown, version_text}
 use Rattle.store_core.proofs.BlankLemmas.{fails_blank, shows_nothing}
 use Rattle.store_core.proofs.ReadingLemmas.{table_rows}
-use Rattle.store_core.proofs.StandLemmas.{failed_stands, shown_stands, shown_tables, was_clean}
+use Rattle.store_core.proofs.StandLemmas.{shown_tables, was_clean}
 use Rattle.store_core.proofs.Statements.{version_is}
 use Rattle.store_core.proofs.VersionLemmas.{shows_version}
+use Rattle.store_core.proofs.Spared.{failed_spares, shown_spares}
 use Rattle.store_core.proofs.reads.version.rows_version.Goals as goal
 
 pub returns-in-Ok-clause-shown : goal.returns-in-Ok-clause-shown
@@ -17,18 +18,6 @@ returns-in-Ok-clause-shown g c d stand clean =
     let shown = c.in-Ok.ensures.ok clean in
     shows_version d old new (shown_tables d version_text [] old new rows
     (was_clean _ _ _ c.query_all.ensures.survives) stand clean shown) rows shown
-
-pub returns-in-Ok-clause-kept : goal.returns-in-Ok-clause-kept
-returns-in-Ok-clause-kept g c d stand =
-    shown_stands d version_text [] (state g.S.Store c.args.conn.now)
-    (state g.S.Store c.query_all.new.self) c.in-Ok.rows.items version_is.plain
-    (was_clean _ _ _ c.query_all.ensures.survives) c.in-Ok.ensures.ok stand
-
-pub returns-in-Err-clause-kept : goal.returns-in-Err-clause-kept
-returns-in-Err-clause-kept g c d stand =
-    failed_stands d version_text [] (state g.S.Store c.args.conn.now)
-    (state g.S.Store c.query_all.new.self) c.in-Err.field-0 version_is.plain
-    (was_clean _ _ _ c.query_all.ensures.survives) c.in-Err.ensures.err stand
 
 pub returns-in-Ok-clause-blank : goal.returns-in-Ok-clause-blank
 returns-in-Ok-clause-blank g c blank =
@@ -51,3 +40,15 @@ returns-in-Ok-clause-of_table g c has clean =
     table_rows version_text [] 0 [] version_shown [] version_is (state g.S.Store c.args.conn.now)
     (state g.S.Store c.query_all.new.self) (was_clean _ _ _ c.query_all.ensures.survives) has clean
     c.in-Ok.rows.items (c.in-Ok.ensures.ok clean)
+
+pub returns-in-Ok-clause-kept : goal.returns-in-Ok-clause-kept
+returns-in-Ok-clause-kept g c =
+    shown_spares version_text [] (state g.S.Store c.args.conn.now)
+    (state g.S.Store c.query_all.new.self) version_is.plain
+    (was_clean _ _ _ c.query_all.ensures.survives) c.in-Ok.rows.items c.in-Ok.ensures.ok
+
+pub returns-in-Err-clause-kept : goal.returns-in-Err-clause-kept
+returns-in-Err-clause-kept g c =
+    failed_spares version_text [] (state g.S.Store c.args.conn.now)
+    (state g.S.Store c.query_all.new.self) version_is.plain
+    (was_clean _ _ _ c.query_all.ensures.survives) c.in-Err.field-0 c.in-Err.ensures.err

@@ -1,5 +1,5 @@
 use Rattle.std.proofs.Common.{◌≡◌, Err, rules, subst, sym}
-use Rattle.store_core.specs.Making.{IsVersionRow}
+use Rattle.store_core.specs.Reading.{IsNumberRow}
 use Rattle.store_core.proofs.reads.version.version.Goals as goal
 
 pub returns-in_err-n-clause-mismatch : goal.returns-in_err-n-clause-mismatch
@@ -8,4 +8,4 @@ returns-in_err-n-clause-mismatch g c =
     rw is (λ wrong has clean.
     let it = c.in_err-n.ensures.mismatch wrong in
     let at = c.in_ok-rows.ensures.of_table has clean it.0 (rw c.as_slice.ensures.value at it.1) in
-    (at.0, at.1, λ is. it.2 (subst IsVersionRow (sym at.2) is)))
+    (at.1, at.2, λ is. it.2 (subst IsNumberRow (sym at.3) is)))

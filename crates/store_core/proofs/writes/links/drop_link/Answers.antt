@@ -13,5 +13,6 @@ returns-clause-dropped g c now was =
     let new = state g.S.Store c.run_on_one.new.tx.conn.now in
     if_done c.run_on_one.result drop_link_text (link_columns row) old new now
     (drop_link now row) was
-    (rw (c.number.ensures, c.link_kind.ensures, c.number-2.ensures) at c.run_on_one.ensures.ran)
+    (rw (c.number.ensures.bound, c.link_kind.ensures, c.number-2.ensures.bound) at
+    c.run_on_one.ensures.ran)
     c.run_on_one.ensures.honest (drops_link now row old new)

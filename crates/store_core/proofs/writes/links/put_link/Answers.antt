@@ -1,3 +1,4 @@
+use Rattle.std.proofs.Common.{arith, refl}
 use Rattle.sqlite.specs.Held.{state}
 use Rattle.store_core.specs.Contents.{add_link}
 use Rattle.store_core.specs.Queries.{add_link_text}
@@ -13,5 +14,11 @@ returns-clause-put g c now was =
     let old = state g.S.Store c.args.tx.now.conn.now in
     let new = state g.S.Store c.run.new.tx.conn.now in
     steps add_link_text (link_columns row) old new count now (add_link now row) was
-    (rw (c.number.ensures, c.link_kind.ensures, c.number-2.ensures) at c.in_ok-run.ensures.ran)
-    c.run.ensures.honest (adds_link now row old new count)
+    (rw (c.number.ensures.bound, c.link_kind.ensures, c.number-2.ensures.bound) at
+    c.in_ok-run.ensures.ran)
+    c.run.ensures.honest (adds_link now row old new count (record {
+      wide = omega arith;
+      source = c.number.ensures.value;
+      kind = (row.kind, refl);
+      target = c.number-2.ensures.value;
+    }))

@@ -1,3 +1,4 @@
+use Rattle.std.proofs.Common.{arith}
 use Rattle.sqlite.specs.Held.{state}
 use Rattle.store_core.specs.Contents.{add_queue}
 use Rattle.store_core.specs.Queries.{add_queue_text}
@@ -13,5 +14,11 @@ returns-clause-put g c now was =
     let old = state g.S.Store c.args.tx.now.conn.now in
     let new = state g.S.Store c.run.new.tx.conn.now in
     steps add_queue_text (queue_columns row) old new count now (add_queue now row) was
-    (rw (c.words.ensures, c.words-2.ensures, c.nullable.ensures) at c.in_ok-run.ensures.ran)
-    c.run.ensures.honest (adds_queue now row old new count)
+    (rw (c.words.ensures.bound, c.words-2.ensures.bound, c.nullable.ensures.bound) at
+    c.in_ok-run.ensures.ran)
+    c.run.ensures.honest (adds_queue now row old new count (record {
+      wide = omega arith;
+      name = c.words.ensures.value;
+      lifecycle = c.words-2.ensures.value;
+      level = c.nullable.ensures.value;
+    }))

@@ -13,5 +13,5 @@ returns-clause-put g c now was =
     let old = state g.S.Store c.args.tx.now.conn.now in
     let new = state g.S.Store c.run.new.tx.conn.now in
     steps add_request_text (request_shown row) old new count now (add_request now row) was
-    (rw c.shown.ensures at c.in_ok-run.ensures.ran)
-    c.run.ensures.honest (adds_request now row old new count)
+    (rw c.shown.ensures.bound at c.in_ok-run.ensures.ran)
+    c.run.ensures.honest (adds_request now row old new count c.shown.ensures.value)

@@ -13,5 +13,5 @@ returns-clause-set g c now was =
     let new = state g.S.Store c.run_on_one.new.tx.conn.now in
     if_done c.run_on_one.result set_request_text (request_shown row) old new now
     (set_request now row) was
-    (rw c.shown.ensures at c.run_on_one.ensures.ran)
-    c.run_on_one.ensures.honest (sets_request now row old new)
+    (rw c.shown.ensures.bound at c.run_on_one.ensures.ran)
+    c.run_on_one.ensures.honest (sets_request now row old new c.shown.ensures.value)

@@ -13,5 +13,5 @@ returns-clause-dropped g c now was =
     let new = state g.S.Store c.run_on_one.new.tx.conn.now in
     if_done c.run_on_one.result drop_watcher_text (watcher_columns row) old new now
     (drop_watcher now row) was
-    (rw (c.number.ensures, c.role.ensures, c.words.ensures) at c.run_on_one.ensures.ran)
+    (rw (c.number.ensures.bound, c.role.ensures, c.words.ensures.bound) at c.run_on_one.ensures.ran)
     c.run_on_one.ensures.honest (drops_watcher now row old new)

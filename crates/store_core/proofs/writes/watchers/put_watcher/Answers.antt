@@ -1,3 +1,4 @@
+use Rattle.std.proofs.Common.{arith, refl}
 use Rattle.sqlite.specs.Held.{state}
 use Rattle.store_core.specs.Contents.{add_watcher}
 use Rattle.store_core.specs.Queries.{add_watcher_text}
@@ -13,5 +14,10 @@ returns-clause-put g c now was =
     let old = state g.S.Store c.args.tx.now.conn.now in
     let new = state g.S.Store c.run.new.tx.conn.now in
     steps add_watcher_text (watcher_columns row) old new count now (add_watcher now row) was
-    (rw (c.number.ensures, c.role.ensures, c.words.ensures) at c.in_ok-run.ensures.ran)
-    c.run.ensures.honest (adds_watcher now row old new count)
+    (rw (c.number.ensures.bound, c.role.ensures, c.words.ensures.bound) at c.in_ok-run.ensures.ran)
+    c.run.ensures.honest (adds_watcher now row old new count (record {
+      wide = omega arith;
+      id = c.number.ensures.value;
+      role = (row.role, refl);
+      person = c.words.ensures.value;
+    }))
