@@ -1,5 +1,5 @@
 -- The laws hold of every step.
-use Rattle.std.proofs.Common.{◌≡◌, ◌⊎◌, inl, inr, ℕ, List, [], Option, Some, None, Result, Ok, Err}
+use Rattle.std.proofs.Common.{inl, inr, [], Option, Some, None, Err}
 use Rattle.std.proofs.Common.{IfOk, refl, subst, sym, append-nil}
 use Rattle.settings_core.specs.declared.settings.Settings.{Settings}
 use Rattle.desk_core.proofs.AsMissing.{hidden_law}

@@ -1,8 +1,9 @@
 -- A run goes on by one step.
 use Rattle.std.proofs.Common.{◌≡◌, ◌<◌, ◌≤◌, ◌+◌, ℕ, List, [], ◌∷◌, ◌++◌, ◌∙◌, String, ap}
-use Rattle.std.proofs.Common.{get_or, length, map, refl, string_bytes, subst, sym, take}
+use Rattle.std.proofs.Common.{IfErr, get_or, length, map, refl, string_bytes, subst, sym, take}
+use Rattle.std.proofs.Common.{true}
 use Rattle.std.proofs.lemmas.List.{map-append, take_more}
-use Rattle.sqlite.specs.State.{State, HasCleanDisk}
+use Rattle.sqlite.specs.State.{State}
 use Rattle.settings_core.specs.declared.settings.Settings.{Settings}
 use Rattle.desk_core.specs.Desk.{Desk}
 use Rattle.desk_core.specs.IsDesk.{IsDesk}
@@ -10,7 +11,8 @@ use Rattle.desk_core.specs.Step.{Ask, Outcome, RunsBy}
 use Rattle.desk_core.specs.declared.command.Command.{Command}
 use Rattle.store_core.proofs.FactsLemmasOfDesk.{take_all}
 use Rattle.store_core.specs.Calls.{WasClean}
-use Rattle.store_core.specs.Stands.{StandsFor}
+use Rattle.desk_core.specs.Refusals.{names_its_right}
+use Rattle.service_core.specs.Short.{AreNamed}
 use Rattle.service_core.specs.TableSteps.{IsStep, LeadsOn, RunsOn, StepsOn, ask_by}
 use Rattle.service_core.specs.TableSteps.{ask_of, asks_of}
 
@@ -88,3 +90,10 @@ all_asked s asked i outcomes old new all run =
     run_ends s (asks_of asked) outcomes old new
     (subst (λ (xs : List (ℕ × String _ × Command)). RunsSoFar s (map ask_of xs) outcomes old new)
     (take_all i asked all) run)
+
+-- one outcome more
+pub named_more : (outcomes : List Outcome) (outcome : Outcome) → AreNamed outcomes
+    → IfErr outcome (λ refusal. names_its_right refusal ≡ true)
+    → AreNamed (outcomes ++ outcome ∷ [])
+named_more [] outcome named one = (one, tt)
+named_more (o ∷ os) outcome named one = (named.0, named_more os outcome named.1 one)

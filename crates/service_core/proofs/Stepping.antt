@@ -1,13 +1,12 @@
 -- What is read or written of a command makes a step.
 use Rattle.std.proofs.Common.{◌≡◌, ◌≢◌, ◌⊎◌, ◌∙◌, ℕ, false, true, List, Option, Some, None, Result}
 use Rattle.std.proofs.Common.{Ok, Err, IfErr, IfOk, OnErr, OnOk, inl, inr, refl, ap, subst, sym}
-use Rattle.sqlite.specs.State.{State, HasCleanDisk}
+use Rattle.sqlite.specs.State.{State}
 use Rattle.settings_core.specs.declared.settings.Settings.{Settings}
 use Rattle.desk_core.proofs.Unchanged.{reads_nothing}
 use Rattle.desk_core.specs.Change.{applied}
 use Rattle.desk_core.specs.Commands.{IsReading, plan_of}
 use Rattle.desk_core.specs.Desk.{Desk}
-use Rattle.desk_core.specs.IsDesk.{IsDesk}
 use Rattle.desk_core.specs.Plan.{change_by}
 use Rattle.desk_core.specs.Reading.{answer_of}
 use Rattle.desk_core.specs.Step.{Ask, Outcome, Steps, call, desk_unless, effect, facts_of, guard}
@@ -24,10 +23,10 @@ use Rattle.store_core.specs.Calls.{Leaves, Tells}
 use Rattle.store_core.specs.Contents.{contents_of}
 use Rattle.store_core.specs.Stands.{StandsFor}
 use Rattle.store_core.specs.Written.{IsWritable}
-use Rattle.service_core.specs.Decided.{CarriesOut, IsDecided, StepsSeeing, StepsWhere}
+use Rattle.service_core.specs.Decided.{CarriesOut, IsDecided, StepsSeeing}
 use Rattle.service_core.specs.Decided.{Writes, answered}
 use Rattle.service_core.specs.Decided.{reads}
-use Rattle.service_core.specs.TableSteps.{IsStep, StepsOn, ask_by}
+use Rattle.service_core.specs.TableSteps.{StepsOn, ask_by}
 use Rattle.service_core.proofs.Laws.{lawful}
 
 abbrev IsUnavailable : Refusal → Type 0
@@ -229,6 +228,12 @@ pub decided_seeing : (facts : Facts) (change : Change) (s : Settings) (ask : Ask
     → StepsSeeing facts s ask outcome old new
 decided_seeing facts change s ask outcome old new accepts made carries desk is seen =
     carries desk is (decide_so facts change s ask desk seen (accepts desk seen).0 made)
+
+-- what leaves the tables leaves them at a fault
+pub left_by : {A E : Type 0} (r : Result A E) (old new : State) → Leaves old new
+    → OnErr r (Leaves old new)
+left_by (Ok a) old new left = tt
+left_by (Err e) old new left = left
 
 pub left_after : {X E : Type 0} (r : Result X E) (old mid new : State)
     → Leaves old mid → OnErr r (Leaves mid new) → OnErr r (Leaves old new)

@@ -1,5 +1,5 @@
 -- What it is that settings are attached to tables.
-use Rattle.std.specs.Prelude.{◌≡◌, ℕ, Bool, ◌&&◌, List}
+use Rattle.std.specs.Prelude.{◌≡◌, ◌⊎◌, ℕ, Bool, ◌&&◌, List}
 use Rattle.std.specs.List.{list_all}
 use Rattle.sqlite.specs.State.{State, HasCleanDisk}
 use Rattle.settings_core.specs.Settings.{knows}
@@ -10,14 +10,23 @@ use Rattle.desk_core.specs.Known.{is_known, knows_queue, knows_row}
 use Rattle.desk_core.specs.declared.rows.QueueRow.{QueueRow}
 use Rattle.desk_core.specs.declared.rows.RequestRow.{RequestRow}
 use Rattle.desk_core.specs.declared.rows.Watcher.{Watcher}
-use Rattle.store_core.specs.Contents.{history_at}
-use Rattle.store_core.specs.Stands.{StandsFor}
+use Rattle.store_core.specs.Contents.{Contents, history_at}
+use Rattle.store_core.specs.Stands.{Stand, StandsFor}
+use Rattle.store_core.specs.declared.fault.StoreFault.TheVariants.{Refused}
+use Rattle.service_core.specs.declared.fault.AttachFault.{AttachFault}
+use Rattle.service_core.specs.declared.fault.AttachFault.TheVariants.{Store, UnknownName}
 
 -- whether the settings know each name of whatever desk the tables stand for
 abbrev pub TellsKnown : Settings → State → State → Bool → Type 0
 TellsKnown settings old new known =
     (desk : Desk) → IsDesk desk → StandsFor desk old → HasCleanDisk new
     → is_known settings desk ≡ known
+
+-- over tables that hold values, the fault is an unknown name, or the store or memory refused it
+abbrev pub FailsOver : State → State → AttachFault → Type 0
+FailsOver old new fault =
+    (c : Contents) → Stand c old → HasCleanDisk new
+    → (fault ≡ UnknownName) ⊎ (fault ≡ Store Refused)
 
 -- ---- what is asked of the rows
 

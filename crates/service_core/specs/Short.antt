@@ -1,5 +1,6 @@
 -- Which answers are short: their texts have at most 64 bytes.
-use Rattle.std.specs.Prelude.{Bool, true, false, Ok, Err}
+use Rattle.std.specs.Prelude.{◌≡◌, Bool, true, false, IfErr, List, Ok, Err}
+use Rattle.std.specs.List.{AllByRecursion}
 use Rattle.desk_core.specs.Refusals.{names_its_right}
 use Rattle.desk_core.specs.Step.{Outcome}
 use Rattle.desk_core.specs.declared.answer.Answer.TheVariants.{Done, Created}
@@ -10,3 +11,7 @@ is_short (Ok Done) = true
 is_short (Ok (Created id)) = true
 is_short (Ok other) = false
 is_short (Err refusal) = names_its_right refusal
+
+-- the right that each refusal among these names is a right's name
+abbrev pub AreNamed : List Outcome → Type 0
+AreNamed = AllByRecursion (λ outcome. IfErr outcome (λ refusal. names_its_right refusal ≡ true))

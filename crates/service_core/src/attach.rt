@@ -2,11 +2,11 @@
 ghost use Rattle.std.specs.Prelude.{◌≡◌, ◌&&◌, false, true, IfErr, IfOk};
 ghost use Rattle.std.specs.List.{list_all};
 ghost use Rattle.desk_core.specs.Known as known;
-ghost use Rattle.store_core.specs.Calls.{Leaves, Tells, WasClean};
+ghost use Rattle.store_core.specs.Calls.{OnlyRefuses, Spares, Tells};
 ghost use Rattle.store_core.specs.Contents.{watchers};
 ghost use Rattle.store_core.specs.Seen.{state_of};
 ghost use Rattle.service_core.specs.Attaching as attaching;
-ghost use Rattle.service_core.specs.Attaching.{TellsKnown};
+ghost use Rattle.service_core.specs.Attaching.{FailsOver, TellsKnown};
 ghost use Rattle.service_core.specs.Seen.{settings_of, tables_of};
 
 use crate::desk::Desk;
@@ -19,9 +19,9 @@ use std::alloc::Global;
 use store_core::{Store, StoreFault};
 
 impl<S: Alter> Desk<S> {
-    /// The desk over these tables, with these settings. Answers `Store` where the tables can't be
-    /// read or memory is refused, and otherwise `UnknownName` where the settings lack a name of the
-    /// tables; the store is given back with either. The tables stay as they are.
+    /// The desk over these tables, with these settings. Answers `Store` where a row is no value of
+    /// its type, or the store or memory refuses it, and otherwise `UnknownName` where the settings
+    /// lack a name of the tables; the store is given back with either. The tables stay as they are.
     pub fn attach(
         alloc: Global,
         store: Store<S>,
@@ -30,16 +30,14 @@ impl<S: Alter> Desk<S> {
         ensures settings { IfOk result (λ desk. settings_of S.Store desk ≡ settings) }
         ensures known { IfOk result (λ desk.
             TellsKnown settings (state_of S.Store store) (tables_of S.Store desk) true) }
-        ensures kept { IfOk result (λ desk.
-            Leaves (state_of S.Store store) (tables_of S.Store desk)) }
-        ensures honest { IfOk result (λ desk.
-            WasClean (state_of S.Store store) (tables_of S.Store desk)) }
         ensures unknown { IfErr result (λ back. back.0 ≡ AttachFault.UnknownName
             → TellsKnown settings (state_of S.Store store) (state_of S.Store back.1) false) }
+        ensures kept { IfOk result (λ desk.
+            Spares (state_of S.Store store) (tables_of S.Store desk)) }
         ensures given_back { IfErr result (λ back.
-            Leaves (state_of S.Store store) (state_of S.Store back.1)) }
-        ensures clean_back { IfErr result (λ back.
-            WasClean (state_of S.Store store) (state_of S.Store back.1)) }
+            Spares (state_of S.Store store) (state_of S.Store back.1)) }
+        ensures fault { IfErr result (λ back.
+            FailsOver (state_of S.Store store) (state_of S.Store back.1) back.0) }
     {
         let mut store = store;
         match is_known(alloc, &mut store, &settings) {
@@ -51,6 +49,7 @@ impl<S: Alter> Desk<S> {
 }
 
 /// Whether the settings know each name of the tables. The tables stay as they are.
+#[tactic(auto, using(store_core::proofs::Spared::joined, store_core::proofs::Spared::stands))]
 fn is_known<S: Alter>(
     alloc: Global,
     store: &mut Store<S>,
@@ -58,8 +57,9 @@ fn is_known<S: Alter>(
 ) -> Result<bool, StoreFault>
     ensures told { Tells (λ desk found. known.is_known settings.now desk ≡ found)
         (state_of S.Store store.old) (state_of S.Store store.new) result }
-    ensures kept { Leaves (state_of S.Store store.old) (state_of S.Store store.new) }
-    ensures honest { WasClean (state_of S.Store store.old) (state_of S.Store store.new) }
+    ensures kept { Spares (state_of S.Store store.old) (state_of S.Store store.new) }
+    ensures fault { OnlyRefuses
+        (state_of S.Store store.old) (state_of S.Store store.new) result }
 {
     let requests = store.requests(alloc)?;
     let histories = knows_histories(alloc, store, settings, requests.as_slice())?;
@@ -69,6 +69,7 @@ fn is_known<S: Alter>(
 
 /// Whether the settings know each name in the lists of queues and watchers, and in these requests.
 /// The tables stay as they are.
+#[tactic(auto, using(store_core::proofs::Spared::joined, store_core::proofs::Spared::stands))]
 fn knows_lists<S: Alter>(
     alloc: Global,
     store: &mut Store<S>,
@@ -78,8 +79,9 @@ fn knows_lists<S: Alter>(
     ensures told { Tells (λ desk found. found
         ≡ attaching.knows_rows settings.now desk.queues requests.now (watchers desk))
         (state_of S.Store store.old) (state_of S.Store store.new) result }
-    ensures kept { Leaves (state_of S.Store store.old) (state_of S.Store store.new) }
-    ensures honest { WasClean (state_of S.Store store.old) (state_of S.Store store.new) }
+    ensures kept { Spares (state_of S.Store store.old) (state_of S.Store store.new) }
+    ensures fault { OnlyRefuses
+        (state_of S.Store store.old) (state_of S.Store store.new) result }
 {
     read_links(alloc, store)?;
     let queues = store.queues(alloc)?;
@@ -89,8 +91,9 @@ fn knows_lists<S: Alter>(
 
 /// Reads the links: they have no names, but each has to be one. The tables stay as they are.
 fn read_links<S: Alter>(alloc: Global, store: &mut Store<S>) -> Result<(), StoreFault>
-    ensures kept { Leaves (state_of S.Store store.old) (state_of S.Store store.new) }
-    ensures honest { WasClean (state_of S.Store store.old) (state_of S.Store store.new) }
+    ensures kept { Spares (state_of S.Store store.old) (state_of S.Store store.new) }
+    ensures fault { OnlyRefuses
+        (state_of S.Store store.old) (state_of S.Store store.new) result }
 {
     match store.links(alloc) {
         Ok(_) => Ok(()),
@@ -109,8 +112,9 @@ fn knows_histories<S: Alter>(
     ensures told { Tells (λ desk found. found
         ≡ list_all (λ r. attaching.knows_history settings.now desk r.id) requests.now)
         (state_of S.Store store.old) (state_of S.Store store.new) result }
-    ensures kept { Leaves (state_of S.Store store.old) (state_of S.Store store.new) }
-    ensures honest { WasClean (state_of S.Store store.old) (state_of S.Store store.new) }
+    ensures kept { Spares (state_of S.Store store.old) (state_of S.Store store.new) }
+    ensures fault { OnlyRefuses
+        (state_of S.Store store.old) (state_of S.Store store.new) result }
 {
     let mut known = true;
     for request in requests {
@@ -130,8 +134,9 @@ fn knows_history<S: Alter>(
 ) -> Result<bool, StoreFault>
     ensures told { Tells (λ desk found. found ≡ attaching.knows_history settings.now desk id)
         (state_of S.Store store.old) (state_of S.Store store.new) result }
-    ensures kept { Leaves (state_of S.Store store.old) (state_of S.Store store.new) }
-    ensures honest { WasClean (state_of S.Store store.old) (state_of S.Store store.new) }
+    ensures kept { Spares (state_of S.Store store.old) (state_of S.Store store.new) }
+    ensures fault { OnlyRefuses
+        (state_of S.Store store.old) (state_of S.Store store.new) result }
 {
     let entries = store.entries_of(alloc, id)?;
     Ok(knows_actors(settings, entries.as_slice()))

@@ -2,7 +2,7 @@
 ghost use Rattle.std.specs.Prelude.{◌≡◌, IfErr, IfOk, filter};
 ghost use Rattle.desk_core.specs.Facts.{facts_on_request};
 ghost use Rattle.desk_core.specs.Reading as reading;
-ghost use Rattle.store_core.specs.Calls.{Leaves, Tells, WasClean};
+ghost use Rattle.store_core.specs.Calls.{Spares, Tells};
 ghost use Rattle.store_core.specs.Seen.{state_of};
 ghost use Rattle.service_core.specs.Shown as shown;
 
@@ -34,6 +34,7 @@ impl End {
 
 /// The requests that one is linked with, as far as the caller may show them. `Unavailable` where
 /// memory or the store refused. The tables stay as they are.
+#[tactic(auto, using(store_core::proofs::Spared::joined))]
 pub(crate) fn links_of<S: Alter>(
     alloc: Global,
     store: &mut Store<S>,
@@ -44,8 +45,7 @@ pub(crate) fn links_of<S: Alter>(
     ensures told { Tells (λ desk links. links
         ≡ reading.links_of settings.now caller.now desk id)
         (state_of S.Store store.old) (state_of S.Store store.new) result }
-    ensures kept { Leaves (state_of S.Store store.old) (state_of S.Store store.new) }
-    ensures honest { WasClean (state_of S.Store store.old) (state_of S.Store store.new) }
+    ensures kept { Spares (state_of S.Store store.old) (state_of S.Store store.new) }
     ensures fault { IfErr result (λ refusal. refusal ≡ Refusal.Unavailable) }
 {
     let from = store.links_from(alloc, id)?;
@@ -68,8 +68,7 @@ fn shown_at<S: Alter>(
     ensures told { Tells (λ desk found. found.items
         ≡ filter (shown.is_shown_at settings.now caller.now desk end) links.now)
         (state_of S.Store store.old) (state_of S.Store store.new) result }
-    ensures kept { Leaves (state_of S.Store store.old) (state_of S.Store store.new) }
-    ensures honest { WasClean (state_of S.Store store.old) (state_of S.Store store.new) }
+    ensures kept { Spares (state_of S.Store store.old) (state_of S.Store store.new) }
     ensures fault { IfErr result (λ refusal. refusal ≡ Refusal.Unavailable) }
 {
     let mut found = Vec::new(alloc);
@@ -92,8 +91,7 @@ fn is_shown<S: Alter>(
 ) -> Result<bool, Refusal>
     ensures told { Tells (λ desk shown. shown ≡ reading.is_shown settings.now caller.now desk id)
         (state_of S.Store store.old) (state_of S.Store store.new) result }
-    ensures kept { Leaves (state_of S.Store store.old) (state_of S.Store store.new) }
-    ensures honest { WasClean (state_of S.Store store.old) (state_of S.Store store.new) }
+    ensures kept { Spares (state_of S.Store store.old) (state_of S.Store store.new) }
     ensures fault { IfErr result (λ refusal. refusal ≡ Refusal.Unavailable) }
 {
     let facts = facts_on(alloc, store, id)?;
@@ -104,8 +102,7 @@ fn is_shown<S: Alter>(
 fn facts_on<S: Alter>(alloc: Global, store: &mut Store<S>, id: u32) -> Result<Facts, Refusal>
     ensures told { Tells (λ desk facts. facts ≡ facts_on_request desk id)
         (state_of S.Store store.old) (state_of S.Store store.new) result }
-    ensures kept { Leaves (state_of S.Store store.old) (state_of S.Store store.new) }
-    ensures honest { WasClean (state_of S.Store store.old) (state_of S.Store store.new) }
+    ensures kept { Spares (state_of S.Store store.old) (state_of S.Store store.new) }
     ensures fault { IfErr result (λ refusal. refusal ≡ Refusal.Unavailable) }
 {
     let facts = store.facts_for(alloc, &Command::Show { id })?;

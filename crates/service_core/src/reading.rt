@@ -3,7 +3,7 @@ ghost use Rattle.std.specs.Prelude.{◌≡◌, ℕ, IfErr, IfOk, filter};
 ghost use Rattle.desk_core.specs.Reading as reading;
 ghost use Rattle.desk_core.specs.Rights as rights;
 ghost use Rattle.desk_core.specs.Step.{facts_of};
-ghost use Rattle.store_core.specs.Calls.{Leaves, Tells, WasClean};
+ghost use Rattle.store_core.specs.Calls.{Spares, Tells};
 ghost use Rattle.store_core.specs.Seen.{state_of};
 ghost use Rattle.service_core.specs.Shown as shown;
 
@@ -29,8 +29,7 @@ pub(crate) fn queues<S: Alter>(
     ensures told { Tells (λ desk answer. answer
         ≡ Answer.Queues (filter (rights.sees_queue settings.now caller.now) desk.queues))
         (state_of S.Store store.old) (state_of S.Store store.new) result }
-    ensures kept { Leaves (state_of S.Store store.old) (state_of S.Store store.new) }
-    ensures honest { WasClean (state_of S.Store store.old) (state_of S.Store store.new) }
+    ensures kept { Spares (state_of S.Store store.old) (state_of S.Store store.new) }
     ensures fault { IfErr result (λ refusal. refusal ≡ Refusal.Unavailable) }
 {
     let queues = store.queues(alloc)?;
@@ -69,8 +68,7 @@ pub(crate) fn show<S: Alter>(
     ensures told { (at id : ℕ) → Tells (λ desk answer. facts ≡ facts_of (Command.Show id) desk
         → answer ≡ reading.answer_of settings.now at caller.now (Command.Show id) desk)
         (state_of S.Store store.old) (state_of S.Store store.new) result }
-    ensures kept { Leaves (state_of S.Store store.old) (state_of S.Store store.new) }
-    ensures honest { WasClean (state_of S.Store store.old) (state_of S.Store store.new) }
+    ensures kept { Spares (state_of S.Store store.old) (state_of S.Store store.new) }
     ensures fault { IfErr result (λ refusal. refusal ≡ Refusal.Unavailable) }
 {
     let due = due_in(settings, &facts);
@@ -103,8 +101,7 @@ fn shown_to<S: Alter>(
     ensures told { Tells (λ desk answer. answer
         ≡ Answer.Shown (shown.shown_to settings.now caller.now due on desk))
         (state_of S.Store store.old) (state_of S.Store store.new) result }
-    ensures kept { Leaves (state_of S.Store store.old) (state_of S.Store store.new) }
-    ensures honest { WasClean (state_of S.Store store.old) (state_of S.Store store.new) }
+    ensures kept { Spares (state_of S.Store store.old) (state_of S.Store store.new) }
     ensures fault { IfErr result (λ refusal. refusal ≡ Refusal.Unavailable) }
 {
     let links = links_of(alloc, store, settings, caller, on.row.id)?;
@@ -137,8 +134,7 @@ pub(crate) fn history<S: Alter>(
     ensures told { (at id : ℕ) → Tells (λ desk answer. facts ≡ facts_of (Command.History id) desk
         → answer ≡ reading.answer_of settings.now at caller.now (Command.History id) desk)
         (state_of S.Store store.old) (state_of S.Store store.new) result }
-    ensures kept { Leaves (state_of S.Store store.old) (state_of S.Store store.new) }
-    ensures honest { WasClean (state_of S.Store store.old) (state_of S.Store store.new) }
+    ensures kept { Spares (state_of S.Store store.old) (state_of S.Store store.new) }
     ensures fault { IfErr result (λ refusal. refusal ≡ Refusal.Unavailable) }
 {
     match &facts.request {
@@ -158,8 +154,7 @@ fn told_to<S: Alter>(
     ensures told { Tells (λ desk answer. answer
         ≡ Answer.History (shown.told_to settings.now caller.now on.now desk))
         (state_of S.Store store.old) (state_of S.Store store.new) result }
-    ensures kept { Leaves (state_of S.Store store.old) (state_of S.Store store.new) }
-    ensures honest { WasClean (state_of S.Store store.old) (state_of S.Store store.new) }
+    ensures kept { Spares (state_of S.Store store.old) (state_of S.Store store.new) }
     ensures fault { IfErr result (λ refusal. refusal ≡ Refusal.Unavailable) }
 {
     let comments = on.may_show_comments(settings, caller);

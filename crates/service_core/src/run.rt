@@ -1,6 +1,7 @@
 //! A list of commands on the desk.
 ghost use Rattle.std.specs.Prelude.{◌≡◌, IfOk, OnErr};
 ghost use Rattle.store_core.specs.Calls.{WasClean};
+ghost use Rattle.service_core.specs.Short.{AreNamed};
 ghost use Rattle.service_core.specs.TableSteps.{RunsOn, asks_of};
 ghost use Rattle.service_core.specs.Seen.{settings_of, tables_of};
 
@@ -23,6 +24,7 @@ impl<S: Alter> Desk<S> {
         ensures run { IfOk result (λ outcomes. RunsOn (settings_of S.Store self.old)
             (asks_of asks.now) outcomes.items
             (tables_of S.Store self.old) (tables_of S.Store self.new)) }
+        ensures named { IfOk result (λ outcomes. AreNamed outcomes.items) }
         ensures err { OnErr result (self.new ≡ self.old) }
         ensures honest { WasClean (tables_of S.Store self.old) (tables_of S.Store self.new) }
         ensures same { settings_of S.Store self.new ≡ settings_of S.Store self.old }

@@ -1,30 +1,20 @@
-use Rattle.std.proofs.Common.{◌∙◌, ◌&&◌, ap, refl, sym}
+use Rattle.std.proofs.Common.{◌∙◌, ◌&&◌, ap, refl, sym, ◌≡◌, Err, rules}
+use Rattle.std.specs.Prelude.{⊤}
 use Rattle.store_core.specs.Contents.{contents_of, watchers}
 use Rattle.service_core.specs.Attaching.{knows_rows}
 use Rattle.service_core.proofs.KnownLemmas.{known_of_rows}
+use Rattle.store_core.specs.Seen.{state_of}
+use Rattle.store_core.proofs.RefusalLemmas.{requests_refuse}
+use Rattle.store_core.proofs.Spared.{stands}
 use Rattle.service_core.proofs.attach.is_known.Goals as goal
-
-pub returns-in_err-histories-clause-kept : goal.returns-in_err-histories-clause-kept
-returns-in_err-histories-clause-kept g c d stand =
-    c.knows_histories.ensures.kept d (c.requests.ensures.kept d stand)
-
-pub returns-in_err-lists-clause-kept : goal.returns-in_err-lists-clause-kept
-returns-in_err-lists-clause-kept g c d stand =
-    c.knows_lists.ensures.kept d
-    (c.knows_histories.ensures.kept d (c.requests.ensures.kept d stand))
-
-pub returns-clause-kept : goal.returns-clause-kept
-returns-clause-kept g c d stand =
-    c.knows_lists.ensures.kept d
-    (c.knows_histories.ensures.kept d (c.requests.ensures.kept d stand))
 
 pub returns-clause-told : goal.returns-clause-told
 returns-clause-told g c desk is stand clean =
     let d = contents_of desk in
-    let lists_clean = c.knows_lists.ensures.honest clean in
-    let rows_clean = c.knows_histories.ensures.honest lists_clean in
-    let after_requests = c.requests.ensures.kept d stand in
-    let after_histories = c.knows_histories.ensures.kept d after_requests in
+    let lists_clean = c.knows_lists.ensures.kept.clean clean in
+    let rows_clean = c.knows_histories.ensures.kept.clean lists_clean in
+    let after_requests = stands c.requests.ensures.kept d stand in
+    let after_histories = stands c.knows_histories.ensures.kept d after_requests in
     let listed = c.in_ok-requests.ensures.listed desk is stand rows_clean in
     known_of_rows c.args.settings.now desk _ _ _ _ is refl
     (c.as_slice.ensures.value ∙ listed) refl
@@ -34,3 +24,10 @@ returns-clause-told g c desk is stand clean =
     ∙ ap (λ b. c.in_ok-lists.lists && b)
     (sym (c.in_ok-histories.ensures.told desk is after_requests lists_clean))
     ∙ sym c.both.ensures
+
+pub returns-in_err-requests-clause-fault : goal.returns-in_err-requests-clause-fault
+returns-in_err-requests-clause-fault g c =
+    let is : c.from_residual.result ≡ Err c.in_err-requests.field-0.0 = search rules in
+    rw is (requests_refuse (state_of g.S.Store c.args.store.now)
+    (state_of g.S.Store c.requests.new.self) c.requests.ensures.kept.clean
+    {X = ⊤} (Err c.in_err-requests.field-0.0) c.in_err-requests.ensures.mismatch)

@@ -3,11 +3,8 @@ use Rattle.std.proofs.lemmas.List.Folds.{list_all_more}
 use Rattle.desk_core.specs.declared.rows.RequestRow.{RequestRow}
 use Rattle.store_core.specs.Contents.{contents_of}
 use Rattle.service_core.specs.Attaching.{knows_history}
+use Rattle.store_core.proofs.Spared.{joined, stands}
 use Rattle.service_core.proofs.attach.knows_histories.Goals as goal
-
-pub returns-in_err-of_request-clause-kept : goal.returns-in_err-of_request-clause-kept
-returns-in_err-of_request-clause-kept g c d stand =
-    c.knows_history.ensures.kept d (c.loop-request.invariant.kept d stand)
 
 pub loop-request-preserved : goal.loop-request-preserved
 loop-request-preserved g c =
@@ -18,12 +15,15 @@ loop-request-preserved g c =
           λ desk is stand clean.
           let is_known = λ (r : RequestRow). knows_history c.args.settings.now desk r.id in
           let told = c.in_ok-of_request.ensures.told desk is
-          (so_far.kept (contents_of desk) stand) clean in
+          (stands so_far.kept (contents_of desk) stand) clean in
           list_all_more is_known c.args.requests.now c.loop-request.request-index
           c.request-item.result c.loop-request-test.true
-          ∙ ap₂ ◌&&◌ (so_far.told desk is stand (one.honest clean))
+          ∙ ap₂ ◌&&◌ (so_far.told desk is stand (one.kept.clean clean))
           (ap is_known (sym c.request-item.is) ∙ sym told)
           ∙ sym c.both-known.ensures;
-      kept = λ d stand. one.kept d (so_far.kept d stand);
-      honest = λ clean. so_far.honest (one.honest clean);
+      kept = joined so_far.kept one.kept;
     }
+
+pub returns-in_err-of_request-clause-kept : goal.returns-in_err-of_request-clause-kept
+returns-in_err-of_request-clause-kept g c =
+    joined c.loop-request.invariant.kept c.knows_history.ensures.kept

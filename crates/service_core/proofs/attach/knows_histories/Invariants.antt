@@ -4,7 +4,7 @@ use Rattle.std.specs.List.{list_all}
 use Rattle.sqlite.specs.State.{HasCleanDisk}
 use Rattle.desk_core.specs.Desk.{Desk}
 use Rattle.desk_core.specs.IsDesk.{IsDesk}
-use Rattle.store_core.specs.Calls.{Leaves, WasClean}
+use Rattle.store_core.specs.Calls.{Spares}
 use Rattle.store_core.specs.Seen.{state_of}
 use Rattle.store_core.specs.Stands.{StandsFor}
 use Rattle.service_core.specs.Attaching.{knows_history}
@@ -18,6 +18,5 @@ invariant-loop-request g l =
           (desk : Desk) → IsDesk desk → StandsFor desk old → HasCleanDisk now
           → list_all (λ r. knows_history l.settings desk r.id)
           (take l.request-index l.requests) ≡ l.known;
-      kept : Leaves old now;
-      honest : WasClean old now;
+      kept : Spares old now;
     }

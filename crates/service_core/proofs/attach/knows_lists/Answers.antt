@@ -1,30 +1,37 @@
-use Rattle.std.proofs.Common.{◌∙◌, refl, sym}
+use Rattle.std.proofs.Common.{◌∙◌, refl, sym, ◌≡◌, Err, rules}
+use Rattle.std.specs.Prelude.{⊤}
 use Rattle.store_core.specs.Contents.{contents_of}
 use Rattle.service_core.proofs.KnownLemmas.{same_rows}
+use Rattle.store_core.specs.Seen.{state_of}
+use Rattle.store_core.proofs.RefusalLemmas.{queues_refuse, watchers_refuse}
+use Rattle.store_core.proofs.Spared.{stands}
 use Rattle.service_core.proofs.attach.knows_lists.Goals as goal
-
-pub returns-in_err-queues-clause-kept : goal.returns-in_err-queues-clause-kept
-returns-in_err-queues-clause-kept g c d stand =
-    c.queues.ensures.kept d (c.read_links.ensures.kept d stand)
-
-pub returns-in_err-watchers-clause-kept : goal.returns-in_err-watchers-clause-kept
-returns-in_err-watchers-clause-kept g c d stand =
-    c.watchers.ensures.kept d
-    (c.queues.ensures.kept d (c.read_links.ensures.kept d stand))
-
-pub returns-clause-kept : goal.returns-clause-kept
-returns-clause-kept g c d stand =
-    c.watchers.ensures.kept d
-    (c.queues.ensures.kept d (c.read_links.ensures.kept d stand))
 
 pub returns-clause-told : goal.returns-clause-told
 returns-clause-told g c desk is stand clean =
     let d = contents_of desk in
-    let queues_clean = c.watchers.ensures.honest clean in
-    let after_links = c.read_links.ensures.kept d stand in
-    let after_queues = c.queues.ensures.kept d after_links in
+    let queues_clean = c.watchers.ensures.kept.clean clean in
+    let after_links = stands c.read_links.ensures.kept d stand in
+    let after_queues = stands c.queues.ensures.kept d after_links in
     c.knows_rows.ensures
     ∙ sym (same_rows c.args.settings.now
     (c.as_slice.ensures.value ∙ c.in_ok-queues.ensures.listed desk is after_links queues_clean)
     refl
     (c.as_slice-2.ensures.value ∙ c.in_ok-watchers.ensures.listed desk is after_queues clean))
+
+pub returns-in_err-queues-clause-fault : goal.returns-in_err-queues-clause-fault
+returns-in_err-queues-clause-fault g c d stand =
+    let is : c.from_residual-in_err-queues.result ≡ Err c.in_err-queues.field-0.0 = search rules in
+    rw is (queues_refuse (state_of g.S.Store c.read_links.new.store)
+    (state_of g.S.Store c.queues.new.self) c.queues.ensures.kept.clean
+    {X = ⊤} (Err c.in_err-queues.field-0.0) c.in_err-queues.ensures.mismatch d
+    (stands c.read_links.ensures.kept d stand))
+
+pub returns-in_err-watchers-clause-fault : goal.returns-in_err-watchers-clause-fault
+returns-in_err-watchers-clause-fault g c d stand =
+    let is : c.from_residual-in_err-watchers.result ≡ Err c.in_err-watchers.field-0.0 =
+    search rules in
+    rw is (watchers_refuse (state_of g.S.Store c.queues.new.self)
+    (state_of g.S.Store c.watchers.new.self) c.watchers.ensures.kept.clean
+    {X = ⊤} (Err c.in_err-watchers.field-0.0) c.in_err-watchers.ensures.mismatch d
+    (stands c.queues.ensures.kept d (stands c.read_links.ensures.kept d stand)))

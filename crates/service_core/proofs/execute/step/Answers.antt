@@ -3,22 +3,23 @@ use Rattle.store_core.specs.Contents.{contents_of}
 use Rattle.store_core.specs.Seen.{state_of}
 use Rattle.service_core.specs.TableSteps.{ask_by}
 use Rattle.service_core.proofs.Stepping.{left_after, unavailable_on}
+use Rattle.store_core.proofs.Spared.{stands}
 use Rattle.service_core.proofs.execute.step.Goals as goal
 
 pub returns-in-Ok-clause-step : goal.returns-in-Ok-clause-step
 returns-in-Ok-clause-step g c desk is stand clean =
     c.decided.ensures.step desk is
     (c.in-Ok.ensures.told desk is stand (c.decided.ensures.honest clean))
-    (c.facts_for.ensures.kept (contents_of desk) stand) clean
+    (stands c.facts_for.ensures.kept (contents_of desk) stand) clean
 
 pub returns-in-Ok-clause-refused : goal.returns-in-Ok-clause-refused
 returns-in-Ok-clause-refused g c =
     left_after c.decided.result (state_of g.S.Store c.args.store.now)
     (state_of g.S.Store c.facts_for.new.self) (state_of g.S.Store c.decided.new.store)
-    c.facts_for.ensures.kept c.decided.ensures.refused
+    (stands c.facts_for.ensures.kept) c.decided.ensures.refused
 
 pub returns-in-Err-clause-step : goal.returns-in-Err-clause-step
 returns-in-Err-clause-step g c =
     unavailable_on c.args.settings.now (ask_by c.args.at c.args.caller.now c.args.command.now)
     c.from.result (state_of g.S.Store c.args.store.now) (state_of g.S.Store c.facts_for.new.self)
-    c.from.ensures c.facts_for.ensures.kept
+    c.from.ensures (stands c.facts_for.ensures.kept)

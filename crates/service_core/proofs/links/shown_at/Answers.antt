@@ -8,15 +8,8 @@ use Rattle.store_core.specs.Contents.{contents_of}
 use Rattle.service_core.specs.Shown.{is_shown_at}
 use Rattle.service_core.proofs.Linked.{filtered_more}
 use Rattle.service_core.proofs.links.shown_at.Goals as goal
+use Rattle.store_core.proofs.Spared.{stands, joined}
 use Rattle.service_core.proofs.links.shown_at.Goals.{then-shown+in_ok-push, else-shown}
-
-pub returns-in_err-shown-clause-kept : goal.returns-in_err-shown-clause-kept
-returns-in_err-shown-clause-kept g c d stand =
-    c.is_shown.ensures.kept d (c.loop-link.invariant.kept d stand)
-
-pub returns-in_err-push-clause-kept : goal.returns-in_err-push-clause-kept
-returns-in_err-push-clause-kept g c d stand =
-    c.is_shown.ensures.kept d (c.loop-link.invariant.kept d stand)
 
 pub loop-link-preserved : goal.loop-link-preserved
 loop-link-preserved g c =
@@ -40,11 +33,10 @@ loop-link-preserved g c =
           λ desk is stand clean.
           filtered_more (is_shown_at c.args.settings.now c.args.caller.now desk c.args.end)
           c.args.links.now c.loop-link.link-index first _ _ _ low
-          (c.in_ok-shown.ensures.told desk is (so_far.kept (contents_of desk) stand) clean
+          (c.in_ok-shown.ensures.told desk is (stands so_far.kept (contents_of desk) stand) clean
           ∙ ap (is_shown c.args.settings.now c.args.caller.now desk) c.number.ensures)
-          put (so_far.told desk is stand (shows.honest clean));
-      kept = λ d stand. shows.kept d (so_far.kept d stand);
-      honest = λ clean. so_far.honest (shows.honest clean);
+          put (so_far.told desk is stand (shows.kept.clean clean));
+      kept = joined so_far.kept shows.kept;
     }
 
 pub returns-clause-told : goal.returns-clause-told
@@ -52,3 +44,11 @@ returns-clause-told g c desk is stand clean =
     c.loop-link.invariant.told desk is stand clean
     ∙ ap (filter (is_shown_at c.args.settings.now c.args.caller.now desk c.args.end))
     (take_all c.loop-link.link-index c.args.links.now c.loop-link-test.false)
+
+pub returns-in_err-shown-clause-kept : goal.returns-in_err-shown-clause-kept
+returns-in_err-shown-clause-kept g c =
+    joined c.loop-link.invariant.kept c.is_shown.ensures.kept
+
+pub returns-in_err-push-clause-kept : goal.returns-in_err-push-clause-kept
+returns-in_err-push-clause-kept g c =
+    joined c.loop-link.invariant.kept c.is_shown.ensures.kept

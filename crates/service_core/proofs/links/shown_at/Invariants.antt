@@ -3,7 +3,7 @@ use Rattle.std.proofs.Common.{◌≡◌, filter, take}
 use Rattle.sqlite.specs.State.{HasCleanDisk}
 use Rattle.desk_core.specs.Desk.{Desk}
 use Rattle.desk_core.specs.IsDesk.{IsDesk}
-use Rattle.store_core.specs.Calls.{Leaves, WasClean}
+use Rattle.store_core.specs.Calls.{Spares}
 use Rattle.store_core.specs.Seen.{state_of}
 use Rattle.store_core.specs.Stands.{StandsFor}
 use Rattle.service_core.specs.Shown.{is_shown_at}
@@ -17,6 +17,5 @@ invariant-loop-link g l =
           (desk : Desk) → IsDesk desk → StandsFor desk old → HasCleanDisk now
           → l.found.items
           ≡ filter (is_shown_at l.settings l.caller desk l.end) (take l.link-index l.links);
-      kept : Leaves old now;
-      honest : WasClean old now;
+      kept : Spares old now;
     }

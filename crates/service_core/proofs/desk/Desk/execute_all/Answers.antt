@@ -1,7 +1,8 @@
 -- each step goes on with the run
-use Rattle.std.proofs.Common.{◌≡◌, ◌∙◌, ◌<◌, ◌++◌, ◌∷◌, [], length, refl, rules}
+use Rattle.std.proofs.Common.{◌≡◌, ◌∙◌, ◌<◌, ◌++◌, ◌∷◌, [], length, refl, rules, subst, sym}
 use Rattle.service_core.specs.Seen.{settings_of, tables_of}
-use Rattle.service_core.proofs.Running.{all_asked, run_begins, run_on}
+use Rattle.service_core.specs.Short.{AreNamed}
+use Rattle.service_core.proofs.Running.{all_asked, named_more, run_begins, run_on}
 use Rattle.service_core.proofs.desk.Desk.execute_all.Goals as goal
 
 pub loop-ask-init : goal.loop-ask-init
@@ -12,6 +13,7 @@ loop-ask-init g c =
           rw none
           (run_begins (settings_of g.S.Store c.args.self.now)
           (tables_of g.S.Store c.args.self.now));
+      named = rw none tt;
       honest = λ clean. clean;
       same = refl;
       room = search rules;
@@ -36,6 +38,9 @@ loop-ask-preserved g c =
           (tables_of g.S.Store c.execute-outcome.new.self)
           low pushed so_far.same c.ask-item.is c.as_str.ensures.value so_far.run
           step.honest step.step;
+      named =
+          subst AreNamed (sym pushed)
+          (named_more c.loop-ask.outcomes.items c.execute-outcome.result so_far.named step.named);
       honest = λ clean. so_far.honest (step.honest clean);
       same = step.same ∙ so_far.same;
       room = search rules;

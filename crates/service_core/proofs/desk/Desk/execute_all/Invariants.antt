@@ -2,6 +2,7 @@
 use Rattle.std.proofs.Common.{◌≡◌, ◌≤◌, length, map, take}
 use Rattle.std.specs.Vec.{vec_capacity, vec_len}
 use Rattle.store_core.specs.Calls.{WasClean}
+use Rattle.service_core.specs.Short.{AreNamed}
 use Rattle.service_core.specs.TableSteps.{ask_of}
 use Rattle.service_core.specs.Seen.{settings_of, tables_of}
 use Rattle.service_core.proofs.Running.{RunsSoFar}
@@ -13,6 +14,7 @@ invariant-loop-ask g l =
       run :
           RunsSoFar (settings_of g.S.Store l.fn.self) (map ask_of (take l.ask-index l.asks))
           l.outcomes.items (tables_of g.S.Store l.fn.self) (tables_of g.S.Store l.self);
+      named : AreNamed l.outcomes.items;
       honest : WasClean (tables_of g.S.Store l.fn.self) (tables_of g.S.Store l.self);
       same : settings_of g.S.Store l.self ≡ settings_of g.S.Store l.fn.self;
       room : length l.asks ≤ vec_capacity l.outcomes;
