@@ -1,12 +1,14 @@
 -- Lines over tables: where the desk is led by a line.
 use Rattle.std.proofs.Common.{◌≡◌, inl, inr, ℕ, true, false, List, Result, Ok, Err, IfErr, IfOk}
-use Rattle.std.proofs.Common.{◌≢◌, OnErr, refl}
+use Rattle.std.proofs.Common.{OnErr, ap, refl}
 use Rattle.sqlite.specs.State.{State, HasCleanDisk}
 use Rattle.settings_core.specs.declared.settings.Settings.{Settings}
 use Rattle.desk_core.specs.declared.command.Command.{Command}
 use Rattle.desk_core.specs.declared.refusal.Refusal.TheVariants.{Unavailable}
+use Rattle.store_core.specs.Contents.{contents_of}
 use Rattle.store_core.specs.Stands.{StandsFor}
-use Rattle.service_core.specs.Attaching.{TellsKnown}
+use Rattle.store_core.specs.declared.fault.StoreFault.TheVariants.{Refused}
+use Rattle.service_core.specs.Attaching.{FailsOver, TellsKnown}
 use Rattle.service_core.specs.Desk.{Desk, empty_desk}
 use Rattle.service_core.specs.IsDesk.{IsDesk}
 use Rattle.service_core.specs.Known.{is_known}
@@ -16,7 +18,7 @@ use Rattle.service_core.specs.Short.{is_short}
 use Rattle.service_core.specs.Step.{Outcome}
 use Rattle.service_core.specs.Texts.{outcome_text}
 use Rattle.service_core.specs.declared.fault.AttachFault.{AttachFault}
-use Rattle.service_core.specs.declared.fault.AttachFault.TheVariants.{UnknownName}
+use Rattle.service_core.specs.declared.fault.AttachFault.TheVariants.{Store, UnknownName}
 use Rattle.desk_program.specs.FaultLines.{attach_fault_text, unavailable_text}
 use Rattle.desk_program.specs.Script.{IsCommandsOutput, LineLeads, LinePrints, is_passed_over}
 use Rattle.desk_program.specs.Script.{line_of}
@@ -96,17 +98,24 @@ knows_empty : (s : Settings) → is_known s empty_desk ≡ true
 unfolding is_known
 knows_empty s = refl
 
-is_known_empty : (s : Settings) (fault : AttachFault) (old new : State)
-    → (fault ≡ UnknownName → TellsKnown s old new false) → StandsFor empty_desk old
-    → HasCleanDisk new → fault ≢ UnknownName
-is_known_empty s fault old new unknown empty clean e =
-    let no = unknown e empty_desk empty_is_desk empty clean in
-    let yes = knows_empty s in
-    cc
+-- where the settings aren't attached, it was refused
+refused_alone : (s : Settings) (fault : AttachFault) (old new : State)
+    → (fault ≡ UnknownName → TellsKnown s old new false) → FailsOver old new fault
+    → StandsFor empty_desk old → HasCleanDisk new → fault ≡ Store Refused
+refused_alone s fault old new unknown fails empty clean =
+    elim (fails (contents_of empty_desk) empty clean) [
+      | inl e ↦ absurd (let no = unknown e empty_desk empty_is_desk empty clean in
+          let yes = knows_empty s in cc)
+      | inr refused ↦ refused
+    ]
 
--- where the settings aren't attached, that is what is printed
+-- and that is what is printed
 pub not_attached : (s : Settings) (commands : List ℕ) (fault : AttachFault) (old new : State)
-    → (fault ≡ UnknownName → TellsKnown s old new false) → StandsFor empty_desk old
-    → HasCleanDisk new → IsCommandsOutput (Ok s) commands (attach_fault_text fault) 4
-not_attached s commands fault old new unknown empty clean =
-    inr (inr (fault, is_known_empty s fault old new unknown empty clean, refl), refl)
+    → (fault ≡ UnknownName → TellsKnown s old new false) → FailsOver old new fault
+    → StandsFor empty_desk old → HasCleanDisk new
+    → IsCommandsOutput (Ok s) commands (attach_fault_text fault) 4
+not_attached s commands fault old new unknown fails empty clean =
+    inr (
+      inr (ap attach_fault_text (refused_alone s fault old new unknown fails empty clean)),
+      refl,
+    )

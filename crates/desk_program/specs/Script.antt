@@ -1,6 +1,6 @@
 -- What a script prints, and the status that it ends with.
 use Rattle.std.specs.Prelude.{◌≡◌, ◌≤◌, ℕ, Bool, true, false, ◌==◌, List, [], ◌∷◌, ◌++◌, length}
-use Rattle.std.specs.Prelude.{◌⊎◌, ◌≢◌}
+use Rattle.std.specs.Prelude.{◌⊎◌}
 use Rattle.std.specs.Prelude.{Option, Some, None, IfSome, Result, Ok, Err, codes, if◌then◌else◌}
 use Rattle.std.specs.Str.Lines.{lines}
 use Rattle.sqlite.specs.Held.{Held, state}
@@ -9,14 +9,13 @@ use Rattle.sqlite.specs.Store.{Ghosts}
 use Rattle.settings_core.specs.declared.fault.SettingsFault.{SettingsFault}
 use Rattle.settings_core.specs.declared.settings.Settings.{Settings}
 use Rattle.desk_core.specs.declared.command.Command.{Command}
-use Rattle.store_core.specs.declared.fault.StoreFault.{StoreFault}
+use Rattle.store_core.specs.declared.fault.StoreFault.TheVariants.{Refused}
 use Rattle.service_core.specs.Desk.{Desk, empty_desk}
 use Rattle.service_core.specs.IsDesk.{IsDesk}
 use Rattle.service_core.specs.TableSteps.{LeadsOn}
 use Rattle.service_core.specs.Step.{Ask, Outcome, Runs, Steps}
 use Rattle.service_core.specs.Texts.{outcome_text}
-use Rattle.service_core.specs.declared.fault.AttachFault.{AttachFault}
-use Rattle.service_core.specs.declared.fault.AttachFault.TheVariants.{UnknownName}
+use Rattle.service_core.specs.declared.fault.AttachFault.TheVariants.{Store}
 use Rattle.wire_core.specs.Number.{number_of}
 use Rattle.wire_core.specs.Spelling.{command_of}
 use Rattle.wire_core.specs.Words.{words_of}
@@ -124,12 +123,10 @@ AnswersCommands settings commands text =
 
 -- ---- a script
 
--- The line where there is no desk for commands: its store isn't opened or its tables aren't made,
--- or the settings aren't attached. An empty desk has no name that settings could lack.
+-- The line where there is no desk for commands: memory is refused for its store, for its tables, or
+-- for reading them when the settings are attached. Nothing else can be wrong with an empty desk.
 abbrev pub IsNoDesk : List ℕ → Type 0
-IsNoDesk text =
-    ((fault : StoreFault) × (text ≡ store_fault_text fault))
-    ⊎ ((fault : AttachFault) × (fault ≢ UnknownName) × (text ≡ attach_fault_text fault))
+IsNoDesk text = (text ≡ store_fault_text Refused) ⊎ (text ≡ attach_fault_text (Store Refused))
 
 -- the text and the status of commands with settings, on an empty desk if there is one, or of the
 -- settings' fault

@@ -1,5 +1,5 @@
 -- the commands were run, or the store wasn't opened
-use Rattle.std.proofs.Common.{inl, inr, refl}
+use Rattle.std.proofs.Common.{ap, inl, inr, refl}
 use Rattle.sqlite.proofs.Callers.{memory_is_clean}
 use Rattle.desk_program.specs.FaultLines.{store_fault_text}
 use Rattle.desk_program.proofs.run.run_in_memory.Goals as goal
@@ -7,7 +7,7 @@ use Rattle.desk_program.proofs.run.run_in_memory.Goals as goal
 pub returns-in-Err-clause-printed : goal.returns-in-Err-clause-printed
 returns-in-Err-clause-printed g c = (
   store_fault_text c.in-Err.fault,
-  inr (inl (c.in-Err.fault, refl), refl),
+  inr (inl (ap store_fault_text c.in-Err.ensures.fault), refl),
   c.put_store_fault.ensures.printed,
 )
 

@@ -1,12 +1,16 @@
 -- the commands were run, or the tables weren't made
-use Rattle.std.proofs.Common.{inl, inr, refl}
+use Rattle.std.proofs.Common.{ap, inl, inr, refl}
 use Rattle.desk_program.specs.FaultLines.{store_fault_text}
 use Rattle.desk_program.proofs.run.run_in_store.Goals as goal
 
 pub returns-in-Err-clause-printed : goal.returns-in-Err-clause-printed
 returns-in-Err-clause-printed g c = (
   store_fault_text c.in-Err.fault,
-  inr (inl (c.in-Err.fault, refl), refl),
+  inr (
+    inl (ap store_fault_text ((c.in-Err.ensures.made c.requires.blank).2
+        (c.requires.clean c.create_schema.new.self.conn))),
+    refl,
+  ),
   c.put_store_fault.ensures.printed,
 )
 

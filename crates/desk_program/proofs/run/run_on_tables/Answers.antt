@@ -3,6 +3,7 @@ use Rattle.std.proofs.Common.{inl, refl, subst}
 use Rattle.settings_core.specs.declared.settings.Settings.{Settings}
 use Rattle.store_core.specs.Contents.{contents_of}
 use Rattle.store_core.specs.Seen.{state_of}
+use Rattle.store_core.proofs.Spared.{stands}
 use Rattle.service_core.specs.Desk.{empty_desk}
 use Rattle.desk_program.specs.Script.{AnswersCommands}
 use Rattle.desk_program.proofs.LedLines.{not_attached}
@@ -10,7 +11,7 @@ use Rattle.desk_program.proofs.run.run_on_tables.Goals as goal
 
 pub run_lines-requires-clause-empty : goal.run_lines-requires-clause-empty
 run_lines-requires-clause-empty g c =
-    c.in-Ok.ensures.kept (contents_of empty_desk) c.requires.empty
+    stands c.in-Ok.ensures.kept (contents_of empty_desk) c.requires.empty
 
 pub returns-in-Ok-clause-printed : goal.returns-in-Ok-clause-printed
 returns-in-Ok-clause-printed g c =
@@ -29,6 +30,7 @@ returns-clause-printed g c = (
   _,
   not_attached c.args.settings c.args.commands.now c.in-Err.fault
       (state_of g.S.Store c.args.store) (state_of g.S.Store c.in-Err.field-0-1)
-      c.in-Err.ensures.unknown c.requires.empty (c.requires.clean c.in-Err.field-0-1.conn),
+      c.in-Err.ensures.unknown c.in-Err.ensures.fault c.requires.empty
+      (c.requires.clean c.in-Err.field-0-1.conn),
   c.put_attach_fault.ensures.printed,
 )
