@@ -21,7 +21,7 @@ impl<S: Alter> Desk<S> {
     /// the refusal that is called for. A change is written in one transaction.
     ///
     /// `Unavailable` may come in place of any answer, where memory or the store refused. After a
-    /// refusal the tables are as they were.
+    /// refusal tables whose rows are values of their types are as they were.
     pub fn execute(
         &mut self,
         alloc: Global,

@@ -35,7 +35,8 @@ fn apply_change<S: Alter>(conn: &mut Connection<S>, change: &Change) -> Result<(
 impl<S: Alter> Store<S> {
     /// Writes a change, in one transaction. `Refused` where the store refuses a statement: where a
     /// row of the change is there already, where one that it sets or takes out isn't there, or
-    /// where the disk or memory fails. On a fault the tables stay as they are.
+    /// where the disk or memory fails. On a fault tables whose rows are
+    /// values of their types stay as they are.
     pub fn apply(&mut self, change: &Change) -> Result<(), StoreFault>
         ensures done { Applies change.now
             (state_of S.Store self.old) (state_of S.Store self.new) result }
