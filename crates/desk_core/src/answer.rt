@@ -3,7 +3,7 @@ use hours_core::Minute;
 use text_core::{Sequence, Texts};
 
 /// What an accepted command answers.
-#[derive(Clone, Debug, PartialEq, Eq, Drop)]
+#[derive(Drop)]
 pub enum Answer {
     /// It is done.
     Done,
@@ -18,7 +18,7 @@ pub enum Answer {
 }
 
 /// A request as a caller sees it.
-#[derive(Clone, Debug, PartialEq, Eq, Drop)]
+#[derive(Drop)]
 pub struct Shown {
     pub row: RequestRow,
     /// Its requestors, in the order of their bytes; and so are the next two lists.
@@ -31,7 +31,7 @@ pub struct Shown {
 }
 
 /// The numbers of the requests that one is linked with, each list rising.
-#[derive(Clone, Debug, PartialEq, Eq, Drop)]
+#[derive(Drop)]
 pub struct Links {
     pub depends_on: Sequence<u32>,
     pub depended_on_by: Sequence<u32>,

@@ -9,7 +9,7 @@ use text_core::{Text, Texts};
 
 /// What a caller asks of the desk. Names and texts are as they were given: a command may be refused
 /// for each.
-#[derive(Clone, Debug, PartialEq, Eq, Drop)]
+#[derive(Drop)]
 pub enum Command {
     /// Opens a queue whose requests follow a lifecycle and start with a level, if one is given.
     OpenQueue {

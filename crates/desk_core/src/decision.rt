@@ -1,6 +1,6 @@
 ghost use Rattle.text_core.specs.Form.{is_text};
 ghost use Rattle.std.specs.Prelude.{◌||◌, ◌≡◌, ◌≢◌, ◌+◌, ◌^◌, ◌<◌, true, false};
-ghost use Rattle.std.specs.Prelude.{if◌then◌else◌, IfOk, IfErr, OnOk, None, Some};
+ghost use Rattle.std.specs.Prelude.{if◌then◌else◌, IfOk, IfErr, OnOk, None, Some, [], ◌∷◌};
 ghost use Rattle.hours_core.specs.Moment.{is_moment};
 ghost use Rattle.rights_core.specs.Right.{own_ticket};
 ghost use Rattle.desk_core.specs.Change.{no_change};
@@ -22,7 +22,7 @@ use hours_core::{END, Minute};
 use rights_core::{Roles, right};
 use settings_core::Settings;
 use std::alloc::{AllocError, Global};
-use text_core::{Text, is_text};
+use text_core::{Sequence, Text, is_text};
 
 mod comment;
 mod create;
@@ -328,5 +328,21 @@ impl<'c> Context<'c> {
             head,
             body,
         })
+    }
+
+    /// The next entry after those that are there, alone.
+    fn one_entry(
+        &self,
+        on: &Standing,
+        kind: EntryKind,
+        head: Text,
+        body: Text,
+    ) -> Result<Sequence<Entry>, AllocError>
+        requires { on.now.entry_count + 1 < 2 ^ 32 }
+        ensures { IfOk result (λ noted. noted
+            ≡ entries.entry_of (call_of self.now) on.now 1 kind head body ∷ []) }
+    {
+        let entry = self.entry(on, 1, kind, head, body)?;
+        Ok(Sequence::from(vec![in self.alloc; entry]?))
     }
 }

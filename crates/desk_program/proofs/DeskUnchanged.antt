@@ -1,6 +1,6 @@
 -- A command that shows something leaves the desk as it was, and so may be left out of a run.
 use Rattle.std.proofs.Common.{◌≡◌, ◌∙◌, inl, inr, ℕ, ◌+◌, true, false, List, Option, Some, None, Ok}
-use Rattle.std.proofs.Common.{Err, IfErr, refl, subst, sym}
+use Rattle.std.proofs.Common.{Err, refl, subst, sym}
 use Rattle.std.specs.Prelude.{⊤}
 use Rattle.settings_core.specs.declared.settings.Settings.{Settings}
 use Rattle.desk_core.specs.declared.answer.Answer.{Answer}
@@ -13,7 +13,6 @@ use Rattle.service_core.specs.Change.{applied, no_change}
 use Rattle.service_core.specs.Desk.{Desk, request_count}
 use Rattle.service_core.specs.Plan.{change_of_request}
 use Rattle.service_core.specs.Reading.{answer_of}
-use Rattle.service_core.specs.Refusals.{names_its_right}
 use Rattle.service_core.specs.Short.{is_short}
 use Rattle.service_core.specs.Step.{Outcome, Steps, desk_unless, effect, facts_of, guard}
 use Rattle.service_core.specs.Step.{outcome_unless}
@@ -55,14 +54,14 @@ unchanged s at caller command old new x t (inr made) =
 
 -- what isn't told shortly is shown
 pub unchanged_if_long : (s : Settings) (at : ℕ) (caller : List ℕ) (command : Command)
-    (old new : Desk) (outcome : Outcome) → IfErr outcome (λ r. names_its_right r ≡ true)
+    (old new : Desk) (outcome : Outcome)
     → is_short outcome ≡ false → Steps s at caller command old outcome new → new ≡ old
-unchanged_if_long s at caller command old new (Err refusal) named long = absurd cc
-unchanged_if_long s at caller command old new (Ok answer.Done) named long = absurd cc
-unchanged_if_long s at caller command old new (Ok (answer.Created id)) named long = absurd cc
-unchanged_if_long s at caller command old new (Ok (answer.Queues queues)) named long =
+unchanged_if_long s at caller command old new (Err refusal) long = absurd cc
+unchanged_if_long s at caller command old new (Ok answer.Done) long = absurd cc
+unchanged_if_long s at caller command old new (Ok (answer.Created id)) long = absurd cc
+unchanged_if_long s at caller command old new (Ok (answer.Queues queues)) long =
     unchanged s at caller command old new (answer.Queues queues) tt
-unchanged_if_long s at caller command old new (Ok (answer.Shown x)) named long =
+unchanged_if_long s at caller command old new (Ok (answer.Shown x)) long =
     unchanged s at caller command old new (answer.Shown x) tt
-unchanged_if_long s at caller command old new (Ok (answer.History entries)) named long =
+unchanged_if_long s at caller command old new (Ok (answer.History entries)) long =
     unchanged s at caller command old new (answer.History entries) tt

@@ -1,5 +1,5 @@
 -- Lines over tables: where the desk is led by a line.
-use Rattle.std.proofs.Common.{◌≡◌, inl, inr, ℕ, true, false, List, Result, Ok, Err, IfErr, IfOk}
+use Rattle.std.proofs.Common.{◌≡◌, inl, inr, ℕ, true, false, List, Result, Ok, Err, IfOk}
 use Rattle.std.proofs.Common.{OnErr, ap, refl}
 use Rattle.sqlite.specs.State.{State, HasCleanDisk}
 use Rattle.settings_core.specs.declared.settings.Settings.{Settings}
@@ -13,7 +13,6 @@ use Rattle.service_core.specs.Desk.{Desk, empty_desk}
 use Rattle.service_core.specs.IsDesk.{IsDesk}
 use Rattle.service_core.specs.Known.{is_known}
 use Rattle.service_core.specs.TableSteps.{StepsOn, ask_by}
-use Rattle.service_core.specs.Refusals.{names_its_right}
 use Rattle.service_core.specs.Short.{is_short}
 use Rattle.service_core.specs.Step.{Outcome}
 use Rattle.service_core.specs.Texts.{outcome_text}
@@ -71,12 +70,12 @@ led_by_step s at caller command outcome old new text told steps desk formed stan
 
 -- a command that was done, and for whose text there was no memory
 pub left_out_if_long : (s : Settings) (at : ℕ) (caller : List ℕ) (command : Command)
-    (outcome : Outcome) (old new : State) → IfErr outcome (λ r. names_its_right r ≡ true)
+    (outcome : Outcome) (old new : State)
     → is_short outcome ≡ false → StepsOn s (ask_by at caller command) outcome old new
     → LineLeads s (Asked at caller command) unavailable_text old new
-left_out_if_long s at caller command outcome old new named long steps desk formed stands clean =
+left_out_if_long s at caller command outcome old new long steps desk formed stands clean =
     let done = steps desk formed stands clean in
-    let same = unchanged_if_long s at caller command desk done.0 outcome named long done.1.step in
+    let same = unchanged_if_long s at caller command desk done.0 outcome long done.1.step in
     (done.0, ((Err Unavailable, inl (refl, same), refl), done.1.formed), done.2)
 
 -- ---- the beginning

@@ -1,16 +1,22 @@
--- Which answers are short: their texts have at most 64 bytes.
-use Rattle.std.specs.Prelude.{◌≡◌, Bool, true, false, IfErr, List, Ok, Err}
+-- Which answers are short, and their texts: at most 64 bytes.
+use Rattle.std.specs.Prelude.{◌≡◌, ℕ, Bool, true, false, if◌then◌else◌, IfErr, List, [], Ok, Err}
 use Rattle.std.specs.List.{AllByRecursion}
 use Rattle.desk_core.specs.Refusals.{names_its_right}
 use Rattle.desk_core.specs.Step.{Outcome}
+use Rattle.service_core.specs.Texts.{outcome_text}
 use Rattle.desk_core.specs.declared.answer.Answer.TheVariants.{Done, Created}
 
--- what a command that changes the desk answers, or a refusal whose right is a right's name
+-- what a command that changes the desk answers, or a refusal
 abbrev pub is_short : Outcome → Bool
 is_short (Ok Done) = true
 is_short (Ok (Created id)) = true
 is_short (Ok other) = false
-is_short (Err refusal) = names_its_right refusal
+is_short (Err refusal) = true
+
+-- its text; nothing where a refusal names what isn't a right's name, which may be of any length
+abbrev pub short_text : Outcome → List ℕ
+short_text (Ok answer) = outcome_text (Ok answer)
+short_text (Err refusal) = if names_its_right refusal then outcome_text (Err refusal) else []
 
 -- the right that each refusal among these names is a right's name
 abbrev pub AreNamed : List Outcome → Type 0

@@ -9,7 +9,7 @@ use crate::refusal::Refusal;
 use crate::rows::EntryKind;
 use rights_core::right;
 use std::alloc::AllocError;
-use text_core::{Sequence, Text};
+use text_core::Text;
 
 impl Context<'_> {
     /// Comments on the request.
@@ -35,7 +35,7 @@ impl Context<'_> {
         ensures { MakesOn result (comment.change text.now) self.now on.now }
     {
         let empty = Text::new(self.alloc, "")?;
-        let entry = self.entry(on, 1, EntryKind::Comment, empty, text.clone()?)?;
-        Ok(Change::noting(self.alloc, Sequence::from(vec![in self.alloc; entry]?)))
+        let entries = self.one_entry(on, EntryKind::Comment, empty, text.clone()?)?;
+        Ok(Change::noting(self.alloc, entries))
     }
 }

@@ -1,4 +1,4 @@
-ghost use Rattle.std.specs.Prelude.{◌≡◌, map, IfOk, OnOk, ◌+◌, ◌^◌, ◌<◌};
+ghost use Rattle.std.specs.Prelude.{◌≡◌, map, IfOk, OnOk, ◌+◌, ◌^◌, ◌<◌, [], ◌∷◌};
 ghost use Rattle.std.specs.Option.{option_map};
 ghost use Rattle.std.specs.List.{list_all};
 ghost use Rattle.settings_core.specs.Settings.{knows};
@@ -93,8 +93,7 @@ impl Context<'_> {
         let first = first_status(lifecycle, status);
         let row = self.new_row(queue, subject, first)?;
         let watchers = self.requestors_of(row.id, requestors)?;
-        let entry = self.first_entry(row.id, first)?;
-        let entries = Sequence::from(vec![in self.alloc; entry]?);
+        let entries = self.first_entries(row.id, first)?;
         Ok(Change::filing(self.alloc, row, watchers, entries))
     }
 
@@ -123,12 +122,12 @@ impl Context<'_> {
         })
     }
 
-    /// The first entry of a request.
-    fn first_entry(&self, id: u32, status: &str) -> Result<Entry, AllocError>
-        ensures { IfOk result (λ entry.
-            entry ≡ create.first_entry id (call_of self.now) status.now) }
+    /// The first entry of a request, alone.
+    fn first_entries(&self, id: u32, status: &str) -> Result<Sequence<Entry>, AllocError>
+        ensures { IfOk result (λ entries.
+            entries ≡ create.first_entry id (call_of self.now) status.now ∷ []) }
     {
-        Ok(Entry {
+        let entry = Entry {
             id,
             number: 1,
             moment: self.moment,
@@ -136,7 +135,8 @@ impl Context<'_> {
             kind: EntryKind::Create,
             head: Text::new(self.alloc, "")?,
             body: Text::new(self.alloc, status)?,
-        })
+        };
+        Ok(Sequence::from(vec![in self.alloc; entry]?))
     }
 
     /// The persons given as requestors, each once, or the caller where none is given.

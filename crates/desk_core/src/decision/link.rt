@@ -9,7 +9,7 @@ use crate::refusal::Refusal;
 use crate::rows::{EntryKind, LinkKind, LinkRow};
 use rights_core::right;
 use std::alloc::{AllocError, Global};
-use text_core::{Sequence, Text};
+use text_core::Text;
 
 impl Context<'_> {
     /// Links the request with another one.
@@ -42,13 +42,12 @@ impl Context<'_> {
     {
         let head = Text::new(self.alloc, kind_word(kind))?;
         let body = in_digits(self.alloc, other)?;
-        let entry = self.entry(on, 1, EntryKind::Link, head, body)?;
+        let entries = self.one_entry(on, EntryKind::Link, head, body)?;
         let link = LinkRow {
             source: on.row.id,
             kind,
             target: other,
         };
-        let entries = Sequence::from(vec![in self.alloc; entry]?);
         Ok(Change::linking(self.alloc, link, entries))
     }
 }

@@ -93,17 +93,15 @@ impl Context<'_> {
             ≡ reply.entries_of text.now (call_of self.now) on.now reopened.now) }
     {
         let empty = Text::new(self.alloc, "")?;
-        let mut entries = Vec::new(self.alloc);
+        let text = text.clone()?;
         match reopened {
             Some(status) => {
-                entries.push(self.entry(on, 1, EntryKind::Reply, empty, text.clone()?)?)?;
-                entries.push(self.moving(on, 2, status)?)?;
+                let reply = self.entry(on, 1, EntryKind::Reply, empty, text)?;
+                let moving = self.moving(on, 2, status)?;
+                Ok(Sequence::from(vec![in self.alloc; reply, moving]?))
             }
-            None => {
-                entries.push(self.entry(on, 1, EntryKind::Reply, empty, text.clone()?)?)?;
-            }
+            None => self.one_entry(on, EntryKind::Reply, empty, text),
         }
-        Ok(Sequence::from(entries))
     }
 }
 

@@ -9,7 +9,7 @@ use crate::refusal::Refusal;
 use crate::rows::{EntryKind, RequestRow};
 use rights_core::right;
 use std::alloc::{AllocError, Global};
-use text_core::{Sequence, Text};
+use text_core::Text;
 
 impl Context<'_> {
     /// Gives the request another level, or none.
@@ -42,9 +42,8 @@ impl Context<'_> {
     {
         let old = level_word(self.alloc, &on.row.level)?;
         let new = level_word(self.alloc, level)?;
-        let entry = self.entry(on, 1, EntryKind::Level, old, new)?;
+        let entries = self.one_entry(on, EntryKind::Level, old, new)?;
         let row = with_level(&on.row, level)?;
-        let entries = Sequence::from(vec![in self.alloc; entry]?);
         Ok(Change::revising(self.alloc, row, entries))
     }
 }

@@ -1,7 +1,7 @@
-ghost use Rattle.std.specs.Prelude.{◌≡◌, ◌+◌, ◌^◌, ◌<◌, true, IfOk, IfErr};
+ghost use Rattle.std.specs.Prelude.{◌≡◌, ◌+◌, ◌^◌, ◌<◌, true, IfOk, IfErr, OnOk};
 ghost use Rattle.std.specs.Option.{option_map};
 ghost use Rattle.desk_core.specs.Commands.SetStatus as set_status;
-ghost use Rattle.desk_core.specs.Context.{call_of, DecidesOn};
+ghost use Rattle.desk_core.specs.Context.{call_of, DecidesOn, MakesOn, PassesOn};
 ghost use Rattle.desk_core.specs.Refusals.{names_its_right};
 
 use crate::change::Change;
@@ -24,6 +24,15 @@ impl Context<'_> {
             (set_status.change status.now) self.now on.now }
         ensures named { IfErr result (λ refusal. names_its_right refusal ≡ true) }
     {
+        self.ask_to_move(on, status)?;
+        Ok(self.moved(on, status)?)
+    }
+
+    fn ask_to_move(&self, on: &Standing, status: &Text) -> Result<(), Refusal>
+        ensures asks { PassesOn result (set_status.conditions status.now) self.now on.now }
+        ensures fits { OnOk result (on.now.entry_count + 1 < 2 ^ 32) }
+        ensures named { IfErr result (λ refusal. names_its_right refusal ≡ true) }
+    {
         let lifecycle = lifecycle_of(self.settings, &self.facts.queue);
         if !has_status(lifecycle, status) {
             return Err(Refusal::UnknownName);
@@ -40,9 +49,16 @@ impl Context<'_> {
         {
             return Err(Refusal::OpenDependency);
         }
-        self.ask_for_room(on, 1)?;
-        let entry = self.moving(on, 1, status)?;
+        self.ask_for_room(on, 1)
+    }
+
+    fn moved(&self, on: &Standing, status: &Text) -> Result<Change, AllocError>
+        requires { on.now.entry_count + 1 < 2 ^ 32 }
+        ensures { MakesOn result (set_status.change status.now) self.now on.now }
+    {
+        let lifecycle = lifecycle_of(self.settings, &self.facts.queue);
         let row = self.row_in_status(lifecycle, &on.row, status)?;
+        let entry = self.moving(on, 1, status)?;
         let entries = Sequence::from(vec![in self.alloc; entry]?);
         Ok(Change::revising(self.alloc, row, entries))
     }

@@ -10,7 +10,7 @@ use crate::refusal::Refusal;
 use crate::rows::{EntryKind, RequestRow};
 use rights_core::right;
 use std::alloc::{AllocError, Global};
-use text_core::{Sequence, Text};
+use text_core::Text;
 
 impl Context<'_> {
     /// Makes the caller the owner of a request that nobody owns.
@@ -50,9 +50,8 @@ impl Context<'_> {
     {
         let old = owner_word(self.alloc, &on.row.owner)?;
         let new = owner_word(self.alloc, &owner)?;
-        let entry = self.entry(on, 1, EntryKind::Owner, old, new)?;
+        let entries = self.one_entry(on, EntryKind::Owner, old, new)?;
         let row = with_owner(&on.row, owner)?;
-        let entries = Sequence::from(vec![in self.alloc; entry]?);
         Ok(Change::revising(self.alloc, row, entries))
     }
 }

@@ -10,7 +10,7 @@ use crate::refusal::Refusal;
 use crate::rows::{EntryKind, LinkKind, LinkRow};
 use rights_core::right;
 use std::alloc::AllocError;
-use text_core::{Sequence, Text};
+use text_core::Text;
 
 impl Context<'_> {
     /// Takes away the link of the request with another one.
@@ -45,13 +45,12 @@ impl Context<'_> {
     {
         let head = Text::new(self.alloc, kind_word(kind))?;
         let body = in_digits(self.alloc, other)?;
-        let entry = self.entry(on, 1, EntryKind::Unlink, head, body)?;
+        let entries = self.one_entry(on, EntryKind::Unlink, head, body)?;
         let link = LinkRow {
             source: on.row.id,
             kind,
             target: other,
         };
-        let entries = Sequence::from(vec![in self.alloc; entry]?);
         Ok(Change::unlinking(self.alloc, link, entries))
     }
 }

@@ -4,13 +4,13 @@ ghost use Rattle.desk_core.specs.Context.{DecidesOn, MakesOn, PassesOn};
 
 use crate::change::Change;
 use crate::decision::Context;
-use crate::decision::watch::{persons_in, role_word, watcher};
+use crate::decision::watch::{one_watcher, persons_in, role_word};
 use crate::facts::Standing;
 use crate::refusal::Refusal;
 use crate::rows::{EntryKind, WatchRole};
 use rights_core::right;
 use std::alloc::AllocError;
-use text_core::{Sequence, Text};
+use text_core::Text;
 
 impl Context<'_> {
     /// Takes a person out of a role on the request.
@@ -49,9 +49,8 @@ impl Context<'_> {
         ensures { MakesOn result (unwatch.change role person.now) self.now on.now }
     {
         let head = Text::new(self.alloc, role_word(role))?;
-        let entry = self.entry(on, 1, EntryKind::Unwatch, head, person.clone()?)?;
-        let taken = Sequence::from(vec![in self.alloc; watcher(on, role, person)?]?);
-        let entries = Sequence::from(vec![in self.alloc; entry]?);
+        let entries = self.one_entry(on, EntryKind::Unwatch, head, person.clone()?)?;
+        let taken = one_watcher(self.alloc, on, role, person)?;
         Ok(Change::taking(self.alloc, taken, entries))
     }
 }

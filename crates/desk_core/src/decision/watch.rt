@@ -1,4 +1,4 @@
-ghost use Rattle.std.specs.Prelude.{◌≡◌, ◌+◌, ◌^◌, ◌<◌, IfOk, OnOk};
+ghost use Rattle.std.specs.Prelude.{◌≡◌, ◌+◌, ◌^◌, ◌<◌, [], ◌∷◌, IfOk, OnOk};
 ghost use Rattle.desk_core.specs.Commands.Watch as watch;
 ghost use Rattle.desk_core.specs.Watchers as watchers;
 ghost use Rattle.desk_core.specs.Context.{call_of, DecidesOn, MakesOn, PassesOn};
@@ -9,7 +9,7 @@ use crate::facts::Standing;
 use crate::refusal::Refusal;
 use crate::rows::{EntryKind, WatchRole, Watcher};
 use rights_core::right;
-use std::alloc::AllocError;
+use std::alloc::{AllocError, Global};
 use text_core::{Sequence, Text, Texts};
 
 impl Context<'_> {
@@ -49,9 +49,8 @@ impl Context<'_> {
         ensures { MakesOn result (watch.change role person.now) self.now on.now }
     {
         let head = Text::new(self.alloc, role_word(role))?;
-        let entry = self.entry(on, 1, EntryKind::Watch, head, person.clone()?)?;
-        let put = Sequence::from(vec![in self.alloc; watcher(on, role, person)?]?);
-        let entries = Sequence::from(vec![in self.alloc; entry]?);
+        let entries = self.one_entry(on, EntryKind::Watch, head, person.clone()?)?;
+        let put = one_watcher(self.alloc, on, role, person)?;
         Ok(Change::putting(self.alloc, put, entries))
     }
 
@@ -65,15 +64,22 @@ impl Context<'_> {
     }
 }
 
-/// The person in the role on the request.
-pub(super) fn watcher(on: &Standing, role: WatchRole, person: &Text) -> Result<Watcher, AllocError>
-    ensures { IfOk result (λ watcher. watcher ≡ watchers.watcher on.now.row.id role person.now) }
+/// The person in the role on the request, alone.
+pub(super) fn one_watcher(
+    alloc: Global,
+    on: &Standing,
+    role: WatchRole,
+    person: &Text,
+) -> Result<Sequence<Watcher>, AllocError>
+    ensures { IfOk result (λ alone. alone
+        ≡ watchers.watcher on.now.row.id role person.now ∷ []) }
 {
-    Ok(Watcher {
+    let watcher = Watcher {
         id: on.row.id,
         role,
         person: person.clone()?,
-    })
+    };
+    Ok(Sequence::from(vec![in alloc; watcher]?))
 }
 
 pub(super) fn persons_in(role: WatchRole, on: &Standing) -> &Texts

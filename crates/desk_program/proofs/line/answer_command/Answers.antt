@@ -17,7 +17,7 @@ returns-in-Ok-clause-err g c =
     (λ long. left_out_if_long (settings_of g.S.Store c.args.desk.now) c.args.at
     c.args.caller.now c.args.command.now c.execute-outcome.result
     (tables_of g.S.Store c.args.desk.now) (tables_of g.S.Store c.execute-outcome.new.self)
-    c.execute-outcome.ensures.named long c.execute-outcome.ensures.step)
+    long c.execute-outcome.ensures.step)
 
 pub returns-in-Err-clause-err : goal.returns-in-Err-clause-err
 returns-in-Err-clause-err g c =
