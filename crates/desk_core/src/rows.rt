@@ -2,6 +2,7 @@ ghost use Rattle.std.specs.Prelude.{◌≡◌};
 ghost use Rattle.desk_core.specs.Reading.{is_comment};
 
 use hours_core::Minute;
+use std::alloc::AllocError;
 use text_core::Text;
 
 /// A queue, under its name.
@@ -22,7 +23,7 @@ pub enum Turn {
 }
 
 /// A request, under its number.
-#[derive(Clone, Debug, PartialEq, Eq, Drop)]
+#[derive(Debug, PartialEq, Eq, Drop)]
 pub struct RequestRow {
     pub id: u32,
     pub queue: Text,
@@ -37,6 +38,26 @@ pub struct RequestRow {
     pub turn: Turn,
     /// Since when it is that turn, or since it was last opened.
     pub since: Minute,
+}
+
+impl Clone for RequestRow {
+    ghost is_clone = { λ row copy. copy ≡ row };
+
+    fn clone(&self) -> Result<RequestRow, AllocError> {
+        let queue = self.queue.clone()?;
+        let subject = self.subject.clone()?;
+        let status = self.status.clone()?;
+        let owner = self.owner.clone()?;
+        let level = self.level.clone()?;
+        Ok(RequestRow {
+            queue,
+            subject,
+            status,
+            owner,
+            level,
+            ..*self
+        })
+    }
 }
 
 /// What a person is to a request besides its owner.

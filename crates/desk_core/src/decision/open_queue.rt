@@ -1,6 +1,7 @@
 ghost use Rattle.std.specs.Prelude.{◌≡◌};
 ghost use Rattle.desk_core.specs.Commands.OpenQueue as open_queue;
-ghost use Rattle.desk_core.specs.Context.{DecidesOnQueue};
+ghost use Rattle.desk_core.specs.Condition.{Passes};
+ghost use Rattle.desk_core.specs.Context.{call_of, DecidesOnQueue};
 ghost use Rattle.desk_core.specs.Known as known;
 
 use crate::change::Change;
@@ -15,7 +16,6 @@ const MAX_QUEUES: u32 = 1_000;
 
 impl Context<'_> {
     /// Opens a queue.
-    #[tactic(auto, unfolding(rights_core::specs::Right::admin_queue))]
     pub(super) fn open_queue(
         &self,
         name: &Text,
@@ -24,6 +24,25 @@ impl Context<'_> {
     ) -> Result<Change, Refusal>
         ensures { DecidesOnQueue result (open_queue.conditions name.now lifecycle.now level.now)
             (open_queue.change name.now lifecycle.now level.now) self.now }
+    {
+        self.ask_to_open(name, lifecycle, level)?;
+        let queue = QueueRow {
+            name: name.clone()?,
+            lifecycle: lifecycle.clone()?,
+            level: level.clone()?,
+        };
+        Ok(Change::opening(self.alloc, queue))
+    }
+
+    #[tactic(auto, unfolding(rights_core::specs::Right::admin_queue))]
+    fn ask_to_open(
+        &self,
+        name: &Text,
+        lifecycle: &Text,
+        level: &Option<Text>,
+    ) -> Result<(), Refusal>
+        ensures { Passes result (open_queue.conditions name.now lifecycle.now level.now
+            (call_of self.now) self.now.facts.now) }
     {
         if !is_name(name.as_str()) {
             return Err(Refusal::BadText);
@@ -38,12 +57,7 @@ impl Context<'_> {
         if self.facts.queue_count >= MAX_QUEUES {
             return Err(Refusal::Full);
         }
-        let queue = QueueRow {
-            name: name.clone()?,
-            lifecycle: lifecycle.clone()?,
-            level: level.clone()?,
-        };
-        Ok(Change::opening(self.alloc, queue))
+        Ok(())
     }
 
     /// Whether a level that is given is one of the settings.

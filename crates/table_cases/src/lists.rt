@@ -2,7 +2,7 @@
 
 use crate::changes::number;
 use crate::failure::Failure;
-use crate::tell;
+use crate::stores::tell;
 use desk_core::{Command, Facts, LinkKind, LinkRow, RequestRow, Turn, WatchRole};
 use sqlite::Alter;
 use store_core::{Store, StoreFault};

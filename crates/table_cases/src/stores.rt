@@ -1,50 +1,14 @@
-//! Cases of the tables: after a line `=== NAME` statements of SQL, which are run on a new database
-//! in memory, and after a line `---` calls of a store over it, a line each, which are written again
-//! with their answers. A line that isn't understood ends all.
-#![tactic(auto)]
-
-mod changes;
-mod failure;
-mod lists;
+//! Cases of a store: its calls.
 
 use crate::changes::{change_of, number};
 use crate::failure::Failure;
 use crate::lists::{entries, facts, links, queues, requests, watchers};
 use sqlite::{Alter, Connection, MemStore};
 use std::alloc::Global;
-use std::io::Read;
-use std::process::ExitCode;
 use store_core::{Store, StoreFault};
 
-/// What begins the name of a case.
-const BEGIN: &str = "=== ";
-
-/// What stands between statements and calls.
-const CALLS: &str = "---\n";
-
-fn main(rt: HostRuntime) -> ExitCode {
-    match run(&rt) {
-        Ok(()) => ExitCode::from(0),
-        Err(_) => ExitCode::from(1),
-    }
-}
-
-/// Answers each case of the standard input.
-fn run(rt: &HostRuntime) -> Result<(), Failure> {
-    let mut input = Vec::new(rt.alloc());
-    rt.reader().read_to_end(&mut input)?;
-    let text = str::from_utf8(input.as_slice()).unwrap_or("");
-    for case in text.split(BEGIN) {
-        if let Some((name, rest)) = case.split_once('\n') {
-            println!(rt; "{BEGIN}{name}")?;
-            let (statements, calls) = rest.split_once(CALLS).unwrap_or(("", rest));
-            run_case(rt, statements, calls)?;
-        }
-    }
-    Ok(())
-}
-
-fn run_case(rt: &HostRuntime, statements: &str, calls: &str) -> Result<(), Failure> {
+/// Answers each call of a store over the tables.
+pub(crate) fn run_case(rt: &HostRuntime, statements: &str, calls: &str) -> Result<(), Failure> {
     let mut store = opened(rt.alloc(), statements)?;
     for line in calls.lines() {
         answer(rt, &mut store, line)?;
@@ -57,12 +21,18 @@ fn opened(alloc: Global, statements: &str) -> Result<Store<MemStore>, Failure> {
     if statements.is_empty() {
         return Store::open_in_memory(alloc).map_err(|_| Failure::Statement);
     }
+    Ok(Store::adopt(database(alloc, statements)?))
+}
+
+/// A database in memory on which the statements were run.
+pub(crate) fn database(alloc: Global, statements: &str) -> Result<Connection<MemStore>, Failure> {
     let mut conn = Connection::open_in_memory(alloc)?;
     conn.execute_batch(statements)?;
-    if !conn.is_autocommit() {
-        return Err(Failure::BadLine);
+    if conn.is_autocommit() {
+        Ok(conn)
+    } else {
+        Err(Failure::BadLine)
     }
-    Ok(Store::adopt(conn))
 }
 
 /// Writes a call with its answer.

@@ -1,0 +1,34 @@
+//! Cases of a desk over tables.
+
+use crate::asks::asks_of;
+use crate::failure::Failure;
+use crate::stores::database;
+use crate::telling::{tell_given_back, tell_run};
+use service_core::Desk;
+use settings_core::Settings;
+use sqlite::MemStore;
+use std::alloc::Global;
+use store_core::Store;
+
+/// Attaches the settings to the tables, and asks all commands at once.
+pub(crate) fn run_case(
+    rt: &HostRuntime,
+    statements: &str,
+    settings: &str,
+    commands: &str,
+) -> Result<(), Failure> {
+    let asks = asks_of(rt.alloc(), commands)?;
+    let store = opened(rt.alloc(), statements)?;
+    let settings = Settings::read(rt.alloc(), settings.as_bytes()).map_err(|_| Failure::Settings)?;
+    match Desk::attach(rt.alloc(), store, settings) {
+        Ok(mut desk) => tell_run(rt, &mut desk, asks.as_slice()),
+        Err((fault, mut store)) => tell_given_back(rt, fault, &mut store),
+    }
+}
+
+/// A store with the tables of an empty desk, or with those that the statements make.
+fn opened(alloc: Global, statements: &str) -> Result<Store<MemStore>, Failure> {
+    let mut store = Store::adopt(database(alloc, statements)?);
+    store.create_schema().map_err(|_| Failure::Statement)?;
+    Ok(store)
+}

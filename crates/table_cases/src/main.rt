@@ -1,0 +1,74 @@
+//! Cases of the tables, and of the desk over them. After a line `=== NAME` stand statements of SQL,
+//! which are run on a new database in memory, and after a line `---` either
+//!
+//! - calls of a store, a line each, which are written again with their answers, or
+//! - a text of settings, and after a line `%%` commands, a line each: a moment, a caller and words.
+//!   The whole list is asked at once, and each outcome is written as its text. Where the settings
+//!   can't be attached, it is written why, and what the store holds that is given back.
+//!
+//! A line `<<NAME>>` in a case stands for the text that a part `=== <<NAME>>` gave before. A line
+//! that isn't understood ends all.
+#![tactic(auto)]
+
+mod asks;
+mod changes;
+mod desks;
+mod expansion;
+mod failure;
+mod lists;
+mod stores;
+mod telling;
+
+use crate::expansion::{Named, expanded};
+use crate::failure::Failure;
+use std::io::Read;
+use std::process::ExitCode;
+
+/// What begins the name of a case.
+const BEGIN: &str = "=== ";
+
+/// What stands after the statements.
+const ASKED: &str = "---\n";
+
+/// What stands between settings and commands.
+const COMMANDS: &str = "%%\n";
+
+fn main(rt: HostRuntime) -> ExitCode {
+    match run(&rt) {
+        Ok(()) => ExitCode::from(0),
+        Err(_) => ExitCode::from(1),
+    }
+}
+
+/// Answers each case of the standard input.
+fn run(rt: &HostRuntime) -> Result<(), Failure> {
+    let mut input = Vec::new(rt.alloc());
+    rt.reader().read_to_end(&mut input)?;
+    let text = str::from_utf8(input.as_slice()).unwrap_or("");
+    let mut named = Vec::new(rt.alloc());
+    for part in text.split(BEGIN) {
+        if let Some((name, text)) = part.split_once('\n') {
+            match name_of_text(name) {
+                Some(name) => named.push(Named { name, text })?,
+                None => answer(rt, named.as_slice(), name, text)?,
+            }
+        }
+    }
+    Ok(())
+}
+
+/// The name of a text for later cases, where the part has one.
+fn name_of_text(name: &str) -> Option<&str> {
+    name.strip_prefix("<<")?.strip_suffix(">>")
+}
+
+/// Writes the name of a case, and what comes of it.
+fn answer(rt: &HostRuntime, named: &[Named<'_>], name: &str, text: &str) -> Result<(), Failure> {
+    println!(rt; "{BEGIN}{name}")?;
+    let case = expanded(rt.alloc(), named, text)?;
+    let (statements, asked) = case.as_str().split_once(ASKED).ok_or(Failure::BadLine)?;
+    match asked.split_once(COMMANDS) {
+        Some((settings, commands)) => desks::run_case(rt, statements, settings, commands),
+        None => stores::run_case(rt, statements, asked),
+    }
+}
