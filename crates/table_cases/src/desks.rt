@@ -2,7 +2,7 @@
 
 use crate::asks::asks_of;
 use crate::failure::Failure;
-use crate::stores::database;
+use crate::stores::adopted;
 use crate::telling::{tell_given_back, tell_run};
 use service_core::Desk;
 use settings_core::Settings;
@@ -28,7 +28,7 @@ pub(crate) fn run_case(
 
 /// A store with the tables of an empty desk, or with those that the statements make.
 fn opened(alloc: Global, statements: &str) -> Result<Store<MemStore>, Failure> {
-    let mut store = Store::adopt(database(alloc, statements)?);
+    let mut store = adopted(alloc, statements)?;
     store.create_schema().map_err(|_| Failure::Statement)?;
     Ok(store)
 }

@@ -21,18 +21,17 @@ fn opened(alloc: Global, statements: &str) -> Result<Store<MemStore>, Failure> {
     if statements.is_empty() {
         return Store::open_in_memory(alloc).map_err(|_| Failure::Statement);
     }
-    Ok(Store::adopt(database(alloc, statements)?))
+    adopted(alloc, statements)
 }
 
-/// A database in memory on which the statements were run.
-pub(crate) fn database(alloc: Global, statements: &str) -> Result<Connection<MemStore>, Failure> {
+/// A store over a database in memory on which the statements were run.
+pub(crate) fn adopted(alloc: Global, statements: &str) -> Result<Store<MemStore>, Failure> {
     let mut conn = Connection::open_in_memory(alloc)?;
     conn.execute_batch(statements)?;
-    if conn.is_autocommit() {
-        Ok(conn)
-    } else {
-        Err(Failure::BadLine)
+    if !conn.is_autocommit() {
+        return Err(Failure::BadLine);
     }
+    Ok(Store::adopt(conn))
 }
 
 /// Writes a call with its answer.
