@@ -1,5 +1,5 @@
 -- A command that shows something leaves the desk as it was, and so may be left out of a run.
-use Rattle.std.proofs.Common.{◌≡◌, ◌∙◌, inl, inr, ℕ, ◌+◌, true, false, List, Option, Some, None, Ok}
+use Rattle.std.proofs.Common.{◌≡◌, ◌∙◌, inl, inr, ℕ, ◌+◌, false, List, Option, Some, None, Ok}
 use Rattle.std.proofs.Common.{Err, refl, subst, sym}
 use Rattle.std.specs.Prelude.{⊤}
 use Rattle.settings_core.specs.declared.settings.Settings.{Settings}
