@@ -1,20 +1,22 @@
 //! Short answers, put after other bytes without taking memory.
 ghost use Rattle.std.specs.Prelude.{◌≡◌, ◌++◌, ◌+◌, ◌≤◌, true, length, decimal};
-ghost use Rattle.desk_core.specs.Refusals as refusals;
 ghost use Rattle.std.specs.Vec.{vec_capacity, vec_len};
+ghost use Rattle.service_core.specs.Short as short;
 ghost use Rattle.service_core.specs.Short.{is_short, short_text};
 ghost use Rattle.service_core.specs.Texts as text;
 
 use desk_core::{Answer, Refusal};
 use itoa::Buffer;
-use text_core::is_right_name;
 
 /// Room for any short answer, in bytes.
 pub const SHORT_TEXT: usize = 64;
 
+/// The most bytes that a right's name has.
+const LONGEST_RIGHT: usize = 32;
+
 /// Puts the text of `Done`, of `Created` or of a refusal at the end, where there is room for 64
-/// bytes. Takes no memory. Where the right of `Denied` isn't a right's name, as `decide` and
-/// `execute` give it, its text might be longer: nothing is put.
+/// bytes. Takes no memory. Where the right of `Denied` has more than 32 bytes, which no right of
+/// `decide` or `execute` has, its text might be longer than that: nothing is put.
 pub fn put_short(outcome: &Result<Answer, Refusal>, out: &mut Vec<u8>)
     requires short { is_short outcome.now ≡ true }
     requires room { vec_len out.old + 64 ≤ vec_capacity out.old }
@@ -23,17 +25,17 @@ pub fn put_short(outcome: &Result<Answer, Refusal>, out: &mut Vec<u8>)
     match outcome {
         Ok(Answer::Created(id)) => put_created(out, *id),
         Ok(_) => put(out, "ok\n"),
-        Err(refusal) if names_its_right(refusal) => put_refusal(out, refusal),
+        Err(refusal) if is_short_refusal(refusal) => put_refusal(out, refusal),
         Err(_) => (),
     }
 }
 
-/// Whether a right that the refusal names is a right's name, and so a short one.
-fn names_its_right(refusal: &Refusal) -> bool
-    ensures { result ≡ refusals.names_its_right refusal.now }
+/// Whether a right that the refusal names is no longer than a right's name can be.
+fn is_short_refusal(refusal: &Refusal) -> bool
+    ensures { result ≡ short.is_short_refusal refusal.now }
 {
     match refusal {
-        Refusal::Denied(right) => is_right_name(right.as_str()),
+        Refusal::Denied(right) => right.as_str().len() <= LONGEST_RIGHT,
         _ => true,
     }
 }
@@ -48,7 +50,7 @@ fn put_created(out: &mut Vec<u8>, id: u32)
 }
 
 fn put_refusal(out: &mut Vec<u8>, refusal: &Refusal)
-    requires short { refusals.names_its_right refusal.now ≡ true }
+    requires short { short.is_short_refusal refusal.now ≡ true }
     requires room { vec_len out.old + 64 ≤ vec_capacity out.old }
     ensures { out.new.items ≡ out.old.items ++ text.refusal_text refusal.now }
 {
