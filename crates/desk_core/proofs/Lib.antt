@@ -8,7 +8,6 @@ pub mod Goes
 pub mod Kept
 pub mod NamedRights
 pub mod NamesLaw
-pub mod Placing
 pub mod Rising
 pub mod Roles
 pub mod Unchanged

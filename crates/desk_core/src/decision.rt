@@ -312,18 +312,21 @@ impl<'c> Context<'c> {
         on: &Standing,
         number: u32,
         kind: EntryKind,
-        head: Text,
-        body: Text,
+        head: &str,
+        body: &str,
     ) -> Result<Entry, AllocError>
         requires { on.now.entry_count + number < 2 ^ 32 }
         ensures { IfOk result (λ entry. entry
-            ≡ entries.entry_of (call_of self.now) on.now number kind head body) }
+            ≡ entries.entry_of (call_of self.now) on.now number kind head.now body.now) }
     {
+        let actor = Text::new(self.alloc, self.caller)?;
+        let head = Text::new(self.alloc, head)?;
+        let body = Text::new(self.alloc, body)?;
         Ok(Entry {
             id: on.row.id,
             number: on.entry_count + number,
             moment: self.moment,
-            actor: Text::new(self.alloc, self.caller)?,
+            actor,
             kind,
             head,
             body,
@@ -335,12 +338,12 @@ impl<'c> Context<'c> {
         &self,
         on: &Standing,
         kind: EntryKind,
-        head: Text,
-        body: Text,
+        head: &str,
+        body: &str,
     ) -> Result<Sequence<Entry>, AllocError>
         requires { on.now.entry_count + 1 < 2 ^ 32 }
         ensures { IfOk result (λ noted. noted
-            ≡ entries.entry_of (call_of self.now) on.now 1 kind head body ∷ []) }
+            ≡ entries.entry_of (call_of self.now) on.now 1 kind head.now body.now ∷ []) }
     {
         let entry = self.entry(on, 1, kind, head, body)?;
         Ok(Sequence::from(vec![in self.alloc; entry]?))

@@ -26,7 +26,6 @@ pub use decision::decide;
 pub use due::due_of;
 pub use facts::{Dependency, Facts, Standing};
 pub use links::{is_kind, is_link, is_lower_link};
-pub use names::{with_name, without_name};
 pub use refusal::Refusal;
 pub use rights::{may_show, sees_queue};
 pub use rows::{

@@ -43,6 +43,10 @@ conditions queue subject status requestors call facts =
     ∷ (Full, nat_le (request_limit call.settings) facts.request_count)
     ∷ []
 
+-- the level that a queue's requests start with
+abbrev pub first_level : Option QueueRow → Option (List ℕ)
+first_level there = option_and_then (λ q. q.level) there
+
 -- a request as it is filed: nobody owns it, it has its queue's level, and it is the desk's turn
 abbrev pub new_row : ℕ → ℕ → List ℕ → List ℕ → List ℕ → Option QueueRow → RequestRow
 new_row id at queue subject status there =
@@ -52,7 +56,7 @@ new_row id at queue subject status there =
       subject = subject;
       status = status;
       owner = None;
-      level = option_and_then (λ q. q.level) there;
+      level = first_level there;
       created = at;
       opened = at;
       turn = turn.Desk;

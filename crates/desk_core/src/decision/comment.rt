@@ -34,8 +34,7 @@ impl Context<'_> {
         requires { on.now.entry_count + 1 < 2 ^ 32 }
         ensures { MakesOn result (comment.change text.now) self.now on.now }
     {
-        let empty = Text::new(self.alloc, "")?;
-        let entries = self.one_entry(on, EntryKind::Comment, empty, text.clone()?)?;
+        let entries = self.one_entry(on, EntryKind::Comment, "", text.as_str())?;
         Ok(Change::noting(self.alloc, entries))
     }
 }

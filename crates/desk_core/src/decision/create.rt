@@ -91,25 +91,27 @@ impl Context<'_> {
     {
         let lifecycle = lifecycle_of(self.settings, &self.facts.queue);
         let first = first_status(lifecycle, status);
-        let row = self.new_row(queue, subject, first)?;
-        let watchers = self.requestors_of(row.id, requestors)?;
-        let entries = self.first_entries(row.id, first)?;
+        let id = self.facts.request_count + 1;
+        let watchers = self.requestors_of(id, requestors)?;
+        let entries = self.first_entries(id, first)?;
+        let row = self.new_row(id, queue, subject, first)?;
         Ok(Change::filing(self.alloc, row, watchers, entries))
     }
 
-    /// The row of the next request.
-    fn new_row(&self, queue: &Text, subject: &Text, status: &str) -> Result<RequestRow, AllocError>
-        requires { self.now.facts.now.request_count + 1 < 2 ^ 32 }
-        ensures { IfOk result (λ row. row
-            ≡ create.new_row (self.now.facts.now.request_count + 1) self.now.moment
+    /// The row of a new request.
+    fn new_row(
+        &self,
+        id: u32,
+        queue: &Text,
+        subject: &Text,
+        status: &str,
+    ) -> Result<RequestRow, AllocError>
+        ensures { IfOk result (λ row. row ≡ create.new_row id self.now.moment
             queue.now subject.now status.now self.now.facts.now.queue) }
     {
-        let level = match &self.facts.queue {
-            Some(there) => there.level.clone()?,
-            None => None,
-        };
+        let level = self.first_level()?;
         Ok(RequestRow {
-            id: self.facts.request_count + 1,
+            id,
             queue: queue.clone()?,
             subject: subject.clone()?,
             status: Text::new(self.alloc, status)?,
@@ -120,6 +122,17 @@ impl Context<'_> {
             turn: Turn::Desk,
             since: self.moment,
         })
+    }
+
+    /// The level that the queue's requests start with.
+    fn first_level(&self) -> Result<Option<Text>, AllocError>
+        ensures { IfOk result (λ level. level
+            ≡ create.first_level self.now.facts.now.queue) }
+    {
+        match &self.facts.queue {
+            Some(queue) => queue.level.clone(),
+            None => Ok(None),
+        }
     }
 
     /// The first entry of a request, alone.

@@ -16,7 +16,7 @@ impl Context<'_> {
             self.now on.now }
     {
         self.ask_to_give(on, person)?;
-        Ok(self.giving_owner(Some(person.clone()?), on)?)
+        Ok(self.giving_owner(Some(person.as_str()), on)?)
     }
 
     #[tactic(auto, unfolding(rights_core::specs::Right::reassign_ticket))]

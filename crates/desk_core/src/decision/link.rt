@@ -40,9 +40,8 @@ impl Context<'_> {
         requires { on.now.entry_count + 1 < 2 ^ 32 }
         ensures { MakesOn result (link.change kind other) self.now on.now }
     {
-        let head = Text::new(self.alloc, kind_word(kind))?;
-        let body = in_digits(self.alloc, other)?;
-        let entries = self.one_entry(on, EntryKind::Link, head, body)?;
+        let number = in_digits(self.alloc, other)?;
+        let entries = self.one_entry(on, EntryKind::Link, kind_word(kind), number.as_str())?;
         let link = LinkRow {
             source: on.row.id,
             kind,

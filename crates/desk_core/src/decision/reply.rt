@@ -49,8 +49,8 @@ impl Context<'_> {
         ensures { MakesOn result (reply.change text.now) self.now on.now }
     {
         let reopened = self.move_of(on)?;
-        let row = self.replied_row(on, &reopened)?;
         let entries = self.entries_of_reply(on, text, &reopened)?;
+        let row = self.replied_row(on, &reopened)?;
         Ok(Change::revising(self.alloc, row, entries))
     }
 
@@ -92,15 +92,13 @@ impl Context<'_> {
         ensures { IfOk result (λ entries. entries
             ≡ reply.entries_of text.now (call_of self.now) on.now reopened.now) }
     {
-        let empty = Text::new(self.alloc, "")?;
-        let text = text.clone()?;
         match reopened {
             Some(status) => {
-                let reply = self.entry(on, 1, EntryKind::Reply, empty, text)?;
+                let reply = self.entry(on, 1, EntryKind::Reply, "", text.as_str())?;
                 let moving = self.moving(on, 2, status)?;
                 Ok(Sequence::from(vec![in self.alloc; reply, moving]?))
             }
-            None => self.one_entry(on, EntryKind::Reply, empty, text),
+            None => self.one_entry(on, EntryKind::Reply, "", text.as_str()),
         }
     }
 }

@@ -8,7 +8,7 @@ use crate::facts::Standing;
 use crate::refusal::Refusal;
 use crate::rows::{EntryKind, RequestRow};
 use rights_core::right;
-use std::alloc::{AllocError, Global};
+use std::alloc::AllocError;
 use text_core::Text;
 
 impl Context<'_> {
@@ -40,9 +40,8 @@ impl Context<'_> {
         requires { on.now.entry_count + 1 < 2 ^ 32 }
         ensures { MakesOn result (set_level.change level.now) self.now on.now }
     {
-        let old = level_word(self.alloc, &on.row.level)?;
-        let new = level_word(self.alloc, level)?;
-        let entries = self.one_entry(on, EntryKind::Level, old, new)?;
+        let old = level_word(&on.row.level);
+        let entries = self.one_entry(on, EntryKind::Level, old, level_word(level))?;
         let row = with_level(&on.row, level)?;
         Ok(Change::revising(self.alloc, row, entries))
     }
@@ -52,8 +51,9 @@ impl Context<'_> {
 fn with_level(row: &RequestRow, level: &Option<Text>) -> Result<RequestRow, AllocError>
     ensures { IfOk result (λ levelled. levelled ≡ set_level.with_level level.now row.now) }
 {
+    let level = level.clone()?;
     let mut levelled = row.clone()?;
-    levelled.level = level.clone()?;
+    levelled.level = level;
     Ok(levelled)
 }
 
@@ -68,11 +68,11 @@ fn is_same_level(a: &Option<Text>, b: &Option<Text>) -> bool
 }
 
 /// A level in an entry, or a dash for none.
-fn level_word(alloc: Global, level: &Option<Text>) -> Result<Text, AllocError>
-    ensures { IfOk result (λ word. word ≡ set_level.level_word level.now) }
+fn level_word(level: &Option<Text>) -> &str
+    ensures { result.now ≡ set_level.level_word level.now }
 {
     match level {
-        Some(level) => level.clone(),
-        None => Text::new(alloc, "-"),
+        Some(level) => level.as_str(),
+        None => "-",
     }
 }

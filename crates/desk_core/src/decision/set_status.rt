@@ -57,9 +57,9 @@ impl Context<'_> {
         ensures { MakesOn result (set_status.change status.now) self.now on.now }
     {
         let lifecycle = lifecycle_of(self.settings, &self.facts.queue);
+        let (from, to) = (on.row.status.as_str(), status.as_str());
+        let entries = self.one_entry(on, EntryKind::Status, from, to)?;
         let row = self.row_in_status(lifecycle, &on.row, status)?;
-        let entry = self.moving(on, 1, status)?;
-        let entries = Sequence::from(vec![in self.alloc; entry]?);
         Ok(Change::revising(self.alloc, row, entries))
     }
 
@@ -73,8 +73,9 @@ impl Context<'_> {
         ensures { IfOk result (λ moved. moved ≡ set_status.row_in_status
             (option_map (λ l. l.now) lifecycle.entry) self.now.moment status.now row.now) }
     {
+        let to = status.clone()?;
         let mut moved = row.clone()?;
-        moved.status = status.clone()?;
+        moved.status = to;
         if opens_anew(lifecycle, &row.status, status) {
             moved.opened = self.moment;
             moved.since = self.moment;
@@ -93,13 +94,8 @@ impl Context<'_> {
         ensures { IfOk result (λ entry.
             entry ≡ set_status.moving (call_of self.now) on.now number status.now) }
     {
-        self.entry(
-            on,
-            number,
-            EntryKind::Status,
-            on.row.status.clone()?,
-            status.clone()?,
-        )
+        let (from, to) = (on.row.status.as_str(), status.as_str());
+        self.entry(on, number, EntryKind::Status, from, to)
     }
 }
 

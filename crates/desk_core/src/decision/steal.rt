@@ -7,7 +7,6 @@ use crate::decision::Context;
 use crate::facts::Standing;
 use crate::refusal::Refusal;
 use rights_core::right;
-use text_core::Text;
 
 impl Context<'_> {
     /// Makes the caller the owner of a request that another person owns.
@@ -15,8 +14,7 @@ impl Context<'_> {
         ensures { DecidesOn result steal.conditions steal.change self.now on.now }
     {
         self.ask_to_steal(on)?;
-        let caller = Text::new(self.alloc, self.caller)?;
-        Ok(self.giving_owner(Some(caller), on)?)
+        Ok(self.giving_owner(Some(self.caller), on)?)
     }
 
     #[tactic(auto, unfolding(rights_core::specs::Right::steal_ticket))]

@@ -1,4 +1,5 @@
 ghost use Rattle.std.specs.Prelude.{◌≡◌, ◌+◌, ◌^◌, ◌<◌, IfOk, OnOk, Some};
+ghost use Rattle.std.specs.Option.{option_map};
 ghost use Rattle.desk_core.specs.Commands.Take as take;
 ghost use Rattle.desk_core.specs.Entries as entries;
 ghost use Rattle.desk_core.specs.Context.{call_of, DecidesOn, PassesOn};
@@ -18,8 +19,7 @@ impl Context<'_> {
         ensures { DecidesOn result take.conditions take.change self.now on.now }
     {
         self.ask_to_take(on)?;
-        let caller = Text::new(self.alloc, self.caller)?;
-        Ok(self.giving_owner(Some(caller), on)?)
+        Ok(self.giving_owner(Some(self.caller), on)?)
     }
 
     #[tactic(auto, unfolding(rights_core::specs::Right::take_ticket))]
@@ -41,36 +41,41 @@ impl Context<'_> {
     /// The request with this owner, or with none.
     pub(super) fn giving_owner(
         &self,
-        owner: Option<Text>,
+        owner: Option<&str>,
         on: &Standing,
     ) -> Result<Change, AllocError>
         requires { on.now.entry_count + 1 < 2 ^ 32 }
-        ensures { IfOk result (λ change.
-            change ≡ take.giving_owner owner (call_of self.now) on.now) }
+        ensures { IfOk result (λ change. change
+            ≡ take.giving_owner (option_map (λ o. o.now) owner.entry) (call_of self.now) on.now) }
     {
-        let old = owner_word(self.alloc, &on.row.owner)?;
-        let new = owner_word(self.alloc, &owner)?;
-        let entries = self.one_entry(on, EntryKind::Owner, old, new)?;
-        let row = with_owner(&on.row, owner)?;
+        let old = on.row.owner.as_ref().map(|o| o.as_str());
+        let entries = self.one_entry(on, EntryKind::Owner, owner_word(old), owner_word(owner))?;
+        let row = with_owner(self.alloc, &on.row, owner)?;
         Ok(Change::revising(self.alloc, row, entries))
     }
 }
 
 /// The row with this owner, or with none.
-fn with_owner(row: &RequestRow, owner: Option<Text>) -> Result<RequestRow, AllocError>
-    ensures { IfOk result (λ owned. owned ≡ take.with_owner owner row.now) }
+fn with_owner(
+    alloc: Global,
+    row: &RequestRow,
+    owner: Option<&str>,
+) -> Result<RequestRow, AllocError>
+    ensures { IfOk result (λ owned. owned
+        ≡ take.with_owner (option_map (λ o. o.now) owner.entry) row.now) }
 {
+    let owner = match owner {
+        Some(owner) => Some(Text::new(alloc, owner)?),
+        None => None,
+    };
     let mut owned = row.clone()?;
     owned.owner = owner;
     Ok(owned)
 }
 
 /// An owner in an entry.
-fn owner_word(alloc: Global, owner: &Option<Text>) -> Result<Text, AllocError>
-    ensures { IfOk result (λ word. word ≡ entries.owner_word owner.now) }
+fn owner_word(owner: Option<&str>) -> &str
+    ensures { result.now ≡ entries.owner_word (option_map (λ o. o.now) owner.entry) }
 {
-    match owner {
-        Some(owner) => owner.clone(),
-        None => Text::new(alloc, "Nobody"),
-    }
+    owner.unwrap_or("Nobody")
 }

@@ -10,7 +10,6 @@ use crate::refusal::Refusal;
 use crate::rows::{EntryKind, LinkKind, LinkRow};
 use rights_core::right;
 use std::alloc::AllocError;
-use text_core::Text;
 
 impl Context<'_> {
     /// Takes away the link of the request with another one.
@@ -43,9 +42,8 @@ impl Context<'_> {
         requires { on.now.entry_count + 1 < 2 ^ 32 }
         ensures { MakesOn result (unlink.change kind other) self.now on.now }
     {
-        let head = Text::new(self.alloc, kind_word(kind))?;
-        let body = in_digits(self.alloc, other)?;
-        let entries = self.one_entry(on, EntryKind::Unlink, head, body)?;
+        let number = in_digits(self.alloc, other)?;
+        let entries = self.one_entry(on, EntryKind::Unlink, kind_word(kind), number.as_str())?;
         let link = LinkRow {
             source: on.row.id,
             kind,

@@ -48,8 +48,7 @@ impl Context<'_> {
         requires { on.now.entry_count + 1 < 2 ^ 32 }
         ensures { MakesOn result (unwatch.change role person.now) self.now on.now }
     {
-        let head = Text::new(self.alloc, role_word(role))?;
-        let entries = self.one_entry(on, EntryKind::Unwatch, head, person.clone()?)?;
+        let entries = self.one_entry(on, EntryKind::Unwatch, role_word(role), person.as_str())?;
         let taken = one_watcher(self.alloc, on, role, person)?;
         Ok(Change::taking(self.alloc, taken, entries))
     }

@@ -48,8 +48,7 @@ impl Context<'_> {
         requires { on.now.entry_count + 1 < 2 ^ 32 }
         ensures { MakesOn result (watch.change role person.now) self.now on.now }
     {
-        let head = Text::new(self.alloc, role_word(role))?;
-        let entries = self.one_entry(on, EntryKind::Watch, head, person.clone()?)?;
+        let entries = self.one_entry(on, EntryKind::Watch, role_word(role), person.as_str())?;
         let put = one_watcher(self.alloc, on, role, person)?;
         Ok(Change::putting(self.alloc, put, entries))
     }
