@@ -1,7 +1,7 @@
 -- The call that a decision is made for, and what it decides by the facts of that call.
-use Rattle.std.specs.Prelude.{◌≡◌, List, Result, IfOk}
+use Rattle.std.specs.Prelude.{◌≡◌, ℕ, List, Option, Result, IfOk}
 use Rattle.desk_core.specs.Condition.{Condition, Decides, Passes}
-use Rattle.desk_core.specs.Plan.{Call}
+use Rattle.desk_core.specs.Plan.{Besides, Call, change_of_request, conditions_on_request}
 use Rattle.desk_core.specs.declared.change.Change.{Change}
 use Rattle.desk_core.specs.declared.decision.Context.{Context}
 use Rattle.desk_core.specs.declared.facts.Facts.{Facts}
@@ -19,12 +19,15 @@ DecidesOnQueue result conditions change context =
     Decides result (conditions (call_of context) context.facts.now)
     (change (call_of context) context.facts.now)
 
--- a request is decided by these conditions and this change
-abbrev pub DecidesOn : Result Change Refusal → (Call → Facts → Standing → List Condition)
-    → (Call → Facts → Standing → Change) → Context → Standing → Type 0
-DecidesOn result conditions change context on =
-    Decides result (conditions (call_of context) context.facts.now on)
-    (change (call_of context) context.facts.now on)
+-- a command on a request is decided by what it looks at besides, its text if it has one, these
+-- conditions and this change
+abbrev pub DecidesOn : Result Change Refusal → Besides → Option (List ℕ)
+    → (Call → Facts → Standing → List Condition) → (Call → Facts → Standing → Change) → Context
+    → Type 0
+DecidesOn result besides text conditions change context =
+    Decides result
+    (conditions_on_request (call_of context) context.facts.now besides text conditions)
+    (change_of_request context.facts.now.request (change (call_of context) context.facts.now))
 
 -- a request passes these conditions
 abbrev pub PassesOn : Result (Unit {0}) Refusal → (Call → Facts → Standing → List Condition)

@@ -78,12 +78,19 @@ on_shown call request conditions =
 abbrev pub is_bad_text : Option (List ℕ) → Bool
 is_bad_text text = option_map_or (λ t. not (is_text t)) text false
 
+-- what a command on a request asks: that its text has its form, that the caller may show the
+-- request and the other one, and then what the command asks for itself
+abbrev pub conditions_on_request : Call → Facts → Besides → Option (List ℕ)
+    → (Call → Facts → Standing → List Condition) → List Condition
+conditions_on_request call facts besides text conditions =
+    (BadText, is_bad_text text) ∷ on_shown call facts.request
+    (λ on. another_shown call besides facts (conditions call facts on))
+
 abbrev pub conditions_by : Call → Facts → Plan → List Condition
 conditions_by call facts OnDesk = []
 conditions_by call facts (OnQueue name conditions change) = conditions call facts
 conditions_by call facts (OnRequest id besides text conditions change) =
-    (BadText, is_bad_text text) ∷ on_shown call facts.request
-    (λ on. another_shown call besides facts (conditions call facts on))
+    conditions_on_request call facts besides text conditions
 
 -- the change of a request, if it is there
 abbrev pub change_of_request : Option Standing → (Standing → Change) → Change

@@ -129,26 +129,18 @@ impl<'c> Context<'c> {
                 status,
                 requestors,
             } => self.create(queue, subject, status, requestors),
-            Command::SetStatus { status, .. } => self.set_status(self.shown()?, status),
-            Command::Take { .. } => self.take(self.shown()?),
-            Command::Steal { .. } => self.steal(self.shown()?),
-            Command::Untake { .. } => self.untake(self.shown()?),
-            Command::Give { person, .. } => self.give(self.shown()?, person),
-            Command::Reply { text, .. } => {
-                self.ask_for_text(text)?;
-                self.reply(self.shown()?, text)
-            }
-            Command::Comment { text, .. } => {
-                self.ask_for_text(text)?;
-                self.comment(self.shown()?, text)
-            }
-            Command::Watch { role, person, .. } => self.watch(self.shown()?, *role, person),
-            Command::Unwatch { role, person, .. } => self.unwatch(self.shown()?, *role, person),
-            Command::Link { kind, other, .. } => self.link(self.both_shown()?, *kind, *other),
-            Command::Unlink { kind, other, .. } => {
-                self.unlink(self.both_shown()?, *kind, *other)
-            }
-            Command::SetLevel { level, .. } => self.set_level(self.shown()?, level),
+            Command::SetStatus { status, .. } => self.set_status(status),
+            Command::Take { .. } => self.take(),
+            Command::Steal { .. } => self.steal(),
+            Command::Untake { .. } => self.untake(),
+            Command::Give { person, .. } => self.give(person),
+            Command::Reply { text, .. } => self.reply(text),
+            Command::Comment { text, .. } => self.comment(text),
+            Command::Watch { role, person, .. } => self.watch(*role, person),
+            Command::Unwatch { role, person, .. } => self.unwatch(*role, person),
+            Command::Link { kind, other, .. } => self.link(*kind, *other),
+            Command::Unlink { kind, other, .. } => self.unlink(*kind, *other),
+            Command::SetLevel { level, .. } => self.set_level(level),
             Command::Queues => Ok(Change::no_change(self.alloc)),
             Command::Show { .. } => self.read(),
             Command::History { .. } => self.read(),

@@ -1,6 +1,7 @@
-ghost use Rattle.std.specs.Prelude.{◌+◌, ◌^◌, ◌<◌, OnOk};
+ghost use Rattle.std.specs.Prelude.{◌+◌, ◌^◌, ◌<◌, OnOk, Some};
 ghost use Rattle.desk_core.specs.Commands.Comment as comment;
 ghost use Rattle.desk_core.specs.Context.{DecidesOn, MakesOn, PassesOn};
+ghost use Rattle.desk_core.specs.Plan.{Nothing};
 
 use crate::change::Change;
 use crate::decision::Context;
@@ -13,10 +14,12 @@ use text_core::Text;
 
 impl Context<'_> {
     /// Comments on the request.
-    pub(super) fn comment(&self, on: &Standing, text: &Text) -> Result<Change, Refusal>
-        ensures { DecidesOn result comment.conditions (comment.change text.now)
-            self.now on.now }
+    pub(super) fn comment(&self, text: &Text) -> Result<Change, Refusal>
+        ensures { DecidesOn result Nothing (Some text.now)
+            comment.conditions (comment.change text.now) self.now }
     {
+        self.ask_for_text(text)?;
+        let on = self.shown()?;
         self.ask_to_comment(on)?;
         Ok(self.commented(on, text)?)
     }

@@ -1,6 +1,7 @@
-ghost use Rattle.std.specs.Prelude.{◌≡◌, ◌+◌, ◌^◌, ◌<◌, OnOk};
+ghost use Rattle.std.specs.Prelude.{◌≡◌, ◌+◌, ◌^◌, ◌<◌, OnOk, None};
 ghost use Rattle.desk_core.specs.Commands.Give as give;
 ghost use Rattle.desk_core.specs.Context.{call_of, DecidesOn, PassesOn};
+ghost use Rattle.desk_core.specs.Plan.{Nothing};
 
 use crate::change::Change;
 use crate::decision::Context;
@@ -11,10 +12,11 @@ use text_core::Text;
 
 impl Context<'_> {
     /// Makes a person the owner of a request.
-    pub(super) fn give(&self, on: &Standing, person: &Text) -> Result<Change, Refusal>
-        ensures { DecidesOn result (give.conditions person.now) (give.change person.now)
-            self.now on.now }
+    pub(super) fn give(&self, person: &Text) -> Result<Change, Refusal>
+        ensures { DecidesOn result Nothing None
+            (give.conditions person.now) (give.change person.now) self.now }
     {
+        let on = self.shown()?;
         self.ask_to_give(on, person)?;
         Ok(self.giving_owner(Some(person.as_str()), on)?)
     }

@@ -1,6 +1,7 @@
-ghost use Rattle.std.specs.Prelude.{◌≡◌, ◌+◌, ◌^◌, ◌<◌, IfOk, OnOk, decimal};
+ghost use Rattle.std.specs.Prelude.{◌≡◌, ◌+◌, ◌^◌, ◌<◌, IfOk, OnOk, decimal, None};
 ghost use Rattle.desk_core.specs.Commands.Link as link;
 ghost use Rattle.desk_core.specs.Context.{DecidesOn, MakesOn, PassesOn};
+ghost use Rattle.desk_core.specs.Plan.{Another};
 
 use crate::change::Change;
 use crate::decision::Context;
@@ -13,10 +14,11 @@ use text_core::Text;
 
 impl Context<'_> {
     /// Links the request with another one.
-    pub(super) fn link(&self, on: &Standing, kind: LinkKind, other: u32) -> Result<Change, Refusal>
-        ensures { DecidesOn result (link.conditions other) (link.change kind other)
-            self.now on.now }
+    pub(super) fn link(&self, kind: LinkKind, other: u32) -> Result<Change, Refusal>
+        ensures { DecidesOn result (Another kind other) None
+            (link.conditions other) (link.change kind other) self.now }
     {
+        let on = self.both_shown()?;
         self.ask_to_link(on, other)?;
         Ok(self.linked(on, kind, other)?)
     }

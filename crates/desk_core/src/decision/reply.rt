@@ -1,7 +1,8 @@
-ghost use Rattle.std.specs.Prelude.{◌≡◌, ◌+◌, ◌^◌, ◌<◌, IfOk, OnOk};
+ghost use Rattle.std.specs.Prelude.{◌≡◌, ◌+◌, ◌^◌, ◌<◌, IfOk, OnOk, Some};
 ghost use Rattle.std.specs.Option.{option_map};
 ghost use Rattle.desk_core.specs.Commands.Reply as reply;
 ghost use Rattle.desk_core.specs.Context.{call_of, DecidesOn, MakesOn, PassesOn};
+ghost use Rattle.desk_core.specs.Plan.{Nothing};
 
 use crate::change::Change;
 use crate::decision::Context;
@@ -17,9 +18,12 @@ use text_core::{Sequence, Text};
 
 impl Context<'_> {
     /// Replies to the request: the reply may open it again, and the turn passes.
-    pub(super) fn reply(&self, on: &Standing, text: &Text) -> Result<Change, Refusal>
-        ensures { DecidesOn result reply.conditions (reply.change text.now) self.now on.now }
+    pub(super) fn reply(&self, text: &Text) -> Result<Change, Refusal>
+        ensures { DecidesOn result Nothing (Some text.now)
+            reply.conditions (reply.change text.now) self.now }
     {
+        self.ask_for_text(text)?;
+        let on = self.shown()?;
         self.ask_to_reply(on)?;
         Ok(self.replied(on, text)?)
     }

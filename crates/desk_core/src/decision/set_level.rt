@@ -1,6 +1,7 @@
-ghost use Rattle.std.specs.Prelude.{◌≡◌, ◌+◌, ◌^◌, ◌<◌, IfOk, OnOk};
+ghost use Rattle.std.specs.Prelude.{◌≡◌, ◌+◌, ◌^◌, ◌<◌, IfOk, OnOk, None};
 ghost use Rattle.desk_core.specs.Commands.SetLevel as set_level;
 ghost use Rattle.desk_core.specs.Context.{DecidesOn, MakesOn, PassesOn};
+ghost use Rattle.desk_core.specs.Plan.{Nothing};
 
 use crate::change::Change;
 use crate::decision::Context;
@@ -13,10 +14,11 @@ use text_core::Text;
 
 impl Context<'_> {
     /// Gives the request another level, or none.
-    pub(super) fn set_level(&self, on: &Standing, level: &Option<Text>) -> Result<Change, Refusal>
-        ensures { DecidesOn result (set_level.conditions level.now) (set_level.change level.now)
-            self.now on.now }
+    pub(super) fn set_level(&self, level: &Option<Text>) -> Result<Change, Refusal>
+        ensures { DecidesOn result Nothing None
+            (set_level.conditions level.now) (set_level.change level.now) self.now }
     {
+        let on = self.shown()?;
         self.ask_to_set_level(on, level)?;
         Ok(self.levelled(on, level)?)
     }

@@ -1,7 +1,8 @@
-ghost use Rattle.std.specs.Prelude.{◌≡◌, ◌+◌, ◌^◌, ◌<◌, true, IfOk, IfErr, OnOk};
+ghost use Rattle.std.specs.Prelude.{◌≡◌, ◌+◌, ◌^◌, ◌<◌, true, IfOk, IfErr, OnOk, None};
 ghost use Rattle.std.specs.Option.{option_map};
 ghost use Rattle.desk_core.specs.Commands.SetStatus as set_status;
 ghost use Rattle.desk_core.specs.Context.{call_of, DecidesOn, MakesOn, PassesOn};
+ghost use Rattle.desk_core.specs.Plan.{Dependencies};
 ghost use Rattle.desk_core.specs.Refusals.{names_its_right};
 
 use crate::change::Change;
@@ -19,11 +20,12 @@ use text_core::{Sequence, Text};
 
 impl Context<'_> {
     /// Moves the request to another status.
-    pub(super) fn set_status(&self, on: &Standing, status: &Text) -> Result<Change, Refusal>
-        ensures decides { DecidesOn result (set_status.conditions status.now)
-            (set_status.change status.now) self.now on.now }
+    pub(super) fn set_status(&self, status: &Text) -> Result<Change, Refusal>
+        ensures decides { DecidesOn result Dependencies None
+            (set_status.conditions status.now) (set_status.change status.now) self.now }
         ensures named { IfErr result (λ refusal. names_its_right refusal ≡ true) }
     {
+        let on = self.shown()?;
         self.ask_to_move(on, status)?;
         Ok(self.moved(on, status)?)
     }

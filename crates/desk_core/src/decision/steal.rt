@@ -1,6 +1,7 @@
-ghost use Rattle.std.specs.Prelude.{◌+◌, ◌^◌, ◌<◌, OnOk};
+ghost use Rattle.std.specs.Prelude.{◌+◌, ◌^◌, ◌<◌, OnOk, None};
 ghost use Rattle.desk_core.specs.Commands.Steal as steal;
 ghost use Rattle.desk_core.specs.Context.{DecidesOn, PassesOn};
+ghost use Rattle.desk_core.specs.Plan.{Nothing};
 
 use crate::change::Change;
 use crate::decision::Context;
@@ -10,9 +11,11 @@ use rights_core::right;
 
 impl Context<'_> {
     /// Makes the caller the owner of a request that another person owns.
-    pub(super) fn steal(&self, on: &Standing) -> Result<Change, Refusal>
-        ensures { DecidesOn result steal.conditions steal.change self.now on.now }
+    pub(super) fn steal(&self) -> Result<Change, Refusal>
+        ensures { DecidesOn result Nothing None
+            steal.conditions steal.change self.now }
     {
+        let on = self.shown()?;
         self.ask_to_steal(on)?;
         Ok(self.giving_owner(Some(self.caller), on)?)
     }

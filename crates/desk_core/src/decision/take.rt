@@ -1,8 +1,9 @@
-ghost use Rattle.std.specs.Prelude.{◌≡◌, ◌+◌, ◌^◌, ◌<◌, IfOk, OnOk, Some};
+ghost use Rattle.std.specs.Prelude.{◌≡◌, ◌+◌, ◌^◌, ◌<◌, IfOk, OnOk, Some, None};
 ghost use Rattle.std.specs.Option.{option_map};
 ghost use Rattle.desk_core.specs.Commands.Take as take;
 ghost use Rattle.desk_core.specs.Entries as entries;
 ghost use Rattle.desk_core.specs.Context.{call_of, DecidesOn, PassesOn};
+ghost use Rattle.desk_core.specs.Plan.{Nothing};
 
 use crate::change::Change;
 use crate::decision::Context;
@@ -15,9 +16,11 @@ use text_core::Text;
 
 impl Context<'_> {
     /// Makes the caller the owner of a request that nobody owns.
-    pub(super) fn take(&self, on: &Standing) -> Result<Change, Refusal>
-        ensures { DecidesOn result take.conditions take.change self.now on.now }
+    pub(super) fn take(&self) -> Result<Change, Refusal>
+        ensures { DecidesOn result Nothing None
+            take.conditions take.change self.now }
     {
+        let on = self.shown()?;
         self.ask_to_take(on)?;
         Ok(self.giving_owner(Some(self.caller), on)?)
     }

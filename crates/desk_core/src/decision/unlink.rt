@@ -1,6 +1,7 @@
-ghost use Rattle.std.specs.Prelude.{◌+◌, ◌^◌, ◌<◌, OnOk};
+ghost use Rattle.std.specs.Prelude.{◌+◌, ◌^◌, ◌<◌, OnOk, None};
 ghost use Rattle.desk_core.specs.Commands.Unlink as unlink;
 ghost use Rattle.desk_core.specs.Context.{DecidesOn, MakesOn, PassesOn};
+ghost use Rattle.desk_core.specs.Plan.{Another};
 
 use crate::change::Change;
 use crate::decision::Context;
@@ -13,15 +14,11 @@ use std::alloc::AllocError;
 
 impl Context<'_> {
     /// Takes away the link of the request with another one.
-    pub(super) fn unlink(
-        &self,
-        on: &Standing,
-        kind: LinkKind,
-        other: u32,
-    ) -> Result<Change, Refusal>
-        ensures { DecidesOn result unlink.conditions (unlink.change kind other)
-            self.now on.now }
+    pub(super) fn unlink(&self, kind: LinkKind, other: u32) -> Result<Change, Refusal>
+        ensures { DecidesOn result (Another kind other) None
+            unlink.conditions (unlink.change kind other) self.now }
     {
+        let on = self.both_shown()?;
         self.ask_to_unlink(on)?;
         Ok(self.unlinked(on, kind, other)?)
     }

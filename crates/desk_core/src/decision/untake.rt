@@ -1,6 +1,7 @@
-ghost use Rattle.std.specs.Prelude.{◌+◌, ◌^◌, ◌<◌, OnOk};
+ghost use Rattle.std.specs.Prelude.{◌+◌, ◌^◌, ◌<◌, OnOk, None};
 ghost use Rattle.desk_core.specs.Commands.Untake as untake;
 ghost use Rattle.desk_core.specs.Context.{DecidesOn, PassesOn};
+ghost use Rattle.desk_core.specs.Plan.{Nothing};
 
 use crate::change::Change;
 use crate::decision::Context;
@@ -9,9 +10,11 @@ use crate::refusal::Refusal;
 
 impl Context<'_> {
     /// Leaves a request that the caller owns without an owner.
-    pub(super) fn untake(&self, on: &Standing) -> Result<Change, Refusal>
-        ensures { DecidesOn result untake.conditions untake.change self.now on.now }
+    pub(super) fn untake(&self) -> Result<Change, Refusal>
+        ensures { DecidesOn result Nothing None
+            untake.conditions untake.change self.now }
     {
+        let on = self.shown()?;
         self.ask_to_untake(on)?;
         Ok(self.giving_owner(None, on)?)
     }

@@ -1,6 +1,7 @@
-ghost use Rattle.std.specs.Prelude.{◌+◌, ◌^◌, ◌<◌, OnOk};
+ghost use Rattle.std.specs.Prelude.{◌+◌, ◌^◌, ◌<◌, OnOk, None};
 ghost use Rattle.desk_core.specs.Commands.Unwatch as unwatch;
 ghost use Rattle.desk_core.specs.Context.{DecidesOn, MakesOn, PassesOn};
+ghost use Rattle.desk_core.specs.Plan.{Nothing};
 
 use crate::change::Change;
 use crate::decision::Context;
@@ -14,15 +15,11 @@ use text_core::Text;
 
 impl Context<'_> {
     /// Takes a person out of a role on the request.
-    pub(super) fn unwatch(
-        &self,
-        on: &Standing,
-        role: WatchRole,
-        person: &Text,
-    ) -> Result<Change, Refusal>
-        ensures { DecidesOn result (unwatch.conditions role person.now)
-            (unwatch.change role person.now) self.now on.now }
+    pub(super) fn unwatch(&self, role: WatchRole, person: &Text) -> Result<Change, Refusal>
+        ensures { DecidesOn result Nothing None
+            (unwatch.conditions role person.now) (unwatch.change role person.now) self.now }
     {
+        let on = self.shown()?;
         self.ask_to_unwatch(on, role, person)?;
         Ok(self.unwatched(on, role, person)?)
     }

@@ -1,7 +1,8 @@
-ghost use Rattle.std.specs.Prelude.{◌≡◌, ◌+◌, ◌^◌, ◌<◌, [], ◌∷◌, IfOk, OnOk};
+ghost use Rattle.std.specs.Prelude.{◌≡◌, ◌+◌, ◌^◌, ◌<◌, [], ◌∷◌, IfOk, OnOk, None};
 ghost use Rattle.desk_core.specs.Commands.Watch as watch;
 ghost use Rattle.desk_core.specs.Watchers as watchers;
 ghost use Rattle.desk_core.specs.Context.{call_of, DecidesOn, MakesOn, PassesOn};
+ghost use Rattle.desk_core.specs.Plan.{Nothing};
 
 use crate::change::Change;
 use crate::decision::Context;
@@ -14,15 +15,11 @@ use text_core::{Sequence, Text, Texts};
 
 impl Context<'_> {
     /// Puts a person into a role on the request.
-    pub(super) fn watch(
-        &self,
-        on: &Standing,
-        role: WatchRole,
-        person: &Text,
-    ) -> Result<Change, Refusal>
-        ensures { DecidesOn result (watch.conditions role person.now)
-            (watch.change role person.now) self.now on.now }
+    pub(super) fn watch(&self, role: WatchRole, person: &Text) -> Result<Change, Refusal>
+        ensures { DecidesOn result Nothing None
+            (watch.conditions role person.now) (watch.change role person.now) self.now }
     {
+        let on = self.shown()?;
         self.ask_to_watch(on, role, person)?;
         Ok(self.watched(on, role, person)?)
     }
