@@ -1,19 +1,11 @@
-//! How long opening hours take: `bench_hours CALENDAR CALLS MINUTES..` builds a calendar, and adds
-//! each number of open minutes as often as CALLS says.
-//!
-//! The calendar `office` is open on Monday to Friday from 09:00 to 18:00, from 2000 to 2099, and
-//! `century` on each day of these years at four times, in local time that changes 400 times, but
-//! not on 3,650 holidays. Minutes are added from Friday 2000-01-07 10:00 on. Standard output has
-//! the number of spans, and each number of minutes with its end. The times go to standard error.
-#![tactic(auto)]
-
-mod calendars;
-
-use crate::calendars::{Failure, century, office};
+use crate::calendars::{century, office};
+use crate::failure::Failure;
+use crate::number;
 use hours_core::{Calendar, Minute, minute_text};
+use std::io;
 use std::rt::Clock;
+use std::str::SplitWhitespace;
 use std::time::Instant;
-use std::{env, io};
 
 /// Friday 2000-01-07 10:00.
 const FRIDAY: u32 = 15_787_320;
@@ -72,17 +64,17 @@ fn show(rt: &impl Print, minutes: u32, end: Option<Minute>) -> io::Result<()> {
     }
 }
 
-fn number(word: &str) -> Result<u32, Failure> {
-    word.parse::<u32>().map_err(|_| Failure::BadWords)
-}
-
-fn main(rt: HostRuntime) -> Result<(), Failure> {
-    let mut words = env::args(&rt)?.skip(1);
+/// Builds the calendar of that name, and adds each number of open minutes as often as is said.
+pub fn measure_hours(
+    rt: &(impl AllocGlobal + Clone + Clock + Print + Eprint),
+    words: SplitWhitespace,
+) -> Result<(), Failure> {
+    let mut words = words;
     let name = words.next().ok_or(Failure::BadWords)?;
-    let calls = number(words.next().ok_or(Failure::BadWords)?.as_str())?;
-    let calendar = built(&rt, name.as_str())?;
+    let calls = number(words.next())?;
+    let calendar = built(rt, name)?;
     for word in words {
-        measure(&rt, &calendar, calls, number(word.as_str())?)?;
+        measure(rt, &calendar, calls, number(Some(word))?)?;
     }
     Ok(())
 }

@@ -1,39 +1,6 @@
-use hours_core::{Calendar, HoursFault, Intervals, START, Zone};
-use std::alloc::{AllocError, AllocFailed, Global};
-use std::io;
-
-/// Why nothing is measured.
-#[derive(Debug, Drop)]
-pub enum Failure {
-    Hours(HoursFault),
-    Io(io::Error),
-    /// The words name no calendar, or one is no number.
-    BadWords,
-}
-
-impl From<HoursFault> for Failure {
-    fn from(fault: HoursFault) -> Failure {
-        Failure::Hours(fault)
-    }
-}
-
-impl From<AllocError> for Failure {
-    fn from(_refused: AllocError) -> Failure {
-        Failure::Hours(HoursFault::NoMemory)
-    }
-}
-
-impl<T: Drop> From<AllocFailed<T>> for Failure {
-    fn from(_refused: AllocFailed<T>) -> Failure {
-        Failure::Hours(HoursFault::NoMemory)
-    }
-}
-
-impl From<io::Error> for Failure {
-    fn from(error: io::Error) -> Failure {
-        Failure::Io(error)
-    }
-}
+use crate::failure::Failure;
+use hours_core::{Calendar, Intervals, START, Zone};
+use std::alloc::{AllocError, Global};
 
 fn intervals(alloc: Global, day: &[(u16, u16)]) -> Result<Intervals, AllocError> {
     Ok(Intervals::from(Vec::from_slice(alloc, day)?))

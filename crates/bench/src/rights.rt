@@ -1,15 +1,8 @@
-//! How long people take: `bench_rights PERSONS GROUPS GRANTS QUESTIONS` builds that many persons in
-//! groups, nested twenty deep, with grants on fifty queues, and asks that often who holds what.
-//!
-//! Standard output has the sizes and how many questions were answered with yes. The times go to
-//! standard error.
-#![tactic(auto)]
-
-use rights_core::{Grant, Group, People, RightsFault, Roles, Subject, right};
+use crate::failure::Failure;
+use rights_core::{Grant, Group, People, Roles, Subject, right};
 use std::alloc::AllocError;
 use std::rt::Clock;
 use std::time::Instant;
-use std::{env, io};
 use text_core::{Text, Texts};
 
 /// How deep the groups are nested.
@@ -17,33 +10,6 @@ const DEPTH: usize = 20;
 
 /// How many queues are spoken of.
 const QUEUES: usize = 50;
-
-/// Why nothing is measured.
-#[derive(Debug, Drop)]
-enum Failure {
-    Rights(RightsFault),
-    Io(io::Error),
-    /// A word is no size, one is missing, or a size is 0.
-    NoSize,
-}
-
-impl From<RightsFault> for Failure {
-    fn from(fault: RightsFault) -> Failure {
-        Failure::Rights(fault)
-    }
-}
-
-impl From<AllocError> for Failure {
-    fn from(_refused: AllocError) -> Failure {
-        Failure::Rights(RightsFault::NoMemory)
-    }
-}
-
-impl From<io::Error> for Failure {
-    fn from(error: io::Error) -> Failure {
-        Failure::Io(error)
-    }
-}
 
 /// The letter with each number below the count.
 fn names(rt: &impl AllocGlobal, letter: char, count: usize) -> Result<Vec<Text>, AllocError> {
@@ -135,52 +101,82 @@ fn ask(people: &People, persons: &[Text], queues: &[Text], questions: usize) -> 
         .count()
 }
 
-fn measure(
+/// Whom the questions are about.
+#[derive(Drop)]
+struct House {
+    persons: Vec<Text>,
+    groups: Vec<Group>,
+    queues: Vec<Text>,
+    grants: Vec<Grant>,
+}
+
+/// Builds that many persons in groups, with grants to them, and asks that often who holds what.
+pub fn measure_rights(
     rt: &(impl AllocGlobal + Clock + Print + Eprint),
     sizes: [usize; 4],
 ) -> Result<(), Failure> {
-    let [person_count, group_count, grant_count, questions] = sizes;
+    let [persons, groups, grants, questions] = sizes;
+    let house = dealt(rt, persons, groups, grants)?;
+    println!(rt; "{persons} persons, {groups} groups, {grants} grants")?;
+    let people = built(rt, &house)?;
+    asked(rt, &people, &house, questions)
+}
+
+/// The persons dealt out to the groups, and the grants to the groups.
+fn dealt(
+    rt: &impl AllocGlobal,
+    person_count: usize,
+    group_count: usize,
+    grant_count: usize,
+) -> Result<House, AllocError> {
     let persons = names(rt, 'p', person_count)?;
-    let group_names = names(rt, 'g', group_count)?;
+    let names_of_groups = names(rt, 'g', group_count)?;
     let queues = names(rt, 'q', QUEUES)?;
-    let groups = groups(rt, group_names.as_slice(), persons.as_slice())?;
-    let grants = grants(rt, group_names.as_slice(), queues.as_slice(), grant_count)?;
+    let groups = groups(rt, names_of_groups.as_slice(), persons.as_slice())?;
+    let grants = grants(
+        rt,
+        names_of_groups.as_slice(),
+        queues.as_slice(),
+        grant_count,
+    )?;
+    Ok(House {
+        persons,
+        groups,
+        queues,
+        grants,
+    })
+}
+
+/// Builds the people, and tells how long it took.
+fn built(rt: &(impl AllocGlobal + Clock + Eprint), house: &House) -> Result<People, Failure> {
     let start = Instant::now(rt)?;
     let people = People::build(
         rt.alloc(),
-        persons.as_slice(),
-        groups.as_slice(),
-        grants.as_slice(),
+        house.persons.as_slice(),
+        house.groups.as_slice(),
+        house.grants.as_slice(),
     )?;
-    let built = start.elapsed(rt)?.as_micros();
+    let taken = start.elapsed(rt)?.as_micros();
+    eprintln!(rt; "built in {taken} us")?;
+    Ok(people)
+}
+
+/// Asks, and tells how many of the questions were answered with yes, and how long it took.
+fn asked(
+    rt: &(impl Clock + Print + Eprint),
+    people: &People,
+    house: &House,
+    questions: usize,
+) -> Result<(), Failure> {
     let start = Instant::now(rt)?;
-    let held = ask(&people, persons.as_slice(), queues.as_slice(), questions);
-    let asked = start.elapsed(rt)?.as_micros();
-    println!(rt; "{person_count} persons, {group_count} groups, {grant_count} grants")?;
+    let held = ask(
+        people,
+        house.persons.as_slice(),
+        house.queues.as_slice(),
+        questions,
+    );
+    let taken = start.elapsed(rt)?.as_micros();
     println!(rt; "{held} of {questions} held")?;
-    eprintln!(rt; "built in {built} us, asked in {asked} us")?;
+    eprintln!(rt; "asked in {taken} us")?;
     Ok(())
-}
-
-/// The sizes that the words give.
-fn sizes(rt: &(impl AllocGlobal + std::rt::Env)) -> Result<[usize; 4], Failure> {
-    let mut sizes = [0; 4];
-    let mut count = 0;
-    for word in env::args(rt)?.skip(1) {
-        match word.as_str().parse::<usize>() {
-            Ok(size) if count < 4 => sizes[count] = size,
-            _ => return Err(Failure::NoSize),
-        }
-        count += 1;
-    }
-    if count == 4 {
-        Ok(sizes)
-    } else {
-        Err(Failure::NoSize)
-    }
-}
-
-fn main(rt: HostRuntime) -> Result<(), Failure> {
-    let sizes = sizes(&rt)?;
-    measure(&rt, sizes)
 }

@@ -1,17 +1,9 @@
-//! How long settings take: `bench_settings PERSONS GROUPS GRANTS READS` writes a settings text of
-//! that many persons in groups, nested twenty deep, with grants on fifty queues, reads it that
-//! often, and asks who holds what.
-//!
-//! Standard output has the sizes and how many questions were answered with yes. The times go to
-//! standard error.
-#![tactic(auto)]
-
+use crate::failure::Failure;
 use rights_core::{Roles, right};
-use settings_core::{Settings, SettingsFault};
+use settings_core::Settings;
 use std::alloc::AllocError;
 use std::rt::Clock;
 use std::time::Instant;
-use std::{env, io};
 
 /// How deep the groups are nested.
 const DEPTH: usize = 20;
@@ -21,33 +13,6 @@ const QUEUES: usize = 50;
 
 /// How many questions are asked.
 const QUESTIONS: usize = 100_000;
-
-/// Why nothing is measured.
-#[derive(Debug, Drop)]
-enum Failure {
-    Settings(SettingsFault),
-    Io(io::Error),
-    /// A word is no size, one is missing, or a size is 0.
-    NoSize,
-}
-
-impl From<SettingsFault> for Failure {
-    fn from(fault: SettingsFault) -> Failure {
-        Failure::Settings(fault)
-    }
-}
-
-impl From<AllocError> for Failure {
-    fn from(_refused: AllocError) -> Failure {
-        Failure::Settings(SettingsFault::NoMemory)
-    }
-}
-
-impl From<io::Error> for Failure {
-    fn from(error: io::Error) -> Failure {
-        Failure::Io(error)
-    }
-}
 
 /// How much the text has of each.
 #[derive(Clone, Copy, Debug)]
@@ -138,52 +103,51 @@ fn ask(rt: &impl AllocGlobal, settings: &Settings, sizes: Sizes) -> Result<usize
     Ok(held)
 }
 
-fn measure(rt: &(impl AllocGlobal + Clock + Print + Eprint), sizes: Sizes) -> Result<(), Failure> {
+/// Writes a settings text of that many persons in groups, with grants to them, reads it that often,
+/// and asks who holds what.
+pub fn measure_settings(
+    rt: &(impl AllocGlobal + Clock + Print + Eprint),
+    sizes: [usize; 4],
+) -> Result<(), Failure> {
+    let [persons, groups, grants, reads] = sizes;
+    let sizes = Sizes {
+        persons,
+        groups,
+        grants,
+        reads,
+    };
     let text = text_of(rt, sizes)?;
-    let bytes = text.as_str().as_bytes();
+    println!(rt; "{} bytes", text.as_str().len())?;
+    let settings = read(rt, text.as_str().as_bytes(), reads)?;
+    asked(rt, &settings, sizes)
+}
+
+/// Reads the text so often, and tells how long it took.
+fn read(
+    rt: &(impl AllocGlobal + Clock + Eprint),
+    text: &[u8],
+    reads: usize,
+) -> Result<Settings, Failure> {
     let start = Instant::now(rt)?;
-    for _ in 1..sizes.reads {
-        let _settings = Settings::read(rt.alloc(), bytes)?;
+    for _ in 1..reads {
+        let _settings = Settings::read(rt.alloc(), text)?;
     }
-    let settings = Settings::read(rt.alloc(), bytes)?;
-    let read = start.elapsed(rt)?.as_micros();
+    let settings = Settings::read(rt.alloc(), text)?;
+    let taken = start.elapsed(rt)?.as_micros();
+    eprintln!(rt; "read {reads} times in {taken} us")?;
+    Ok(settings)
+}
+
+/// Asks, and tells how many of the questions were answered with yes, and how long it took.
+fn asked(
+    rt: &(impl AllocGlobal + Clock + Print + Eprint),
+    settings: &Settings,
+    sizes: Sizes,
+) -> Result<(), Failure> {
     let start = Instant::now(rt)?;
-    let held = ask(rt, &settings, sizes)?;
-    let asked = start.elapsed(rt)?.as_micros();
-    let length = bytes.len();
-    println!(rt; "{length} bytes: {held} of {QUESTIONS} held")?;
-    eprintln!(rt;
-        "{length} bytes read {} times in {read} us, asked in {asked} us",
-        sizes.reads
-    )?;
+    let held = ask(rt, settings, sizes)?;
+    let taken = start.elapsed(rt)?.as_micros();
+    println!(rt; "{held} of {QUESTIONS} held")?;
+    eprintln!(rt; "asked in {taken} us")?;
     Ok(())
-}
-
-/// The sizes that the words give.
-fn sizes_of_words(rt: &(impl AllocGlobal + std::rt::Env)) -> Result<Sizes, Failure> {
-    let mut sizes = [0; 4];
-    let mut count = 0;
-    for word in env::args(rt)?.skip(1) {
-        match word.as_str().parse::<usize>() {
-            Ok(size) if count < 4 => sizes[count] = size,
-            _ => return Err(Failure::NoSize),
-        }
-        count += 1;
-    }
-    if count == 4 {
-        let [persons, groups, grants, reads] = sizes;
-        Ok(Sizes {
-            persons,
-            groups,
-            grants,
-            reads,
-        })
-    } else {
-        Err(Failure::NoSize)
-    }
-}
-
-fn main(rt: HostRuntime) -> Result<(), Failure> {
-    let sizes = sizes_of_words(&rt)?;
-    measure(&rt, sizes)
 }
