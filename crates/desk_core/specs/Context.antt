@@ -1,5 +1,5 @@
 -- The call that a decision is made for, and what it decides by the facts of that call.
-use Rattle.std.specs.Prelude.{◌≡◌, ℕ, List, Option, Result, IfOk}
+use Rattle.std.specs.Prelude.{ℕ, List, Option, Result}
 use Rattle.desk_core.specs.Condition.{Condition, Decides, Passes}
 use Rattle.desk_core.specs.Plan.{Besides, Call, change_of_request, conditions_on_request}
 use Rattle.desk_core.specs.declared.change.Change.{Change}
@@ -34,9 +34,3 @@ abbrev pub PassesOn : Result (Unit {0}) Refusal → (Call → Facts → Standing
     → Context → Standing → Type 0
 PassesOn result conditions context on =
     Passes result (conditions (call_of context) context.facts.now on)
-
--- this change is made of a request
-abbrev pub MakesOn : {E : Type 0} → Result Change E → (Call → Facts → Standing → Change)
-    → Context → Standing → Type 0
-MakesOn result change context on =
-    IfOk result (λ made. made ≡ change (call_of context) context.facts.now on)

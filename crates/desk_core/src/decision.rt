@@ -181,8 +181,10 @@ impl<'c> Context<'c> {
             || is_missing (call_of self.now) self.now.facts.now.other) ≡ true)) }
     {
         let on = self.shown()?;
-        self.ask_for_other()?;
-        Ok(on)
+        match &self.facts.other {
+            Some(other) if self.may_show(other) => Ok(on),
+            _ => Err(Refusal::NotFound),
+        }
     }
 
     /// The request that the command names, where the caller may show it.
@@ -194,19 +196,6 @@ impl<'c> Context<'c> {
     {
         match &self.facts.request {
             Some(on) if self.may_show(on) => Ok(on),
-            _ => Err(Refusal::NotFound),
-        }
-    }
-
-    /// Refuses where the other request that the command names isn't there, or the caller may not
-    /// show it.
-    fn ask_for_other(&self) -> Result<(), Refusal>
-        ensures ok { OnOk result (is_missing (call_of self.now) self.now.facts.now.other ≡ false) }
-        ensures err { IfErr result (λ refusal. (refusal ≡ Refusal.NotFound)
-            × (is_missing (call_of self.now) self.now.facts.now.other ≡ true)) }
-    {
-        match &self.facts.other {
-            Some(other) if self.may_show(other) => Ok(()),
             _ => Err(Refusal::NotFound),
         }
     }

@@ -1,6 +1,6 @@
 ghost use Rattle.std.specs.Prelude.{◌+◌, ◌^◌, ◌<◌, OnOk, Some};
 ghost use Rattle.desk_core.specs.Commands.Comment as comment;
-ghost use Rattle.desk_core.specs.Context.{DecidesOn, MakesOn, PassesOn};
+ghost use Rattle.desk_core.specs.Context.{DecidesOn, PassesOn};
 ghost use Rattle.desk_core.specs.Plan.{Nothing};
 
 use crate::change::Change;
@@ -9,7 +9,6 @@ use crate::facts::Standing;
 use crate::refusal::Refusal;
 use crate::rows::EntryKind;
 use rights_core::right;
-use std::alloc::AllocError;
 use text_core::Text;
 
 impl Context<'_> {
@@ -21,7 +20,8 @@ impl Context<'_> {
         self.ask_for_text(text)?;
         let on = self.shown()?;
         self.ask_to_comment(on)?;
-        Ok(self.commented(on, text)?)
+        let entries = self.one_entry(on, EntryKind::Comment, "", text.as_str())?;
+        Ok(Change::noting(self.alloc, entries))
     }
 
     #[tactic(auto, unfolding(rights_core::specs::Right::comment_on_ticket))]
@@ -31,13 +31,5 @@ impl Context<'_> {
     {
         self.ask(right::COMMENT_ON_TICKET, on)?;
         self.ask_for_room(on, 1)
-    }
-
-    fn commented(&self, on: &Standing, text: &Text) -> Result<Change, AllocError>
-        requires { on.now.entry_count + 1 < 2 ^ 32 }
-        ensures { MakesOn result (comment.change text.now) self.now on.now }
-    {
-        let entries = self.one_entry(on, EntryKind::Comment, "", text.as_str())?;
-        Ok(Change::noting(self.alloc, entries))
     }
 }

@@ -32,7 +32,13 @@ impl Context<'_> {
             (create.change queue.now subject.now status.now requestors.now) self.now }
     {
         self.ask_to_create(queue, subject, status, requestors)?;
-        Ok(self.created(queue, subject, status, requestors)?)
+        let lifecycle = lifecycle_of(self.settings, &self.facts.queue);
+        let first = first_status(lifecycle, status);
+        let id = self.facts.request_count + 1;
+        let watchers = self.requestors_of(id, requestors)?;
+        let entries = self.first_entries(id, first)?;
+        let row = self.new_row(id, queue, subject, first)?;
+        Ok(Change::filing(self.alloc, row, watchers, entries))
     }
 
     #[tactic(auto, unfolding(rights_core::specs::Right::create_ticket))]
@@ -75,27 +81,6 @@ impl Context<'_> {
         persons
             .iter()
             .all(|p| self.settings.people().knows(p.as_str()))
-    }
-
-    fn created(
-        &self,
-        queue: &Text,
-        subject: &Text,
-        status: &Option<Text>,
-        requestors: &Texts,
-    ) -> Result<Change, AllocError>
-        requires { self.now.facts.now.request_count + 1 < 2 ^ 32 }
-        ensures { IfOk result (λ change. change
-            ≡ create.change queue.now subject.now status.now requestors.now
-            (call_of self.now) self.now.facts.now) }
-    {
-        let lifecycle = lifecycle_of(self.settings, &self.facts.queue);
-        let first = first_status(lifecycle, status);
-        let id = self.facts.request_count + 1;
-        let watchers = self.requestors_of(id, requestors)?;
-        let entries = self.first_entries(id, first)?;
-        let row = self.new_row(id, queue, subject, first)?;
-        Ok(Change::filing(self.alloc, row, watchers, entries))
     }
 
     /// The row of a new request.

@@ -1,6 +1,6 @@
 ghost use Rattle.std.specs.Prelude.{◌≡◌, ◌+◌, ◌^◌, ◌<◌, IfOk, OnOk, decimal, None};
 ghost use Rattle.desk_core.specs.Commands.Link as link;
-ghost use Rattle.desk_core.specs.Context.{DecidesOn, MakesOn, PassesOn};
+ghost use Rattle.desk_core.specs.Context.{DecidesOn, PassesOn};
 ghost use Rattle.desk_core.specs.Plan.{Another};
 
 use crate::change::Change;
@@ -20,7 +20,14 @@ impl Context<'_> {
     {
         let on = self.both_shown()?;
         self.ask_to_link(on, other)?;
-        Ok(self.linked(on, kind, other)?)
+        let number = in_digits(self.alloc, other)?;
+        let entries = self.one_entry(on, EntryKind::Link, kind_word(kind), number.as_str())?;
+        let link = LinkRow {
+            source: on.row.id,
+            kind,
+            target: other,
+        };
+        Ok(Change::linking(self.alloc, link, entries))
     }
 
     #[tactic(auto, unfolding(rights_core::specs::Right::modify_ticket))]
@@ -36,20 +43,6 @@ impl Context<'_> {
             return Err(Refusal::SelfLink);
         }
         self.ask_for_room(on, 1)
-    }
-
-    fn linked(&self, on: &Standing, kind: LinkKind, other: u32) -> Result<Change, AllocError>
-        requires { on.now.entry_count + 1 < 2 ^ 32 }
-        ensures { MakesOn result (link.change kind other) self.now on.now }
-    {
-        let number = in_digits(self.alloc, other)?;
-        let entries = self.one_entry(on, EntryKind::Link, kind_word(kind), number.as_str())?;
-        let link = LinkRow {
-            source: on.row.id,
-            kind,
-            target: other,
-        };
-        Ok(Change::linking(self.alloc, link, entries))
     }
 }
 

@@ -1,7 +1,7 @@
 ghost use Rattle.std.specs.Prelude.{◌≡◌, ◌+◌, ◌^◌, ◌<◌, IfOk, OnOk, Some};
 ghost use Rattle.std.specs.Option.{option_map};
 ghost use Rattle.desk_core.specs.Commands.Reply as reply;
-ghost use Rattle.desk_core.specs.Context.{call_of, DecidesOn, MakesOn, PassesOn};
+ghost use Rattle.desk_core.specs.Context.{call_of, DecidesOn, PassesOn};
 ghost use Rattle.desk_core.specs.Plan.{Nothing};
 
 use crate::change::Change;
@@ -25,7 +25,10 @@ impl Context<'_> {
         self.ask_for_text(text)?;
         let on = self.shown()?;
         self.ask_to_reply(on)?;
-        Ok(self.replied(on, text)?)
+        let reopened = self.move_of(on)?;
+        let entries = self.entries_of_reply(on, text, &reopened)?;
+        let row = self.replied_row(on, &reopened)?;
+        Ok(Change::revising(self.alloc, row, entries))
     }
 
     #[tactic(auto, unfolding(rights_core::specs::Right::reply_to_ticket))]
@@ -45,17 +48,6 @@ impl Context<'_> {
     {
         let reopened = self.move_of(on)?;
         Ok(entries_of_move(&reopened))
-    }
-
-    fn replied(&self, on: &Standing, text: &Text) -> Result<Change, AllocError>
-        requires { on.now.entry_count
-            + reply.entries_wanted (call_of self.now) self.now.facts.now on.now < 2 ^ 32 }
-        ensures { MakesOn result (reply.change text.now) self.now on.now }
-    {
-        let reopened = self.move_of(on)?;
-        let entries = self.entries_of_reply(on, text, &reopened)?;
-        let row = self.replied_row(on, &reopened)?;
-        Ok(Change::revising(self.alloc, row, entries))
     }
 
     /// The status that a reply moves the request to, if it moves it.

@@ -1,6 +1,6 @@
 ghost use Rattle.std.specs.Prelude.{◌≡◌, ◌+◌, ◌^◌, ◌<◌, IfOk, OnOk, None};
 ghost use Rattle.desk_core.specs.Commands.SetLevel as set_level;
-ghost use Rattle.desk_core.specs.Context.{DecidesOn, MakesOn, PassesOn};
+ghost use Rattle.desk_core.specs.Context.{DecidesOn, PassesOn};
 ghost use Rattle.desk_core.specs.Plan.{Nothing};
 
 use crate::change::Change;
@@ -20,7 +20,10 @@ impl Context<'_> {
     {
         let on = self.shown()?;
         self.ask_to_set_level(on, level)?;
-        Ok(self.levelled(on, level)?)
+        let old = level_word(&on.row.level);
+        let entries = self.one_entry(on, EntryKind::Level, old, level_word(level))?;
+        let row = with_level(&on.row, level)?;
+        Ok(Change::revising(self.alloc, row, entries))
     }
 
     #[tactic(auto, unfolding(rights_core::specs::Right::modify_ticket))]
@@ -36,16 +39,6 @@ impl Context<'_> {
             return Err(Refusal::NoChange);
         }
         self.ask_for_room(on, 1)
-    }
-
-    fn levelled(&self, on: &Standing, level: &Option<Text>) -> Result<Change, AllocError>
-        requires { on.now.entry_count + 1 < 2 ^ 32 }
-        ensures { MakesOn result (set_level.change level.now) self.now on.now }
-    {
-        let old = level_word(&on.row.level);
-        let entries = self.one_entry(on, EntryKind::Level, old, level_word(level))?;
-        let row = with_level(&on.row, level)?;
-        Ok(Change::revising(self.alloc, row, entries))
     }
 }
 

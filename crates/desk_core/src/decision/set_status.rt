@@ -1,7 +1,7 @@
 ghost use Rattle.std.specs.Prelude.{◌≡◌, ◌+◌, ◌^◌, ◌<◌, true, IfOk, IfErr, OnOk, None};
 ghost use Rattle.std.specs.Option.{option_map};
 ghost use Rattle.desk_core.specs.Commands.SetStatus as set_status;
-ghost use Rattle.desk_core.specs.Context.{call_of, DecidesOn, MakesOn, PassesOn};
+ghost use Rattle.desk_core.specs.Context.{call_of, DecidesOn, PassesOn};
 ghost use Rattle.desk_core.specs.Plan.{Dependencies};
 ghost use Rattle.desk_core.specs.Refusals.{names_its_right};
 
@@ -27,7 +27,11 @@ impl Context<'_> {
     {
         let on = self.shown()?;
         self.ask_to_move(on, status)?;
-        Ok(self.moved(on, status)?)
+        let (from, to) = (on.row.status.as_str(), status.as_str());
+        let entries = self.one_entry(on, EntryKind::Status, from, to)?;
+        let lifecycle = lifecycle_of(self.settings, &self.facts.queue);
+        let row = self.row_in_status(lifecycle, &on.row, status)?;
+        Ok(Change::revising(self.alloc, row, entries))
     }
 
     fn ask_to_move(&self, on: &Standing, status: &Text) -> Result<(), Refusal>
@@ -52,17 +56,6 @@ impl Context<'_> {
             return Err(Refusal::OpenDependency);
         }
         self.ask_for_room(on, 1)
-    }
-
-    fn moved(&self, on: &Standing, status: &Text) -> Result<Change, AllocError>
-        requires { on.now.entry_count + 1 < 2 ^ 32 }
-        ensures { MakesOn result (set_status.change status.now) self.now on.now }
-    {
-        let lifecycle = lifecycle_of(self.settings, &self.facts.queue);
-        let (from, to) = (on.row.status.as_str(), status.as_str());
-        let entries = self.one_entry(on, EntryKind::Status, from, to)?;
-        let row = self.row_in_status(lifecycle, &on.row, status)?;
-        Ok(Change::revising(self.alloc, row, entries))
     }
 
     /// The row after a move. A move out of the inactive statuses opens the request anew.

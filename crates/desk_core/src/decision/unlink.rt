@@ -1,6 +1,6 @@
 ghost use Rattle.std.specs.Prelude.{◌+◌, ◌^◌, ◌<◌, OnOk, None};
 ghost use Rattle.desk_core.specs.Commands.Unlink as unlink;
-ghost use Rattle.desk_core.specs.Context.{DecidesOn, MakesOn, PassesOn};
+ghost use Rattle.desk_core.specs.Context.{DecidesOn, PassesOn};
 ghost use Rattle.desk_core.specs.Plan.{Another};
 
 use crate::change::Change;
@@ -10,7 +10,6 @@ use crate::facts::Standing;
 use crate::refusal::Refusal;
 use crate::rows::{EntryKind, LinkKind, LinkRow};
 use rights_core::right;
-use std::alloc::AllocError;
 
 impl Context<'_> {
     /// Takes away the link of the request with another one.
@@ -20,7 +19,14 @@ impl Context<'_> {
     {
         let on = self.both_shown()?;
         self.ask_to_unlink(on)?;
-        Ok(self.unlinked(on, kind, other)?)
+        let number = in_digits(self.alloc, other)?;
+        let entries = self.one_entry(on, EntryKind::Unlink, kind_word(kind), number.as_str())?;
+        let link = LinkRow {
+            source: on.row.id,
+            kind,
+            target: other,
+        };
+        Ok(Change::unlinking(self.alloc, link, entries))
     }
 
     #[tactic(auto, unfolding(rights_core::specs::Right::modify_ticket))]
@@ -33,19 +39,5 @@ impl Context<'_> {
             return Err(Refusal::NoChange);
         }
         self.ask_for_room(on, 1)
-    }
-
-    fn unlinked(&self, on: &Standing, kind: LinkKind, other: u32) -> Result<Change, AllocError>
-        requires { on.now.entry_count + 1 < 2 ^ 32 }
-        ensures { MakesOn result (unlink.change kind other) self.now on.now }
-    {
-        let number = in_digits(self.alloc, other)?;
-        let entries = self.one_entry(on, EntryKind::Unlink, kind_word(kind), number.as_str())?;
-        let link = LinkRow {
-            source: on.row.id,
-            kind,
-            target: other,
-        };
-        Ok(Change::unlinking(self.alloc, link, entries))
     }
 }

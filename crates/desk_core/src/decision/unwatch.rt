@@ -1,6 +1,6 @@
 ghost use Rattle.std.specs.Prelude.{◌+◌, ◌^◌, ◌<◌, OnOk, None};
 ghost use Rattle.desk_core.specs.Commands.Unwatch as unwatch;
-ghost use Rattle.desk_core.specs.Context.{DecidesOn, MakesOn, PassesOn};
+ghost use Rattle.desk_core.specs.Context.{DecidesOn, PassesOn};
 ghost use Rattle.desk_core.specs.Plan.{Nothing};
 
 use crate::change::Change;
@@ -10,7 +10,6 @@ use crate::facts::Standing;
 use crate::refusal::Refusal;
 use crate::rows::{EntryKind, WatchRole};
 use rights_core::right;
-use std::alloc::AllocError;
 use text_core::Text;
 
 impl Context<'_> {
@@ -21,7 +20,9 @@ impl Context<'_> {
     {
         let on = self.shown()?;
         self.ask_to_unwatch(on, role, person)?;
-        Ok(self.unwatched(on, role, person)?)
+        let entries = self.one_entry(on, EntryKind::Unwatch, role_word(role), person.as_str())?;
+        let taken = one_watcher(self.alloc, on, role, person)?;
+        Ok(Change::taking(self.alloc, taken, entries))
     }
 
     #[tactic(auto, unfolding(rights_core::specs::Right::modify_ticket))]
@@ -39,14 +40,5 @@ impl Context<'_> {
             return Err(Refusal::NoChange);
         }
         self.ask_for_room(on, 1)
-    }
-
-    fn unwatched(&self, on: &Standing, role: WatchRole, person: &Text) -> Result<Change, AllocError>
-        requires { on.now.entry_count + 1 < 2 ^ 32 }
-        ensures { MakesOn result (unwatch.change role person.now) self.now on.now }
-    {
-        let entries = self.one_entry(on, EntryKind::Unwatch, role_word(role), person.as_str())?;
-        let taken = one_watcher(self.alloc, on, role, person)?;
-        Ok(Change::taking(self.alloc, taken, entries))
     }
 }

@@ -1,7 +1,7 @@
 ghost use Rattle.std.specs.Prelude.{◌≡◌, ◌+◌, ◌^◌, ◌<◌, [], ◌∷◌, IfOk, OnOk, None};
 ghost use Rattle.desk_core.specs.Commands.Watch as watch;
 ghost use Rattle.desk_core.specs.Watchers as watchers;
-ghost use Rattle.desk_core.specs.Context.{call_of, DecidesOn, MakesOn, PassesOn};
+ghost use Rattle.desk_core.specs.Context.{call_of, DecidesOn, PassesOn};
 ghost use Rattle.desk_core.specs.Plan.{Nothing};
 
 use crate::change::Change;
@@ -21,7 +21,9 @@ impl Context<'_> {
     {
         let on = self.shown()?;
         self.ask_to_watch(on, role, person)?;
-        Ok(self.watched(on, role, person)?)
+        let entries = self.one_entry(on, EntryKind::Watch, role_word(role), person.as_str())?;
+        let put = one_watcher(self.alloc, on, role, person)?;
+        Ok(Change::putting(self.alloc, put, entries))
     }
 
     #[tactic(auto, unfolding(rights_core::specs::Right::modify_ticket))]
@@ -39,15 +41,6 @@ impl Context<'_> {
             return Err(Refusal::NoChange);
         }
         self.ask_for_room(on, 1)
-    }
-
-    fn watched(&self, on: &Standing, role: WatchRole, person: &Text) -> Result<Change, AllocError>
-        requires { on.now.entry_count + 1 < 2 ^ 32 }
-        ensures { MakesOn result (watch.change role person.now) self.now on.now }
-    {
-        let entries = self.one_entry(on, EntryKind::Watch, role_word(role), person.as_str())?;
-        let put = one_watcher(self.alloc, on, role, person)?;
-        Ok(Change::putting(self.alloc, put, entries))
     }
 
     /// Whether the caller may modify the request, or names himself and may watch it.
