@@ -1,4 +1,7 @@
+ghost use Rattle.std.specs.Prelude.{◌≡◌};
+
 use crate::rows::{QueueRow, RequestRow};
+use std::alloc::AllocError;
 use text_core::{Sequence, Text, Texts};
 
 /// What a command looks at before it decides. What it doesn't look at is absent, empty or 0.
@@ -29,6 +32,24 @@ pub struct Standing {
     pub cc: Texts,
     pub admin_cc: Texts,
     pub entry_count: u32,
+}
+
+impl Clone for Standing {
+    ghost is_clone = { λ on copy. copy ≡ on };
+
+    fn clone(&self) -> Result<Standing, AllocError> {
+        let requestors = self.requestors.clone()?;
+        let cc = self.cc.clone()?;
+        let admin_cc = self.admin_cc.clone()?;
+        let row = self.row.clone()?;
+        Ok(Standing {
+            row,
+            requestors,
+            cc,
+            admin_cc,
+            entry_count: self.entry_count,
+        })
+    }
 }
 
 /// A request that another one depends on: the lifecycle of its queue, and its status.

@@ -60,7 +60,7 @@ fn step<S: Alter>(
     ensures honest { WasClean (state_of S.Store store.old) (state_of S.Store store.new) }
 {
     match store.facts_for(alloc, command) {
-        Ok(facts) => decided(alloc, store, settings, at, caller, command, facts),
+        Ok(facts) => decided(alloc, store, settings, at, caller, command, &facts),
         Err(fault) => Err(Refusal::from(fault)),
     }
 }
@@ -73,16 +73,16 @@ fn decided<S: Alter>(
     at: u32,
     caller: &str,
     command: &Command,
-    facts: Facts,
+    facts: &Facts,
 ) -> Result<Answer, Refusal>
-    ensures step { StepsSeeing facts settings.now (ask_by at caller.now command.now) result
+    ensures step { StepsSeeing facts.now settings.now (ask_by at caller.now command.now) result
         (state_of S.Store store.old) (state_of S.Store store.new) }
     ensures refused { OnErr result
         (Leaves (state_of S.Store store.old) (state_of S.Store store.new)) }
     ensures named { IfErr result (λ refusal. names_its_right refusal ≡ true) }
     ensures honest { WasClean (state_of S.Store store.old) (state_of S.Store store.new) }
 {
-    match decide(alloc, settings, at, caller, &facts, command) {
+    match decide(alloc, settings, at, caller, facts, command) {
         Ok(change) => carry_out(alloc, store, settings, caller, command, facts, &change),
         Err(refusal) => Err(refusal),
     }
@@ -96,10 +96,10 @@ fn carry_out<S: Alter>(
     settings: &Settings,
     caller: &str,
     command: &Command,
-    facts: Facts,
+    facts: &Facts,
     change: &Change,
 ) -> Result<Answer, Refusal>
-    ensures done { (at : ℕ) → CarriesOut facts change.now settings.now
+    ensures done { (at : ℕ) → CarriesOut facts.now change.now settings.now
         (ask_by at caller.now command.now) result
         (state_of S.Store store.old) (state_of S.Store store.new) }
     ensures refused { OnErr result

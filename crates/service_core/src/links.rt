@@ -10,7 +10,7 @@ use desk_core::{Command, Facts, LinkKind, LinkRow, Links, Refusal, is_kind};
 use settings_core::Settings;
 use sqlite::Alter;
 use std::alloc::{AllocError, Global};
-use store_core::Store;
+use store_core::{Store, StoreFault};
 use text_core::Sequence;
 
 /// An end of a link.
@@ -94,19 +94,19 @@ fn is_shown<S: Alter>(
     ensures kept { Spares (state_of S.Store store.old) (state_of S.Store store.new) }
     ensures fault { IfErr result (λ refusal. refusal ≡ Refusal.Unavailable) }
 {
-    let facts = facts_on(alloc, store, id)?;
-    Ok(may_show(settings, caller, &facts))
+    match facts_on(alloc, store, id) {
+        Ok(facts) => Ok(may_show(settings, caller, &facts)),
+        Err(fault) => Err(Refusal::from(fault)),
+    }
 }
 
 /// What is seen of the request with this number, and of its queue.
-fn facts_on<S: Alter>(alloc: Global, store: &mut Store<S>, id: u32) -> Result<Facts, Refusal>
+fn facts_on<S: Alter>(alloc: Global, store: &mut Store<S>, id: u32) -> Result<Facts, StoreFault>
     ensures told { Tells (λ desk facts. facts ≡ facts_on_request desk id)
         (state_of S.Store store.old) (state_of S.Store store.new) result }
     ensures kept { Spares (state_of S.Store store.old) (state_of S.Store store.new) }
-    ensures fault { IfErr result (λ refusal. refusal ≡ Refusal.Unavailable) }
 {
-    let facts = store.facts_for(alloc, &Command::Show { id })?;
-    Ok(facts)
+    store.facts_for(alloc, &Command::Show { id })
 }
 
 /// Whether the request of these facts is there and the caller may show it.

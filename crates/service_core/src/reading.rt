@@ -63,18 +63,16 @@ pub(crate) fn show<S: Alter>(
     store: &mut Store<S>,
     settings: &Settings,
     caller: &str,
-    facts: Facts,
+    facts: &Facts,
 ) -> Result<Answer, Refusal>
-    ensures told { (at id : ℕ) → Tells (λ desk answer. facts ≡ facts_of (Command.Show id) desk
+    ensures told { (at id : ℕ) → Tells (λ desk answer. facts.now ≡ facts_of (Command.Show id) desk
         → answer ≡ reading.answer_of settings.now at caller.now (Command.Show id) desk)
         (state_of S.Store store.old) (state_of S.Store store.new) result }
     ensures kept { Spares (state_of S.Store store.old) (state_of S.Store store.new) }
     ensures fault { IfErr result (λ refusal. refusal ≡ Refusal.Unavailable) }
 {
-    let due = due_in(settings, &facts);
-    let request = facts.request;
-    match request {
-        Some(on) => shown_to(alloc, store, settings, caller, due, on),
+    match &facts.request {
+        Some(on) => shown_to(alloc, store, settings, caller, due_in(settings, facts), on),
         None => Ok(Answer::Done),
     }
 }
@@ -96,16 +94,17 @@ fn shown_to<S: Alter>(
     settings: &Settings,
     caller: &str,
     due: Option<Minute>,
-    on: Standing,
+    on: &Standing,
 ) -> Result<Answer, Refusal>
     ensures told { Tells (λ desk answer. answer
-        ≡ Answer.Shown (shown.shown_to settings.now caller.now due on desk))
+        ≡ Answer.Shown (shown.shown_to settings.now caller.now due on.now desk))
         (state_of S.Store store.old) (state_of S.Store store.new) result }
     ensures kept { Spares (state_of S.Store store.old) (state_of S.Store store.new) }
     ensures fault { IfErr result (λ refusal. refusal ≡ Refusal.Unavailable) }
 {
     let links = links_of(alloc, store, settings, caller, on.row.id)?;
-    Ok(Answer::Shown(shown_with(on, due, links)))
+    let copy = on.clone()?;
+    Ok(Answer::Shown(shown_with(copy, due, links)))
 }
 
 /// What is shown of a request with this due moment and these links.
@@ -129,9 +128,9 @@ pub(crate) fn history<S: Alter>(
     store: &mut Store<S>,
     settings: &Settings,
     caller: &str,
-    facts: Facts,
+    facts: &Facts,
 ) -> Result<Answer, Refusal>
-    ensures told { (at id : ℕ) → Tells (λ desk answer. facts ≡ facts_of (Command.History id) desk
+    ensures told { (at id : ℕ) → Tells (λ desk answer. facts.now ≡ facts_of (Command.History id) desk
         → answer ≡ reading.answer_of settings.now at caller.now (Command.History id) desk)
         (state_of S.Store store.old) (state_of S.Store store.new) result }
     ensures kept { Spares (state_of S.Store store.old) (state_of S.Store store.new) }

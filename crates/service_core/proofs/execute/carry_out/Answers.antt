@@ -8,7 +8,7 @@ use Rattle.service_core.proofs.execute.carry_out.Goals as goal
 
 pub returns-in-Queues-clause-done : goal.returns-in-Queues-clause-done
 returns-in-Queues-clause-done g c at =
-    asked_where c.args.facts c.args.change.now c.args.settings.now at c.args.caller.now
+    asked_where c.args.facts.now c.args.change.now c.args.settings.now at c.args.caller.now
     c.args.command.now _ c.queues.result
     (state_of g.S.Store c.args.store.now) (state_of g.S.Store c.queues.new.store)
     c.in-Queues.is refl
@@ -18,7 +18,7 @@ returns-in-Queues-clause-done g c at =
 
 pub returns-in-Show-clause-done : goal.returns-in-Show-clause-done
 returns-in-Show-clause-done g c at =
-    asked_where c.args.facts c.args.change.now c.args.settings.now at c.args.caller.now
+    asked_where c.args.facts.now c.args.change.now c.args.settings.now at c.args.caller.now
     c.args.command.now _ c.show.result
     (state_of g.S.Store c.args.store.now) (state_of g.S.Store c.show.new.store)
     c.in-Show.is refl (c.show.ensures.told at c.in-Show.id) c.show.ensures.fault
@@ -26,7 +26,7 @@ returns-in-Show-clause-done g c at =
 
 pub returns-in-History-clause-done : goal.returns-in-History-clause-done
 returns-in-History-clause-done g c at =
-    asked_where c.args.facts c.args.change.now c.args.settings.now at c.args.caller.now
+    asked_where c.args.facts.now c.args.change.now c.args.settings.now at c.args.caller.now
     c.args.command.now _ c.history.result
     (state_of g.S.Store c.args.store.now) (state_of g.S.Store c.history.new.store)
     c.in-History.is refl (c.history.ensures.told at c.in-History.id) c.history.ensures.fault
@@ -34,7 +34,7 @@ returns-in-History-clause-done g c at =
 
 pub returns-in_default-clause-done : goal.returns-in_default-clause-done
 returns-in_default-clause-done g c at =
-    written_where c.args.facts c.args.change.now c.args.settings.now
+    written_where c.args.facts.now c.args.change.now c.args.settings.now
     (ask_by at c.args.caller.now c.args.command.now) c.write.result
     (state_of g.S.Store c.args.store.now) (state_of g.S.Store c.write.new.store)
     (writes_unless c.args.command.now c.in_default.not-Queues c.in_default.not-Show

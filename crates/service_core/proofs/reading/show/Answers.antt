@@ -11,10 +11,10 @@ returns-in-Some-clause-told g c at id desk is stand clean =
     let caller = c.args.caller.now in
     if_ok c.shown_to.result
     (λ answer told seen. told
-    ∙ ap (λ due. Shown (shown_to settings caller due c.in-Some.on desk)) c.due_in-due.ensures
-    ∙ shows settings at caller desk id c.args.facts c.in-Some.on c.in-Some.is seen)
+    ∙ ap (λ due. Shown (shown_to settings caller due c.in-Some.on desk)) c.due_in.ensures
+    ∙ shows settings at caller desk id c.args.facts.now c.in-Some.on c.in-Some.is seen)
     (c.shown_to.ensures.told desk is stand clean)
 
-pub returns-clause-told : goal.returns-clause-told
-returns-clause-told g c at id desk is stand clean seen =
-    nothing_shown c.args.settings.now at c.args.caller.now desk id c.args.facts c.in-None.is seen
+pub returns-in-None-clause-told : goal.returns-in-None-clause-told
+returns-in-None-clause-told g c at id desk is stand clean seen =
+    nothing_shown c.args.settings.now at c.args.caller.now desk id c.args.facts.now c.in-None.is seen
