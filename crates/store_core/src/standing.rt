@@ -71,11 +71,11 @@ pub(crate) fn standing_at<S: Alter>(
         (state S.Store conn.old) (state S.Store conn.new) result }
     ensures fault { IfErr result (λ e. e ≢ StoreFault.WrongVersion) }
 {
+    let entry_count = last_number(conn, id)?;
+    let watchers = watchers_of(alloc, conn, id)?;
     match request_numbered(conn, id)? {
         None => Ok(None),
         Some(row) => {
-            let watchers = watchers_of(alloc, conn, id)?;
-            let entry_count = last_number(conn, id)?;
             let standing = standing_of(alloc, row, watchers.as_slice(), entry_count)?;
             Ok(Some(standing))
         }

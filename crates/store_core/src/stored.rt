@@ -49,17 +49,18 @@ impl Stored for RequestRow {
     ghost is_value = { IsRequestRow };
 
     fn read(row: &Row) -> Result<RequestRow, StoreFault> {
+        // (what owns memory comes last)
         Ok(RequestRow {
             id: number_at(row, 0)?,
+            created: minute_at(row, 6)?,
+            opened: minute_at(row, 7)?,
+            turn: turn_at(row, 8)?,
+            since: minute_at(row, 9)?,
             queue: text_at(row, 1)?,
             subject: text_at(row, 2)?,
             status: text_at(row, 3)?,
             owner: nullable_at(row, 4)?,
             level: nullable_at(row, 5)?,
-            created: minute_at(row, 6)?,
-            opened: minute_at(row, 7)?,
-            turn: turn_at(row, 8)?,
-            since: minute_at(row, 9)?,
         })
     }
 }
@@ -102,8 +103,8 @@ impl Stored for Entry {
             id: number_at(row, 0)?,
             number: number_at(row, 1)?,
             moment: minute_at(row, 2)?,
-            actor: text_at(row, 3)?,
             kind: entry_kind_at(row, 4)?,
+            actor: text_at(row, 3)?,
             head: text_at(row, 5)?,
             body: text_at(row, 6)?,
         })
