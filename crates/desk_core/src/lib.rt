@@ -25,9 +25,9 @@ pub use command::Command;
 pub use decision::decide;
 pub use due::due_of;
 pub use facts::{Dependency, Facts, Standing};
-pub use links::{is_kind, is_link, is_lower_link};
+pub use links::is_kind;
 pub use refusal::Refusal;
-pub use rights::{may_show, sees_queue};
+pub use rights::{is_role, may_show, sees_queue};
 pub use rows::{
     Entry, EntryKind, LinkKind, LinkRow, QueueRow, RequestRow, Turn, WatchRole, Watcher,
 };

@@ -108,7 +108,8 @@ fn is_watching(person: &str, id: u32, role: WatchRole, watchers: &[Watcher]) -> 
     watchers.iter().any(|w| w.id == id && is_role(role, w.role) && w.person.as_str() == person)
 }
 
-fn is_role(role: WatchRole, other: WatchRole) -> bool
+/// Whether both roles are one.
+pub fn is_role(role: WatchRole, other: WatchRole) -> bool
     ensures { result ≡ words.is_role role other }
 {
     match (role, other) {

@@ -1,5 +1,5 @@
 //! What commands that read answer, of the tables.
-ghost use Rattle.std.specs.Prelude.{◌≡◌, ℕ, IfErr, IfOk, filter};
+ghost use Rattle.std.specs.Prelude.{◌≡◌, ℕ, IfErr, filter};
 ghost use Rattle.desk_core.specs.Reading as reading;
 ghost use Rattle.desk_core.specs.Rights as rights;
 ghost use Rattle.desk_core.specs.Step.{facts_of};
@@ -14,7 +14,7 @@ use desk_core::{
 use hours_core::Minute;
 use settings_core::Settings;
 use sqlite::Alter;
-use std::alloc::{AllocError, Global};
+use std::alloc::Global;
 use store_core::Store;
 use text_core::Sequence;
 
@@ -33,27 +33,15 @@ pub(crate) fn queues<S: Alter>(
     ensures fault { IfErr result (λ refusal. refusal ≡ Refusal.Unavailable) }
 {
     let queues = store.queues(alloc)?;
-    let seen = queues_seen(alloc, settings, caller, queues.as_slice())?;
-    Ok(Answer::Queues(seen))
+    Ok(Answer::Queues(queues_seen(settings, caller, queues)))
 }
 
 /// Those of the queues that the caller may see.
-fn queues_seen(
-    alloc: Global,
-    settings: &Settings,
-    caller: &str,
-    queues: &[QueueRow],
-) -> Result<Sequence<QueueRow>, AllocError>
-    ensures { IfOk result (λ seen. seen
-        ≡ filter (rights.sees_queue settings.now caller.now) queues.now) }
+fn queues_seen(settings: &Settings, caller: &str, mut queues: Vec<QueueRow>) -> Sequence<QueueRow>
+    ensures { result ≡ filter (rights.sees_queue settings.now caller.now) queues.items }
 {
-    let mut seen = Vec::new(alloc);
-    for queue in queues {
-        if sees_queue(settings, caller, queue) {
-            seen.push(queue.clone()?)?;
-        }
-    }
-    Ok(Sequence::from(seen))
+    queues.retain(|queue| sees_queue(settings, caller, queue));
+    Sequence::from(queues)
 }
 
 /// The request that a command sees, as it is shown to the caller. `Unavailable` where memory or the
@@ -158,21 +146,15 @@ fn told_to<S: Alter>(
 {
     let comments = on.may_show_comments(settings, caller);
     let entries = store.entries_of(alloc, on.row.id)?;
-    let told = told(alloc, entries.as_slice(), comments)?;
-    Ok(Answer::History(told))
+    Ok(Answer::History(told(entries, comments)))
 }
 
 /// The entries, with the comments or without them.
-fn told(alloc: Global, entries: &[Entry], comments: bool) -> Result<Sequence<Entry>, AllocError>
-    ensures { IfOk result (λ told. told ≡ filter (shown.is_told comments) entries.now) }
+fn told(mut entries: Vec<Entry>, comments: bool) -> Sequence<Entry>
+    ensures { result ≡ filter (shown.is_told comments) entries.items }
 {
-    let mut told = Vec::new(alloc);
-    for entry in entries {
-        if is_told(entry, comments) {
-            told.push(entry.clone()?)?;
-        }
-    }
-    Ok(Sequence::from(told))
+    entries.retain(|entry| is_told(entry, comments));
+    Sequence::from(entries)
 }
 
 /// Whether an entry is told: a comment only where comments may be shown.

@@ -3,7 +3,6 @@ ghost use Rattle.std.specs.Prelude.{◌++◌, ◌∷◌, ◌≡◌, ◌≢◌, I
 ghost use Rattle.sqlite.specs.Held.{state};
 ghost use Rattle.desk_core.specs.Desk.{queue_at};
 ghost use Rattle.desk_core.specs.Facts as facts;
-ghost use Rattle.desk_core.specs.Watchers as watching;
 ghost use Rattle.store_core.specs.declared.fault.StoreFault.{StoreFault};
 ghost use Rattle.store_core.specs.Calls.{OnlyRefuses, Spares, Tells};
 ghost use Rattle.store_core.specs.Found as found;
@@ -13,7 +12,7 @@ use crate::reads::entries_by_key::last_number;
 use crate::reads::queues::queue_named;
 use crate::reads::requests_by_key::request_numbered;
 use crate::reads::watchers_by_key::watchers_of;
-use desk_core::{QueueRow, RequestRow, Standing, WatchRole, Watcher};
+use desk_core::{QueueRow, RequestRow, Standing, WatchRole, Watcher, is_role};
 use sqlite::{Alter, Connection};
 use std::alloc::Global;
 use text_core::{Text, Texts};
@@ -125,17 +124,5 @@ fn put_person(persons: &mut Vec<Text>, person: &Text) -> Result<(), StoreFault>
     match persons.push(copy) {
         Ok(()) => Ok(()),
         Err(_) => Err(StoreFault::Refused),
-    }
-}
-
-/// Whether both roles are one.
-fn is_role(role: WatchRole, other: WatchRole) -> bool
-    ensures { result ≡ watching.is_role role other }
-{
-    match (role, other) {
-        (WatchRole::Requestor, WatchRole::Requestor) => true,
-        (WatchRole::Cc, WatchRole::Cc) => true,
-        (WatchRole::AdminCc, WatchRole::AdminCc) => true,
-        _ => false,
     }
 }

@@ -5,6 +5,6 @@ use Rattle.service_core.proofs.reading.queues.Goals as goal
 
 pub returns-clause-told : goal.returns-clause-told
 returns-clause-told g c desk is stand clean =
-    ap Queues (c.in_ok-seen.ensures
-    ∙ ap (filter (sees_queue c.args.settings.now c.args.caller.now)) (c.as_slice.ensures.value
-    ∙ c.in_ok-queues.ensures.listed desk is stand clean))
+    ap Queues (c.queues_seen.ensures
+    ∙ ap (filter (sees_queue c.args.settings.now c.args.caller.now))
+    (c.in_ok-queues.ensures.listed desk is stand clean))

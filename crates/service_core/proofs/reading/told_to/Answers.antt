@@ -7,7 +7,7 @@ use Rattle.service_core.proofs.reading.told_to.Goals as goal
 pub returns-clause-told : goal.returns-clause-told
 returns-clause-told g c desk is stand clean =
     let comments = may_show_comments c.args.settings.now c.args.caller.now c.args.on.now in
-    ap History (c.in_ok-told.ensures
-    ∙ ap (λ b. filter (is_told b) c.as_slice.result.now) c.may_show_comments-comments.ensures
-    ∙ ap (filter (is_told comments)) (c.as_slice.ensures.value
-    ∙ c.in_ok-entries.ensures.listed desk is stand clean))
+    ap History (c.told.ensures
+    ∙ ap (λ b. filter (is_told b) c.in_ok-entries.entries.items)
+    c.may_show_comments-comments.ensures
+    ∙ ap (filter (is_told comments)) (c.in_ok-entries.ensures.listed desk is stand clean))

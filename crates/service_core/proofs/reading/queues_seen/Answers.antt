@@ -1,0 +1,7 @@
+use Rattle.std.proofs.Common.{◌∙◌, rules}
+use Rattle.std.proofs.lemmas.Fn.{filter_same}
+use Rattle.service_core.proofs.reading.queues_seen.Goals as goal
+
+pub returns : goal.returns
+returns c =
+    c.from.ensures ∙ filter_same _ _ _ (λ x b f' k. search rules) _ _ c.retain.ensures.filtered
