@@ -53,7 +53,8 @@ pub(crate) fn show<S: Alter>(
     caller: &str,
     facts: &Facts,
 ) -> Result<Answer, Refusal>
-    ensures told { (at id : ℕ) → Tells (λ desk answer. facts.now ≡ facts_of (Command.Show id) desk
+    ensures told { (at id : ℕ) → Tells (λ desk answer.
+        facts.now ≡ facts_of (Command.Show id) desk
         → answer ≡ reading.answer_of settings.now at caller.now (Command.Show id) desk)
         (state_of S.Store store.old) (state_of S.Store store.new) result }
     ensures kept { Spares (state_of S.Store store.old) (state_of S.Store store.new) }
@@ -118,7 +119,8 @@ pub(crate) fn history<S: Alter>(
     caller: &str,
     facts: &Facts,
 ) -> Result<Answer, Refusal>
-    ensures told { (at id : ℕ) → Tells (λ desk answer. facts.now ≡ facts_of (Command.History id) desk
+    ensures told { (at id : ℕ) → Tells (λ desk answer.
+        facts.now ≡ facts_of (Command.History id) desk
         → answer ≡ reading.answer_of settings.now at caller.now (Command.History id) desk)
         (state_of S.Store store.old) (state_of S.Store store.new) result }
     ensures kept { Spares (state_of S.Store store.old) (state_of S.Store store.new) }

@@ -17,4 +17,5 @@ returns-in-Some-clause-told g c at id desk is stand clean =
 
 pub returns-in-None-clause-told : goal.returns-in-None-clause-told
 returns-in-None-clause-told g c at id desk is stand clean seen =
-    nothing_shown c.args.settings.now at c.args.caller.now desk id c.args.facts.now c.in-None.is seen
+    nothing_shown c.args.settings.now at c.args.caller.now desk id c.args.facts.now c.in-None.is
+    seen
