@@ -7,17 +7,17 @@ use Rattle.std.specs.Option.{option_map}
 use Rattle.std.proofs.lemmas.Bool.{eqb-true}
 use Rattle.std.proofs.lemmas.List.Folds.{find-append}
 use Rattle.std.specs.Option.{option_or}
-use Rattle.desk_core.specs.Change.{applied, entry_put, filed, in_role, link_put}
-use Rattle.desk_core.specs.Change.{link_taken, person_put, person_taken, queue_put}
-use Rattle.desk_core.specs.Change.{request_filed, row_set, with_entry, with_row}
-use Rattle.desk_core.specs.Desk.{Desk, Request, request_at, revised_at, with_revised}
-use Rattle.desk_core.specs.declared.change.Change.{Change}
-use Rattle.desk_core.specs.declared.rows.Entry.{Entry}
-use Rattle.desk_core.specs.declared.rows.LinkRow.{LinkRow}
-use Rattle.desk_core.specs.declared.rows.QueueRow.{QueueRow}
-use Rattle.desk_core.specs.declared.rows.RequestRow.{RequestRow}
-use Rattle.desk_core.specs.declared.rows.WatchRole.{WatchRole}
-use Rattle.desk_core.specs.declared.rows.WatchRole.TheVariants.{Requestor, Cc, AdminCc}
+use Rattle.desk_model.specs.Change.{applied, entry_put, filed, in_role, link_put}
+use Rattle.desk_model.specs.Change.{link_taken, person_put, person_taken, queue_put}
+use Rattle.desk_model.specs.Change.{request_filed, row_set, with_entry, with_row}
+use Rattle.desk_model.specs.Desk.{Desk, Request, request_at, revised_at, with_revised}
+use Rattle.desk_model.specs.declared.change.Change.{Change}
+use Rattle.desk_model.specs.declared.rows.Entry.{Entry}
+use Rattle.desk_model.specs.declared.rows.LinkRow.{LinkRow}
+use Rattle.desk_model.specs.declared.rows.QueueRow.{QueueRow}
+use Rattle.desk_model.specs.declared.rows.RequestRow.{RequestRow}
+use Rattle.desk_model.specs.declared.rows.WatchRole.{WatchRole}
+use Rattle.desk_model.specs.declared.rows.WatchRole.TheVariants.{Requestor, Cc, AdminCc}
 
 -- what becomes of the request with a number keeps the number
 abbrev pub KeepsNumber : ℕ → (Request → Request) → Type 0

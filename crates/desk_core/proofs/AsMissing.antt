@@ -7,24 +7,24 @@ use Rattle.std.proofs.lemmas.Bool.{eqb-true, or_cases}
 use Rattle.hours_core.specs.Moment.{is_moment}
 use Rattle.settings_core.specs.Settings.{knows}
 use Rattle.settings_core.specs.declared.settings.Settings.{Settings}
-use Rattle.desk_core.specs.Commands.{plan_of}
-use Rattle.desk_core.specs.Condition.{Condition, first_holding}
-use Rattle.desk_core.specs.Desk.{Desk, Request, request_at}
-use Rattle.desk_core.specs.Facts.{standing, standing_at}
+use Rattle.desk_model.specs.Commands.{plan_of}
+use Rattle.desk_model.specs.Condition.{Condition, first_holding}
+use Rattle.desk_model.specs.Desk.{Desk, Request, request_at}
+use Rattle.desk_model.specs.Facts.{standing, standing_at}
+use Rattle.desk_model.specs.Plan.{Call, Plan, OnDesk, OnQueue, OnRequest, Nothing}
+use Rattle.desk_model.specs.Plan.{Dependencies, Another, besides_on, conditions_by}
+use Rattle.desk_model.specs.Plan.{is_bad_text, is_missing, names_request, on_shown, seen_by}
+use Rattle.desk_model.specs.Reading.{answer_of}
+use Rattle.desk_model.specs.Refusals.{number_of}
+use Rattle.desk_model.specs.Rights.{may_show}
+use Rattle.desk_model.specs.Step.{call, outcome_unless}
+use Rattle.desk_model.specs.declared.command.Command.{Command}
+use Rattle.desk_model.specs.declared.command.Command.TheVariants.{Link, Unlink}
+use Rattle.desk_model.specs.declared.facts.Standing.{Standing}
+use Rattle.desk_model.specs.declared.refusal.Refusal.{Refusal}
+use Rattle.desk_model.specs.declared.refusal.Refusal.TheVariants.{UnknownCaller, BadMoment}
+use Rattle.desk_model.specs.declared.refusal.Refusal.TheVariants.{BadText, NotFound}
 use Rattle.desk_core.specs.Laws.{RefusesAsMissing, names}
-use Rattle.desk_core.specs.Plan.{Call, Plan, OnDesk, OnQueue, OnRequest, Nothing}
-use Rattle.desk_core.specs.Plan.{Dependencies, Another, besides_on, conditions_by}
-use Rattle.desk_core.specs.Plan.{is_bad_text, is_missing, names_request, on_shown, seen_by}
-use Rattle.desk_core.specs.Reading.{answer_of}
-use Rattle.desk_core.specs.Refusals.{number_of}
-use Rattle.desk_core.specs.Rights.{may_show}
-use Rattle.desk_core.specs.Step.{call, outcome_unless}
-use Rattle.desk_core.specs.declared.command.Command.{Command}
-use Rattle.desk_core.specs.declared.command.Command.TheVariants.{Link, Unlink}
-use Rattle.desk_core.specs.declared.facts.Standing.{Standing}
-use Rattle.desk_core.specs.declared.refusal.Refusal.{Refusal}
-use Rattle.desk_core.specs.declared.refusal.Refusal.TheVariants.{UnknownCaller, BadMoment}
-use Rattle.desk_core.specs.declared.refusal.Refusal.TheVariants.{BadText, NotFound}
 
 -- the refusal of a command on a request that isn't there, by whether the caller is unknown, the
 -- moment none and the text none

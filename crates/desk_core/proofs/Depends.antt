@@ -15,30 +15,30 @@ use Rattle.text_core.specs.Texts.{is_among}
 use Rattle.lifecycle_core.specs.declared.lifecycle.Class.TheVariants.{Initial, Active, Inactive}
 use Rattle.lifecycle_core.specs.declared.parts.Parts.{Parts}
 use Rattle.settings_core.specs.declared.settings.Settings.{Settings}
+use Rattle.desk_model.specs.Commands.{plan_of}
+use Rattle.desk_model.specs.Commands.Reply as reply
+use Rattle.desk_model.specs.Commands.SetStatus as set_status
+use Rattle.desk_model.specs.Commands.SetStatus.{has_open_dependency, is_open_dependency}
+use Rattle.desk_model.specs.Desk.{Desk, Request, queue_at, request_at}
+use Rattle.desk_model.specs.Facts.{as_dependency, dependencies_of}
+use Rattle.desk_model.specs.Lifecycles.{is_inactive, is_inactive_class}
+use Rattle.desk_model.specs.Lifecycles.{lifecycle_of, reopening_of}
+use Rattle.desk_model.specs.Links.{is_kind, is_link, link}
+use Rattle.desk_model.specs.Plan.{Call}
+use Rattle.desk_model.specs.Step.{call, desk_after, facts_of}
+use Rattle.desk_model.specs.declared.command.Command.{Command}
+use Rattle.desk_model.specs.declared.command.Command.TheVariants.{OpenQueue, Create}
+use Rattle.desk_model.specs.declared.command.Command.TheVariants.{SetStatus, Reply, Queues}
+use Rattle.desk_model.specs.declared.facts.Dependency.{Dependency}
+use Rattle.desk_model.specs.declared.facts.Facts.{Facts}
+use Rattle.desk_model.specs.declared.facts.Standing.{Standing}
+use Rattle.desk_model.specs.declared.rows.LinkKind.TheVariants.{DependsOn}
+use Rattle.desk_model.specs.declared.rows.LinkRow.{LinkRow}
+use Rattle.desk_model.specs.declared.rows.QueueRow.{QueueRow}
+use Rattle.desk_model.specs.declared.rows.RequestRow.{RequestRow}
 use Rattle.desk_core.proofs.Goes.{Goes, NoneHolds, none_holds, row_goes, set_by}
 use Rattle.desk_core.proofs.Kept.{history_law, ids_kept, replied_to, status_in}
-use Rattle.desk_core.specs.Commands.{plan_of}
-use Rattle.desk_core.specs.Commands.Reply as reply
-use Rattle.desk_core.specs.Commands.SetStatus as set_status
-use Rattle.desk_core.specs.Commands.SetStatus.{has_open_dependency, is_open_dependency}
-use Rattle.desk_core.specs.Desk.{Desk, Request, queue_at, request_at}
-use Rattle.desk_core.specs.Facts.{as_dependency, dependencies_of}
 use Rattle.desk_core.specs.Laws.{IsOpenDependency, KeepsDependencyLaw}
-use Rattle.desk_core.specs.Lifecycles.{is_inactive, is_inactive_class}
-use Rattle.desk_core.specs.Lifecycles.{lifecycle_of, reopening_of}
-use Rattle.desk_core.specs.Links.{is_kind, is_link, link}
-use Rattle.desk_core.specs.Plan.{Call}
-use Rattle.desk_core.specs.Step.{call, desk_after, facts_of}
-use Rattle.desk_core.specs.declared.command.Command.{Command}
-use Rattle.desk_core.specs.declared.command.Command.TheVariants.{OpenQueue, Create}
-use Rattle.desk_core.specs.declared.command.Command.TheVariants.{SetStatus, Reply, Queues}
-use Rattle.desk_core.specs.declared.facts.Dependency.{Dependency}
-use Rattle.desk_core.specs.declared.facts.Facts.{Facts}
-use Rattle.desk_core.specs.declared.facts.Standing.{Standing}
-use Rattle.desk_core.specs.declared.rows.LinkKind.TheVariants.{DependsOn}
-use Rattle.desk_core.specs.declared.rows.LinkRow.{LinkRow}
-use Rattle.desk_core.specs.declared.rows.QueueRow.{QueueRow}
-use Rattle.desk_core.specs.declared.rows.RequestRow.{RequestRow}
 
 -- what passes a test is among what is found by another
 pub found_among : {A : Type 0} (test other : A → Bool) (xs : List A) (x : A) → find test xs ≡ Some x

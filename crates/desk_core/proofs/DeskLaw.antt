@@ -1,6 +1,15 @@
 -- Every step leaves a desk.
 use Rattle.std.proofs.Common.{◌≡◌, ℕ, List, Option, Some, None, refl}
 use Rattle.settings_core.specs.declared.settings.Settings.{Settings}
+use Rattle.desk_model.specs.Change.{applied}
+use Rattle.desk_model.specs.Commands.{plan_of}
+use Rattle.desk_model.specs.Desk.{Desk, empty_desk}
+use Rattle.desk_model.specs.IsDesk.{IsDesk, KeepsDesk}
+use Rattle.desk_model.specs.Plan.{change_by}
+use Rattle.desk_model.specs.Step.{call, desk_unless, effect, facts_of, guard}
+use Rattle.desk_model.specs.declared.change.Change.{Change}
+use Rattle.desk_model.specs.declared.command.Command.{Command}
+use Rattle.desk_model.specs.declared.refusal.Refusal.{Refusal}
 use Rattle.desk_core.proofs.DeskLaw.ByKind.{change_fits}
 use Rattle.desk_core.proofs.DeskLaw.Entries.{entries_follow}
 use Rattle.desk_core.proofs.DeskLaw.Fitting.{Fits}
@@ -8,15 +17,6 @@ use Rattle.desk_core.proofs.DeskLaw.Links.{ends_there, links_rise}
 use Rattle.desk_core.proofs.DeskLaw.Numbers.{stay_numbered}
 use Rattle.desk_core.proofs.DeskLaw.Persons.{persons_after}
 use Rattle.desk_core.proofs.DeskLaw.Queues.{each_in_queue, queues_rise}
-use Rattle.desk_core.specs.Change.{applied}
-use Rattle.desk_core.specs.Commands.{plan_of}
-use Rattle.desk_core.specs.Desk.{Desk, empty_desk}
-use Rattle.desk_core.specs.IsDesk.{IsDesk, KeepsDesk}
-use Rattle.desk_core.specs.Plan.{change_by}
-use Rattle.desk_core.specs.Step.{call, desk_unless, effect, facts_of, guard}
-use Rattle.desk_core.specs.declared.change.Change.{Change}
-use Rattle.desk_core.specs.declared.command.Command.{Command}
-use Rattle.desk_core.specs.declared.refusal.Refusal.{Refusal}
 pub mod ByKind
 pub mod Entries
 pub mod Fitting

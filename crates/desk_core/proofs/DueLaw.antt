@@ -3,14 +3,14 @@ use Rattle.std.proofs.Common.{◌≡◌, ◌∙◌, ℕ, List, [], Option, Some,
 use Rattle.std.specs.List.{All}
 use Rattle.std.proofs.lemmas.List.Elements.{All-nil, All-cons}
 use Rattle.settings_core.specs.declared.settings.Settings.{Settings}
+use Rattle.desk_model.specs.Desk.{Desk, Request, request_at}
+use Rattle.desk_model.specs.Due.{due_on}
+use Rattle.desk_model.specs.Reading.{entries_told, answer_of_request, shown_of}
+use Rattle.desk_model.specs.declared.answer.Answer.TheVariants as answer
+use Rattle.desk_model.specs.declared.command.Command.{Command}
+use Rattle.desk_model.specs.declared.command.Command.TheVariants.{Show, History}
 use Rattle.desk_core.proofs.Goes.{number_found}
-use Rattle.desk_core.specs.Desk.{Desk, Request, request_at}
-use Rattle.desk_core.specs.Due.{due_on}
 use Rattle.desk_core.specs.Laws.{IsDue, TellsDueMoments, dues_told}
-use Rattle.desk_core.specs.Reading.{entries_told, answer_of_request, shown_of}
-use Rattle.desk_core.specs.declared.answer.Answer.TheVariants as answer
-use Rattle.desk_core.specs.declared.command.Command.{Command}
-use Rattle.desk_core.specs.declared.command.Command.TheVariants.{Show, History}
 
 told_of_shown : (s : Settings) (caller : List ℕ) (desk : Desk) (id : ℕ) (o : Option Request)
     → request_at desk id ≡ o

@@ -4,7 +4,7 @@ use Rattle.std.proofs.Common.{[], ◌∷◌, map, filter, find, Some, refl, subs
 use Rattle.std.proofs.lemmas.Bool.{and_from, and_parts}
 use Rattle.std.proofs.lemmas.List.Folds.{list_all-map}
 use Rattle.std.specs.List.{list_all}
-use Rattle.desk_core.specs.Desk.{placed}
+use Rattle.desk_model.specs.Desk.{placed}
 
 -- where one test follows from the other
 pub every_so : {X : Type 0} (test so : X → Bool) (xs : List X)

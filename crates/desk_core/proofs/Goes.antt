@@ -6,26 +6,26 @@ use Rattle.std.proofs.lemmas.Bool.{eqb-true}
 use Rattle.hours_core.specs.Moment.{is_moment}
 use Rattle.settings_core.specs.Settings.{knows}
 use Rattle.settings_core.specs.declared.settings.Settings.{Settings}
+use Rattle.desk_model.specs.Commands.{plan_of}
+use Rattle.desk_model.specs.Condition.{Condition, first_holding}
+use Rattle.desk_model.specs.Desk.{Desk, Request, queue_at, request_at}
+use Rattle.desk_model.specs.Facts.{queue_of, standing}
+use Rattle.desk_model.specs.Plan.{Call, Plan, OnDesk, OnQueue, OnRequest, Nothing}
+use Rattle.desk_model.specs.Plan.{Dependencies, Another, besides_on}
+use Rattle.desk_model.specs.Plan.{change_by, change_of_request, conditions_by}
+use Rattle.desk_model.specs.Plan.{is_bad_text, is_missing, on_shown, seen_by}
+use Rattle.desk_model.specs.Step.{call, desk_after}
+use Rattle.desk_model.specs.Step.{desk_unless, effect, facts_of, guard}
+use Rattle.desk_model.specs.declared.change.Change.{Change}
+use Rattle.desk_model.specs.declared.command.Command.{Command}
+use Rattle.desk_model.specs.declared.facts.Facts.{Facts}
+use Rattle.desk_model.specs.declared.facts.Standing.{Standing}
+use Rattle.desk_model.specs.declared.refusal.Refusal.{Refusal}
+use Rattle.desk_model.specs.declared.refusal.Refusal.TheVariants.{UnknownCaller, BadMoment}
+use Rattle.desk_model.specs.declared.refusal.Refusal.TheVariants.{BadText, NotFound}
+use Rattle.desk_model.specs.declared.rows.QueueRow.{QueueRow}
+use Rattle.desk_model.specs.declared.rows.RequestRow.{RequestRow}
 use Rattle.desk_core.proofs.Applied.{left_by, row_after}
-use Rattle.desk_core.specs.Commands.{plan_of}
-use Rattle.desk_core.specs.Condition.{Condition, first_holding}
-use Rattle.desk_core.specs.Desk.{Desk, Request, queue_at, request_at}
-use Rattle.desk_core.specs.Facts.{queue_of, standing}
-use Rattle.desk_core.specs.Plan.{Call, Plan, OnDesk, OnQueue, OnRequest, Nothing}
-use Rattle.desk_core.specs.Plan.{Dependencies, Another, besides_on}
-use Rattle.desk_core.specs.Plan.{change_by, change_of_request, conditions_by}
-use Rattle.desk_core.specs.Plan.{is_bad_text, is_missing, on_shown, seen_by}
-use Rattle.desk_core.specs.Step.{call, desk_after}
-use Rattle.desk_core.specs.Step.{desk_unless, effect, facts_of, guard}
-use Rattle.desk_core.specs.declared.change.Change.{Change}
-use Rattle.desk_core.specs.declared.command.Command.{Command}
-use Rattle.desk_core.specs.declared.facts.Facts.{Facts}
-use Rattle.desk_core.specs.declared.facts.Standing.{Standing}
-use Rattle.desk_core.specs.declared.refusal.Refusal.{Refusal}
-use Rattle.desk_core.specs.declared.refusal.Refusal.TheVariants.{UnknownCaller, BadMoment}
-use Rattle.desk_core.specs.declared.refusal.Refusal.TheVariants.{BadText, NotFound}
-use Rattle.desk_core.specs.declared.rows.QueueRow.{QueueRow}
-use Rattle.desk_core.specs.declared.rows.RequestRow.{RequestRow}
 
 passed_by : (b : Bool) (r : Refusal) (o : Option Refusal) → cond b (Some r) o ≡ None
     → (b ≡ false) × (o ≡ None)

@@ -2,39 +2,41 @@
 use Rattle.std.proofs.Common.{◌≡◌, ◌≢◌, ◌⊎◌, ℕ, Bool, true, false, cond, List}
 use Rattle.std.proofs.Common.{[], ◌++◌, ◌||◌, ◌&&◌, not, unwrap_or, Option, Some}
 use Rattle.std.proofs.Common.{None, inl, inr, refl, ap, sym, subst, append-nil}
-use Rattle.desk_core.specs.Desk.{queue_at}
-use Rattle.desk_core.specs.Facts.{standing}
+use Rattle.desk_model.specs.Desk.{queue_at}
+use Rattle.desk_model.specs.Facts.{standing}
 use Rattle.settings_core.specs.declared.settings.Settings.{Settings}
-use Rattle.desk_core.proofs.Applied.{left_by}
-use Rattle.desk_core.proofs.Goes.{Goes, found_passes, KeepsIds, NoneHolds}
-use Rattle.desk_core.proofs.Goes.{holding, none_holds, row_goes, set_by}
-use Rattle.desk_core.specs.Desk.{Desk, Request, request_at}
-use Rattle.desk_core.specs.Laws.{IsLawfulMove, KeepsHistory, KeepsOwnerLaw}
-use Rattle.desk_core.specs.Laws.{KeepsStatusLaw, MayOwn, SetsOwner}
-use Rattle.desk_core.specs.Plan.{Call, change_by}
-use Rattle.desk_core.specs.Commands.{plan_of}
+use Rattle.desk_model.specs.Desk.{Desk, Request, request_at}
+use Rattle.desk_model.specs.Plan.{Call, change_by}
+use Rattle.desk_model.specs.Commands.{plan_of}
+use Rattle.desk_model.specs.Commands.Reply as reply
+use Rattle.desk_model.specs.Commands.SetStatus as set_status
+use Rattle.desk_model.specs.Lifecycles.{is_allowed, is_inactive, is_initial}
+use Rattle.desk_model.specs.Lifecycles.{lifecycle_of, reopening_of, right_of}
+use Rattle.desk_model.specs.Commands.Steal as steal
 use Rattle.rights_core.specs.Right.{own_ticket}
 use Rattle.lifecycle_core.specs.Lifecycle.{may_move}
 use Rattle.lifecycle_core.specs.declared.parts.Parts.{Parts}
-use Rattle.desk_core.specs.Commands.Reply as reply
-use Rattle.desk_core.specs.Commands.SetStatus as set_status
-use Rattle.desk_core.specs.Lifecycles.{is_allowed, is_inactive, is_initial}
-use Rattle.desk_core.specs.Lifecycles.{lifecycle_of, reopening_of, right_of}
+use Rattle.desk_model.specs.Commands.Take as take
+use Rattle.desk_model.specs.Commands.Give as give
+use Rattle.desk_model.specs.Rights.{holds_on}
+use Rattle.desk_model.specs.Step.{call, desk_after, desk_unless, effect, facts_of, guard}
 use Rattle.text_core.specs.Texts.{is_among}
-use Rattle.desk_core.specs.Commands.Steal as steal
-use Rattle.desk_core.specs.Commands.Take as take
-use Rattle.desk_core.specs.Commands.Give as give
-use Rattle.desk_core.specs.Rights.{holds_on}
-use Rattle.desk_core.specs.Step.{call, desk_after, desk_unless, effect, facts_of, guard}
-use Rattle.desk_core.specs.declared.command.Command.{Command}
-use Rattle.desk_core.specs.declared.command.Command.TheVariants.{OpenQueue, Create, SetStatus, Take}
-use Rattle.desk_core.specs.declared.command.Command.TheVariants.{Steal, Untake, Give, Reply, Queues}
-use Rattle.desk_core.specs.declared.facts.Facts.{Facts}
-use Rattle.desk_core.specs.declared.facts.Standing.{Standing}
-use Rattle.desk_core.specs.declared.refusal.Refusal.{Refusal}
-use Rattle.desk_core.specs.declared.rows.Entry.{Entry}
-use Rattle.desk_core.specs.declared.rows.QueueRow.{QueueRow}
-use Rattle.desk_core.specs.declared.rows.RequestRow.{RequestRow}
+use Rattle.desk_model.specs.declared.command.Command.{Command}
+use Rattle.desk_model.specs.declared.command.Command.TheVariants.{OpenQueue, Create}
+use Rattle.desk_model.specs.declared.command.Command.TheVariants.{SetStatus, Take}
+use Rattle.desk_model.specs.declared.command.Command.TheVariants.{Steal, Untake, Give}
+use Rattle.desk_model.specs.declared.command.Command.TheVariants.{Reply, Queues}
+use Rattle.desk_model.specs.declared.facts.Facts.{Facts}
+use Rattle.desk_model.specs.declared.facts.Standing.{Standing}
+use Rattle.desk_model.specs.declared.refusal.Refusal.{Refusal}
+use Rattle.desk_model.specs.declared.rows.Entry.{Entry}
+use Rattle.desk_model.specs.declared.rows.QueueRow.{QueueRow}
+use Rattle.desk_model.specs.declared.rows.RequestRow.{RequestRow}
+use Rattle.desk_core.proofs.Applied.{left_by}
+use Rattle.desk_core.proofs.Goes.{Goes, found_passes, KeepsIds, NoneHolds}
+use Rattle.desk_core.proofs.Goes.{holding, none_holds, row_goes, set_by}
+use Rattle.desk_core.specs.Laws.{IsLawfulMove, KeepsHistory, KeepsOwnerLaw}
+use Rattle.desk_core.specs.Laws.{KeepsStatusLaw, MayOwn, SetsOwner}
 
 history_unless : (o : Option Refusal) (old new : Desk) (id : ℕ) (before : Request)
     → request_at old id ≡ Some before

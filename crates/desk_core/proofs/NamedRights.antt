@@ -7,20 +7,20 @@ use Rattle.rights_core.specs.Right.{see_queue, create_ticket, show_ticket, show_
 use Rattle.rights_core.specs.Right.{modify_ticket, reply_to_ticket, comment_on_ticket, own_ticket}
 use Rattle.rights_core.specs.Right.{take_ticket, steal_ticket, reassign_ticket, delete_ticket}
 use Rattle.rights_core.specs.Right.{watch, watch_as_admin_cc, admin_queue}
-use Rattle.desk_core.specs.Commands.{IsMove, plan_of}
-use Rattle.desk_core.specs.Condition.{Condition, Decides, first_holding}
-use Rattle.desk_core.specs.Plan.{Call, Plan, OnDesk, OnQueue, OnRequest}
-use Rattle.desk_core.specs.Plan.{Besides, Nothing, Dependencies, Another, another_shown}
-use Rattle.desk_core.specs.Plan.{change_by, conditions_by, of_request}
-use Rattle.desk_core.specs.Refusals.{names_its_right}
-use Rattle.desk_core.specs.declared.change.Change.{Change}
-use Rattle.desk_core.specs.declared.command.Command.{Command}
-use Rattle.desk_core.specs.declared.command.Command.TheVariants.{OpenQueue, Create, SetStatus}
-use Rattle.desk_core.specs.declared.command.Command.TheVariants.{Queues}
-use Rattle.desk_core.specs.declared.facts.Facts.{Facts}
-use Rattle.desk_core.specs.declared.facts.Standing.{Standing}
-use Rattle.desk_core.specs.declared.refusal.Refusal.{Refusal}
-use Rattle.desk_core.specs.declared.refusal.Refusal.TheVariants.{Denied, Unavailable}
+use Rattle.desk_model.specs.Commands.{IsMove, plan_of}
+use Rattle.desk_model.specs.Condition.{Condition, Decides, first_holding}
+use Rattle.desk_model.specs.Plan.{Call, Plan, OnDesk, OnQueue, OnRequest}
+use Rattle.desk_model.specs.Plan.{Besides, Nothing, Dependencies, Another, another_shown}
+use Rattle.desk_model.specs.Plan.{change_by, conditions_by, of_request}
+use Rattle.desk_model.specs.Refusals.{names_its_right}
+use Rattle.desk_model.specs.declared.change.Change.{Change}
+use Rattle.desk_model.specs.declared.command.Command.{Command}
+use Rattle.desk_model.specs.declared.command.Command.TheVariants.{OpenQueue, Create, SetStatus}
+use Rattle.desk_model.specs.declared.command.Command.TheVariants.{Queues}
+use Rattle.desk_model.specs.declared.facts.Facts.{Facts}
+use Rattle.desk_model.specs.declared.facts.Standing.{Standing}
+use Rattle.desk_model.specs.declared.refusal.Refusal.{Refusal}
+use Rattle.desk_model.specs.declared.refusal.Refusal.TheVariants.{Denied, Unavailable}
 
 abbrev is_named : Condition → Bool
 is_named condition = names_its_right condition.0

@@ -9,10 +9,10 @@ use Rattle.std.specs.Ordering.{is_lt, is_eq, match_ordering, ordering_reverse}
 use Rattle.std.specs.Str.{bytes_eq}
 use Rattle.std.specs.declared.cmp.Ordering.{Ordering}
 use Rattle.std.specs.declared.cmp.Ordering.TheVariants.{Less, Equal, Greater}
-use Rattle.desk_core.specs.Change.{without_name}
-use Rattle.desk_core.specs.Desk.{placed}
-use Rattle.desk_core.specs.IsDesk.{comes_first, is_rising, names_rise}
-use Rattle.desk_core.specs.Names.{text_order, with_name}
+use Rattle.desk_model.specs.Change.{without_name}
+use Rattle.desk_model.specs.Desk.{placed}
+use Rattle.desk_model.specs.IsDesk.{comes_first, is_rising, names_rise}
+use Rattle.desk_model.specs.Names.{text_order, with_name}
 
 -- one that comes after y is placed in a list before which y comes
 first_placed : {X : Type 0} (lower : X → X → Bool) (y : X) (ys : List X) (x : X) → lower y x ≡ true

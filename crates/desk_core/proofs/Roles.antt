@@ -10,15 +10,15 @@ use Rattle.rights_core.specs.Right.{show_ticket}
 use Rattle.rights_core.specs.declared.role.Roles.{Roles}
 use Rattle.settings_core.specs.Settings.{people_of}
 use Rattle.settings_core.specs.declared.settings.Settings.{Settings}
-use Rattle.desk_core.specs.Desk.{Request}
-use Rattle.desk_core.specs.Facts.{standing}
-use Rattle.desk_core.specs.Laws.{ShowsByWatchers}
+use Rattle.desk_model.specs.Desk.{Request}
+use Rattle.desk_model.specs.Facts.{standing}
+use Rattle.desk_model.specs.Watchers.{is_role, is_watching, roles_among, watcher, watchers_of}
 use Rattle.text_core.specs.Texts.{is_among}
-use Rattle.desk_core.specs.Watchers.{is_role, is_watching, roles_among, watcher, watchers_of}
-use Rattle.desk_core.specs.Rights.{roles_on}
-use Rattle.desk_core.specs.declared.rows.Watcher.{Watcher}
-use Rattle.desk_core.specs.declared.rows.WatchRole.{WatchRole}
-use Rattle.desk_core.specs.declared.rows.WatchRole.TheVariants.{Requestor, Cc, AdminCc}
+use Rattle.desk_model.specs.Rights.{roles_on}
+use Rattle.desk_model.specs.declared.rows.Watcher.{Watcher}
+use Rattle.desk_model.specs.declared.rows.WatchRole.{WatchRole}
+use Rattle.desk_model.specs.declared.rows.WatchRole.TheVariants.{Requestor, Cc, AdminCc}
+use Rattle.desk_core.specs.Laws.{ShowsByWatchers}
 
 pub same_number : (n : ℕ) → (n == n) ≡ true
 same_number n = eq-eqb n n refl

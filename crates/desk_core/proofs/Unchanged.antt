@@ -1,15 +1,15 @@
 -- A reading command changes nothing.
 use Rattle.std.proofs.Common.{◌≡◌, ◌∙◌, List, Option, Some, None, Result, Ok, Err, IfOk, refl}
-use Rattle.desk_core.specs.Change.{no_change}
-use Rattle.desk_core.specs.Commands.{IsReading, plan_of}
-use Rattle.desk_core.specs.Condition.{Condition, Decides}
-use Rattle.desk_core.specs.Plan.{Call, change_by, change_of_request}
-use Rattle.desk_core.specs.declared.change.Change.{Change}
-use Rattle.desk_core.specs.declared.command.Command.{Command}
-use Rattle.desk_core.specs.declared.command.Command.TheVariants.{Queues, Show, History}
-use Rattle.desk_core.specs.declared.facts.Facts.{Facts}
-use Rattle.desk_core.specs.declared.facts.Standing.{Standing}
-use Rattle.desk_core.specs.declared.refusal.Refusal.{Refusal}
+use Rattle.desk_model.specs.Change.{no_change}
+use Rattle.desk_model.specs.Commands.{IsReading, plan_of}
+use Rattle.desk_model.specs.Condition.{Condition, Decides}
+use Rattle.desk_model.specs.Plan.{Call, change_by, change_of_request}
+use Rattle.desk_model.specs.declared.change.Change.{Change}
+use Rattle.desk_model.specs.declared.command.Command.{Command}
+use Rattle.desk_model.specs.declared.command.Command.TheVariants.{Queues, Show, History}
+use Rattle.desk_model.specs.declared.facts.Facts.{Facts}
+use Rattle.desk_model.specs.declared.facts.Standing.{Standing}
+use Rattle.desk_model.specs.declared.refusal.Refusal.{Refusal}
 
 unread : (request : Option Standing) → change_of_request request (λ on. no_change) ≡ no_change
 unread None = refl

@@ -12,34 +12,34 @@ use Rattle.hours_core.specs.Moment.{is_moment}
 use Rattle.rights_core.specs.Right.{see_queue}
 use Rattle.settings_core.specs.Settings.{knows}
 use Rattle.settings_core.specs.declared.settings.Settings.{Settings}
+use Rattle.desk_model.specs.Condition.{first_holding}
+use Rattle.desk_model.specs.Desk.{Desk, Request, queue_at, request_at}
+use Rattle.desk_model.specs.Due.{due_of, due_on}
+use Rattle.desk_model.specs.Facts.{standing}
+use Rattle.desk_model.specs.IsDesk.{IsDesk, are_numbered}
+use Rattle.desk_model.specs.Links.{is_kind}
+use Rattle.desk_model.specs.Plan.{on_shown}
+use Rattle.desk_model.specs.Reading.{entries_told, is_shown, is_told}
+use Rattle.desk_model.specs.Reading.{linked_from, linked_to, links_of, answer_of_request, shown_of}
+use Rattle.desk_model.specs.Rights.{holds_on_queue, may_show, sees_queue}
+use Rattle.desk_model.specs.Step.{Outcome, call, outcome_unless}
+use Rattle.desk_model.specs.View.{as_seen, has_shown, is_seen_link, view}
+use Rattle.desk_model.specs.declared.answer.Answer.{Answer}
+use Rattle.desk_model.specs.declared.answer.Answer.TheVariants as answer
+use Rattle.desk_model.specs.declared.answer.Links.{Links}
+use Rattle.desk_model.specs.declared.answer.Shown as shown
+use Rattle.desk_model.specs.declared.command.Command.{Command}
+use Rattle.desk_model.specs.declared.command.Command.TheVariants.{Queues, Show, History}
+use Rattle.desk_model.specs.declared.refusal.Refusal.TheVariants.{UnknownCaller, BadMoment}
+use Rattle.desk_model.specs.declared.refusal.Refusal.TheVariants.{BadText, NotFound}
+use Rattle.desk_model.specs.declared.rows.Entry.{Entry}
+use Rattle.desk_model.specs.declared.rows.LinkKind.{LinkKind}
+use Rattle.desk_model.specs.declared.rows.LinkKind.TheVariants.{DependsOn, MemberOf, RefersTo}
+use Rattle.desk_model.specs.declared.rows.LinkRow.{LinkRow}
+use Rattle.desk_model.specs.declared.rows.QueueRow.{QueueRow}
 use Rattle.desk_core.proofs.Depends.{found_among}
 use Rattle.desk_core.proofs.Goes.{number_found}
-use Rattle.desk_core.specs.Condition.{first_holding}
-use Rattle.desk_core.specs.Desk.{Desk, Request, queue_at, request_at}
-use Rattle.desk_core.specs.Due.{due_of, due_on}
-use Rattle.desk_core.specs.Facts.{standing}
-use Rattle.desk_core.specs.IsDesk.{IsDesk, are_numbered}
 use Rattle.desk_core.specs.Laws.{HidesTheRest, TellsOfTheView}
-use Rattle.desk_core.specs.Links.{is_kind}
-use Rattle.desk_core.specs.Plan.{on_shown}
-use Rattle.desk_core.specs.Reading.{entries_told, is_shown, is_told}
-use Rattle.desk_core.specs.Reading.{linked_from, linked_to, links_of, answer_of_request, shown_of}
-use Rattle.desk_core.specs.Rights.{holds_on_queue, may_show, sees_queue}
-use Rattle.desk_core.specs.Step.{Outcome, call, outcome_unless}
-use Rattle.desk_core.specs.View.{as_seen, has_shown, is_seen_link, view}
-use Rattle.desk_core.specs.declared.answer.Answer.{Answer}
-use Rattle.desk_core.specs.declared.answer.Answer.TheVariants as answer
-use Rattle.desk_core.specs.declared.answer.Links.{Links}
-use Rattle.desk_core.specs.declared.answer.Shown as shown
-use Rattle.desk_core.specs.declared.command.Command.{Command}
-use Rattle.desk_core.specs.declared.command.Command.TheVariants.{Queues, Show, History}
-use Rattle.desk_core.specs.declared.refusal.Refusal.TheVariants.{UnknownCaller, BadMoment}
-use Rattle.desk_core.specs.declared.refusal.Refusal.TheVariants.{BadText, NotFound}
-use Rattle.desk_core.specs.declared.rows.Entry.{Entry}
-use Rattle.desk_core.specs.declared.rows.LinkKind.{LinkKind}
-use Rattle.desk_core.specs.declared.rows.LinkKind.TheVariants.{DependsOn, MemberOf, RefersTo}
-use Rattle.desk_core.specs.declared.rows.LinkRow.{LinkRow}
-use Rattle.desk_core.specs.declared.rows.QueueRow.{QueueRow}
 
 unless_kept : (a : Bool) → (a ≡ true → false ≡ true) → a ≡ false
 unless_kept true h = let no : false ≡ true = h refl in cc

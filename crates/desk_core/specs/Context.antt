@@ -1,12 +1,12 @@
 -- The call that a decision is made for, and what it decides by the facts of that call.
 use Rattle.std.specs.Prelude.{ℕ, List, Option, Result}
-use Rattle.desk_core.specs.Condition.{Condition, Decides, Passes}
-use Rattle.desk_core.specs.Plan.{Besides, Call, change_of_request, conditions_on_request}
-use Rattle.desk_core.specs.declared.change.Change.{Change}
+use Rattle.desk_model.specs.Condition.{Condition, Decides, Passes}
+use Rattle.desk_model.specs.Plan.{Besides, Call, change_of_request, conditions_on_request}
+use Rattle.desk_model.specs.declared.change.Change.{Change}
+use Rattle.desk_model.specs.declared.facts.Facts.{Facts}
+use Rattle.desk_model.specs.declared.facts.Standing.{Standing}
+use Rattle.desk_model.specs.declared.refusal.Refusal.{Refusal}
 use Rattle.desk_core.specs.declared.decision.Context.{Context}
-use Rattle.desk_core.specs.declared.facts.Facts.{Facts}
-use Rattle.desk_core.specs.declared.facts.Standing.{Standing}
-use Rattle.desk_core.specs.declared.refusal.Refusal.{Refusal}
 
 abbrev pub call_of : Context → Call
 call_of context =

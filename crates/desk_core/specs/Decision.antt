@@ -1,17 +1,17 @@
 -- What a decision, made of facts alone, says of each desk that has these facts.
 use Rattle.std.specs.Prelude.{◌≡◌, ◌≢◌, ℕ, List, Some, None, Result, IfOk, IfErr}
 use Rattle.settings_core.specs.declared.settings.Settings.{Settings}
-use Rattle.desk_core.specs.Change.{applied}
-use Rattle.desk_core.specs.Commands.{plan_of}
-use Rattle.desk_core.specs.Condition.{Decides}
-use Rattle.desk_core.specs.Desk.{Desk}
-use Rattle.desk_core.specs.Plan.{change_by}
-use Rattle.desk_core.specs.Step.{call, conditions_on, effect, facts_of, guard}
-use Rattle.desk_core.specs.declared.change.Change.{Change}
-use Rattle.desk_core.specs.declared.command.Command.{Command}
-use Rattle.desk_core.specs.declared.facts.Facts.{Facts}
-use Rattle.desk_core.specs.declared.refusal.Refusal.{Refusal}
-use Rattle.desk_core.specs.declared.refusal.Refusal.TheVariants.{Unavailable}
+use Rattle.desk_model.specs.Change.{applied}
+use Rattle.desk_model.specs.Commands.{plan_of}
+use Rattle.desk_model.specs.Condition.{Decides}
+use Rattle.desk_model.specs.Desk.{Desk}
+use Rattle.desk_model.specs.Plan.{change_by}
+use Rattle.desk_model.specs.Step.{call, conditions_on, effect, facts_of, guard}
+use Rattle.desk_model.specs.declared.change.Change.{Change}
+use Rattle.desk_model.specs.declared.command.Command.{Command}
+use Rattle.desk_model.specs.declared.facts.Facts.{Facts}
+use Rattle.desk_model.specs.declared.refusal.Refusal.{Refusal}
+use Rattle.desk_model.specs.declared.refusal.Refusal.TheVariants.{Unavailable}
 
 -- a change is given only where the desk refuses nothing, and it leads to the desk after the command
 abbrev pub Accepts : Settings → ℕ → List ℕ → Facts → Command → Result Change Refusal → Type 0

@@ -7,30 +7,30 @@ use Rattle.lifecycle_core.specs.declared.parts.Parts.{Parts}
 use Rattle.rights_core.specs.Right.{own_ticket}
 use Rattle.settings_core.specs.Settings.{lifecycle_named}
 use Rattle.settings_core.specs.declared.settings.Settings.{Settings}
-use Rattle.desk_core.specs.Commands.{IsReading, requests_named}
-use Rattle.desk_core.specs.Desk.{Desk, Request, queue_at, request_at}
-use Rattle.desk_core.specs.Due.{due_on}
-use Rattle.desk_core.specs.Facts.{standing}
-use Rattle.desk_core.specs.IsDesk.{IsDesk}
-use Rattle.desk_core.specs.Lifecycles.{is_allowed, is_inactive}
-use Rattle.desk_core.specs.Lifecycles.{lifecycle_of, reopening_of, right_of}
-use Rattle.desk_core.specs.Links.{has_link, link}
-use Rattle.desk_core.specs.Reading.{answer_of, is_shown}
-use Rattle.desk_core.specs.Refusals.{number_of}
-use Rattle.desk_core.specs.Rights.{holds_on, may_show}
-use Rattle.desk_core.specs.Step.{Outcome, desk_after, outcome_of}
-use Rattle.desk_core.specs.View.{view}
-use Rattle.desk_core.specs.Watchers.{may_show_by, watchers_of}
-use Rattle.desk_core.specs.declared.answer.Answer.{Answer}
-use Rattle.desk_core.specs.declared.answer.Answer.TheVariants as answer
-use Rattle.desk_core.specs.declared.command.Command.{Command}
-use Rattle.desk_core.specs.declared.command.Command.TheVariants.{SetStatus, Take, Steal}
-use Rattle.desk_core.specs.declared.command.Command.TheVariants.{Untake, Give, Reply}
-use Rattle.desk_core.specs.declared.facts.Standing.{Standing}
-use Rattle.desk_core.specs.declared.refusal.Refusal.{Refusal}
-use Rattle.desk_core.specs.declared.rows.Entry.{Entry}
-use Rattle.desk_core.specs.declared.rows.LinkKind.TheVariants.{DependsOn}
-use Rattle.desk_core.specs.declared.rows.QueueRow.{QueueRow}
+use Rattle.desk_model.specs.Commands.{IsReading, requests_named}
+use Rattle.desk_model.specs.Desk.{Desk, Request, queue_at, request_at}
+use Rattle.desk_model.specs.Due.{due_on}
+use Rattle.desk_model.specs.Facts.{standing}
+use Rattle.desk_model.specs.IsDesk.{IsDesk}
+use Rattle.desk_model.specs.Lifecycles.{is_allowed, is_inactive}
+use Rattle.desk_model.specs.Lifecycles.{lifecycle_of, reopening_of, right_of}
+use Rattle.desk_model.specs.Links.{has_link, link}
+use Rattle.desk_model.specs.Reading.{answer_of, is_shown}
+use Rattle.desk_model.specs.Refusals.{number_of}
+use Rattle.desk_model.specs.Rights.{holds_on, may_show}
+use Rattle.desk_model.specs.Step.{Outcome, desk_after, outcome_of}
+use Rattle.desk_model.specs.View.{view}
+use Rattle.desk_model.specs.Watchers.{may_show_by, watchers_of}
+use Rattle.desk_model.specs.declared.answer.Answer.{Answer}
+use Rattle.desk_model.specs.declared.answer.Answer.TheVariants as answer
+use Rattle.desk_model.specs.declared.command.Command.{Command}
+use Rattle.desk_model.specs.declared.command.Command.TheVariants.{SetStatus, Take, Steal}
+use Rattle.desk_model.specs.declared.command.Command.TheVariants.{Untake, Give, Reply}
+use Rattle.desk_model.specs.declared.facts.Standing.{Standing}
+use Rattle.desk_model.specs.declared.refusal.Refusal.{Refusal}
+use Rattle.desk_model.specs.declared.rows.Entry.{Entry}
+use Rattle.desk_model.specs.declared.rows.LinkKind.TheVariants.{DependsOn}
+use Rattle.desk_model.specs.declared.rows.QueueRow.{QueueRow}
 
 -- it holds of every command by every caller at every moment, on every desk
 abbrev pub AtEveryStep : (Settings → ℕ → List ℕ → Command → Desk → Type 0) → Type 0

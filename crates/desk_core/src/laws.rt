@@ -2,12 +2,12 @@
 
 ghost use Rattle.std.specs.Prelude.{◌≡◌, ℕ, true, List};
 ghost use Rattle.settings_core.specs.declared.settings.Settings.{Settings};
-ghost use Rattle.desk_core.specs.Desk.{Desk, Request, empty_desk};
-ghost use Rattle.desk_core.specs.IsDesk.{IsDesk, KeepsDesk, names_rise};
+ghost use Rattle.desk_model.specs.Desk.{Desk, Request, empty_desk};
+ghost use Rattle.desk_model.specs.IsDesk.{IsDesk, KeepsDesk, names_rise};
+ghost use Rattle.desk_model.specs.Names.{in_order};
 ghost use Rattle.desk_core.specs.Laws.{AtEveryStep, HidesTheRest, KeepsDependencyLaw, KeepsHistory};
 ghost use Rattle.desk_core.specs.Laws.{KeepsOwnerLaw, KeepsStatusLaw, RefusesAsMissing};
 ghost use Rattle.desk_core.specs.Laws.{ShowsByWatchers, TellsDueMoments, TellsOfTheView};
-ghost use Rattle.desk_core.specs.Names.{in_order};
 ghost use Rattle.text_core.specs.Texts.{is_among};
 
 /// A request stays, and so do the entries of its history.

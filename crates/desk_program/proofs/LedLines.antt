@@ -3,11 +3,11 @@ use Rattle.std.proofs.Common.{◌≡◌, inl, inr, ℕ, true, false, List, Resul
 use Rattle.std.proofs.Common.{OnErr, ap, refl}
 use Rattle.sqlite.specs.State.{State, HasCleanDisk}
 use Rattle.settings_core.specs.declared.settings.Settings.{Settings}
-use Rattle.desk_core.specs.declared.command.Command.{Command}
-use Rattle.desk_core.specs.declared.refusal.Refusal.TheVariants.{Unavailable}
+use Rattle.desk_model.specs.declared.command.Command.{Command}
+use Rattle.desk_model.specs.declared.refusal.Refusal.TheVariants.{Unavailable}
+use Rattle.store_tables.specs.declared.fault.StoreFault.TheVariants.{Refused}
 use Rattle.store_core.specs.Contents.{contents_of}
 use Rattle.store_core.specs.Stands.{StandsFor}
-use Rattle.store_core.specs.declared.fault.StoreFault.TheVariants.{Refused}
 use Rattle.service_core.specs.Attaching.{FailsOver, TellsKnown}
 use Rattle.service_core.specs.Desk.{Desk, empty_desk}
 use Rattle.service_core.specs.IsDesk.{IsDesk}

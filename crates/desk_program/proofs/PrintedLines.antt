@@ -5,8 +5,8 @@ use Rattle.std.proofs.Common.{length, get_or, Option, Some, None, Err, refl, ap,
 use Rattle.std.proofs.Common.{append_assoc, append-nil}
 use Rattle.std.proofs.lemmas.List.{take-append-drop, take_more}
 use Rattle.settings_core.specs.declared.settings.Settings.{Settings}
-use Rattle.desk_core.specs.declared.command.Command.{Command}
-use Rattle.desk_core.specs.declared.refusal.Refusal.TheVariants.{Unavailable}
+use Rattle.desk_model.specs.declared.command.Command.{Command}
+use Rattle.desk_model.specs.declared.refusal.Refusal.TheVariants.{Unavailable}
 use Rattle.service_core.specs.Desk.{Desk, empty_desk}
 use Rattle.service_core.specs.Step.{Ask, Outcome, Runs}
 use Rattle.wire_core.specs.Number.{number_of}

@@ -8,8 +8,8 @@ use Rattle.sqlite.specs.State.{State, HasCleanDisk}
 use Rattle.sqlite.specs.Store.{Ghosts}
 use Rattle.settings_core.specs.declared.fault.SettingsFault.{SettingsFault}
 use Rattle.settings_core.specs.declared.settings.Settings.{Settings}
-use Rattle.desk_core.specs.declared.command.Command.{Command}
-use Rattle.store_core.specs.declared.fault.StoreFault.TheVariants.{Refused}
+use Rattle.desk_model.specs.declared.command.Command.{Command}
+use Rattle.store_tables.specs.declared.fault.StoreFault.TheVariants.{Refused}
 use Rattle.service_core.specs.Desk.{Desk, empty_desk}
 use Rattle.service_core.specs.IsDesk.{IsDesk}
 use Rattle.service_core.specs.TableSteps.{LeadsOn}

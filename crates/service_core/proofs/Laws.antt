@@ -2,6 +2,9 @@
 use Rattle.std.proofs.Common.{inl, inr, [], Option, Some, None, Err}
 use Rattle.std.proofs.Common.{IfOk, refl, subst, sym, append-nil}
 use Rattle.settings_core.specs.declared.settings.Settings.{Settings}
+use Rattle.desk_model.specs.declared.answer.Answer.{Answer}
+use Rattle.desk_model.specs.declared.refusal.Refusal.{Refusal}
+use Rattle.desk_model.specs.declared.refusal.Refusal.TheVariants.{Unavailable}
 use Rattle.desk_core.proofs.AsMissing.{hidden_law}
 use Rattle.desk_core.proofs.Depends.{dependency_law}
 use Rattle.desk_core.proofs.DeskLaw.{desk_law}
@@ -14,9 +17,6 @@ use Rattle.desk_core.specs.Laws.{DueLaw}
 use Rattle.desk_core.specs.Reading.{answer_of}
 use Rattle.desk_core.specs.Step.{Ask, Outcome, Steps, desk_after, guard, outcome_of}
 use Rattle.desk_core.specs.Step.{outcome_unless}
-use Rattle.desk_core.specs.declared.answer.Answer.{Answer}
-use Rattle.desk_core.specs.declared.refusal.Refusal.{Refusal}
-use Rattle.desk_core.specs.declared.refusal.Refusal.TheVariants.{Unavailable}
 use Rattle.service_core.specs.TableSteps.{IsStep}
 
 due_unless : (s : Settings) (desk : Desk) (o : Option Refusal) (answer : Answer)

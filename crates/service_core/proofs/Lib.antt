@@ -1,6 +1,3 @@
-pub mod Ascii
-pub mod Columns
-pub mod Puts
 pub mod KnownLemmas
 pub mod Laws
 pub mod Stepping

@@ -5,14 +5,14 @@ use Rattle.std.proofs.Common.{true}
 use Rattle.std.proofs.lemmas.List.{map-append, take_more}
 use Rattle.sqlite.specs.State.{State}
 use Rattle.settings_core.specs.declared.settings.Settings.{Settings}
+use Rattle.desk_model.specs.declared.command.Command.{Command}
 use Rattle.desk_core.specs.Desk.{Desk}
 use Rattle.desk_core.specs.IsDesk.{IsDesk}
 use Rattle.desk_core.specs.Step.{Ask, Outcome, RunsBy}
-use Rattle.desk_core.specs.declared.command.Command.{Command}
 use Rattle.store_core.proofs.FactsLemmasOfDesk.{take_all}
 use Rattle.store_core.specs.Calls.{WasClean}
 use Rattle.desk_core.specs.Refusals.{names_its_right}
-use Rattle.service_core.specs.Short.{AreNamed}
+use Rattle.desk_texts.specs.Short.{AreNamed}
 use Rattle.service_core.specs.TableSteps.{IsStep, LeadsOn, RunsOn, StepsOn, ask_by}
 use Rattle.service_core.specs.TableSteps.{ask_of, asks_of}
 

@@ -3,6 +3,13 @@ use Rattle.std.proofs.Common.{◌≡◌, ◌≢◌, ◌⊎◌, ◌∙◌, ℕ, f
 use Rattle.std.proofs.Common.{Ok, Err, IfErr, IfOk, OnErr, OnOk, inl, inr, refl, ap, subst, sym}
 use Rattle.sqlite.specs.State.{State}
 use Rattle.settings_core.specs.declared.settings.Settings.{Settings}
+use Rattle.desk_model.specs.declared.answer.Answer.{Answer}
+use Rattle.desk_model.specs.declared.change.Change.{Change}
+use Rattle.desk_model.specs.declared.command.Command.{Command}
+use Rattle.desk_model.specs.declared.command.Command.TheVariants.{Create, Queues, Show, History}
+use Rattle.desk_model.specs.declared.facts.Facts.{Facts}
+use Rattle.desk_model.specs.declared.refusal.Refusal.{Refusal}
+use Rattle.desk_model.specs.declared.refusal.Refusal.TheVariants.{Unavailable}
 use Rattle.desk_core.proofs.Unchanged.{reads_nothing}
 use Rattle.desk_core.specs.Change.{applied}
 use Rattle.desk_core.specs.Commands.{IsReading, plan_of}
@@ -11,13 +18,6 @@ use Rattle.desk_core.specs.Plan.{change_by}
 use Rattle.desk_core.specs.Reading.{answer_of}
 use Rattle.desk_core.specs.Step.{Ask, Outcome, Steps, call, desk_unless, effect, facts_of, guard}
 use Rattle.desk_core.specs.Step.{outcome_unless}
-use Rattle.desk_core.specs.declared.answer.Answer.{Answer}
-use Rattle.desk_core.specs.declared.change.Change.{Change}
-use Rattle.desk_core.specs.declared.command.Command.{Command}
-use Rattle.desk_core.specs.declared.command.Command.TheVariants.{Create, Queues, Show, History}
-use Rattle.desk_core.specs.declared.facts.Facts.{Facts}
-use Rattle.desk_core.specs.declared.refusal.Refusal.{Refusal}
-use Rattle.desk_core.specs.declared.refusal.Refusal.TheVariants.{Unavailable}
 use Rattle.store_core.proofs.WritableByKind.{change_writable}
 use Rattle.store_core.specs.Calls.{Leaves, Tells}
 use Rattle.store_core.specs.Contents.{contents_of}

@@ -3,18 +3,18 @@ use Rattle.std.proofs.Common.{◌≡◌, ◌∙◌, ℕ, List, [], Option, Some,
 use Rattle.std.specs.Prelude.{option_and_then}
 use Rattle.std.specs.Option.{option_map, option_map_or}
 use Rattle.settings_core.specs.declared.settings.Settings.{Settings}
+use Rattle.desk_model.specs.declared.answer.Answer.{Answer}
+use Rattle.desk_model.specs.declared.answer.Answer.TheVariants as answer
+use Rattle.desk_model.specs.declared.command.Command.TheVariants as command
+use Rattle.desk_model.specs.declared.facts.Facts.{Facts}
+use Rattle.desk_model.specs.declared.facts.Standing.{Standing}
+use Rattle.desk_model.specs.declared.rows.QueueRow.{QueueRow}
 use Rattle.desk_core.specs.Desk.{Desk, Request, request_at}
 use Rattle.desk_core.specs.Due.{due_of}
 use Rattle.desk_core.specs.Facts.{queue_of, standing}
 use Rattle.desk_core.specs.Reading.{answer_of, answer_of_request, entries_told, shown_of}
 use Rattle.desk_core.specs.Rights.{may_show_comments}
 use Rattle.desk_core.specs.Step.{facts_of}
-use Rattle.desk_core.specs.declared.answer.Answer.{Answer}
-use Rattle.desk_core.specs.declared.answer.Answer.TheVariants as answer
-use Rattle.desk_core.specs.declared.command.Command.TheVariants as command
-use Rattle.desk_core.specs.declared.facts.Facts.{Facts}
-use Rattle.desk_core.specs.declared.facts.Standing.{Standing}
-use Rattle.desk_core.specs.declared.rows.QueueRow.{QueueRow}
 use Rattle.desk_core.proofs.Goes.{number_found}
 use Rattle.store_core.specs.Contents.{history_at}
 use Rattle.service_core.specs.Shown.{due_in, is_told, shown_to, told_to}

@@ -3,18 +3,18 @@ use Rattle.std.specs.Prelude.{ℕ, Bool, false, not, ◌||◌, List, Option, fil
 use Rattle.std.specs.Prelude.{option_and_then}
 use Rattle.std.specs.Option.{option_map_or}
 use Rattle.settings_core.specs.declared.settings.Settings.{Settings}
+use Rattle.desk_model.specs.declared.answer.Links.{Links}
+use Rattle.desk_model.specs.declared.answer.Shown.{Shown}
+use Rattle.desk_model.specs.declared.facts.Facts.{Facts}
+use Rattle.desk_model.specs.declared.facts.Standing.{Standing}
+use Rattle.desk_model.specs.declared.rows.Entry.{Entry}
+use Rattle.desk_model.specs.declared.rows.LinkKind.{LinkKind}
+use Rattle.desk_model.specs.declared.rows.LinkRow.{LinkRow}
 use Rattle.desk_core.specs.Desk.{Desk}
 use Rattle.desk_core.specs.Due.{due_of}
 use Rattle.desk_core.specs.Links.{is_kind}
 use Rattle.desk_core.specs.Reading.{is_comment, is_shown, links_of}
 use Rattle.desk_core.specs.Rights.{may_show, may_show_comments}
-use Rattle.desk_core.specs.declared.answer.Links.{Links}
-use Rattle.desk_core.specs.declared.answer.Shown.{Shown}
-use Rattle.desk_core.specs.declared.facts.Facts.{Facts}
-use Rattle.desk_core.specs.declared.facts.Standing.{Standing}
-use Rattle.desk_core.specs.declared.rows.Entry.{Entry}
-use Rattle.desk_core.specs.declared.rows.LinkKind.{LinkKind}
-use Rattle.desk_core.specs.declared.rows.LinkRow.{LinkRow}
 use Rattle.store_core.specs.Contents.{history_at}
 use Rattle.service_core.specs.declared.links.End.{End}
 use Rattle.service_core.specs.declared.links.End.TheVariants.{Source, Target}

@@ -3,13 +3,13 @@
 use Rattle.std.specs.Prelude.{◌≢◌, ℕ, List, Err, IfOk, String, map, string_bytes}
 use Rattle.sqlite.specs.State.{State, HasCleanDisk}
 use Rattle.settings_core.specs.declared.settings.Settings.{Settings}
+use Rattle.desk_model.specs.declared.command.Command.{Command}
+use Rattle.desk_model.specs.declared.refusal.Refusal.TheVariants.{Unavailable}
 use Rattle.desk_core.specs.Desk.{Desk}
 use Rattle.desk_core.specs.IsDesk.{IsDesk}
 use Rattle.desk_core.specs.Laws.{DependencyLaw, DueLaw, HiddenLaw, HistoryLaw, OwnerLaw}
 use Rattle.desk_core.specs.Laws.{StatusLaw, ViewLaw}
 use Rattle.desk_core.specs.Step.{Ask, Outcome, RunsBy, Steps}
-use Rattle.desk_core.specs.declared.command.Command.{Command}
-use Rattle.desk_core.specs.declared.refusal.Refusal.TheVariants.{Unavailable}
 use Rattle.store_core.specs.Stands.{StandsFor}
 
 -- One command: what comes of it, and the desk after it. All laws of a step hold; those of reading

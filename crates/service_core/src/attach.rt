@@ -49,7 +49,7 @@ impl<S: Alter> Desk<S> {
 }
 
 /// Whether the settings know each name of the tables. The tables stay as they are.
-#[tactic(auto, using(store_core::proofs::Spared::joined, store_core::proofs::Spared::stands))]
+#[tactic(auto, using(store_tables::proofs::Spared::joined, store_tables::proofs::Spared::stands))]
 fn is_known<S: Alter>(
     alloc: Global,
     store: &mut Store<S>,
@@ -69,7 +69,7 @@ fn is_known<S: Alter>(
 
 /// Whether the settings know each name in the lists of queues and watchers, and in these requests.
 /// The tables stay as they are.
-#[tactic(auto, using(store_core::proofs::Spared::joined, store_core::proofs::Spared::stands))]
+#[tactic(auto, using(store_tables::proofs::Spared::joined, store_tables::proofs::Spared::stands))]
 fn knows_lists<S: Alter>(
     alloc: Global,
     store: &mut Store<S>,

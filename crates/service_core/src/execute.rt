@@ -43,7 +43,7 @@ impl<S: Alter> Desk<S> {
 }
 
 /// One command on the desk of these tables.
-#[tactic(auto, using(store_core::proofs::Spared::stands))]
+#[tactic(auto, using(store_tables::proofs::Spared::stands))]
 fn step<S: Alter>(
     alloc: Global,
     store: &mut Store<S>,
@@ -89,7 +89,7 @@ fn decided<S: Alter>(
 }
 
 /// A command that isn't refused: its answer, once its change is made.
-#[tactic(auto, using(store_core::proofs::Spared::stands))]
+#[tactic(auto, using(store_tables::proofs::Spared::stands))]
 fn carry_out<S: Alter>(
     alloc: Global,
     store: &mut Store<S>,

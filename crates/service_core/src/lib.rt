@@ -1,24 +1,18 @@
-//! The desk over its tables, and the texts of its answers and refusals.
+//! The desk over its tables: settings are attached to it, and commands are executed, one or a list.
+//! The texts of answers and refusals stand in `desk_texts`, and are passed on.
 #![tactic(auto)]
 
 mod attach;
 pub mod desk;
 mod execute;
 pub mod fault;
-pub mod history;
 mod known;
 mod links;
-pub mod queues;
 mod reading;
 mod run;
-pub mod short;
-pub mod shown;
-pub mod texts;
 
 pub use desk::Desk;
+pub use desk_texts::{
+    SHORT_TEXT, answer_text, history_text, put_short, queues_text, refusal_text, show_text,
+};
 pub use fault::AttachFault;
-pub use history::history_text;
-pub use queues::queues_text;
-pub use short::{SHORT_TEXT, put_short};
-pub use shown::show_text;
-pub use texts::{answer_text, refusal_text};

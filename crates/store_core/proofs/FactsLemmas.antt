@@ -15,19 +15,19 @@ use Rattle.sqlite_rules.specs.Lists.{Has}
 use Rattle.sqlite_rules.proofs.ListLemmas.{all_from, has_filtered, test_has}
 use Rattle.sqlite_trees.proofs.ListLemmas.{all_of, all-append, all-map, filter-map, filter_all}
 use Rattle.sqlite_trees.proofs.ListLemmas.{filter_none, filter_same}
+use Rattle.desk_model.specs.declared.rows.Entry.{Entry}
+use Rattle.desk_model.specs.declared.rows.QueueRow.{QueueRow}
+use Rattle.desk_model.specs.declared.rows.RequestRow.{RequestRow}
+use Rattle.desk_model.specs.declared.rows.Watcher.{Watcher}
+use Rattle.desk_model.specs.declared.rows.WatchRole.{WatchRole}
+use Rattle.desk_model.specs.declared.rows.WatchRole.TheVariants.{Requestor, Cc, AdminCc}
 use Rattle.desk_core.specs.Desk.{Request}
 use Rattle.desk_core.specs.IsDesk.{are_numbered, has_its_entries}
 use Rattle.desk_core.specs.Watchers.{watcher, watchers_of}
-use Rattle.desk_core.specs.declared.rows.Entry.{Entry}
-use Rattle.desk_core.specs.declared.rows.QueueRow.{QueueRow}
-use Rattle.desk_core.specs.declared.rows.RequestRow.{RequestRow}
-use Rattle.desk_core.specs.declared.rows.Watcher.{Watcher}
-use Rattle.desk_core.specs.declared.rows.WatchRole.{WatchRole}
-use Rattle.desk_core.specs.declared.rows.WatchRole.TheVariants.{Requestor, Cc, AdminCc}
+use Rattle.store_tables.specs.Picked.{IsGreatest}
+use Rattle.store_tables.specs.Selection.{is_named, is_numbered, tells_of, watches}
+use Rattle.store_tables.proofs.KeptLemmas.{unmapped_one}
 use Rattle.store_core.specs.Found.{has_number}
-use Rattle.store_core.specs.Picked.{IsGreatest}
-use Rattle.store_core.specs.Selection.{is_named, is_numbered, tells_of, watches}
-use Rattle.store_core.proofs.KeptLemmas.{unmapped_one}
 
 -- ---- what is found first
 

@@ -14,6 +14,12 @@ use Rattle.sqlite_trees.specs.Tree.{IsAscending}
 use Rattle.sqlite_rules.proofs.ListLemmas.{all_from, has_filtered}
 use Rattle.sqlite_trees.proofs.ListLemmas.{all_of, all-append, all-map, all_both, ascending-append}
 use Rattle.sqlite_trees.proofs.ListLemmas.{ascending-filter, ascending-map, filter_same}
+use Rattle.desk_model.specs.declared.rows.LinkKind.{LinkKind}
+use Rattle.desk_model.specs.declared.rows.LinkKind.TheVariants.{DependsOn, MemberOf, RefersTo}
+use Rattle.desk_model.specs.declared.rows.LinkRow.{LinkRow}
+use Rattle.desk_model.specs.declared.rows.Watcher.{Watcher}
+use Rattle.desk_model.specs.declared.rows.WatchRole.{WatchRole}
+use Rattle.desk_model.specs.declared.rows.WatchRole.TheVariants.{Requestor, Cc, AdminCc}
 use Rattle.desk_core.specs.Desk.{Desk, Request}
 use Rattle.desk_core.specs.Facts.{dependency_links}
 use Rattle.desk_core.specs.IsDesk.{is_rising, names_rise, persons_rise}
@@ -21,19 +27,13 @@ use Rattle.desk_core.specs.Links as desk
 use Rattle.desk_core.specs.Links.{is_kind, is_lower_link, kind_number}
 use Rattle.desk_core.specs.Names.{text_order}
 use Rattle.desk_core.specs.Watchers.{is_role, watcher, watchers_of}
-use Rattle.desk_core.specs.declared.rows.LinkKind.{LinkKind}
-use Rattle.desk_core.specs.declared.rows.LinkKind.TheVariants.{DependsOn, MemberOf, RefersTo}
-use Rattle.desk_core.specs.declared.rows.LinkRow.{LinkRow}
-use Rattle.desk_core.specs.declared.rows.Watcher.{Watcher}
-use Rattle.desk_core.specs.declared.rows.WatchRole.{WatchRole}
-use Rattle.desk_core.specs.declared.rows.WatchRole.TheVariants.{Requestor, Cc, AdminCc}
+use Rattle.store_tables.specs.Kept.{itself}
+use Rattle.store_tables.specs.Orders.{by_link, by_role, by_target}
+use Rattle.store_tables.specs.Picked.{AreOrdered}
+use Rattle.store_tables.specs.Selection.{links_from}
+use Rattle.store_tables.specs.Selection as chosen
+use Rattle.store_tables.specs.Spelling.{role_number}
 use Rattle.store_core.specs.Found.{persons_in}
-use Rattle.store_core.specs.Kept.{itself}
-use Rattle.store_core.specs.Orders.{by_link, by_role, by_target}
-use Rattle.store_core.specs.Picked.{AreOrdered}
-use Rattle.store_core.specs.Selection.{links_from}
-use Rattle.store_core.specs.Selection as chosen
-use Rattle.store_core.specs.Spelling.{role_number}
 use Rattle.store_core.proofs.OrderLemmas.{all_rise, link_total}
 use Rattle.store_core.proofs.SortedLemmas.{sorted_same}
 

@@ -9,6 +9,14 @@ use Rattle.std.specs.Prelude.{option_and_then}
 use Rattle.std.proofs.lemmas.List.{append_assoc, append-nil, length-map, take_more}
 use Rattle.sqlite_rules.proofs.ListLemmas.{test_has}
 use Rattle.sqlite_trees.proofs.ListLemmas.{map-map}
+use Rattle.desk_model.specs.declared.facts.Dependency.{Dependency}
+use Rattle.desk_model.specs.declared.facts.Facts.{Facts}
+use Rattle.desk_model.specs.declared.facts.Standing.{Standing}
+use Rattle.desk_model.specs.declared.rows.LinkKind.TheVariants.{DependsOn}
+use Rattle.desk_model.specs.declared.rows.LinkRow.{LinkRow}
+use Rattle.desk_model.specs.declared.rows.QueueRow.{QueueRow}
+use Rattle.desk_model.specs.declared.rows.RequestRow.{RequestRow}
+use Rattle.desk_model.specs.declared.rows.Watcher.{Watcher}
 use Rattle.desk_core.specs.Desk.{Desk, Request, queue_at, request_at}
 use Rattle.desk_core.specs.Desk.{queue_count, request_count}
 use Rattle.desk_core.specs.Facts.{as_dependency, dependencies_of, facts_on_queue}
@@ -18,22 +26,15 @@ use Rattle.desk_core.specs.Links.{has_link}
 use Rattle.desk_core.specs.Plan.{Another, Dependencies, besides_on}
 use Rattle.desk_core.specs.IsDesk.{IsDesk, are_numbered, has_its_entries, persons_rise}
 use Rattle.desk_core.specs.Watchers.{watchers_of}
-use Rattle.desk_core.specs.declared.facts.Dependency.{Dependency}
-use Rattle.desk_core.specs.declared.facts.Facts.{Facts}
-use Rattle.desk_core.specs.declared.facts.Standing.{Standing}
-use Rattle.desk_core.specs.declared.rows.LinkKind.TheVariants.{DependsOn}
-use Rattle.desk_core.specs.declared.rows.LinkRow.{LinkRow}
-use Rattle.desk_core.specs.declared.rows.QueueRow.{QueueRow}
-use Rattle.desk_core.specs.declared.rows.RequestRow.{RequestRow}
-use Rattle.desk_core.specs.declared.rows.Watcher.{Watcher}
-use Rattle.store_core.specs.Contents.{entries, request_rows, watchers}
+use Rattle.store_tables.specs.Contents.{entries, request_rows, watchers}
+use Rattle.store_tables.specs.Orders.{by_role, by_target}
+use Rattle.store_tables.specs.Picked.{AreOrdered, IsGreatest}
+use Rattle.store_tables.specs.Selection as chosen
+use Rattle.store_tables.specs.Selection.{is_numbered, links_from, number_of, place_of}
+use Rattle.store_tables.specs.Selection.{tells_of, watches}
 use Rattle.store_core.specs.Found.{dependency_at, dependency_by, dependency_of}
-use Rattle.store_core.specs.Found.{counted, filed, number_of, place_of, queue_by, standing_of}
+use Rattle.store_core.specs.Found.{counted, filed, queue_by, standing_of}
 use Rattle.store_core.specs.Found.{with_dependencies, with_link}
-use Rattle.store_core.specs.Orders.{by_role, by_target}
-use Rattle.store_core.specs.Picked.{AreOrdered, IsGreatest}
-use Rattle.store_core.specs.Selection as chosen
-use Rattle.store_core.specs.Selection.{is_numbered, links_from, tells_of, watches}
 use Rattle.store_core.proofs.FactsLemmas.{entries_of_one, found_row, greatest_counts}
 use Rattle.store_core.proofs.FactsLemmas.{numbers_of, only_request, some_found, watchers_of_one}
 use Rattle.store_core.proofs.FactsLemmasInOrder.{the_admin_cc, the_cc, the_dependency_links}

@@ -13,14 +13,14 @@ use Rattle.std.specs.Ordering.{nat_cmp}
 use Rattle.std.specs.Prelude.{find}
 use Rattle.sqlite_trees.specs.Tree.{IsAscending}
 use Rattle.sqlite_trees.proofs.ListLemmas.{all_weaker, filter_all, filter_none}
+use Rattle.desk_model.specs.declared.rows.Entry.{Entry}
 use Rattle.desk_core.specs.Desk.{Desk, Request}
 use Rattle.desk_core.specs.IsDesk.{IsDesk, are_numbered, has_its_entries}
-use Rattle.desk_core.specs.declared.rows.Entry.{Entry}
-use Rattle.store_core.specs.Contents.{entries, history_at}
-use Rattle.store_core.specs.Kept.{itself}
-use Rattle.store_core.specs.Orders.{by_number}
-use Rattle.store_core.specs.Picked.{AreOrdered}
-use Rattle.store_core.specs.Selection.{tells_of}
+use Rattle.store_tables.specs.Contents.{entries, history_at}
+use Rattle.store_tables.specs.Kept.{itself}
+use Rattle.store_tables.specs.Orders.{by_number}
+use Rattle.store_tables.specs.Picked.{AreOrdered}
+use Rattle.store_tables.specs.Selection.{tells_of}
 use Rattle.store_core.proofs.RiseLemmas.{all_later, all_tested, numbers_rise, own_entries}
 use Rattle.store_core.proofs.SortedLemmas.{Rises, sorted_same}
 

@@ -17,15 +17,15 @@ use Rattle.sqlite.specs.State.{State, HasCleanDisk, Writes, Executes}
 use Rattle.sqlite.specs.Listing.{understood}
 use Rattle.sqlite.proofs.Callers.{IsPlain, command_of, statement_of, runs_as}
 use Rattle.sqlite_trees.proofs.ListLemmas.{all_both, all-append}
-use Rattle.store_core.specs.Tables.{desk_schema}
-use Rattle.store_core.specs.Contents.{Contents}
-use Rattle.store_core.specs.Stands.{HasTables, Tables, Within, Ran}
-use Rattle.store_core.specs.Making.{AreEmpty, IsOfMeta, Made, Stays}
-use Rattle.store_core.specs.Picked.{shows}
-use Rattle.store_core.specs.Queries.{version_shown}
-use Rattle.store_core.specs.Spelling.{count_value}
-use Rattle.store_core.proofs.Meaning.{Changes}
-use Rattle.store_core.proofs.WriteLemmas.{went, same_value}
+use Rattle.store_tables.specs.Tables.{desk_schema}
+use Rattle.store_tables.specs.Contents.{Contents}
+use Rattle.store_tables.specs.Stands.{HasTables, Tables, Within, Ran}
+use Rattle.store_tables.specs.Making.{AreEmpty, IsOfMeta, Made, Stays}
+use Rattle.store_tables.specs.Picked.{shows}
+use Rattle.store_tables.specs.Queries.{version_shown}
+use Rattle.store_tables.specs.Spelling.{count_value}
+use Rattle.store_tables.proofs.Meaning.{Changes}
+use Rattle.store_tables.proofs.WriteLemmas.{went, same_value}
 
 -- what the check computes of the text of a CREATE TABLE
 pub record Creates (base next : Schema) (text : List ℕ) (table : Table) : Type 0 where

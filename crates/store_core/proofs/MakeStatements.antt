@@ -3,12 +3,12 @@ use Rattle.std.proofs.Common.{refl}
 use Rattle.sqlite_tied.specs.Compute.{everything}
 use Rattle.sqlite.specs.Command.TheVariants.{Nothing}
 use Rattle.sqlite.specs.Listing.{understood}
-use Rattle.store_core.specs.Tables.{desk_schema, entry, entry_text, link, link_schema, link_text}
-use Rattle.store_core.specs.Tables.{meta, meta_schema, meta_text, no_schema, queue, queue_schema}
-use Rattle.store_core.specs.Tables.{queue_text, request, request_schema, request_text, watcher}
-use Rattle.store_core.specs.Tables.{watcher_schema, watcher_text}
+use Rattle.store_tables.specs.Tables.{desk_schema, entry, entry_text, link, link_schema, link_text}
+use Rattle.store_tables.specs.Tables.{meta, meta_schema, meta_text, no_schema, queue, queue_schema}
+use Rattle.store_tables.specs.Tables.{queue_text, request, request_schema, request_text, watcher}
+use Rattle.store_tables.specs.Tables.{watcher_schema, watcher_text}
+use Rattle.store_tables.proofs.Meaning.{Changes}
 use Rattle.store_core.proofs.MakeLemmas.{Creates}
-use Rattle.store_core.proofs.Meaning.{Changes}
 
 pub meta_made : Creates no_schema meta_schema meta_text meta
 unfolding understood everything

@@ -4,19 +4,19 @@ use Rattle.std.proofs.Common.{refl, sym}
 use Rattle.std.proofs.lemmas.Bool.{and_parts}
 use Rattle.std.specs.Ordering.{is_lt}
 use Rattle.sqlite_trees.proofs.ListLemmas.{all_both}
-use Rattle.desk_core.specs.Desk.{has_lower_name}
-use Rattle.desk_core.specs.IsDesk.{is_rising}
-use Rattle.desk_core.specs.declared.rows.QueueRow.{QueueRow}
+use Rattle.desk_model.specs.declared.rows.QueueRow.{QueueRow}
+use Rattle.desk_model.specs.declared.rows.RequestRow.{RequestRow}
+use Rattle.desk_model.specs.declared.rows.Watcher.{Watcher}
 use Rattle.std.specs.Cmp.{IsTotalOrder}
 use Rattle.std.proofs.lemmas.Cmp.{nat_cmp_total, on_total, then_total, nat_list_cmp_total}
-use Rattle.desk_core.specs.declared.rows.RequestRow.{RequestRow}
-use Rattle.desk_core.specs.declared.rows.Watcher.{Watcher}
-use Rattle.desk_core.specs.declared.rows.Entry.{Entry}
-use Rattle.desk_core.specs.declared.rows.LinkRow.{LinkRow}
-use Rattle.store_core.specs.Kept.{itself}
-use Rattle.store_core.specs.Picked.{AreOrdered}
-use Rattle.store_core.specs.Orders.{by_id, by_entry, by_link, by_name, by_watcher}
-use Rattle.store_core.specs.Spelling.{role_number}
+use Rattle.desk_model.specs.declared.rows.Entry.{Entry}
+use Rattle.desk_model.specs.declared.rows.LinkRow.{LinkRow}
+use Rattle.desk_core.specs.Desk.{has_lower_name}
+use Rattle.desk_core.specs.IsDesk.{is_rising}
+use Rattle.store_tables.specs.Kept.{itself}
+use Rattle.store_tables.specs.Picked.{AreOrdered}
+use Rattle.store_tables.specs.Orders.{by_id, by_entry, by_link, by_name, by_watcher}
+use Rattle.store_tables.specs.Spelling.{role_number}
 use Rattle.desk_core.specs.Links.{kind_number}
 use Rattle.store_core.proofs.SortedLemmas.{Rises, sorted_same}
 

@@ -14,22 +14,22 @@ use Rattle.sqlite_trees.specs.Tree.{IsAscending}
 use Rattle.sqlite_trees.proofs.ListLemmas.{all_both, all_of, all_weaker, all-append, all-map}
 use Rattle.sqlite_trees.proofs.ListLemmas.{ascending-append, ascending-map}
 use Rattle.sqlite_trees.proofs.ListLemmas.{ascending_weaker}
+use Rattle.desk_model.specs.declared.rows.Entry.{Entry}
+use Rattle.desk_model.specs.declared.rows.LinkRow.{LinkRow}
+use Rattle.desk_model.specs.declared.rows.RequestRow.{RequestRow}
+use Rattle.desk_model.specs.declared.rows.Watcher.{Watcher}
+use Rattle.desk_model.specs.declared.rows.WatchRole.{WatchRole}
+use Rattle.desk_model.specs.declared.rows.WatchRole.TheVariants.{Requestor, Cc, AdminCc}
 use Rattle.desk_core.specs.Desk.{Desk, Request}
 use Rattle.desk_core.specs.IsDesk.{IsDesk, are_numbered, has_its_entries, names_rise}
 use Rattle.desk_core.specs.IsDesk.{persons_rise}
 use Rattle.desk_core.specs.Links.{is_lower_link, kind_number}
 use Rattle.desk_core.specs.Names.{text_order}
 use Rattle.desk_core.specs.Watchers.{watcher, watchers_of}
-use Rattle.desk_core.specs.declared.rows.Entry.{Entry}
-use Rattle.desk_core.specs.declared.rows.LinkRow.{LinkRow}
-use Rattle.desk_core.specs.declared.rows.RequestRow.{RequestRow}
-use Rattle.desk_core.specs.declared.rows.Watcher.{Watcher}
-use Rattle.desk_core.specs.declared.rows.WatchRole.{WatchRole}
-use Rattle.desk_core.specs.declared.rows.WatchRole.TheVariants.{Requestor, Cc, AdminCc}
-use Rattle.store_core.specs.Contents.{entries, request_rows, watchers}
-use Rattle.store_core.specs.Kept.{itself}
-use Rattle.store_core.specs.Orders.{by_entry, by_id, by_link, by_watcher}
-use Rattle.store_core.specs.Spelling.{role_number}
+use Rattle.store_tables.specs.Contents.{entries, request_rows, watchers}
+use Rattle.store_tables.specs.Kept.{itself}
+use Rattle.store_tables.specs.Orders.{by_entry, by_id, by_link, by_watcher}
+use Rattle.store_tables.specs.Spelling.{role_number}
 use Rattle.store_core.proofs.OrderLemmas.{all_rise, entry_total, id_total, link_total}
 use Rattle.store_core.proofs.OrderLemmas.{watcher_total}
 use Rattle.store_core.proofs.SortedLemmas.{Rises}

@@ -10,18 +10,18 @@ use Rattle.std.specs.List.{list_any}
 use Rattle.std.specs.Ordering.{is_eq, match_ordering}
 use Rattle.std.specs.Str.{bytes_eq}
 use Rattle.std.specs.declared.cmp.Ordering.TheVariants.{Less, Equal, Greater}
+use Rattle.desk_model.specs.declared.rows.Watcher.{Watcher}
+use Rattle.desk_model.specs.declared.rows.WatchRole.{WatchRole}
+use Rattle.desk_model.specs.declared.rows.WatchRole.TheVariants.{Requestor, Cc, AdminCc}
 use Rattle.desk_core.specs.Change.{in_role, without_name}
 use Rattle.desk_core.specs.Desk.{Request, revised_at}
 use Rattle.desk_core.specs.Names.{text_order, with_name}
 use Rattle.desk_core.specs.Watchers.{is_role, is_watching, watcher, watchers_of}
-use Rattle.desk_core.specs.declared.rows.Watcher.{Watcher}
-use Rattle.desk_core.specs.declared.rows.WatchRole.{WatchRole}
-use Rattle.desk_core.specs.declared.rows.WatchRole.TheVariants.{Requestor, Cc, AdminCc}
-use Rattle.store_core.proofs.Alike.{more_after, more_before}
+use Rattle.store_tables.specs.Selection.{is_watcher}
 use Rattle.sqlite_trees.proofs.ListLemmas.{filter-map}
 use Rattle.std.proofs.lemmas.List.Elements.{filter-append}
-use Rattle.store_core.specs.Selection.{is_watcher}
-use Rattle.store_core.specs.Spelling.{role_number}
+use Rattle.store_tables.specs.Spelling.{role_number}
+use Rattle.store_core.proofs.Alike.{more_after, more_before}
 
 -- a name that isn't among others is one more in its place
 named_alike : (names : List (List ℕ)) (name : List ℕ)

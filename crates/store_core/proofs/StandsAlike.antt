@@ -6,15 +6,15 @@ use Rattle.std.proofs.lemmas.List.Sorted.{IsPermutation-sym, IsPermutation-trans
 use Rattle.sqlite.specs.Effect.{Database}
 use Rattle.sqlite.specs.Order.{Row}
 use Rattle.sqlite.specs.State.{State}
-use Rattle.store_core.specs.Calls.{Leaves}
-use Rattle.store_core.specs.Contents.{Contents}
-use Rattle.store_core.specs.Kept.{Holds}
-use Rattle.store_core.specs.Spelling.{version_row}
-use Rattle.store_core.specs.Stands.{Stand, Tables}
-use Rattle.store_core.specs.Values.{AreValues}
+use Rattle.store_tables.specs.Calls.{Leaves}
+use Rattle.store_tables.specs.Contents.{Contents}
+use Rattle.store_tables.specs.Kept.{Holds}
+use Rattle.store_tables.specs.Spelling.{version_row}
+use Rattle.store_tables.specs.Stands.{Stand, Tables}
+use Rattle.store_tables.specs.Values.{AreValues}
+use Rattle.store_tables.proofs.LastLemmas.{has_permuted}
+use Rattle.store_tables.proofs.ValueLemmas.{are_values, values_of}
 use Rattle.store_core.specs.Written.{AreAlike}
-use Rattle.store_core.proofs.LastLemmas.{has_permuted}
-use Rattle.store_core.proofs.ValueLemmas.{are_values, values_of}
 
 holds_alike : {K X : Type 0} (row : K → Row) (value : K → X) (xs ys : List X) (rows : List Row)
     → IsPermutation xs ys → Holds row value xs rows → Holds row value ys rows

@@ -13,6 +13,8 @@ use Rattle.std.specs.Ordering.{is_eq, is_lt}
 use Rattle.std.specs.Str.{bytes_eq}
 use Rattle.std.specs.declared.cmp.Ordering.TheVariants.{Less, Equal, Greater}
 use Rattle.text_core.specs.Texts.{is_among}
+use Rattle.desk_model.specs.declared.rows.WatchRole.{WatchRole}
+use Rattle.desk_model.specs.declared.rows.WatchRole.TheVariants.{Requestor, Cc, AdminCc}
 use Rattle.desk_core.proofs.NamesLaw.{among_named}
 use Rattle.desk_core.proofs.Rising.{is_lower_name, orders_go_on}
 use Rattle.desk_core.proofs.Roles.{roles_kept}
@@ -24,11 +26,9 @@ use Rattle.desk_core.specs.Facts.{standing}
 use Rattle.desk_core.specs.IsDesk.{are_numbered, comes_first, names_rise}
 use Rattle.desk_core.specs.Names.{text_order, with_name}
 use Rattle.desk_core.specs.Watchers.{is_watching, watcher, watchers_of}
-use Rattle.desk_core.specs.declared.rows.WatchRole.{WatchRole}
-use Rattle.desk_core.specs.declared.rows.WatchRole.TheVariants.{Requestor, Cc, AdminCc}
+use Rattle.store_tables.specs.Contents.{watchers}
 use Rattle.store_core.proofs.Revised.{id_of, none_before, none_revised, there_by_number}
 use Rattle.store_core.proofs.RoleRows.{is_row_of}
-use Rattle.store_core.specs.Contents.{watchers}
 use Rattle.store_core.specs.Written.{PutsAnew, is_there}
 
 -- ---- who has no row among the persons of all requests

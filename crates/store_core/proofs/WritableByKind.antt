@@ -7,6 +7,13 @@ use Rattle.std.specs.Option.{is_some}
 use Rattle.hours_core.specs.Moment.{is_moment}
 use Rattle.settings_core.specs.Settings.{knows}
 use Rattle.settings_core.specs.declared.settings.Settings.{Settings}
+use Rattle.desk_model.specs.declared.change.Change.{Change}
+use Rattle.desk_model.specs.declared.command.Command.{Command}
+use Rattle.desk_model.specs.declared.command.Command.TheVariants.{OpenQueue, Create, Reply, Watch}
+use Rattle.desk_model.specs.declared.command.Command.TheVariants.{Queues, Show, History}
+use Rattle.desk_model.specs.declared.facts.Standing.{Standing}
+use Rattle.desk_model.specs.declared.refusal.Refusal.TheVariants.{UnknownCaller, BadMoment}
+use Rattle.desk_model.specs.declared.rows.RequestRow.{RequestRow}
 use Rattle.desk_core.proofs.DeskLaw.ByKind.{Meets, by_plan, change_fits}
 use Rattle.desk_core.proofs.DeskLaw.Fitting as fitting
 use Rattle.desk_core.proofs.NamesLaw.{names_in_order_rise}
@@ -21,13 +28,6 @@ use Rattle.desk_core.specs.IsDesk.{IsDesk, are_numbered}
 use Rattle.desk_core.specs.Names.{in_order}
 use Rattle.desk_core.specs.Plan.{Call, change_by}
 use Rattle.desk_core.specs.Step.{call, facts_of, guard}
-use Rattle.desk_core.specs.declared.change.Change.{Change}
-use Rattle.desk_core.specs.declared.command.Command.{Command}
-use Rattle.desk_core.specs.declared.command.Command.TheVariants.{OpenQueue, Create, Reply, Watch}
-use Rattle.desk_core.specs.declared.command.Command.TheVariants.{Queues, Show, History}
-use Rattle.desk_core.specs.declared.facts.Standing.{Standing}
-use Rattle.desk_core.specs.declared.refusal.Refusal.TheVariants.{UnknownCaller, BadMoment}
-use Rattle.desk_core.specs.declared.rows.RequestRow.{RequestRow}
 use Rattle.store_core.proofs.Revised.{id_of}
 use Rattle.store_core.proofs.Writable.{IsLast, are_new, last_there, nobody, requestors_anew}
 use Rattle.store_core.proofs.Writable.{rising_apart, watching_is}

@@ -11,6 +11,16 @@ use Rattle.std.proofs.lemmas.List.Sorted.{IsPermutation-sym, IsPermutation-trans
 use Rattle.std.proofs.lemmas.List.Sorted.{IsPermutation-to_front}
 use Rattle.sqlite_trees.proofs.ListLemmas.{IsPermutation-filter}
 use Rattle.std.specs.List.{list_all, list_any}
+use Rattle.desk_model.specs.declared.change.Change.{Change}
+use Rattle.desk_model.specs.declared.rows.Entry.{Entry}
+use Rattle.desk_model.specs.declared.rows.LinkKind.{LinkKind}
+use Rattle.desk_model.specs.declared.rows.LinkKind.TheVariants.{DependsOn, MemberOf, RefersTo}
+use Rattle.desk_model.specs.declared.rows.LinkRow.{LinkRow}
+use Rattle.desk_model.specs.declared.rows.QueueRow.{QueueRow}
+use Rattle.desk_model.specs.declared.rows.RequestRow.{RequestRow}
+use Rattle.desk_model.specs.declared.rows.Watcher.{Watcher}
+use Rattle.desk_model.specs.declared.rows.WatchRole.{WatchRole}
+use Rattle.desk_model.specs.declared.rows.WatchRole.TheVariants.{Requestor, Cc, AdminCc}
 use Rattle.desk_core.proofs.DeskLaw.Numbers.{numbered_more}
 use Rattle.desk_core.specs.Change.{applied, entry_put, filed, in_role, link_put, link_taken}
 use Rattle.desk_core.specs.Change.{person_put}
@@ -23,24 +33,14 @@ use Rattle.desk_core.specs.Links as links
 use Rattle.desk_core.specs.Links.{is_kind, is_lower_link, kind_number}
 use Rattle.desk_core.specs.Names.{with_name}
 use Rattle.desk_core.specs.Watchers.{is_watching, watcher, watchers_of}
-use Rattle.desk_core.specs.declared.change.Change.{Change}
-use Rattle.desk_core.specs.declared.rows.Entry.{Entry}
-use Rattle.desk_core.specs.declared.rows.LinkKind.{LinkKind}
-use Rattle.desk_core.specs.declared.rows.LinkKind.TheVariants.{DependsOn, MemberOf, RefersTo}
-use Rattle.desk_core.specs.declared.rows.LinkRow.{LinkRow}
-use Rattle.desk_core.specs.declared.rows.QueueRow.{QueueRow}
-use Rattle.desk_core.specs.declared.rows.RequestRow.{RequestRow}
-use Rattle.desk_core.specs.declared.rows.Watcher.{Watcher}
-use Rattle.desk_core.specs.declared.rows.WatchRole.{WatchRole}
-use Rattle.desk_core.specs.declared.rows.WatchRole.TheVariants.{Requestor, Cc, AdminCc}
+use Rattle.store_tables.specs.Contents.{Contents, contents_of, entries, request_rows, watchers}
+use Rattle.store_tables.specs.Contents.{add_entry, add_watcher, drop_watcher}
+use Rattle.store_tables.specs.Selection as selection
+use Rattle.store_tables.specs.Selection.{is_watcher}
 use Rattle.store_core.proofs.Alike.{placed_alike}
 use Rattle.store_core.proofs.Revised.{kept_all, kept_each, none_each, one_more, one_set}
 use Rattle.store_core.proofs.Revised.{there_by_number}
 use Rattle.store_core.proofs.RoleRows.{filter_alike, is_row_of, put_row_alike, taken_each}
-use Rattle.store_core.specs.Contents.{Contents, contents_of, entries, request_rows, watchers}
-use Rattle.store_core.specs.Contents.{add_entry, add_watcher, drop_watcher}
-use Rattle.store_core.specs.Selection as selection
-use Rattle.store_core.specs.Selection.{is_watcher}
 use Rattle.store_core.specs.Written.{AreAlike, FilesNext, IsWritable, PutsAnew, SetsThere, is_there}
 use Rattle.store_core.specs.Written.{link_added, link_dropped, queue_added, request_added}
 use Rattle.store_core.specs.Written.{request_set, with_rows, written}

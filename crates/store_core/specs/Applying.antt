@@ -1,13 +1,13 @@
 -- What it is that a change is written into the tables.
 use Rattle.std.specs.Prelude.{OnOk, Result}
 use Rattle.sqlite.specs.State.{State}
+use Rattle.desk_model.specs.declared.change.Change.{Change}
 use Rattle.desk_core.specs.Change.{applied}
 use Rattle.desk_core.specs.Desk.{Desk}
 use Rattle.desk_core.specs.IsDesk.{IsDesk}
-use Rattle.desk_core.specs.declared.change.Change.{Change}
-use Rattle.store_core.specs.Stands.{StandsFor}
+use Rattle.store_tables.specs.Stands.{StandsFor}
+use Rattle.store_tables.specs.declared.fault.StoreFault.{StoreFault}
 use Rattle.store_core.specs.Written.{IsWritable}
-use Rattle.store_core.specs.declared.fault.StoreFault.{StoreFault}
 
 -- the tables stood for a desk on which the change can be written, and stand for the changed desk
 abbrev pub Applies : {X : Type 0} → Change → State → State → Result X StoreFault → Type 0

@@ -1,34 +1,19 @@
--- What reads by key find of a desk.
-use Rattle.std.specs.Prelude.{◌≡◌, ◌⊎◌, ◌==◌, ℕ, Bool, List, [], ◌∷◌, filter, map, Option}
+-- What reads by key find of a desk, and how facts are put together of it.
+use Rattle.std.specs.Prelude.{◌==◌, ℕ, Bool, List, filter, map, Option}
 use Rattle.std.specs.Prelude.{option_and_then}
 use Rattle.std.specs.Option.{option_map, option_to_list}
-use Rattle.sqlite.specs.Order.{Row, column}
+use Rattle.desk_model.specs.declared.facts.Dependency.{Dependency}
+use Rattle.desk_model.specs.declared.facts.Facts.{Facts}
+use Rattle.desk_model.specs.declared.facts.Standing.{Standing}
+use Rattle.desk_model.specs.declared.rows.LinkRow.{LinkRow}
+use Rattle.desk_model.specs.declared.rows.QueueRow.{QueueRow}
+use Rattle.desk_model.specs.declared.rows.RequestRow.{RequestRow}
+use Rattle.desk_model.specs.declared.rows.Watcher.{Watcher}
+use Rattle.desk_model.specs.declared.rows.WatchRole.{WatchRole}
+use Rattle.desk_model.specs.declared.rows.WatchRole.TheVariants.{Requestor, Cc, AdminCc}
 use Rattle.desk_core.specs.Desk.{Desk, Request, queue_at, request_at}
 use Rattle.desk_core.specs.Facts.{as_dependency, no_facts}
 use Rattle.desk_core.specs.Watchers.{is_role}
-use Rattle.desk_core.specs.declared.facts.Dependency.{Dependency}
-use Rattle.desk_core.specs.declared.facts.Facts.{Facts}
-use Rattle.desk_core.specs.declared.facts.Standing.{Standing}
-use Rattle.desk_core.specs.declared.rows.Entry.{Entry}
-use Rattle.desk_core.specs.declared.rows.LinkRow.{LinkRow}
-use Rattle.desk_core.specs.declared.rows.QueueRow.{QueueRow}
-use Rattle.desk_core.specs.declared.rows.RequestRow.{RequestRow}
-use Rattle.desk_core.specs.declared.rows.Watcher.{Watcher}
-use Rattle.desk_core.specs.declared.rows.WatchRole.{WatchRole}
-use Rattle.desk_core.specs.declared.rows.WatchRole.TheVariants.{Requestor, Cc, AdminCc}
-use Rattle.store_core.specs.Spelling.{count_value}
-
--- the one row shows that number, or there is no row and the number is 0
-abbrev pub ReadsNumber : List Row → ℕ → Type 0
-ReadsNumber rows n =
-    ((rows ≡ []) × (n ≡ 0)) ⊎ ((row : Row) × (rows ≡ row ∷ []) × (column row 0 ≡ count_value n))
-
-abbrev pub number_of : RequestRow → ℕ
-number_of r = r.id
-
--- the number of an entry within its history
-abbrev pub place_of : Entry → ℕ
-place_of e = e.number
 
 -- the persons in a role, in the order of the watchers
 abbrev pub persons_in : WatchRole → List Watcher → List (List ℕ)

@@ -5,6 +5,12 @@ use Rattle.std.specs.Prelude.{IsPermutation, fold, length}
 use Rattle.std.specs.List.{list_all}
 use Rattle.std.specs.Option.{is_some}
 use Rattle.settings_core.specs.declared.settings.Settings.{Settings}
+use Rattle.desk_model.specs.declared.change.Change.{Change}
+use Rattle.desk_model.specs.declared.command.Command.{Command}
+use Rattle.desk_model.specs.declared.rows.LinkRow.{LinkRow}
+use Rattle.desk_model.specs.declared.rows.QueueRow.{QueueRow}
+use Rattle.desk_model.specs.declared.rows.RequestRow.{RequestRow}
+use Rattle.desk_model.specs.declared.rows.Watcher.{Watcher}
 use Rattle.desk_core.specs.Change.{person_put, queue_put, request_filed, row_set}
 use Rattle.desk_core.specs.Commands.{plan_of}
 use Rattle.desk_core.specs.Desk.{Desk, request_at}
@@ -12,15 +18,9 @@ use Rattle.desk_core.specs.IsDesk.{IsDesk}
 use Rattle.desk_core.specs.Plan.{change_by}
 use Rattle.desk_core.specs.Step.{call, facts_of, guard}
 use Rattle.desk_core.specs.Watchers.{is_watching}
-use Rattle.desk_core.specs.declared.change.Change.{Change}
-use Rattle.desk_core.specs.declared.command.Command.{Command}
-use Rattle.desk_core.specs.declared.rows.LinkRow.{LinkRow}
-use Rattle.desk_core.specs.declared.rows.QueueRow.{QueueRow}
-use Rattle.desk_core.specs.declared.rows.RequestRow.{RequestRow}
-use Rattle.desk_core.specs.declared.rows.Watcher.{Watcher}
-use Rattle.store_core.specs.Contents.{Contents, watchers}
-use Rattle.store_core.specs.Contents.{add_queue, add_request, set_request, add_watcher}
-use Rattle.store_core.specs.Contents.{drop_watcher, add_link, drop_link, add_entry}
+use Rattle.store_tables.specs.Contents.{Contents, watchers}
+use Rattle.store_tables.specs.Contents.{add_queue, add_request, set_request, add_watcher}
+use Rattle.store_tables.specs.Contents.{drop_watcher, add_link, drop_link, add_entry}
 
 abbrev pub queue_added : Option QueueRow → Contents → Contents
 queue_added None c = c

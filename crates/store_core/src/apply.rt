@@ -1,20 +1,20 @@
 //! A change is written, whole or not at all.
 ghost use Rattle.std.specs.Prelude.{◌≡◌, false, IfErr, OnErr, OnOk};
 ghost use Rattle.sqlite.specs.Held.{state};
+ghost use Rattle.store_tables.specs.Calls.{Leaves, WasClean};
+ghost use Rattle.store_tables.specs.Contents.{Contents};
+ghost use Rattle.store_tables.specs.Stands.{Stand};
+ghost use Rattle.store_tables.specs.declared.fault.StoreFault.{StoreFault};
 ghost use Rattle.store_core.specs.Applying.{Applies};
-ghost use Rattle.store_core.specs.Calls.{Leaves, WasClean};
-ghost use Rattle.store_core.specs.Contents.{Contents};
 ghost use Rattle.store_core.specs.Seen.{state_of};
-ghost use Rattle.store_core.specs.Stands.{Stand};
 ghost use Rattle.store_core.specs.Written.{written};
-ghost use Rattle.store_core.specs.declared.fault.StoreFault.{StoreFault};
 
-use crate::fault::StoreFault;
+use crate::change::write_change;
 use crate::store::Store;
-use crate::transaction::finish;
-use crate::writes::change::write_change;
 use desk_core::Change;
 use sqlite::{Alter, Connection};
+use store_tables::StoreFault;
+use store_tables::transaction::finish;
 
 /// Writes a change in one transaction: all of it, or none.
 fn apply_change<S: Alter>(conn: &mut Connection<S>, change: &Change) -> Result<(), StoreFault>

@@ -3,21 +3,21 @@ ghost use Rattle.std.specs.Prelude.{◌++◌, ◌∷◌, ◌≡◌, ◌≢◌, I
 ghost use Rattle.std.specs.List.{flat_map};
 ghost use Rattle.sqlite.specs.Held.{state};
 ghost use Rattle.desk_core.specs.Facts as facts;
-ghost use Rattle.store_core.specs.declared.fault.StoreFault.{StoreFault};
-ghost use Rattle.store_core.specs.Calls.{OnlyRefuses, Spares, Tells};
+ghost use Rattle.store_tables.specs.declared.fault.StoreFault.{StoreFault};
+ghost use Rattle.store_tables.specs.Calls.{OnlyRefuses, Spares, Tells};
 ghost use Rattle.store_core.specs.Found as found;
 
-use crate::fault::StoreFault;
-use crate::reads::links_by_key::links_from;
-use crate::reads::requests_by_key::request_numbered;
 use crate::standing::queue_at;
 use desk_core::{Dependency, LinkKind, LinkRow, QueueRow, RequestRow};
 use sqlite::{Alter, Connection};
 use std::alloc::Global;
+use store_tables::StoreFault;
+use store_tables::reads::links_by_key::links_from;
+use store_tables::reads::requests_by_key::request_numbered;
 use text_core::Sequence;
 
 /// What a request depends on.
-#[tactic(auto, using(crate::proofs::Spared::joined, crate::proofs::Spared::stands))]
+#[tactic(auto, using(store_tables::proofs::Spared::joined, store_tables::proofs::Spared::stands))]
 pub(crate) fn dependencies_of<S: Alter>(
     alloc: Global,
     conn: &mut Connection<S>,
@@ -37,7 +37,7 @@ pub(crate) fn dependencies_of<S: Alter>(
 }
 
 /// What the links lead to.
-#[tactic(auto, using(crate::proofs::Spared::joined, crate::proofs::Spared::stands))]
+#[tactic(auto, using(store_tables::proofs::Spared::joined, store_tables::proofs::Spared::stands))]
 fn dependencies_by<S: Alter>(
     alloc: Global,
     conn: &mut Connection<S>,
@@ -92,7 +92,7 @@ fn push_dependency(all: &mut Vec<Dependency>, one: Dependency) -> Result<(), Sto
 }
 
 /// What a request is to one that depends on it, if it and its queue are there.
-#[tactic(auto, using(crate::proofs::Spared::joined, crate::proofs::Spared::stands))]
+#[tactic(auto, using(store_tables::proofs::Spared::joined, store_tables::proofs::Spared::stands))]
 fn dependency_at<S: Alter>(
     conn: &mut Connection<S>,
     id: u32,

@@ -6,21 +6,21 @@ ghost use Rattle.desk_core.specs.Links.{has_link};
 ghost use Rattle.desk_core.specs.Plan.{Dependencies, besides_on};
 ghost use Rattle.desk_core.specs.Scope.{seen_in};
 ghost use Rattle.desk_core.specs.Step.{facts_of};
-ghost use Rattle.store_core.specs.declared.fault.StoreFault.{StoreFault};
-ghost use Rattle.store_core.specs.Calls.{OnlyRefuses, Spares, Tells};
+ghost use Rattle.store_tables.specs.declared.fault.StoreFault.{StoreFault};
+ghost use Rattle.store_tables.specs.Calls.{OnlyRefuses, Spares, Tells};
 ghost use Rattle.store_core.specs.Found as found;
 ghost use Rattle.store_core.specs.Seen.{state_of};
 
 use crate::dependencies::dependencies_of;
-use crate::fault::StoreFault;
-use crate::reads::links_by_key::link_like;
-use crate::reads::queue_count::queue_count;
-use crate::reads::requests_by_key::last_id;
 use crate::standing::{queue_at, queue_of, standing_at};
 use crate::store::Store;
 use desk_core::{Command, Dependency, Facts, LinkRow, QueueRow, Scope, Standing};
 use sqlite::{Alter, Connection};
 use std::alloc::Global;
+use store_tables::StoreFault;
+use store_tables::reads::links_by_key::link_like;
+use store_tables::reads::queue_count::queue_count;
+use store_tables::reads::requests_by_key::last_id;
 use text_core::{Sequence, Text};
 
 impl<S: Alter> Store<S> {
@@ -64,7 +64,7 @@ fn facts_in<S: Alter>(
 }
 
 /// Of a command that names a queue: the queue and both counts.
-#[tactic(auto, using(crate::proofs::Spared::joined, crate::proofs::Spared::stands))]
+#[tactic(auto, using(store_tables::proofs::Spared::joined, store_tables::proofs::Spared::stands))]
 fn facts_on_queue<S: Alter>(
     alloc: Global,
     conn: &mut Connection<S>,
@@ -112,7 +112,7 @@ fn count_requests<S: Alter>(conn: &mut Connection<S>) -> Result<u32, StoreFault>
 }
 
 /// Of a command on a request: the request and its queue.
-#[tactic(auto, using(crate::proofs::Spared::joined, crate::proofs::Spared::stands))]
+#[tactic(auto, using(store_tables::proofs::Spared::joined, store_tables::proofs::Spared::stands))]
 fn facts_on<S: Alter>(alloc: Global, conn: &mut Connection<S>, id: u32) -> Result<Facts, StoreFault>
     requires { conn.old.in_transaction ≡ false }
     ensures idle { conn.new.in_transaction ≡ false }
@@ -129,7 +129,7 @@ fn facts_on<S: Alter>(alloc: Global, conn: &mut Connection<S>, id: u32) -> Resul
 }
 
 /// Of a move: what the request depends on too.
-#[tactic(auto, using(crate::proofs::Spared::joined, crate::proofs::Spared::stands))]
+#[tactic(auto, using(store_tables::proofs::Spared::joined, store_tables::proofs::Spared::stands))]
 fn facts_of_move<S: Alter>(
     alloc: Global,
     conn: &mut Connection<S>,
@@ -150,7 +150,7 @@ fn facts_of_move<S: Alter>(
 }
 
 /// Of a link: the request at its other end too, and whether it is there.
-#[tactic(auto, using(crate::proofs::Spared::joined, crate::proofs::Spared::stands))]
+#[tactic(auto, using(store_tables::proofs::Spared::joined, store_tables::proofs::Spared::stands))]
 fn facts_of_link<S: Alter>(
     alloc: Global,
     conn: &mut Connection<S>,

@@ -1,23 +1,18 @@
-//! The tables of a desk: how its rows are kept, read and changed. No other crate names a table or a
-//! statement.
+//! The store of a desk: it makes the tables, reads facts and lists of the desk that they stand for,
+//! and writes changes. The statements on rows stand in `store_tables`, whose `StoreFault` is passed
+//! on. No crate above names a table or a statement.
 #![tactic(auto)]
 
 mod apply;
-mod columns;
+mod change;
 mod dependencies;
 mod facts;
-pub mod fault;
 pub mod laws;
 mod lists;
 mod making;
 mod opening;
-mod query;
-mod reads;
 mod standing;
 pub mod store;
-mod stored;
-mod transaction;
-mod writes;
 
-pub use fault::StoreFault;
 pub use store::Store;
+pub use store_tables::StoreFault;

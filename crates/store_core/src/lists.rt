@@ -1,19 +1,18 @@
 //! The lists of a store, each in the order of its key.
 ghost use Rattle.std.specs.Prelude.{◌≡◌, filter};
-ghost use Rattle.store_core.specs.Calls.{Spares, Tells};
-ghost use Rattle.store_core.specs.Contents.{history_at, request_rows, watchers};
-ghost use Rattle.store_core.specs.Mismatches.{MismatchesInEntries, MismatchesInLinks};
-ghost use Rattle.store_core.specs.Mismatches.{MismatchesInQueues, MismatchesInRequests};
-ghost use Rattle.store_core.specs.Mismatches.{MismatchesInWatchers};
+ghost use Rattle.store_tables.specs.Calls.{Spares, Tells};
+ghost use Rattle.store_tables.specs.Contents.{history_at, request_rows, watchers};
+ghost use Rattle.store_tables.specs.Mismatches.{MismatchesInEntries, MismatchesInLinks};
+ghost use Rattle.store_tables.specs.Mismatches.{MismatchesInQueues, MismatchesInRequests};
+ghost use Rattle.store_tables.specs.Mismatches.{MismatchesInWatchers};
+ghost use Rattle.store_tables.specs.Selection.{ends_at, is_filed_in, starts_at};
 ghost use Rattle.store_core.specs.Seen.{state_of};
-ghost use Rattle.store_core.specs.Selection.{ends_at, is_filed_in, starts_at};
 
-use crate::fault::StoreFault;
-use crate::reads;
 use crate::store::Store;
 use desk_core::{Entry, LinkRow, QueueRow, RequestRow, Watcher};
 use sqlite::Alter;
 use std::alloc::Global;
+use store_tables::{StoreFault, reads};
 use text_core::Text;
 
 impl<S: Alter> Store<S> {

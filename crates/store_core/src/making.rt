@@ -3,21 +3,21 @@ ghost use Rattle.std.specs.Prelude.{◌≡◌, ◌≢◌, [], false, IfErr, IfOk
 ghost use Rattle.std.specs.Prelude.{IfSome, OnOk, Some};
 ghost use Rattle.sqlite.specs.Held.{state};
 ghost use Rattle.sqlite.specs.State.{HasCleanDisk};
-ghost use Rattle.store_core.specs.Calls.{Leaves, Makes, ShowsRowsOf, WasClean};
-ghost use Rattle.store_core.specs.Contents.{Contents, no_contents};
-ghost use Rattle.store_core.specs.Making.{Fresh, Inside, IsBlank, Made, ShowsVersion, WasBlank};
-ghost use Rattle.store_core.specs.Making.{BlamesMeta, IsOfMeta, NeedsVersion};
-ghost use Rattle.store_core.specs.Making.{Stays, WrongInside};
-ghost use Rattle.store_core.specs.Mismatches.{MismatchesInMeta};
-ghost use Rattle.store_core.specs.Queries.{version_shown};
-ghost use Rattle.store_core.specs.Stands.{HasTables, KeepsBase, Stand, Within};
-ghost use Rattle.store_core.specs.Tables.{desk_schema, no_schema, request_schema};
-ghost use Rattle.store_core.specs.declared.fault.StoreFault.{StoreFault};
+ghost use Rattle.store_tables.specs.Calls.{Leaves, Makes, ShowsRowsOf, WasClean};
+ghost use Rattle.store_tables.specs.Contents.{Contents, no_contents};
+ghost use Rattle.store_tables.specs.Making.{Fresh, Inside, IsBlank, Made, ShowsVersion, WasBlank};
+ghost use Rattle.store_tables.specs.Making.{BlamesMeta, IsOfMeta, NeedsVersion};
+ghost use Rattle.store_tables.specs.Making.{Stays, WrongInside};
+ghost use Rattle.store_tables.specs.Mismatches.{MismatchesInMeta};
+ghost use Rattle.store_tables.specs.Queries.{version_shown};
+ghost use Rattle.store_tables.specs.Stands.{HasTables, KeepsBase, Stand, Within};
+ghost use Rattle.store_tables.specs.Tables.{desk_schema, no_schema, request_schema};
+ghost use Rattle.store_tables.specs.declared.fault.StoreFault.{StoreFault};
 
-use crate::fault::StoreFault;
-use crate::reads::version::version_in;
-use crate::transaction::run;
 use sqlite::{Alter, Connection, Row, Transaction};
+use store_tables::StoreFault;
+use store_tables::reads::version::version_in;
+use store_tables::transaction::run;
 
 /// Makes the first three tables where they are missing.
 fn make_first<S: Alter>(tx: &mut Transaction<'_, S>) -> Result<(), StoreFault>

@@ -1,19 +1,18 @@
 //! A store is opened, and its tables are made.
 ghost use Rattle.std.specs.Prelude.{◌≡◌, ◌≢◌, false, IfErr, IfOk};
 ghost use Rattle.sqlite.specs.Steps.{over_memory};
-ghost use Rattle.store_core.specs.Calls.{Answers, Leaves, WasClean, Spares};
-ghost use Rattle.store_core.specs.Making.{IsBlank, MakesDesk, RefusesBlank};
-ghost use Rattle.store_core.specs.Making.{TellsVersion};
-ghost use Rattle.store_core.specs.Mismatches.{MismatchesInMeta};
+ghost use Rattle.store_tables.specs.Calls.{Answers, Leaves, WasClean, Spares};
+ghost use Rattle.store_tables.specs.Making.{IsBlank, MakesDesk, RefusesBlank};
+ghost use Rattle.store_tables.specs.Making.{TellsVersion};
+ghost use Rattle.store_tables.specs.Mismatches.{MismatchesInMeta};
+ghost use Rattle.store_tables.specs.declared.fault.StoreFault.{StoreFault};
 ghost use Rattle.store_core.specs.Seen.{connection_of, state_of};
-ghost use Rattle.store_core.specs.declared.fault.StoreFault.{StoreFault};
 
-use crate::fault::StoreFault;
 use crate::making::make_schema;
-use crate::reads;
 use crate::store::Store;
 use sqlite::{Alter, Connection, MemStore};
 use std::alloc::Global;
+use store_tables::{StoreFault, reads};
 
 impl Store<MemStore> {
     /// A store in memory, without tables. `Refused` where out of memory.

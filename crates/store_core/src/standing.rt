@@ -3,18 +3,18 @@ ghost use Rattle.std.specs.Prelude.{◌++◌, ◌∷◌, ◌≡◌, ◌≢◌, I
 ghost use Rattle.sqlite.specs.Held.{state};
 ghost use Rattle.desk_core.specs.Desk.{queue_at};
 ghost use Rattle.desk_core.specs.Facts as facts;
-ghost use Rattle.store_core.specs.declared.fault.StoreFault.{StoreFault};
-ghost use Rattle.store_core.specs.Calls.{OnlyRefuses, Spares, Tells};
+ghost use Rattle.store_tables.specs.declared.fault.StoreFault.{StoreFault};
+ghost use Rattle.store_tables.specs.Calls.{OnlyRefuses, Spares, Tells};
 ghost use Rattle.store_core.specs.Found as found;
 
-use crate::fault::StoreFault;
-use crate::reads::entries_by_key::last_number;
-use crate::reads::queues::queue_named;
-use crate::reads::requests_by_key::request_numbered;
-use crate::reads::watchers_by_key::watchers_of;
 use desk_core::{QueueRow, RequestRow, Standing, WatchRole, Watcher, is_role};
 use sqlite::{Alter, Connection};
 use std::alloc::Global;
+use store_tables::StoreFault;
+use store_tables::reads::entries_by_key::last_number;
+use store_tables::reads::queues::queue_named;
+use store_tables::reads::requests_by_key::request_numbered;
+use store_tables::reads::watchers_by_key::watchers_of;
 use text_core::{Text, Texts};
 
 /// The queue with that name, or none.
@@ -55,7 +55,7 @@ pub(crate) fn queue_of<S: Alter>(
 }
 
 /// The request with that number, with its people and the number of its entries, or none.
-#[tactic(auto, using(crate::proofs::Spared::joined, crate::proofs::Spared::stands))]
+#[tactic(auto, using(store_tables::proofs::Spared::joined, store_tables::proofs::Spared::stands))]
 pub(crate) fn standing_at<S: Alter>(
     alloc: Global,
     conn: &mut Connection<S>,

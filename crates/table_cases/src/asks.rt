@@ -20,7 +20,11 @@ pub(crate) fn asks_of(alloc: Global, lines: &str) -> Result<Vec<Ask>, Failure> {
 /// What a line `MOMENT CALLER WORDS ..` asks.
 fn ask_of(alloc: Global, line: &str) -> Result<Ask, Failure> {
     let words = words_of(alloc, line).map_err(failure_of)?;
-    let [at, caller, command @ ..] = words.as_slice() else {
+    ask_in(alloc, words.as_slice())
+}
+
+fn ask_in(alloc: Global, words: &[String]) -> Result<Ask, Failure> {
+    let [at, caller, command @ ..] = words else {
         return Err(Failure::BadLine);
     };
     let at = number_of_word(at.as_str()).ok_or(Failure::BadLine)?;

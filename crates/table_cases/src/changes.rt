@@ -26,13 +26,16 @@ pub fn change_of(alloc: Global, call: &str, rest: &str) -> Result<Change, Failur
     for word in rest.split(' ') {
         words.push(word)?;
     }
-    let words = words.as_slice();
+    change_in(alloc, call, words.as_slice())
+}
+
+fn change_in(alloc: Global, call: &str, words: &[&str]) -> Result<Change, Failure> {
     match call {
         "queue" => Ok(Change::opening(alloc, queue(alloc, words)?)),
         "file" => file(alloc, words),
         "row" => row(alloc, words),
-        "put" => Ok(Change::putting(alloc, one(alloc, watcher(alloc, words)?)?, none(alloc))),
-        "take" => Ok(Change::taking(alloc, one(alloc, watcher(alloc, words)?)?, none(alloc))),
+        "put" => Ok(Change::putting(alloc, watchers(alloc, words)?, none(alloc))),
+        "take" => Ok(Change::taking(alloc, watchers(alloc, words)?, none(alloc))),
         "link" => Ok(Change::linking(alloc, link(words)?, none(alloc))),
         "unlink" => Ok(Change::unlinking(alloc, link(words)?, none(alloc))),
         _ => Err(Failure::BadLine),
@@ -40,33 +43,40 @@ pub fn change_of(alloc: Global, call: &str, rest: &str) -> Result<Change, Failur
 }
 
 fn file(alloc: Global, words: &[&str]) -> Result<Change, Failure> {
-    let id = number_at(words, 0)?;
+    let requestors = requestors(alloc, words)?;
+    let entries = first_entry(alloc, words)?;
+    let row = request(alloc, words)?;
+    Ok(Change::filing(alloc, row, requestors, entries))
+}
+
+fn requestors(alloc: Global, words: &[&str]) -> Result<Sequence<Watcher>, Failure> {
     let requestor = Watcher {
-        id,
+        id: number_at(words, 0)?,
         role: WatchRole::Requestor,
         person: text_at(alloc, words, 3)?,
     };
-    let entry = entry(alloc, id, 1, EntryKind::Create, "", word_at(words, 2)?)?;
-    Ok(Change::filing(
-        alloc,
-        request(alloc, words)?,
-        one(alloc, requestor)?,
-        one(alloc, entry)?,
-    ))
+    one(alloc, requestor)
+}
+
+fn first_entry(alloc: Global, words: &[&str]) -> Result<Sequence<Entry>, Failure> {
+    let id = number_at(words, 0)?;
+    let status = word_at(words, 2)?;
+    let entry = entry(alloc, id, 1, EntryKind::Create, "", status)?;
+    one(alloc, entry)
 }
 
 fn row(alloc: Global, words: &[&str]) -> Result<Change, Failure> {
+    let entries = moving_entry(alloc, words)?;
+    let row = request(alloc, words)?;
+    Ok(Change::revising(alloc, row, entries))
+}
+
+fn moving_entry(alloc: Global, words: &[&str]) -> Result<Sequence<Entry>, Failure> {
     let id = number_at(words, 0)?;
     let number = number_at(words, 3)?;
-    let entry = entry(
-        alloc,
-        id,
-        number,
-        EntryKind::Status,
-        "new",
-        word_at(words, 2)?,
-    )?;
-    Ok(Change::revising(alloc, request(alloc, words)?, one(alloc, entry)?))
+    let status = word_at(words, 2)?;
+    let entry = entry(alloc, id, number, EntryKind::Status, "new", status)?;
+    one(alloc, entry)
 }
 
 fn queue(alloc: Global, words: &[&str]) -> Result<QueueRow, Failure> {
@@ -93,12 +103,13 @@ fn request(alloc: Global, words: &[&str]) -> Result<RequestRow, Failure> {
     })
 }
 
-fn watcher(alloc: Global, words: &[&str]) -> Result<Watcher, Failure> {
-    Ok(Watcher {
+fn watchers(alloc: Global, words: &[&str]) -> Result<Sequence<Watcher>, Failure> {
+    let watcher = Watcher {
         id: number_at(words, 0)?,
         role: role(word_at(words, 1)?)?,
         person: text_at(alloc, words, 2)?,
-    })
+    };
+    one(alloc, watcher)
 }
 
 fn role(word: &str) -> Result<WatchRole, Failure> {

@@ -6,7 +6,7 @@ use crate::stores::adopted;
 use crate::telling::{tell_given_back, tell_run};
 use service_core::Desk;
 use settings_core::Settings;
-use sqlite::MemStore;
+use sqlite::{Alter, MemStore};
 use std::alloc::Global;
 use store_core::Store;
 
@@ -17,13 +17,18 @@ pub(crate) fn run_case(
     settings: &str,
     commands: &str,
 ) -> Result<(), Failure> {
-    let asks = asks_of(rt.alloc(), commands)?;
-    let store = opened(rt.alloc(), statements)?;
     let settings = Settings::read(rt.alloc(), settings.as_bytes()).map_err(|_| Failure::Settings)?;
+    let store = opened(rt.alloc(), statements)?;
     match Desk::attach(rt.alloc(), store, settings) {
-        Ok(mut desk) => tell_run(rt, &mut desk, asks.as_slice()),
+        Ok(mut desk) => ask_all(rt, &mut desk, commands),
         Err((fault, mut store)) => tell_given_back(rt, fault, &mut store),
     }
+}
+
+/// Asks all commands at once.
+fn ask_all<S: Alter>(rt: &HostRuntime, desk: &mut Desk<S>, commands: &str) -> Result<(), Failure> {
+    let asks = asks_of(rt.alloc(), commands)?;
+    tell_run(rt, desk, asks.as_slice())
 }
 
 /// A store with the tables of an empty desk, or with those that the statements make.

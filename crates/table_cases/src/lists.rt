@@ -3,7 +3,9 @@
 use crate::changes::number;
 use crate::failure::Failure;
 use crate::stores::tell;
-use desk_core::{Command, Facts, LinkKind, LinkRow, RequestRow, Turn, WatchRole};
+use desk_core::{
+    Command, Entry, Facts, LinkKind, LinkRow, QueueRow, RequestRow, Turn, WatchRole, Watcher,
+};
 use sqlite::Alter;
 use store_core::{Store, StoreFault};
 use text_core::Text;
@@ -12,12 +14,15 @@ use text_core::Text;
 const NONE: &str = "-";
 
 pub fn queues<S: Alter>(rt: &HostRuntime, line: &str, store: &mut Store<S>) -> Result<(), Failure> {
-    let rows = match store.queues(rt.alloc()) {
-        Ok(rows) => rows,
-        Err(fault) => return tell(rt, line, Err(fault)),
-    };
+    match store.queues(rt.alloc()) {
+        Ok(rows) => tell_queues(rt, line, rows.as_slice()),
+        Err(fault) => tell(rt, line, Err(fault)),
+    }
+}
+
+fn tell_queues(rt: &HostRuntime, line: &str, rows: &[QueueRow]) -> Result<(), Failure> {
     println!(rt; "{line}:")?;
-    for row in rows.as_slice() {
+    for row in rows {
         let level = optional(&row.level);
         println!(rt;
             "  {} {} {level}",
@@ -35,18 +40,27 @@ pub fn requests<S: Alter>(
     store: &mut Store<S>,
     queue: &str,
 ) -> Result<(), Failure> {
-    let read = if queue.is_empty() {
-        store.requests(rt.alloc())
-    } else {
-        let queue = Text::new(rt.alloc(), queue)?;
-        store.requests_of(rt.alloc(), &queue)
-    };
-    let rows = match read {
-        Ok(rows) => rows,
-        Err(fault) => return tell(rt, line, Err(fault)),
-    };
+    if queue.is_empty() {
+        return tell_requests(rt, line, store.requests(rt.alloc()));
+    }
+    let queue = Text::new(rt.alloc(), queue)?;
+    tell_requests(rt, line, store.requests_of(rt.alloc(), &queue))
+}
+
+fn tell_requests(
+    rt: &HostRuntime,
+    line: &str,
+    read: Result<Vec<RequestRow>, StoreFault>,
+) -> Result<(), Failure> {
+    match read {
+        Ok(rows) => put_requests(rt, line, rows.as_slice()),
+        Err(fault) => tell(rt, line, Err(fault)),
+    }
+}
+
+fn put_requests(rt: &HostRuntime, line: &str, rows: &[RequestRow]) -> Result<(), Failure> {
     println!(rt; "{line}:")?;
-    for row in rows.as_slice() {
+    for row in rows {
         request(rt, row)?;
     }
     Ok(())
@@ -69,12 +83,15 @@ pub fn watchers<S: Alter>(
     line: &str,
     store: &mut Store<S>,
 ) -> Result<(), Failure> {
-    let rows = match store.watchers(rt.alloc()) {
-        Ok(rows) => rows,
-        Err(fault) => return tell(rt, line, Err(fault)),
-    };
+    match store.watchers(rt.alloc()) {
+        Ok(rows) => tell_watchers(rt, line, rows.as_slice()),
+        Err(fault) => tell(rt, line, Err(fault)),
+    }
+}
+
+fn tell_watchers(rt: &HostRuntime, line: &str, rows: &[Watcher]) -> Result<(), Failure> {
     println!(rt; "{line}:")?;
-    for row in rows.as_slice() {
+    for row in rows {
         let id = row.id;
         let role = role(row.role);
         println!(rt; "  {id} {role} {}", row.person.as_str())?;
@@ -88,12 +105,15 @@ pub fn links(
     line: &str,
     read: Result<Vec<LinkRow>, StoreFault>,
 ) -> Result<(), Failure> {
-    let rows = match read {
-        Ok(rows) => rows,
-        Err(fault) => return tell(rt, line, Err(fault)),
-    };
+    match read {
+        Ok(rows) => tell_links(rt, line, rows.as_slice()),
+        Err(fault) => tell(rt, line, Err(fault)),
+    }
+}
+
+fn tell_links(rt: &HostRuntime, line: &str, rows: &[LinkRow]) -> Result<(), Failure> {
     println!(rt; "{line}:")?;
-    for row in rows.as_slice() {
+    for row in rows {
         let source = row.source;
         let kind = kind(row.kind);
         let target = row.target;
@@ -109,12 +129,15 @@ pub fn entries<S: Alter>(
     store: &mut Store<S>,
     id: &str,
 ) -> Result<(), Failure> {
-    let rows = match store.entries_of(rt.alloc(), number(id)?) {
-        Ok(rows) => rows,
-        Err(fault) => return tell(rt, line, Err(fault)),
-    };
+    match store.entries_of(rt.alloc(), number(id)?) {
+        Ok(rows) => tell_entries(rt, line, rows.as_slice()),
+        Err(fault) => tell(rt, line, Err(fault)),
+    }
+}
+
+fn tell_entries(rt: &HostRuntime, line: &str, rows: &[Entry]) -> Result<(), Failure> {
     println!(rt; "{line}:")?;
-    for row in rows.as_slice() {
+    for row in rows {
         let number = row.number;
         println!(rt; "  {number} {} {}", row.actor.as_str(), row.body.as_str())?;
     }

@@ -44,7 +44,10 @@ fn main(rt: HostRuntime) -> ExitCode {
 fn run(rt: &HostRuntime) -> Result<(), Failure> {
     let mut input = Vec::new(rt.alloc());
     rt.reader().read_to_end(&mut input)?;
-    let text = str::from_utf8(input.as_slice()).unwrap_or("");
+    answer_each(rt, str::from_utf8(input.as_slice()).unwrap_or(""))
+}
+
+fn answer_each(rt: &HostRuntime, text: &str) -> Result<(), Failure> {
     let mut named = Vec::new(rt.alloc());
     for part in text.split(BEGIN) {
         if let Some((name, text)) = part.split_once('\n') {

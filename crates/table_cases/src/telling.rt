@@ -16,7 +16,11 @@ pub(crate) fn tell_run<S: Alter>(
     let room = desk.settings().max_requests();
     println!(rt; "attach: ok, room for {room} requests")?;
     let outcomes = desk.execute_all(rt.alloc(), asks)?;
-    for outcome in outcomes.as_slice() {
+    tell_outcomes(rt, outcomes.as_slice())
+}
+
+fn tell_outcomes(rt: &HostRuntime, outcomes: &[Result<Answer, Refusal>]) -> Result<(), Failure> {
+    for outcome in outcomes {
         tell_outcome(rt, outcome)?;
     }
     Ok(())

@@ -5,12 +5,12 @@ use Rattle.std.specs.Option.{option_map, option_and_then, option_map_or}
 use Rattle.std.specs.Str.{bytes_eq}
 use Rattle.clap.specs.Words.{App, Row, Text, all_of, first_of, found_of, rows_of, with_rule}
 use Rattle.clap.specs.declared.parser.matches.ArgMatches.{ArgMatches}
-use Rattle.desk_core.specs.declared.command.Command.{Command}
-use Rattle.desk_core.specs.declared.command.Command.TheVariants as command
-use Rattle.desk_core.specs.declared.rows.LinkKind.{LinkKind}
-use Rattle.desk_core.specs.declared.rows.LinkKind.TheVariants.{DependsOn, MemberOf, RefersTo}
-use Rattle.desk_core.specs.declared.rows.WatchRole.{WatchRole}
-use Rattle.desk_core.specs.declared.rows.WatchRole.TheVariants.{Requestor, Cc, AdminCc}
+use Rattle.desk_model.specs.declared.command.Command.{Command}
+use Rattle.desk_model.specs.declared.command.Command.TheVariants as command
+use Rattle.desk_model.specs.declared.rows.LinkKind.{LinkKind}
+use Rattle.desk_model.specs.declared.rows.LinkKind.TheVariants.{DependsOn, MemberOf, RefersTo}
+use Rattle.desk_model.specs.declared.rows.WatchRole.{WatchRole}
+use Rattle.desk_model.specs.declared.rows.WatchRole.TheVariants.{Requestor, Cc, AdminCc}
 use Rattle.wire_core.specs.Arguments.{allowed, bare, flag, option, several, with_all}
 use Rattle.wire_core.specs.Number.{number_of}
 use Rattle.wire_core.specs.declared.command.links.NamedKind.{NamedKind}

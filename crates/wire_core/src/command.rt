@@ -7,7 +7,7 @@ use crate::fault::WordsFault;
 use crate::matches::{entered, first_text, id, matches_of, requestors};
 use crate::subcommands::command_in;
 use clap::ArgMatches;
-use desk_core::Command;
+use desk_model::Command;
 use std::alloc::{AllocError, Global};
 use text_core::Text;
 

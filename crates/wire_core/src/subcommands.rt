@@ -12,7 +12,7 @@ use crate::matches::id;
 use crate::table::{bare_command, leaf};
 use crate::{command, table};
 use clap::ArgMatches;
-use desk_core::Command;
+use desk_model::Command;
 use std::alloc::{AllocError, Global};
 
 /// The names of the subcommands.

@@ -8,30 +8,30 @@ use Rattle.std.specs.Option.{is_none, is_some, option_map}
 use Rattle.hours_core.specs.Moment.{is_moment}
 use Rattle.settings_core.specs.Settings.{knows}
 use Rattle.settings_core.specs.declared.settings.Settings.{Settings}
+use Rattle.desk_model.specs.Change.{no_change}
+use Rattle.desk_model.specs.Commands.{plan_of}
+use Rattle.desk_model.specs.Commands.Reply as reply
+use Rattle.desk_model.specs.Condition.{Condition, first_holding}
+use Rattle.desk_model.specs.Desk.{Desk, Request, queue_at, request_at}
+use Rattle.desk_model.specs.Facts.{facts_on_queue, standing}
+use Rattle.desk_model.specs.IsDesk.{IsDesk}
+use Rattle.desk_model.specs.Links.{has_link, link}
+use Rattle.desk_model.specs.Plan.{Call, Plan, OnDesk, OnQueue, OnRequest, Nothing, Dependencies}
+use Rattle.desk_model.specs.Plan.{Another, another_shown, besides_on, change_by, change_of_request}
+use Rattle.desk_model.specs.Plan.{conditions_by, is_bad_text, is_missing, on_shown, seen_by}
+use Rattle.desk_model.specs.Step.{call, facts_of, guard}
+use Rattle.desk_model.specs.declared.change.Change.{Change}
+use Rattle.desk_model.specs.declared.command.Command.{Command}
+use Rattle.desk_model.specs.declared.command.Command.TheVariants.{OpenQueue, Create, Reply}
+use Rattle.desk_model.specs.declared.command.Command.TheVariants.{Link, Queues, Show, History}
+use Rattle.desk_model.specs.declared.facts.Standing.{Standing}
+use Rattle.desk_model.specs.declared.refusal.Refusal.TheVariants.{UnknownCaller, BadMoment}
+use Rattle.desk_model.specs.declared.refusal.Refusal.TheVariants.{BadText, NotFound}
 use Rattle.desk_core.proofs.DeskLaw.Entries.{counts_apart, counts_found}
 use Rattle.desk_core.proofs.DeskLaw.Fitting.{Appends, FilesNext, Fits, FollowOn}
 use Rattle.desk_core.proofs.DeskLaw.Fitting.{LinksAnew, OpensNew, StaysInQueue, has_count}
 use Rattle.desk_core.proofs.Every.{every_found}
 use Rattle.desk_core.proofs.Goes.{NoneHolds, none_holds, number_found, passed, rest_passes}
-use Rattle.desk_core.specs.Change.{no_change}
-use Rattle.desk_core.specs.Commands.{plan_of}
-use Rattle.desk_core.specs.Commands.Reply as reply
-use Rattle.desk_core.specs.Condition.{Condition, first_holding}
-use Rattle.desk_core.specs.Desk.{Desk, Request, queue_at, request_at}
-use Rattle.desk_core.specs.Facts.{facts_on_queue, standing}
-use Rattle.desk_core.specs.IsDesk.{IsDesk}
-use Rattle.desk_core.specs.Links.{has_link, link}
-use Rattle.desk_core.specs.Plan.{Call, Plan, OnDesk, OnQueue, OnRequest, Nothing, Dependencies}
-use Rattle.desk_core.specs.Plan.{Another, another_shown, besides_on, change_by, change_of_request}
-use Rattle.desk_core.specs.Plan.{conditions_by, is_bad_text, is_missing, on_shown, seen_by}
-use Rattle.desk_core.specs.Step.{call, facts_of, guard}
-use Rattle.desk_core.specs.declared.change.Change.{Change}
-use Rattle.desk_core.specs.declared.command.Command.{Command}
-use Rattle.desk_core.specs.declared.command.Command.TheVariants.{OpenQueue, Create, Reply}
-use Rattle.desk_core.specs.declared.command.Command.TheVariants.{Link, Queues, Show, History}
-use Rattle.desk_core.specs.declared.facts.Standing.{Standing}
-use Rattle.desk_core.specs.declared.refusal.Refusal.TheVariants.{UnknownCaller, BadMoment}
-use Rattle.desk_core.specs.declared.refusal.Refusal.TheVariants.{BadText, NotFound}
 
 -- what a plan changes meets this, where the plan's conditions let it pass
 abbrev pub Meets : (Desk → Change → Type 0) → Desk → Plan → Type 0

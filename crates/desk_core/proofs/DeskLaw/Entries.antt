@@ -6,17 +6,17 @@ use Rattle.std.proofs.lemmas.Bool.{and_from, and_parts, eq-eqb, eqb-true}
 use Rattle.std.proofs.lemmas.Bool.{ne_eqb, not_from_false, or_left, or_right}
 use Rattle.std.proofs.lemmas.List.Folds.{list_all-append}
 use Rattle.std.specs.List.{list_all}
+use Rattle.desk_model.specs.Change.{applied, entry_put, filed, request_filed, with_entry}
+use Rattle.desk_model.specs.Desk.{Desk, Request, revised_at}
+use Rattle.desk_model.specs.IsDesk.{are_numbered, has_its_entries}
+use Rattle.desk_model.specs.declared.change.Change.{Change}
+use Rattle.desk_model.specs.declared.rows.Entry.{Entry}
+use Rattle.desk_model.specs.declared.rows.RequestRow.{RequestRow}
+use Rattle.desk_model.specs.declared.rows.WatchRole.TheVariants.{Requestor, Cc, AdminCc}
 use Rattle.desk_core.proofs.DeskLaw.Fitting.{Appends, FollowOn, has_count}
 use Rattle.desk_core.proofs.DeskLaw.Numbers.{numbered_more}
 use Rattle.desk_core.proofs.DeskLaw.Stages.{HoldsAtPersons, HoldsAtRow, all_with_links, with_links}
 use Rattle.desk_core.proofs.Every.{every_both, every_mapped, every_so}
-use Rattle.desk_core.specs.Change.{applied, entry_put, filed, request_filed, with_entry}
-use Rattle.desk_core.specs.Desk.{Desk, Request, revised_at}
-use Rattle.desk_core.specs.IsDesk.{are_numbered, has_its_entries}
-use Rattle.desk_core.specs.declared.change.Change.{Change}
-use Rattle.desk_core.specs.declared.rows.Entry.{Entry}
-use Rattle.desk_core.specs.declared.rows.RequestRow.{RequestRow}
-use Rattle.desk_core.specs.declared.rows.WatchRole.TheVariants.{Requestor, Cc, AdminCc}
 
 -- a test of a request's number and entries
 abbrev on_history : (ℕ → List Entry → Bool) → Request → Bool

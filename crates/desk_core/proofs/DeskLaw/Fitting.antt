@@ -3,14 +3,14 @@ use Rattle.std.proofs.Common.{◌≡◌, ℕ, ◌+◌, ◌==◌, Bool, true, fal
 use Rattle.std.proofs.Common.{◌||◌, List, [], ◌∷◌, length, Option, Some, None}
 use Rattle.std.specs.List.{list_all}
 use Rattle.std.specs.Option.{is_some}
-use Rattle.desk_core.specs.Change.{request_filed}
-use Rattle.desk_core.specs.Desk.{Desk, Request, queue_at, request_at}
-use Rattle.desk_core.specs.Links.{has_link}
-use Rattle.desk_core.specs.declared.change.Change.{Change}
-use Rattle.desk_core.specs.declared.rows.Entry.{Entry}
-use Rattle.desk_core.specs.declared.rows.LinkRow.{LinkRow}
-use Rattle.desk_core.specs.declared.rows.QueueRow.{QueueRow}
-use Rattle.desk_core.specs.declared.rows.RequestRow.{RequestRow}
+use Rattle.desk_model.specs.Change.{request_filed}
+use Rattle.desk_model.specs.Desk.{Desk, Request, queue_at, request_at}
+use Rattle.desk_model.specs.Links.{has_link}
+use Rattle.desk_model.specs.declared.change.Change.{Change}
+use Rattle.desk_model.specs.declared.rows.Entry.{Entry}
+use Rattle.desk_model.specs.declared.rows.LinkRow.{LinkRow}
+use Rattle.desk_model.specs.declared.rows.QueueRow.{QueueRow}
+use Rattle.desk_model.specs.declared.rows.RequestRow.{RequestRow}
 
 -- no queue has the name of one that is opened
 abbrev pub OpensNew : Desk → Option QueueRow → Type 0

@@ -10,20 +10,20 @@ use Rattle.std.specs.Option.{is_some}
 use Rattle.std.specs.Ordering.{is_eq, is_lt, nat_cmp, on, ordering_reverse, ordering_then, then_cmp}
 use Rattle.std.specs.declared.cmp.Ordering.{Ordering}
 use Rattle.std.specs.declared.cmp.Ordering.TheVariants.{Less, Equal, Greater}
+use Rattle.desk_model.specs.Change.{applied, link_put, link_taken}
+use Rattle.desk_model.specs.Desk.{Desk, Request, request_at}
+use Rattle.desk_model.specs.IsDesk.{is_rising}
+use Rattle.desk_model.specs.Links.{is_kind, is_link, is_lower_link, kind_number}
+use Rattle.desk_model.specs.declared.change.Change.{Change}
+use Rattle.desk_model.specs.declared.rows.LinkKind.{LinkKind}
+use Rattle.desk_model.specs.declared.rows.LinkKind.TheVariants.{DependsOn, MemberOf, RefersTo}
+use Rattle.desk_model.specs.declared.rows.LinkRow.{LinkRow}
 use Rattle.desk_core.proofs.Applied.{left_by}
 use Rattle.desk_core.proofs.DeskLaw.Fitting.{LinksAnew, has_ends}
 use Rattle.desk_core.proofs.DeskLaw.Stages.{links_after}
 use Rattle.desk_core.proofs.Every.{every_filtered, every_placed, every_so}
 use Rattle.desk_core.proofs.Rising.{IsTransitive, filtered_rises, is_apart}
 use Rattle.desk_core.proofs.Rising.{orders_go_on, orders_part, placed_rises}
-use Rattle.desk_core.specs.Change.{applied, link_put, link_taken}
-use Rattle.desk_core.specs.Desk.{Desk, Request, request_at}
-use Rattle.desk_core.specs.IsDesk.{is_rising}
-use Rattle.desk_core.specs.Links.{is_kind, is_link, is_lower_link, kind_number}
-use Rattle.desk_core.specs.declared.change.Change.{Change}
-use Rattle.desk_core.specs.declared.rows.LinkKind.{LinkKind}
-use Rattle.desk_core.specs.declared.rows.LinkKind.TheVariants.{DependsOn, MemberOf, RefersTo}
-use Rattle.desk_core.specs.declared.rows.LinkRow.{LinkRow}
 
 abbrev link_order : LinkRow → LinkRow → Ordering
 link_order =

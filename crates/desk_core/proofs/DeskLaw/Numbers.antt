@@ -2,16 +2,16 @@
 use Rattle.std.proofs.Common.{◌≡◌, ◌∙◌, ℕ, ◌+◌, ◌==◌, true, List, [], ◌∷◌, ◌++◌, map}
 use Rattle.std.proofs.Common.{fold, length, Option, Some, None, refl, ap, sym, arith}
 use Rattle.std.proofs.lemmas.Bool.{and_from, and_parts, eq-eqb, eqb-true}
+use Rattle.desk_model.specs.Change.{applied, entry_put, filed, link_put, link_taken, person_put}
+use Rattle.desk_model.specs.Change.{person_taken, queue_put, request_filed, row_set, with_row}
+use Rattle.desk_model.specs.Desk.{Desk, Request, revised_at, with_revised}
+use Rattle.desk_model.specs.IsDesk.{are_numbered, ids}
+use Rattle.desk_model.specs.declared.change.Change.{Change}
+use Rattle.desk_model.specs.declared.rows.RequestRow.{RequestRow}
 use Rattle.desk_core.proofs.Applied.{Grown, KeepsNumber, grown_by_entry, grown_in_role, number_kept}
 use Rattle.desk_core.proofs.DeskLaw.Fitting.{FilesNext}
 use Rattle.desk_core.proofs.DeskLaw.Stages.{by_all, filed_alike, left_alone}
 use Rattle.desk_core.proofs.DeskLaw.Stages.{with_links, with_persons, with_rows}
-use Rattle.desk_core.specs.Change.{applied, entry_put, filed, link_put, link_taken, person_put}
-use Rattle.desk_core.specs.Change.{person_taken, queue_put, request_filed, row_set, with_row}
-use Rattle.desk_core.specs.Desk.{Desk, Request, revised_at, with_revised}
-use Rattle.desk_core.specs.IsDesk.{are_numbered, ids}
-use Rattle.desk_core.specs.declared.change.Change.{Change}
-use Rattle.desk_core.specs.declared.rows.RequestRow.{RequestRow}
 
 ids_revised : (id : ℕ) (f : Request → Request) (xs : List Request) → KeepsNumber id f
     → map (λ r. r.row.id) (map (revised_at id f) xs) ≡ map (λ r. r.row.id) xs

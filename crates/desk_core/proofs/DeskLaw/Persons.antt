@@ -3,14 +3,14 @@ use Rattle.std.proofs.Common.{◌≡◌, ◌∙◌, true, ◌&&◌, [], ◌∷�
 use Rattle.std.proofs.lemmas.Bool.{and_from, and_parts}
 use Rattle.std.proofs.lemmas.List.Folds.{list_all-append}
 use Rattle.std.specs.List.{list_all}
+use Rattle.desk_model.specs.Change.{applied, entry_put, filed, request_filed, with_entry}
+use Rattle.desk_model.specs.Desk.{Desk}
+use Rattle.desk_model.specs.IsDesk.{names_rise, persons_rise}
+use Rattle.desk_model.specs.declared.change.Change.{Change}
+use Rattle.desk_model.specs.declared.rows.RequestRow.{RequestRow}
+use Rattle.desk_model.specs.declared.rows.WatchRole.TheVariants.{Requestor, Cc, AdminCc}
 use Rattle.desk_core.proofs.DeskLaw.Stages.{HoldsAtPersons, HoldsAtRow, all_revised}
 use Rattle.desk_core.proofs.DeskLaw.Stages.{all_with_links, by_all, with_links}
-use Rattle.desk_core.specs.Change.{applied, entry_put, filed, request_filed, with_entry}
-use Rattle.desk_core.specs.Desk.{Desk}
-use Rattle.desk_core.specs.IsDesk.{names_rise, persons_rise}
-use Rattle.desk_core.specs.declared.change.Change.{Change}
-use Rattle.desk_core.specs.declared.rows.RequestRow.{RequestRow}
-use Rattle.desk_core.specs.declared.rows.WatchRole.TheVariants.{Requestor, Cc, AdminCc}
 
 at_row : (o : Option RequestRow) → HoldsAtRow persons_rise o
 at_row None = tt

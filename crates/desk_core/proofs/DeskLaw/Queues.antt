@@ -6,18 +6,18 @@ use Rattle.std.proofs.lemmas.List.Folds.{list_all-append}
 use Rattle.std.specs.List.{list_all}
 use Rattle.std.specs.Option.{is_some}
 use Rattle.std.specs.Str.{bytes_eq}
+use Rattle.desk_model.specs.Change.{applied, entry_put, filed, queue_put, request_filed, with_entry}
+use Rattle.desk_model.specs.Desk.{Desk, Request, has_lower_name, placed, queue_at}
+use Rattle.desk_model.specs.IsDesk.{is_rising}
+use Rattle.desk_model.specs.declared.change.Change.{Change}
+use Rattle.desk_model.specs.declared.rows.QueueRow.{QueueRow}
+use Rattle.desk_model.specs.declared.rows.RequestRow.{RequestRow}
+use Rattle.desk_model.specs.declared.rows.WatchRole.TheVariants.{Requestor, Cc, AdminCc}
 use Rattle.desk_core.proofs.DeskLaw.Fitting.{FilesNext, OpensNew, StaysInQueue, queue_in}
 use Rattle.desk_core.proofs.DeskLaw.Stages.{HoldsAtPersons, HoldsAtRow, all_revised}
 use Rattle.desk_core.proofs.DeskLaw.Stages.{all_with_links, by_all, queues_after, with_links}
 use Rattle.desk_core.proofs.Every.{every_so}
 use Rattle.desk_core.proofs.Rising.{is_apart, names_part, placed_rises}
-use Rattle.desk_core.specs.Change.{applied, entry_put, filed, queue_put, request_filed, with_entry}
-use Rattle.desk_core.specs.Desk.{Desk, Request, has_lower_name, placed, queue_at}
-use Rattle.desk_core.specs.IsDesk.{is_rising}
-use Rattle.desk_core.specs.declared.change.Change.{Change}
-use Rattle.desk_core.specs.declared.rows.QueueRow.{QueueRow}
-use Rattle.desk_core.specs.declared.rows.RequestRow.{RequestRow}
-use Rattle.desk_core.specs.declared.rows.WatchRole.TheVariants.{Requestor, Cc, AdminCc}
 
 -- there is a queue of that name among these
 abbrev has_queue : List QueueRow → List ℕ → Bool

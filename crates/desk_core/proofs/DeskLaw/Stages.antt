@@ -2,18 +2,18 @@
 use Rattle.std.proofs.Common.{◌≡◌, ◌∙◌, ℕ, ◌==◌, Bool, true, false, not, cond, List, []}
 use Rattle.std.proofs.Common.{◌∷◌, ◌++◌, map, filter, fold, Option, Some, None, refl, ap}
 use Rattle.std.specs.List.{list_all}
+use Rattle.desk_model.specs.Change.{applied, entry_put, filed, in_role, link_put}
+use Rattle.desk_model.specs.Change.{link_taken, person_put, person_taken}
+use Rattle.desk_model.specs.Change.{queue_put, request_filed, row_set, with_row}
+use Rattle.desk_model.specs.Desk.{Desk, Request, placed, revised_at}
+use Rattle.desk_model.specs.IsDesk.{names_rise}
+use Rattle.desk_model.specs.Links.{is_link, is_lower_link}
+use Rattle.desk_model.specs.declared.change.Change.{Change}
+use Rattle.desk_model.specs.declared.rows.LinkRow.{LinkRow}
+use Rattle.desk_model.specs.declared.rows.RequestRow.{RequestRow}
+use Rattle.desk_model.specs.declared.rows.WatchRole.{WatchRole}
 use Rattle.desk_core.proofs.Every.{every_mapped}
 use Rattle.desk_core.proofs.Rising.{named_rises, unnamed_rises}
-use Rattle.desk_core.specs.Change.{applied, entry_put, filed, in_role, link_put}
-use Rattle.desk_core.specs.Change.{link_taken, person_put, person_taken}
-use Rattle.desk_core.specs.Change.{queue_put, request_filed, row_set, with_row}
-use Rattle.desk_core.specs.Desk.{Desk, Request, placed, revised_at}
-use Rattle.desk_core.specs.IsDesk.{names_rise}
-use Rattle.desk_core.specs.Links.{is_link, is_lower_link}
-use Rattle.desk_core.specs.declared.change.Change.{Change}
-use Rattle.desk_core.specs.declared.rows.LinkRow.{LinkRow}
-use Rattle.desk_core.specs.declared.rows.RequestRow.{RequestRow}
-use Rattle.desk_core.specs.declared.rows.WatchRole.{WatchRole}
 
 -- what each step keeps all of them keep
 pub by_all : {X : Type 0} (P : Desk → Type 0) (step : Desk → X → Desk)

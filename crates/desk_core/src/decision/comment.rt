@@ -1,13 +1,10 @@
 ghost use Rattle.std.specs.Prelude.{◌+◌, ◌^◌, ◌<◌, OnOk, Some};
-ghost use Rattle.desk_core.specs.Commands.Comment as comment;
+ghost use Rattle.desk_model.specs.Commands.Comment as comment;
+ghost use Rattle.desk_model.specs.Plan.{Nothing};
 ghost use Rattle.desk_core.specs.Context.{DecidesOn, PassesOn};
-ghost use Rattle.desk_core.specs.Plan.{Nothing};
 
-use crate::change::Change;
 use crate::decision::Context;
-use crate::facts::Standing;
-use crate::refusal::Refusal;
-use crate::rows::EntryKind;
+use desk_model::{Change, EntryKind, Refusal, Standing};
 use rights_core::right;
 use text_core::Text;
 

@@ -1,19 +1,15 @@
 ghost use Rattle.std.specs.Prelude.{◌≡◌, map, IfOk, OnOk, ◌+◌, ◌^◌, ◌<◌, [], ◌∷◌};
-ghost use Rattle.std.specs.Option.{option_map};
 ghost use Rattle.std.specs.List.{list_all};
 ghost use Rattle.settings_core.specs.Settings.{knows};
-ghost use Rattle.desk_core.specs.Commands.Create as create;
-ghost use Rattle.desk_core.specs.Condition.{Passes};
+ghost use Rattle.desk_model.specs.Commands.Create as create;
+ghost use Rattle.desk_model.specs.Condition.{Passes};
 ghost use Rattle.desk_core.specs.Context.{call_of, DecidesOnQueue};
-ghost use Rattle.desk_core.specs.Lifecycles as lifecycles;
 
-use crate::change::Change;
 use crate::decision::Context;
-use crate::decision::lifecycles::{has_status, is_creatable, lifecycle_of};
-use crate::names::in_byte_order;
-use crate::refusal::Refusal;
-use crate::rows::{Entry, EntryKind, RequestRow, Turn, WatchRole, Watcher};
-use lifecycle_core::Lifecycle;
+use desk_model::lifecycles::{first_status, has_given, is_creatable, lifecycle_of};
+use desk_model::{
+    Change, Entry, EntryKind, Refusal, RequestRow, Turn, WatchRole, Watcher, in_byte_order,
+};
 use rights_core::right;
 use std::alloc::{AllocError, Global};
 use text_core::{Sequence, Text, Texts, is_subject};
@@ -164,26 +160,4 @@ fn as_requestors(alloc: Global, id: u32, persons: Texts) -> Result<Sequence<Watc
         })?;
     }
     Ok(Sequence::from(watchers))
-}
-
-/// Whether a status that is given is one of the lifecycle's.
-fn has_given(lifecycle: Option<&Lifecycle>, given: &Option<Text>) -> bool
-    ensures { result ≡ lifecycles.has_given (option_map (λ l. l.now) lifecycle.entry) given.now }
-{
-    match given {
-        Some(status) => has_status(lifecycle, status),
-        None => true,
-    }
-}
-
-/// The status given, or else the lifecycle's status on create.
-fn first_status<'s>(lifecycle: Option<&'s Lifecycle>, given: &'s Option<Text>) -> &'s str
-    ensures { result.now
-        ≡ lifecycles.first_status (option_map (λ l. l.now) lifecycle.entry) given.entry.now }
-{
-    match (given, lifecycle) {
-        (Some(status), _) => status.as_str(),
-        (None, Some(lifecycle)) => lifecycle.on_create(),
-        (None, None) => "",
-    }
 }

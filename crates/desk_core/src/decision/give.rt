@@ -1,12 +1,10 @@
 ghost use Rattle.std.specs.Prelude.{◌≡◌, ◌+◌, ◌^◌, ◌<◌, OnOk, None};
-ghost use Rattle.desk_core.specs.Commands.Give as give;
+ghost use Rattle.desk_model.specs.Commands.Give as give;
+ghost use Rattle.desk_model.specs.Plan.{Nothing};
 ghost use Rattle.desk_core.specs.Context.{call_of, DecidesOn, PassesOn};
-ghost use Rattle.desk_core.specs.Plan.{Nothing};
 
-use crate::change::Change;
 use crate::decision::Context;
-use crate::facts::Standing;
-use crate::refusal::Refusal;
+use desk_model::{Change, Refusal, Standing};
 use rights_core::right;
 use text_core::Text;
 

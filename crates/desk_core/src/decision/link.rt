@@ -1,13 +1,10 @@
 ghost use Rattle.std.specs.Prelude.{◌≡◌, ◌+◌, ◌^◌, ◌<◌, IfOk, OnOk, decimal, None};
-ghost use Rattle.desk_core.specs.Commands.Link as link;
+ghost use Rattle.desk_model.specs.Commands.Link as link;
+ghost use Rattle.desk_model.specs.Plan.{Another};
 ghost use Rattle.desk_core.specs.Context.{DecidesOn, PassesOn};
-ghost use Rattle.desk_core.specs.Plan.{Another};
 
-use crate::change::Change;
 use crate::decision::Context;
-use crate::facts::Standing;
-use crate::refusal::Refusal;
-use crate::rows::{EntryKind, LinkKind, LinkRow};
+use desk_model::{Change, EntryKind, LinkKind, LinkRow, Refusal, Standing};
 use rights_core::right;
 use std::alloc::{AllocError, Global};
 use text_core::Text;

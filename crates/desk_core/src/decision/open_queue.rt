@@ -1,13 +1,11 @@
 ghost use Rattle.std.specs.Prelude.{◌≡◌};
-ghost use Rattle.desk_core.specs.Commands.OpenQueue as open_queue;
-ghost use Rattle.desk_core.specs.Condition.{Passes};
+ghost use Rattle.desk_model.specs.Commands.OpenQueue as open_queue;
+ghost use Rattle.desk_model.specs.Condition.{Passes};
+ghost use Rattle.desk_model.specs.Known as known;
 ghost use Rattle.desk_core.specs.Context.{call_of, DecidesOnQueue};
-ghost use Rattle.desk_core.specs.Known as known;
 
-use crate::change::Change;
 use crate::decision::Context;
-use crate::refusal::Refusal;
-use crate::rows::QueueRow;
+use desk_model::{Change, QueueRow, Refusal};
 use rights_core::right;
 use text_core::{Text, is_name};
 

@@ -1,17 +1,11 @@
 ghost use Rattle.std.specs.Prelude.{◌≡◌, ◌+◌, ◌^◌, ◌<◌, IfOk, OnOk, Some};
-ghost use Rattle.std.specs.Option.{option_map};
-ghost use Rattle.desk_core.specs.Commands.Reply as reply;
+ghost use Rattle.desk_model.specs.Commands.Reply as reply;
+ghost use Rattle.desk_model.specs.Plan.{Nothing};
 ghost use Rattle.desk_core.specs.Context.{call_of, DecidesOn, PassesOn};
-ghost use Rattle.desk_core.specs.Plan.{Nothing};
 
-use crate::change::Change;
 use crate::decision::Context;
-use crate::decision::lifecycles::{is_inactive, is_initial, lifecycle_of, reopening_of};
-use crate::facts::Standing;
-use crate::refusal::Refusal;
-use crate::rows::{Entry, EntryKind, RequestRow, Turn};
-use hours_core::Minute;
-use lifecycle_core::Lifecycle;
+use desk_model::lifecycles::{lifecycle_of, reply_target};
+use desk_model::{Change, Entry, EntryKind, Refusal, RequestRow, Standing};
 use rights_core::right;
 use std::alloc::AllocError;
 use text_core::{Sequence, Text};
@@ -71,10 +65,10 @@ impl Context<'_> {
         let lifecycle = lifecycle_of(self.settings, &self.facts.queue);
         let is_requestor = on.requestors.contains(self.caller);
         let moved = match reopened {
-            Some(status) => self.row_in_status(lifecycle, &on.row, status)?,
-            None => self.row_in_status(lifecycle, &on.row, &on.row.status)?,
+            Some(status) => on.row.in_status(lifecycle, self.moment, status)?,
+            None => on.row.in_status(lifecycle, self.moment, &on.row.status)?,
         };
-        Ok(turned(is_requestor, self.moment, moved))
+        Ok(moved.turned(is_requestor, self.moment))
     }
 
     /// The entry of the reply, and that of the move.
@@ -107,37 +101,4 @@ fn entries_of_move(reopened: &Option<Text>) -> u32
         Some(_) => 2,
         None => 1,
     }
-}
-
-/// The status that a reply moves a request to, if it moves it.
-fn reply_target<'s>(
-    lifecycle: Option<&'s Lifecycle>,
-    is_requestor: bool,
-    status: &Text,
-) -> Option<&'s str>
-    ensures { option_map (λ s. s.now) result
-        ≡ reply.reply_target (option_map (λ l. l.now) lifecycle.entry) is_requestor status.now }
-{
-    if is_inactive(lifecycle, status) || (is_initial(lifecycle, status) && !is_requestor) {
-        reopening_of(lifecycle, status)
-    } else {
-        None
-    }
-}
-
-/// The row after the turn has passed.
-fn turned(is_requestor: bool, at: Minute, row: RequestRow) -> RequestRow
-    ensures { result ≡ reply.turned is_requestor at row }
-{
-    let mut turned = row;
-    if is_requestor {
-        if let Turn::Requestor = turned.turn {
-            turned.turn = Turn::Desk;
-            turned.since = at;
-        }
-    } else {
-        turned.turn = Turn::Requestor;
-        turned.since = at;
-    }
-    turned
 }

@@ -1,13 +1,10 @@
 ghost use Rattle.std.specs.Prelude.{◌≡◌, ◌+◌, ◌^◌, ◌<◌, IfOk, OnOk, None};
-ghost use Rattle.desk_core.specs.Commands.SetLevel as set_level;
+ghost use Rattle.desk_model.specs.Commands.SetLevel as set_level;
+ghost use Rattle.desk_model.specs.Plan.{Nothing};
 ghost use Rattle.desk_core.specs.Context.{DecidesOn, PassesOn};
-ghost use Rattle.desk_core.specs.Plan.{Nothing};
 
-use crate::change::Change;
 use crate::decision::Context;
-use crate::facts::Standing;
-use crate::refusal::Refusal;
-use crate::rows::{EntryKind, RequestRow};
+use desk_model::{Change, EntryKind, Refusal, RequestRow, Standing};
 use rights_core::right;
 use std::alloc::AllocError;
 use text_core::Text;
@@ -22,7 +19,7 @@ impl Context<'_> {
         self.ask_to_set_level(on, level)?;
         let old = level_word(&on.row.level);
         let entries = self.one_entry(on, EntryKind::Level, old, level_word(level))?;
-        let row = with_level(&on.row, level)?;
+        let row = on.row.with_level(level)?;
         Ok(Change::revising(self.alloc, row, entries))
     }
 
@@ -40,16 +37,6 @@ impl Context<'_> {
         }
         self.ask_for_room(on, 1)
     }
-}
-
-/// The row with this level, or with none.
-fn with_level(row: &RequestRow, level: &Option<Text>) -> Result<RequestRow, AllocError>
-    ensures { IfOk result (λ levelled. levelled ≡ set_level.with_level level.now row.now) }
-{
-    let level = level.clone()?;
-    let mut levelled = row.clone()?;
-    levelled.level = level;
-    Ok(levelled)
 }
 
 fn is_same_level(a: &Option<Text>, b: &Option<Text>) -> bool

@@ -1,19 +1,12 @@
 ghost use Rattle.std.specs.Prelude.{◌≡◌, ◌+◌, ◌^◌, ◌<◌, true, IfOk, IfErr, OnOk, None};
-ghost use Rattle.std.specs.Option.{option_map};
-ghost use Rattle.desk_core.specs.Commands.SetStatus as set_status;
+ghost use Rattle.desk_model.specs.Commands.SetStatus as set_status;
+ghost use Rattle.desk_model.specs.Plan.{Dependencies};
+ghost use Rattle.desk_model.specs.Refusals.{names_its_right};
 ghost use Rattle.desk_core.specs.Context.{call_of, DecidesOn, PassesOn};
-ghost use Rattle.desk_core.specs.Plan.{Dependencies};
-ghost use Rattle.desk_core.specs.Refusals.{names_its_right};
 
-use crate::change::Change;
 use crate::decision::Context;
-use crate::decision::lifecycles::{
-    has_status, is_allowed, is_inactive, lifecycle_of, opens_anew, right_of,
-};
-use crate::facts::{Dependency, Standing};
-use crate::refusal::Refusal;
-use crate::rows::{Entry, EntryKind, RequestRow};
-use lifecycle_core::Lifecycle;
+use desk_model::lifecycles::{has_status, is_allowed, is_inactive, lifecycle_of, right_of};
+use desk_model::{Change, Dependency, Entry, EntryKind, Refusal, Standing};
 use settings_core::Settings;
 use std::alloc::AllocError;
 use text_core::{Sequence, Text};
@@ -30,7 +23,7 @@ impl Context<'_> {
         let (from, to) = (on.row.status.as_str(), status.as_str());
         let entries = self.one_entry(on, EntryKind::Status, from, to)?;
         let lifecycle = lifecycle_of(self.settings, &self.facts.queue);
-        let row = self.row_in_status(lifecycle, &on.row, status)?;
+        let row = on.row.in_status(lifecycle, self.moment, status)?;
         Ok(Change::revising(self.alloc, row, entries))
     }
 
@@ -58,26 +51,6 @@ impl Context<'_> {
         self.ask_for_room(on, 1)
     }
 
-    /// The row after a move. A move out of the inactive statuses opens the request anew.
-    pub(super) fn row_in_status(
-        &self,
-        lifecycle: Option<&Lifecycle>,
-        row: &RequestRow,
-        status: &Text,
-    ) -> Result<RequestRow, AllocError>
-        ensures { IfOk result (λ moved. moved ≡ set_status.row_in_status
-            (option_map (λ l. l.now) lifecycle.entry) self.now.moment status.now row.now) }
-    {
-        let to = status.clone()?;
-        let mut moved = row.clone()?;
-        moved.status = to;
-        if opens_anew(lifecycle, &row.status, status) {
-            moved.opened = self.moment;
-            moved.since = self.moment;
-        }
-        Ok(moved)
-    }
-
     /// The entry of a move.
     pub(super) fn moving(
         &self,
@@ -101,14 +74,5 @@ fn has_open_dependency(settings: &Settings, dependencies: &Sequence<Dependency>)
     dependencies
         .as_slice()
         .iter()
-        .any(|d| is_open_dependency(settings, d))
-}
-
-fn is_open_dependency(settings: &Settings, dependency: &Dependency) -> bool
-    ensures { result ≡ set_status.is_open_dependency settings.now dependency.now }
-{
-    !is_inactive(
-        settings.lifecycle(dependency.lifecycle.as_str()),
-        &dependency.status,
-    )
+        .any(|d| d.is_open(settings))
 }

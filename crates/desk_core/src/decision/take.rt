@@ -1,18 +1,14 @@
 ghost use Rattle.std.specs.Prelude.{◌≡◌, ◌+◌, ◌^◌, ◌<◌, IfOk, OnOk, Some, None};
 ghost use Rattle.std.specs.Option.{option_map};
-ghost use Rattle.desk_core.specs.Commands.Take as take;
-ghost use Rattle.desk_core.specs.Entries as entries;
+ghost use Rattle.desk_model.specs.Commands.Take as take;
+ghost use Rattle.desk_model.specs.Entries as entries;
+ghost use Rattle.desk_model.specs.Plan.{Nothing};
 ghost use Rattle.desk_core.specs.Context.{call_of, DecidesOn, PassesOn};
-ghost use Rattle.desk_core.specs.Plan.{Nothing};
 
-use crate::change::Change;
 use crate::decision::Context;
-use crate::facts::Standing;
-use crate::refusal::Refusal;
-use crate::rows::{EntryKind, RequestRow};
+use desk_model::{Change, EntryKind, Refusal, Standing};
 use rights_core::right;
-use std::alloc::{AllocError, Global};
-use text_core::Text;
+use std::alloc::AllocError;
 
 impl Context<'_> {
     /// Makes the caller the owner of a request that nobody owns.
@@ -53,27 +49,9 @@ impl Context<'_> {
     {
         let old = on.row.owner.as_ref().map(|o| o.as_str());
         let entries = self.one_entry(on, EntryKind::Owner, owner_word(old), owner_word(owner))?;
-        let row = with_owner(self.alloc, &on.row, owner)?;
+        let row = on.row.with_owner(self.alloc, owner)?;
         Ok(Change::revising(self.alloc, row, entries))
     }
-}
-
-/// The row with this owner, or with none.
-fn with_owner(
-    alloc: Global,
-    row: &RequestRow,
-    owner: Option<&str>,
-) -> Result<RequestRow, AllocError>
-    ensures { IfOk result (λ owned. owned
-        ≡ take.with_owner (option_map (λ o. o.now) owner.entry) row.now) }
-{
-    let owner = match owner {
-        Some(owner) => Some(Text::new(alloc, owner)?),
-        None => None,
-    };
-    let mut owned = row.clone()?;
-    owned.owner = owner;
-    Ok(owned)
 }
 
 /// An owner in an entry.

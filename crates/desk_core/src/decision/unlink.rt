@@ -1,14 +1,11 @@
 ghost use Rattle.std.specs.Prelude.{◌+◌, ◌^◌, ◌<◌, OnOk, None};
-ghost use Rattle.desk_core.specs.Commands.Unlink as unlink;
+ghost use Rattle.desk_model.specs.Commands.Unlink as unlink;
+ghost use Rattle.desk_model.specs.Plan.{Another};
 ghost use Rattle.desk_core.specs.Context.{DecidesOn, PassesOn};
-ghost use Rattle.desk_core.specs.Plan.{Another};
 
-use crate::change::Change;
 use crate::decision::Context;
 use crate::decision::link::{in_digits, kind_word};
-use crate::facts::Standing;
-use crate::refusal::Refusal;
-use crate::rows::{EntryKind, LinkKind, LinkRow};
+use desk_model::{Change, EntryKind, LinkKind, LinkRow, Refusal, Standing};
 use rights_core::right;
 
 impl Context<'_> {

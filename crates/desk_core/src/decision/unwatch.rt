@@ -1,14 +1,11 @@
 ghost use Rattle.std.specs.Prelude.{◌+◌, ◌^◌, ◌<◌, OnOk, None};
-ghost use Rattle.desk_core.specs.Commands.Unwatch as unwatch;
+ghost use Rattle.desk_model.specs.Commands.Unwatch as unwatch;
+ghost use Rattle.desk_model.specs.Plan.{Nothing};
 ghost use Rattle.desk_core.specs.Context.{DecidesOn, PassesOn};
-ghost use Rattle.desk_core.specs.Plan.{Nothing};
 
-use crate::change::Change;
 use crate::decision::Context;
 use crate::decision::watch::{one_watcher, persons_in, role_word};
-use crate::facts::Standing;
-use crate::refusal::Refusal;
-use crate::rows::{EntryKind, WatchRole};
+use desk_model::{Change, EntryKind, Refusal, Standing, WatchRole};
 use rights_core::right;
 use text_core::Text;
 

@@ -1,14 +1,11 @@
 ghost use Rattle.std.specs.Prelude.{◌≡◌, ◌+◌, ◌^◌, ◌<◌, [], ◌∷◌, IfOk, OnOk, None};
-ghost use Rattle.desk_core.specs.Commands.Watch as watch;
-ghost use Rattle.desk_core.specs.Watchers as watchers;
+ghost use Rattle.desk_model.specs.Commands.Watch as watch;
+ghost use Rattle.desk_model.specs.Watchers as watchers;
+ghost use Rattle.desk_model.specs.Plan.{Nothing};
 ghost use Rattle.desk_core.specs.Context.{call_of, DecidesOn, PassesOn};
-ghost use Rattle.desk_core.specs.Plan.{Nothing};
 
-use crate::change::Change;
 use crate::decision::Context;
-use crate::facts::Standing;
-use crate::refusal::Refusal;
-use crate::rows::{EntryKind, WatchRole, Watcher};
+use desk_model::{Change, EntryKind, Refusal, Standing, WatchRole, Watcher};
 use rights_core::right;
 use std::alloc::{AllocError, Global};
 use text_core::{Sequence, Text, Texts};

@@ -5,7 +5,7 @@ ghost use Rattle.wire_core.specs.Subcommands.{given_to};
 use crate::matches::{first, id};
 use crate::number::number_of_word;
 use clap::ArgMatches;
-use desk_core::{Command, LinkKind};
+use desk_model::{Command, LinkKind};
 
 /// A kind of link as a word names it: by its own name, or by that of its inverse, where the two
 /// requests change places.

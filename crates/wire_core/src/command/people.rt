@@ -4,7 +4,7 @@ ghost use Rattle.wire_core.specs.Subcommands.{given_to};
 
 use crate::matches::{first, first_text, id, id_and_word};
 use clap::ArgMatches;
-use desk_core::{Command, WatchRole};
+use desk_model::{Command, WatchRole};
 use std::alloc::{AllocError, Global};
 use text_core::Text;
 

@@ -4,7 +4,7 @@ ghost use Rattle.wire_core.specs.Subcommands.{given_to};
 
 use crate::matches::id_and_word;
 use clap::ArgMatches;
-use desk_core::Command;
+use desk_model::Command;
 use std::alloc::{AllocError, Global};
 
 /// status ID STATUS

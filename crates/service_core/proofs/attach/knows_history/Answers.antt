@@ -1,11 +1,11 @@
 use Rattle.std.proofs.Common.{◌∙◌, ap, ◌≡◌, Err, rules}
 use Rattle.std.specs.List.{list_all}
 use Rattle.settings_core.specs.Settings.{knows}
-use Rattle.desk_core.specs.declared.rows.Entry.{Entry}
+use Rattle.desk_model.specs.declared.rows.Entry.{Entry}
 use Rattle.service_core.specs.Attaching.{knows_history}
 use Rattle.std.specs.Prelude.{⊤}
+use Rattle.store_tables.proofs.RefusalLemmas.{entries_refuse}
 use Rattle.store_core.specs.Seen.{state_of}
-use Rattle.store_core.proofs.RefusalLemmas.{entries_refuse}
 use Rattle.service_core.proofs.attach.knows_history.Goals as goal
 
 pub returns-clause-told : goal.returns-clause-told

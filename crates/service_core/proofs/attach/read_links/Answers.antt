@@ -1,7 +1,7 @@
 use Rattle.std.proofs.Common.{Err}
 use Rattle.std.specs.Prelude.{⊤}
+use Rattle.store_tables.proofs.RefusalLemmas.{links_refuse}
 use Rattle.store_core.specs.Seen.{state_of}
-use Rattle.store_core.proofs.RefusalLemmas.{links_refuse}
 use Rattle.service_core.proofs.attach.read_links.Goals as goal
 use Rattle.service_core.proofs.attach.read_links.Goals.{in-Err, in-Ok}
 

@@ -1,9 +1,9 @@
 -- what is read, or written, of a command makes its step
 use Rattle.std.proofs.Common.{refl}
-use Rattle.store_core.specs.Seen.{state_of}
+use Rattle.store_tables.proofs.Spared.{stands}
 use Rattle.service_core.specs.TableSteps.{ask_by}
 use Rattle.service_core.proofs.Stepping.{asked_where, left_by, unseen, writes_unless, written_where}
-use Rattle.store_core.proofs.Spared.{stands}
+use Rattle.store_core.specs.Seen.{state_of}
 use Rattle.service_core.proofs.execute.carry_out.Goals as goal
 
 pub returns-in-Queues-clause-done : goal.returns-in-Queues-clause-done

@@ -1,5 +1,5 @@
 use Rattle.std.proofs.Common.{◌∙◌}
-use Rattle.store_core.proofs.ReadingLemmas.{if_ok}
+use Rattle.store_tables.proofs.ReadingLemmas.{if_ok}
 use Rattle.service_core.proofs.Told.{nothing_told, tells}
 use Rattle.service_core.proofs.reading.history.Goals as goal
 

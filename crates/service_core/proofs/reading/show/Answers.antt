@@ -1,6 +1,6 @@
 use Rattle.std.proofs.Common.{◌∙◌, ap}
-use Rattle.desk_core.specs.declared.answer.Answer.TheVariants.{Shown}
-use Rattle.store_core.proofs.ReadingLemmas.{if_ok}
+use Rattle.desk_model.specs.declared.answer.Answer.TheVariants.{Shown}
+use Rattle.store_tables.proofs.ReadingLemmas.{if_ok}
 use Rattle.service_core.specs.Shown.{shown_to}
 use Rattle.service_core.proofs.Told.{nothing_shown, shows}
 use Rattle.service_core.proofs.reading.show.Goals as goal

@@ -1,5 +1,5 @@
 use Rattle.std.proofs.Common.{◌∙◌, ap}
-use Rattle.desk_core.specs.declared.answer.Answer.TheVariants.{Shown}
+use Rattle.desk_model.specs.declared.answer.Answer.TheVariants.{Shown}
 use Rattle.service_core.specs.Shown.{shown_with}
 use Rattle.service_core.proofs.reading.shown_to.Goals as goal
 

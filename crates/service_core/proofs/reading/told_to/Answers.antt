@@ -1,6 +1,6 @@
 use Rattle.std.proofs.Common.{◌∙◌, ap, filter}
+use Rattle.desk_model.specs.declared.answer.Answer.TheVariants.{History}
 use Rattle.desk_core.specs.Rights.{may_show_comments}
-use Rattle.desk_core.specs.declared.answer.Answer.TheVariants.{History}
 use Rattle.service_core.specs.Shown.{is_told}
 use Rattle.service_core.proofs.reading.told_to.Goals as goal
 

@@ -1,8 +1,8 @@
 use Rattle.std.proofs.Common.{◌≡◌, OnOk, OnErr, subst, rules}
 use Rattle.sqlite.specs.Held.{state}
-use Rattle.store_core.specs.Stands.{Stand}
+use Rattle.store_tables.specs.Stands.{Stand}
+use Rattle.store_tables.proofs.StandLemmas.{begins}
 use Rattle.store_core.specs.Written.{written}
-use Rattle.store_core.proofs.StandLemmas.{begins}
 use Rattle.store_core.proofs.apply.apply_change.Goals as goal
 
 pub returns-clause-done : goal.returns-clause-done

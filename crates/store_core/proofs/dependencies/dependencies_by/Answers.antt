@@ -1,9 +1,9 @@
 use Rattle.std.proofs.Common.{◌≡◌, ◌∙◌, ◌<◌, Err, ap, length, rules}
 use Rattle.std.specs.List.{flat_map}
-use Rattle.store_core.specs.Contents.{contents_of}
+use Rattle.store_tables.specs.Contents.{contents_of}
+use Rattle.store_tables.proofs.Spared.{joined, stands}
 use Rattle.store_core.specs.Found.{dependency_by}
 use Rattle.store_core.proofs.FactsLemmasOfDesk.{flat_map_more, take_all}
-use Rattle.store_core.proofs.Spared.{joined, stands}
 use Rattle.store_core.proofs.dependencies.dependencies_by.Goals as goal
 
 pub loop-link-preserved : goal.loop-link-preserved

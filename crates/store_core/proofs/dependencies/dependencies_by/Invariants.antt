@@ -5,9 +5,9 @@ use Rattle.sqlite.specs.Held.{state}
 use Rattle.sqlite.specs.State.{HasCleanDisk}
 use Rattle.desk_core.specs.Desk.{Desk}
 use Rattle.desk_core.specs.IsDesk.{IsDesk}
-use Rattle.store_core.specs.Calls.{Spares}
+use Rattle.store_tables.specs.Calls.{Spares}
+use Rattle.store_tables.specs.Stands.{StandsFor}
 use Rattle.store_core.specs.Found.{dependency_by}
-use Rattle.store_core.specs.Stands.{StandsFor}
 use Rattle.store_core.proofs.dependencies.dependencies_by.Given as goal
 
 abbrev pub invariant-loop-link : goal.invariant-loop-link

@@ -1,7 +1,7 @@
-use Rattle.store_core.specs.Contents.{contents_of}
+use Rattle.store_tables.specs.Contents.{contents_of}
+use Rattle.store_tables.proofs.ReadingLemmas.{if_ok}
+use Rattle.store_tables.proofs.Spared.{stands}
 use Rattle.store_core.proofs.FactsLemmasOfDesk.{dependencies_are}
-use Rattle.store_core.proofs.ReadingLemmas.{if_ok}
-use Rattle.store_core.proofs.Spared.{stands}
 use Rattle.store_core.proofs.dependencies.dependencies_of.Goals as goal
 
 pub returns-clause-told : goal.returns-clause-told

@@ -1,7 +1,7 @@
 use Rattle.std.proofs.Common.{◌∙◌}
-use Rattle.store_core.specs.Contents.{contents_of}
+use Rattle.store_tables.specs.Contents.{contents_of}
+use Rattle.store_tables.proofs.Spared.{stands}
 use Rattle.store_core.proofs.FactsLemmasOfDesk.{no_dependency, some_dependency}
-use Rattle.store_core.proofs.Spared.{stands}
 use Rattle.store_core.proofs.dependencies.dependency_at.Goals as goal
 
 pub returns-in-None-clause-told : goal.returns-in-None-clause-told

@@ -1,4 +1,4 @@
-use Rattle.store_core.specs.Contents.{contents_of}
+use Rattle.store_tables.specs.Contents.{contents_of}
 use Rattle.store_core.proofs.facts.count_queues.Goals as goal
 
 pub returns-clause-told : goal.returns-clause-told

@@ -1,7 +1,7 @@
 use Rattle.std.proofs.Common.{◌∙◌}
-use Rattle.store_core.specs.Contents.{contents_of}
+use Rattle.store_tables.specs.Contents.{contents_of}
+use Rattle.store_tables.proofs.Spared.{stands}
 use Rattle.store_core.proofs.FactsLemmasOfDesk.{move_facts}
-use Rattle.store_core.proofs.Spared.{stands}
 use Rattle.store_core.proofs.facts.facts_of_move.Goals as goal
 
 pub returns-clause-told : goal.returns-clause-told

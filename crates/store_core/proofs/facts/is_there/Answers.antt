@@ -1,5 +1,5 @@
 use Rattle.std.proofs.Common.{◌∙◌}
-use Rattle.store_core.specs.Contents.{contents_of}
+use Rattle.store_tables.specs.Contents.{contents_of}
 use Rattle.store_core.proofs.FactsLemmasOfDesk.{link_there}
 use Rattle.store_core.proofs.facts.is_there.Goals as goal
 

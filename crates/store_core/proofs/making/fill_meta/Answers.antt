@@ -1,6 +1,6 @@
 use Rattle.std.proofs.Common.{◌≡◌, ◌∙◌, ℕ, None, Option, Some, sym}
 use Rattle.sqlite.specs.Held.{state}
-use Rattle.store_core.proofs.VersionLemmas.{fills}
+use Rattle.store_tables.proofs.VersionLemmas.{fills}
 use Rattle.store_core.proofs.making.fill_meta.Goals as goal
 
 pub returns-in_ok-run-in-None-clause-fresh : goal.returns-in_ok-run-in-None-clause-fresh

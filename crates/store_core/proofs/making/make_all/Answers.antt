@@ -2,9 +2,9 @@ use Rattle.std.proofs.Common.{◌∙◌, subst}
 use Rattle.sqlite.specs.Effect.{Database}
 use Rattle.sqlite.specs.Held.{state}
 use Rattle.sqlite_rules.specs.Lists.{Has}
+use Rattle.store_tables.proofs.ReadingLemmas.{if_err}
+use Rattle.store_tables.proofs.StandLemmas.{desk_is_there}
 use Rattle.store_core.proofs.MakeLemmas.{of_meta_still}
-use Rattle.store_core.proofs.ReadingLemmas.{if_err}
-use Rattle.store_core.proofs.StandLemmas.{desk_is_there}
 use Rattle.store_core.proofs.making.make_all.Goals as goal
 
 pub returns-clause-present : goal.returns-clause-present

@@ -1,6 +1,6 @@
 use Rattle.sqlite.specs.Held.{state}
-use Rattle.store_core.specs.Tables.{meta, meta_schema, meta_text, no_schema, queue, queue_schema}
-use Rattle.store_core.specs.Tables.{queue_text, request, request_schema, request_text}
+use Rattle.store_tables.specs.Tables.{meta, meta_schema, meta_text, no_schema, queue, queue_schema}
+use Rattle.store_tables.specs.Tables.{queue_text, request, request_schema, request_text}
 use Rattle.store_core.proofs.MakeLemmas.{is_there, makes, stays_on, stays_there}
 use Rattle.store_core.proofs.MakeStatements.{meta_made, meta_there, queue_made, queue_there}
 use Rattle.store_core.proofs.MakeStatements.{request_made, request_there}

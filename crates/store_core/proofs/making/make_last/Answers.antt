@@ -1,6 +1,6 @@
 use Rattle.sqlite.specs.Held.{state}
-use Rattle.store_core.specs.Tables.{desk_schema, entry, entry_text, link, link_schema, link_text}
-use Rattle.store_core.specs.Tables.{request_schema, watcher, watcher_schema, watcher_text}
+use Rattle.store_tables.specs.Tables.{desk_schema, entry, entry_text, link, link_schema, link_text}
+use Rattle.store_tables.specs.Tables.{request_schema, watcher, watcher_schema, watcher_text}
 use Rattle.store_core.proofs.MakeLemmas.{is_there, makes, stays_on, stays_there}
 use Rattle.store_core.proofs.MakeStatements.{watcher_made, watcher_there, link_made, link_there}
 use Rattle.store_core.proofs.MakeStatements.{entry_made, entry_there}

@@ -2,9 +2,9 @@ use Rattle.std.proofs.Common.{◌≡◌, Err, rules, subst}
 use Rattle.sqlite.specs.Held.{state}
 use Rattle.sqlite.specs.State.{HasCleanDisk}
 use Rattle.sqlite_rules.specs.Lists.{Has}
-use Rattle.store_core.specs.Stands.{Stand}
+use Rattle.store_tables.specs.Stands.{Stand}
+use Rattle.store_tables.proofs.StandLemmas.{begins, dropped_stands, either_way, was_clean}
 use Rattle.store_core.proofs.MakeLemmas.{begins_of_meta, begins_there}
-use Rattle.store_core.proofs.StandLemmas.{begins, dropped_stands, either_way, was_clean}
 use Rattle.store_core.proofs.making.make_schema.Goals as goal
 
 pub returns-in_err-make_all-clause-kept : goal.returns-in_err-make_all-clause-kept

@@ -1,12 +1,12 @@
 use Rattle.std.proofs.Common.{[]}
 use Rattle.sqlite.specs.Held.{state}
-use Rattle.store_core.specs.Queries.{version_shown, version_text}
-use Rattle.store_core.specs.Tables.{desk_schema}
-use Rattle.store_core.proofs.ReadingLemmas.{table_rows}
-use Rattle.store_core.proofs.StandLemmas.{failed_keeps, same_made, same_within, shown_keeps}
-use Rattle.store_core.proofs.StandLemmas.{shown_open, shown_same, was_clean}
-use Rattle.store_core.proofs.Statements.{version_is}
-use Rattle.store_core.proofs.VersionLemmas.{shows_none, shows_version}
+use Rattle.store_tables.specs.Queries.{version_shown, version_text}
+use Rattle.store_tables.specs.Tables.{desk_schema}
+use Rattle.store_tables.proofs.ReadingLemmas.{table_rows}
+use Rattle.store_tables.proofs.StandLemmas.{failed_keeps, same_made, same_within, shown_keeps}
+use Rattle.store_tables.proofs.StandLemmas.{shown_open, shown_same, was_clean}
+use Rattle.store_tables.proofs.Statements.{version_is}
+use Rattle.store_tables.proofs.VersionLemmas.{shows_none, shows_version}
 use Rattle.store_core.proofs.making.version_rows.Goals as goal
 
 pub returns-in-Ok-clause-none : goal.returns-in-Ok-clause-none

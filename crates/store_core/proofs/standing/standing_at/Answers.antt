@@ -1,7 +1,7 @@
 use Rattle.std.proofs.Common.{◌∙◌, ap, Some}
-use Rattle.store_core.specs.Contents.{contents_of}
+use Rattle.store_tables.specs.Contents.{contents_of}
+use Rattle.store_tables.proofs.Spared.{stands}
 use Rattle.store_core.proofs.FactsLemmasOfDesk.{no_standing, some_standing}
-use Rattle.store_core.proofs.Spared.{stands}
 use Rattle.store_core.proofs.standing.standing_at.Goals as goal
 
 pub returns-in-None-clause-told : goal.returns-in-None-clause-told

@@ -1,7 +1,7 @@
 -- each step goes on with the run
 use Rattle.std.proofs.Common.{◌≡◌, ◌∙◌, ◌<◌, ◌++◌, ◌∷◌, [], length, refl, rules, subst, sym}
+use Rattle.desk_texts.specs.Short.{AreNamed}
 use Rattle.service_core.specs.Seen.{settings_of, tables_of}
-use Rattle.service_core.specs.Short.{AreNamed}
 use Rattle.service_core.proofs.Running.{all_asked, named_more, run_begins, run_on}
 use Rattle.service_core.proofs.desk.Desk.execute_all.Goals as goal
 

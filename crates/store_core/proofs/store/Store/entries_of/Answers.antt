@@ -1,6 +1,6 @@
-use Rattle.store_core.specs.Contents.{contents_of}
+use Rattle.store_tables.specs.Contents.{contents_of}
+use Rattle.store_tables.proofs.ReadingLemmas.{if_ok}
 use Rattle.store_core.proofs.HistoryLemmas.{the_history}
-use Rattle.store_core.proofs.ReadingLemmas.{if_ok}
 use Rattle.store_core.proofs.store.Store.entries_of.Goals as goal
 
 pub returns-clause-listed : goal.returns-clause-listed

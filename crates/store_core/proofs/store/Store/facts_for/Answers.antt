@@ -1,5 +1,5 @@
 use Rattle.std.proofs.Common.{◌∙◌}
-use Rattle.store_core.proofs.ReadingLemmas.{if_ok}
+use Rattle.store_tables.proofs.ReadingLemmas.{if_ok}
 use Rattle.store_core.proofs.store.Store.facts_for.Goals as goal
 
 pub returns-clause-told : goal.returns-clause-told

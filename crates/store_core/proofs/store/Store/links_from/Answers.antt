@@ -1,11 +1,11 @@
 use Rattle.std.proofs.Common.{◌≡◌, filter, Less}
 use Rattle.sqlite_trees.proofs.ListLemmas.{ascending-filter}
-use Rattle.desk_core.specs.declared.rows.LinkRow.{LinkRow}
-use Rattle.store_core.specs.Contents.{contents_of}
-use Rattle.store_core.specs.Orders.{by_link}
-use Rattle.store_core.specs.Selection.{starts_at}
+use Rattle.desk_model.specs.declared.rows.LinkRow.{LinkRow}
+use Rattle.store_tables.specs.Contents.{contents_of}
+use Rattle.store_tables.specs.Orders.{by_link}
+use Rattle.store_tables.specs.Selection.{starts_at}
+use Rattle.store_tables.proofs.ReadingLemmas.{if_ok}
 use Rattle.store_core.proofs.OrderLemmas.{the_links}
-use Rattle.store_core.proofs.ReadingLemmas.{if_ok}
 use Rattle.store_core.proofs.RiseLemmas.{links_rise}
 use Rattle.store_core.proofs.store.Store.links_from.Goals as goal
 

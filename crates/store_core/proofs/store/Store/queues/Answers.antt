@@ -1,6 +1,6 @@
-use Rattle.store_core.specs.Contents.{contents_of}
+use Rattle.store_tables.specs.Contents.{contents_of}
+use Rattle.store_tables.proofs.ReadingLemmas.{if_ok}
 use Rattle.store_core.proofs.OrderLemmas.{the_queues}
-use Rattle.store_core.proofs.ReadingLemmas.{if_ok}
 use Rattle.store_core.proofs.store.Store.queues.Goals as goal
 
 pub returns-clause-listed : goal.returns-clause-listed

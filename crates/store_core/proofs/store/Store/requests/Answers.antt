@@ -1,6 +1,6 @@
-use Rattle.store_core.specs.Contents.{contents_of, request_rows}
+use Rattle.store_tables.specs.Contents.{contents_of, request_rows}
+use Rattle.store_tables.proofs.ReadingLemmas.{if_ok}
 use Rattle.store_core.proofs.OrderLemmas.{the_requests}
-use Rattle.store_core.proofs.ReadingLemmas.{if_ok}
 use Rattle.store_core.proofs.RiseLemmas.{requests_rise}
 use Rattle.store_core.proofs.store.Store.requests.Goals as goal
 

@@ -1,11 +1,11 @@
 use Rattle.std.proofs.Common.{◌≡◌, filter, Less}
 use Rattle.sqlite_trees.proofs.ListLemmas.{ascending-filter}
-use Rattle.desk_core.specs.declared.rows.RequestRow.{RequestRow}
-use Rattle.store_core.specs.Contents.{contents_of, request_rows}
-use Rattle.store_core.specs.Orders.{by_id}
-use Rattle.store_core.specs.Selection.{is_filed_in}
+use Rattle.desk_model.specs.declared.rows.RequestRow.{RequestRow}
+use Rattle.store_tables.specs.Contents.{contents_of, request_rows}
+use Rattle.store_tables.specs.Orders.{by_id}
+use Rattle.store_tables.specs.Selection.{is_filed_in}
+use Rattle.store_tables.proofs.ReadingLemmas.{if_ok}
 use Rattle.store_core.proofs.OrderLemmas.{the_requests}
-use Rattle.store_core.proofs.ReadingLemmas.{if_ok}
 use Rattle.store_core.proofs.RiseLemmas.{requests_rise}
 use Rattle.store_core.proofs.store.Store.requests_of.Goals as goal
 

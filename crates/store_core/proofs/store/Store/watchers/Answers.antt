@@ -1,6 +1,6 @@
-use Rattle.store_core.specs.Contents.{contents_of, watchers}
+use Rattle.store_tables.specs.Contents.{contents_of, watchers}
+use Rattle.store_tables.proofs.ReadingLemmas.{if_ok}
 use Rattle.store_core.proofs.OrderLemmas.{the_watchers}
-use Rattle.store_core.proofs.ReadingLemmas.{if_ok}
 use Rattle.store_core.proofs.RiseLemmas.{watchers_rise}
 use Rattle.store_core.proofs.store.Store.watchers.Goals as goal
 

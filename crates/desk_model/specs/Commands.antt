@@ -1,0 +1,112 @@
+-- The commands: the plan of each, which requests it names, and whether it only reads or moves a
+-- request.
+use Rattle.std.specs.Prelude.{ℕ, ⊤, List, [], ◌∷◌, Some, None}
+use Rattle.desk_model.specs.Commands.Comment as comment
+use Rattle.desk_model.specs.Commands.Create as create
+use Rattle.desk_model.specs.Commands.Give as give
+use Rattle.desk_model.specs.Commands.Link as link
+use Rattle.desk_model.specs.Commands.OpenQueue as open_queue
+use Rattle.desk_model.specs.Commands.Reply as reply
+use Rattle.desk_model.specs.Commands.SetLevel as set_level
+use Rattle.desk_model.specs.Commands.SetStatus as set_status
+use Rattle.desk_model.specs.Commands.Steal as steal
+use Rattle.desk_model.specs.Commands.Take as take
+use Rattle.desk_model.specs.Commands.Unlink as unlink
+use Rattle.desk_model.specs.Commands.Untake as untake
+use Rattle.desk_model.specs.Commands.Unwatch as unwatch
+use Rattle.desk_model.specs.Commands.Watch as watch
+use Rattle.desk_model.specs.Plan.{Plan, OnDesk, OnQueue, OnRequest}
+use Rattle.desk_model.specs.Plan.{Nothing, Dependencies, Another, reading}
+use Rattle.desk_model.specs.declared.command.Command.{Command}
+use Rattle.desk_model.specs.declared.command.Command.TheVariants as command
+pub mod Comment
+pub mod Create
+pub mod Give
+pub mod Link
+pub mod OpenQueue
+pub mod Reply
+pub mod SetLevel
+pub mod SetStatus
+pub mod Steal
+pub mod Take
+pub mod Unlink
+pub mod Untake
+pub mod Unwatch
+pub mod Watch
+
+abbrev pub plan_of : Command → Plan
+plan_of (command.OpenQueue name lifecycle level) =
+    OnQueue name (open_queue.conditions name lifecycle level)
+    (open_queue.change name lifecycle level)
+plan_of (command.Create queue subject status requestors) =
+    OnQueue queue (create.conditions queue subject status requestors)
+    (create.change queue subject status requestors)
+plan_of (command.SetStatus id status) =
+    OnRequest id Dependencies None (set_status.conditions status) (set_status.change status)
+plan_of (command.Take id) = OnRequest id Nothing None take.conditions take.change
+plan_of (command.Steal id) = OnRequest id Nothing None steal.conditions steal.change
+plan_of (command.Untake id) = OnRequest id Nothing None untake.conditions untake.change
+plan_of (command.Give id person) =
+    OnRequest id Nothing None (give.conditions person) (give.change person)
+plan_of (command.Reply id text) =
+    OnRequest id Nothing (Some text) reply.conditions (reply.change text)
+plan_of (command.Comment id text) =
+    OnRequest id Nothing (Some text) comment.conditions (comment.change text)
+plan_of (command.Watch id role person) =
+    OnRequest id Nothing None (watch.conditions role person) (watch.change role person)
+plan_of (command.Unwatch id role person) =
+    OnRequest id Nothing None (unwatch.conditions role person) (unwatch.change role person)
+plan_of (command.Link id kind other) =
+    OnRequest id (Another kind other) None (link.conditions other) (link.change kind other)
+plan_of (command.Unlink id kind other) =
+    OnRequest id (Another kind other) None unlink.conditions (unlink.change kind other)
+plan_of (command.SetLevel id level) =
+    OnRequest id Nothing None (set_level.conditions level) (set_level.change level)
+plan_of command.Queues = OnDesk
+plan_of (command.Show id) = reading id
+plan_of (command.History id) = reading id
+
+-- the requests that a command names: the one that it is on, and the other end of a link
+abbrev pub requests_named : Command → List ℕ
+requests_named (command.OpenQueue queue lifecycle level) = []
+requests_named (command.Create queue subject status requestors) = []
+requests_named (command.SetStatus id status) = id ∷ []
+requests_named (command.Take id) = id ∷ []
+requests_named (command.Steal id) = id ∷ []
+requests_named (command.Untake id) = id ∷ []
+requests_named (command.Give id person) = id ∷ []
+requests_named (command.Reply id text) = id ∷ []
+requests_named (command.Comment id text) = id ∷ []
+requests_named (command.Watch id role person) = id ∷ []
+requests_named (command.Unwatch id role person) = id ∷ []
+requests_named (command.Link id kind other) = id ∷ other ∷ []
+requests_named (command.Unlink id kind other) = id ∷ other ∷ []
+requests_named (command.SetLevel id level) = id ∷ []
+requests_named command.Queues = []
+requests_named (command.Show id) = id ∷ []
+requests_named (command.History id) = id ∷ []
+
+-- the command only reads
+abbrev pub IsReading : Command → Type 0
+IsReading (command.OpenQueue queue lifecycle level) = ⊥
+IsReading (command.Create queue subject status requestors) = ⊥
+IsReading (command.SetStatus id status) = ⊥
+IsReading (command.Take id) = ⊥
+IsReading (command.Steal id) = ⊥
+IsReading (command.Untake id) = ⊥
+IsReading (command.Give id person) = ⊥
+IsReading (command.Reply id text) = ⊥
+IsReading (command.Comment id text) = ⊥
+IsReading (command.Watch id role person) = ⊥
+IsReading (command.Unwatch id role person) = ⊥
+IsReading (command.Link id kind other) = ⊥
+IsReading (command.Unlink id kind other) = ⊥
+IsReading (command.SetLevel id level) = ⊥
+IsReading command.Queues = ⊤
+IsReading (command.Show id) = ⊤
+IsReading (command.History id) = ⊤
+
+-- the command asks for the right of a move of its lifecycle
+abbrev pub IsMove : Command → Type 0
+IsMove (command.SetStatus id status) = ⊤
+IsMove other = ⊥

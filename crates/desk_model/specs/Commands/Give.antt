@@ -1,0 +1,30 @@
+-- Makes a person the owner of a request.
+use Rattle.std.specs.Prelude.{ℕ, not, ◌||◌, Bool, List, [], ◌∷◌, Some}
+use Rattle.rights_core.specs.Right.{own_ticket, reassign_ticket}
+use Rattle.settings_core.specs.Settings.{knows}
+use Rattle.desk_model.specs.Commands.Take.{giving_owner}
+use Rattle.desk_model.specs.Condition.{Condition}
+use Rattle.desk_model.specs.Entries.{lacks_room}
+use Rattle.desk_model.specs.Plan.{Call}
+use Rattle.desk_model.specs.Rights.{holds_on, owns}
+use Rattle.desk_model.specs.declared.change.Change.{Change}
+use Rattle.desk_model.specs.declared.facts.Facts.{Facts}
+use Rattle.desk_model.specs.declared.facts.Standing.{Standing}
+use Rattle.desk_model.specs.declared.refusal.Refusal.TheVariants.{UnknownName, Denied}
+use Rattle.desk_model.specs.declared.refusal.Refusal.TheVariants.{NoChange, Full}
+
+-- the caller owns the request, or may give away what others own
+abbrev pub may_give : Call → Standing → Bool
+may_give call on = owns call.caller on || holds_on call.settings call.caller reassign_ticket on
+
+abbrev pub conditions : List ℕ → Call → Facts → Standing → List Condition
+conditions person call facts on =
+    (UnknownName, not (knows call.settings person))
+    ∷ (Denied reassign_ticket, not (may_give call on))
+    ∷ (Denied own_ticket, not (holds_on call.settings person own_ticket on))
+    ∷ (NoChange, owns person on)
+    ∷ (Full, lacks_room call on 1)
+    ∷ []
+
+abbrev pub change : List ℕ → Call → Facts → Standing → Change
+change person call facts on = giving_owner (Some person) call on

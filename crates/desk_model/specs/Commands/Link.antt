@@ -1,0 +1,34 @@
+-- Links a request with another one.
+use Rattle.std.specs.Prelude.{ℕ, ◌==◌, not, List, [], ◌∷◌, codes, decimal}
+use Rattle.rights_core.specs.Right.{modify_ticket}
+use Rattle.desk_model.specs.Change.{linking}
+use Rattle.desk_model.specs.Condition.{Condition}
+use Rattle.desk_model.specs.Entries.{entry_of, lacks_room}
+use Rattle.desk_model.specs.Links.{link}
+use Rattle.desk_model.specs.Plan.{Call}
+use Rattle.desk_model.specs.Rights.{holds_on}
+use Rattle.desk_model.specs.declared.change.Change.{Change}
+use Rattle.desk_model.specs.declared.facts.Facts.{Facts}
+use Rattle.desk_model.specs.declared.facts.Standing.{Standing}
+use Rattle.desk_model.specs.declared.refusal.Refusal.TheVariants.{Denied, NoChange, SelfLink, Full}
+use Rattle.desk_model.specs.declared.rows.EntryKind.TheVariants as entry
+use Rattle.desk_model.specs.declared.rows.LinkKind.{LinkKind}
+use Rattle.desk_model.specs.declared.rows.LinkKind.TheVariants.{DependsOn, MemberOf, RefersTo}
+
+abbrev pub kind_word : LinkKind → List ℕ
+kind_word DependsOn = codes "DependsOn"
+kind_word MemberOf = codes "MemberOf"
+kind_word RefersTo = codes "RefersTo"
+
+abbrev pub conditions : ℕ → Call → Facts → Standing → List Condition
+conditions other call facts on =
+    (Denied modify_ticket, not (holds_on call.settings call.caller modify_ticket on))
+    ∷ (NoChange, facts.is_linked)
+    ∷ (SelfLink, on.row.id == other)
+    ∷ (Full, lacks_room call on 1)
+    ∷ []
+
+abbrev pub change : LinkKind → ℕ → Call → Facts → Standing → Change
+change kind other call facts on =
+    linking (link on.row.id kind other)
+    (entry_of call on 1 entry.Link (kind_word kind) (decimal other) ∷ [])

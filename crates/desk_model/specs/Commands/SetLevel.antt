@@ -1,0 +1,43 @@
+-- Gives a request another level, or none.
+use Rattle.std.specs.Prelude.{ℕ, Bool, true, false, not, List, [], ◌∷◌}
+use Rattle.std.specs.Prelude.{Option, Some, None, unwrap_or, codes}
+use Rattle.std.specs.Str.{bytes_eq}
+use Rattle.rights_core.specs.Right.{modify_ticket}
+use Rattle.desk_model.specs.Change.{revising}
+use Rattle.desk_model.specs.Condition.{Condition}
+use Rattle.desk_model.specs.Entries.{entry_of, lacks_room}
+use Rattle.desk_model.specs.Known.{knows_level}
+use Rattle.desk_model.specs.Plan.{Call}
+use Rattle.desk_model.specs.Rights.{holds_on}
+use Rattle.desk_model.specs.declared.change.Change.{Change}
+use Rattle.desk_model.specs.declared.facts.Facts.{Facts}
+use Rattle.desk_model.specs.declared.facts.Standing.{Standing}
+use Rattle.desk_model.specs.declared.refusal.Refusal.TheVariants.{UnknownName, Denied}
+use Rattle.desk_model.specs.declared.refusal.Refusal.TheVariants.{NoChange, Full}
+use Rattle.desk_model.specs.declared.rows.EntryKind.TheVariants as kind
+use Rattle.desk_model.specs.declared.rows.RequestRow.{RequestRow}
+
+abbrev pub is_same_level : Option (List ℕ) → Option (List ℕ) → Bool
+is_same_level None None = true
+is_same_level (Some a) (Some b) = bytes_eq a b
+is_same_level a b = false
+
+abbrev pub conditions : Option (List ℕ) → Call → Facts → Standing → List Condition
+conditions level call facts on =
+    (UnknownName, not (knows_level call.settings level))
+    ∷ (Denied modify_ticket, not (holds_on call.settings call.caller modify_ticket on))
+    ∷ (NoChange, is_same_level on.row.level level)
+    ∷ (Full, lacks_room call on 1)
+    ∷ []
+
+-- a level in an entry, or a dash for none
+abbrev pub level_word : Option (List ℕ) → List ℕ
+level_word level = unwrap_or level (codes "-")
+
+abbrev pub with_level : Option (List ℕ) → RequestRow → RequestRow
+with_level level row = record row { level = level }
+
+abbrev pub change : Option (List ℕ) → Call → Facts → Standing → Change
+change level call facts on =
+    revising (with_level level on.row)
+    (entry_of call on 1 kind.Level (level_word on.row.level) (level_word level) ∷ [])

@@ -1,0 +1,67 @@
+-- Moves a request to another status.
+use Rattle.std.specs.Prelude.{ℕ, Bool, not, ◌&&◌, List, [], ◌∷◌, Option, if◌then◌else◌}
+use Rattle.std.specs.List.{list_any}
+use Rattle.std.specs.Str.{bytes_eq}
+use Rattle.lifecycle_core.specs.declared.parts.Parts.{Parts}
+use Rattle.settings_core.specs.Settings.{lifecycle_named}
+use Rattle.settings_core.specs.declared.settings.Settings.{Settings}
+use Rattle.desk_model.specs.Change.{revising}
+use Rattle.desk_model.specs.Condition.{Condition}
+use Rattle.desk_model.specs.Entries.{entry_of, lacks_room}
+use Rattle.desk_model.specs.Lifecycles.{has_status, is_allowed, is_inactive}
+use Rattle.desk_model.specs.Lifecycles.{lifecycle_of, opens_anew, right_of}
+use Rattle.desk_model.specs.Plan.{Call}
+use Rattle.desk_model.specs.Rights.{holds_on}
+use Rattle.desk_model.specs.declared.change.Change.{Change}
+use Rattle.desk_model.specs.declared.facts.Dependency.{Dependency}
+use Rattle.desk_model.specs.declared.facts.Facts.{Facts}
+use Rattle.desk_model.specs.declared.facts.Standing.{Standing}
+use Rattle.desk_model.specs.declared.refusal.Refusal.TheVariants.{UnknownName, Denied, NoChange}
+use Rattle.desk_model.specs.declared.refusal.Refusal.TheVariants.{NoTransition, OpenDependency}
+use Rattle.desk_model.specs.declared.refusal.Refusal.TheVariants.{Full}
+use Rattle.desk_model.specs.declared.rows.Entry.{Entry}
+use Rattle.desk_model.specs.declared.rows.EntryKind.TheVariants as kind
+use Rattle.desk_model.specs.declared.rows.RequestRow.{RequestRow}
+
+-- a request that another one depends on isn't inactive
+abbrev pub is_open_dependency : Settings → Dependency → Bool
+is_open_dependency settings dependency =
+    not (is_inactive (lifecycle_named settings dependency.lifecycle) dependency.status)
+
+abbrev pub has_open_dependency : Settings → List Dependency → Bool
+has_open_dependency settings dependencies = list_any (is_open_dependency settings) dependencies
+
+abbrev pub conditions : List ℕ → Call → Facts → Standing → List Condition
+conditions status call facts on =
+    let lifecycle = lifecycle_of call.settings facts.queue in
+    let right = right_of lifecycle on.row.status status in
+    (UnknownName, not (has_status lifecycle status))
+    ∷ (Denied right, not (holds_on call.settings call.caller right on))
+    ∷ (NoChange, bytes_eq on.row.status status)
+    ∷ (NoTransition, not (is_allowed lifecycle on.row.status status))
+    ∷ (
+      OpenDependency,
+      is_inactive lifecycle status
+          && has_open_dependency call.settings facts.dependencies,
+    )
+    ∷ (Full, lacks_room call on 1)
+    ∷ []
+
+-- the row after a move
+abbrev pub row_in_status : Option Parts → ℕ → List ℕ → RequestRow → RequestRow
+row_in_status lifecycle at status row =
+    let anew = opens_anew lifecycle row.status status in
+    record row {
+      status = status;
+      opened = if anew then at else row.opened;
+      since = if anew then at else row.since;
+    }
+
+-- the entry of a move
+abbrev pub moving : Call → Standing → ℕ → List ℕ → Entry
+moving call on number status = entry_of call on number kind.Status on.row.status status
+
+abbrev pub change : List ℕ → Call → Facts → Standing → Change
+change status call facts on =
+    revising (row_in_status (lifecycle_of call.settings facts.queue) call.at status on.row)
+    (moving call on 1 status ∷ [])

@@ -1,0 +1,24 @@
+-- Makes the caller the owner of a request that another person owns.
+use Rattle.std.specs.Prelude.{not, List, [], ◌∷◌, Some, is_none}
+use Rattle.rights_core.specs.Right.{own_ticket, steal_ticket}
+use Rattle.desk_model.specs.Commands.Take.{giving_owner}
+use Rattle.desk_model.specs.Condition.{Condition}
+use Rattle.desk_model.specs.Entries.{lacks_room}
+use Rattle.desk_model.specs.Plan.{Call}
+use Rattle.desk_model.specs.Rights.{holds_on, owns}
+use Rattle.desk_model.specs.declared.change.Change.{Change}
+use Rattle.desk_model.specs.declared.facts.Facts.{Facts}
+use Rattle.desk_model.specs.declared.facts.Standing.{Standing}
+use Rattle.desk_model.specs.declared.refusal.Refusal.TheVariants.{Denied, NoChange, NotOwned, Full}
+
+abbrev pub conditions : Call → Facts → Standing → List Condition
+conditions call facts on =
+    (Denied steal_ticket, not (holds_on call.settings call.caller steal_ticket on))
+    ∷ (Denied own_ticket, not (holds_on call.settings call.caller own_ticket on))
+    ∷ (NoChange, owns call.caller on)
+    ∷ (NotOwned, is_none on.row.owner)
+    ∷ (Full, lacks_room call on 1)
+    ∷ []
+
+abbrev pub change : Call → Facts → Standing → Change
+change call facts on = giving_owner (Some call.caller) call on

@@ -1,0 +1,57 @@
+-- A desk as commands make it and keep it.
+use Rattle.std.specs.Prelude.{◌≡◌, ℕ, ◌+◌, ◌==◌, Bool, true, ◌&&◌, List, [], ◌∷◌, map, is_some}
+use Rattle.std.specs.List.{list_all}
+use Rattle.std.specs.Ordering.{is_lt}
+use Rattle.settings_core.specs.declared.settings.Settings.{Settings}
+use Rattle.desk_model.specs.Desk.{Desk, Request, has_lower_name, queue_at, request_at}
+use Rattle.desk_model.specs.Links.{is_lower_link}
+use Rattle.desk_model.specs.Names.{text_order}
+use Rattle.desk_model.specs.Step.{desk_after}
+use Rattle.desk_model.specs.declared.command.Command.{Command}
+use Rattle.desk_model.specs.declared.rows.LinkRow.{LinkRow}
+
+abbrev pub comes_first : {X : Type 0} → (X → X → Bool) → X → List X → Bool
+comes_first comes_before x [] = true
+comes_first comes_before x (y ∷ ys) = comes_before x y
+
+-- each comes before the next
+abbrev pub is_rising : {X : Type 0} → (X → X → Bool) → List X → Bool
+is_rising comes_before [] = true
+is_rising comes_before (x ∷ xs) = comes_first comes_before x xs && is_rising comes_before xs
+
+-- these are the numbers from this one on
+abbrev pub are_numbered : ℕ → List ℕ → Bool
+are_numbered next [] = true
+are_numbered next (n ∷ ns) = n == next && are_numbered (next + 1) ns
+
+abbrev pub ids : Desk → List ℕ
+ids desk = map (λ r. r.row.id) desk.requests
+
+abbrev pub names_rise : List (List ℕ) → Bool
+names_rise names = is_rising (λ a b. is_lt (text_order a b)) names
+
+abbrev pub persons_rise : Request → Bool
+persons_rise r = names_rise r.requestors && (names_rise r.cc && names_rise r.admin_cc)
+
+abbrev pub has_its_entries : Request → Bool
+has_its_entries r =
+    list_all (λ e. e.id == r.row.id) r.entries && are_numbered 1 (map (λ e. e.number) r.entries)
+
+abbrev pub has_both_ends : Desk → LinkRow → Bool
+has_both_ends desk link =
+    is_some (request_at desk link.source) && is_some (request_at desk link.target)
+
+-- queue names rise; requests are numbered from 1; each request's persons rise, its entries are its
+-- own and numbered from 1, and its queue is there; links rise, and both ends of each are there
+pub record IsDesk (desk : Desk) : Type 0 where
+  pub queues : is_rising has_lower_name desk.queues ≡ true
+  pub requests : are_numbered 1 (ids desk) ≡ true
+  pub persons : list_all persons_rise desk.requests ≡ true
+  pub entries : list_all has_its_entries desk.requests ≡ true
+  pub filed_in : list_all (λ r. is_some (queue_at desk r.row.queue)) desk.requests ≡ true
+  pub links : is_rising is_lower_link desk.links ≡ true
+  pub ends : list_all (has_both_ends desk) desk.links ≡ true
+
+abbrev pub KeepsDesk : Settings → ℕ → List ℕ → Command → Desk → Type 0
+KeepsDesk settings at caller command desk =
+    IsDesk desk → IsDesk (desk_after settings at caller command desk)

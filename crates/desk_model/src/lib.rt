@@ -1,0 +1,34 @@
+//! The vocabulary of a desk: rows; commands, and the facts that each looks at; answers, refusals
+//! and changes; who may see what; and when a request is due.
+//!
+//! `specs/` defines the desk, and what each command does to it. `desk_core` decides by these
+//! definitions.
+#![tactic(auto)]
+
+pub mod answer;
+pub mod change;
+pub mod command;
+pub mod due;
+pub mod facts;
+pub mod lifecycles;
+pub mod links;
+pub mod names;
+pub mod refusal;
+pub mod revised;
+pub mod rights;
+pub mod rows;
+pub mod scope;
+
+pub use answer::{Answer, Links, Shown};
+pub use change::Change;
+pub use command::Command;
+pub use due::due_of;
+pub use facts::{Dependency, Facts, Standing};
+pub use links::is_kind;
+pub use names::in_byte_order;
+pub use refusal::Refusal;
+pub use rights::{is_role, may_show, sees_queue};
+pub use rows::{
+    Entry, EntryKind, LinkKind, LinkRow, QueueRow, RequestRow, Turn, WatchRole, Watcher,
+};
+pub use scope::Scope;

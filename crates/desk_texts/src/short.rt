@@ -1,0 +1,84 @@
+//! Short answers, put after other bytes without taking memory.
+ghost use Rattle.std.specs.Prelude.{◌≡◌, ◌++◌, ◌+◌, ◌≤◌, true, length, decimal};
+ghost use Rattle.std.specs.Vec.{vec_capacity, vec_len};
+ghost use Rattle.desk_texts.specs.Short as short;
+ghost use Rattle.desk_texts.specs.Short.{is_short, short_text};
+ghost use Rattle.desk_texts.specs.Texts as text;
+
+use desk_model::{Answer, Refusal};
+use itoa::Buffer;
+
+/// Room for any short answer, in bytes.
+pub const SHORT_TEXT: usize = 64;
+
+/// The most bytes that a right's name has.
+const LONGEST_RIGHT: usize = 32;
+
+/// Puts the text of `Done`, of `Created` or of a refusal at the end, where there is room for 64
+/// bytes. Takes no memory. Where the right of `Denied` has more than 32 bytes, which no right of
+/// `decide` or `execute` has, its text might be longer than that: nothing is put.
+pub fn put_short(outcome: &Result<Answer, Refusal>, out: &mut Vec<u8>)
+    requires short { is_short outcome.now ≡ true }
+    requires room { vec_len out.old + 64 ≤ vec_capacity out.old }
+    ensures { out.new.items ≡ out.old.items ++ short_text outcome.now }
+{
+    match outcome {
+        Ok(Answer::Created(id)) => put_created(out, *id),
+        Ok(_) => put(out, "ok\n"),
+        Err(refusal) if is_short_refusal(refusal) => put_refusal(out, refusal),
+        Err(_) => (),
+    }
+}
+
+/// Whether a right that the refusal names is no longer than a right's name can be.
+fn is_short_refusal(refusal: &Refusal) -> bool
+    ensures { result ≡ short.is_short_refusal refusal.now }
+{
+    match refusal {
+        Refusal::Denied(right) => right.as_str().len() <= LONGEST_RIGHT,
+        _ => true,
+    }
+}
+
+fn put_created(out: &mut Vec<u8>, id: u32)
+    requires { vec_len out.old + 64 ≤ vec_capacity out.old }
+    ensures { out.new.items ≡ out.old.items ++ text.created_text id }
+{
+    put(out, "request ");
+    put_number(out, id);
+    put(out, "\n");
+}
+
+fn put_refusal(out: &mut Vec<u8>, refusal: &Refusal)
+    requires short { short.is_short_refusal refusal.now ≡ true }
+    requires room { vec_len out.old + 64 ≤ vec_capacity out.old }
+    ensures { out.new.items ≡ out.old.items ++ text.refusal_text refusal.now }
+{
+    put(out, "refused ");
+    put_number(out, u32::from(refusal.number()));
+    put(out, " ");
+    put(out, refusal.name());
+    if let Refusal::Denied(right) = refusal {
+        put(out, " ");
+        put(out, right.as_str());
+    }
+    put(out, "\n");
+}
+
+fn put_number(out: &mut Vec<u8>, number: u32)
+    requires { vec_len out.old + 10 ≤ vec_capacity out.old }
+    ensures put { out.new.items ≡ out.old.items ++ decimal number }
+    ensures short { vec_len out.new ≤ vec_len out.old + 10 }
+    ensures room { vec_capacity out.old ≤ vec_capacity out.new }
+{
+    let mut buffer = Buffer::new();
+    put(out, buffer.format(number));
+}
+
+fn put(out: &mut Vec<u8>, text: &str)
+    requires { vec_len out.old + length text.now ≤ vec_capacity out.old }
+    ensures put { out.new.items ≡ out.old.items ++ text.now }
+    ensures room { vec_capacity out.old ≤ vec_capacity out.new }
+{
+    out.extend_from_slice(text.as_bytes()).unwrap();
+}

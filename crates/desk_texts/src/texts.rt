@@ -1,0 +1,55 @@
+ghost use Rattle.std.specs.Prelude.{◌≡◌, ◌++◌, [], IfOk, codes, string_bytes};
+ghost use Rattle.desk_texts.specs.Texts as text;
+
+use crate::history::history_text;
+use crate::queues::queues_text;
+use crate::shown::show_text;
+use desk_model::{Answer, Refusal};
+use std::alloc::{AllocError, Global};
+
+/// The text of an answer: `ok`, `request N`, a line for each queue, the lines of a request, or one
+/// for each entry.
+pub fn answer_text(alloc: Global, answer: &Answer) -> Result<String, AllocError>
+    ensures { IfOk result (λ t. string_bytes t ≡ text.answer_text answer.now) }
+{
+    match answer {
+        Answer::Done => String::from_str(alloc, "ok\n"),
+        Answer::Created(id) => created_text(alloc, *id),
+        Answer::Queues(queues) => queues_text(alloc, queues.as_slice()),
+        Answer::Shown(shown) => show_text(alloc, shown),
+        Answer::History(entries) => history_text(alloc, entries.as_slice()),
+    }
+}
+
+fn created_text(alloc: Global, id: u32) -> Result<String, AllocError>
+    ensures { IfOk result (λ t. string_bytes t ≡ text.created_text id) }
+{
+    format!(in alloc; "request {id}\n")
+}
+
+/// The text of a refusal: `refused N Name`, with the right that is lacking after `Denied`.
+pub fn refusal_text(alloc: Global, refusal: &Refusal) -> Result<String, AllocError>
+    ensures { IfOk result (λ t. string_bytes t ≡ text.refusal_text refusal.now) }
+{
+    match refusal {
+        Refusal::Denied(right) => denied_text(alloc, refusal, right.as_str()),
+        _ => plain_text(alloc, refusal),
+    }
+}
+
+fn denied_text(alloc: Global, refusal: &Refusal, right: &str) -> Result<String, AllocError>
+    ensures { IfOk result (λ t. string_bytes t
+        ≡ text.refused_text refusal.now (codes " " ++ right.now)) }
+{
+    let number = refusal.number();
+    let name = refusal.name();
+    format!(in alloc; "refused {number} {name} {right}\n")
+}
+
+fn plain_text(alloc: Global, refusal: &Refusal) -> Result<String, AllocError>
+    ensures { IfOk result (λ t. string_bytes t ≡ text.refused_text refusal.now []) }
+{
+    let number = refusal.number();
+    let name = refusal.name();
+    format!(in alloc; "refused {number} {name}\n")
+}

@@ -1,0 +1,21 @@
+-- What the text of a statement means over the tables of a desk.
+use Rattle.std.specs.Prelude.{◌≡◌, [], false, List, ℕ}
+use Rattle.sqlite.specs.Command.{Command}
+use Rattle.sqlite.specs.Command.TheVariants.{Select}
+use Rattle.sqlite.specs.Given.{IsPlain}
+use Rattle.sqlite.specs.Listing.{understood, reads_listing}
+use Rattle.sqlite.specs.Query.{Query}
+use Rattle.sqlite.proofs.Callers.{command_of}
+use Rattle.store_tables.specs.Tables.{desk_schema}
+
+-- it is this query, which reads alone
+pub record Selects (sql : List ℕ) (query : Query) (names : List (List ℕ)) : Type 0 where
+  pub is : command_of (understood desk_schema sql) ≡ Select (record { lets = []; body = query })
+      names
+  pub plain : IsPlain (understood desk_schema sql)
+  pub unlisted : reads_listing desk_schema sql ≡ false
+
+-- it is this change
+pub record Changes (sql : List ℕ) (command : Command) : Type 0 where
+  pub is : command_of (understood desk_schema sql) ≡ command
+  pub plain : IsPlain (understood desk_schema sql)

@@ -1,0 +1,105 @@
+-- From the meaning of a SELECT on one table to the rows that it picks.
+use Rattle.std.proofs.Common.{◌≡◌, ℕ, true, false, cond, List, [], ◌∷◌, ◌++◌, map, filter, take}
+use Rattle.std.proofs.Common.{refl, ap, subst, ◌∙◌, IsPermutation, Bool, None}
+use Rattle.std.specs.List.{list_all}
+use Rattle.std.specs.Prelude.{flat_map, unwrap_or, IsSorted}
+use Rattle.sqlite.specs.declared.types.Value.TheVariants.{Null}
+use Rattle.sqlite.specs.Order.{Row}
+use Rattle.sqlite.specs.Term.{Term, Env, holds}
+use Rattle.sqlite.specs.Tree.{Trees}
+use Rattle.sqlite.specs.Query.{IsAnswer, output, output_cmp, Output}
+use Rattle.sqlite.specs.Program.{overlay}
+use Rattle.sqlite.specs.State.{State, Shown}
+use Rattle.sqlite.proofs.Callers.{reads_as}
+use Rattle.sqlite_trees.proofs.ListLemmas.{map-map, pull_back}
+use Rattle.store_tables.specs.Queries.{reads, last_of}
+use Rattle.store_tables.specs.Picked.{passes, Picks, PicksLast}
+use Rattle.store_tables.specs.Tables.{desk_schema}
+use Rattle.store_tables.proofs.Meaning.{Selects}
+
+neither : {X : Type 0} (b : Bool) (x : X) → cond b x x ≡ x
+neither true x = refl
+neither false x = refl
+
+-- a query with no tables of its own reads those of the database
+pub bare : (db : Trees) (tree : ℕ) → overlay db [] tree ≡ db tree
+bare db tree = ap (λ o. unwrap_or o (db tree)) (neither _ None)
+
+slots : Row → Row → Env
+slots params r = params ∷ r ∷ []
+
+pub matched : (test : List Term) (params : Row) (rows : List Row)
+    → flat_map (λ r. cond (list_all (holds (params ∷ r ∷ [])) test) ((params ∷ r ∷ []) ∷ []) [])
+    rows ≡ map (λ r. params ∷ r ∷ []) (filter (passes test params) rows)
+matched test params [] = refl
+matched test params (r ∷ rows) =
+    elim (list_all (holds (params ∷ r ∷ [])) test)
+    as (λ b. cond b ((params ∷ r ∷ []) ∷ []) [] ++ flat_map
+    (λ r. cond (list_all (holds (params ∷ r ∷ [])) test) ((params ∷ r ∷ []) ∷ []) []) rows ≡ map
+    (λ r. params ∷ r ∷ []) (cond b (r ∷ filter (passes test params) rows)
+    (filter (passes test params) rows))) [
+      | true ↦ ap (λ l. (params ∷ r ∷ []) ∷ l) (matched test params rows)
+      | false ↦ matched test
+          params rows
+    ]
+
+pub picks : (tree : ℕ) (test project order : List Term) (params : Row) (db : Trees)
+    (rows : List Row) → IsAnswer (reads tree test project order) db params rows
+    → Picks tree test project order params (db tree) rows
+picks tree test project order params db rows a =
+    let q = reads tree test project order in
+    let from = filter (passes test params) (db tree) in
+    let staged : a.staged ≡ map (λ r. params ∷ r ∷ []) from =
+    a.grouped ∙ matched test params (db tree) in
+    let kept : a.kept ≡ map (λ r. output q (params ∷ r ∷ [])) from =
+    a.distinct ∙ ap (map (output q)) staged ∙ map-map (output q) (λ r. params ∷ r ∷ []) from in
+    let back = pull_back (λ r. output q (params ∷ r ∷ []))
+    (map (λ r. output q (params ∷ r ∷ [])) from) a.ordered
+    (subst (λ k. IsPermutation k a.ordered) kept a.same) from refl in
+    record {
+      picked = back.0;
+      same = back.1;
+      sorted = subst (IsSorted (output_cmp q)) back.2 a.sorted;
+      shown = a.shown ∙ ap (λ os. map (λ (o : Output). o.1) os) back.2
+          ∙ map-map (λ (o : Output). o.1) (λ r. output q (params ∷ r ∷ [])) back.0;
+    }
+
+-- the same of a text that means such a query
+pub picked_by : {names : List (List ℕ)} (sql : List ℕ) (params : Row) (old new : State)
+    (has : old.now.schema ≡ desk_schema) (tree : ℕ) (test project order : List Term)
+    → Selects sql (reads tree test project order) names → (rows : List Row)
+    → Shown sql params old new rows → Picks tree test project order params (old.now.trees tree) rows
+picked_by sql params old new has tree test project order is rows h =
+    let got = reads_as sql params old new desk_schema has _ is.is is.plain is.unlisted rows h in
+    subst (λ from. Picks tree test project order params from rows) (bare old.now.trees tree)
+    (picks tree test project order params (overlay old.now.trees []) rows (got.answer Null))
+
+pub picks_last : (tree : ℕ) (test : List Term) (at : Term) (params : Row) (db : Trees)
+    (rows : List Row) → IsAnswer (last_of tree test at) db params rows
+    → PicksLast tree test at params (db tree) rows
+picks_last tree test at params db rows a =
+    let q = last_of tree test at in
+    let from = filter (passes test params) (db tree) in
+    let staged : a.staged ≡ map (λ r. params ∷ r ∷ []) from =
+    a.grouped ∙ matched test params (db tree) in
+    let kept : a.kept ≡ map (λ r. output q (params ∷ r ∷ [])) from =
+    a.distinct ∙ ap (map (output q)) staged ∙ map-map (output q) (λ r. params ∷ r ∷ []) from in
+    let back = pull_back (λ r. output q (params ∷ r ∷ []))
+    (map (λ r. output q (params ∷ r ∷ [])) from) a.ordered
+    (subst (λ k. IsPermutation k a.ordered) kept a.same) from refl in
+    record {
+      picked = back.0;
+      same = back.1;
+      sorted = subst (IsSorted (output_cmp q)) back.2 a.sorted;
+      shown = a.shown ∙ ap (λ os. take 1 (map (λ (o : Output). o.1) os)) back.2
+          ∙ ap (take 1) (map-map (λ (o : Output). o.1) (λ r. output q (params ∷ r ∷ [])) back.0);
+    }
+
+pub last_by : {names : List (List ℕ)} (sql : List ℕ) (params : Row) (old new : State)
+    (has : old.now.schema ≡ desk_schema) (tree : ℕ) (test : List Term) (at : Term)
+    → Selects sql (last_of tree test at) names → (rows : List Row)
+    → Shown sql params old new rows → PicksLast tree test at params (old.now.trees tree) rows
+last_by sql params old new has tree test at is rows h =
+    let got = reads_as sql params old new desk_schema has _ is.is is.plain is.unlisted rows h in
+    subst (λ from. PicksLast tree test at params from rows) (bare old.now.trees tree)
+    (picks_last tree test at params (overlay old.now.trees []) rows (got.answer Null))

@@ -1,0 +1,238 @@
+-- What stands on tables: where a query showed rows, in a transaction, and at its end.
+use Rattle.std.proofs.Common.{◌≡◌, ℕ, List, inl, inr, Option, None, Some, Ok, Err, Result, IsTrue}
+use Rattle.std.proofs.Common.{Bool, true, false, ◌⊎◌, refl, sym, ap, subst, ◌∙◌, arith}
+use Rattle.sqlite.specs.Order.{Row}
+use Rattle.sqlite.specs.declared.error.Error.{Error}
+use Rattle.sqlite.specs.Effect.{Database}
+use Rattle.sqlite.specs.State.{State, HasCleanDisk, IsUnchanged, IsRolledBack, Shown, ShowsRows}
+use Rattle.sqlite.specs.State.{Executes, FailsToQuery, FailsToShow, IsNotRun, IsTooLate, Survives}
+use Rattle.sqlite.specs.State.{Shows, ExecutesInside}
+use Rattle.sqlite.specs.Steps.{FailsToCommit}
+use Rattle.sqlite.specs.Clock.{timed}
+use Rattle.sqlite_resolve.specs.declared.compiled.Compiled.{Compiled}
+use Rattle.sqlite_resolve.specs.declared.error.CompileError.{CompileError}
+use Rattle.sqlite_schema.specs.declared.command.Returning.{Returning}
+use Rattle.sqlite.specs.Tree.{Trees}
+use Rattle.sqlite.specs.Listing.{understood}
+use Rattle.sqlite.specs.Given.{IsPlain}
+use Rattle.sqlite.specs.Store.{Ghosts}
+use Rattle.sqlite.specs.Held.{Held, state}
+use Rattle.std.proofs.Common.{OnOk, OnErr, [], ◌∷◌, ◌++◌, ◌+◌, ◌<◌, length, take, get_or}
+use Rattle.std.proofs.lemmas.List.{take_more}
+use Rattle.std.specs.Prelude.{fold}
+use Rattle.store_tables.specs.Contents.{Contents}
+use Rattle.store_tables.specs.Making.{AreEmpty, WasBlank, IsBlank, Made}
+use Rattle.store_tables.specs.Stands.{HasTables}
+use Rattle.sqlite.specs.Schema.{Schema}
+use Rattle.store_tables.specs.Tables.{desk_schema, no_schema}
+use Rattle.store_tables.specs.Stands.{Tables, Stand, Within, Rests, KeepsBase, Ran}
+
+pub never_both : (r : Result Compiled CompileError) (c : Compiled) → IsPlain r → r ≡ Ok c
+    → c.returning ≡ None
+never_both r c plain is = (subst IsPlain is plain).0
+
+-- what was open before, by what a query showed
+shown_was_open : (old new : State) (sql : List ℕ) (c : Compiled) (full : Row) (rows : List Row)
+    (shown : Option Returning) → ShowsRows old new sql c full rows shown → IsTrue old.is_open
+shown_was_open old new sql c full rows None h = h.3.0.was_open
+shown_was_open old new sql c full rows (Some what) h = h.1.shown.was_open
+
+pub failed_was_open : (old new : State) (sql : List ℕ) (c : Compiled) (full : Row) (e : Error)
+    (shown : Option Returning) → IsTrue new.is_open → FailsToShow old new sql c full e shown
+    → IsTrue old.is_open
+failed_was_open old new sql c full e None o h = h.3.0.was_open
+failed_was_open old new sql c full e (Some what) o (inl h) = h.1.0.was_open
+failed_was_open old new sql c full e (Some what) o (inr h) = h.3.was_open o
+
+pub was_clean : (old new : State) (P : Trees → Type 0) → Survives old new P → HasCleanDisk new
+    → HasCleanDisk old
+was_clean old new P s c = omega (arith, s.clean)
+
+-- a query that showed rows ran on the tables
+pub shown_tables : (d : Contents) (sql : List ℕ) (params : Row) (old new : State) (rows : List Row)
+    → (HasCleanDisk new → HasCleanDisk old) → Stand d old → HasCleanDisk new
+    → Shown sql params old new rows → Tables d old.now
+unfolding Shown
+shown_tables d sql params old new rows clean stand c h =
+    (stand (clean c) (shown_was_open old new sql h.0 (timed params h.0.formats h.1.now) rows
+    h.0.returning h.2)).0
+
+-- ---- in a transaction
+
+module _ {S : Type 0} (g : Ghosts S) (sql : List ℕ) (params : Row) (old new : Held S) where
+  pub inside_keeps : (b : Bool) (r : Result ℕ Error) → b ≡ old.in_transaction
+      → (old.in_transaction ≡ false → new ≡ old)
+      → (HasCleanDisk (state g new) → HasCleanDisk (state g old))
+      → (HasCleanDisk (state g new) → IsTrue old.in_transaction
+      → ExecutesInside 0 sql params (state g old) (state g new) r)
+      → KeepsBase (state g old) (state g new)
+  inside_keeps false r is same clean inside = subst
+      (λ (h : Held S). KeepsBase (state g old) (state g h)) (sym (same (sym is)))
+      (λ c o. (c, o, refl))
+  inside_keeps true (Ok count) is same clean inside = λ c o. let it = inside c (sym is) in
+      (clean c, it.1.was_open, it.1.committed_is)
+  inside_keeps true (Err e) is same clean inside = λ c o. elim (inside c (sym is)) [
+    | inl it ↦ elim it.1 [
+      | inl stays ↦ (clean c, stays.0.was_open, stays.0.committed_is)
+      | inr
+          undone ↦ (clean c, undone.was_open o, (undone.undone o).1)
+    ]
+    | inr it ↦ (clean c, it.2.0.was_open, it.2.0.committed_is)
+  ]
+
+pub kept_rests : (d : Contents) (old new : State) → KeepsBase old new → Rests d old → Rests d new
+kept_rests d old new keeps rests c o = let it = keeps c o in
+    subst (Tables d) (sym it.2) (rests it.0 it.1)
+
+pub committed_stands : (now was : Contents) (old new : State)
+    → (HasCleanDisk new → HasCleanDisk old) → (HasCleanDisk new
+    → Shows old new old.now old.now false) → Within now was old → Stand now new
+committed_stands now was old new clean shows within c o =
+    let it = shows c in let before = within (clean c) it.was_open in
+    (subst (Tables now) (sym it.now_is) before.0, subst (Tables now) (sym it.committed_is) before.0)
+
+pub uncommitted_stands : (now was : Contents) (old new : State) (e : Error)
+    → (HasCleanDisk new → HasCleanDisk old) → (HasCleanDisk new → FailsToCommit old new e)
+    → Within now was old → Stand was new
+uncommitted_stands now was old new e clean fails within c o = elim (fails c) [
+  | inl failed ↦
+      let undone = failed.3 in let before = within (clean c) (undone.was_open o) in (
+        subst (Tables was) (sym (undone.undone o).0) before.1,
+        subst (Tables was)
+            (sym (undone.undone o).1) before.1,
+      )
+  | inr late ↦ absurd (let before = within (clean c) late.2.0.was_open in let e : true ≡ false =
+      sym before.2 ∙ late.1 in cc)
+]
+
+pub begins : {S : Type 0} (g : Ghosts S) (old tx : Held S) (d : Contents)
+    → tx ≡ record old { in_transaction = true } → Stand d (state g old) → Within d d (state g tx)
+begins g old tx d is stand = subst (λ h. Within d d (state g h)) (sym is) (λ c o. let t =
+    stand c o in (t.0, t.1, refl))
+
+fold_last : {A X : Type 0} (f : A → X → A) (a : A) (xs : List X) (x : X)
+    → fold f a (xs ++ x ∷ []) ≡ f (fold f a xs) x
+fold_last f a [] x = refl
+fold_last f a (y ∷ ys) x = fold_last f (f a y) ys x
+
+-- a loop's step
+pub fold_more : {A X : Type 0} (f : A → X → A) (a : A) (xs : List X) (i : ℕ) (x : X)
+    → i < length xs → x ≡ get_or xs i x → fold f a (take (i + 1) xs) ≡ f (fold f a (take i xs)) x
+fold_more f a xs i x low is =
+    ap (fold f a) (take_more xs i x low ∙ ap (λ y. take i xs ++ y ∷ []) (sym is))
+    ∙ fold_last f a (take i xs) x
+
+pub shown_open : (sql : List ℕ) (params : Row) (old new : State) (rows : List Row)
+    → Shown sql params old new rows → IsTrue old.is_open
+unfolding Shown
+shown_open sql params old new rows h = shown_was_open old new sql h.0
+    (timed params h.0.formats h.1.now) rows h.0.returning h.2
+
+pub shown_same : (sql : List ℕ) (params : Row) (old new : State) (rows : List Row)
+    → IsPlain (understood desk_schema sql) → old.now.schema ≡ desk_schema
+    → Shown sql params old new rows → IsUnchanged old new
+unfolding Shown
+shown_same sql params old new rows plain has h =
+    let none = never_both _ h.0 plain (subst (λ s. understood s sql ≡ Ok h.0) has h.1.is) in
+    (subst (ShowsRows old new sql h.0 (timed params h.0.formats h.1.now) rows) none h.2).3
+
+pub same_within : (now was : Contents) (old new : State) → IsUnchanged old new → Tables now old.now
+    × Tables was old.committed × (old.in_transaction ≡ true) → Tables now new.now
+    × Tables was new.committed × (new.in_transaction ≡ true)
+same_within now was old new same b = (
+  subst (Tables now) (sym same.0.now_is) b.0,
+  subst (Tables was)
+      (sym same.0.committed_is) b.1,
+  same.0.mode ∙ b.2,
+)
+
+pub same_made : (schema : Schema) (old new : State) → IsUnchanged old new
+    → (old.now.schema ≡ schema) × AreEmpty schema old.now.trees × (old.in_transaction ≡ true)
+    → (new.now.schema ≡ schema) × AreEmpty schema new.now.trees × (new.in_transaction ≡ true)
+same_made schema old new same b = (
+  ap (λ (d : Database). d.schema) same.0.now_is
+      ∙ b.0,
+  subst (λ (d : Database). AreEmpty schema d.trees) (sym same.0.now_is) b.1,
+  same.0.mode
+      ∙ b.2,
+)
+
+same_keeps : (old new : State) → (HasCleanDisk new → HasCleanDisk old) → IsUnchanged old new
+    → KeepsBase old new
+same_keeps old new clean same c o = (clean c, same.0.was_open, same.0.committed_is)
+
+undone_keeps : (old new : State) → (HasCleanDisk new → HasCleanDisk old) → IsRolledBack old new
+    → KeepsBase old new
+undone_keeps old new clean it c o = (clean c, it.was_open o, (it.undone o).1)
+
+not_run_keeps : (sql : List ℕ) (params : Row) (old new : State) (e : Error)
+    → (HasCleanDisk new → HasCleanDisk old) → IsNotRun old new sql params e → KeepsBase old new
+unfolding IsNotRun
+not_run_keeps sql params old new e clean (inl h) = same_keeps old new clean h.1
+not_run_keeps sql params old new e clean (inr h) = undone_keeps old new clean h.3
+
+-- a query in a transaction that failed leaves the last commit, where the schema is known
+pub failed_keeps : (sql : List ℕ) (params : Row) (old new : State) (e : Error)
+    → IsPlain (understood desk_schema sql) → (HasCleanDisk new → HasCleanDisk old)
+    → (HasCleanDisk old → IsTrue old.is_open → old.now.schema ≡ desk_schema)
+    → (HasCleanDisk new → FailsToQuery sql params old new e ⊎ IsTooLate sql params old new e)
+    → KeepsBase old new
+unfolding FailsToQuery
+failed_keeps sql params old new e plain clean has fails c o = elim (fails c) [
+  | inl failed ↦ elim failed [
+    | inl not_run ↦ not_run_keeps sql params old new e clean not_run c o
+    | inr h ↦
+        let full = timed params h.0.formats h.1.now in
+        let schema = has (clean c) (failed_was_open old new sql h.0 full e h.0.returning o h.2) in
+        let none = never_both _ h.0 plain (subst (λ s. understood s sql ≡ Ok h.0) schema h.1.is) in
+        same_keeps old new clean (subst (FailsToShow old new sql h.0 full e) none h.2).3 c o
+  ]
+  | inr late ↦ same_keeps old new clean late.5 c o
+]
+
+pub shown_keeps : (sql : List ℕ) (params : Row) (old new : State) (rows : List Row)
+    → IsPlain (understood desk_schema sql) → (HasCleanDisk new → HasCleanDisk old)
+    → (HasCleanDisk old → IsTrue old.is_open → old.now.schema ≡ desk_schema)
+    → (HasCleanDisk new → Shown sql params old new rows) → KeepsBase old new
+shown_keeps sql params old new rows plain clean has shown c o =
+    let h = shown c in same_keeps old new clean (shown_same sql params old new rows plain
+    (has (clean c) (shown_open sql params old new rows h)) h) c o
+
+-- a transaction that is dropped leaves what stood before it
+pub dropped_stands : (d : Contents) (a b end : State) → Within d d a → KeepsBase a b
+    → (HasCleanDisk end → HasCleanDisk b) → (HasCleanDisk end → IsRolledBack b end) → Stand d end
+dropped_stands d a b end within keeps clean undone c o =
+    let back = undone c in
+    let base = keeps (clean c) (back.was_open o) in
+    let was : Tables d b.committed = subst (Tables d) (sym base.2) (within base.0 base.1).1 in
+    (subst (Tables d) (sym (back.undone o).0) was, subst (Tables d) (sym (back.undone o).1) was)
+
+pub desk_is_there : (now was : Contents) (s : State) → Within now was s → HasTables s
+desk_is_there now was s within c o = (within c o).0.schema
+
+pub begins_blank : {S : Type 0} (g : Ghosts S) (old tx : Held S)
+    → tx ≡ record old { in_transaction = true } → IsBlank (state g old) → WasBlank (state g tx)
+begins_blank g old tx is blank = subst (λ h. WasBlank (state g h)) (sym is) (λ c o. (blank c o).1)
+
+pub either_way : {T E P : Type 0} (r : Result T E) → OnOk r P → OnErr r P → P
+either_way (Ok x) p q = p
+either_way (Err e) p q = q
+
+pub begins_made : {S : Type 0} (g : Ghosts S) (old tx : Held S)
+    → tx ≡ record old { in_transaction = true } → IsBlank (state g old)
+    → Made no_schema (state g tx)
+begins_made g old tx is blank = subst (λ h. Made no_schema (state g h)) (sym is)
+    (λ c o. ((blank c o).0, tt, refl))
+
+pub made_is_there : (s : State) → Made desk_schema s → HasTables s
+made_is_there s made c o = (made c o).0
+
+-- a statement that makes one desk of another, in a transaction over a third
+pub steps : (sql : List ℕ) (params : Row) (old new : State) (count : ℕ) (now next was : Contents)
+    → (HasCleanDisk new → Ran sql params old new count) → (HasCleanDisk new → HasCleanDisk old)
+    → (Tables now old.now → Executes sql params old new (Ok count) → Tables next new.now)
+    → Within now was old → Within next was new
+steps sql params old new count now next was ran clean makes stand c o =
+    let it = ran c in
+    let before = stand (clean c) it.shown.was_open in
+    (makes before.0 it.runs, subst (Tables was) (sym it.shown.committed_is) before.1, it.shown.mode)

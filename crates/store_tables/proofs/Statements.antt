@@ -1,0 +1,157 @@
+-- What the texts of the statements mean, as the check computes it.
+use Rattle.std.proofs.Common.{[], ◌∷◌, codes, refl}
+use Rattle.sqlite_tied.specs.Compute.{everything}
+use Rattle.sqlite.specs.Term.{col}
+use Rattle.sqlite.specs.Source.TheVariants.{Values}
+use Rattle.sqlite.specs.Command.TheVariants.{Insert, Update, Delete}
+use Rattle.store_tables.specs.Queries.{add_version_text, add_version_terms}
+use Rattle.store_tables.specs.Queries.{add_entry_terms, add_entry_text, add_link_text}
+use Rattle.store_tables.specs.Queries.{add_queue_terms, add_queue_text, add_request_terms}
+use Rattle.store_tables.specs.Queries.{add_request_text, add_three_terms, add_watcher_text}
+use Rattle.store_tables.specs.Queries.{entries_text, set_request_terms, set_request_text}
+use Rattle.store_tables.specs.Queries.{drop_link_text, drop_watcher_text, entries_of_text}
+use Rattle.store_tables.specs.Queries.{entry_order}
+use Rattle.store_tables.specs.Queries.{entry_shown_terms, id_order, last_id_text, last_number_text}
+use Rattle.store_tables.specs.Queries.{last_of, links_from_test, links_from_text, links_text}
+use Rattle.store_tables.specs.Queries.{link_like_text}
+use Rattle.store_tables.specs.Queries.{all_from_text, all_to_text, number_order, numbered_test}
+use Rattle.store_tables.specs.Queries.{queue_named_query, queue_named_text}
+use Rattle.store_tables.specs.Queries.{queues_query, queues_text}
+use Rattle.store_tables.specs.Queries.{reads, request_shown_terms, request_test}
+use Rattle.store_tables.specs.Queries.{request_numbered_text}
+use Rattle.store_tables.specs.Queries.{requests_text, role_order, source_test, target_order}
+use Rattle.store_tables.specs.Queries.{target_test}
+use Rattle.store_tables.specs.Queries.{three_order, three_test, three_shown}
+use Rattle.store_tables.specs.Queries.{filed_test, requests_of_text}
+use Rattle.store_tables.specs.Queries.{version_query, version_text, watchers_of_text, watchers_text}
+use Rattle.sqlite.specs.Listing.{understood}
+use Rattle.store_tables.proofs.Meaning.{Changes, Selects}
+
+pub request_numbered_is : Selects request_numbered_text
+    (reads 3 numbered_test request_shown_terms [])
+    (codes "id" ∷ codes "queue" ∷ codes "subject" ∷ codes "status" ∷ codes "owner" ∷ codes "level"
+    ∷ codes "created" ∷ codes "opened" ∷ codes "turn" ∷ codes "since" ∷ [])
+unfolding understood everything
+request_numbered_is = record { is = refl; plain = (refl, refl); unlisted = refl }
+
+pub requests_is : Selects requests_text (reads 3 [] request_shown_terms id_order)
+    (codes "id" ∷ codes "queue" ∷ codes "subject" ∷ codes "status" ∷ codes "owner" ∷ codes "level"
+    ∷ codes "created" ∷ codes "opened" ∷ codes "turn" ∷ codes "since" ∷ [])
+unfolding understood everything
+requests_is = record { is = refl; plain = (refl, refl); unlisted = refl }
+
+pub watchers_of_is : Selects watchers_of_text (reads 4 request_test three_shown role_order)
+    (codes "request" ∷ codes "role" ∷ codes "person" ∷ [])
+unfolding understood everything
+watchers_of_is = record { is = refl; plain = (refl, refl); unlisted = refl }
+
+pub watchers_is : Selects watchers_text (reads 4 [] three_shown three_order)
+    (codes "request" ∷ codes "role" ∷ codes "person" ∷ [])
+unfolding understood everything
+watchers_is = record { is = refl; plain = (refl, refl); unlisted = refl }
+
+pub links_from_is : Selects links_from_text (reads 6 links_from_test three_shown target_order)
+    (codes "source" ∷ codes "kind" ∷ codes "target" ∷ [])
+unfolding understood everything
+links_from_is = record { is = refl; plain = (refl, refl); unlisted = refl }
+
+pub all_from_is : Selects all_from_text (reads 6 source_test three_shown three_order)
+    (codes "source" ∷ codes "kind" ∷ codes "target" ∷ [])
+unfolding understood everything
+all_from_is = record { is = refl; plain = (refl, refl); unlisted = refl }
+
+pub all_to_is : Selects all_to_text (reads 6 target_test three_shown three_order)
+    (codes "source" ∷ codes "kind" ∷ codes "target" ∷ [])
+unfolding understood everything
+all_to_is = record { is = refl; plain = (refl, refl); unlisted = refl }
+
+pub links_is : Selects links_text (reads 6 [] three_shown three_order)
+    (codes "source" ∷ codes "kind" ∷ codes "target" ∷ [])
+unfolding understood everything
+links_is = record { is = refl; plain = (refl, refl); unlisted = refl }
+
+pub link_like_is : Selects link_like_text (reads 6 three_test three_shown [])
+    (codes "source" ∷ codes "kind" ∷ codes "target" ∷ [])
+unfolding understood everything
+link_like_is = record { is = refl; plain = (refl, refl); unlisted = refl }
+
+pub entries_of_is : Selects entries_of_text (reads 8 request_test entry_shown_terms number_order)
+    (codes "request" ∷ codes "number" ∷ codes "moment" ∷ codes "actor" ∷ codes "kind" ∷ codes "head"
+    ∷ codes "body" ∷ [])
+unfolding understood everything
+entries_of_is = record { is = refl; plain = (refl, refl); unlisted = refl }
+
+pub entries_is : Selects entries_text (reads 8 [] entry_shown_terms entry_order)
+    (codes "request" ∷ codes "number" ∷ codes "moment" ∷ codes "actor" ∷ codes "kind" ∷ codes "head"
+    ∷ codes "body" ∷ [])
+unfolding understood everything
+entries_is = record { is = refl; plain = (refl, refl); unlisted = refl }
+
+pub last_id_is : Selects last_id_text (last_of 3 [] (col 1 0))
+    (codes "id" ∷ [])
+unfolding understood everything
+last_id_is = record { is = refl; plain = (refl, refl); unlisted = refl }
+
+pub last_number_is : Selects last_number_text (last_of 8 request_test (col 1 2))
+    (codes "number" ∷ [])
+unfolding understood everything
+last_number_is = record { is = refl; plain = (refl, refl); unlisted = refl }
+
+pub queue_named_is : Selects queue_named_text queue_named_query
+    (codes "name" ∷ codes "lifecycle" ∷ codes "level" ∷ [])
+unfolding understood everything
+queue_named_is = record { is = refl; plain = (refl, refl); unlisted = refl }
+
+pub queues_is : Selects queues_text queues_query
+    (codes "name" ∷ codes "lifecycle" ∷ codes "level" ∷ [])
+unfolding understood everything
+queues_is = record { is = refl; plain = (refl, refl); unlisted = refl }
+
+pub add_queue_is : Changes add_queue_text (Insert 1 (Values add_queue_terms 4))
+unfolding understood everything
+add_queue_is = record { is = refl; plain = (refl, refl) }
+
+pub add_request_is : Changes add_request_text (Insert 2 (Values add_request_terms 12))
+unfolding understood everything
+add_request_is = record { is = refl; plain = (refl, refl) }
+
+pub add_watcher_is : Changes add_watcher_text (Insert 3 (Values add_three_terms 4))
+unfolding understood everything
+add_watcher_is = record { is = refl; plain = (refl, refl) }
+
+pub add_link_is : Changes add_link_text (Insert 4 (Values add_three_terms 4))
+unfolding understood everything
+add_link_is = record { is = refl; plain = (refl, refl) }
+
+pub add_entry_is : Changes add_entry_text (Insert 5 (Values add_entry_terms 8))
+unfolding understood everything
+add_entry_is = record { is = refl; plain = (refl, refl) }
+
+pub drop_watcher_is : Changes drop_watcher_text (Delete 3
+    (record { lets = []; body = reads 4 three_test (col 1 0 ∷ []) [] }))
+unfolding understood everything
+drop_watcher_is = record { is = refl; plain = (refl, refl) }
+
+pub drop_link_is : Changes drop_link_text (Delete 4
+    (record { lets = []; body = reads 6 three_test (col 1 0 ∷ []) [] }))
+unfolding understood everything
+drop_link_is = record { is = refl; plain = (refl, refl) }
+
+pub set_request_is : Changes set_request_text (Update 2
+    (record { lets = []; body = reads 3 numbered_test set_request_terms [] }))
+unfolding understood everything
+set_request_is = record { is = refl; plain = (refl, refl) }
+
+pub add_version_is : Changes add_version_text (Insert 0 (Values add_version_terms 3))
+unfolding understood everything
+add_version_is = record { is = refl; plain = (refl, refl) }
+
+pub version_is : Selects version_text version_query (codes "version" ∷ [])
+unfolding understood everything
+version_is = record { is = refl; plain = (refl, refl); unlisted = refl }
+
+pub requests_of_is : Selects requests_of_text (reads 3 filed_test request_shown_terms id_order)
+    (codes "id" ∷ codes "queue" ∷ codes "subject" ∷ codes "status" ∷ codes "owner" ∷ codes "level"
+    ∷ codes "created" ∷ codes "opened" ∷ codes "turn" ∷ codes "since" ∷ [])
+unfolding understood everything
+requests_of_is = record { is = refl; plain = (refl, refl); unlisted = refl }

@@ -1,0 +1,204 @@
+-- What the tests and orders of the statements are on values.
+use Rattle.std.proofs.Common.{◌≡◌, ℕ, ℤ, pos, Bool, true, false, List, [], ◌∷◌, Some, refl, ap, ap₂}
+use Rattle.std.proofs.Common.{◌∙◌, arith}
+use Rattle.std.specs.Prelude.{◌&&◌, ◌==◌}
+use Rattle.std.specs.Ordering.{is_eq, nat_cmp, int_cmp, ordering_then}
+use Rattle.std.specs.Cmp.Lexicographic.{slice_cmp}
+use Rattle.std.proofs.lemmas.Bool.Decides.{nat_tests}
+use Rattle.sqlite.specs.declared.types.Value.TheVariants.{Int, Text as Words}
+use Rattle.sqlite.specs.Collation.TheVariants.{Binary}
+use Rattle.sqlite.specs.Ops.{binary, is_true}
+use Rattle.sqlite_sql.specs.Ops.{from_truth}
+use Rattle.sqlite_sql.specs.declared.ops.BinaryOp.TheVariants.{Compare}
+use Rattle.sqlite_sql.specs.declared.ops.CompareOp.TheVariants.{Eq}
+use Rattle.sqlite_value.specs.Order.{value_cmp}
+use Rattle.sqlite_value.proofs.OrderLemmas.{value_cmp-Text, value_cmp-Int, then-Equal}
+use Rattle.sqlite.specs.Order.{Row}
+use Rattle.sqlite.specs.Term.{Term}
+use Rattle.desk_model.specs.declared.rows.QueueRow.{QueueRow}
+use Rattle.sqlite.specs.Query.{output, output_cmp}
+use Rattle.desk_model.specs.declared.rows.RequestRow.{RequestRow}
+use Rattle.desk_model.specs.declared.rows.Watcher.{Watcher}
+use Rattle.desk_model.specs.declared.rows.Entry.{Entry}
+use Rattle.desk_model.specs.declared.rows.LinkRow.{LinkRow}
+use Rattle.desk_model.specs.declared.rows.LinkKind.{LinkKind}
+use Rattle.store_tables.specs.Kept.{filed, numbered_as}
+use Rattle.store_tables.specs.Picked.{passes}
+use Rattle.store_tables.specs.Selection.{is_numbered, watches, is_watcher, is_link, links_from}
+use Rattle.store_tables.specs.Selection.{ends_at, is_filed_in, is_named, starts_at, tells_of}
+use Rattle.store_tables.specs.Orders.{by_id, by_entry, by_number, by_link, by_watcher, by_role}
+use Rattle.store_tables.specs.Orders.{by_target, by_name}
+use Rattle.store_tables.specs.Spelling.{role_number, request_columns, watcher_columns, link_columns}
+use Rattle.store_tables.specs.Spelling.{entry_columns, count_value, queue_columns}
+use Rattle.desk_model.specs.Links.{kind_number}
+use Rattle.store_tables.specs.Queries.{reads, queue_shown, queue_order, named_test, numbered_test}
+use Rattle.store_tables.specs.Queries.{filed_test, request_test, three_test, links_from_test}
+use Rattle.store_tables.specs.Queries.{request_shown_terms, id_order, source_test, target_test}
+use Rattle.store_tables.specs.Queries.{three_shown, role_order, three_order, target_order}
+use Rattle.store_tables.specs.Queries.{entry_shown_terms, number_order, entry_order}
+
+true_again : (b : Bool) → is_true (from_truth (Some b)) ≡ b
+true_again true = refl
+true_again false = refl
+
+equal_texts : (a b : List ℕ) → is_true (binary (Compare Eq Binary) (Words a) (Words b)) ≡ is_eq
+    (slice_cmp nat_cmp a b)
+unfolding binary
+equal_texts a b = true_again _ ∙ ap is_eq (value_cmp-Text a b)
+
+pub cmp_numbers : (a b : ℕ) → int_cmp (pos a) (pos b) ≡ nat_cmp a b
+cmp_numbers a b = grind (arith, nat_tests)
+
+eq_numbers : (a b : ℕ) → is_eq (nat_cmp a b) ≡ (a == b)
+eq_numbers a b = grind (arith, nat_tests)
+
+equal_numbers : (a b : ℕ) → is_true (binary (Compare Eq Binary) (Int (pos a)) (Int (pos b)))
+    ≡ (a == b)
+unfolding binary
+equal_numbers a b = true_again _ ∙ ap is_eq (value_cmp-Int (pos a) (pos b) ∙ cmp_numbers a b)
+    ∙ eq_numbers a b
+
+and_true : (b : Bool) → (b && true) ≡ b
+and_true true = refl
+and_true false = refl
+
+pub order_numbers : (a b : ℕ) → value_cmp (Int (pos a)) (Int (pos b)) ≡ nat_cmp a b
+order_numbers a b = value_cmp-Int (pos a) (pos b) ∙ cmp_numbers a b
+
+-- ---- the tests
+
+pub numbered : (id : ℕ) (more : Row) (r : RequestRow)
+    → passes numbered_test (count_value id ∷ more)
+    (numbered_as (λ (x : RequestRow). x.id) request_columns r) ≡ is_numbered id r
+numbered id more r = and_true _ ∙ equal_numbers r.id id
+
+pub watched : (id : ℕ) (k : ℤ × Watcher) → passes request_test (count_value id ∷ [])
+    (filed watcher_columns k) ≡ watches id k.1
+watched id k = and_true _ ∙ equal_numbers k.1.id id
+
+pub told : (id : ℕ) (k : ℤ × Entry) → passes request_test (count_value id ∷ [])
+    (filed entry_columns k) ≡ tells_of id k.1
+told id k = and_true _ ∙ equal_numbers k.1.id id
+
+pub the_watcher : (w : Watcher) (k : ℤ × Watcher)
+    → passes three_test (watcher_columns w) (filed watcher_columns k) ≡ is_watcher w k.1
+the_watcher w k = ap₂ (λ a b. a && b) (equal_numbers k.1.id w.id)
+    (ap₂ (λ a b. a && b) (equal_numbers (role_number k.1.role) (role_number w.role))
+    (and_true _ ∙ equal_texts k.1.person w.person))
+
+pub the_link : (l : LinkRow) (k : ℤ × LinkRow) → passes three_test (link_columns l)
+    (filed link_columns k) ≡ is_link l k.1
+the_link l k = ap₂ (λ a b. a && b) (equal_numbers k.1.source l.source)
+    (ap₂ (λ a b. a && b) (equal_numbers (kind_number k.1.kind) (kind_number l.kind))
+    (and_true _ ∙ equal_numbers k.1.target l.target))
+
+pub from_source : (id : ℕ) (kind : LinkKind) (k : ℤ × LinkRow)
+    → passes links_from_test (count_value id ∷ count_value (kind_number kind) ∷ [])
+    (filed link_columns k) ≡ links_from id kind k.1
+from_source id kind k = ap₂ (λ a b. a && b) (equal_numbers k.1.source id)
+    (and_true _ ∙ equal_numbers (kind_number k.1.kind) (kind_number kind))
+
+pub starts : (id : ℕ) (k : ℤ × LinkRow) → passes source_test (count_value id ∷ [])
+    (filed link_columns k) ≡ starts_at id k.1
+starts id k = and_true _ ∙ equal_numbers k.1.source id
+
+pub ends : (id : ℕ) (k : ℤ × LinkRow) → passes target_test (count_value id ∷ [])
+    (filed link_columns k) ≡ ends_at id k.1
+ends id k = and_true _ ∙ equal_numbers k.1.target id
+
+pub named : (name : List ℕ) (more : Row) (k : ℤ × QueueRow)
+    → passes named_test (Words name ∷ more) (filed queue_columns k) ≡ is_named name k.1
+named name more k = and_true _ ∙ equal_texts k.1.name name
+
+pub filed_in : (name : List ℕ) (r : RequestRow) → passes filed_test (Words name ∷ [])
+    (numbered_as (λ (x : RequestRow). x.id) request_columns r) ≡ is_filed_in name r
+filed_in name r = and_true _ ∙ equal_texts r.queue name
+
+-- ---- the orders
+
+pub filed_order_is : (name : List ℕ) (a b : RequestRow)
+    → output_cmp (reads 3 filed_test request_shown_terms id_order)
+    (output (reads 3 filed_test request_shown_terms id_order)
+    ((Words name ∷ []) ∷ numbered_as (λ (x : RequestRow). x.id) request_columns a ∷ []))
+    (output (reads 3 filed_test request_shown_terms id_order)
+    ((Words name ∷ []) ∷ numbered_as (λ (x : RequestRow). x.id) request_columns b ∷ []))
+    ≡ by_id a b
+filed_order_is name a b = then-Equal (value_cmp (count_value a.id) (count_value b.id))
+    ∙ order_numbers a.id b.id
+
+pub id_order_is : (a b : RequestRow)
+    → output_cmp (reads 3 [] request_shown_terms id_order)
+    (output (reads 3 [] request_shown_terms id_order)
+    ([] ∷ numbered_as (λ (x : RequestRow). x.id) request_columns a ∷ []))
+    (output (reads 3 [] request_shown_terms id_order)
+    ([] ∷ numbered_as (λ (x : RequestRow). x.id) request_columns b ∷ [])) ≡ by_id a b
+id_order_is a b = then-Equal (value_cmp (count_value a.id) (count_value b.id))
+    ∙ order_numbers a.id b.id
+
+pub number_order_is : (id : ℕ) (a b : ℤ × Entry)
+    → output_cmp (reads 8 request_test entry_shown_terms number_order)
+    (output (reads 8 request_test entry_shown_terms number_order)
+    ((count_value id ∷ []) ∷ filed entry_columns a ∷ []))
+    (output (reads 8 request_test entry_shown_terms number_order)
+    ((count_value id ∷ []) ∷ filed entry_columns b ∷ [])) ≡ by_number a.1 b.1
+number_order_is id a b = then-Equal (value_cmp (count_value a.1.number) (count_value b.1.number))
+    ∙ order_numbers a.1.number b.1.number
+
+pub entry_order_is : (a b : ℤ × Entry)
+    → output_cmp (reads 8 [] entry_shown_terms entry_order)
+    (output (reads 8 [] entry_shown_terms entry_order) ([] ∷ filed entry_columns a ∷ []))
+    (output (reads 8 [] entry_shown_terms entry_order) ([] ∷ filed entry_columns b ∷ [])) ≡ by_entry
+    a.1 b.1
+entry_order_is a b = ap₂ ordering_then (order_numbers a.1.id b.1.id)
+    (then-Equal (value_cmp (count_value a.1.number) (count_value b.1.number))
+    ∙ order_numbers a.1.number b.1.number)
+
+pub link_order_is : (test : List Term) (params : Row) (a b : ℤ × LinkRow)
+    → output_cmp (reads 6 test three_shown three_order)
+    (output (reads 6 test three_shown three_order) (params ∷ filed link_columns a ∷ []))
+    (output (reads 6 test three_shown three_order) (params ∷ filed link_columns b ∷ []))
+    ≡ by_link a.1 b.1
+link_order_is test params a b =
+    ap₂ ordering_then (order_numbers a.1.source b.1.source)
+    (ap₂ ordering_then (order_numbers (kind_number a.1.kind) (kind_number b.1.kind))
+    (then-Equal (value_cmp (count_value a.1.target) (count_value b.1.target))
+    ∙ order_numbers a.1.target b.1.target))
+
+pub watcher_order_is : (a b : ℤ × Watcher)
+    → output_cmp (reads 4 [] three_shown three_order)
+    (output (reads 4 [] three_shown three_order) ([] ∷ filed watcher_columns a ∷ []))
+    (output (reads 4 [] three_shown three_order) ([] ∷ filed watcher_columns b ∷ []))
+    ≡ by_watcher a.1 b.1
+watcher_order_is a b =
+    ap₂ ordering_then (order_numbers a.1.id b.1.id)
+    (ap₂ ordering_then (order_numbers (role_number a.1.role) (role_number b.1.role))
+    (then-Equal (value_cmp (Words a.1.person) (Words b.1.person))
+    ∙ value_cmp-Text a.1.person b.1.person))
+
+pub role_order_is : (id : ℕ) (a b : ℤ × Watcher)
+    → output_cmp (reads 4 request_test three_shown role_order)
+    (output (reads 4 request_test three_shown role_order)
+    ((count_value id ∷ []) ∷ filed watcher_columns a ∷ []))
+    (output (reads 4 request_test three_shown role_order)
+    ((count_value id ∷ []) ∷ filed watcher_columns b ∷ [])) ≡ by_role a.1 b.1
+role_order_is id a b =
+    ap₂ ordering_then (order_numbers (role_number a.1.role) (role_number b.1.role))
+    (then-Equal (value_cmp (Words a.1.person) (Words b.1.person))
+    ∙ value_cmp-Text a.1.person b.1.person)
+
+pub target_order_is : (params : Row) (a b : ℤ × LinkRow)
+    → output_cmp (reads 6 links_from_test three_shown target_order)
+    (output (reads 6 links_from_test three_shown target_order)
+    (params ∷ filed link_columns a ∷ []))
+    (output (reads 6 links_from_test three_shown target_order)
+    (params ∷ filed link_columns b ∷ [])) ≡ by_target a.1 b.1
+target_order_is params a b = then-Equal (value_cmp (count_value a.1.target)
+    (count_value b.1.target)) ∙ order_numbers a.1.target b.1.target
+
+pub name_order_is : (a b : ℤ × QueueRow)
+    → output_cmp (reads 1 [] queue_shown queue_order)
+    (output (reads 1 [] queue_shown queue_order) ([] ∷ filed queue_columns a ∷ []))
+    (output (reads 1 [] queue_shown queue_order) ([] ∷ filed queue_columns b ∷ [])) ≡ by_name a.1
+    b.1
+name_order_is a b = then-Equal (value_cmp (Words a.1.name) (Words b.1.name))
+    ∙ value_cmp-Text a.1.name b.1.name

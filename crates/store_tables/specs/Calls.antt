@@ -1,0 +1,91 @@
+-- What calls over the tables answer, and what they leave.
+use Rattle.std.specs.Prelude.{◌≡◌, ◌≢◌, ◌⊎◌, ℕ, [], IfErr, IfOk, IsTrue, List, OnOk, Result}
+use Rattle.sqlite.specs.Order.{Row}
+use Rattle.sqlite.specs.State.{State, HasCleanDisk}
+use Rattle.sqlite.specs.Term.{Term}
+use Rattle.sqlite_rules.specs.Lists.{Has}
+use Rattle.desk_model.specs.Desk.{Desk}
+use Rattle.desk_model.specs.IsDesk.{IsDesk}
+use Rattle.store_tables.specs.Contents.{Contents}
+use Rattle.store_tables.specs.Picked.{shows}
+use Rattle.store_tables.specs.Stands.{HasTables, Rests, Stand, StandsFor, Within}
+use Rattle.store_tables.specs.Tables.{desk_schema}
+use Rattle.store_tables.specs.declared.fault.StoreFault.{StoreFault}
+use Rattle.store_tables.specs.declared.fault.StoreFault.TheVariants.{Mismatch, Refused}
+use Rattle.store_tables.specs.declared.fault.StoreFault.TheVariants.{WrongVersion}
+
+-- what the tables hold before the call, they hold after it
+abbrev pub Leaves : State → State → Type 0
+Leaves old new = (c : Contents) → Stand c old → Stand c new
+
+-- the tables are there, in the transaction and in the last commit, whatever rows they have
+abbrev pub AreThere : State → Type 0
+AreThere s =
+    HasCleanDisk s → IsTrue s.is_open
+    → (s.now.schema ≡ desk_schema) × (s.committed.schema ≡ desk_schema)
+
+-- Whatever rows they have, the last commit stays, and the tables show what they showed or what it
+-- has.
+pub record Spares (old new : State) : Type 0 where
+  pub clean : HasCleanDisk new → HasCleanDisk old
+  pub left : AreThere old → HasCleanDisk new → IsTrue new.is_open
+      → IsTrue old.is_open × (new.committed ≡ old.committed)
+      × ((new.now ≡ old.now) ⊎ (new.now ≡ old.committed))
+
+-- a disk that is clean after the call was clean before it
+abbrev pub WasClean : State → State → Type 0
+WasClean old new = HasCleanDisk new → HasCleanDisk old
+
+-- what is answered is so of whatever the tables hold
+abbrev pub Answers : {X : Type 0} → (Contents → X → Type 0) → State → State → Result X StoreFault
+    → Type 0
+Answers P old new result = (c : Contents) → Stand c old → HasCleanDisk new → IfOk result (P c)
+
+-- what is answered is so of the desk that the tables stand for
+abbrev pub Tells : {X E : Type 0} → (Desk → X → Type 0) → State → State → Result X E → Type 0
+Tells P old new result =
+    (desk : Desk) → IsDesk desk → StandsFor desk old → HasCleanDisk new → IfOk result (P desk)
+
+-- each row shows these columns of a row of that tree
+abbrev pub ShowsRowsOf : {X : Type 0} → ℕ → List Term → (X → List Row) → State → State
+    → Result X StoreFault → Type 0
+ShowsRowsOf tree terms rows old new result =
+    HasTables old → HasCleanDisk new
+    → IfOk result (λ x. (row : Row) → Has (rows x) row → IsTrue old.is_open
+    × (r : Row) × Has (old.now.trees tree) r × (row ≡ shows terms [] r))
+
+-- these columns of a row of that tree are no value of the type
+abbrev pub HasBadRow : ℕ → List Term → (Row → Type 0) → State → Type 0
+HasBadRow tree terms IsValue s =
+    (r : Row) × Has (s.now.trees tree) r × ¬ IsValue (shows terms [] r)
+
+-- a mismatch comes only of a bad row
+abbrev pub MismatchesIn : {X : Type 0} → ℕ → List Term → (Row → Type 0) → State → State
+    → Result X StoreFault → Type 0
+MismatchesIn tree terms IsValue old new result =
+    IfErr result (λ e. e ≡ Mismatch → HasTables old → HasCleanDisk new
+    → HasBadRow tree terms IsValue old)
+
+-- no fault is of the version, and a mismatch comes only of a bad row in an open store
+abbrev pub FailsIn : {X : Type 0} → ℕ → List Term → (Row → Type 0) → State → State
+    → Result X StoreFault → Type 0
+FailsIn tree terms IsValue old new result =
+    IfErr result (λ e. (e ≢ WrongVersion) × (e ≡ Mismatch → HasTables old → HasCleanDisk new
+    → IsTrue old.is_open × HasBadRow tree terms IsValue old))
+
+-- where the tables hold values, the fault is that the store or memory refused it
+abbrev pub OnlyRefuses : {X : Type 0} → State → State → Result X StoreFault → Type 0
+OnlyRefuses old new result =
+    (c : Contents) → Stand c old → HasCleanDisk new → IfErr result (λ e. e ≡ Refused)
+
+-- ---- in a transaction
+
+-- whatever the tables hold, they hold what this makes of it
+abbrev pub Makes : {X : Type 0} → (Contents → Contents) → State → State → Result X StoreFault
+    → Type 0
+Makes change old new result =
+    (now was : Contents) → Within now was old → OnOk result (Within (change now) was new)
+
+-- the last commit stays
+abbrev pub RestsOn : State → State → Type 0
+RestsOn old new = (c : Contents) → Rests c old → Rests c new

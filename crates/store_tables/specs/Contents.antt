@@ -1,0 +1,79 @@
+-- What the tables of a desk hold: a version, and the rows of five lists, in no order that matters.
+use Rattle.std.specs.Prelude.{ℕ, List, [], ◌∷◌, filter, flat_map, map, not}
+use Rattle.std.specs.Option.{option_map_or}
+use Rattle.desk_model.specs.Desk.{Desk, request_at}
+use Rattle.desk_model.specs.Watchers.{watchers_of}
+use Rattle.desk_model.specs.declared.rows.Entry.{Entry}
+use Rattle.desk_model.specs.declared.rows.LinkRow.{LinkRow}
+use Rattle.desk_model.specs.declared.rows.QueueRow.{QueueRow}
+use Rattle.desk_model.specs.declared.rows.RequestRow.{RequestRow}
+use Rattle.desk_model.specs.declared.rows.Watcher.{Watcher}
+use Rattle.store_tables.specs.Selection.{is_link, is_numbered, is_watcher}
+
+pub record Contents : Type 0 where
+  pub version : ℕ
+  pub queues : List QueueRow
+  pub requests : List RequestRow
+  pub watchers : List Watcher
+  pub links : List LinkRow
+  pub entries : List Entry
+
+-- the rows of a desk's requests, the persons in their roles, and the entries of all histories
+abbrev pub request_rows : Desk → List RequestRow
+request_rows desk = map (λ r. r.row) desk.requests
+
+abbrev pub watchers : Desk → List Watcher
+watchers desk = flat_map watchers_of desk.requests
+
+abbrev pub entries : Desk → List Entry
+entries desk = flat_map (λ r. r.entries) desk.requests
+
+-- the history of the request with that number, empty where there is none
+abbrev pub history_at : Desk → ℕ → List Entry
+history_at desk id = option_map_or (λ r. r.entries) (request_at desk id) []
+
+-- what tables of the present version hold of a desk
+abbrev pub contents_of : Desk → Contents
+contents_of desk =
+    record {
+      version = 1;
+      queues = desk.queues;
+      requests = request_rows desk;
+      watchers = watchers desk;
+      links = desk.links;
+      entries = entries desk;
+    }
+
+abbrev pub no_contents : Contents
+no_contents =
+    record { version = 1; queues = []; requests = []; watchers = []; links = []; entries = [] }
+
+-- ---- what one statement makes of them
+
+abbrev pub set_version : Contents → ℕ → Contents
+set_version c n = record c { version = n }
+
+abbrev pub add_queue : Contents → QueueRow → Contents
+add_queue c q = record c { queues = q ∷ c.queues }
+
+abbrev pub add_request : Contents → RequestRow → Contents
+add_request c r = record c { requests = r ∷ c.requests }
+
+-- the row in the place of the one with its number
+abbrev pub set_request : Contents → RequestRow → Contents
+set_request c r = record c { requests = r ∷ filter (λ x. not (is_numbered r.id x)) c.requests }
+
+abbrev pub add_watcher : Contents → Watcher → Contents
+add_watcher c w = record c { watchers = w ∷ c.watchers }
+
+abbrev pub drop_watcher : Contents → Watcher → Contents
+drop_watcher c w = record c { watchers = filter (λ x. not (is_watcher w x)) c.watchers }
+
+abbrev pub add_link : Contents → LinkRow → Contents
+add_link c l = record c { links = l ∷ c.links }
+
+abbrev pub drop_link : Contents → LinkRow → Contents
+drop_link c l = record c { links = filter (λ x. not (is_link l x)) c.links }
+
+abbrev pub add_entry : Contents → Entry → Contents
+add_entry c e = record c { entries = e ∷ c.entries }

@@ -1,0 +1,98 @@
+-- How far the tables are made.
+use Rattle.std.specs.Prelude.{◌≡◌, ◌≢◌, ℕ, pos, IfErr, IfOk, List, [], ◌∷◌, IsTrue}
+use Rattle.std.specs.Prelude.{Err, OnErr, OnOk, Result, true}
+use Rattle.std.specs.List.{AllByRecursion}
+use Rattle.sqlite.specs.Order.{Row, column}
+use Rattle.sqlite.specs.Schema.{Schema}
+use Rattle.sqlite.specs.State.{State, HasCleanDisk}
+use Rattle.sqlite.specs.Tree.{Trees}
+use Rattle.sqlite.specs.declared.types.Value.TheVariants.{Int}
+use Rattle.sqlite_rules.specs.Lists.{Has}
+use Rattle.desk_model.specs.Desk.{empty_desk}
+use Rattle.store_tables.specs.Contents.{Contents, no_contents}
+use Rattle.store_tables.specs.Picked.{shows}
+use Rattle.store_tables.specs.Queries.{version_shown}
+use Rattle.store_tables.specs.Spelling.{count_value}
+use Rattle.store_tables.specs.Stands.{HasTables, Stand, StandsFor, Tables, Within}
+use Rattle.store_tables.specs.Tables.{no_schema}
+use Rattle.store_tables.specs.declared.fault.StoreFault.{StoreFault}
+use Rattle.store_tables.specs.declared.fault.StoreFault.TheVariants.{Refused, WrongVersion}
+
+abbrev pub AreEmpty : Schema → Trees → Type 0
+AreEmpty schema db = AllByRecursion (λ t. db t.tree ≡ []) schema.tables
+
+-- in a transaction, these tables are made so far and have no row
+abbrev pub Made : Schema → State → Type 0
+Made schema s =
+    HasCleanDisk s → IsTrue s.is_open
+    → (s.now.schema ≡ schema) × AreEmpty schema s.now.trees × (s.in_transaction ≡ true)
+
+-- no table at all
+abbrev pub IsBlank : State → Type 0
+IsBlank s =
+    HasCleanDisk s → IsTrue s.is_open
+    → (s.now.schema ≡ no_schema) × (s.committed.schema ≡ no_schema)
+
+-- in a transaction, the tables stand for the empty desk, whatever the last commit left
+abbrev pub Fresh : State → Type 0
+Fresh s =
+    HasCleanDisk s → IsTrue s.is_open → Tables no_contents s.now × (s.in_transaction ≡ true)
+
+abbrev pub WasBlank : State → Type 0
+WasBlank s = HasCleanDisk s → IsTrue s.is_open → s.committed.schema ≡ no_schema
+
+-- the one row shows that version
+abbrev pub ShowsVersion : ℕ → List Row → Type 0
+ShowsVersion n rows = rows ≡ (Int (pos n) ∷ []) ∷ []
+
+-- in a transaction, what is answered is so of whatever the tables hold
+abbrev pub Inside : {X : Type 0} → (Contents → X → Type 0) → State → State → Result X StoreFault
+    → Type 0
+Inside P old new result =
+    (now was : Contents) → Within now was old → HasCleanDisk new → IfOk result (P now)
+
+-- and the version is told to be wrong only where it isn't the present one
+abbrev pub WrongInside : {X : Type 0} → State → State → Result X StoreFault → Type 0
+WrongInside old new result =
+    (now was : Contents) → Within now was old → HasCleanDisk new
+    → IfErr result (λ e. e ≡ WrongVersion → now.version ≢ 1)
+
+-- tables that are there stay as they are
+abbrev pub Stays : State → State → Type 0
+Stays old new = HasTables old → HasTables new × (HasCleanDisk new → new.now ≡ old.now)
+
+-- the number is one that a row of meta shows
+abbrev pub IsOfMeta : State → ℕ → Type 0
+IsOfMeta s n =
+    (r : Row) × Has (s.now.trees 0) r × (column (shows version_shown [] r) 0 ≡ count_value n)
+
+-- a version is told to be wrong only where a row of meta shows another than the present one
+abbrev pub BlamesMeta : {X : Type 0} → State → State → Result X StoreFault → Type 0
+BlamesMeta old new result =
+    HasTables old → HasCleanDisk new
+    → IfErr result (λ e. e ≡ WrongVersion → (n : ℕ) × IsOfMeta old n × (n ≢ 1))
+
+-- ---- of a whole call
+
+-- from no table the tables come to stand for the empty desk; on a fault there is no table, and
+-- the store or memory refused it
+abbrev pub MakesDesk : {X : Type 0} → State → State → Result X StoreFault → Type 0
+MakesDesk old new result =
+    IsBlank old
+    → OnOk result (StandsFor empty_desk new) × OnErr result (IsBlank new)
+    × (HasCleanDisk new → IfErr result (λ e. e ≡ Refused))
+
+-- it goes well only over the present version, and is the wrong version only over another
+abbrev pub NeedsVersion : {X : Type 0} → State → State → Result X StoreFault → Type 0
+NeedsVersion old new result =
+    (c : Contents) → Stand c old → HasCleanDisk new
+    → IfOk result (λ done. c.version ≡ 1) × IfErr result (λ e. e ≡ WrongVersion → c.version ≢ 1)
+
+-- where there is no table it is refused, and there is none still
+abbrev pub RefusesBlank : {X : Type 0} → State → State → Result X StoreFault → Type 0
+RefusesBlank old new result =
+    IsBlank old → IsBlank new × (HasCleanDisk new → result ≡ Err Refused)
+
+-- both of these of the version
+abbrev pub TellsVersion : {X : Type 0} → State → State → Result X StoreFault → Type 0
+TellsVersion old new result = NeedsVersion old new result × BlamesMeta old new result

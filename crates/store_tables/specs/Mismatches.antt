@@ -1,0 +1,28 @@
+-- Of each table: no fault of a read is of the version, and a mismatch comes only of a row that is
+-- no value of its type. Of the version: a mismatch comes only where it is no number.
+use Rattle.std.specs.Prelude.{Result}
+use Rattle.sqlite.specs.State.{State}
+use Rattle.store_tables.specs.Calls.{FailsIn, MismatchesIn}
+use Rattle.store_tables.specs.Queries.{entry_shown_terms, queue_shown, request_shown_terms}
+use Rattle.store_tables.specs.Queries.{three_shown, version_shown}
+use Rattle.store_tables.specs.Reading.{IsEntryRow, IsLinkRow, IsNumberRow, IsQueueRow}
+use Rattle.store_tables.specs.Reading.{IsRequestRow, IsWatcherRow}
+use Rattle.store_tables.specs.declared.fault.StoreFault.{StoreFault}
+
+abbrev pub MismatchesInMeta : {X : Type 0} → State → State → Result X StoreFault → Type 0
+MismatchesInMeta old new result = MismatchesIn 0 version_shown IsNumberRow old new result
+
+abbrev pub MismatchesInQueues : {X : Type 0} → State → State → Result X StoreFault → Type 0
+MismatchesInQueues old new result = FailsIn 1 queue_shown IsQueueRow old new result
+
+abbrev pub MismatchesInRequests : {X : Type 0} → State → State → Result X StoreFault → Type 0
+MismatchesInRequests old new result = FailsIn 3 request_shown_terms IsRequestRow old new result
+
+abbrev pub MismatchesInWatchers : {X : Type 0} → State → State → Result X StoreFault → Type 0
+MismatchesInWatchers old new result = FailsIn 4 three_shown IsWatcherRow old new result
+
+abbrev pub MismatchesInLinks : {X : Type 0} → State → State → Result X StoreFault → Type 0
+MismatchesInLinks old new result = FailsIn 6 three_shown IsLinkRow old new result
+
+abbrev pub MismatchesInEntries : {X : Type 0} → State → State → Result X StoreFault → Type 0
+MismatchesInEntries old new result = FailsIn 8 entry_shown_terms IsEntryRow old new result

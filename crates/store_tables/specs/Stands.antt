@@ -1,0 +1,58 @@
+-- What it is that tables stand for a desk.
+use Rattle.std.specs.Prelude.{◌≡◌, ℕ, [], ◌∷◌, IsTrue, List, Ok, true}
+use Rattle.sqlite.specs.Order.{Row}
+use Rattle.sqlite.specs.Effect.{Database}
+use Rattle.sqlite.specs.State.{State, HasCleanDisk, Executes, Shows}
+use Rattle.desk_model.specs.Desk.{Desk}
+use Rattle.desk_model.specs.declared.rows.RequestRow.{RequestRow}
+use Rattle.store_tables.specs.Contents.{Contents, contents_of}
+use Rattle.store_tables.specs.Kept.{Keeps, Numbers}
+use Rattle.store_tables.specs.Spelling.{version_row, queue_columns, request_columns}
+use Rattle.store_tables.specs.Spelling.{watcher_columns, link_columns, entry_columns}
+use Rattle.store_tables.specs.Tables.{desk_schema}
+use Rattle.store_tables.specs.Values.{AreValues}
+
+-- meta has its one row, and the other five tables are, up to order, the five lists of values
+pub record Tables (c : Contents) (db : Database) : Type 0 where
+  pub schema : db.schema ≡ desk_schema
+  pub meta : db.trees 0 ≡ version_row c.version ∷ []
+  pub queues : Keeps queue_columns c.queues (db.trees 1)
+  pub requests : Numbers (λ (r : RequestRow). r.id) request_columns c.requests (db.trees 3)
+  pub watchers : Keeps watcher_columns c.watchers (db.trees 4)
+  pub links : Keeps link_columns c.links (db.trees 6)
+  pub entries : Keeps entry_columns c.entries (db.trees 8)
+  pub values : AreValues c
+
+-- where the store is open and its disk is clean, the tables hold this, and so do those of the last
+-- commit
+abbrev pub Stand : Contents → State → Type 0
+Stand c s = HasCleanDisk s → IsTrue s.is_open → Tables c s.now × Tables c s.committed
+
+-- the tables stand for the desk
+abbrev pub StandsFor : Desk → State → Type 0
+StandsFor desk = Stand (contents_of desk)
+
+-- in a transaction the tables hold the first, and those of the last commit the second
+abbrev pub Within : Contents → Contents → State → Type 0
+Within now was s =
+    HasCleanDisk s → IsTrue s.is_open
+    → Tables now s.now × Tables was s.committed × (s.in_transaction ≡ true)
+
+-- the last commit left this, so that a rollback goes back to it
+abbrev pub Rests : Contents → State → Type 0
+Rests c s = HasCleanDisk s → IsTrue s.is_open → Tables c s.committed
+
+-- the tables are there, with any rows
+abbrev pub HasTables : State → Type 0
+HasTables s = HasCleanDisk s → IsTrue s.is_open → s.now.schema ≡ desk_schema
+
+-- the last commit stays what it was, whatever it is
+abbrev pub KeepsBase : State → State → Type 0
+KeepsBase old new =
+    HasCleanDisk new → IsTrue new.is_open
+    → HasCleanDisk old × IsTrue old.is_open × (new.committed ≡ old.committed)
+
+-- the statement ran in a transaction, which goes on
+pub record Ran (sql : List ℕ) (params : Row) (old new : State) (count : ℕ) : Type 0 where
+  pub runs : Executes sql params old new (Ok count)
+  pub shown : Shows old new new.now old.committed true

@@ -1,0 +1,14 @@
+//! The tables of a desk: what their rows say, and a function for each statement that reads or
+//! changes them. `store_core` makes the tables and writes their version; no other crate names a
+//! table or a statement.
+#![tactic(auto)]
+
+mod columns;
+pub mod fault;
+mod query;
+pub mod reads;
+mod stored;
+pub mod transaction;
+pub mod writes;
+
+pub use fault::StoreFault;

@@ -1,0 +1,89 @@
+//! A query, and the values that its rows show.
+ghost use Rattle.std.specs.Prelude.{◌≡◌, ◌≢◌, false, option_to_list, IfOk, IfErr};
+ghost use Rattle.std.specs.List.{AllZip};
+ghost use Rattle.sqlite.specs.Given.{IsPlain};
+ghost use Rattle.sqlite.specs.Held.{state};
+ghost use Rattle.sqlite.specs.Listing.{understood};
+ghost use Rattle.sqlite.specs.State.{HasCleanDisk, Shown};
+ghost use Rattle.sqlite.specs.Values.{bound};
+ghost use Rattle.sqlite_rules.specs.Lists.{Has};
+ghost use Rattle.store_tables.specs.Calls.{Spares};
+ghost use Rattle.store_tables.specs.Reading.{IsNumberRow, ReadsNumber};
+ghost use Rattle.store_tables.specs.Tables.{desk_schema};
+ghost use Rattle.store_tables.specs.declared.fault.StoreFault.{StoreFault};
+
+use crate::columns::number_at;
+use crate::fault::StoreFault;
+use crate::stored::Stored;
+use sqlite::types::ValueRef;
+use sqlite::{Alter, Connection, Row};
+use std::alloc::Global;
+
+/// All rows of a query that is known to read alone. `Refused` where the store or memory refuses it.
+pub(crate) fn select<S: Alter>(
+    conn: &mut Connection<S>,
+    sql: &str,
+    params: &[ValueRef<'_>],
+) -> Result<Vec<Row>, StoreFault>
+    requires plain { IsPlain (understood desk_schema sql.now) }
+    requires idle { conn.old.in_transaction ≡ false }
+    ensures idle { conn.new.in_transaction ≡ false }
+    ensures shown { HasCleanDisk (state S.Store conn.new) → IfOk result (λ rows.
+        Shown sql.now (bound params.now) (state S.Store conn.old) (state S.Store conn.new)
+        rows.items) }
+    ensures kept { Spares (state S.Store conn.old) (state S.Store conn.new) }
+    ensures fault { IfErr result (λ e. e ≡ StoreFault.Refused) }
+{
+    match conn.query_all(sql, params) {
+        Ok(rows) => Ok(rows),
+        Err(_) => Err(StoreFault::Refused),
+    }
+}
+
+/// The values that the rows show. `Mismatch` where one shows none.
+pub(crate) fn read_all<T: Stored + Drop>(alloc: Global, rows: &[Row]) -> Result<Vec<T>, StoreFault>
+    ensures ok { IfOk result (λ xs. AllZip T.Stored.reads rows.now xs.items) }
+    ensures mismatch { IfErr result (λ e. e ≡ StoreFault.Mismatch →
+        (r : _) × Has rows.now r × ¬ T.Stored.is_value r) }
+    ensures fault { IfErr result (λ e. e ≢ StoreFault.WrongVersion) }
+{
+    let mut values = Vec::new(alloc);
+    for row in rows {
+        let value = T::read(row)?;
+        match values.push(value) {
+            Ok(()) => {}
+            Err(_) => return Err(StoreFault::Refused),
+        }
+    }
+    Ok(values)
+}
+
+/// The one value that the rows show, or none. `Mismatch` where the row shows none, `Refused` where
+/// there are more rows.
+pub(crate) fn read_one<T: Stored + Drop>(rows: &[Row]) -> Result<Option<T>, StoreFault>
+    ensures ok { IfOk result (λ x. AllZip T.Stored.reads rows.now (option_to_list x)) }
+    ensures mismatch { IfErr result (λ e. e ≡ StoreFault.Mismatch →
+        (r : _) × Has rows.now r × ¬ T.Stored.is_value r) }
+    ensures fault { IfErr result (λ e. e ≢ StoreFault.WrongVersion) }
+{
+    match rows {
+        [] => Ok(None),
+        [row] => Ok(Some(T::read(row)?)),
+        _ => Err(StoreFault::Refused),
+    }
+}
+
+/// The number that the one row shows, or 0 where there is none. `Mismatch` where the row shows no
+/// number, `Refused` where there are more rows.
+pub(crate) fn read_number(rows: &[Row]) -> Result<u32, StoreFault>
+    ensures ok { IfOk result (ReadsNumber rows.now) }
+    ensures mismatch { IfErr result (λ e. e ≡ StoreFault.Mismatch →
+        (r : _) × Has rows.now r × ¬ IsNumberRow r) }
+    ensures fault { IfErr result (λ e. e ≢ StoreFault.WrongVersion) }
+{
+    match rows {
+        [] => Ok(0),
+        [row] => number_at(row, 0),
+        _ => Err(StoreFault::Refused),
+    }
+}

@@ -1,0 +1,14 @@
+//! Reading: one query each, on a connection without an open transaction. `Refused` where the store
+//! or memory refuses it. The tables stay as they are.
+
+pub mod entries_by_key;
+pub mod links_by_key;
+pub mod lists_entries;
+pub mod lists_links;
+pub mod lists_requests;
+pub mod lists_watchers;
+pub mod queue_count;
+pub mod queues;
+pub mod requests_by_key;
+pub mod version;
+pub mod watchers_by_key;

@@ -1,0 +1,104 @@
+//! The links from a request, and the link that is like another.
+ghost use Rattle.std.specs.Prelude.{◌≡◌, ◌≢◌, IfErr, false, filter, option_to_list};
+ghost use Rattle.sqlite.specs.Held.{state};
+ghost use Rattle.store_tables.specs.declared.fault.StoreFault.{StoreFault};
+ghost use Rattle.store_tables.specs.Queries.{three_shown};
+ghost use Rattle.store_tables.specs.Calls.{Answers, OnlyRefuses, ShowsRowsOf, Spares};
+ghost use Rattle.store_tables.specs.Orders.{by_target};
+ghost use Rattle.store_tables.specs.Picked.{AreOrdered, Lists, Shows};
+ghost use Rattle.store_tables.specs.Selection as chosen;
+ghost use Rattle.store_tables.specs.Spelling.{link_columns};
+
+use crate::columns::{link_kind, number};
+use crate::fault::StoreFault;
+use crate::query::{read_all, read_one, select};
+use desk_model::{LinkKind, LinkRow};
+use sqlite::{Alter, Connection, Row};
+use std::alloc::Global;
+
+/// The rows of `links_from`.
+fn rows_links_from<S: Alter>(
+    conn: &mut Connection<S>,
+    id: u32,
+    kind: LinkKind,
+) -> Result<Vec<Row>, StoreFault>
+    requires { conn.old.in_transaction ≡ false }
+    ensures idle { conn.new.in_transaction ≡ false }
+    ensures shown { Answers (λ c rows.
+        Lists by_target link_columns (filter (chosen.links_from id kind) c.links) rows.items)
+        (state S.Store conn.old) (state S.Store conn.new) result }
+    ensures kept { Spares (state S.Store conn.old) (state S.Store conn.new) }
+    ensures of_table { ShowsRowsOf 6 three_shown (λ rows. rows.items)
+        (state S.Store conn.old) (state S.Store conn.new) result }
+    ensures fault { IfErr result (λ e. e ≡ StoreFault.Refused) }
+{
+    select(
+        conn,
+        "SELECT source, kind, target FROM link WHERE source = ?1 AND kind = ?2 ORDER BY target",
+        &[number(id), link_kind(kind)],
+    )
+}
+
+/// The links of a kind from a request, by target. `Mismatch` where a row is no link, `Refused`
+/// where the store or memory refuses it.
+pub fn links_from<S: Alter>(
+    alloc: Global,
+    conn: &mut Connection<S>,
+    id: u32,
+    kind: LinkKind,
+) -> Result<Vec<LinkRow>, StoreFault>
+    requires { conn.old.in_transaction ≡ false }
+    ensures idle { conn.new.in_transaction ≡ false }
+    ensures listed { Answers (λ c xs.
+        AreOrdered by_target (filter (chosen.links_from id kind) c.links) xs.items)
+        (state S.Store conn.old) (state S.Store conn.new) result }
+    ensures kept { Spares (state S.Store conn.old) (state S.Store conn.new) }
+    ensures refuses { OnlyRefuses
+        (state S.Store conn.old) (state S.Store conn.new) result }
+    ensures fault { IfErr result (λ e. e ≢ StoreFault.WrongVersion) }
+{
+    let rows = rows_links_from(conn, id, kind)?;
+    read_all(alloc, rows.as_slice())
+}
+
+/// The rows of `link_like`.
+fn rows_like<S: Alter>(conn: &mut Connection<S>, link: LinkRow) -> Result<Vec<Row>, StoreFault>
+    requires { conn.old.in_transaction ≡ false }
+    ensures idle { conn.new.in_transaction ≡ false }
+    ensures shown { Answers (λ c rows.
+        Shows link_columns (filter (chosen.is_link link) c.links) rows.items)
+        (state S.Store conn.old) (state S.Store conn.new) result }
+    ensures kept { Spares (state S.Store conn.old) (state S.Store conn.new) }
+    ensures of_table { ShowsRowsOf 6 three_shown (λ rows. rows.items)
+        (state S.Store conn.old) (state S.Store conn.new) result }
+    ensures fault { IfErr result (λ e. e ≡ StoreFault.Refused) }
+{
+    select(
+        conn,
+        "SELECT source, kind, target FROM link WHERE source = ?1 AND kind = ?2 AND target = ?3",
+        &[
+            number(link.source),
+            link_kind(link.kind),
+            number(link.target),
+        ],
+    )
+}
+
+/// The link with those ends and of that kind, or none. `Mismatch` where its row is no link,
+/// `Refused` where the store or memory refuses it, or there are two.
+pub fn link_like<S: Alter>(
+    conn: &mut Connection<S>,
+    link: LinkRow,
+) -> Result<Option<LinkRow>, StoreFault>
+    requires { conn.old.in_transaction ≡ false }
+    ensures idle { conn.new.in_transaction ≡ false }
+    ensures found { Answers (λ c l. option_to_list l ≡ filter (chosen.is_link link) c.links)
+        (state S.Store conn.old) (state S.Store conn.new) result }
+    ensures kept { Spares (state S.Store conn.old) (state S.Store conn.new) }
+    ensures refuses { OnlyRefuses
+        (state S.Store conn.old) (state S.Store conn.new) result }
+    ensures fault { IfErr result (λ e. e ≢ StoreFault.WrongVersion) }
+{
+    let rows = rows_like(conn, link)?;
+    read_one(rows.as_slice())
+}

@@ -1,0 +1,77 @@
+//! The version that the tables hold.
+ghost use Rattle.std.specs.Prelude.{◌≡◌, ◌≢◌, ℕ, [], false, IfErr, IfOk, IfSome, None, Ok};
+ghost use Rattle.std.specs.Prelude.{Some};
+ghost use Rattle.sqlite.specs.Order.{column};
+ghost use Rattle.sqlite_rules.specs.Lists.{Has};
+ghost use Rattle.store_tables.specs.Mismatches.{MismatchesInMeta};
+ghost use Rattle.store_tables.specs.Spelling.{count_value};
+ghost use Rattle.sqlite.specs.Held.{state};
+ghost use Rattle.store_tables.specs.Calls.{Answers, ShowsRowsOf, Spares};
+ghost use Rattle.store_tables.specs.Making.{RefusesBlank, ShowsVersion};
+ghost use Rattle.store_tables.specs.Queries.{version_shown};
+ghost use Rattle.store_tables.specs.Reading.{IsNumberRow};
+ghost use Rattle.store_tables.specs.declared.fault.StoreFault.{StoreFault};
+
+use crate::columns::number_at;
+use crate::fault::StoreFault;
+use sqlite::{Alter, Connection, Row};
+
+/// The version that the rows show, or none where there is no row. `Mismatch` where the row shows no
+/// number, `Refused` where there are more rows.
+pub fn version_in(rows: &[Row]) -> Result<Option<u32>, StoreFault>
+    ensures none { rows.now ≡ [] → result ≡ Ok None }
+    ensures one { (n : ℕ) → ShowsVersion n rows.now → IfOk result (λ v. v ≡ Some n) }
+    ensures shown { IfOk result (λ v. IfSome v (λ n.
+        (r : _) × Has rows.now r × (column r 0 ≡ count_value n))) }
+    ensures mismatch { IfErr result (λ e. e ≡ StoreFault.Mismatch →
+        (r : _) × Has rows.now r × ¬ IsNumberRow r) }
+    ensures fault { IfErr result (λ e. e ≢ StoreFault.WrongVersion) }
+{
+    match rows {
+        [] => Ok(None),
+        [row] => match number_at(row, 0) {
+            Ok(n) => Ok(Some(n)),
+            Err(StoreFault::Mismatch) => Err(StoreFault::Mismatch),
+            Err(_) => Err(StoreFault::Refused),
+        },
+        _ => Err(StoreFault::Refused),
+    }
+}
+
+/// The rows of `version`.
+fn rows_version<S: Alter>(conn: &mut Connection<S>) -> Result<Vec<Row>, StoreFault>
+    requires { conn.old.in_transaction ≡ false }
+    ensures idle { conn.new.in_transaction ≡ false }
+    ensures shown { Answers (λ c rows. ShowsVersion c.version rows.items)
+        (state S.Store conn.old) (state S.Store conn.new) result }
+    ensures kept { Spares (state S.Store conn.old) (state S.Store conn.new) }
+    ensures blank { RefusesBlank (state S.Store conn.old) (state S.Store conn.new) result }
+    ensures of_table { ShowsRowsOf 0 version_shown (λ rows. rows.items)
+        (state S.Store conn.old) (state S.Store conn.new) result }
+    ensures fault { IfErr result (λ e. e ≡ StoreFault.Refused) }
+{
+    match conn.query_all("SELECT version FROM meta", &[]) {
+        Ok(rows) => Ok(rows),
+        Err(_) => Err(StoreFault::Refused),
+    }
+}
+
+/// The version that the tables hold. `Refused` where `meta` is missing or has no row, `Mismatch`
+/// where its row shows no number.
+pub fn version<S: Alter>(conn: &mut Connection<S>) -> Result<u32, StoreFault>
+    requires { conn.old.in_transaction ≡ false }
+    ensures idle { conn.new.in_transaction ≡ false }
+    ensures told { Answers (λ c n. n ≡ c.version)
+        (state S.Store conn.old) (state S.Store conn.new) result }
+    ensures kept { Spares (state S.Store conn.old) (state S.Store conn.new) }
+    ensures blank { RefusesBlank (state S.Store conn.old) (state S.Store conn.new) result }
+    ensures mismatch { MismatchesInMeta
+        (state S.Store conn.old) (state S.Store conn.new) result }
+    ensures fault { IfErr result (λ e. e ≢ StoreFault.WrongVersion) }
+{
+    let rows = rows_version(conn)?;
+    match version_in(rows.as_slice())? {
+        Some(n) => Ok(n),
+        None => Err(StoreFault::Refused),
+    }
+}

@@ -1,0 +1,73 @@
+//! A transaction: one statement in it, and its end.
+ghost use Rattle.std.specs.Prelude.{◌≡◌, false, IfOk, IfErr, OnOk, OnErr};
+ghost use Rattle.sqlite.specs.Held.{state};
+ghost use Rattle.sqlite.specs.State.{HasCleanDisk};
+ghost use Rattle.sqlite.specs.Values.{bound};
+ghost use Rattle.store_tables.specs.Calls.{RestsOn, WasClean};
+ghost use Rattle.store_tables.specs.Contents.{Contents};
+ghost use Rattle.store_tables.specs.Stands.{KeepsBase, Ran, Stand, Within};
+ghost use Rattle.store_tables.specs.declared.fault.StoreFault.{StoreFault};
+
+use crate::fault::StoreFault;
+use sqlite::types::ValueRef;
+use sqlite::{Alter, Transaction};
+
+/// Runs one statement, and tells how many rows it changed. `Refused` where the store or memory
+/// refuses it.
+pub fn run<S: Alter>(
+    tx: &mut Transaction<'_, S>,
+    sql: &str,
+    params: &[ValueRef<'_>],
+) -> Result<usize, StoreFault>
+    ensures same_reference { tx.new.conn.ghost_name ≡ tx.old.conn.ghost_name }
+    ensures ran { HasCleanDisk (state S.Store tx.new.conn.now) → IfOk result (λ count.
+        Ran sql.now (bound params.now)
+        (state S.Store tx.old.conn.now) (state S.Store tx.new.conn.now) count) }
+    ensures base { RestsOn (state S.Store tx.old.conn.now) (state S.Store tx.new.conn.now) }
+    ensures keeps { KeepsBase (state S.Store tx.old.conn.now) (state S.Store tx.new.conn.now) }
+    ensures honest { WasClean (state S.Store tx.old.conn.now) (state S.Store tx.new.conn.now) }
+    ensures fault { IfErr result (λ e. e ≡ StoreFault.Refused) }
+{
+    match tx.execute(sql, params) {
+        Ok(count) => Ok(count),
+        Err(_) => Err(StoreFault::Refused),
+    }
+}
+
+/// Runs a statement that changes one row. `Refused` where it changes none, or several.
+pub(crate) fn run_on_one<S: Alter>(
+    tx: &mut Transaction<'_, S>,
+    sql: &str,
+    params: &[ValueRef<'_>],
+) -> Result<(), StoreFault>
+    ensures same_reference { tx.new.conn.ghost_name ≡ tx.old.conn.ghost_name }
+    ensures ran { HasCleanDisk (state S.Store tx.new.conn.now) → IfOk result (λ done.
+        Ran sql.now (bound params.now)
+        (state S.Store tx.old.conn.now) (state S.Store tx.new.conn.now) 1) }
+    ensures base { RestsOn (state S.Store tx.old.conn.now) (state S.Store tx.new.conn.now) }
+    ensures keeps { KeepsBase (state S.Store tx.old.conn.now) (state S.Store tx.new.conn.now) }
+    ensures honest { WasClean (state S.Store tx.old.conn.now) (state S.Store tx.new.conn.now) }
+    ensures fault { IfErr result (λ e. e ≡ StoreFault.Refused) }
+{
+    if run(tx, sql, params)? == 1 {
+        Ok(())
+    } else {
+        Err(StoreFault::Refused)
+    }
+}
+
+/// Commits. `Refused` where the store refuses it: then what was committed before stays.
+pub fn finish<S: Alter>(tx: Transaction<'_, S>) -> Result<(), StoreFault>
+    ensures ended { tx.exit.0.now.in_transaction ≡ false }
+    ensures done { (now was : Contents) → Within now was (state S.Store tx.entry.conn.now) →
+        OnOk result (Stand now (state S.Store tx.exit.0.now)) }
+    ensures undone { (now was : Contents) → Within now was (state S.Store tx.entry.conn.now) →
+        OnErr result (Stand was (state S.Store tx.exit.0.now)) }
+    ensures honest { WasClean (state S.Store tx.entry.conn.now) (state S.Store tx.exit.0.now) }
+    ensures fault { IfErr result (λ e. e ≡ StoreFault.Refused) }
+{
+    match tx.commit() {
+        Ok(()) => Ok(()),
+        Err(_) => Err(StoreFault::Refused),
+    }
+}
