@@ -71,8 +71,5 @@ impl Context<'_> {
 fn has_open_dependency(settings: &Settings, dependencies: &Sequence<Dependency>) -> bool
     ensures { result ≡ set_status.has_open_dependency settings.now dependencies.now }
 {
-    dependencies
-        .as_slice()
-        .iter()
-        .any(|d| d.is_open(settings))
+    dependencies.as_slice().iter().any(|d| d.is_open(settings))
 }
