@@ -1,5 +1,4 @@
-//! What each command decides: the first refusal that is called for, or the change that it makes;
-//! and what holds of every command.
+//! What each command decides: the first refusal that is called for, or the change that it makes.
 //!
 //! Nothing here keeps a row. A caller hands in the facts that a command looks at, and applies the
 //! change. Rows, commands, facts, answers, refusals and changes stand in `desk_model`, and are
@@ -7,7 +6,6 @@
 #![tactic(auto)]
 
 pub mod decision;
-pub mod laws;
 
 pub use decision::decide;
 pub use desk_model::{

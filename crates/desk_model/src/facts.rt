@@ -26,6 +26,18 @@ pub struct Facts {
     pub dependencies: Sequence<Dependency>,
 }
 
+impl Facts {
+    /// Whether one of the requests that the one depends on isn't inactive.
+    pub fn has_open_dependency(&self, settings: &Settings) -> bool
+        ensures { result ≡ set_status.has_open_dependency settings.now self.now.dependencies }
+    {
+        self.dependencies
+            .as_slice()
+            .iter()
+            .any(|dependency| dependency.is_open(settings))
+    }
+}
+
 /// A request with its people, and how many entries its history has.
 #[derive(Drop)]
 pub struct Standing {
@@ -64,7 +76,7 @@ pub struct Dependency {
 
 impl Dependency {
     /// Whether it isn't inactive. A status that the settings don't know is not inactive.
-    pub fn is_open(&self, settings: &Settings) -> bool
+    fn is_open(&self, settings: &Settings) -> bool
         ensures { result ≡ set_status.is_open_dependency settings.now self.now }
     {
         !is_inactive(settings.lifecycle(self.lifecycle.as_str()), &self.status)

@@ -3,8 +3,7 @@ use Rattle.std.proofs.Common.{ap}
 use Rattle.toml.specs.Data.{Members}
 use Rattle.settings_core.specs.Built.{IsBuilt}
 use Rattle.settings_core.specs.Calendars.{calendars_of}
-use Rattle.settings_core.specs.Levels.{level_under}
-use Rattle.settings_core.specs.Lifecycles.{lifecycle_under}
+use Rattle.settings_core.specs.Named.{under}
 use Rattle.settings_core.specs.Reading.{IsStated}
 use Rattle.settings_core.specs.Tokens.{person_under}
 use Rattle.settings_core.specs.declared.settings.Settings.{Settings}
@@ -14,9 +13,9 @@ pub stated : (ms : Members) (settings : Settings) → IsBuilt ms settings → Is
 stated ms settings built =
     record {
       people = built.people;
-      lifecycles = λ name. ap (lifecycle_under name) built.lifecycles;
+      lifecycles = λ name. ap (under name) built.lifecycles;
       calendars = λ name. found_under name settings.calendars (calendars_of ms) built.calendars;
-      levels = λ name. ap (level_under name) built.levels;
+      levels = λ name. ap (under name) built.levels;
       tokens = λ token. ap (person_under token) built.tokens;
       requests = built.requests;
       entries = built.entries;

@@ -1,9 +1,8 @@
 -- The calendars of a settings text.
 use Rattle.std.specs.Prelude.{◌≡◌, ℕ, List, [], ◌∷◌, ◌++◌, Option, Some}
-use Rattle.std.specs.Prelude.{None, is_some, find, pos, codes, if◌then◌else◌}
-use Rattle.std.specs.Option.{option_map, option_or}
+use Rattle.std.specs.Prelude.{None, is_some, pos, codes, if◌then◌else◌}
+use Rattle.std.specs.Option.{option_or}
 use Rattle.std.specs.Result.{result_err}
-use Rattle.std.specs.Str.{bytes_eq}
 use Rattle.toml.specs.Data.{Members, no_members, member, get_member}
 use Rattle.hours_core.specs.Calendar.{HasHours}
 use Rattle.hours_core.specs.Hours.{Hours, calendar_fault}
@@ -12,21 +11,12 @@ use Rattle.hours_core.specs.declared.calendar.Calendar.{Calendar}
 use Rattle.hours_core.specs.declared.fault.HoursFault.{HoursFault}
 use Rattle.settings_parts.specs.CalendarParts.{hours_of}
 use Rattle.settings_parts.specs.Values.{members_of, table_at}
-use Rattle.settings_core.specs.declared.named.NamedCalendar.{NamedCalendar}
-
--- opening hours under a name
-pub record NamedHours : Type 0 where
-  pub name : List ℕ
-  pub hours : Hours
-
--- the opening hours of that name in a list
-abbrev pub hours_under : List ℕ → List NamedHours → Option Hours
-hours_under name calendars = option_map (λ c. c.hours) (find (λ c. bytes_eq c.name name) calendars)
+use Rattle.settings_core.specs.declared.named.Named.{Named}
 
 -- the opening hours of a table
-abbrev pub hours_in : Members → List NamedHours
+abbrev pub hours_in : Members → List (Named Hours)
 hours_in no_members = []
-hours_in (member k d ms) = record { name = k; hours = hours_of (members_of d) } ∷ hours_in ms
+hours_in (member k d ms) = record { name = k; value = hours_of (members_of d) } ∷ hours_in ms
 
 -- the least fault of opening hours, that of the zone before that of the calendar
 abbrev pub hours_fault : Hours → Option HoursFault
@@ -53,11 +43,11 @@ standard_hours =
       years = (pos 2000, pos 2099);
     }
 
-abbrev pub standard_calendar : NamedHours
-standard_calendar = record { name = codes "default"; hours = standard_hours }
+abbrev pub standard_calendar : Named Hours
+standard_calendar = record { name = codes "default"; value = standard_hours }
 
 -- the opening hours of a table, and the calendar `default` where the table has none of that name
-abbrev pub with_standard : Members → List NamedHours
+abbrev pub with_standard : Members → List (Named Hours)
 with_standard ms =
     hours_in ms
     ++ (if is_some (get_member (codes "default") ms) then [] else standard_calendar ∷ [])
@@ -67,7 +57,7 @@ abbrev pub calendar_tables : Members → Members
 calendar_tables ms = table_at (codes "calendar") ms
 
 -- the calendars of a text
-abbrev pub calendars_of : Members → List NamedHours
+abbrev pub calendars_of : Members → List (Named Hours)
 calendars_of ms = with_standard (calendar_tables ms)
 
 abbrev pub calendars_fault : Members → Option HoursFault
@@ -80,9 +70,9 @@ HasHoursIfAny (Some calendar) (Some hours) = HasHours calendar hours
 HasHoursIfAny _ _ = ⊥
 
 -- one by one the calendars have these names and opening hours
-abbrev pub HaveHours : List NamedCalendar → List NamedHours → Type 0
+abbrev pub HaveHours : List (Named Calendar) → List (Named Hours) → Type 0
 HaveHours [] [] = Unit {0}
-HaveHours (c ∷ cs) (h ∷ hs) = (c.name ≡ h.name) × HasHours c.calendar h.hours × HaveHours cs hs
+HaveHours (c ∷ cs) (h ∷ hs) = (c.name ≡ h.name) × HasHours c.value h.value × HaveHours cs hs
 HaveHours _ _ = ⊥
 
 -- a calendar of these opening hours, which have no fault
@@ -90,5 +80,5 @@ abbrev pub IsCalendarOf : Hours → Calendar → Type 0
 IsCalendarOf hours calendar = (hours_fault hours ≡ None) × HasHours calendar hours
 
 -- the calendars of a text, none of which has a fault
-abbrev pub AreCalendarsOf : Members → List NamedCalendar → Type 0
+abbrev pub AreCalendarsOf : Members → List (Named Calendar) → Type 0
 AreCalendarsOf ms calendars = (calendars_fault ms ≡ None) × HaveHours calendars (calendars_of ms)

@@ -9,6 +9,7 @@ pub mod Calendars
 pub mod Fault
 pub mod Lifecycles
 pub mod Levels
+pub mod Named
 pub mod Names
 pub mod Reading
 pub mod Settings

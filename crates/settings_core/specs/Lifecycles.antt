@@ -1,8 +1,7 @@
 -- The lifecycles of a settings text.
-use Rattle.std.specs.Prelude.{◌≡◌, ℕ, List, [], ◌∷◌, ◌++◌, Option, None}
-use Rattle.std.specs.Prelude.{is_some, find, codes, if◌then◌else◌}
-use Rattle.std.specs.Option.{option_map, option_or}
-use Rattle.std.specs.Str.{bytes_eq}
+use Rattle.std.specs.Prelude.{◌≡◌, List, [], ◌∷◌, ◌++◌, Option, None}
+use Rattle.std.specs.Prelude.{is_some, codes, if◌then◌else◌}
+use Rattle.std.specs.Option.{option_or}
 use Rattle.toml.specs.Data.{Members, no_members, member, get_member}
 use Rattle.lifecycle_core.specs.Fault.{fault_of}
 use Rattle.lifecycle_core.specs.Standard.{default_lifecycle}
@@ -10,35 +9,30 @@ use Rattle.lifecycle_core.specs.declared.fault.LifecycleFault.{LifecycleFault}
 use Rattle.lifecycle_core.specs.declared.parts.Parts.{Parts}
 use Rattle.settings_parts.specs.LifecycleParts.{lifecycle_of}
 use Rattle.settings_parts.specs.Values.{members_of, table_at}
-use Rattle.settings_core.specs.declared.named.NamedLifecycle.{NamedLifecycle}
-
--- the lifecycle of that name in a list
-abbrev pub lifecycle_under : List ℕ → List NamedLifecycle → Option Parts
-lifecycle_under name lifecycles =
-    option_map (λ l. l.lifecycle) (find (λ l. bytes_eq l.name name) lifecycles)
+use Rattle.settings_core.specs.declared.named.Named.{Named}
 
 -- the lifecycles of a table
-abbrev pub lifecycles_in : Members → List NamedLifecycle
+abbrev pub lifecycles_in : Members → List (Named Parts)
 lifecycles_in no_members = []
 lifecycles_in (member k d ms) =
-    record { name = k; lifecycle = lifecycle_of (members_of d) } ∷ lifecycles_in ms
+    record { name = k; value = lifecycle_of (members_of d) } ∷ lifecycles_in ms
 
 -- the fault of the first lifecycle, by byte order of names, that has one
 abbrev pub fault_in : Members → Option LifecycleFault
 fault_in no_members = None
 fault_in (member k d ms) = option_or (fault_of (lifecycle_of (members_of d))) (fault_in ms)
 
-abbrev pub standard_lifecycle : NamedLifecycle
-standard_lifecycle = record { name = codes "default"; lifecycle = default_lifecycle }
+abbrev pub standard_lifecycle : Named Parts
+standard_lifecycle = record { name = codes "default"; value = default_lifecycle }
 
 -- the lifecycles of a table, and the lifecycle `default` where the table has none of that name
-abbrev pub with_standard : Members → List NamedLifecycle
+abbrev pub with_standard : Members → List (Named Parts)
 with_standard ms =
     lifecycles_in ms
     ++ (if is_some (get_member (codes "default") ms) then [] else standard_lifecycle ∷ [])
 
 -- the lifecycles of a text
-abbrev pub lifecycles_of : Members → List NamedLifecycle
+abbrev pub lifecycles_of : Members → List (Named Parts)
 lifecycles_of ms = with_standard (table_at (codes "lifecycle") ms)
 
 abbrev pub lifecycles_fault : Members → Option LifecycleFault
@@ -49,5 +43,5 @@ abbrev pub IsLifecycleOf : Parts → Parts → Type 0
 IsLifecycleOf parts lifecycle = (fault_of parts ≡ None) × (lifecycle ≡ parts)
 
 -- the lifecycles of a text, none of which has a fault
-abbrev pub AreLifecyclesOf : Members → List NamedLifecycle → Type 0
+abbrev pub AreLifecyclesOf : Members → List (Named Parts) → Type 0
 AreLifecyclesOf ms lifecycles = (lifecycles_fault ms ≡ None) × (lifecycles ≡ lifecycles_of ms)

@@ -3,7 +3,9 @@ use Rattle.std.specs.Prelude.{ℕ, Bool, ◌&&◌, ◌||◌, List, is_some, code
 use Rattle.std.specs.List.{list_all, list_any}
 use Rattle.std.specs.Str.{bytes_eq}
 use Rattle.toml.specs.Data.{Members, get_member}
+use Rattle.hours_core.specs.declared.level.Level.{Level}
 use Rattle.lifecycle_core.specs.Lifecycle.{names_right}
+use Rattle.lifecycle_core.specs.declared.parts.Parts as lifecycles
 use Rattle.rights_core.specs.People.{is_among, knows}
 use Rattle.rights_core.specs.Right.{standard_rights}
 use Rattle.rights_core.specs.declared.grant.Grant.{Grant}
@@ -13,15 +15,14 @@ use Rattle.settings_parts.specs.declared.people.Token.{Token}
 use Rattle.settings_core.specs.Calendars.{calendar_tables}
 use Rattle.settings_core.specs.Levels.{levels_of}
 use Rattle.settings_core.specs.Lifecycles.{lifecycles_of}
-use Rattle.settings_core.specs.declared.named.NamedLevel.{NamedLevel}
-use Rattle.settings_core.specs.declared.named.NamedLifecycle.{NamedLifecycle}
+use Rattle.settings_core.specs.declared.named.Named.{Named}
 
 -- a right is standard, or the rights of a lifecycle name it
-abbrev pub knows_right : List NamedLifecycle → List ℕ → Bool
+abbrev pub knows_right : List (Named lifecycles.Parts) → List ℕ → Bool
 knows_right lifecycles right =
-    is_among standard_rights right || list_any (λ l. names_right l.lifecycle right) lifecycles
+    is_among standard_rights right || list_any (λ l. names_right l.value right) lifecycles
 
-abbrev pub knows_rights : List NamedLifecycle → List Grant → Bool
+abbrev pub knows_rights : List (Named lifecycles.Parts) → List Grant → Bool
 knows_rights lifecycles grants = list_all (λ g. knows_right lifecycles g.right) grants
 
 -- a text has the calendar, or it is the calendar `default`
@@ -31,8 +32,8 @@ has_calendar ms name = is_some (get_member name (calendar_tables ms))
 abbrev pub knows_calendar : Members → List ℕ → Bool
 knows_calendar ms name = bytes_eq name (codes "default") || has_calendar ms name
 
-abbrev pub knows_calendars : Members → List NamedLevel → Bool
-knows_calendars ms levels = list_all (λ l. knows_calendar ms l.level.calendar) levels
+abbrev pub knows_calendars : Members → List (Named Level) → Bool
+knows_calendars ms levels = list_all (λ l. knows_calendar ms l.value.calendar) levels
 
 abbrev pub knows_persons : Parts → List Token → Bool
 knows_persons people tokens = list_all (λ t. knows people t.person) tokens

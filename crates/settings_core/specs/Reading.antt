@@ -10,10 +10,11 @@ use Rattle.settings_form.specs.Walk.{form_fault}
 use Rattle.settings_parts.specs.LevelParts.{is_from_one, number_up_to}
 use Rattle.settings_parts.specs.PeopleParts.{people_in, tokens_of}
 use Rattle.settings_parts.specs.Values.{integer_at, table_at}
-use Rattle.settings_core.specs.Calendars.{calendars_fault, calendars_of, hours_under, HasHoursIfAny}
+use Rattle.settings_core.specs.Calendars.{calendars_fault, calendars_of, HasHoursIfAny}
 use Rattle.settings_core.specs.Fault.{of_form}
-use Rattle.settings_core.specs.Levels.{have_limits, level_under, levels_of}
-use Rattle.settings_core.specs.Lifecycles.{lifecycle_under, lifecycles_fault, lifecycles_of}
+use Rattle.settings_core.specs.Levels.{have_limits, levels_of}
+use Rattle.settings_core.specs.Lifecycles.{lifecycles_fault, lifecycles_of}
+use Rattle.settings_core.specs.Named.{under}
 use Rattle.settings_core.specs.Names.{knows_names}
 use Rattle.settings_core.specs.Settings.{people_of, lifecycle_named, calendar_named, level_named}
 use Rattle.settings_core.specs.Settings.{person_of_token, request_limit, entry_limit}
@@ -70,10 +71,10 @@ fault_of ms = option_or (option_map of_form (form_fault ms)) (table_fault ms)
 pub record IsStated (ms : Members) (settings : Settings) : Type 0 where
   pub people : people_of settings ≡ people_in ms
   pub lifecycles : (name : List ℕ)
-      → lifecycle_named settings name ≡ lifecycle_under name (lifecycles_of ms)
+      → lifecycle_named settings name ≡ under name (lifecycles_of ms)
   pub calendars : (name : List ℕ)
-      → HasHoursIfAny (calendar_named settings name) (hours_under name (calendars_of ms))
-  pub levels : (name : List ℕ) → level_named settings name ≡ level_under name (levels_of ms)
+      → HasHoursIfAny (calendar_named settings name) (under name (calendars_of ms))
+  pub levels : (name : List ℕ) → level_named settings name ≡ under name (levels_of ms)
   pub tokens : (token : List ℕ) → person_of_token settings token ≡ person_under token (tokens_of ms)
   pub requests : request_limit settings ≡ count_at (codes "max_requests") 1000000 ms
   pub entries : entry_limit settings ≡ count_at (codes "max_entries") 10000 ms

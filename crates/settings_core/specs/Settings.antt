@@ -1,14 +1,11 @@
 -- What settings say. Contracts above speak of settings by these words alone.
-use Rattle.std.specs.Prelude.{ℕ, Bool, List, Option, find}
-use Rattle.std.specs.Option.{option_map}
-use Rattle.std.specs.Str.{bytes_eq}
+use Rattle.std.specs.Prelude.{ℕ, Bool, List, Option}
 use Rattle.hours_core.specs.declared.calendar.Calendar.{Calendar}
 use Rattle.hours_core.specs.declared.level.Level.{Level}
 use Rattle.lifecycle_core.specs.declared.parts.Parts.{Parts}
 use Rattle.rights_core.specs.People as people
 use Rattle.rights_core.specs.declared.parts.Parts as rights
-use Rattle.settings_core.specs.Levels.{level_under}
-use Rattle.settings_core.specs.Lifecycles.{lifecycle_under}
+use Rattle.settings_core.specs.Named.{under}
 use Rattle.settings_core.specs.Tokens.{person_under}
 use Rattle.settings_core.specs.declared.settings.Settings.{Settings}
 
@@ -22,16 +19,15 @@ knows settings name = people.knows settings.people name
 
 -- the lifecycle of that name, if there is one
 abbrev pub lifecycle_named : Settings → List ℕ → Option Parts
-lifecycle_named settings name = lifecycle_under name settings.lifecycles
+lifecycle_named settings name = under name settings.lifecycles
 
 -- the calendar of that name, if there is one
 abbrev pub calendar_named : Settings → List ℕ → Option Calendar
-calendar_named settings name =
-    option_map (λ c. c.calendar) (find (λ c. bytes_eq c.name name) settings.calendars)
+calendar_named settings name = under name settings.calendars
 
 -- the level of that name, if there is one
 abbrev pub level_named : Settings → List ℕ → Option Level
-level_named settings name = level_under name settings.levels
+level_named settings name = under name settings.levels
 
 -- the person of a token, if there is one
 abbrev pub person_of_token : Settings → List ℕ → Option (List ℕ)

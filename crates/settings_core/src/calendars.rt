@@ -8,7 +8,7 @@ ghost use Rattle.settings_parts.specs.CalendarParts.{hours_of, hours_stated};
 ghost use Rattle.settings_parts.specs.Values.{members_of};
 ghost use Rattle.settings_core.specs.Calendars as spec;
 
-use crate::named::{NamedCalendar, STANDARD};
+use crate::named::{Named, STANDARD};
 use hours_core::{Calendar, HoursFault, Intervals, Zone};
 use settings_parts::calendar::{CalendarParts, YEARS, calendar_of};
 use settings_parts::values::{has_key, table_at, table_of};
@@ -18,7 +18,7 @@ use toml::{Table, Value};
 
 /// The calendars of a settings text by name, and the calendar `default` where it has none of that
 /// name.
-pub fn calendars_of(alloc: Global, table: &Table) -> Result<Vec<NamedCalendar>, HoursFault>
+pub fn calendars_of(alloc: Global, table: &Table) -> Result<Vec<Named<Calendar>>, HoursFault>
     ensures ok { IfOk result (λ v. spec.AreCalendarsOf (table_view table.now) v.items) }
     ensures err { IfErr result (λ e. e ≢ NoMemory
         → spec.calendars_fault (table_view table.now) ≡ Some e) }
@@ -30,16 +30,16 @@ pub fn calendars_of(alloc: Global, table: &Table) -> Result<Vec<NamedCalendar>, 
 }
 
 /// The calendars of a table, and the calendar `default` where it has none of that name.
-fn with_standard(alloc: Global, table: &Table) -> Result<Vec<NamedCalendar>, HoursFault>
+fn with_standard(alloc: Global, table: &Table) -> Result<Vec<Named<Calendar>>, HoursFault>
     ensures ok { IfOk result (λ v. (spec.fault_in (table_view table.now) ≡ None)
         × spec.HaveHours v.items (spec.with_standard (table_view table.now))) }
     ensures err { IfErr result (λ e. e ≢ NoMemory → spec.fault_in (table_view table.now) ≡ Some e) }
 {
     let mut calendars = calendars_in(alloc, table)?;
     if !has_key(table, STANDARD) {
-        let standard = NamedCalendar {
+        let standard = Named {
             name: Text::new(alloc, STANDARD)?,
-            calendar: standard_calendar(alloc)?,
+            value: standard_calendar(alloc)?,
         };
         calendars.push(standard).map_err(AllocError::from)?;
     }
@@ -47,17 +47,17 @@ fn with_standard(alloc: Global, table: &Table) -> Result<Vec<NamedCalendar>, Hou
 }
 
 /// The calendars of a table.
-fn calendars_in(alloc: Global, table: &Table) -> Result<Vec<NamedCalendar>, HoursFault>
+fn calendars_in(alloc: Global, table: &Table) -> Result<Vec<Named<Calendar>>, HoursFault>
     ensures ok { IfOk result (λ v. (spec.fault_in (table_view table.now) ≡ None)
         × spec.HaveHours v.items (spec.hours_in (table_view table.now))) }
     ensures err { IfErr result (λ e. e ≢ NoMemory → spec.fault_in (table_view table.now) ≡ Some e) }
 {
     let mut found = Vec::new(alloc);
     for (name, value) in table.iter() {
-        let calendar = built(alloc, value)?;
+        let value = built(alloc, value)?;
         let name = Text::new(alloc, name.as_str())?;
         found
-            .push(NamedCalendar { name, calendar })
+            .push(Named { name, value })
             .map_err(AllocError::from)?;
     }
     Ok(found)

@@ -6,7 +6,7 @@ ghost use Rattle.settings_parts.specs.LevelParts.{level_of as level_in};
 ghost use Rattle.settings_parts.specs.Values.{members_of};
 ghost use Rattle.settings_core.specs.Levels as spec;
 
-use crate::named::NamedLevel;
+use crate::named::Named;
 use hours_core::Level;
 use settings_parts::level::level_of;
 use settings_parts::values::{table_at, table_of};
@@ -15,7 +15,7 @@ use text_core::Text;
 use toml::{Table, Value};
 
 /// The levels of a settings text by name.
-pub fn levels_of(alloc: Global, table: &Table) -> Result<Vec<NamedLevel>, AllocError>
+pub fn levels_of(alloc: Global, table: &Table) -> Result<Vec<Named<Level>>, AllocError>
     ensures { IfOk result (λ v. v.items ≡ spec.levels_of (table_view table.now)) }
 {
     match table_at(table, "level") {
@@ -25,14 +25,14 @@ pub fn levels_of(alloc: Global, table: &Table) -> Result<Vec<NamedLevel>, AllocE
 }
 
 /// The levels of a table.
-fn levels_in(alloc: Global, table: &Table) -> Result<Vec<NamedLevel>, AllocError>
+fn levels_in(alloc: Global, table: &Table) -> Result<Vec<Named<Level>>, AllocError>
     ensures { IfOk result (λ v. v.items ≡ spec.levels_in (table_view table.now)) }
 {
     let mut found = Vec::new(alloc);
     for (name, value) in table.iter() {
-        let level = read(alloc, value)?;
+        let value = read(alloc, value)?;
         let name = Text::new(alloc, name.as_str())?;
-        found.push(NamedLevel { name, level })?;
+        found.push(Named { name, value })?;
     }
     Ok(found)
 }

@@ -17,5 +17,5 @@ pub mod settings;
 mod tokens;
 
 pub use fault::SettingsFault;
-pub use named::{NamedCalendar, NamedLevel, NamedLifecycle};
+pub use named::Named;
 pub use settings::Settings;

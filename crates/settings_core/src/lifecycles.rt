@@ -8,7 +8,7 @@ ghost use Rattle.settings_parts.specs.LifecycleParts.{lifecycle_of as parts_in};
 ghost use Rattle.settings_parts.specs.Values.{members_of};
 ghost use Rattle.settings_core.specs.Lifecycles as spec;
 
-use crate::named::{NamedLifecycle, STANDARD};
+use crate::named::{Named, STANDARD};
 use lifecycle_core::{Lifecycle, LifecycleFault};
 use settings_parts::lifecycle::lifecycle_of;
 use settings_parts::values::{has_key, table_at, table_of};
@@ -18,7 +18,7 @@ use toml::{Table, Value};
 
 /// The lifecycles of a settings text by name, and the lifecycle `default` where it has none of that
 /// name.
-pub fn lifecycles_of(alloc: Global, table: &Table) -> Result<Vec<NamedLifecycle>, LifecycleFault>
+pub fn lifecycles_of(alloc: Global, table: &Table) -> Result<Vec<Named<Lifecycle>>, LifecycleFault>
     ensures ok { IfOk result (λ v. spec.AreLifecyclesOf (table_view table.now) v.items) }
     ensures err { IfErr result (λ e. e ≢ NoMemory
         → spec.lifecycles_fault (table_view table.now) ≡ Some e) }
@@ -30,16 +30,16 @@ pub fn lifecycles_of(alloc: Global, table: &Table) -> Result<Vec<NamedLifecycle>
 }
 
 /// The lifecycles of a table, and the lifecycle `default` where it has none of that name.
-fn with_standard(alloc: Global, table: &Table) -> Result<Vec<NamedLifecycle>, LifecycleFault>
+fn with_standard(alloc: Global, table: &Table) -> Result<Vec<Named<Lifecycle>>, LifecycleFault>
     ensures ok { IfOk result (λ v. (spec.fault_in (table_view table.now) ≡ None)
         × (v.items ≡ spec.with_standard (table_view table.now))) }
     ensures err { IfErr result (λ e. e ≢ NoMemory → spec.fault_in (table_view table.now) ≡ Some e) }
 {
     let mut lifecycles = lifecycles_in(alloc, table)?;
     if !has_key(table, STANDARD) {
-        let standard = NamedLifecycle {
+        let standard = Named {
             name: Text::new(alloc, STANDARD)?,
-            lifecycle: Lifecycle::default_lifecycle(alloc)?,
+            value: Lifecycle::default_lifecycle(alloc)?,
         };
         lifecycles.push(standard).map_err(AllocError::from)?;
     }
@@ -47,17 +47,17 @@ fn with_standard(alloc: Global, table: &Table) -> Result<Vec<NamedLifecycle>, Li
 }
 
 /// The lifecycles of a table.
-fn lifecycles_in(alloc: Global, table: &Table) -> Result<Vec<NamedLifecycle>, LifecycleFault>
+fn lifecycles_in(alloc: Global, table: &Table) -> Result<Vec<Named<Lifecycle>>, LifecycleFault>
     ensures ok { IfOk result (λ v. (spec.fault_in (table_view table.now) ≡ None)
         × (v.items ≡ spec.lifecycles_in (table_view table.now))) }
     ensures err { IfErr result (λ e. e ≢ NoMemory → spec.fault_in (table_view table.now) ≡ Some e) }
 {
     let mut found = Vec::new(alloc);
     for (name, value) in table.iter() {
-        let lifecycle = built(alloc, value)?;
+        let value = built(alloc, value)?;
         let name = Text::new(alloc, name.as_str())?;
         found
-            .push(NamedLifecycle { name, lifecycle })
+            .push(Named { name, value })
             .map_err(AllocError::from)?;
     }
     Ok(found)

@@ -1,26 +1,25 @@
-use hours_core::{Calendar, Level};
-use lifecycle_core::Lifecycle;
+ghost use Rattle.std.specs.Prelude.{◌≡◌};
+ghost use Rattle.std.specs.Option.{option_map};
+ghost use Rattle.settings_core.specs.Named.{under};
+
 use text_core::Text;
 
-/// A lifecycle under its name.
+/// A lifecycle, a calendar or a level under its name.
 #[derive(Debug, Drop)]
-pub struct NamedLifecycle {
+pub struct Named<T> {
     pub name: Text,
-    pub lifecycle: Lifecycle,
+    pub value: T,
 }
 
-/// A calendar under its name.
-#[derive(Debug, Drop)]
-pub struct NamedCalendar {
-    pub name: Text,
-    pub calendar: Calendar,
-}
-
-/// A level under its name.
-#[derive(Debug, Drop)]
-pub struct NamedLevel {
-    pub name: Text,
-    pub level: Level,
+impl<T> Named<T> {
+    /// The value of this name, if there is one.
+    pub fn find<'a>(all: &'a [Named<T>], name: &str) -> Option<&'a T>
+        ensures { option_map (λ value. value.now) result ≡ under name.now all.now }
+    {
+        all.iter()
+            .find(|named| named.name.as_str() == name)
+            .map(|named| &named.value)
+    }
 }
 
 /// The name of the lifecycle and of the calendar that settings have without a text.

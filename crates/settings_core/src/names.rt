@@ -6,14 +6,16 @@ ghost use Rattle.toml.specs.View.{table_view};
 ghost use Rattle.lifecycle_core.specs.Lifecycle.{names_right};
 ghost use Rattle.settings_core.specs.Names as spec;
 
-use crate::named::{NamedLevel, NamedLifecycle, STANDARD};
+use crate::named::{Named, STANDARD};
+use hours_core::Level;
+use lifecycle_core::Lifecycle;
 use rights_core::{Grant, People, right};
 use settings_parts::people::Token;
 use settings_parts::values::{has_key, table_at};
 use toml::Table;
 
 /// Whether each granted right is standard or named in the rights of a lifecycle.
-pub fn knows_rights(lifecycles: &[NamedLifecycle], grants: &[Grant]) -> bool
+pub fn knows_rights(lifecycles: &[Named<Lifecycle>], grants: &[Grant]) -> bool
     ensures { result ≡ spec.knows_rights lifecycles.now grants.now }
 {
     grants
@@ -21,25 +23,25 @@ pub fn knows_rights(lifecycles: &[NamedLifecycle], grants: &[Grant]) -> bool
         .all(|g| knows_right(lifecycles, g.right.as_str()))
 }
 
-fn knows_right(lifecycles: &[NamedLifecycle], right: &str) -> bool
+fn knows_right(lifecycles: &[Named<Lifecycle>], right: &str) -> bool
     ensures { result ≡ spec.knows_right lifecycles.now right.now }
 {
     right::is_standard(right) || name_right(lifecycles, right)
 }
 
-fn name_right(lifecycles: &[NamedLifecycle], right: &str) -> bool
-    ensures { result ≡ list_any (λ l. names_right l.lifecycle right.now) lifecycles.now }
+fn name_right(lifecycles: &[Named<Lifecycle>], right: &str) -> bool
+    ensures { result ≡ list_any (λ l. names_right l.value right.now) lifecycles.now }
 {
-    lifecycles.iter().any(|l| l.lifecycle.names_right(right))
+    lifecycles.iter().any(|l| l.value.names_right(right))
 }
 
 /// Whether the calendar of each level is one of the text's, or the calendar `default`.
-pub fn knows_calendars(table: &Table, levels: &[NamedLevel]) -> bool
+pub fn knows_calendars(table: &Table, levels: &[Named<Level>]) -> bool
     ensures { result ≡ spec.knows_calendars (table_view table.now) levels.now }
 {
     levels
         .iter()
-        .all(|l| knows_calendar(table, l.level.calendar.as_str()))
+        .all(|l| knows_calendar(table, l.value.calendar.as_str()))
 }
 
 fn knows_calendar(table: &Table, name: &str) -> bool

@@ -13,7 +13,7 @@ use crate::fault::SettingsFault;
 use crate::levels::levels_of;
 use crate::lifecycles::lifecycles_of;
 use crate::limits::{MAX_ENTRIES, MAX_REQUESTS, count_at, has_limits};
-use crate::named::{NamedCalendar, NamedLevel, NamedLifecycle};
+use crate::named::Named;
 use crate::names::{knows_calendars, knows_persons, knows_rights};
 use crate::people::people_of;
 use crate::tokens::are_tokens;
@@ -30,9 +30,9 @@ use toml::Table;
 #[derive(Debug, Drop)]
 pub struct Settings {
     people: People,
-    lifecycles: Sequence<NamedLifecycle>,
-    calendars: Sequence<NamedCalendar>,
-    levels: Sequence<NamedLevel>,
+    lifecycles: Sequence<Named<Lifecycle>>,
+    calendars: Sequence<Named<Calendar>>,
+    levels: Sequence<Named<Level>>,
     tokens: Sequence<Token>,
     max_requests: u32,
     max_entries: u32,
@@ -72,33 +72,21 @@ impl Settings {
     pub fn lifecycle(&self, name: &str) -> Option<&Lifecycle>
         ensures { option_map (λ l. l.now) result ≡ words.lifecycle_named self.now name.now }
     {
-        self.lifecycles
-            .as_slice()
-            .iter()
-            .find(|l| l.name.as_str() == name)
-            .map(|l| &l.lifecycle)
+        Named::find(self.lifecycles.as_slice(), name)
     }
 
     /// The calendar of this name, if there is one.
     pub fn calendar(&self, name: &str) -> Option<&Calendar>
         ensures { option_map (λ c. c.now) result ≡ words.calendar_named self.now name.now }
     {
-        self.calendars
-            .as_slice()
-            .iter()
-            .find(|c| c.name.as_str() == name)
-            .map(|c| &c.calendar)
+        Named::find(self.calendars.as_slice(), name)
     }
 
     /// The level of this name, if there is one.
     pub fn level(&self, name: &str) -> Option<&Level>
         ensures { option_map (λ l. l.now) result ≡ words.level_named self.now name.now }
     {
-        self.levels
-            .as_slice()
-            .iter()
-            .find(|level| level.name.as_str() == name)
-            .map(|level| &level.level)
+        Named::find(self.levels.as_slice(), name)
     }
 
     /// The person of this token, if there is one.

@@ -6,10 +6,9 @@ ghost use Rattle.desk_core.specs.Context.{call_of, DecidesOn, PassesOn};
 
 use crate::decision::Context;
 use desk_model::lifecycles::{has_status, is_allowed, is_inactive, lifecycle_of, right_of};
-use desk_model::{Change, Dependency, Entry, EntryKind, Refusal, Standing};
-use settings_core::Settings;
+use desk_model::{Change, Entry, EntryKind, Refusal, Standing};
 use std::alloc::AllocError;
-use text_core::{Sequence, Text};
+use text_core::Text;
 
 impl Context<'_> {
     /// Moves the request to another status.
@@ -44,7 +43,7 @@ impl Context<'_> {
             return Err(Refusal::NoTransition);
         }
         if is_inactive(lifecycle, status)
-            && has_open_dependency(self.settings, &self.facts.dependencies)
+            && self.facts.has_open_dependency(self.settings)
         {
             return Err(Refusal::OpenDependency);
         }
@@ -65,11 +64,4 @@ impl Context<'_> {
         let (from, to) = (on.row.status.as_str(), status.as_str());
         self.entry(on, number, EntryKind::Status, from, to)
     }
-}
-
-/// Whether one of the requests that another one depends on isn't inactive.
-fn has_open_dependency(settings: &Settings, dependencies: &Sequence<Dependency>) -> bool
-    ensures { result ≡ set_status.has_open_dependency settings.now dependencies.now }
-{
-    dependencies.as_slice().iter().any(|d| d.is_open(settings))
 }

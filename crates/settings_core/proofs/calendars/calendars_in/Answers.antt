@@ -1,27 +1,29 @@
 use Rattle.std.proofs.Common.{◌≡◌, ◌++◌, ◌∷◌, [], List, append_assoc}
 use Rattle.std.proofs.Common.{string_bytes, subst, sym, rules, ◌∙◌}
 use Rattle.toml.specs.View.{view}
+use Rattle.hours_core.specs.Hours.{Hours}
+use Rattle.hours_core.specs.declared.calendar.Calendar.{Calendar}
 use Rattle.settings_parts.specs.CalendarParts.{hours_of}
 use Rattle.settings_parts.specs.Values.{members_of}
-use Rattle.settings_core.specs.Calendars.{NamedHours, HaveHours}
-use Rattle.settings_core.specs.declared.named.NamedCalendar.{NamedCalendar}
+use Rattle.settings_core.specs.Calendars.{HaveHours}
+use Rattle.settings_core.specs.declared.named.Named.{Named}
 use Rattle.settings_core.proofs.Found.{one_more}
 use Rattle.settings_core.proofs.calendars.calendars_in.Goals as goal
 
 pub loop-name-preserved : goal.loop-name-preserved
 loop-name-preserved c =
     let before = c.loop-name.invariant.2 in
-    let next : NamedHours =
+    let next : Named Hours =
     record {
       name = string_bytes c.in-Some.name.now;
-      hours = hours_of (members_of (view c.in-Some.value.now));
+      value = hours_of (members_of (view c.in-Some.value.now));
     } in
-    let named : NamedCalendar =
-    record { name = c.in_ok-name.name; calendar = c.in_ok-calendar.calendar } in
+    let named : Named Calendar =
+    record { name = c.in_ok-name.name; value = c.in_ok-value.value } in
     let pushed : c.push.new.self.items ≡ c.loop-name.found.items ++ named ∷ [] = search rules in
-    let P : List NamedCalendar → Type 0 = λ xs. HaveHours xs (before.0 ++ next ∷ []) in
+    let P : List (Named Calendar) → Type 0 = λ xs. HaveHours xs (before.0 ++ next ∷ []) in
     let all = one_more c.loop-name.found.items before.0 named next before.1
-    (c.in_ok-name.ensures ∙ c.as_str.ensures.value) c.in_ok-calendar.ensures.ok.1 in
+    (c.in_ok-name.ensures ∙ c.as_str.ensures.value) c.in_ok-value.ensures.ok.1 in
     let faults = rw c.in-Some.ensures.steps at c.loop-name.invariant.3 in (
       tt,
       tt,
@@ -30,5 +32,5 @@ loop-name-preserved c =
         subst P (sym pushed) all,
         rw append_assoc (rw c.in-Some.ensures.steps at before.2),
       ),
-      rw c.in_ok-calendar.ensures.ok.0 at faults,
+      rw c.in_ok-value.ensures.ok.0 at faults,
     )
