@@ -24,3 +24,4 @@ pub use Rattle.desk_model.specs.View
 pub use Rattle.desk_model.specs.Watchers
 pub mod Context
 pub mod Decision
+pub mod Laws

@@ -1,4 +1,5 @@
-//! What each command decides: the first refusal that is called for, or the change that it makes.
+//! What each command decides: the first refusal that is called for, or the change that it makes;
+//! and what holds of every command.
 //!
 //! Nothing here keeps a row. A caller hands in the facts that a command looks at, and applies the
 //! change. Rows, commands, facts, answers, refusals and changes stand in `desk_model`, and are
@@ -6,6 +7,7 @@
 #![tactic(auto)]
 
 pub mod decision;
+pub mod laws;
 
 pub use decision::decide;
 pub use desk_model::{

@@ -1,4 +1,5 @@
-ghost use Rattle.std.specs.Prelude.{◌≡◌};
+ghost use Rattle.std.specs.Prelude.{◌≡◌, ◌+◌, ◌^◌, ◌<◌, false};
+ghost use Rattle.desk_model.specs.Commands.Create as create;
 ghost use Rattle.desk_model.specs.Commands.SetStatus as set_status;
 
 use crate::lifecycles::is_inactive;
@@ -27,6 +28,14 @@ pub struct Facts {
 }
 
 impl Facts {
+    /// Whether there are as many requests as the settings allow.
+    pub fn is_full(&self, settings: &Settings) -> bool
+        ensures full { result ≡ create.is_full settings.now self.now }
+        ensures fits { result ≡ false → self.now.request_count + 1 < 2 ^ 32 }
+    {
+        self.request_count >= settings.max_requests()
+    }
+
     /// Whether one of the requests that the one depends on isn't inactive.
     pub fn has_open_dependency(&self, settings: &Settings) -> bool
         ensures { result ≡ set_status.has_open_dependency settings.now self.now.dependencies }
@@ -79,6 +88,9 @@ impl Dependency {
     fn is_open(&self, settings: &Settings) -> bool
         ensures { result ≡ set_status.is_open_dependency settings.now self.now }
     {
-        !is_inactive(settings.lifecycle(self.lifecycle.as_str()), &self.status)
+        !is_inactive(
+            settings.lifecycle(self.lifecycle.as_str()),
+            self.status.as_str(),
+        )
     }
 }

@@ -22,11 +22,11 @@ pub fn lifecycle_of<'s>(settings: &'s Settings, queue: &Option<QueueRow>) -> Opt
 }
 
 /// Whether the status is one of the lifecycle's.
-pub fn has_status(lifecycle: Option<&Lifecycle>, status: &Text) -> bool
+pub fn has_status(lifecycle: Option<&Lifecycle>, status: &str) -> bool
     ensures { result ≡ lifecycles.has_status (option_map (λ l. l.now) lifecycle.entry) status.now }
 {
     match lifecycle {
-        Some(lifecycle) => lifecycle.class(status.as_str()).is_some(),
+        Some(lifecycle) => lifecycle.class(status).is_some(),
         None => false,
     }
 }
@@ -36,7 +36,7 @@ pub fn has_given(lifecycle: Option<&Lifecycle>, given: &Option<Text>) -> bool
     ensures { result ≡ lifecycles.has_given (option_map (λ l. l.now) lifecycle.entry) given.now }
 {
     match given {
-        Some(status) => has_status(lifecycle, status),
+        Some(status) => has_status(lifecycle, status.as_str()),
         None => true,
     }
 }
@@ -65,31 +65,31 @@ pub fn is_creatable(lifecycle: Option<&Lifecycle>, status: &str) -> bool
 }
 
 /// Whether a request may move from the one status to the other.
-pub fn is_allowed(lifecycle: Option<&Lifecycle>, from: &Text, to: &Text) -> bool
+pub fn is_allowed(lifecycle: Option<&Lifecycle>, from: &str, to: &str) -> bool
     ensures { result
         ≡ lifecycles.is_allowed (option_map (λ l. l.now) lifecycle.entry) from.now to.now }
 {
     match lifecycle {
-        Some(lifecycle) => lifecycle.may_move(from.as_str(), to.as_str()),
+        Some(lifecycle) => lifecycle.may_move(from, to),
         None => false,
     }
 }
 
 /// The right that a move asks for: a right's name, where the lifecycle has the status.
-pub fn right_of<'s>(lifecycle: Option<&'s Lifecycle>, from: &Text, to: &Text) -> &'s str
+pub fn right_of<'s>(lifecycle: Option<&'s Lifecycle>, from: &str, to: &str) -> &'s str
     ensures right { result.now
         ≡ lifecycles.right_of (option_map (λ l. l.now) lifecycle.entry) from.now to.now }
     ensures named { lifecycles.has_status (option_map (λ l. l.now) lifecycle.entry) to.now ≡ true
         → is_right_name result.now ≡ true }
 {
     match lifecycle {
-        Some(lifecycle) => lifecycle.right_for(from.as_str(), to.as_str()),
+        Some(lifecycle) => lifecycle.right_for(from, to),
         None => "",
     }
 }
 
 /// Whether a move leads from an inactive status to one that isn't.
-pub(crate) fn opens_anew(lifecycle: Option<&Lifecycle>, from: &Text, to: &Text) -> bool
+pub(crate) fn opens_anew(lifecycle: Option<&Lifecycle>, from: &str, to: &str) -> bool
     ensures { result
         ≡ lifecycles.opens_anew (option_map (λ l. l.now) lifecycle.entry) from.now to.now }
 {
@@ -97,11 +97,11 @@ pub(crate) fn opens_anew(lifecycle: Option<&Lifecycle>, from: &Text, to: &Text) 
 }
 
 /// Whether the status is inactive.
-pub fn is_inactive(lifecycle: Option<&Lifecycle>, status: &Text) -> bool
+pub fn is_inactive(lifecycle: Option<&Lifecycle>, status: &str) -> bool
     ensures { result ≡ lifecycles.is_inactive (option_map (λ l. l.now) lifecycle.entry) status.now }
 {
     match lifecycle {
-        Some(lifecycle) => match lifecycle.class(status.as_str()) {
+        Some(lifecycle) => match lifecycle.class(status) {
             Some(Class::Inactive) => true,
             _ => false,
         },
@@ -110,11 +110,11 @@ pub fn is_inactive(lifecycle: Option<&Lifecycle>, status: &Text) -> bool
 }
 
 /// Whether the status is initial.
-fn is_initial(lifecycle: Option<&Lifecycle>, status: &Text) -> bool
+fn is_initial(lifecycle: Option<&Lifecycle>, status: &str) -> bool
     ensures { result ≡ lifecycles.is_initial (option_map (λ l. l.now) lifecycle.entry) status.now }
 {
     match lifecycle {
-        Some(lifecycle) => match lifecycle.class(status.as_str()) {
+        Some(lifecycle) => match lifecycle.class(status) {
             Some(Class::Initial) => true,
             _ => false,
         },
@@ -127,7 +127,7 @@ fn is_initial(lifecycle: Option<&Lifecycle>, status: &Text) -> bool
 pub fn reply_target<'s>(
     lifecycle: Option<&'s Lifecycle>,
     is_requestor: bool,
-    status: &Text,
+    status: &str,
 ) -> Option<&'s str>
     ensures { option_map (λ s. s.now) result
         ≡ reply.reply_target (option_map (λ l. l.now) lifecycle.entry) is_requestor status.now }
@@ -140,12 +140,12 @@ pub fn reply_target<'s>(
 }
 
 /// The status to which a request is opened again.
-fn reopening_of<'s>(lifecycle: Option<&'s Lifecycle>, from: &Text) -> Option<&'s str>
+fn reopening_of<'s>(lifecycle: Option<&'s Lifecycle>, from: &str) -> Option<&'s str>
     ensures { option_map (λ s. s.now) result
         ≡ lifecycles.reopening_of (option_map (λ l. l.now) lifecycle.entry) from.now }
 {
     match lifecycle {
-        Some(lifecycle) => lifecycle.reopen_to(from.as_str()),
+        Some(lifecycle) => lifecycle.reopen_to(from),
         None => None,
     }
 }

@@ -18,17 +18,18 @@ impl RequestRow {
     /// anew.
     pub fn in_status(
         &self,
+        alloc: Global,
         lifecycle: Option<&Lifecycle>,
         at: Minute,
-        status: &Text,
+        status: &str,
     ) -> Result<RequestRow, AllocError>
         ensures { IfOk result (λ moved. moved ≡ set_status.row_in_status
             (option_map (λ l. l.now) lifecycle.entry) at status.now self.now) }
     {
-        let to = status.clone()?;
+        let to = Text::new(alloc, status)?;
         let mut moved = self.clone()?;
         moved.status = to;
-        if opens_anew(lifecycle, &self.status, status) {
+        if opens_anew(lifecycle, self.status.as_str(), status) {
             moved.opened = at;
             moved.since = at;
         }

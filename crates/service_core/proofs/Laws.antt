@@ -5,15 +5,15 @@ use Rattle.settings_core.specs.declared.settings.Settings.{Settings}
 use Rattle.desk_model.specs.declared.answer.Answer.{Answer}
 use Rattle.desk_model.specs.declared.refusal.Refusal.{Refusal}
 use Rattle.desk_model.specs.declared.refusal.Refusal.TheVariants.{Unavailable}
-use Rattle.desk_laws.proofs.AsMissing.{hidden_law}
-use Rattle.desk_laws.proofs.Depends.{dependency_law}
-use Rattle.desk_laws.proofs.DeskLaw.{desk_law}
-use Rattle.desk_laws.proofs.DueLaw.{due_law}
-use Rattle.desk_laws.proofs.Kept.{history_law, owner_law, status_law}
-use Rattle.desk_laws.proofs.ViewLaw.{view_law}
+use Rattle.desk_core.proofs.AsMissing.{hidden_law}
+use Rattle.desk_core.proofs.Depends.{dependency_law}
+use Rattle.desk_core.proofs.DeskLaw.{desk_law}
+use Rattle.desk_core.proofs.DueLaw.{due_law}
+use Rattle.desk_core.proofs.Kept.{history_law, owner_law, status_law}
+use Rattle.desk_core.proofs.ViewLaw.{view_law}
 use Rattle.desk_core.specs.Desk.{Desk}
 use Rattle.desk_core.specs.IsDesk.{IsDesk}
-use Rattle.desk_laws.specs.Laws.{DueLaw}
+use Rattle.desk_core.specs.Laws.{DueLaw}
 use Rattle.desk_core.specs.Reading.{answer_of}
 use Rattle.desk_core.specs.Step.{Ask, Outcome, Steps, desk_after, guard, outcome_of}
 use Rattle.desk_core.specs.Step.{outcome_unless}

@@ -10,7 +10,7 @@ use Rattle.desk_model.specs.declared.command.Command.TheVariants.{Create, Queues
 use Rattle.desk_model.specs.declared.facts.Facts.{Facts}
 use Rattle.desk_model.specs.declared.refusal.Refusal.{Refusal}
 use Rattle.desk_model.specs.declared.refusal.Refusal.TheVariants.{Unavailable}
-use Rattle.desk_laws.proofs.Unchanged.{reads_nothing}
+use Rattle.desk_core.proofs.Unchanged.{reads_nothing}
 use Rattle.desk_core.specs.Change.{applied}
 use Rattle.desk_core.specs.Commands.{IsReading, plan_of}
 use Rattle.desk_core.specs.Desk.{Desk}

@@ -15,7 +15,7 @@ use Rattle.desk_core.specs.Facts.{queue_of, standing}
 use Rattle.desk_core.specs.Reading.{answer_of, answer_of_request, entries_told, shown_of}
 use Rattle.desk_core.specs.Rights.{may_show_comments}
 use Rattle.desk_core.specs.Step.{facts_of}
-use Rattle.desk_laws.proofs.Goes.{number_found}
+use Rattle.desk_core.proofs.Goes.{number_found}
 use Rattle.store_core.specs.Contents.{history_at}
 use Rattle.service_core.specs.Shown.{due_in, is_told, shown_to, told_to}
 

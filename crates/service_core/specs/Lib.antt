@@ -5,6 +5,7 @@ pub use Rattle.desk_core.specs.Due
 pub use Rattle.desk_core.specs.Facts
 pub use Rattle.desk_core.specs.IsDesk
 pub use Rattle.desk_core.specs.Known
+pub use Rattle.desk_core.specs.Laws
 pub use Rattle.desk_core.specs.Links
 pub use Rattle.desk_core.specs.Names
 pub use Rattle.desk_core.specs.Plan
@@ -13,7 +14,6 @@ pub use Rattle.desk_core.specs.Refusals
 pub use Rattle.desk_core.specs.Rights
 pub use Rattle.desk_core.specs.Step
 pub use Rattle.desk_core.specs.View
-pub use Rattle.desk_laws.specs.Laws
 pub use Rattle.desk_texts.specs.Columns
 pub use Rattle.desk_texts.specs.History
 pub use Rattle.desk_texts.specs.Queues

@@ -7,8 +7,8 @@ use Rattle.desk_model.specs.declared.command.Command.{Command}
 use Rattle.desk_model.specs.declared.refusal.Refusal.TheVariants.{Unavailable}
 use Rattle.desk_core.specs.Desk.{Desk}
 use Rattle.desk_core.specs.IsDesk.{IsDesk}
-use Rattle.desk_laws.specs.Laws.{DependencyLaw, DueLaw, HiddenLaw, HistoryLaw, OwnerLaw}
-use Rattle.desk_laws.specs.Laws.{StatusLaw, ViewLaw}
+use Rattle.desk_core.specs.Laws.{DependencyLaw, DueLaw, HiddenLaw, HistoryLaw, OwnerLaw}
+use Rattle.desk_core.specs.Laws.{StatusLaw, ViewLaw}
 use Rattle.desk_core.specs.Step.{Ask, Outcome, RunsBy, Steps}
 use Rattle.store_core.specs.Stands.{StandsFor}
 

@@ -15,9 +15,9 @@ use Rattle.std.specs.declared.cmp.Ordering.TheVariants.{Less, Equal, Greater}
 use Rattle.text_core.specs.Texts.{is_among}
 use Rattle.desk_model.specs.declared.rows.WatchRole.{WatchRole}
 use Rattle.desk_model.specs.declared.rows.WatchRole.TheVariants.{Requestor, Cc, AdminCc}
-use Rattle.desk_laws.proofs.NamesLaw.{among_named}
-use Rattle.desk_laws.proofs.Rising.{is_lower_name, orders_go_on}
-use Rattle.desk_laws.proofs.Roles.{roles_kept}
+use Rattle.desk_core.proofs.NamesLaw.{among_named}
+use Rattle.desk_core.proofs.Rising.{is_lower_name, orders_go_on}
+use Rattle.desk_core.proofs.Roles.{roles_kept}
 use Rattle.desk_core.specs.Change.{in_role, person_put}
 use Rattle.desk_core.specs.Commands.Watch.{persons_in}
 use Rattle.desk_core.specs.Commands.Create.{requestor}

@@ -14,9 +14,9 @@ use Rattle.desk_model.specs.declared.command.Command.TheVariants.{Queues, Show, 
 use Rattle.desk_model.specs.declared.facts.Standing.{Standing}
 use Rattle.desk_model.specs.declared.refusal.Refusal.TheVariants.{UnknownCaller, BadMoment}
 use Rattle.desk_model.specs.declared.rows.RequestRow.{RequestRow}
-use Rattle.desk_laws.proofs.DeskLaw.ByKind.{Meets, by_plan, change_fits}
-use Rattle.desk_laws.proofs.DeskLaw.Fitting as fitting
-use Rattle.desk_laws.proofs.NamesLaw.{names_in_order_rise}
+use Rattle.desk_core.proofs.DeskLaw.ByKind.{Meets, by_plan, change_fits}
+use Rattle.desk_core.proofs.DeskLaw.Fitting as fitting
+use Rattle.desk_core.proofs.NamesLaw.{names_in_order_rise}
 use Rattle.desk_core.specs.Change.{filed, request_filed}
 use Rattle.desk_core.specs.Commands.{plan_of}
 use Rattle.desk_core.specs.Commands.Create.{given_or_caller}

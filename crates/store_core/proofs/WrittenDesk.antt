@@ -21,7 +21,7 @@ use Rattle.desk_model.specs.declared.rows.RequestRow.{RequestRow}
 use Rattle.desk_model.specs.declared.rows.Watcher.{Watcher}
 use Rattle.desk_model.specs.declared.rows.WatchRole.{WatchRole}
 use Rattle.desk_model.specs.declared.rows.WatchRole.TheVariants.{Requestor, Cc, AdminCc}
-use Rattle.desk_laws.proofs.DeskLaw.Numbers.{numbered_more}
+use Rattle.desk_core.proofs.DeskLaw.Numbers.{numbered_more}
 use Rattle.desk_core.specs.Change.{applied, entry_put, filed, in_role, link_put, link_taken}
 use Rattle.desk_core.specs.Change.{person_put}
 use Rattle.desk_core.specs.Change.{person_taken, queue_put, request_filed, row_set, with_entry}

@@ -64,7 +64,7 @@ impl Context<'_> {
         if !is_creatable(lifecycle, first_status(lifecycle, status)) {
             return Err(Refusal::NoTransition);
         }
-        if self.facts.request_count >= self.settings.max_requests() {
+        if self.facts.is_full(self.settings) {
             return Err(Refusal::Full);
         }
         Ok(())

@@ -1,4 +1,5 @@
 ghost use Rattle.std.specs.Prelude.{◌≡◌, ◌+◌, ◌^◌, ◌<◌, IfOk, OnOk, Some};
+ghost use Rattle.std.specs.Option.{option_map};
 ghost use Rattle.desk_model.specs.Commands.Reply as reply;
 ghost use Rattle.desk_model.specs.Plan.{Nothing};
 ghost use Rattle.desk_core.specs.Context.{call_of, DecidesOn, PassesOn};
@@ -10,7 +11,7 @@ use rights_core::right;
 use std::alloc::AllocError;
 use text_core::{Sequence, Text};
 
-impl Context<'_> {
+impl<'c> Context<'c> {
     /// Replies to the request: the reply may open it again, and the turn passes.
     pub(super) fn reply(&self, text: &Text) -> Result<Change, Refusal>
         ensures { DecidesOn result Nothing (Some text.now)
@@ -19,9 +20,9 @@ impl Context<'_> {
         self.ask_for_text(text)?;
         let on = self.shown()?;
         self.ask_to_reply(on)?;
-        let reopened = self.move_of(on)?;
-        let entries = self.entries_of_reply(on, text, &reopened)?;
-        let row = self.replied_row(on, &reopened)?;
+        let reopened = self.move_of(on);
+        let entries = self.entries_of_reply(on, text, reopened)?;
+        let row = self.replied_row(on, reopened)?;
         Ok(Change::revising(self.alloc, row, entries))
     }
 
@@ -32,42 +33,29 @@ impl Context<'_> {
             + reply.entries_wanted (call_of self.now) self.now.facts.now on.now < 2 ^ 32) }
     {
         self.ask(right::REPLY_TO_TICKET, on)?;
-        self.ask_for_room(on, self.entries_wanted(on)?)
-    }
-
-    /// How many entries a reply appends.
-    fn entries_wanted(&self, on: &Standing) -> Result<u32, AllocError>
-        ensures { IfOk result (λ count.
-            count ≡ reply.entries_wanted (call_of self.now) self.now.facts.now on.now) }
-    {
-        let reopened = self.move_of(on)?;
-        Ok(entries_of_move(&reopened))
+        self.ask_for_room(on, entries_of_move(self.move_of(on)))
     }
 
     /// The status that a reply moves the request to, if it moves it.
-    fn move_of(&self, on: &Standing) -> Result<Option<Text>, AllocError>
-        ensures { IfOk result (λ move.
-            move ≡ reply.move_of (call_of self.now) self.now.facts.now on.now) }
+    fn move_of(&self, on: &Standing) -> Option<&'c str>
+        ensures { option_map (λ s. s.now) result
+            ≡ reply.move_of (call_of self.now) self.now.facts.now on.now }
     {
         let lifecycle = lifecycle_of(self.settings, &self.facts.queue);
         let is_requestor = on.requestors.contains(self.caller);
-        match reply_target(lifecycle, is_requestor, &on.row.status) {
-            Some(status) => Ok(Some(Text::new(self.alloc, status)?)),
-            None => Ok(None),
-        }
+        reply_target(lifecycle, is_requestor, on.row.status.as_str())
     }
 
     /// The row after a reply.
-    fn replied_row(&self, on: &Standing, reopened: &Option<Text>) -> Result<RequestRow, AllocError>
-        ensures { IfOk result (λ row. row
-            ≡ reply.replied_row (call_of self.now) self.now.facts.now reopened.now on.now) }
+    fn replied_row(&self, on: &Standing, reopened: Option<&str>) -> Result<RequestRow, AllocError>
+        ensures { IfOk result (λ row. row ≡ reply.replied_row (call_of self.now)
+            self.now.facts.now (option_map (λ s. s.now) reopened.entry) on.now) }
     {
         let lifecycle = lifecycle_of(self.settings, &self.facts.queue);
         let is_requestor = on.requestors.contains(self.caller);
-        let moved = match reopened {
-            Some(status) => on.row.in_status(lifecycle, self.moment, status)?,
-            None => on.row.in_status(lifecycle, self.moment, &on.row.status)?,
-        };
+        let status = reopened.unwrap_or(on.row.status.as_str());
+        let alloc = self.alloc;
+        let moved = on.row.in_status(alloc, lifecycle, self.moment, status)?;
         Ok(moved.turned(is_requestor, self.moment))
     }
 
@@ -76,11 +64,12 @@ impl Context<'_> {
         &self,
         on: &Standing,
         text: &Text,
-        reopened: &Option<Text>,
+        reopened: Option<&str>,
     ) -> Result<Sequence<Entry>, AllocError>
-        requires { on.now.entry_count + reply.entries_of_move reopened.now < 2 ^ 32 }
-        ensures { IfOk result (λ entries. entries
-            ≡ reply.entries_of text.now (call_of self.now) on.now reopened.now) }
+        requires { on.now.entry_count
+            + reply.entries_of_move (option_map (λ s. s.now) reopened) < 2 ^ 32 }
+        ensures { IfOk result (λ entries. entries ≡ reply.entries_of text.now (call_of self.now)
+            on.now (option_map (λ s. s.now) reopened.entry)) }
     {
         match reopened {
             Some(status) => {
@@ -94,8 +83,8 @@ impl Context<'_> {
 }
 
 /// How many entries a reply appends.
-fn entries_of_move(reopened: &Option<Text>) -> u32
-    ensures { result ≡ reply.entries_of_move reopened.now }
+fn entries_of_move(reopened: Option<&str>) -> u32
+    ensures { result ≡ reply.entries_of_move (option_map (λ s. s.now) reopened.entry) }
 {
     match reopened {
         Some(_) => 2,

@@ -22,7 +22,7 @@ impl Context<'_> {
         let (from, to) = (on.row.status.as_str(), status.as_str());
         let entries = self.one_entry(on, EntryKind::Status, from, to)?;
         let lifecycle = lifecycle_of(self.settings, &self.facts.queue);
-        let row = on.row.in_status(lifecycle, self.moment, status)?;
+        let row = on.row.in_status(self.alloc, lifecycle, self.moment, to)?;
         Ok(Change::revising(self.alloc, row, entries))
     }
 
@@ -32,19 +32,18 @@ impl Context<'_> {
         ensures named { IfErr result (λ refusal. names_its_right refusal ≡ true) }
     {
         let lifecycle = lifecycle_of(self.settings, &self.facts.queue);
-        if !has_status(lifecycle, status) {
+        let (from, to) = (on.row.status.as_str(), status.as_str());
+        if !has_status(lifecycle, to) {
             return Err(Refusal::UnknownName);
         }
-        self.ask(right_of(lifecycle, &on.row.status, status), on)?;
+        self.ask(right_of(lifecycle, from, to), on)?;
         if on.row.status == *status {
             return Err(Refusal::NoChange);
         }
-        if !is_allowed(lifecycle, &on.row.status, status) {
+        if !is_allowed(lifecycle, from, to) {
             return Err(Refusal::NoTransition);
         }
-        if is_inactive(lifecycle, status)
-            && self.facts.has_open_dependency(self.settings)
-        {
+        if is_inactive(lifecycle, to) && self.facts.has_open_dependency(self.settings) {
             return Err(Refusal::OpenDependency);
         }
         self.ask_for_room(on, 1)
@@ -55,13 +54,13 @@ impl Context<'_> {
         &self,
         on: &Standing,
         number: u32,
-        status: &Text,
+        status: &str,
     ) -> Result<Entry, AllocError>
         requires { on.now.entry_count + number < 2 ^ 32 }
         ensures { IfOk result (λ entry.
             entry ≡ set_status.moving (call_of self.now) on.now number status.now) }
     {
-        let (from, to) = (on.row.status.as_str(), status.as_str());
-        self.entry(on, number, EntryKind::Status, from, to)
+        let from = on.row.status.as_str();
+        self.entry(on, number, EntryKind::Status, from, status)
     }
 }

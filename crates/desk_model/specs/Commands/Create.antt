@@ -31,6 +31,10 @@ abbrev pub is_unknown : Settings → Option Parts → Option (List ℕ) → List
 is_unknown settings lifecycle status requestors =
     not (has_given lifecycle status) || not (list_all (knows settings) requestors)
 
+-- there are as many requests as the settings allow
+abbrev pub is_full : Settings → Facts → Bool
+is_full settings facts = nat_le (request_limit settings) facts.request_count
+
 abbrev pub conditions : List ℕ → List ℕ → Option (List ℕ) → List (List ℕ) → Call → Facts
     → List Condition
 conditions queue subject status requestors call facts =
@@ -40,7 +44,7 @@ conditions queue subject status requestors call facts =
     ∷ (UnknownName, is_unknown call.settings lifecycle status requestors)
     ∷ (Denied create_ticket, not (holds_on_queue call.settings call.caller create_ticket queue))
     ∷ (NoTransition, not (is_creatable lifecycle (first_status lifecycle status)))
-    ∷ (Full, nat_le (request_limit call.settings) facts.request_count)
+    ∷ (Full, is_full call.settings facts)
     ∷ []
 
 -- the level that a queue's requests start with

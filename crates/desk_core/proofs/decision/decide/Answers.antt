@@ -1,6 +1,6 @@
 -- what is decided of a reading command changes nothing
 use Rattle.desk_model.specs.Step.{call, conditions_on}
-use Rattle.desk_laws.proofs.Unchanged.{reads_on}
+use Rattle.desk_core.proofs.Unchanged.{reads_on}
 use Rattle.desk_core.proofs.decision.decide.Goals as goal
 
 pub returns-clause-reads : goal.returns-clause-reads

@@ -1,6 +1,6 @@
 -- the right that a refusal names is that of the plan, or of a move
 use Rattle.desk_model.specs.Step.{call}
-use Rattle.desk_laws.proofs.NamedRights.{named_by_plan}
+use Rattle.desk_core.proofs.NamedRights.{named_by_plan}
 use Rattle.desk_core.proofs.decision.decide_on_facts.Goals as goal
 
 pub returns-clause-named : goal.returns-clause-named

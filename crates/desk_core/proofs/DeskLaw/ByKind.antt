@@ -1,0 +1,231 @@
+-- The change of a command that isn't refused fits the desk, by the kind of the command.
+use Rattle.std.proofs.Common.{◌≡◌, ◌∙◌, ℕ, ◌+◌, ◌==◌, true, false, not, ◌||◌, List, [], ◌∷◌}
+use Rattle.std.proofs.Common.{◌++◌, length, Option, Some, None, refl, ap, sym, subst, arith}
+use Rattle.std.proofs.lemmas.Bool.{and_from, or_right}
+use Rattle.std.proofs.lemmas.List.Folds.{list_all-append}
+use Rattle.std.specs.List.{list_all}
+use Rattle.std.specs.Option.{is_none, is_some, option_map}
+use Rattle.hours_core.specs.Moment.{is_moment}
+use Rattle.settings_core.specs.Settings.{knows}
+use Rattle.settings_core.specs.declared.settings.Settings.{Settings}
+use Rattle.desk_model.specs.Change.{no_change}
+use Rattle.desk_model.specs.Commands.{plan_of}
+use Rattle.desk_model.specs.Commands.Reply as reply
+use Rattle.desk_model.specs.Condition.{Condition, first_holding}
+use Rattle.desk_model.specs.Desk.{Desk, Request, queue_at, request_at}
+use Rattle.desk_model.specs.Facts.{facts_on_queue, standing}
+use Rattle.desk_model.specs.IsDesk.{IsDesk}
+use Rattle.desk_model.specs.Links.{has_link, link}
+use Rattle.desk_model.specs.Plan.{Call, Plan, OnDesk, OnQueue, OnRequest, Nothing, Dependencies}
+use Rattle.desk_model.specs.Plan.{Another, another_shown, besides_on, change_by, change_of_request}
+use Rattle.desk_model.specs.Plan.{conditions_by, is_bad_text, is_missing, on_shown, seen_by}
+use Rattle.desk_model.specs.Step.{call, facts_of, guard}
+use Rattle.desk_model.specs.declared.change.Change.{Change}
+use Rattle.desk_model.specs.declared.command.Command.{Command}
+use Rattle.desk_model.specs.declared.command.Command.TheVariants.{OpenQueue, Create, Reply}
+use Rattle.desk_model.specs.declared.command.Command.TheVariants.{Link, Queues, Show, History}
+use Rattle.desk_model.specs.declared.facts.Standing.{Standing}
+use Rattle.desk_model.specs.declared.refusal.Refusal.TheVariants.{UnknownCaller, BadMoment}
+use Rattle.desk_model.specs.declared.refusal.Refusal.TheVariants.{BadText, NotFound}
+use Rattle.desk_core.proofs.DeskLaw.Entries.{counts_apart, counts_found}
+use Rattle.desk_core.proofs.DeskLaw.Fitting.{Appends, FilesNext, Fits, FollowOn}
+use Rattle.desk_core.proofs.DeskLaw.Fitting.{LinksAnew, OpensNew, StaysInQueue, has_count}
+use Rattle.desk_core.proofs.Every.{every_found}
+use Rattle.desk_core.proofs.Goes.{NoneHolds, none_holds, number_found, passed, rest_passes}
+
+-- what a plan changes meets this, where the plan's conditions let it pass
+abbrev pub Meets : (Desk → Change → Type 0) → Desk → Plan → Type 0
+Meets P desk OnDesk = Unit {0}
+Meets P desk (OnQueue name conditions change) =
+    (call : Call) → NoneHolds (conditions call (facts_on_queue desk name))
+    → P desk (change call (facts_on_queue desk name))
+Meets P desk (OnRequest id besides text conditions change) =
+    (call : Call) (r : Request) → request_at desk id ≡ Some r → id ≡ r.row.id
+    → NoneHolds (another_shown call besides (besides_on besides id desk)
+    (conditions call (besides_on besides id desk) (standing r)))
+    → P desk (change call (besides_on besides id desk) (standing r))
+
+on_request : (P : Change → Type 0) (call : Call) (desk : Desk) (id : ℕ) (o : Option Request)
+    (front : List Condition)
+    (asks : Standing → List Condition) (change : Standing → Change) → request_at desk id ≡ o
+    → P no_change
+    → ((r : Request) → request_at desk id ≡ Some r → id ≡ r.row.id → NoneHolds (asks (standing r))
+    → P (change (standing r)))
+    → first_holding (front ++ on_shown call (option_map standing o) asks) ≡ None
+    → P (change_of_request (option_map standing o) change)
+on_request P call desk id None front asks change there nothing meets free = nothing
+on_request P call desk id (Some r) front asks change there nothing meets free =
+    meets r there (sym (number_found desk id r there))
+    (none_holds (asks (standing r))
+    (passed (NotFound, is_missing call (Some (standing r))) (asks (standing r))
+    (rest_passes front _ free)).1)
+
+-- what goes for the plan goes for the change
+pub by_plan : (P : Desk → Change → Type 0) (call : Call) (plan : Plan) (front : List Condition)
+    (desk : Desk) → P desk no_change
+    → Meets P desk plan → first_holding (front ++ conditions_by call (seen_by plan desk) plan)
+    ≡ None
+    → P desk (change_by call (seen_by plan desk) plan)
+by_plan P call OnDesk front desk nothing meets free = nothing
+by_plan P call (OnQueue name conditions change) front desk nothing meets free =
+    let facts = facts_on_queue desk name in
+    meets call (none_holds (conditions call facts) (rest_passes front (conditions call facts) free))
+by_plan P call (OnRequest id Nothing text conditions change) front desk nothing meets free =
+    let facts = besides_on Nothing id desk in
+    on_request (P desk) call desk id (request_at desk id) ((BadText, is_bad_text text) ∷ [])
+    (conditions call facts) (change call facts) refl nothing (meets call)
+    (rest_passes front _ free)
+by_plan P call (OnRequest id Dependencies text conditions change) front desk nothing meets free =
+    let facts = besides_on Dependencies id desk in
+    on_request (P desk) call desk id (request_at desk id) ((BadText, is_bad_text text) ∷ [])
+    (conditions call facts) (change call facts) refl nothing (meets call)
+    (rest_passes front _ free)
+by_plan P call (OnRequest id (Another kind other) text conditions change) front desk nothing meets
+    free =
+    let facts = besides_on (Another kind other) id desk in
+    on_request (P desk) call desk id (request_at desk id) ((BadText, is_bad_text text) ∷ [])
+    (λ on. (NotFound, is_missing call facts.other) ∷ conditions call facts on)
+    (change call facts) refl nothing (meets call)
+    (rest_passes front _ free)
+
+pub some_is : {A : Type 0} (o : Option A) → is_none o ≡ false → is_some o ≡ true
+some_is None e = cc
+some_is (Some x) e = refl
+
+-- only opening a queue opens one, and it is new
+opens : (desk : Desk) (command : Command)
+    → Meets (λ d change. OpensNew d change.queue) desk (plan_of command)
+opens desk (OpenQueue name lifecycle level) = λ call none. none.1.1.1.0
+opens desk (Create queue subject status requestors) = λ call none. tt
+opens desk Queues = tt
+opens desk other = λ call r there same none. tt
+
+-- only creating a request files one: with the next number, in a queue that is there
+files : (desk : Desk) (command : Command)
+    → Meets (λ d change. FilesNext d change.filed) desk (plan_of command)
+files desk (OpenQueue name lifecycle level) = λ call none. tt
+files desk (Create queue subject status requestors) =
+    λ call none. (refl, some_is (queue_at desk queue) none.1.0)
+files desk Queues = tt
+files desk other = λ call r there same none. tt
+
+no_row : (desk : Desk) → StaysInQueue desk None
+no_row desk = ([], refl, λ e. cc)
+
+-- a row stays in its queue
+stays : (desk : Desk) → IsDesk desk → (command : Command)
+    → Meets (λ d change. StaysInQueue d change.row) desk (plan_of command)
+stays desk is (OpenQueue name lifecycle level) = λ call none. no_row desk
+stays desk is (Create queue subject status requestors) = λ call none. no_row desk
+stays desk is Queues = tt
+stays desk is other = λ call r there same none. (
+  r.row.queue,
+  refl,
+  λ e. every_found
+      (λ x. is_some (queue_at desk x.row.queue)) _ desk.requests r is.filed_in there,
+)
+
+shown_there : (call : Call) (o : Option Request) → is_missing call (option_map standing o) ≡ false
+    → is_some o ≡ true
+shown_there call None shown = cc
+shown_there call (Some r) shown = refl
+
+-- only linking puts a link: it isn't there yet, and both its ends are
+links : (desk : Desk) (command : Command)
+    → Meets (λ d change. LinksAnew d change.linked) desk (plan_of command)
+links desk (OpenQueue name lifecycle level) = λ call none. tt
+links desk (Create queue subject status requestors) = λ call none. tt
+links desk Queues = tt
+links desk (Link id kind other) = λ call r there same none. (
+  subst (λ (n : ℕ). has_link desk (link n kind other) ≡ false) same none.1.1.0,
+  and_from (is_some (request_at desk r.row.id)) (is_some (request_at desk other))
+      (ap is_some (subst (λ (n : ℕ). request_at desk n ≡ Some r) same there))
+      (shown_there call (request_at desk other) none.0),
+)
+links desk other = λ call r there same none. tt
+
+second_follows : (call : Call) (on : Standing) (move : Option (List ℕ))
+    → FollowOn on.row.id on.entry_count 2 (reply.second_entry call on move)
+second_follows call on None = tt
+second_follows call on (Some status) = (refl, refl, tt)
+
+-- no request has the number 0
+none_of_zero : (desk : Desk) → IsDesk desk → list_all (has_count 0 0) desk.requests ≡ true
+none_of_zero desk is = counts_apart 0 0 1 desk.requests (λ m from to same. omega arith) is.requests
+
+-- no other request has the number of the one that is found
+lone : (desk : Desk) (r : Request) (id : ℕ) → IsDesk desk → request_at desk id ≡ Some r
+    → id ≡ r.row.id
+    → list_all (has_count r.row.id (length r.entries)) desk.requests ≡ true
+lone desk r id is there same =
+    counts_found r.row.id 1 desk.requests r is.requests
+    (subst (λ (n : ℕ). request_at desk n ≡ Some r) same there)
+
+-- the entries of a command follow on those of its request
+appends : (desk : Desk) → IsDesk desk → (command : Command) → Meets Appends desk (plan_of command)
+appends desk is (OpenQueue name lifecycle level) = λ call none.
+    record { id = 0; count = 0; counted = none_of_zero desk is; follow = tt }
+appends desk is (Create queue subject status requestors) = λ call none.
+    let id = length desk.requests + 1 in
+    record {
+      id = id;
+      count = 0;
+      counted = list_all-append (has_count id 0) desk.requests _
+          ∙ and_from (list_all (has_count id 0) desk.requests) _
+          (counts_apart id 0 1 desk.requests (λ m from to same. omega arith) is.requests)
+          (and_from (not (id == id) || true) true (or_right (not (id == id)) true refl) refl);
+      follow = (refl, refl, tt);
+    }
+appends desk is Queues = tt
+appends desk is (Show id) = λ call r there same none.
+    record {
+      id = r.row.id;
+      count = length r.entries;
+      counted = lone desk r id is there same;
+      follow = tt;
+    }
+appends desk is (History id) = λ call r there same none.
+    record {
+      id = r.row.id;
+      count = length r.entries;
+      counted = lone desk r id is there same;
+      follow = tt;
+    }
+appends desk is (Reply id text) = λ call r there same none.
+    record {
+      id = r.row.id;
+      count = length r.entries;
+      counted = lone desk r id is there same;
+      follow = (refl, refl, second_follows call (standing r) _);
+    }
+appends desk is other = λ call r there same none.
+    record {
+      id = r.row.id;
+      count = length r.entries;
+      counted = lone desk r _ is there same;
+      follow = (refl, refl, tt);
+    }
+
+-- the change of a command that isn't refused fits
+pub change_fits : (s : Settings) (at : ℕ) (caller : List ℕ) (command : Command) (desk : Desk)
+    → IsDesk desk
+    → guard s at caller command desk ≡ None
+    → Fits desk (change_by (call s at caller) (facts_of command desk) (plan_of command))
+change_fits s at caller command desk is free =
+    let asks = call s at caller in
+    let plan = plan_of command in
+    let front : List Condition =
+    (UnknownCaller, not (knows s caller)) ∷ (BadMoment, not (is_moment at)) ∷ [] in
+    record {
+      opens = by_plan (λ d change. OpensNew d change.queue) asks plan front desk tt
+          (opens desk command) free;
+      files = by_plan (λ d change. FilesNext d change.filed) asks plan front desk tt
+          (files desk command) free;
+      stays = by_plan (λ d change. StaysInQueue d change.row) asks plan front desk (no_row desk)
+          (stays desk is command) free;
+      links = by_plan (λ d change. LinksAnew d change.linked) asks plan front desk tt
+          (links desk command) free;
+      appends = by_plan Appends asks plan front desk
+          (record { id = 0; count = 0; counted = none_of_zero desk is; follow = tt })
+          (appends desk is command) free;
+    }

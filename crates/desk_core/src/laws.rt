@@ -1,0 +1,73 @@
+//! What holds of every step, whoever asks for what.
+
+ghost use Rattle.std.specs.Prelude.{◌≡◌, ℕ, true, List};
+ghost use Rattle.settings_core.specs.declared.settings.Settings.{Settings};
+ghost use Rattle.desk_model.specs.Desk.{Desk, Request, empty_desk};
+ghost use Rattle.desk_model.specs.IsDesk.{IsDesk, KeepsDesk, names_rise};
+ghost use Rattle.desk_model.specs.Names.{in_order};
+ghost use Rattle.desk_core.specs.Laws.{AtEveryStep, HidesTheRest, KeepsDependencyLaw, KeepsHistory};
+ghost use Rattle.desk_core.specs.Laws.{KeepsOwnerLaw, KeepsStatusLaw, RefusesAsMissing};
+ghost use Rattle.desk_core.specs.Laws.{ShowsByWatchers, TellsDueMoments, TellsOfTheView};
+ghost use Rattle.text_core.specs.Texts.{is_among};
+
+/// A request stays, and so do the entries of its history.
+#[tactic(auto, using(crate::proofs::Kept::history_law))]
+pub fn history_law()
+    ensures { AtEveryStep KeepsHistory }
+{}
+
+/// A request stays, and its owner changes only by taking, stealing, untaking or giving, to the one
+/// whom the command names; a new owner held `OwnTicket` before the step.
+pub fn owner_law()
+    ensures { AtEveryStep KeepsOwnerLaw }
+{}
+
+/// A request stays, and its status moves only along the lifecycle of its queue: by a caller who
+/// holds the right of the move, or by a reply to the status to which the request is opened again.
+pub fn status_law()
+    ensures { AtEveryStep KeepsStatusLaw }
+{}
+
+/// A request stays, and it becomes inactive by a change of status only where all that it depends on
+/// is inactive.
+pub fn dependency_law()
+    ensures { AtEveryStep KeepsDependencyLaw }
+{}
+
+/// A command that names a request which the caller may not show is refused as where there is no
+/// such request.
+pub fn hidden_law()
+    ensures { AtEveryStep RefusesAsMissing }
+{}
+
+/// A due moment in an answer is that of its request, by the level that it has.
+pub fn due_law()
+    ensures { AtEveryStep TellsDueMoments }
+{}
+
+/// What comes of a reading command is told of the caller's view of the desk alone. A request
+/// outside the view isn't there, or the caller may not show it.
+pub fn view_law()
+    ensures inside { AtEveryStep TellsOfTheView }
+    ensures outside { (settings : Settings) (caller : List ℕ) (desk : Desk)
+        → HidesTheRest settings caller desk }
+{}
+
+/// The rows of a request's people tell who may show it.
+pub fn roles_law()
+    ensures { (settings : Settings) (person : List ℕ) (request : Request)
+        → ShowsByWatchers settings person request }
+{}
+
+/// The empty desk is well formed, and every command leaves a well-formed desk well formed.
+pub fn desk_law()
+    ensures empty { IsDesk empty_desk }
+    ensures step { AtEveryStep KeepsDesk }
+{}
+
+/// Names in order rise by their bytes, and they are the same names.
+pub fn names_law()
+    ensures rises { (names : List (List ℕ)) → names_rise (in_order names) ≡ true }
+    ensures same { (names : List (List ℕ)) (name : List ℕ)
+        → is_among (in_order names) name ≡ is_among names name }
+{}

@@ -1,6 +1,0 @@
--- the law of the definitions
-use Rattle.desk_laws.proofs.Depends as depends
-use Rattle.desk_laws.proofs.dependency_law.Goals as goal
-
-pub returns : goal.returns
-returns c = depends.dependency_law

@@ -1,6 +1,0 @@
--- the law of the definitions
-use Rattle.desk_laws.proofs.DueLaw as due
-use Rattle.desk_laws.proofs.due_law.Goals as goal
-
-pub returns : goal.returns
-returns c = due.due_law

@@ -1,6 +1,0 @@
--- the law of the definitions
-use Rattle.desk_laws.proofs.Roles as roles
-use Rattle.desk_laws.proofs.roles_law.Goals as goal
-
-pub returns : goal.returns
-returns c = roles.roles_law
