@@ -56,9 +56,7 @@ fn calendars_in(alloc: Global, table: &Table) -> Result<Vec<Named<Calendar>>, Ho
     for (name, value) in table.iter() {
         let value = built(alloc, value)?;
         let name = Text::new(alloc, name.as_str())?;
-        found
-            .push(Named { name, value })
-            .map_err(AllocError::from)?;
+        found.push(Named { name, value }).map_err(AllocError::from)?;
     }
     Ok(found)
 }

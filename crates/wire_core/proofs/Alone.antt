@@ -9,6 +9,7 @@ use Rattle.clap.specs.Words.{with_subcommand}
 use Rattle.clap.specs.Kinds.{Kinds, or_else}
 use Rattle.clap.specs.Simple.{built, entered, names_of}
 use Rattle.clap.specs.Walk.{idle, subcommand_met}
+use Rattle.wire_core.specs.Subcommands.{after_create, after_give, after_link}
 use Rattle.wire_core.specs.Subcommands.{comment, correspond, create, give, history}
 use Rattle.wire_core.specs.Table.{desk, desk_for}
 use Rattle.wire_core.specs.Subcommands.{level, link, queue, queues, resolve, show}
@@ -48,7 +49,7 @@ is_alone : (s : App) → is_simple_and_free (alone s) ≡ true → is_simple (al
     → ((rest : List Text) → entered (built (alone s)) (Some (s.top.name, rest))
     ≡ entered (built desk) (Some (s.top.name, rest)))
     → IsAlone s
-unfolding desk subcommands
+unfolding desk subcommands after_create after_give after_link
 is_alone s free plain known listed faults rows = record {
   free = free;
   plain = plain;
@@ -66,7 +67,7 @@ Each P [] = ⊤
 Each P (x ∷ xs) = P x × Each P xs
 
 each_alone : Each IsAlone subcommands
-unfolding desk subcommands
+unfolding desk subcommands after_create after_give after_link
 each_alone = (
   is_alone queue refl refl refl refl (λ r. refl) (λ r. refl),
   (

@@ -215,30 +215,55 @@ show = with_all (bare (codes "show")) (codes "id" ∷ [])
 abbrev pub history : App
 history = with_all (bare (codes "history")) (codes "id" ∷ [])
 
+-- the subcommands after `link`: those that read
+unfoldable pub after_link : List App
+after_link = queues ∷ show ∷ history ∷ []
+
+-- those after `give`
+unfoldable pub after_give : List App
+after_give = correspond ∷ comment ∷ watch ∷ unwatch ∷ link ∷ after_link
+
+-- those after `create`
+unfoldable pub after_create : List App
+after_create = status ∷ resolve ∷ level ∷ take ∷ steal ∷ untake ∷ give ∷ after_give
+
 -- the subcommands
 unfoldable pub subcommands : List App
-subcommands =
-    queue ∷ create ∷ status ∷ resolve ∷ level ∷ take ∷ steal ∷ untake ∷ give ∷ correspond
-    ∷ comment ∷ watch ∷ unwatch ∷ link ∷ queues ∷ show ∷ history ∷ []
+subcommands = queue ∷ create ∷ after_create
 
--- the command of a subcommand and of what it was given
+-- the command of a subcommand after `link` and of what it was given
+unfoldable pub command_after_link : Text → List Row → Option Command
+command_after_link name given =
+    if bytes_eq name (codes "queues") then Some command.Queues
+    else if bytes_eq name (codes "show") then on_request command.Show given
+    else if bytes_eq name (codes "history") then on_request command.History given
+    else None
+
+-- that of one after `give`
+unfoldable pub command_after_give : Text → List Row → Option Command
+command_after_give name given =
+    if bytes_eq name (codes "correspond") then correspond_of given
+    else if bytes_eq name (codes "comment") then comment_of given
+    else if bytes_eq name (codes "watch") then watch_of given
+    else if bytes_eq name (codes "unwatch") then unwatch_of given
+    else if bytes_eq name (codes "link") then link_of given
+    else command_after_link name given
+
+-- that of one after `create`
+unfoldable pub command_after_create : Text → List Row → Option Command
+command_after_create name given =
+    if bytes_eq name (codes "status") then status_of given
+    else if bytes_eq name (codes "resolve") then resolve_of given
+    else if bytes_eq name (codes "level") then level_of given
+    else if bytes_eq name (codes "take") then on_request command.Take given
+    else if bytes_eq name (codes "steal") then on_request command.Steal given
+    else if bytes_eq name (codes "untake") then on_request command.Untake given
+    else if bytes_eq name (codes "give") then give_of given
+    else command_after_give name given
+
+-- that of a subcommand
 abbrev pub command_in : Text × List Row → Option Command
 command_in met =
     if bytes_eq met.0 (codes "queue") then queue_of met.1
     else if bytes_eq met.0 (codes "create") then create_of met.1
-    else if bytes_eq met.0 (codes "status") then status_of met.1
-    else if bytes_eq met.0 (codes "resolve") then resolve_of met.1
-    else if bytes_eq met.0 (codes "level") then level_of met.1
-    else if bytes_eq met.0 (codes "take") then on_request command.Take met.1
-    else if bytes_eq met.0 (codes "steal") then on_request command.Steal met.1
-    else if bytes_eq met.0 (codes "untake") then on_request command.Untake met.1
-    else if bytes_eq met.0 (codes "give") then give_of met.1
-    else if bytes_eq met.0 (codes "correspond") then correspond_of met.1
-    else if bytes_eq met.0 (codes "comment") then comment_of met.1
-    else if bytes_eq met.0 (codes "watch") then watch_of met.1
-    else if bytes_eq met.0 (codes "unwatch") then unwatch_of met.1
-    else if bytes_eq met.0 (codes "link") then link_of met.1
-    else if bytes_eq met.0 (codes "queues") then Some command.Queues
-    else if bytes_eq met.0 (codes "show") then on_request command.Show met.1
-    else if bytes_eq met.0 (codes "history") then on_request command.History met.1
-    else None
+    else command_after_create met.0 met.1

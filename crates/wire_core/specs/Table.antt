@@ -23,9 +23,13 @@ root = let a = bare (codes "desk") in
 unfoldable pub desk : App
 desk = fold (λ a s. with_subcommand a s.top) root subcommands
 
+-- the subcommand of that name among some, if there is one
+abbrev pub among : List App → Text → Option App
+among some name = find (λ s. bytes_eq name s.top.name) some
+
 -- the subcommand of that name, if there is one
 unfoldable pub subcommand : Text → Option App
-subcommand name = find (λ s. bytes_eq name s.top.name) subcommands
+subcommand name = among subcommands name
 
 -- one more subcommand, if there is one
 abbrev pub with_named : App → Option App → App
