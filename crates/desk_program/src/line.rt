@@ -54,7 +54,11 @@ pub(crate) fn answer_line<S: Alter>(
                 caller,
                 command,
             },
-        ) => answer_command(alloc, desk, at, caller.as_str(), &command),
+        ) => {
+            let answer = answer_command(alloc, desk, at, caller.as_str(), &command);
+            drop(command);
+            answer
+        }
         Err(_) => Err(AllocError),
     }
 }
@@ -79,7 +83,9 @@ fn answer_command<S: Alter>(
     match Vec::with_capacity(alloc, SHORT_TEXT) {
         Ok(room) => {
             let outcome = desk.execute(alloc, at, caller, command);
-            text_of(alloc, &outcome, room)
+            let text = text_of(alloc, &outcome, room);
+            drop(outcome);
+            text
         }
         Err(_) => Err(AllocError),
     }
@@ -145,10 +151,11 @@ fn line_of_words(alloc: Global, words: &[String]) -> Result<Line, AllocError>
     let Some(at) = number_of_word(at.as_str()) else {
         return Ok(Line::BadWords);
     };
+    let caller = Text::new(alloc, caller.as_str())?;
     match command_of_words(alloc, command) {
         Ok(command) => Ok(Line::Asked {
             at,
-            caller: Text::new(alloc, caller.as_str())?,
+            caller,
             command,
         }),
         Err(WordsFault::NoMemory) => Err(AllocError),

@@ -40,6 +40,7 @@ pub(crate) fn run_in_memory<W: Write>(
     match Store::open_in_memory(alloc) {
         Ok(store) => run_in_store(alloc, store, settings, commands, output),
         Err(fault) => {
+            drop(settings);
             put_store_fault(output, fault);
             NO_DESK
         }
@@ -64,6 +65,8 @@ fn run_in_store<S: Alter + Drop, W: Write>(
     match store.create_schema() {
         Ok(()) => run_on_tables(alloc, store, settings, commands, output),
         Err(fault) => {
+            drop(settings);
+            drop(store);
             put_store_fault(output, fault);
             NO_DESK
         }
@@ -88,9 +91,11 @@ fn run_on_tables<S: Alter + Drop, W: Write>(
     match Desk::attach(alloc, store, settings) {
         Ok(mut desk) => {
             run_lines(alloc, &mut desk, commands, output);
+            drop(desk);
             DONE
         }
-        Err((fault, _)) => {
+        Err((fault, store)) => {
+            drop(store);
             put_attach_fault(output, fault);
             NO_DESK
         }

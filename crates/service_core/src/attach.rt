@@ -42,8 +42,14 @@ impl<S: Alter> Desk<S> {
         let mut store = store;
         match is_known(alloc, &mut store, &settings) {
             Ok(true) => Ok(Desk { store, settings }),
-            Ok(false) => Err((AttachFault::UnknownName, store)),
-            Err(fault) => Err((AttachFault::Store(fault), store)),
+            Ok(false) => {
+                drop(settings);
+                Err((AttachFault::UnknownName, store))
+            }
+            Err(fault) => {
+                drop(settings);
+                Err((AttachFault::Store(fault), store))
+            }
         }
     }
 }

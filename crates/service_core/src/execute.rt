@@ -60,7 +60,11 @@ fn step<S: Alter>(
     ensures honest { WasClean (state_of S.Store store.old) (state_of S.Store store.new) }
 {
     match store.facts_for(alloc, command) {
-        Ok(facts) => decided(alloc, store, settings, at, caller, command, &facts),
+        Ok(facts) => {
+            let answer = decided(alloc, store, settings, at, caller, command, &facts);
+            drop(facts);
+            answer
+        }
         Err(fault) => Err(Refusal::from(fault)),
     }
 }
@@ -83,7 +87,11 @@ fn decided<S: Alter>(
     ensures honest { WasClean (state_of S.Store store.old) (state_of S.Store store.new) }
 {
     match decide(alloc, settings, at, caller, facts, command) {
-        Ok(change) => carry_out(alloc, store, settings, caller, command, facts, &change),
+        Ok(change) => {
+            let answer = carry_out(alloc, store, settings, caller, command, facts, &change);
+            drop(change);
+            answer
+        }
         Err(refusal) => Err(refusal),
     }
 }

@@ -95,7 +95,11 @@ fn is_shown<S: Alter>(
     ensures fault { IfErr result (λ refusal. refusal ≡ Refusal.Unavailable) }
 {
     match facts_on(alloc, store, id) {
-        Ok(facts) => Ok(may_show(settings, caller, &facts)),
+        Ok(facts) => {
+            let shown = may_show(settings, caller, &facts);
+            drop(facts);
+            Ok(shown)
+        }
         Err(fault) => Err(Refusal::from(fault)),
     }
 }
@@ -106,7 +110,10 @@ fn facts_on<S: Alter>(alloc: Global, store: &mut Store<S>, id: u32) -> Result<Fa
         (state_of S.Store store.old) (state_of S.Store store.new) result }
     ensures kept { Spares (state_of S.Store store.old) (state_of S.Store store.new) }
 {
-    store.facts_for(alloc, &Command::Show { id })
+    let command = Command::Show { id };
+    let facts = store.facts_for(alloc, &command);
+    drop(command);
+    facts
 }
 
 /// Whether the request of these facts is there and the caller may show it.

@@ -1,5 +1,5 @@
 ghost use Rattle.std.specs.Prelude.{◌≡◌, ◌≢◌, [], None, Some, IfOk, IfErr};
-ghost use Rattle.std.specs.Option.{option_copied, option_map, option_or};
+ghost use Rattle.std.specs.Option.{option_copied, option_map};
 ghost use Rattle.toml.specs.View.{table_view};
 ghost use Rattle.settings_core.specs.Built.{IsBuilt};
 ghost use Rattle.settings_core.specs.Names.{knows_names as knows_names_in};

@@ -25,12 +25,12 @@ returns-in-Ok-clause-printed g c =
       run.2,
     )
 
-pub returns-clause-printed : goal.returns-clause-printed
-returns-clause-printed g c = (
+pub returns-in-Err-clause-printed : goal.returns-in-Err-clause-printed
+returns-in-Err-clause-printed g c = (
   _,
   not_attached c.args.settings c.args.commands.now c.in-Err.fault
-      (state_of g.S.Store c.args.store) (state_of g.S.Store c.in-Err.field-0-1)
+      (state_of g.S.Store c.args.store) (state_of g.S.Store c.in-Err.store)
       c.in-Err.ensures.unknown c.in-Err.ensures.fault c.requires.empty
-      (c.requires.clean c.in-Err.field-0-1.conn),
+      (c.requires.clean c.in-Err.store.conn),
   c.put_attach_fault.ensures.printed,
 )

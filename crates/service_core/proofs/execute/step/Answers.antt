@@ -8,15 +8,15 @@ use Rattle.service_core.proofs.execute.step.Goals as goal
 
 pub returns-in-Ok-clause-step : goal.returns-in-Ok-clause-step
 returns-in-Ok-clause-step g c desk is stand clean =
-    c.decided.ensures.step desk is
-    (c.in-Ok.ensures.told desk is stand (c.decided.ensures.honest clean))
+    c.decided-answer.ensures.step desk is
+    (c.in-Ok.ensures.told desk is stand (c.decided-answer.ensures.honest clean))
     (stands c.facts_for.ensures.kept (contents_of desk) stand) clean
 
 pub returns-in-Ok-clause-refused : goal.returns-in-Ok-clause-refused
 returns-in-Ok-clause-refused g c =
-    left_after c.decided.result (state_of g.S.Store c.args.store.now)
-    (state_of g.S.Store c.facts_for.new.self) (state_of g.S.Store c.decided.new.store)
-    (stands c.facts_for.ensures.kept) c.decided.ensures.refused
+    left_after c.decided-answer.result (state_of g.S.Store c.args.store.now)
+    (state_of g.S.Store c.facts_for.new.self) (state_of g.S.Store c.decided-answer.new.store)
+    (stands c.facts_for.ensures.kept) c.decided-answer.ensures.refused
 
 pub returns-in-Err-clause-step : goal.returns-in-Err-clause-step
 returns-in-Err-clause-step g c =
