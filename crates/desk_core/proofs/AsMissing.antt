@@ -10,7 +10,7 @@ use Rattle.settings_core.specs.declared.settings.Settings.{Settings}
 use Rattle.desk_model.specs.Commands.{plan_of}
 use Rattle.desk_model.specs.Condition.{Condition, first_holding}
 use Rattle.desk_model.specs.Desk.{Desk, Request, request_at}
-use Rattle.desk_model.specs.Facts.{standing, standing_at}
+use Rattle.desk_model.specs.Facts.{seen_request, seen_request_at}
 use Rattle.desk_model.specs.Plan.{Call, Plan, OnDesk, OnQueue, OnRequest, Nothing}
 use Rattle.desk_model.specs.Plan.{Dependencies, Another, besides_on, conditions_by}
 use Rattle.desk_model.specs.Plan.{is_bad_text, is_missing, names_request, on_shown, seen_by}
@@ -20,7 +20,7 @@ use Rattle.desk_model.specs.Rights.{may_show}
 use Rattle.desk_model.specs.Step.{call, outcome_unless}
 use Rattle.desk_model.specs.declared.command.Command.{Command}
 use Rattle.desk_model.specs.declared.command.Command.TheVariants.{Link, Unlink}
-use Rattle.desk_model.specs.declared.facts.Standing.{Standing}
+use Rattle.desk_model.specs.declared.facts.SeenRequest.{SeenRequest}
 use Rattle.desk_model.specs.declared.refusal.Refusal.{Refusal}
 use Rattle.desk_model.specs.declared.refusal.Refusal.TheVariants.{UnknownCaller, BadMoment}
 use Rattle.desk_model.specs.declared.refusal.Refusal.TheVariants.{BadText, NotFound}
@@ -54,19 +54,19 @@ after_call c rest = (UnknownCaller, not (knows c.settings c.caller))
     ∷ (BadMoment, not (is_moment c.at)) ∷ rest
 
 -- the request is missing, or what follows of it begins with a request that is
-abbrev Misses : Call → Option Standing → (Standing → List Condition) → Type 0
+abbrev Misses : Call → Option SeenRequest → (SeenRequest → List Condition) → Type 0
 Misses c o asks = (is_missing c o ≡ true)
-    ⊎ ((on : Standing) → first_holding (asks on) ≡ Some NotFound)
+    ⊎ ((request : SeenRequest) → first_holding (asks request) ≡ Some NotFound)
 
-not_found : (c : Call) (o : Option Standing) (asks : Standing → List Condition) → Misses c o asks
+not_found : (c : Call) (o : Option SeenRequest) (asks : SeenRequest → List Condition) → Misses c o asks
     → first_holding (on_shown c o asks) ≡ Some NotFound
 not_found c None asks misses = refl
-not_found c (Some on) asks (inl gone) = rw gone refl
-not_found c (Some on) asks (inr other) =
-    elim (not (may_show c.settings c.caller on))
-    as (λ b. cond b (Some NotFound) (first_holding (asks on)) ≡ Some NotFound) [
+not_found c (Some request) asks (inl gone) = rw gone refl
+not_found c (Some request) asks (inr other) =
+    elim (not (may_show c.settings c.caller request))
+    as (λ b. cond b (Some NotFound) (first_holding (asks request)) ≡ Some NotFound) [
       | true ↦ refl
-      | false ↦ other on
+      | false ↦ other request
     ]
 
 -- a condition that holds is the first
@@ -75,10 +75,10 @@ holds_first : (b : Bool) (rest : List Condition) → b ≡ true
 holds_first true rest e = refl
 holds_first false rest e = cc
 
-missing_unless_shown : (s : Settings) (at : ℕ) (caller : List ℕ) (o : Option Standing)
+missing_unless_shown : (s : Settings) (at : ℕ) (caller : List ℕ) (o : Option SeenRequest)
     → option_map_or (may_show s caller) o false ≡ false → is_missing (call s at caller) o ≡ true
 missing_unless_shown s at caller None e = refl
-missing_unless_shown s at caller (Some on) e = ap not e
+missing_unless_shown s at caller (Some request) e = ap not e
 
 abbrev guard_by : Call → Plan → Desk → Option Refusal
 guard_by c plan desk = first_holding (after_call c (conditions_by c (seen_by plan desk) plan))
@@ -90,51 +90,51 @@ RefusedByPlan c plan desk id =
 
 -- what is asked of a request is refused on this desk, and alike on each where the request of a
 -- number isn't there
-abbrev RefusedAlike : Call → ℕ → Option (List ℕ) → (Desk → Standing → List Condition) → Desk → ℕ
+abbrev RefusedAlike : Call → ℕ → Option (List ℕ) → (Desk → SeenRequest → List Condition) → Desk → ℕ
     → Type 0
 RefusedAlike c asked text asks desk id =
     (refusal : Refusal) × (number_of refusal ≤ 4)
     × (first_holding (after_call c
-    ((BadText, is_bad_text text) ∷ on_shown c (standing_at desk asked) (asks desk))) ≡ Some refusal)
+    ((BadText, is_bad_text text) ∷ on_shown c (seen_request_at desk asked) (asks desk))) ≡ Some refusal)
     × ((other : Desk) → request_at other id ≡ None
     → first_holding (after_call c
-    ((BadText, is_bad_text text) ∷ on_shown c (standing_at other asked) (asks other)))
+    ((BadText, is_bad_text text) ∷ on_shown c (seen_request_at other asked) (asks other)))
     ≡ Some refusal)
 
 refused_alike : (c : Call) (asked : ℕ) (text : Option (List ℕ))
-    (asks : Desk → Standing → List Condition) (desk : Desk) (id : ℕ)
-    → Misses c (standing_at desk asked) (asks desk)
+    (asks : Desk → SeenRequest → List Condition) (desk : Desk) (id : ℕ)
+    → Misses c (seen_request_at desk asked) (asks desk)
     → ((other : Desk) → request_at other id ≡ None
-    → Misses c (standing_at other asked) (asks other))
+    → Misses c (seen_request_at other asked) (asks other))
     → RefusedAlike c asked text asks desk id
 refused_alike c asked text asks desk id misses elsewhere =
     let a = not (knows c.settings c.caller) in
     let b = not (is_moment c.at) in (
       missing a b (is_bad_text text),
       missing_is_low a b (is_bad_text text),
-      first_missing a b (is_bad_text text) (on_shown c (standing_at desk asked) (asks desk))
-          (not_found c (standing_at desk asked) (asks desk) misses),
+      first_missing a b (is_bad_text text) (on_shown c (seen_request_at desk asked) (asks desk))
+          (not_found c (seen_request_at desk asked) (asks desk) misses),
       λ other none. first_missing a b (is_bad_text text)
-          (on_shown c (standing_at other asked) (asks other))
-          (not_found c (standing_at other asked) (asks other) (elsewhere other none)),
+          (on_shown c (seen_request_at other asked) (asks other))
+          (not_found c (seen_request_at other asked) (asks other) (elsewhere other none)),
     )
 
 -- a request that is hidden is missing, and so is one that isn't there
 hidden_at : (c : Call) (desk : Desk) (asked id : ℕ) → (asked == id) ≡ true
-    → is_missing c (standing_at desk id) ≡ true
-    → is_missing c (standing_at desk asked) ≡ true
+    → is_missing c (seen_request_at desk id) ≡ true
+    → is_missing c (seen_request_at desk asked) ≡ true
 hidden_at c desk asked id same hidden =
-    ap (λ n. is_missing c (standing_at desk n)) (eqb-true asked id same) ∙ hidden
+    ap (λ n. is_missing c (seen_request_at desk n)) (eqb-true asked id same) ∙ hidden
 
 gone_at : (c : Call) (desk : Desk) (asked id : ℕ) → (asked == id) ≡ true → request_at desk id ≡ None
-    → is_missing c (standing_at desk asked) ≡ true
+    → is_missing c (seen_request_at desk asked) ≡ true
 gone_at c desk asked id same none =
     hidden_at c desk asked id same
-    (ap (λ (o : Option Request). is_missing c (option_map standing o)) none)
+    (ap (λ (o : Option Request). is_missing c (option_map seen_request o)) none)
 
 hidden_first : (c : Call) (asked : ℕ) (text : Option (List ℕ))
-    (asks : Desk → Standing → List Condition) (desk : Desk) (id : ℕ)
-    → (asked == id) ≡ true → is_missing c (standing_at desk id) ≡ true
+    (asks : Desk → SeenRequest → List Condition) (desk : Desk) (id : ℕ)
+    → (asked == id) ≡ true → is_missing c (seen_request_at desk id) ≡ true
     → RefusedAlike c asked text asks desk id
 hidden_first c asked text asks desk id same hidden =
     refused_alike c asked text asks desk id (inl (hidden_at c desk asked id same hidden))
@@ -142,20 +142,20 @@ hidden_first c asked text asks desk id same hidden =
 
 -- the other end of a link is hidden
 hidden_second : (c : Call) (asked end : ℕ) (text : Option (List ℕ))
-    (conditions : Desk → Standing → List Condition) (desk : Desk) (id : ℕ)
-    → (end == id) ≡ true → is_missing c (standing_at desk id) ≡ true
+    (conditions : Desk → SeenRequest → List Condition) (desk : Desk) (id : ℕ)
+    → (end == id) ≡ true → is_missing c (seen_request_at desk id) ≡ true
     → RefusedAlike c asked text
-    (λ d on. (NotFound, is_missing c (standing_at d end)) ∷ conditions d on) desk id
+    (λ d request. (NotFound, is_missing c (seen_request_at d end)) ∷ conditions d request) desk id
 hidden_second c asked end text conditions desk id same hidden =
     refused_alike c asked text
-    (λ d on. (NotFound, is_missing c (standing_at d end)) ∷ conditions d on) desk id
-    (inr (λ on. holds_first (is_missing c (standing_at desk end)) (conditions desk on)
+    (λ d request. (NotFound, is_missing c (seen_request_at d end)) ∷ conditions d request) desk id
+    (inr (λ request. holds_first (is_missing c (seen_request_at desk end)) (conditions desk request)
     (hidden_at c desk end id same hidden)))
-    (λ other none. inr (λ on. holds_first (is_missing c (standing_at other end))
-    (conditions other on) (gone_at c other end id same none)))
+    (λ other none. inr (λ request. holds_first (is_missing c (seen_request_at other end))
+    (conditions other request) (gone_at c other end id same none)))
 
 hidden_by_plan : (c : Call) (plan : Plan) (desk : Desk) (id : ℕ) → names_request plan id ≡ true
-    → is_missing c (standing_at desk id) ≡ true → RefusedByPlan c plan desk id
+    → is_missing c (seen_request_at desk id) ≡ true → RefusedByPlan c plan desk id
 hidden_by_plan c OnDesk desk id named hidden = cc
 hidden_by_plan c (OnQueue name conditions change) desk id named hidden = cc
 hidden_by_plan c (OnRequest asked Nothing text conditions change) desk id named hidden =
@@ -165,12 +165,12 @@ hidden_by_plan c (OnRequest asked Dependencies text conditions change) desk id n
     hidden_first c asked text (λ d. conditions c (besides_on Dependencies asked d)) desk id
     (sym (or-false (asked == id)) ∙ named) hidden
 hidden_by_plan c (OnRequest asked (Another kind end) text conditions change) desk id named hidden =
-    let besides : Desk → Standing → List Condition =
+    let besides : Desk → SeenRequest → List Condition =
     λ d. conditions c (besides_on (Another kind end) asked d) in
     elim (or_cases (asked == id) (end == id) named) [
       | inl first ↦
           hidden_first c asked text
-          (λ d on. (NotFound, is_missing c (standing_at d end)) ∷ besides d on) desk id first hidden
+          (λ d request. (NotFound, is_missing c (seen_request_at d end)) ∷ besides d request) desk id first hidden
       | inr second ↦ hidden_second c asked end text besides desk id second hidden
     ]
 
@@ -188,7 +188,7 @@ pub hidden_law : (s : Settings) (at : ℕ) (caller : List ℕ) (command : Comman
 hidden_law s at caller command desk id named hidden =
     let by = hidden_by_plan (call s at caller) (plan_of command) desk id
     (named_by_plan command id named)
-    (missing_unless_shown s at caller (standing_at desk id) hidden) in (
+    (missing_unless_shown s at caller (seen_request_at desk id) hidden) in (
       by.0,
       by.1,
       ap (λ (o : Option Refusal). outcome_unless o (answer_of s at caller command desk)) by.2,

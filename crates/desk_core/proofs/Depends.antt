@@ -31,7 +31,7 @@ use Rattle.desk_model.specs.declared.command.Command.TheVariants.{OpenQueue, Cre
 use Rattle.desk_model.specs.declared.command.Command.TheVariants.{SetStatus, Reply, Queues}
 use Rattle.desk_model.specs.declared.facts.Dependency.{Dependency}
 use Rattle.desk_model.specs.declared.facts.Facts.{Facts}
-use Rattle.desk_model.specs.declared.facts.Standing.{Standing}
+use Rattle.desk_model.specs.declared.facts.SeenRequest.{SeenRequest}
 use Rattle.desk_model.specs.declared.rows.LinkKind.TheVariants.{DependsOn}
 use Rattle.desk_model.specs.declared.rows.LinkRow.{LinkRow}
 use Rattle.desk_model.specs.declared.rows.QueueRow.{QueueRow}
@@ -73,48 +73,48 @@ abbrev Moves : Command → ℕ → Type 0
 Moves (SetStatus id status) asked = id ≡ asked
 Moves other asked = ⊥
 
-abbrev DependencyGoes : Command → Call → Facts → Standing → RequestRow → Type 0
-DependencyGoes command call facts on new =
-    (new.status ≡ on.row.status)
+abbrev DependencyGoes : Command → Call → Facts → SeenRequest → RequestRow → Type 0
+DependencyGoes command call facts request new =
+    (new.status ≡ request.row.status)
     ⊎ (is_inactive (lifecycle_of call.settings facts.queue) new.status ≡ true
-    → Moves command on.row.id × (has_open_dependency call.settings facts.dependencies ≡ false))
+    → Moves command request.row.id × (has_open_dependency call.settings facts.dependencies ≡ false))
 
 unless_both : (a b : Bool) → (a && b) ≡ false → a ≡ true → b ≡ false
 unless_both true b e t = e
 unless_both false b e t = cc
 
-reply_goes : (call : Call) (facts : Facts) (id : ℕ) (text : List ℕ) (on : Standing)
+reply_goes : (call : Call) (facts : Facts) (id : ℕ) (text : List ℕ) (request : SeenRequest)
     (new : RequestRow) (move : Option (List ℕ))
-    → reply.move_of call facts on ≡ move → new.status ≡ unwrap_or move on.row.status
-    → DependencyGoes (Reply id text) call facts on new
-reply_goes call facts id text on new None e status = inl status
-reply_goes call facts id text on new (Some to) e status =
+    → reply.move_of call facts request ≡ move → new.status ≡ unwrap_or move request.row.status
+    → DependencyGoes (Reply id text) call facts request new
+reply_goes call facts id text request new None e status = inl status
+reply_goes call facts id text request new (Some to) e status =
     let lifecycle = lifecycle_of call.settings facts.queue in
     let active : is_inactive lifecycle new.status ≡ false =
     ap (is_inactive lifecycle) status
-    ∙ reopened_open lifecycle on.row.status to (replied_to call facts on to e) in
+    ∙ reopened_open lifecycle request.row.status to (replied_to call facts request to e) in
     inr (λ inactive. let no : true ≡ false = sym inactive ∙ active in cc)
 
 dependencies_go : (command : Command) → Goes (DependencyGoes command) (plan_of command)
 dependencies_go (OpenQueue name lifecycle level) = tt
 dependencies_go (Create queue subject status requestors) = tt
 dependencies_go Queues = tt
-dependencies_go (SetStatus id status) = λ call facts on new same free sets.
+dependencies_go (SetStatus id status) = λ call facts request new same free sets.
     let lifecycle = lifecycle_of call.settings facts.queue in
-    let to : status ≡ new.status = ap (λ o. status_in o on.row.status) sets in
-    let none : NoneHolds (set_status.conditions status call facts on) =
-    none_holds (set_status.conditions status call facts on) free in
+    let to : status ≡ new.status = ap (λ o. status_in o request.row.status) sets in
+    let none : NoneHolds (set_status.conditions status call facts request) =
+    none_holds (set_status.conditions status call facts request) free in
     inr (λ inactive. (
       same,
       unless_both (is_inactive lifecycle status)
           (has_open_dependency call.settings facts.dependencies) none.1.1.1.1.0
           (ap (is_inactive lifecycle) to ∙ inactive),
     ))
-dependencies_go (Reply id text) = λ call facts on new same free sets.
-    reply_goes call facts id text on new (reply.move_of call facts on) refl
-    (sym (ap (λ o. status_in o on.row.status) sets))
+dependencies_go (Reply id text) = λ call facts request new same free sets.
+    reply_goes call facts id text request new (reply.move_of call facts request) refl
+    (sym (ap (λ o. status_in o request.row.status) sets))
 dependencies_go other =
-    λ call facts on new same free sets. inl (sym (ap (λ o. status_in o on.row.status) sets))
+    λ call facts request new same free sets. inl (sym (ap (λ o. status_in o request.row.status) sets))
 
 -- the facts of a move have the dependencies of the request that is moved
 moved_free : (s : Settings) (command : Command) (desk : Desk) (n : ℕ)

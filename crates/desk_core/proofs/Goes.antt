@@ -9,7 +9,7 @@ use Rattle.settings_core.specs.declared.settings.Settings.{Settings}
 use Rattle.desk_model.specs.Commands.{plan_of}
 use Rattle.desk_model.specs.Condition.{Condition, first_holding}
 use Rattle.desk_model.specs.Desk.{Desk, Request, queue_at, request_at}
-use Rattle.desk_model.specs.Facts.{queue_of, standing}
+use Rattle.desk_model.specs.Facts.{queue_of, seen_request}
 use Rattle.desk_model.specs.Plan.{Call, Plan, OnDesk, OnQueue, OnRequest, Nothing}
 use Rattle.desk_model.specs.Plan.{Dependencies, Another, besides_on}
 use Rattle.desk_model.specs.Plan.{change_by, change_of_request, conditions_by}
@@ -19,7 +19,7 @@ use Rattle.desk_model.specs.Step.{desk_unless, effect, facts_of, guard}
 use Rattle.desk_model.specs.declared.change.Change.{Change}
 use Rattle.desk_model.specs.declared.command.Command.{Command}
 use Rattle.desk_model.specs.declared.facts.Facts.{Facts}
-use Rattle.desk_model.specs.declared.facts.Standing.{Standing}
+use Rattle.desk_model.specs.declared.facts.SeenRequest.{SeenRequest}
 use Rattle.desk_model.specs.declared.refusal.Refusal.{Refusal}
 use Rattle.desk_model.specs.declared.refusal.Refusal.TheVariants.{UnknownCaller, BadMoment}
 use Rattle.desk_model.specs.declared.refusal.Refusal.TheVariants.{BadText, NotFound}
@@ -133,55 +133,55 @@ KeepsIds OnDesk = Unit {0}
 KeepsIds (OnQueue name conditions change) =
     (call : Call) (facts : Facts) → (change call facts).row ≡ None
 KeepsIds (OnRequest id besides text conditions change) =
-    (call : Call) (facts : Facts) (on : Standing)
-    → id_in (change call facts on).row on.row.id ≡ on.row.id
+    (call : Call) (facts : Facts) (request : SeenRequest)
+    → id_in (change call facts request).row request.row.id ≡ request.row.id
 
 -- a relation of a request to the row that a plan gives it, where the plan's conditions let it pass
-abbrev pub Goes : (Call → Facts → Standing → RequestRow → Type 0) → Plan → Type 0
+abbrev pub Goes : (Call → Facts → SeenRequest → RequestRow → Type 0) → Plan → Type 0
 Goes P OnDesk = Unit {0}
 Goes P (OnQueue name conditions change) = Unit {0}
 Goes P (OnRequest id besides text conditions change) =
-    (call : Call) (facts : Facts) (on : Standing) (new : RequestRow) → id ≡ on.row.id
-    → first_holding (conditions call facts on) ≡ None → (change call facts on).row ≡ Some new
-    → P call facts on new
+    (call : Call) (facts : Facts) (request : SeenRequest) (new : RequestRow) → id ≡ request.row.id
+    → first_holding (conditions call facts request) ≡ None → (change call facts request).row ≡ Some new
+    → P call facts request new
 
-on_request : (P : Standing → RequestRow → Type 0) (call : Call) (queue : Option QueueRow)
+on_request : (P : SeenRequest → RequestRow → Type 0) (call : Call) (queue : Option QueueRow)
     (desk : Desk) (asked id : ℕ) (o : Option Request)
-    (front : List Condition) (asks conditions : Standing → List Condition)
-    (change : Standing → Change) (before : Request) (new : RequestRow)
+    (front : List Condition) (asks conditions : SeenRequest → List Condition)
+    (change : SeenRequest → Change) (before : Request) (new : RequestRow)
     → request_at desk asked ≡ o → request_at desk id ≡ Some before → queue ≡ queue_of desk o
-    → ((on : Standing) → first_holding (asks on) ≡ None → first_holding (conditions on) ≡ None)
-    → ((on : Standing) → id_in (change on).row on.row.id ≡ on.row.id)
-    → first_holding (front ++ on_shown call (option_map standing o) asks) ≡ None
-    → (change_of_request (option_map standing o) change).row ≡ Some new → before.row.id ≡ new.id
-    → ((on : Standing) (new : RequestRow) → asked ≡ on.row.id → first_holding (conditions on) ≡ None
-    → (change on).row ≡ Some new → P on new)
-    → P (standing before) new × (queue ≡ queue_at desk before.row.queue)
+    → ((request : SeenRequest) → first_holding (asks request) ≡ None → first_holding (conditions request) ≡ None)
+    → ((request : SeenRequest) → id_in (change request).row request.row.id ≡ request.row.id)
+    → first_holding (front ++ on_shown call (option_map seen_request o) asks) ≡ None
+    → (change_of_request (option_map seen_request o) change).row ≡ Some new → before.row.id ≡ new.id
+    → ((request : SeenRequest) (new : RequestRow) → asked ≡ request.row.id → first_holding (conditions request) ≡ None
+    → (change request).row ≡ Some new → P request new)
+    → P (seen_request before) new × (queue ≡ queue_at desk before.row.queue)
 on_request P call queue desk asked id None front asks conditions change before new there was seen
     inner ids free sets same goes = cc
 on_request P call queue desk asked id
     (Some r) front asks conditions change before new there was seen inner ids free sets same goes =
     let number : r.row.id ≡ asked = number_found desk asked r there in
     let one : new.id ≡ r.row.id =
-    sym (ap (λ (o : Option RequestRow). id_in o r.row.id) sets) ∙ ids (standing r) in
+    sym (ap (λ (o : Option RequestRow). id_in o r.row.id) sets) ∙ ids (seen_request r) in
     let asked_is : asked ≡ id = sym number ∙ sym one ∙ sym same ∙ number_found desk id before was in
     let found : Some r ≡ Some before = sym there ∙ ap (request_at desk) asked_is ∙ was in
     let is : r ≡ before = cc in
-    let let_by = passed (NotFound, is_missing call (Some (standing r))) (asks (standing r))
+    let let_by = passed (NotFound, is_missing call (Some (seen_request r))) (asks (seen_request r))
     (rest_passes front _ free) in
-    let gone : P (standing r) new =
-    goes (standing r) new (sym number) (inner (standing r) let_by.1) sets in (
-      subst (λ (b : Request). P (standing b) new) is gone,
+    let gone : P (seen_request r) new =
+    goes (seen_request r) new (sym number) (inner (seen_request r) let_by.1) sets in (
+      subst (λ (b : Request). P (seen_request b) new) is gone,
       seen ∙ ap (λ (b : Request). queue_at desk b.row.queue) is,
     )
 
-by_plan : (P : Call → Facts → Standing → RequestRow → Type 0) (call : Call) (plan : Plan)
+by_plan : (P : Call → Facts → SeenRequest → RequestRow → Type 0) (call : Call) (plan : Plan)
     (front : List Condition) (desk : Desk) (id : ℕ) (before : Request) (new : RequestRow)
     → request_at desk id ≡ Some before → KeepsIds plan
     → first_holding (front ++ conditions_by call (seen_by plan desk) plan) ≡ None
     → (change_by call (seen_by plan desk) plan).row ≡ Some new → before.row.id ≡ new.id
     → Goes P plan
-    → P call (seen_by plan desk) (standing before) new
+    → P call (seen_by plan desk) (seen_request before) new
     × ((seen_by plan desk).queue ≡ queue_at desk before.row.queue)
 by_plan P call OnDesk front desk id before new was ids free sets same goes = cc
 by_plan P call (OnQueue name conditions change) front desk id before new was ids free sets same
@@ -193,7 +193,7 @@ by_plan P call (OnRequest asked Nothing text conditions change) front desk id be
     on_request (P call facts) call facts.queue desk asked id (request_at desk asked)
     ((BadText, is_bad_text text) ∷ []) (conditions call facts) (conditions call facts)
     (change call facts) before new
-    refl was refl (λ on h. h) (ids call facts) (rest_passes front _ free) sets same
+    refl was refl (λ request h. h) (ids call facts) (rest_passes front _ free) sets same
     (goes call facts)
 by_plan P call (OnRequest asked Dependencies text conditions change) front desk id before new was
     ids free sets same goes =
@@ -201,25 +201,25 @@ by_plan P call (OnRequest asked Dependencies text conditions change) front desk 
     on_request (P call facts) call facts.queue desk asked id (request_at desk asked)
     ((BadText, is_bad_text text) ∷ []) (conditions call facts) (conditions call facts)
     (change call facts) before new
-    refl was refl (λ on h. h) (ids call facts) (rest_passes front _ free) sets same
+    refl was refl (λ request h. h) (ids call facts) (rest_passes front _ free) sets same
     (goes call facts)
 by_plan P call (OnRequest asked (Another kind other) text conditions change) front desk id before
     new was ids free sets same goes =
     let facts = besides_on (Another kind other) asked desk in
     on_request (P call facts) call facts.queue desk asked id (request_at desk asked)
     ((BadText, is_bad_text text) ∷ [])
-    (λ on. (NotFound, is_missing call facts.other) ∷ conditions call facts on)
+    (λ request. (NotFound, is_missing call facts.other) ∷ conditions call facts request)
     (conditions call facts) (change call facts) before new
-    refl was refl (λ on h.
-    (passed (NotFound, is_missing call facts.other) (conditions call facts on) h).1)
+    refl was refl (λ request h.
+    (passed (NotFound, is_missing call facts.other) (conditions call facts request) h).1)
     (ids call facts) (rest_passes front _ free) sets same (goes call facts)
 
 -- what goes for the plan of a command goes for the row that it gives
-pub row_goes : (P : Call → Facts → Standing → RequestRow → Type 0) (s : Settings) (at : ℕ)
+pub row_goes : (P : Call → Facts → SeenRequest → RequestRow → Type 0) (s : Settings) (at : ℕ)
     (caller : List ℕ) (command : Command) (desk : Desk) (id : ℕ) (before after : Request)
     → request_at desk id ≡ Some before → KeepsIds (plan_of command) → Goes P (plan_of command)
     → Sets s at caller command desk before after
-    → P (call s at caller) (facts_of command desk) (standing before) after.row
+    → P (call s at caller) (facts_of command desk) (seen_request before) after.row
     × ((facts_of command desk).queue ≡ queue_at desk before.row.queue)
 row_goes P s at caller command desk id before after was ids goes sets =
     by_plan P (call s at caller) (plan_of command)

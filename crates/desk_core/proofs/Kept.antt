@@ -3,7 +3,7 @@ use Rattle.std.proofs.Common.{◌≡◌, ◌≢◌, ◌⊎◌, ℕ, Bool, true, 
 use Rattle.std.proofs.Common.{[], ◌++◌, ◌||◌, ◌&&◌, not, unwrap_or, Option, Some}
 use Rattle.std.proofs.Common.{None, inl, inr, refl, ap, sym, subst, append-nil}
 use Rattle.desk_model.specs.Desk.{queue_at}
-use Rattle.desk_model.specs.Facts.{standing}
+use Rattle.desk_model.specs.Facts.{seen_request}
 use Rattle.settings_core.specs.declared.settings.Settings.{Settings}
 use Rattle.desk_model.specs.Desk.{Desk, Request, request_at}
 use Rattle.desk_model.specs.Plan.{Call, change_by}
@@ -27,7 +27,7 @@ use Rattle.desk_model.specs.declared.command.Command.TheVariants.{SetStatus, Tak
 use Rattle.desk_model.specs.declared.command.Command.TheVariants.{Steal, Untake, Give}
 use Rattle.desk_model.specs.declared.command.Command.TheVariants.{Reply, Queues}
 use Rattle.desk_model.specs.declared.facts.Facts.{Facts}
-use Rattle.desk_model.specs.declared.facts.Standing.{Standing}
+use Rattle.desk_model.specs.declared.facts.SeenRequest.{SeenRequest}
 use Rattle.desk_model.specs.declared.refusal.Refusal.{Refusal}
 use Rattle.desk_model.specs.declared.rows.Entry.{Entry}
 use Rattle.desk_model.specs.declared.rows.QueueRow.{QueueRow}
@@ -62,54 +62,54 @@ pub ids_kept : (command : Command) → KeepsIds (plan_of command)
 ids_kept (OpenQueue name lifecycle level) = λ call facts. refl
 ids_kept (Create queue subject status requestors) = λ call facts. refl
 ids_kept Queues = tt
-ids_kept other = λ call facts on. refl
+ids_kept other = λ call facts request. refl
 
 abbrev owner_in : Option RequestRow → Option (List ℕ) → Option (List ℕ)
 owner_in None owner = owner
 owner_in (Some row) owner = row.owner
 
 -- the owner stays, or is one whom the command gives
-abbrev OwnerGoes : Command → Call → Facts → Standing → RequestRow → Type 0
-OwnerGoes command call facts on new =
-    (new.owner ≡ on.row.owner)
-    ⊎ (SetsOwner call.caller command on.row.id new.owner × MayOwn call.settings on new.owner)
+abbrev OwnerGoes : Command → Call → Facts → SeenRequest → RequestRow → Type 0
+OwnerGoes command call facts request new =
+    (new.owner ≡ request.row.owner)
+    ⊎ (SetsOwner call.caller command request.row.id new.owner × MayOwn call.settings request new.owner)
 
 owners_go : (command : Command) → Goes (OwnerGoes command) (plan_of command)
 owners_go (OpenQueue name lifecycle level) = tt
 owners_go (Create queue subject status requestors) = tt
 owners_go Queues = tt
-owners_go (Take id) = λ call facts on new same free sets.
-    let owner : Some call.caller ≡ new.owner = ap (λ o. owner_in o on.row.owner) sets in
-    let none : NoneHolds (take.conditions call facts on) =
-    none_holds (take.conditions call facts on) free in
+owners_go (Take id) = λ call facts request new same free sets.
+    let owner : Some call.caller ≡ new.owner = ap (λ o. owner_in o request.row.owner) sets in
+    let none : NoneHolds (take.conditions call facts request) =
+    none_holds (take.conditions call facts request) free in
     inr (
       (same, sym owner),
-      subst (λ (o : Option (List ℕ)). MayOwn call.settings on o) owner
-          (holding (holds_on call.settings call.caller own_ticket on) none.1.0),
+      subst (λ (o : Option (List ℕ)). MayOwn call.settings request o) owner
+          (holding (holds_on call.settings call.caller own_ticket request) none.1.0),
     )
-owners_go (Steal id) = λ call facts on new same free sets.
-    let owner : Some call.caller ≡ new.owner = ap (λ o. owner_in o on.row.owner) sets in
-    let none : NoneHolds (steal.conditions call facts on) =
-    none_holds (steal.conditions call facts on) free in
+owners_go (Steal id) = λ call facts request new same free sets.
+    let owner : Some call.caller ≡ new.owner = ap (λ o. owner_in o request.row.owner) sets in
+    let none : NoneHolds (steal.conditions call facts request) =
+    none_holds (steal.conditions call facts request) free in
     inr (
       (same, sym owner),
-      subst (λ (o : Option (List ℕ)). MayOwn call.settings on o) owner
-          (holding (holds_on call.settings call.caller own_ticket on) none.1.0),
+      subst (λ (o : Option (List ℕ)). MayOwn call.settings request o) owner
+          (holding (holds_on call.settings call.caller own_ticket request) none.1.0),
     )
-owners_go (Give id person) = λ call facts on new same free sets.
-    let owner : Some person ≡ new.owner = ap (λ o. owner_in o on.row.owner) sets in
-    let none : NoneHolds (give.conditions person call facts on) =
-    none_holds (give.conditions person call facts on) free in
+owners_go (Give id person) = λ call facts request new same free sets.
+    let owner : Some person ≡ new.owner = ap (λ o. owner_in o request.row.owner) sets in
+    let none : NoneHolds (give.conditions person call facts request) =
+    none_holds (give.conditions person call facts request) free in
     inr (
       (same, sym owner),
-      subst (λ (o : Option (List ℕ)). MayOwn call.settings on o) owner
-          (holding (holds_on call.settings person own_ticket on) none.1.1.0),
+      subst (λ (o : Option (List ℕ)). MayOwn call.settings request o) owner
+          (holding (holds_on call.settings person own_ticket request) none.1.1.0),
     )
-owners_go (Untake id) = λ call facts on new same free sets.
-    let owner : None ≡ new.owner = ap (λ o. owner_in o on.row.owner) sets in
-    inr ((same, sym owner), subst (λ (o : Option (List ℕ)). MayOwn call.settings on o) owner tt)
-owners_go other = λ call facts on new same free sets.
-    inl (sym (ap (λ o. owner_in o on.row.owner) sets))
+owners_go (Untake id) = λ call facts request new same free sets.
+    let owner : None ≡ new.owner = ap (λ o. owner_in o request.row.owner) sets in
+    inr ((same, sym owner), subst (λ (o : Option (List ℕ)). MayOwn call.settings request o) owner tt)
+owners_go other = λ call facts request new same free sets.
+    inl (sym (ap (λ o. owner_in o request.row.owner) sets))
 
 -- an owner who is another one after the step is set by the command
 owner_changes : (s : Settings) (at : ℕ) (caller : List ℕ) (command : Command) (desk : Desk)
@@ -117,7 +117,7 @@ owner_changes : (s : Settings) (at : ℕ) (caller : List ℕ) (command : Command
     → request_at (desk_after s at caller command desk) id ≡ Some after
     → after.row.owner ≢ before.row.owner
     → SetsOwner caller command before.row.id after.row.owner
-    × MayOwn s (standing before) after.row.owner
+    × MayOwn s (seen_request before) after.row.owner
 owner_changes s at caller command desk id before after was is differs =
     elim (set_by s at caller command desk id before after was is) [
       | inl kept ↦ absurd (differs (ap (λ (r : RequestRow). r.owner) kept))
@@ -140,11 +140,11 @@ status_in None status = status
 status_in (Some row) status = row.status
 
 -- the status stays, or the command moves it lawfully
-abbrev StatusGoes : Command → Call → Facts → Standing → RequestRow → Type 0
-StatusGoes command call facts on new =
-    (new.status ≡ on.row.status)
+abbrev StatusGoes : Command → Call → Facts → SeenRequest → RequestRow → Type 0
+StatusGoes command call facts request new =
+    (new.status ≡ request.row.status)
     ⊎ IsLawfulMove call.settings call.caller
-    (lifecycle_of call.settings facts.queue) command on new.status
+    (lifecycle_of call.settings facts.queue) command request new.status
 
 -- to the status to which a request is opened again a move is allowed
 reopening_allowed : (lifecycle : Option Parts) (from to : List ℕ)
@@ -157,48 +157,48 @@ if_reopened true o to e = e
 if_reopened false o to e = cc
 
 -- a reply moves a request to the status to which it is opened again
-pub replied_to : (call : Call) (facts : Facts) (on : Standing) (to : List ℕ)
-    → reply.move_of call facts on ≡ Some to
-    → reopening_of (lifecycle_of call.settings facts.queue) on.row.status ≡ Some to
-replied_to call facts on to e =
+pub replied_to : (call : Call) (facts : Facts) (request : SeenRequest) (to : List ℕ)
+    → reply.move_of call facts request ≡ Some to
+    → reopening_of (lifecycle_of call.settings facts.queue) request.row.status ≡ Some to
+replied_to call facts request to e =
     let lifecycle = lifecycle_of call.settings facts.queue in
-    if_reopened (is_inactive lifecycle on.row.status
-    || (is_initial lifecycle on.row.status && not (is_among on.requestors call.caller))) _ to e
+    if_reopened (is_inactive lifecycle request.row.status
+    || (is_initial lifecycle request.row.status && not (is_among request.requestors call.caller))) _ to e
 
 -- the status after a reply that moves to this one, if to any
-reply_goes : (call : Call) (facts : Facts) (id : ℕ) (text : List ℕ) (on : Standing)
-    (new : RequestRow) (move : Option (List ℕ)) → id ≡ on.row.id
-    → reply.move_of call facts on ≡ move → new.status ≡ unwrap_or move on.row.status
-    → StatusGoes (Reply id text) call facts on new
-reply_goes call facts id text on new None same e status = inl status
-reply_goes call facts id text on new (Some to) same e status =
+reply_goes : (call : Call) (facts : Facts) (id : ℕ) (text : List ℕ) (request : SeenRequest)
+    (new : RequestRow) (move : Option (List ℕ)) → id ≡ request.row.id
+    → reply.move_of call facts request ≡ move → new.status ≡ unwrap_or move request.row.status
+    → StatusGoes (Reply id text) call facts request new
+reply_goes call facts id text request new None same e status = inl status
+reply_goes call facts id text request new (Some to) same e status =
     let lifecycle = lifecycle_of call.settings facts.queue in
-    let there : reopening_of lifecycle on.row.status ≡ Some to = replied_to call facts on to e in
+    let there : reopening_of lifecycle request.row.status ≡ Some to = replied_to call facts request to e in
     inr (subst (λ (t : List ℕ). IsLawfulMove call.settings call.caller lifecycle
-    (Reply id text) on t) (sym status)
-    (reopening_allowed lifecycle on.row.status to there, (same, there)))
+    (Reply id text) request t) (sym status)
+    (reopening_allowed lifecycle request.row.status to there, (same, there)))
 
 statuses_go : (command : Command) → Goes (StatusGoes command) (plan_of command)
 statuses_go (OpenQueue name lifecycle level) = tt
 statuses_go (Create queue subject status requestors) = tt
 statuses_go Queues = tt
-statuses_go (SetStatus id status) = λ call facts on new same free sets.
+statuses_go (SetStatus id status) = λ call facts request new same free sets.
     let lifecycle = lifecycle_of call.settings facts.queue in
-    let to : status ≡ new.status = ap (λ o. status_in o on.row.status) sets in
-    let none : NoneHolds (set_status.conditions status call facts on) =
-    none_holds (set_status.conditions status call facts on) free in
+    let to : status ≡ new.status = ap (λ o. status_in o request.row.status) sets in
+    let none : NoneHolds (set_status.conditions status call facts request) =
+    none_holds (set_status.conditions status call facts request) free in
     let held = holding (holds_on call.settings call.caller
-    (right_of lifecycle on.row.status status) on) none.1.0 in
-    let allowed = holding (is_allowed lifecycle on.row.status status) none.1.1.1.0 in
-    inr (subst (λ (t : List ℕ). (is_allowed lifecycle on.row.status t ≡ true)
-    × ((id ≡ on.row.id) × (status ≡ t)
-    × (holds_on call.settings call.caller (right_of lifecycle on.row.status t) on ≡ true))) to
+    (right_of lifecycle request.row.status status) request) none.1.0 in
+    let allowed = holding (is_allowed lifecycle request.row.status status) none.1.1.1.0 in
+    inr (subst (λ (t : List ℕ). (is_allowed lifecycle request.row.status t ≡ true)
+    × ((id ≡ request.row.id) × (status ≡ t)
+    × (holds_on call.settings call.caller (right_of lifecycle request.row.status t) request ≡ true))) to
     (allowed, (same, refl, held)))
-statuses_go (Reply id text) = λ call facts on new same free sets.
-    reply_goes call facts id text on new (reply.move_of call facts on) same refl
-    (sym (ap (λ o. status_in o on.row.status) sets))
-statuses_go other = λ call facts on new same free sets.
-    inl (sym (ap (λ o. status_in o on.row.status) sets))
+statuses_go (Reply id text) = λ call facts request new same free sets.
+    reply_goes call facts id text request new (reply.move_of call facts request) same refl
+    (sym (ap (λ o. status_in o request.row.status) sets))
+statuses_go other = λ call facts request new same free sets.
+    inl (sym (ap (λ o. status_in o request.row.status) sets))
 
 -- a status that is another one after the step is that of a lawful move
 status_changes : (s : Settings) (at : ℕ) (caller : List ℕ) (command : Command) (desk : Desk)
@@ -206,7 +206,7 @@ status_changes : (s : Settings) (at : ℕ) (caller : List ℕ) (command : Comman
     → request_at (desk_after s at caller command desk) id ≡ Some after
     → after.row.status ≢ before.row.status
     → IsLawfulMove s caller (lifecycle_of s (queue_at desk before.row.queue)) command
-    (standing before) after.row.status
+    (seen_request before) after.row.status
 status_changes s at caller command desk id before after was is differs =
     elim (set_by s at caller command desk id before after was is) [
       | inl kept ↦ absurd (differs (ap (λ (r : RequestRow). r.status) kept))
@@ -217,7 +217,7 @@ status_changes s at caller command desk id before after was is differs =
             | inl stays ↦ absurd (differs stays)
             | inr moves ↦
                 subst (λ (q : Option QueueRow). IsLawfulMove s caller (lifecycle_of s q) command
-                (standing before) after.row.status) goes.1 moves
+                (seen_request before) after.row.status) goes.1 moves
           ]
     ]
 

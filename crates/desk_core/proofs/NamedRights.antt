@@ -18,7 +18,7 @@ use Rattle.desk_model.specs.declared.command.Command.{Command}
 use Rattle.desk_model.specs.declared.command.Command.TheVariants.{OpenQueue, Create, SetStatus}
 use Rattle.desk_model.specs.declared.command.Command.TheVariants.{Queues}
 use Rattle.desk_model.specs.declared.facts.Facts.{Facts}
-use Rattle.desk_model.specs.declared.facts.Standing.{Standing}
+use Rattle.desk_model.specs.declared.facts.SeenRequest.{SeenRequest}
 use Rattle.desk_model.specs.declared.refusal.Refusal.{Refusal}
 use Rattle.desk_model.specs.declared.refusal.Refusal.TheVariants.{Denied, Unavailable}
 
@@ -31,8 +31,8 @@ NamesRights OnDesk = Unit {0}
 NamesRights (OnQueue name conditions change) =
     (call : Call) (facts : Facts) → list_all is_named (conditions call facts) ≡ true
 NamesRights (OnRequest id besides text conditions change) =
-    (call : Call) (facts : Facts) (on : Standing)
-    → list_all is_named (conditions call facts on) ≡ true
+    (call : Call) (facts : Facts) (request : SeenRequest)
+    → list_all is_named (conditions call facts request) ≡ true
 
 -- so does each command's but that of a move
 names_rights : (command : Command) → IsMove command ⊎ NamesRights (plan_of command)
@@ -43,7 +43,7 @@ names_rights (SetStatus id status) = inl tt
 names_rights (OpenQueue name lifecycle level) = inr (λ call facts. refl)
 names_rights (Create queue subject status requestors) = inr (λ call facts. refl)
 names_rights Queues = inr tt
-names_rights other = inr (λ call facts on. refl)
+names_rights other = inr (λ call facts request. refl)
 
 another_named : (call : Call) (besides : Besides) (facts : Facts) (conditions : List Condition)
     → list_all is_named conditions ≡ true
@@ -52,11 +52,11 @@ another_named call Nothing facts conditions named = named
 another_named call Dependencies facts conditions named = named
 another_named call (Another kind other) facts conditions named = named
 
-of_request_named : (request : Option Standing) (conditions : Standing → List Condition)
-    → ((on : Standing) → list_all is_named (conditions on) ≡ true)
+of_request_named : (request : Option SeenRequest) (conditions : SeenRequest → List Condition)
+    → ((request : SeenRequest) → list_all is_named (conditions request) ≡ true)
     → list_all is_named (of_request request conditions) ≡ true
 of_request_named None conditions named = refl
-of_request_named (Some on) conditions named = named on
+of_request_named (Some request) conditions named = named request
 
 plan_named : (plan : Plan) (call : Call) (facts : Facts) → NamesRights plan
     → list_all is_named (conditions_by call facts plan) ≡ true
@@ -64,8 +64,8 @@ plan_named OnDesk call facts names = refl
 plan_named (OnQueue name conditions change) call facts names = names call facts
 plan_named (OnRequest id besides text conditions change) call facts names =
     of_request_named facts.request
-    (λ on. another_shown call besides facts (conditions call facts on))
-    (λ on. another_named call besides facts (conditions call facts on) (names call facts on))
+    (λ request. another_shown call besides facts (conditions call facts request))
+    (λ request. another_named call besides facts (conditions call facts request) (names call facts request))
 
 first_named : (conditions : List Condition) (refusal : Refusal)
     → list_all is_named conditions ≡ true → first_holding conditions ≡ Some refusal

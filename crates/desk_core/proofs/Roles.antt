@@ -11,7 +11,7 @@ use Rattle.rights_core.specs.declared.role.Roles.{Roles}
 use Rattle.settings_core.specs.Settings.{people_of}
 use Rattle.settings_core.specs.declared.settings.Settings.{Settings}
 use Rattle.desk_model.specs.Desk.{Request}
-use Rattle.desk_model.specs.Facts.{standing}
+use Rattle.desk_model.specs.Facts.{seen_request}
 use Rattle.desk_model.specs.Watchers.{is_role, is_watching, roles_among, watcher, watchers_of}
 use Rattle.text_core.specs.Texts.{is_among}
 use Rattle.desk_model.specs.Rights.{roles_on}
@@ -54,7 +54,7 @@ in_one person asked r =
 
 -- the roles that the watchers tell are the person's on the request
 pub roles_kept : (person : List ℕ) (r : Request)
-    → roles_among person r.row (watchers_of r) ≡ roles_on person (standing r)
+    → roles_among person r.row (watchers_of r) ≡ roles_on person (seen_request r)
 roles_kept person r =
     rw (
       in_one person Requestor r ∙ or-false (is_among r.requestors person),

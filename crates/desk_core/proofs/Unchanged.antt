@@ -8,12 +8,12 @@ use Rattle.desk_model.specs.declared.change.Change.{Change}
 use Rattle.desk_model.specs.declared.command.Command.{Command}
 use Rattle.desk_model.specs.declared.command.Command.TheVariants.{Queues, Show, History}
 use Rattle.desk_model.specs.declared.facts.Facts.{Facts}
-use Rattle.desk_model.specs.declared.facts.Standing.{Standing}
+use Rattle.desk_model.specs.declared.facts.SeenRequest.{SeenRequest}
 use Rattle.desk_model.specs.declared.refusal.Refusal.{Refusal}
 
-unread : (request : Option Standing) → change_of_request request (λ on. no_change) ≡ no_change
+unread : (request : Option SeenRequest) → change_of_request request (λ request. no_change) ≡ no_change
 unread None = refl
-unread (Some on) = refl
+unread (Some request) = refl
 
 -- the plan of a reading command changes nothing
 pub reads_nothing : (command : Command) (call : Call) (facts : Facts) → IsReading command

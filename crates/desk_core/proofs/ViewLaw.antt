@@ -15,7 +15,7 @@ use Rattle.settings_core.specs.declared.settings.Settings.{Settings}
 use Rattle.desk_model.specs.Condition.{first_holding}
 use Rattle.desk_model.specs.Desk.{Desk, Request, queue_at, request_at}
 use Rattle.desk_model.specs.Due.{due_of, due_on}
-use Rattle.desk_model.specs.Facts.{standing}
+use Rattle.desk_model.specs.Facts.{seen_request}
 use Rattle.desk_model.specs.IsDesk.{IsDesk, are_numbered}
 use Rattle.desk_model.specs.Links.{is_kind}
 use Rattle.desk_model.specs.Plan.{on_shown}
@@ -112,22 +112,22 @@ found_kept p s caller n id (y ∷ ys) e =
 
 -- the request, if it is there and the caller may show it
 abbrev if_shown : Settings → List ℕ → Option Request → Option Request
-if_shown s caller o = option_and_then (kept_if (λ r. may_show s caller (standing r)) s caller) o
+if_shown s caller o = option_and_then (kept_if (λ r. may_show s caller (seen_request r)) s caller) o
 
 -- the request of a number in the view
 in_view : (s : Settings) (caller : List ℕ) (desk : Desk) (id : ℕ) → IsDesk desk
     → request_at (view s caller desk) id ≡ if_shown s caller (request_at desk id)
 in_view s caller desk id is =
-    found_kept (λ r. may_show s caller (standing r)) s caller 1 id desk.requests is.requests
+    found_kept (λ r. may_show s caller (seen_request r)) s caller 1 id desk.requests is.requests
 
 abbrev is_shown_in : Settings → List ℕ → Option Request → Bool
-is_shown_in s caller o = option_map_or (may_show s caller) (option_map standing o) false
+is_shown_in s caller o = option_map_or (may_show s caller) (option_map seen_request o) false
 
 shown_if_shown : (s : Settings) (caller : List ℕ) (o : Option Request)
     → is_shown_in s caller (if_shown s caller o) ≡ is_shown_in s caller o
 shown_if_shown s caller None = refl
 shown_if_shown s caller (Some r) =
-    elim (may_show s caller (standing r)) as (λ b. may_show s caller (standing r) ≡ b
+    elim (may_show s caller (seen_request r)) as (λ b. may_show s caller (seen_request r) ≡ b
     → is_shown_in s caller (cond b (Some (as_seen s caller r)) None) ≡ b) [
       | true ↦ λ e. e
       | false ↦ λ e. refl
@@ -143,7 +143,7 @@ shown_in_view s caller desk id is =
 -- a request that is there is shown to a caller who may show it
 shown_there : (s : Settings) (caller : List ℕ) (desk : Desk) (r : Request) (id : ℕ)
     → request_at desk id ≡ Some r
-    → may_show s caller (standing r) ≡ true → is_shown s caller desk r.row.id ≡ true
+    → may_show s caller (seen_request r) ≡ true → is_shown s caller desk r.row.id ≡ true
 shown_there s caller desk r id there may =
     ap (is_shown s caller desk) (number_found desk id r there)
     ∙ ap (λ (o : Option Request). is_shown_in s caller o) there ∙ may
@@ -234,13 +234,13 @@ found_by_name keep name (y ∷ ys) k =
 -- the queue of a request that the caller may show is in the view
 queue_in_view : (s : Settings) (caller : List ℕ) (desk : Desk) (id : ℕ) (r : Request)
     → request_at desk id ≡ Some r
-    → may_show s caller (standing r) ≡ true
+    → may_show s caller (seen_request r) ≡ true
     → queue_at (view s caller desk) r.row.queue ≡ queue_at desk r.row.queue
 queue_in_view s caller desk id r there shown =
     let has : has_shown s caller desk r.row.queue ≡ true =
     found_among (λ x. x.row.id == id)
-    (λ x. may_show s caller (standing x) && bytes_eq x.row.queue r.row.queue) desk.requests r there
-    (and_from (may_show s caller (standing r)) (bytes_eq r.row.queue r.row.queue) shown
+    (λ x. may_show s caller (seen_request x) && bytes_eq x.row.queue r.row.queue) desk.requests r there
+    (and_from (may_show s caller (seen_request r)) (bytes_eq r.row.queue r.row.queue) shown
     ((bytes_eq-Decides r.row.queue r.row.queue).1 refl)) in
     found_by_name (λ name. holds_on_queue s caller see_queue name || has_shown s caller desk name)
     r.row.queue desk.queues
@@ -262,7 +262,7 @@ shown_with r due links =
 -- in the view a request is shown alike
 shown_alike : (s : Settings) (caller : List ℕ) (desk : Desk) (id : ℕ) (r : Request) → IsDesk desk
     → request_at desk id ≡ Some r
-    → may_show s caller (standing r) ≡ true
+    → may_show s caller (seen_request r) ≡ true
     → shown_of s caller desk r ≡ shown_of s caller (view s caller desk) (as_seen s caller r)
 shown_alike s caller desk id r is there may =
     sym
@@ -286,7 +286,7 @@ outcome_by s at caller o made =
     ((UnknownCaller, not (knows s caller))
     ∷ (BadMoment, not (is_moment at))
     ∷ (BadText, false)
-    ∷ on_shown (call s at caller) (option_map standing o) (λ on. [])))
+    ∷ on_shown (call s at caller) (option_map seen_request o) (λ request. [])))
     (answer_of_request o made)
 
 -- a request that isn't found is refused, whatever would be answered
@@ -300,12 +300,12 @@ refused_alike false false x y = refl
 -- what is answered alike of a request and of the request as seen comes alike of both
 reads_alike : (s : Settings) (at : ℕ) (caller : List ℕ) (o : Option Request)
     (here there : Request → Answer)
-    → ((r : Request) → o ≡ Some r → may_show s caller (standing r) ≡ true
+    → ((r : Request) → o ≡ Some r → may_show s caller (seen_request r) ≡ true
     → here r ≡ there (as_seen s caller r))
     → outcome_by s at caller o here ≡ outcome_by s at caller (if_shown s caller o) there
 reads_alike s at caller None here there alike = refl
 reads_alike s at caller (Some r) here there alike =
-    elim (may_show s caller (standing r)) as (λ b. may_show s caller (standing r) ≡ b
+    elim (may_show s caller (seen_request r)) as (λ b. may_show s caller (seen_request r) ≡ b
     → outcome_by s at caller (Some r) here
     ≡ outcome_by s at caller (cond b (Some (as_seen s caller r)) None) there) [
       | true ↦ λ e. rw (alike r refl e) refl
@@ -343,7 +343,7 @@ not_kept : (s : Settings) (caller : List ℕ) (o : Option Request) → if_shown 
     → is_shown_in s caller o ≡ false
 not_kept s caller None e = refl
 not_kept s caller (Some r) e =
-    elim (may_show s caller (standing r))
+    elim (may_show s caller (seen_request r))
     as (λ b. cond b (Some (as_seen s caller r)) None ≡ None → b ≡ false) [
       | true ↦ λ h. cc
       | false ↦ λ h. refl

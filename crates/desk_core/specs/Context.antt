@@ -4,7 +4,7 @@ use Rattle.desk_model.specs.Condition.{Condition, Decides, Passes}
 use Rattle.desk_model.specs.Plan.{Besides, Call, change_of_request, conditions_on_request}
 use Rattle.desk_model.specs.declared.change.Change.{Change}
 use Rattle.desk_model.specs.declared.facts.Facts.{Facts}
-use Rattle.desk_model.specs.declared.facts.Standing.{Standing}
+use Rattle.desk_model.specs.declared.facts.SeenRequest.{SeenRequest}
 use Rattle.desk_model.specs.declared.refusal.Refusal.{Refusal}
 use Rattle.desk_core.specs.declared.decision.Context.{Context}
 
@@ -22,7 +22,7 @@ DecidesOnQueue result conditions change context =
 -- a command on a request is decided by what it looks at besides, its text if it has one, these
 -- conditions and this change
 abbrev pub DecidesOn : Result Change Refusal → Besides → Option (List ℕ)
-    → (Call → Facts → Standing → List Condition) → (Call → Facts → Standing → Change) → Context
+    → (Call → Facts → SeenRequest → List Condition) → (Call → Facts → SeenRequest → Change) → Context
     → Type 0
 DecidesOn result besides text conditions change context =
     Decides result
@@ -30,7 +30,7 @@ DecidesOn result besides text conditions change context =
     (change_of_request context.facts.now.request (change (call_of context) context.facts.now))
 
 -- a request passes these conditions
-abbrev pub PassesOn : Result (Unit {0}) Refusal → (Call → Facts → Standing → List Condition)
-    → Context → Standing → Type 0
-PassesOn result conditions context on =
-    Passes result (conditions (call_of context) context.facts.now on)
+abbrev pub PassesOn : Result (Unit {0}) Refusal → (Call → Facts → SeenRequest → List Condition)
+    → Context → SeenRequest → Type 0
+PassesOn result conditions context request =
+    Passes result (conditions (call_of context) context.facts.now request)

@@ -10,7 +10,7 @@ use Rattle.settings_core.specs.declared.settings.Settings.{Settings}
 use Rattle.desk_model.specs.Commands.{IsReading, requests_named}
 use Rattle.desk_model.specs.Desk.{Desk, Request, queue_at, request_at}
 use Rattle.desk_model.specs.Due.{due_on}
-use Rattle.desk_model.specs.Facts.{standing}
+use Rattle.desk_model.specs.Facts.{seen_request}
 use Rattle.desk_model.specs.IsDesk.{IsDesk}
 use Rattle.desk_model.specs.Lifecycles.{is_allowed, is_inactive}
 use Rattle.desk_model.specs.Lifecycles.{lifecycle_of, reopening_of, right_of}
@@ -26,7 +26,7 @@ use Rattle.desk_model.specs.declared.answer.Answer.TheVariants as answer
 use Rattle.desk_model.specs.declared.command.Command.{Command}
 use Rattle.desk_model.specs.declared.command.Command.TheVariants.{SetStatus, Take, Steal}
 use Rattle.desk_model.specs.declared.command.Command.TheVariants.{Untake, Give, Reply}
-use Rattle.desk_model.specs.declared.facts.Standing.{Standing}
+use Rattle.desk_model.specs.declared.facts.SeenRequest.{SeenRequest}
 use Rattle.desk_model.specs.declared.refusal.Refusal.{Refusal}
 use Rattle.desk_model.specs.declared.rows.Entry.{Entry}
 use Rattle.desk_model.specs.declared.rows.LinkKind.TheVariants.{DependsOn}
@@ -62,9 +62,9 @@ SetsOwner caller (Untake id) asked owner = (id ≡ asked) × (owner ≡ None)
 SetsOwner caller (Give id person) asked owner = (id ≡ asked) × (owner ≡ Some person)
 SetsOwner caller other asked owner = ⊥
 
-abbrev pub MayOwn : Settings → Standing → Option (List ℕ) → Type 0
-MayOwn settings on None = ⊤
-MayOwn settings on (Some person) = holds_on settings person own_ticket on ≡ true
+abbrev pub MayOwn : Settings → SeenRequest → Option (List ℕ) → Type 0
+MayOwn settings request None = ⊤
+MayOwn settings request (Some person) = holds_on settings person own_ticket request ≡ true
 
 -- The owner law: where an owner changes, the command sets that owner, and a new one holds OwnTicket
 -- before the step.
@@ -73,7 +73,7 @@ OwnerLaw settings caller command old new =
     EachStays old new (λ before after.
     after.row.owner ≢ before.row.owner
     → SetsOwner caller command before.row.id after.row.owner
-    × MayOwn settings (standing before) after.row.owner)
+    × MayOwn settings (seen_request before) after.row.owner)
 
 abbrev pub KeepsOwnerLaw : Settings → ℕ → List ℕ → Command → Desk → Type 0
 KeepsOwnerLaw settings at caller command desk =
@@ -82,17 +82,17 @@ KeepsOwnerLaw settings at caller command desk =
 -- the command moves a request to this status, by this lifecycle: it asks for the move and the
 -- caller holds its right, or it is a reply and the status is the one to which the request is opened
 -- again
-abbrev pub MovesTo : Settings → List ℕ → Option Parts → Command → Standing → List ℕ → Type 0
-MovesTo settings caller lifecycle (SetStatus id status) on to =
-    (id ≡ on.row.id) × (status ≡ to)
-    × (holds_on settings caller (right_of lifecycle on.row.status to) on ≡ true)
-MovesTo settings caller lifecycle (Reply id text) on to =
-    (id ≡ on.row.id) × (reopening_of lifecycle on.row.status ≡ Some to)
-MovesTo settings caller lifecycle other on to = ⊥
+abbrev pub MovesTo : Settings → List ℕ → Option Parts → Command → SeenRequest → List ℕ → Type 0
+MovesTo settings caller lifecycle (SetStatus id status) request to =
+    (id ≡ request.row.id) × (status ≡ to)
+    × (holds_on settings caller (right_of lifecycle request.row.status to) request ≡ true)
+MovesTo settings caller lifecycle (Reply id text) request to =
+    (id ≡ request.row.id) × (reopening_of lifecycle request.row.status ≡ Some to)
+MovesTo settings caller lifecycle other request to = ⊥
 
-abbrev pub IsLawfulMove : Settings → List ℕ → Option Parts → Command → Standing → List ℕ → Type 0
-IsLawfulMove settings caller lifecycle command on to =
-    (is_allowed lifecycle on.row.status to ≡ true) × MovesTo settings caller lifecycle command on to
+abbrev pub IsLawfulMove : Settings → List ℕ → Option Parts → Command → SeenRequest → List ℕ → Type 0
+IsLawfulMove settings caller lifecycle command request to =
+    (is_allowed lifecycle request.row.status to ≡ true) × MovesTo settings caller lifecycle command request to
 
 -- The status law: where a status changes, the lifecycle of the request's queue allows it, and the
 -- command moves it so.
@@ -101,7 +101,7 @@ StatusLaw settings caller command old new =
     EachStays old new (λ before after.
     after.row.status ≢ before.row.status
     → IsLawfulMove settings caller (lifecycle_of settings (queue_at old before.row.queue)) command
-    (standing before) after.row.status)
+    (seen_request before) after.row.status)
 
 abbrev pub KeepsStatusLaw : Settings → ℕ → List ℕ → Command → Desk → Type 0
 KeepsStatusLaw settings at caller command desk =
@@ -190,4 +190,4 @@ HidesTheRest settings caller desk =
 abbrev pub ShowsByWatchers : Settings → List ℕ → Request → Type 0
 ShowsByWatchers settings person request =
     may_show_by settings person request.row (watchers_of request)
-    ≡ may_show settings person (standing request)
+    ≡ may_show settings person (seen_request request)

@@ -13,7 +13,7 @@ ghost use Rattle.desk_model.specs.Rights as rights;
 ghost use Rattle.desk_core.specs.Context.{call_of};
 ghost use Rattle.desk_core.specs.Decision.{Accepts, FollowsPlan, Refuses};
 
-use desk_model::{Change, Command, Entry, EntryKind, Facts, Refusal, Standing};
+use desk_model::{Change, Command, Entry, EntryKind, Facts, Refusal, SeenRequest};
 use hours_core::{END, Minute};
 use rights_core::{Roles, right};
 use settings_core::Settings;
@@ -167,57 +167,57 @@ impl<'c> Context<'c> {
     }
 
     /// The request that the command names, where the caller may show it and the other one too.
-    fn both_shown(&self) -> Result<&'c Standing, Refusal>
-        ensures ok { IfOk result (λ on. (self.now.facts.now.request ≡ Some on.now)
-            × (is_missing (call_of self.now) (Some on.now) ≡ false)
+    fn both_shown(&self) -> Result<&'c SeenRequest, Refusal>
+        ensures ok { IfOk result (λ request. (self.now.facts.now.request ≡ Some request.now)
+            × (is_missing (call_of self.now) (Some request.now) ≡ false)
             × (is_missing (call_of self.now) self.now.facts.now.other ≡ false)) }
         ensures err { IfErr result (λ refusal. (refusal ≡ Refusal.NotFound)
             × ((is_missing (call_of self.now) self.now.facts.now.request
             || is_missing (call_of self.now) self.now.facts.now.other) ≡ true)) }
     {
-        let on = self.shown()?;
+        let request = self.shown()?;
         match &self.facts.other {
-            Some(other) if self.may_show(other) => Ok(on),
+            Some(other) if self.may_show(other) => Ok(request),
             _ => Err(Refusal::NotFound),
         }
     }
 
     /// The request that the command names, where the caller may show it.
-    fn shown(&self) -> Result<&'c Standing, Refusal>
-        ensures ok { IfOk result (λ on. (self.now.facts.now.request ≡ Some on.now)
-            × (is_missing (call_of self.now) (Some on.now) ≡ false)) }
+    fn shown(&self) -> Result<&'c SeenRequest, Refusal>
+        ensures ok { IfOk result (λ request. (self.now.facts.now.request ≡ Some request.now)
+            × (is_missing (call_of self.now) (Some request.now) ≡ false)) }
         ensures err { IfErr result (λ refusal. (refusal ≡ Refusal.NotFound)
             × (is_missing (call_of self.now) self.now.facts.now.request ≡ true)) }
     {
         match &self.facts.request {
-            Some(on) if self.may_show(on) => Ok(on),
+            Some(request) if self.may_show(request) => Ok(request),
             _ => Err(Refusal::NotFound),
         }
     }
 
     /// Whether the caller may show the request.
-    fn may_show(&self, on: &Standing) -> bool
-        ensures { result ≡ rights.may_show self.now.settings.now self.now.caller.now on.now }
+    fn may_show(&self, request: &SeenRequest) -> bool
+        ensures { result ≡ rights.may_show self.now.settings.now self.now.caller.now request.now }
     {
-        on.may_show(self.settings, self.caller)
+        request.may_show(self.settings, self.caller)
     }
 
     /// Whether a person holds a right on the request, with the person's roles on it.
-    fn holds(&self, person: &str, right: &str, on: &Standing) -> bool
-        ensures { result ≡ rights.holds_on self.now.settings.now person.now right.now on.now }
+    fn holds(&self, person: &str, right: &str, request: &SeenRequest) -> bool
+        ensures { result ≡ rights.holds_on self.now.settings.now person.now right.now request.now }
     {
-        on.is_held(self.settings, person, right)
+        request.is_held(self.settings, person, right)
     }
 
     /// Refuses where the caller lacks a right on the request.
-    fn ask(&self, right: &str, on: &Standing) -> Result<(), Refusal>
+    fn ask(&self, right: &str, request: &SeenRequest) -> Result<(), Refusal>
         ensures ok { OnOk result (rights.holds_on
-            self.now.settings.now self.now.caller.now right.now on.now ≡ true) }
+            self.now.settings.now self.now.caller.now right.now request.now ≡ true) }
         ensures err { IfErr result (λ refusal. refusal ≢ Refusal.Unavailable
             → (refusal ≡ Refusal.Denied right.now) × (rights.holds_on
-            self.now.settings.now self.now.caller.now right.now on.now ≡ false)) }
+            self.now.settings.now self.now.caller.now right.now request.now ≡ false)) }
     {
-        if self.holds(self.caller, right, on) {
+        if self.holds(self.caller, right, request) {
             Ok(())
         } else {
             Err(self.denied(right))
@@ -226,14 +226,14 @@ impl<'c> Context<'c> {
 
     /// Refuses where the person may not own the request.
     #[tactic(auto, unfolding(rights_core::specs::Right::own_ticket))]
-    fn ask_to_own(&self, person: &str, on: &Standing) -> Result<(), Refusal>
+    fn ask_to_own(&self, person: &str, request: &SeenRequest) -> Result<(), Refusal>
         ensures ok { OnOk result (rights.holds_on
-            self.now.settings.now person.now own_ticket on.now ≡ true) }
+            self.now.settings.now person.now own_ticket request.now ≡ true) }
         ensures err { IfErr result (λ refusal. refusal ≢ Refusal.Unavailable
             → (refusal ≡ Refusal.Denied own_ticket) × (rights.holds_on
-            self.now.settings.now person.now own_ticket on.now ≡ false)) }
+            self.now.settings.now person.now own_ticket request.now ≡ false)) }
     {
-        if self.holds(person, right::OWN_TICKET, on) {
+        if self.holds(person, right::OWN_TICKET, request) {
             Ok(())
         } else {
             Err(self.denied(right::OWN_TICKET))
@@ -268,13 +268,13 @@ impl<'c> Context<'c> {
     }
 
     /// Refuses where so many more entries are too many.
-    fn ask_for_room(&self, on: &Standing, count: u32) -> Result<(), Refusal>
-        ensures ok { OnOk result (entries.lacks_room (call_of self.now) on.now count ≡ false) }
-        ensures fits { OnOk result (on.now.entry_count + count < 2 ^ 32) }
+    fn ask_for_room(&self, request: &SeenRequest, count: u32) -> Result<(), Refusal>
+        ensures ok { OnOk result (entries.lacks_room (call_of self.now) request.now count ≡ false) }
+        ensures fits { OnOk result (request.now.entry_count + count < 2 ^ 32) }
         ensures err { IfErr result (λ refusal. (refusal ≡ Refusal.Full)
-            × (entries.lacks_room (call_of self.now) on.now count ≡ true)) }
+            × (entries.lacks_room (call_of self.now) request.now count ≡ true)) }
     {
-        let wanted = u64::from(on.entry_count) + u64::from(count);
+        let wanted = u64::from(request.entry_count) + u64::from(count);
         if u64::from(self.settings.max_entries()) < wanted {
             Err(Refusal::Full)
         } else {
@@ -285,22 +285,22 @@ impl<'c> Context<'c> {
     /// The entry of that number after those that are there.
     fn entry(
         &self,
-        on: &Standing,
+        request: &SeenRequest,
         number: u32,
         kind: EntryKind,
         head: &str,
         body: &str,
     ) -> Result<Entry, AllocError>
-        requires { on.now.entry_count + number < 2 ^ 32 }
+        requires { request.now.entry_count + number < 2 ^ 32 }
         ensures { IfOk result (λ entry. entry
-            ≡ entries.entry_of (call_of self.now) on.now number kind head.now body.now) }
+            ≡ entries.entry_of (call_of self.now) request.now number kind head.now body.now) }
     {
         let actor = Text::new(self.alloc, self.caller)?;
         let head = Text::new(self.alloc, head)?;
         let body = Text::new(self.alloc, body)?;
         Ok(Entry {
-            id: on.row.id,
-            number: on.entry_count + number,
+            id: request.row.id,
+            number: request.entry_count + number,
             moment: self.moment,
             actor,
             kind,
@@ -312,16 +312,16 @@ impl<'c> Context<'c> {
     /// The next entry after those that are there, alone.
     fn one_entry(
         &self,
-        on: &Standing,
+        request: &SeenRequest,
         kind: EntryKind,
         head: &str,
         body: &str,
     ) -> Result<Sequence<Entry>, AllocError>
-        requires { on.now.entry_count + 1 < 2 ^ 32 }
+        requires { request.now.entry_count + 1 < 2 ^ 32 }
         ensures { IfOk result (λ noted. noted
-            ≡ entries.entry_of (call_of self.now) on.now 1 kind head.now body.now ∷ []) }
+            ≡ entries.entry_of (call_of self.now) request.now 1 kind head.now body.now ∷ []) }
     {
-        let entry = self.entry(on, 1, kind, head, body)?;
+        let entry = self.entry(request, 1, kind, head, body)?;
         Ok(Sequence::from(vec![in self.alloc; entry]?))
     }
 }

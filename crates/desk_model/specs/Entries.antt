@@ -2,20 +2,20 @@
 use Rattle.std.specs.Prelude.{ℕ, ◌+◌, Bool, List, nat_lt, Option, unwrap_or, codes}
 use Rattle.settings_core.specs.Settings.{entry_limit}
 use Rattle.desk_model.specs.Plan.{Call}
-use Rattle.desk_model.specs.declared.facts.Standing.{Standing}
+use Rattle.desk_model.specs.declared.facts.SeenRequest.{SeenRequest}
 use Rattle.desk_model.specs.declared.rows.Entry.{Entry}
 use Rattle.desk_model.specs.declared.rows.EntryKind.{EntryKind}
 
 -- so many more entries are too many
-abbrev pub lacks_room : Call → Standing → ℕ → Bool
-lacks_room call on count = nat_lt (entry_limit call.settings) (on.entry_count + count)
+abbrev pub lacks_room : Call → SeenRequest → ℕ → Bool
+lacks_room call request count = nat_lt (entry_limit call.settings) (request.entry_count + count)
 
 -- the entry of that number after those that are there, by the caller and of the moment
-abbrev pub entry_of : Call → Standing → ℕ → EntryKind → List ℕ → List ℕ → Entry
-entry_of call on number kind head body =
+abbrev pub entry_of : Call → SeenRequest → ℕ → EntryKind → List ℕ → List ℕ → Entry
+entry_of call request number kind head body =
     record {
-      id = on.row.id;
-      number = on.entry_count + number;
+      id = request.row.id;
+      number = request.entry_count + number;
       moment = call.at;
       actor = call.caller;
       kind = kind;

@@ -8,12 +8,12 @@ use Rattle.desk_model.specs.declared.rows.QueueRow.{QueueRow}
 use Rattle.desk_model.specs.declared.rows.LinkKind.TheVariants.{DependsOn}
 use Rattle.desk_model.specs.declared.rows.LinkRow.{LinkRow}
 use Rattle.desk_model.specs.declared.facts.Facts.{Facts}
-use Rattle.desk_model.specs.declared.facts.Standing.{Standing}
+use Rattle.desk_model.specs.declared.facts.SeenRequest.{SeenRequest}
 use Rattle.desk_model.specs.declared.facts.Dependency.{Dependency}
 
 -- a request with the number of its entries in place of them
-abbrev pub standing : Request → Standing
-standing request =
+abbrev pub seen_request : Request → SeenRequest
+seen_request request =
     record {
       row = request.row;
       requestors = request.requestors;
@@ -22,8 +22,8 @@ standing request =
       entry_count = length request.entries;
     }
 
-abbrev pub standing_at : Desk → ℕ → Option Standing
-standing_at desk id = option_map standing (request_at desk id)
+abbrev pub seen_request_at : Desk → ℕ → Option SeenRequest
+seen_request_at desk id = option_map seen_request (request_at desk id)
 
 -- the queue of a request
 abbrev pub queue_of : Desk → Option Request → Option QueueRow
@@ -69,4 +69,4 @@ facts_on_queue desk name =
 -- of a command on a request: the request and its queue
 abbrev pub facts_on_request : Desk → ℕ → Facts
 facts_on_request desk id =
-    record no_facts { queue = queue_of desk (request_at desk id); request = standing_at desk id }
+    record no_facts { queue = queue_of desk (request_at desk id); request = seen_request_at desk id }

@@ -1,7 +1,3 @@
-pub use Rattle.text_core.specs.Form
-pub use Rattle.hours_core.specs.Date
-pub use Rattle.hours_core.specs.Moment
-pub use Rattle.settings_core.specs.Settings
 pub mod Change
 pub mod Commands
 pub mod Condition

@@ -5,7 +5,7 @@ use Rattle.std.specs.Option.{option_map_or}
 use Rattle.settings_core.specs.declared.settings.Settings.{Settings}
 use Rattle.desk_model.specs.Desk.{Desk, Request, request_at, request_count}
 use Rattle.desk_model.specs.Due.{due_on}
-use Rattle.desk_model.specs.Facts.{standing, standing_at}
+use Rattle.desk_model.specs.Facts.{seen_request, seen_request_at}
 use Rattle.desk_model.specs.Links.{is_kind}
 use Rattle.desk_model.specs.Rights.{may_show, may_show_comments, sees_queue}
 use Rattle.desk_model.specs.declared.answer.Answer.{Answer}
@@ -24,7 +24,7 @@ use Rattle.desk_model.specs.declared.rows.LinkRow.{LinkRow}
 -- the request with that number is there, and the caller may show it
 abbrev pub is_shown : Settings → List ℕ → Desk → ℕ → Bool
 is_shown settings caller desk id =
-    option_map_or (may_show settings caller) (standing_at desk id) false
+    option_map_or (may_show settings caller) (seen_request_at desk id) false
 
 -- the link leads from the request to one that the caller may show
 abbrev pub leads_from : Settings → List ℕ → Desk → LinkKind → ℕ → LinkRow → Bool
@@ -77,7 +77,7 @@ is_comment other = false
 -- an entry is told unless it is a comment that the caller may not see
 abbrev pub is_told : Settings → List ℕ → Request → Entry → Bool
 is_told settings caller request entry =
-    not (is_comment entry.kind) || may_show_comments settings caller (standing request)
+    not (is_comment entry.kind) || may_show_comments settings caller (seen_request request)
 
 -- the entries of a request that the caller is told of, with their own numbers
 abbrev pub entries_told : Settings → List ℕ → Request → List Entry

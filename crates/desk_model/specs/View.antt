@@ -4,7 +4,7 @@ use Rattle.std.specs.List.{list_any}
 use Rattle.std.specs.Str.{bytes_eq}
 use Rattle.settings_core.specs.declared.settings.Settings.{Settings}
 use Rattle.desk_model.specs.Desk.{Desk, Request}
-use Rattle.desk_model.specs.Facts.{standing}
+use Rattle.desk_model.specs.Facts.{seen_request}
 use Rattle.desk_model.specs.Reading.{entries_told, is_shown}
 use Rattle.desk_model.specs.Rights.{may_show, sees_queue}
 use Rattle.desk_model.specs.declared.rows.LinkRow.{LinkRow}
@@ -17,7 +17,7 @@ as_seen settings caller request = record request { entries = entries_told settin
 -- a request that the caller may show is in the queue of that name
 abbrev pub has_shown : Settings → List ℕ → Desk → List ℕ → Bool
 has_shown settings caller desk name =
-    list_any (λ r. may_show settings caller (standing r) && bytes_eq r.row.queue name) desk.requests
+    list_any (λ r. may_show settings caller (seen_request r) && bytes_eq r.row.queue name) desk.requests
 
 -- both ends of the link are requests that the caller may show
 abbrev pub is_seen_link : Settings → List ℕ → Desk → LinkRow → Bool
@@ -30,6 +30,6 @@ view settings caller desk =
       queues = filter (λ q. sees_queue settings caller q || has_shown settings caller desk q.name)
           desk.queues;
       requests = map (as_seen settings caller)
-          (filter (λ r. may_show settings caller (standing r)) desk.requests);
+          (filter (λ r. may_show settings caller (seen_request r)) desk.requests);
       links = filter (is_seen_link settings caller desk) desk.links;
     }

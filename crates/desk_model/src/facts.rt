@@ -18,9 +18,9 @@ pub struct Facts {
     /// How many requests there are.
     pub request_count: u32,
     /// The request that the command names.
-    pub request: Option<Standing>,
+    pub request: Option<SeenRequest>,
     /// The other request that the command names.
-    pub other: Option<Standing>,
+    pub other: Option<SeenRequest>,
     /// Whether the link that the command names is there.
     pub is_linked: bool,
     /// The requests that the one depends on.
@@ -49,7 +49,7 @@ impl Facts {
 
 /// A request with its people, and how many entries its history has.
 #[derive(Drop)]
-pub struct Standing {
+pub struct SeenRequest {
     pub row: RequestRow,
     /// Its requestors, in the order of their bytes; and so are the next two lists.
     pub requestors: Texts,
@@ -58,15 +58,15 @@ pub struct Standing {
     pub entry_count: u32,
 }
 
-impl Clone for Standing {
-    ghost is_clone = { λ on copy. copy ≡ on };
+impl Clone for SeenRequest {
+    ghost is_clone = { λ request copy. copy ≡ request };
 
-    fn clone(&self) -> Result<Standing, AllocError> {
+    fn clone(&self) -> Result<SeenRequest, AllocError> {
         let requestors = self.requestors.clone()?;
         let cc = self.cc.clone()?;
         let admin_cc = self.admin_cc.clone()?;
         let row = self.row.clone()?;
-        Ok(Standing {
+        Ok(SeenRequest {
             row,
             requestors,
             cc,

@@ -23,7 +23,7 @@ pub use answer::{Answer, Links, Shown};
 pub use change::Change;
 pub use command::Command;
 pub use due::due_of;
-pub use facts::{Dependency, Facts, Standing};
+pub use facts::{Dependency, Facts, SeenRequest};
 pub use links::is_kind;
 pub use names::in_byte_order;
 pub use refusal::Refusal;

@@ -2,7 +2,7 @@ ghost use Rattle.std.specs.Prelude.{◌≡◌};
 ghost use Rattle.desk_model.specs.Rights as rights;
 ghost use Rattle.desk_model.specs.Watchers as words;
 
-use crate::facts::Standing;
+use crate::facts::SeenRequest;
 use crate::rows::{QueueRow, RequestRow, WatchRole, Watcher};
 use rights_core::{Roles, right};
 use settings_core::Settings;
@@ -36,7 +36,7 @@ pub fn sees_queue(settings: &Settings, person: &str, queue: &QueueRow) -> bool
         .holds(person, right::SEE_QUEUE, name, Roles::none())
 }
 
-impl Standing {
+impl SeenRequest {
     /// Whether the person may show the request.
     #[tactic(auto, unfolding(rights_core::specs::Right::show_ticket))]
     pub fn may_show(&self, settings: &Settings, person: &str) -> bool

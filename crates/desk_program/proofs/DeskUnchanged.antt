@@ -7,15 +7,15 @@ use Rattle.desk_model.specs.declared.answer.Answer.{Answer}
 use Rattle.desk_model.specs.declared.answer.Answer.TheVariants as answer
 use Rattle.desk_model.specs.declared.command.Command.{Command}
 use Rattle.desk_model.specs.declared.command.Command.TheVariants.{Create, Queues, Show, History}
-use Rattle.desk_model.specs.declared.facts.Standing.{Standing}
+use Rattle.desk_model.specs.declared.facts.SeenRequest.{SeenRequest}
 use Rattle.desk_model.specs.declared.refusal.Refusal.{Refusal}
-use Rattle.service_core.specs.Change.{applied, no_change}
-use Rattle.service_core.specs.Desk.{Desk, request_count}
-use Rattle.service_core.specs.Plan.{change_of_request}
-use Rattle.service_core.specs.Reading.{answer_of}
-use Rattle.service_core.specs.Short.{is_short}
-use Rattle.service_core.specs.Step.{Outcome, Steps, desk_unless, effect, facts_of, guard}
-use Rattle.service_core.specs.Step.{outcome_unless}
+use Rattle.desk_model.specs.Change.{applied, no_change}
+use Rattle.desk_model.specs.Desk.{Desk, request_count}
+use Rattle.desk_model.specs.Plan.{change_of_request}
+use Rattle.desk_model.specs.Reading.{answer_of}
+use Rattle.desk_texts.specs.Short.{is_short}
+use Rattle.desk_model.specs.Step.{Outcome, Steps, desk_unless, effect, facts_of, guard}
+use Rattle.desk_model.specs.Step.{outcome_unless}
 
 -- an answer that shows something
 abbrev Tells : Answer → Type 0
@@ -24,10 +24,10 @@ Tells (answer.Shown x) = ⊤
 Tells (answer.History entries) = ⊤
 Tells other = ⊥
 
-applied-no_change : (o : Option Standing) (desk : Desk)
-    → applied (change_of_request o (λ on. no_change)) desk ≡ desk
+applied-no_change : (o : Option SeenRequest) (desk : Desk)
+    → applied (change_of_request o (λ request. no_change)) desk ≡ desk
 applied-no_change None desk = refl
-applied-no_change (Some on) desk = refl
+applied-no_change (Some request) desk = refl
 
 unchanged_by_plan : (s : Settings) (at : ℕ) (caller : List ℕ) (o : Option Refusal)
     (command : Command) (old : Desk) (x : Answer)

@@ -6,16 +6,16 @@ use Rattle.settings_core.specs.declared.settings.Settings.{Settings}
 use Rattle.desk_model.specs.declared.command.Command.{Command}
 use Rattle.desk_model.specs.declared.refusal.Refusal.TheVariants.{Unavailable}
 use Rattle.store_tables.specs.declared.fault.StoreFault.TheVariants.{Refused}
-use Rattle.store_core.specs.Contents.{contents_of}
-use Rattle.store_core.specs.Stands.{StandsFor}
+use Rattle.store_tables.specs.Contents.{contents_of}
+use Rattle.store_tables.specs.Stands.{StandsFor}
 use Rattle.service_core.specs.Attaching.{FailsOver, TellsKnown}
-use Rattle.service_core.specs.Desk.{Desk, empty_desk}
-use Rattle.service_core.specs.IsDesk.{IsDesk}
-use Rattle.service_core.specs.Known.{is_known}
+use Rattle.desk_model.specs.Desk.{Desk, empty_desk}
+use Rattle.desk_model.specs.IsDesk.{IsDesk}
+use Rattle.desk_model.specs.Known.{is_known}
 use Rattle.service_core.specs.TableSteps.{StepsOn, ask_by}
-use Rattle.service_core.specs.Short.{is_short}
-use Rattle.service_core.specs.Step.{Outcome}
-use Rattle.service_core.specs.Texts.{outcome_text}
+use Rattle.desk_texts.specs.Short.{is_short}
+use Rattle.desk_model.specs.Step.{Outcome}
+use Rattle.desk_texts.specs.Texts.{outcome_text}
 use Rattle.service_core.specs.declared.fault.AttachFault.{AttachFault}
 use Rattle.service_core.specs.declared.fault.AttachFault.TheVariants.{Store, UnknownName}
 use Rattle.desk_program.specs.FaultLines.{attach_fault_text, unavailable_text}

@@ -7,8 +7,8 @@ use Rattle.std.proofs.lemmas.List.{take-append-drop, take_more}
 use Rattle.settings_core.specs.declared.settings.Settings.{Settings}
 use Rattle.desk_model.specs.declared.command.Command.{Command}
 use Rattle.desk_model.specs.declared.refusal.Refusal.TheVariants.{Unavailable}
-use Rattle.service_core.specs.Desk.{Desk, empty_desk}
-use Rattle.service_core.specs.Step.{Ask, Outcome, Runs}
+use Rattle.desk_model.specs.Desk.{Desk, empty_desk}
+use Rattle.desk_model.specs.Step.{Ask, Outcome, Runs}
 use Rattle.wire_core.specs.Number.{number_of}
 use Rattle.wire_core.specs.Spelling.{command_of}
 use Rattle.wire_core.specs.Words.{words_of}

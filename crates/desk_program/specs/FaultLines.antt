@@ -1,9 +1,9 @@
 -- The lines by which faults of the whole are told, and that of a line that is left out.
 use Rattle.std.specs.Prelude.{ℕ, List, [], ◌++◌, Option, Some, None, codes, decimal}
 use Rattle.store_tables.specs.declared.fault.StoreFault.{StoreFault}
-use Rattle.store_core.specs.Fault as store
+use Rattle.store_tables.specs.Fault as store
 use Rattle.service_core.specs.Fault as attach
-use Rattle.service_core.specs.Texts.{refusal_text}
+use Rattle.desk_texts.specs.Texts.{refusal_text}
 use Rattle.service_core.specs.declared.fault.AttachFault.{AttachFault}
 use Rattle.desk_model.specs.declared.refusal.Refusal.TheVariants.{Unavailable}
 use Rattle.settings_core.specs.Fault as settings

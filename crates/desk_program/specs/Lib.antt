@@ -1,4 +1,3 @@
-pub use Rattle.service_core.specs.Texts
 pub mod Calls
 pub mod Fault
 pub mod FaultLines

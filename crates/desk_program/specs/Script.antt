@@ -10,11 +10,11 @@ use Rattle.settings_core.specs.declared.fault.SettingsFault.{SettingsFault}
 use Rattle.settings_core.specs.declared.settings.Settings.{Settings}
 use Rattle.desk_model.specs.declared.command.Command.{Command}
 use Rattle.store_tables.specs.declared.fault.StoreFault.TheVariants.{Refused}
-use Rattle.service_core.specs.Desk.{Desk, empty_desk}
-use Rattle.service_core.specs.IsDesk.{IsDesk}
+use Rattle.desk_model.specs.Desk.{Desk, empty_desk}
+use Rattle.desk_model.specs.IsDesk.{IsDesk}
 use Rattle.service_core.specs.TableSteps.{LeadsOn}
-use Rattle.service_core.specs.Step.{Ask, Outcome, Runs, Steps}
-use Rattle.service_core.specs.Texts.{outcome_text}
+use Rattle.desk_model.specs.Step.{Ask, Outcome, Runs, Steps}
+use Rattle.desk_texts.specs.Texts.{outcome_text}
 use Rattle.service_core.specs.declared.fault.AttachFault.TheVariants.{Store}
 use Rattle.wire_core.specs.Number.{number_of}
 use Rattle.wire_core.specs.Spelling.{command_of}

@@ -1,9 +1,9 @@
 //! Commands are run on a desk in memory.
 ghost use Rattle.std.specs.Prelude.{◌≡◌, ℕ, List, Ok};
-ghost use Rattle.store_core.specs.Making.{IsBlank};
+ghost use Rattle.store_tables.specs.Making.{IsBlank};
 ghost use Rattle.store_core.specs.Seen.{state_of};
-ghost use Rattle.store_core.specs.Stands.{StandsFor};
-ghost use Rattle.service_core.specs.Desk.{empty_desk};
+ghost use Rattle.store_tables.specs.Stands.{StandsFor};
+ghost use Rattle.desk_model.specs.Desk.{empty_desk};
 ghost use Rattle.service_core.specs.Seen.{settings_of, tables_of};
 ghost use Rattle.desk_program.specs.Script.{AnswersCommands, HasCleanDisks, IsCommandsOutput};
 ghost use Rattle.desk_program.specs.Script.{LineLeads, line_of};

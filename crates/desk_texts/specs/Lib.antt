@@ -1,7 +1,3 @@
-pub use Rattle.hours_core.specs.Date
-pub use Rattle.desk_model.specs.Reading
-pub use Rattle.desk_model.specs.Refusals
-pub use Rattle.desk_model.specs.Step
 pub mod Columns
 pub mod History
 pub mod Queues

@@ -1,5 +1,3 @@
-pub use Rattle.text_core.specs.Form
-pub use Rattle.text_core.specs.Texts
 pub mod Fault
 pub mod Lifecycle
 pub mod Standard

@@ -52,7 +52,7 @@ onward : (m n : ℕ) (groups : List Group) (person : List ℕ)
 onward m n groups person rest group found =
     ⊎_elim
     (λ listed. direct n groups person group listed)
-    (λ on. further
+    (λ request. further
     n
     groups
     person
@@ -66,7 +66,7 @@ onward m n groups person rest group found =
     and_parts (lists groups group next.name) (leads_within m groups person next.name) passes in
     and_from (lists groups group next.name) (leads_within n groups person next.name) parts.0
     (rest next.name parts.1))
-    on))
+    request))
     (both_ways m groups person group found)
 
 longer : (n : ℕ) (groups : List Group) (person group : List ℕ)
@@ -98,8 +98,8 @@ leader : (n : ℕ) (groups : List Group) (person group : List ℕ)
 leader n groups person group found =
     ⊎_elim
     (λ listed. let at = lister groups group person listed in (at.0, at.1, at.2, at.3, at.4.0))
-    (λ on.
-    let next = Any-from_list_any (goes_on n groups person group) groups on in
+    (λ request.
+    let next = Any-from_list_any (goes_on n groups person group) groups request in
     let parts =
     and_parts (lists groups group next.1.name) (leads_within n groups person next.1.name) next.4 in
     let at = lister groups group next.1.name parts.0 in
@@ -200,8 +200,8 @@ leads_least zero groups person test first then group found =
 leads_least (suc n) groups person test first then group found =
     ⊎_elim
     (λ listed. first group listed)
-    (λ on.
-    let next = Any-from_list_any (goes_on n groups person group) groups on in
+    (λ request.
+    let next = Any-from_list_any (goes_on n groups person group) groups request in
     let parts =
     and_parts (lists groups group next.1.name) (leads_within n groups person next.1.name) next.4 in
     then group next.1.name parts.0
@@ -224,8 +224,8 @@ chain_within zero groups person group found = absurd (none_within_zero groups pe
 chain_within (suc n) groups person group found =
     ⊎_elim
     (λ listed. ([], listed))
-    (λ on.
-    let next = Any-from_list_any (goes_on n groups person group) groups on in
+    (λ request.
+    let next = Any-from_list_any (goes_on n groups person group) groups request in
     let parts =
     and_parts (lists groups group next.1.name) (leads_within n groups person next.1.name) next.4 in
     let rest = chain_within n groups person next.1.name parts.1 in

@@ -1,4 +1,3 @@
-pub use Rattle.text_core.specs.Form
 pub mod Closure
 pub mod Directory
 pub mod Index

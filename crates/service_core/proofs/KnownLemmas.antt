@@ -15,12 +15,12 @@ use Rattle.desk_model.specs.declared.rows.RequestRow.{RequestRow}
 use Rattle.desk_model.specs.declared.rows.Watcher.{Watcher}
 use Rattle.desk_model.specs.declared.rows.WatchRole.{WatchRole}
 use Rattle.desk_model.specs.declared.rows.WatchRole.TheVariants.{Requestor, Cc, AdminCc}
-use Rattle.desk_core.specs.Desk.{Desk, Request}
-use Rattle.desk_core.specs.IsDesk.{IsDesk, are_numbered}
-use Rattle.desk_core.specs.Known.{is_known, knows_actors, knows_persons, knows_queue, knows_row}
-use Rattle.desk_core.specs.Watchers.{watcher, watchers_of}
+use Rattle.desk_model.specs.Desk.{Desk, Request}
+use Rattle.desk_model.specs.IsDesk.{IsDesk, are_numbered}
+use Rattle.desk_model.specs.Known.{is_known, knows_actors, knows_persons, knows_queue, knows_row}
+use Rattle.desk_model.specs.Watchers.{watcher, watchers_of}
 use Rattle.service_core.specs.Attaching.{knows_history, knows_rows, of_queues}
-use Rattle.store_core.specs.Contents.{request_rows, watchers}
+use Rattle.store_tables.specs.Contents.{request_rows, watchers}
 
 -- ---- persons
 

@@ -11,12 +11,12 @@ use Rattle.desk_core.proofs.DeskLaw.{desk_law}
 use Rattle.desk_core.proofs.DueLaw.{due_law}
 use Rattle.desk_core.proofs.Kept.{history_law, owner_law, status_law}
 use Rattle.desk_core.proofs.ViewLaw.{view_law}
-use Rattle.desk_core.specs.Desk.{Desk}
-use Rattle.desk_core.specs.IsDesk.{IsDesk}
+use Rattle.desk_model.specs.Desk.{Desk}
+use Rattle.desk_model.specs.IsDesk.{IsDesk}
 use Rattle.desk_core.specs.Laws.{DueLaw}
-use Rattle.desk_core.specs.Reading.{answer_of}
-use Rattle.desk_core.specs.Step.{Ask, Outcome, Steps, desk_after, guard, outcome_of}
-use Rattle.desk_core.specs.Step.{outcome_unless}
+use Rattle.desk_model.specs.Reading.{answer_of}
+use Rattle.desk_model.specs.Step.{Ask, Outcome, Steps, desk_after, guard, outcome_of}
+use Rattle.desk_model.specs.Step.{outcome_unless}
 use Rattle.service_core.specs.TableSteps.{IsStep}
 
 due_unless : (s : Settings) (desk : Desk) (o : Option Refusal) (answer : Answer)

@@ -6,12 +6,12 @@ use Rattle.std.proofs.lemmas.List.{map-append, take_more}
 use Rattle.sqlite.specs.State.{State}
 use Rattle.settings_core.specs.declared.settings.Settings.{Settings}
 use Rattle.desk_model.specs.declared.command.Command.{Command}
-use Rattle.desk_core.specs.Desk.{Desk}
-use Rattle.desk_core.specs.IsDesk.{IsDesk}
-use Rattle.desk_core.specs.Step.{Ask, Outcome, RunsBy}
+use Rattle.desk_model.specs.Desk.{Desk}
+use Rattle.desk_model.specs.IsDesk.{IsDesk}
+use Rattle.desk_model.specs.Step.{Ask, Outcome, RunsBy}
 use Rattle.store_core.proofs.FactsLemmasOfDesk.{take_all}
-use Rattle.store_core.specs.Calls.{WasClean}
-use Rattle.desk_core.specs.Refusals.{names_its_right}
+use Rattle.store_tables.specs.Calls.{WasClean}
+use Rattle.desk_model.specs.Refusals.{names_its_right}
 use Rattle.desk_texts.specs.Short.{AreNamed}
 use Rattle.service_core.specs.TableSteps.{IsStep, LeadsOn, RunsOn, StepsOn, ask_by}
 use Rattle.service_core.specs.TableSteps.{ask_of, asks_of}
@@ -32,8 +32,8 @@ abbrev pub RunsSoFar : Settings → List Ask → List Outcome → State → Stat
 RunsSoFar settings asks outcomes =
     LeadsOn (λ desk after. RunsBy (IsStep settings) desk asks outcomes after × IsDesk after)
 
-pub run_begins : (s : Settings) (on : State) → RunsSoFar s [] [] on on
-run_begins s on desk is stand clean = (desk, (refl, is), stand)
+pub run_begins : (s : Settings) (request : State) → RunsSoFar s [] [] request request
+run_begins s request desk is stand clean = (desk, (refl, is), stand)
 
 pub run_goes_on : (s : Settings) (asks : List Ask) (outcomes : List Outcome) (ask : Ask)
     (outcome : Outcome) (old mid new : State)

@@ -11,17 +11,17 @@ use Rattle.desk_model.specs.declared.facts.Facts.{Facts}
 use Rattle.desk_model.specs.declared.refusal.Refusal.{Refusal}
 use Rattle.desk_model.specs.declared.refusal.Refusal.TheVariants.{Unavailable}
 use Rattle.desk_core.proofs.Unchanged.{reads_nothing}
-use Rattle.desk_core.specs.Change.{applied}
-use Rattle.desk_core.specs.Commands.{IsReading, plan_of}
-use Rattle.desk_core.specs.Desk.{Desk}
-use Rattle.desk_core.specs.Plan.{change_by}
-use Rattle.desk_core.specs.Reading.{answer_of}
-use Rattle.desk_core.specs.Step.{Ask, Outcome, Steps, call, desk_unless, effect, facts_of, guard}
-use Rattle.desk_core.specs.Step.{outcome_unless}
+use Rattle.desk_model.specs.Change.{applied}
+use Rattle.desk_model.specs.Commands.{IsReading, plan_of}
+use Rattle.desk_model.specs.Desk.{Desk}
+use Rattle.desk_model.specs.Plan.{change_by}
+use Rattle.desk_model.specs.Reading.{answer_of}
+use Rattle.desk_model.specs.Step.{Ask, Outcome, Steps, call, desk_unless, effect, facts_of, guard}
+use Rattle.desk_model.specs.Step.{outcome_unless}
 use Rattle.store_core.proofs.WritableByKind.{change_writable}
-use Rattle.store_core.specs.Calls.{Leaves, Tells}
-use Rattle.store_core.specs.Contents.{contents_of}
-use Rattle.store_core.specs.Stands.{StandsFor}
+use Rattle.store_tables.specs.Calls.{Leaves, Tells}
+use Rattle.store_tables.specs.Contents.{contents_of}
+use Rattle.store_tables.specs.Stands.{StandsFor}
 use Rattle.store_core.specs.Written.{IsWritable}
 use Rattle.service_core.specs.Decided.{CarriesOut, IsDecided, StepsSeeing}
 use Rattle.service_core.specs.Decided.{Writes, answered}
@@ -131,11 +131,11 @@ unavailable_on s ask refusal old new same kept desk is stand clean = (
   kept (contents_of desk) stand,
 )
 
-pub refused_seeing : (facts : Facts) (s : Settings) (ask : Ask) (refusal : Refusal) (on : State)
+pub refused_seeing : (facts : Facts) (s : Settings) (ask : Ask) (refusal : Refusal) (request : State)
     → ((desk : Desk) → facts ≡ facts_of ask.command desk → refusal ≢ Unavailable
     → guard s ask.at ask.caller ask.command desk ≡ Some refusal)
-    → StepsSeeing facts s ask (Err refusal) on on
-refused_seeing facts s ask refusal on refuses desk is seen stand clean = (
+    → StepsSeeing facts s ask (Err refusal) request request
+refused_seeing facts s ask refusal request refuses desk is seen stand clean = (
   desk,
   lawful s ask desk (Err refusal) desk is (refused s ask desk refusal (refuses desk seen)),
   stand,

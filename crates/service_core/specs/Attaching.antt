@@ -7,12 +7,12 @@ use Rattle.settings_core.specs.declared.settings.Settings.{Settings}
 use Rattle.desk_model.specs.declared.rows.QueueRow.{QueueRow}
 use Rattle.desk_model.specs.declared.rows.RequestRow.{RequestRow}
 use Rattle.desk_model.specs.declared.rows.Watcher.{Watcher}
-use Rattle.desk_core.specs.Desk.{Desk, empty_desk}
-use Rattle.desk_core.specs.IsDesk.{IsDesk}
-use Rattle.desk_core.specs.Known.{is_known, knows_queue, knows_row}
+use Rattle.desk_model.specs.Desk.{Desk, empty_desk}
+use Rattle.desk_model.specs.IsDesk.{IsDesk}
+use Rattle.desk_model.specs.Known.{is_known, knows_queue, knows_row}
 use Rattle.store_tables.specs.declared.fault.StoreFault.TheVariants.{Refused}
-use Rattle.store_core.specs.Contents.{Contents, history_at}
-use Rattle.store_core.specs.Stands.{Stand, StandsFor}
+use Rattle.store_tables.specs.Contents.{Contents, history_at}
+use Rattle.store_tables.specs.Stands.{Stand, StandsFor}
 use Rattle.service_core.specs.declared.fault.AttachFault.{AttachFault}
 use Rattle.service_core.specs.declared.fault.AttachFault.TheVariants.{Store, UnknownName}
 

@@ -9,13 +9,13 @@ use Rattle.desk_model.specs.declared.command.Command.{Command}
 use Rattle.desk_model.specs.declared.command.Command.TheVariants as command
 use Rattle.desk_model.specs.declared.facts.Facts.{Facts}
 use Rattle.desk_model.specs.declared.rows.RequestRow.{RequestRow}
-use Rattle.desk_core.specs.Change.{applied}
-use Rattle.desk_core.specs.Commands.{plan_of}
-use Rattle.desk_core.specs.Desk.{Desk}
-use Rattle.desk_core.specs.IsDesk.{IsDesk}
-use Rattle.desk_core.specs.Plan.{change_by}
-use Rattle.desk_core.specs.Step.{Ask, Outcome, call, facts_of, guard}
-use Rattle.store_core.specs.Stands.{StandsFor}
+use Rattle.desk_model.specs.Change.{applied}
+use Rattle.desk_model.specs.Commands.{plan_of}
+use Rattle.desk_model.specs.Desk.{Desk}
+use Rattle.desk_model.specs.IsDesk.{IsDesk}
+use Rattle.desk_model.specs.Plan.{change_by}
+use Rattle.desk_model.specs.Step.{Ask, Outcome, call, facts_of, guard}
+use Rattle.store_tables.specs.Stands.{StandsFor}
 use Rattle.store_core.specs.Written.{IsWritable}
 use Rattle.service_core.specs.TableSteps.{IsStep}
 

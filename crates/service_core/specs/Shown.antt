@@ -6,16 +6,16 @@ use Rattle.settings_core.specs.declared.settings.Settings.{Settings}
 use Rattle.desk_model.specs.declared.answer.Links.{Links}
 use Rattle.desk_model.specs.declared.answer.Shown.{Shown}
 use Rattle.desk_model.specs.declared.facts.Facts.{Facts}
-use Rattle.desk_model.specs.declared.facts.Standing.{Standing}
+use Rattle.desk_model.specs.declared.facts.SeenRequest.{SeenRequest}
 use Rattle.desk_model.specs.declared.rows.Entry.{Entry}
 use Rattle.desk_model.specs.declared.rows.LinkKind.{LinkKind}
 use Rattle.desk_model.specs.declared.rows.LinkRow.{LinkRow}
-use Rattle.desk_core.specs.Desk.{Desk}
-use Rattle.desk_core.specs.Due.{due_of}
-use Rattle.desk_core.specs.Links.{is_kind}
-use Rattle.desk_core.specs.Reading.{is_comment, is_shown, links_of}
-use Rattle.desk_core.specs.Rights.{may_show, may_show_comments}
-use Rattle.store_core.specs.Contents.{history_at}
+use Rattle.desk_model.specs.Desk.{Desk}
+use Rattle.desk_model.specs.Due.{due_of}
+use Rattle.desk_model.specs.Links.{is_kind}
+use Rattle.desk_model.specs.Reading.{is_comment, is_shown, links_of}
+use Rattle.desk_model.specs.Rights.{may_show, may_show_comments}
+use Rattle.store_tables.specs.Contents.{history_at}
 use Rattle.service_core.specs.declared.links.End.{End}
 use Rattle.service_core.specs.declared.links.End.TheVariants.{Source, Target}
 
@@ -51,31 +51,31 @@ links_by from to =
 -- when the request that a command sees is due, if it and its queue are there
 abbrev pub due_in : Settings → Facts → Option ℕ
 due_in settings facts =
-    option_and_then (λ queue. option_and_then (λ on. due_of settings queue on.row) facts.request)
+    option_and_then (λ queue. option_and_then (λ request. due_of settings queue request.row) facts.request)
     facts.queue
 
 -- a request with this due moment and these links
-abbrev pub shown_with : Standing → Option ℕ → Links → Shown
-shown_with on due links =
+abbrev pub shown_with : SeenRequest → Option ℕ → Links → Shown
+shown_with request due links =
     record {
-      row = on.row;
-      requestors = on.requestors;
-      cc = on.cc;
-      admin_cc = on.admin_cc;
+      row = request.row;
+      requestors = request.requestors;
+      cc = request.cc;
+      admin_cc = request.admin_cc;
       due = due;
       links = links;
     }
 
 -- a request with this due moment, as it is shown
-abbrev pub shown_to : Settings → List ℕ → Option ℕ → Standing → Desk → Shown
-shown_to settings caller due on desk =
-    shown_with on due (links_of settings caller desk on.row.id)
+abbrev pub shown_to : Settings → List ℕ → Option ℕ → SeenRequest → Desk → Shown
+shown_to settings caller due request desk =
+    shown_with request due (links_of settings caller desk request.row.id)
 
 -- whether an entry is told: a comment only where comments may be shown
 abbrev pub is_told : Bool → Entry → Bool
 is_told comments entry = not (is_comment entry.kind) || comments
 
 -- the history of a request, as far as it is told
-abbrev pub told_to : Settings → List ℕ → Standing → Desk → List Entry
-told_to settings caller on desk =
-    filter (is_told (may_show_comments settings caller on)) (history_at desk on.row.id)
+abbrev pub told_to : Settings → List ℕ → SeenRequest → Desk → List Entry
+told_to settings caller request desk =
+    filter (is_told (may_show_comments settings caller request)) (history_at desk request.row.id)

@@ -5,12 +5,12 @@ use Rattle.sqlite.specs.State.{State, HasCleanDisk}
 use Rattle.settings_core.specs.declared.settings.Settings.{Settings}
 use Rattle.desk_model.specs.declared.command.Command.{Command}
 use Rattle.desk_model.specs.declared.refusal.Refusal.TheVariants.{Unavailable}
-use Rattle.desk_core.specs.Desk.{Desk}
-use Rattle.desk_core.specs.IsDesk.{IsDesk}
+use Rattle.desk_model.specs.Desk.{Desk}
+use Rattle.desk_model.specs.IsDesk.{IsDesk}
 use Rattle.desk_core.specs.Laws.{DependencyLaw, DueLaw, HiddenLaw, HistoryLaw, OwnerLaw}
 use Rattle.desk_core.specs.Laws.{StatusLaw, ViewLaw}
-use Rattle.desk_core.specs.Step.{Ask, Outcome, RunsBy, Steps}
-use Rattle.store_core.specs.Stands.{StandsFor}
+use Rattle.desk_model.specs.Step.{Ask, Outcome, RunsBy, Steps}
+use Rattle.store_tables.specs.Stands.{StandsFor}
 
 -- One command: what comes of it, and the desk after it. All laws of a step hold; those of reading
 -- and of hidden requests where the answer isn't `Unavailable`.

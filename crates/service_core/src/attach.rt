@@ -1,9 +1,9 @@
 //! Settings are attached to tables.
 ghost use Rattle.std.specs.Prelude.{◌≡◌, ◌&&◌, false, true, IfErr, IfOk};
 ghost use Rattle.std.specs.List.{list_all};
-ghost use Rattle.desk_core.specs.Known as known;
-ghost use Rattle.store_core.specs.Calls.{OnlyRefuses, Spares, Tells};
-ghost use Rattle.store_core.specs.Contents.{watchers};
+ghost use Rattle.desk_model.specs.Known as known;
+ghost use Rattle.store_tables.specs.Calls.{OnlyRefuses, Spares, Tells};
+ghost use Rattle.store_tables.specs.Contents.{watchers};
 ghost use Rattle.store_core.specs.Seen.{state_of};
 ghost use Rattle.service_core.specs.Attaching as attaching;
 ghost use Rattle.service_core.specs.Attaching.{FailsOver, TellsKnown};

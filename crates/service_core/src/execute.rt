@@ -1,7 +1,7 @@
 //! One command on the desk.
 ghost use Rattle.std.specs.Prelude.{◌≡◌, ℕ, true, IfErr, IfOk, OnErr, OnOk};
-ghost use Rattle.desk_core.specs.Refusals.{names_its_right};
-ghost use Rattle.store_core.specs.Calls.{Leaves, WasClean};
+ghost use Rattle.desk_model.specs.Refusals.{names_its_right};
+ghost use Rattle.store_tables.specs.Calls.{Leaves, WasClean};
 ghost use Rattle.store_core.specs.Seen.{state_of};
 ghost use Rattle.service_core.specs.Decided as decided;
 ghost use Rattle.service_core.specs.Decided.{CarriesOut, StepsSeeing, Writes};

@@ -4,8 +4,8 @@ ghost use Rattle.std.specs.List.{list_all};
 ghost use Rattle.std.specs.Option.{option_map};
 ghost use Rattle.std.specs.Str.{bytes_eq};
 ghost use Rattle.settings_core.specs.Settings.{knows, lifecycle_named};
-ghost use Rattle.desk_core.specs.Known as known;
-ghost use Rattle.desk_core.specs.Lifecycles as lifecycles;
+ghost use Rattle.desk_model.specs.Known as known;
+ghost use Rattle.desk_model.specs.Lifecycles as lifecycles;
 ghost use Rattle.service_core.specs.Attaching as attaching;
 
 use desk_core::{Entry, QueueRow, RequestRow, Watcher};

@@ -1,8 +1,8 @@
 //! The links of a request, as far as the caller may show what is at their other ends.
 ghost use Rattle.std.specs.Prelude.{◌≡◌, IfErr, IfOk, filter};
-ghost use Rattle.desk_core.specs.Facts.{facts_on_request};
-ghost use Rattle.desk_core.specs.Reading as reading;
-ghost use Rattle.store_core.specs.Calls.{Spares, Tells};
+ghost use Rattle.desk_model.specs.Facts.{facts_on_request};
+ghost use Rattle.desk_model.specs.Reading as reading;
+ghost use Rattle.store_tables.specs.Calls.{Spares, Tells};
 ghost use Rattle.store_core.specs.Seen.{state_of};
 ghost use Rattle.service_core.specs.Shown as shown;
 
@@ -121,7 +121,7 @@ fn may_show(settings: &Settings, caller: &str, facts: &Facts) -> bool
     ensures { result ≡ shown.may_show_in settings.now caller.now facts.now }
 {
     match &facts.request {
-        Some(on) => on.may_show(settings, caller),
+        Some(request) => request.may_show(settings, caller),
         None => false,
     }
 }

@@ -1,15 +1,15 @@
 //! What commands that read answer, of the tables.
 ghost use Rattle.std.specs.Prelude.{◌≡◌, ℕ, IfErr, filter};
-ghost use Rattle.desk_core.specs.Reading as reading;
-ghost use Rattle.desk_core.specs.Rights as rights;
-ghost use Rattle.desk_core.specs.Step.{facts_of};
-ghost use Rattle.store_core.specs.Calls.{Spares, Tells};
+ghost use Rattle.desk_model.specs.Reading as reading;
+ghost use Rattle.desk_model.specs.Rights as rights;
+ghost use Rattle.desk_model.specs.Step.{facts_of};
+ghost use Rattle.store_tables.specs.Calls.{Spares, Tells};
 ghost use Rattle.store_core.specs.Seen.{state_of};
 ghost use Rattle.service_core.specs.Shown as shown;
 
 use crate::links::links_of;
 use desk_core::{
-    Answer, Command, Entry, Facts, Links, QueueRow, Refusal, Shown, Standing, due_of, sees_queue,
+    Answer, Command, Entry, Facts, Links, QueueRow, Refusal, Shown, SeenRequest, due_of, sees_queue,
 };
 use hours_core::Minute;
 use settings_core::Settings;
@@ -61,7 +61,7 @@ pub(crate) fn show<S: Alter>(
     ensures fault { IfErr result (λ refusal. refusal ≡ Refusal.Unavailable) }
 {
     match &facts.request {
-        Some(on) => shown_to(alloc, store, settings, caller, due_in(settings, facts), on),
+        Some(request) => shown_to(alloc, store, settings, caller, due_in(settings, facts), request),
         None => Ok(Answer::Done),
     }
 }
@@ -71,7 +71,7 @@ fn due_in(settings: &Settings, facts: &Facts) -> Option<Minute>
     ensures { result ≡ shown.due_in settings.now facts.now }
 {
     match (&facts.queue, &facts.request) {
-        (Some(queue), Some(on)) => due_of(settings, queue, &on.row),
+        (Some(queue), Some(request)) => due_of(settings, queue, &request.row),
         _ => None,
     }
 }
@@ -83,28 +83,28 @@ fn shown_to<S: Alter>(
     settings: &Settings,
     caller: &str,
     due: Option<Minute>,
-    on: &Standing,
+    request: &SeenRequest,
 ) -> Result<Answer, Refusal>
     ensures told { Tells (λ desk answer. answer
-        ≡ Answer.Shown (shown.shown_to settings.now caller.now due on.now desk))
+        ≡ Answer.Shown (shown.shown_to settings.now caller.now due request.now desk))
         (state_of S.Store store.old) (state_of S.Store store.new) result }
     ensures kept { Spares (state_of S.Store store.old) (state_of S.Store store.new) }
     ensures fault { IfErr result (λ refusal. refusal ≡ Refusal.Unavailable) }
 {
-    let links = links_of(alloc, store, settings, caller, on.row.id)?;
-    let copy = on.clone()?;
+    let links = links_of(alloc, store, settings, caller, request.row.id)?;
+    let copy = request.clone()?;
     Ok(Answer::Shown(shown_with(copy, due, links)))
 }
 
 /// What is shown of a request with this due moment and these links.
-fn shown_with(on: Standing, due: Option<Minute>, links: Links) -> Shown
-    ensures { result ≡ shown.shown_with on due links }
+fn shown_with(request: SeenRequest, due: Option<Minute>, links: Links) -> Shown
+    ensures { result ≡ shown.shown_with request due links }
 {
     Shown {
-        row: on.row,
-        requestors: on.requestors,
-        cc: on.cc,
-        admin_cc: on.admin_cc,
+        row: request.row,
+        requestors: request.requestors,
+        cc: request.cc,
+        admin_cc: request.admin_cc,
         due,
         links,
     }
@@ -127,7 +127,7 @@ pub(crate) fn history<S: Alter>(
     ensures fault { IfErr result (λ refusal. refusal ≡ Refusal.Unavailable) }
 {
     match &facts.request {
-        Some(on) => told_to(alloc, store, settings, caller, on),
+        Some(request) => told_to(alloc, store, settings, caller, request),
         None => Ok(Answer::Done),
     }
 }
@@ -138,16 +138,16 @@ fn told_to<S: Alter>(
     store: &mut Store<S>,
     settings: &Settings,
     caller: &str,
-    on: &Standing,
+    request: &SeenRequest,
 ) -> Result<Answer, Refusal>
     ensures told { Tells (λ desk answer. answer
-        ≡ Answer.History (shown.told_to settings.now caller.now on.now desk))
+        ≡ Answer.History (shown.told_to settings.now caller.now request.now desk))
         (state_of S.Store store.old) (state_of S.Store store.new) result }
     ensures kept { Spares (state_of S.Store store.old) (state_of S.Store store.new) }
     ensures fault { IfErr result (λ refusal. refusal ≡ Refusal.Unavailable) }
 {
-    let comments = on.may_show_comments(settings, caller);
-    let entries = store.entries_of(alloc, on.row.id)?;
+    let comments = request.may_show_comments(settings, caller);
+    let entries = store.entries_of(alloc, request.row.id)?;
     Ok(Answer::History(told(entries, comments)))
 }
 

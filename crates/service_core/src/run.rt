@@ -1,6 +1,6 @@
 //! A list of commands on the desk.
 ghost use Rattle.std.specs.Prelude.{◌≡◌, IfOk, OnErr};
-ghost use Rattle.store_core.specs.Calls.{WasClean};
+ghost use Rattle.store_tables.specs.Calls.{WasClean};
 ghost use Rattle.desk_texts.specs.Short.{AreNamed};
 ghost use Rattle.service_core.specs.TableSteps.{RunsOn, asks_of};
 ghost use Rattle.service_core.specs.Seen.{settings_of, tables_of};

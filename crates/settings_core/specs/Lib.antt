@@ -1,9 +1,3 @@
-pub use Rattle.hours_core.specs.Calendar
-pub use Rattle.hours_core.specs.Limit
-pub use Rattle.lifecycle_core.specs.Lifecycle
-pub use Rattle.lifecycle_core.specs.Standard
-pub use Rattle.rights_core.specs.People
-pub use Rattle.rights_core.specs.Right
 pub mod Built
 pub mod Calendars
 pub mod Fault

@@ -6,7 +6,7 @@ use Rattle.std.proofs.lemmas.List.Sorted.{IsPermutation-refl}
 use Rattle.std.proofs.lemmas.List.Sorted.{IsPermutation-middle, IsPermutation-trans}
 use Rattle.std.proofs.lemmas.List.Sorted.{IsPermutation-sym, IsPermutation-append_left}
 use Rattle.std.proofs.lemmas.List.Sorted.{IsPermutation-append_right}
-use Rattle.desk_core.specs.Desk.{placed}
+use Rattle.desk_model.specs.Desk.{placed}
 
 -- one more, at the front or behind others
 pub more_after : {X : Type 0} (xs ys zs : List X) (x : X) → IsPermutation (x ∷ ys) zs

@@ -21,9 +21,9 @@ use Rattle.desk_model.specs.declared.rows.RequestRow.{RequestRow}
 use Rattle.desk_model.specs.declared.rows.Watcher.{Watcher}
 use Rattle.desk_model.specs.declared.rows.WatchRole.{WatchRole}
 use Rattle.desk_model.specs.declared.rows.WatchRole.TheVariants.{Requestor, Cc, AdminCc}
-use Rattle.desk_core.specs.Desk.{Request}
-use Rattle.desk_core.specs.IsDesk.{are_numbered, has_its_entries}
-use Rattle.desk_core.specs.Watchers.{watcher, watchers_of}
+use Rattle.desk_model.specs.Desk.{Request}
+use Rattle.desk_model.specs.IsDesk.{are_numbered, has_its_entries}
+use Rattle.desk_model.specs.Watchers.{watcher, watchers_of}
 use Rattle.store_tables.specs.Picked.{IsGreatest}
 use Rattle.store_tables.specs.Selection.{is_named, is_numbered, tells_of, watches}
 use Rattle.store_tables.proofs.KeptLemmas.{unmapped_one}

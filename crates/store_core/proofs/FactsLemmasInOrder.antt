@@ -20,13 +20,13 @@ use Rattle.desk_model.specs.declared.rows.LinkRow.{LinkRow}
 use Rattle.desk_model.specs.declared.rows.Watcher.{Watcher}
 use Rattle.desk_model.specs.declared.rows.WatchRole.{WatchRole}
 use Rattle.desk_model.specs.declared.rows.WatchRole.TheVariants.{Requestor, Cc, AdminCc}
-use Rattle.desk_core.specs.Desk.{Desk, Request}
-use Rattle.desk_core.specs.Facts.{dependency_links}
-use Rattle.desk_core.specs.IsDesk.{is_rising, names_rise, persons_rise}
-use Rattle.desk_core.specs.Links as desk
-use Rattle.desk_core.specs.Links.{is_kind, is_lower_link, kind_number}
-use Rattle.desk_core.specs.Names.{text_order}
-use Rattle.desk_core.specs.Watchers.{is_role, watcher, watchers_of}
+use Rattle.desk_model.specs.Desk.{Desk, Request}
+use Rattle.desk_model.specs.Facts.{dependency_links}
+use Rattle.desk_model.specs.IsDesk.{is_rising, names_rise, persons_rise}
+use Rattle.desk_model.specs.Links as desk
+use Rattle.desk_model.specs.Links.{is_kind, is_lower_link, kind_number}
+use Rattle.desk_model.specs.Names.{text_order}
+use Rattle.desk_model.specs.Watchers.{is_role, watcher, watchers_of}
 use Rattle.store_tables.specs.Kept.{itself}
 use Rattle.store_tables.specs.Orders.{by_link, by_role, by_target}
 use Rattle.store_tables.specs.Picked.{AreOrdered}

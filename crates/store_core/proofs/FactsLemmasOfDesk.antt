@@ -11,21 +11,21 @@ use Rattle.sqlite_rules.proofs.ListLemmas.{test_has}
 use Rattle.sqlite_trees.proofs.ListLemmas.{map-map}
 use Rattle.desk_model.specs.declared.facts.Dependency.{Dependency}
 use Rattle.desk_model.specs.declared.facts.Facts.{Facts}
-use Rattle.desk_model.specs.declared.facts.Standing.{Standing}
+use Rattle.desk_model.specs.declared.facts.SeenRequest.{SeenRequest}
 use Rattle.desk_model.specs.declared.rows.LinkKind.TheVariants.{DependsOn}
 use Rattle.desk_model.specs.declared.rows.LinkRow.{LinkRow}
 use Rattle.desk_model.specs.declared.rows.QueueRow.{QueueRow}
 use Rattle.desk_model.specs.declared.rows.RequestRow.{RequestRow}
 use Rattle.desk_model.specs.declared.rows.Watcher.{Watcher}
-use Rattle.desk_core.specs.Desk.{Desk, Request, queue_at, request_at}
-use Rattle.desk_core.specs.Desk.{queue_count, request_count}
-use Rattle.desk_core.specs.Facts.{as_dependency, dependencies_of, facts_on_queue}
-use Rattle.desk_core.specs.Facts.{facts_on_request, queue_of, standing, standing_at}
-use Rattle.desk_core.specs.Links as links
-use Rattle.desk_core.specs.Links.{has_link}
-use Rattle.desk_core.specs.Plan.{Another, Dependencies, besides_on}
-use Rattle.desk_core.specs.IsDesk.{IsDesk, are_numbered, has_its_entries, persons_rise}
-use Rattle.desk_core.specs.Watchers.{watchers_of}
+use Rattle.desk_model.specs.Desk.{Desk, Request, queue_at, request_at}
+use Rattle.desk_model.specs.Desk.{queue_count, request_count}
+use Rattle.desk_model.specs.Facts.{as_dependency, dependencies_of, facts_on_queue}
+use Rattle.desk_model.specs.Facts.{facts_on_request, queue_of, seen_request, seen_request_at}
+use Rattle.desk_model.specs.Links as links
+use Rattle.desk_model.specs.Links.{has_link}
+use Rattle.desk_model.specs.Plan.{Another, Dependencies, besides_on}
+use Rattle.desk_model.specs.IsDesk.{IsDesk, are_numbered, has_its_entries, persons_rise}
+use Rattle.desk_model.specs.Watchers.{watchers_of}
 use Rattle.store_tables.specs.Contents.{entries, request_rows, watchers}
 use Rattle.store_tables.specs.Orders.{by_role, by_target}
 use Rattle.store_tables.specs.Picked.{AreOrdered, IsGreatest}
@@ -33,7 +33,7 @@ use Rattle.store_tables.specs.Selection as chosen
 use Rattle.store_tables.specs.Selection.{is_numbered, links_from, number_of, place_of}
 use Rattle.store_tables.specs.Selection.{tells_of, watches}
 use Rattle.store_core.specs.Found.{dependency_at, dependency_by, dependency_of}
-use Rattle.store_core.specs.Found.{counted, filed, queue_by, standing_of}
+use Rattle.store_core.specs.Found.{counted, filed, queue_by, seen_request_of}
 use Rattle.store_core.specs.Found.{with_dependencies, with_link}
 use Rattle.store_core.proofs.FactsLemmas.{entries_of_one, found_row, greatest_counts}
 use Rattle.store_core.proofs.FactsLemmas.{numbers_of, only_request, some_found, watchers_of_one}
@@ -52,11 +52,11 @@ pub no_request : (desk : Desk) (id : ℕ) → [] ≡ filter (is_numbered id) (re
 no_request desk id h =
     unmapped_none (λ (r : Request). r.row) (request_at desk id) (found_row id desk.requests None h)
 
-pub no_standing : (desk : Desk) (id : ℕ) → [] ≡ filter (is_numbered id) (request_rows desk)
-    → None ≡ standing_at desk id
-no_standing desk id h = sym (ap (option_map standing) (no_request desk id h))
+pub none_seen : (desk : Desk) (id : ℕ) → [] ≡ filter (is_numbered id) (request_rows desk)
+    → None ≡ seen_request_at desk id
+none_seen desk id h = sym (ap (option_map seen_request) (no_request desk id h))
 
-abbrev made : Request → List (List ℕ) → List (List ℕ) → List (List ℕ) → Standing
+abbrev made : Request → List (List ℕ) → List (List ℕ) → List (List ℕ) → SeenRequest
 made r requestors cc admin_cc =
     record {
       row = r.row;
@@ -66,23 +66,23 @@ made r requestors cc admin_cc =
       entry_count = length r.entries;
     }
 
-standing_is : (r : Request) (row : RequestRow) (ws : List Watcher) (n : ℕ) → r.row ≡ row
-    → ws ≡ watchers_of r → n ≡ length r.entries → standing_of row ws n ≡ standing r
-standing_is r row ws n row_is ws_are n_is =
-    ap (λ v. standing_of v ws n) (sym row_is)
-    ∙ ap (λ v. standing_of r.row v n) ws_are
-    ∙ ap (standing_of r.row (watchers_of r)) n_is
-    ∙ ap (λ v. made r v (standing_of r.row (watchers_of r) 0).cc
-    (standing_of r.row (watchers_of r) 0).admin_cc) (the_requestors r)
-    ∙ ap (λ v. made r r.requestors v (standing_of r.row (watchers_of r) 0).admin_cc) (the_cc r)
+seen_is : (r : Request) (row : RequestRow) (ws : List Watcher) (n : ℕ) → r.row ≡ row
+    → ws ≡ watchers_of r → n ≡ length r.entries → seen_request_of row ws n ≡ seen_request r
+seen_is r row ws n row_is ws_are n_is =
+    ap (λ v. seen_request_of v ws n) (sym row_is)
+    ∙ ap (λ v. seen_request_of r.row v n) ws_are
+    ∙ ap (seen_request_of r.row (watchers_of r)) n_is
+    ∙ ap (λ v. made r v (seen_request_of r.row (watchers_of r) 0).cc
+    (seen_request_of r.row (watchers_of r) 0).admin_cc) (the_requestors r)
+    ∙ ap (λ v. made r r.requestors v (seen_request_of r.row (watchers_of r) 0).admin_cc) (the_cc r)
     ∙ ap (λ v. made r r.requestors r.cc v) (the_admin_cc r)
 
-pub some_standing : (desk : Desk) (id : ℕ) (row : RequestRow) (ws : List Watcher) (n : ℕ)
+pub some_seen : (desk : Desk) (id : ℕ) (row : RequestRow) (ws : List Watcher) (n : ℕ)
     → IsDesk desk → row ∷ [] ≡ filter (is_numbered id) (request_rows desk)
     → AreOrdered by_role (filter (watches id) (watchers desk)) ws
     → IsGreatest place_of (filter (tells_of id) (entries desk)) n
-    → Some (standing_of row ws n) ≡ standing_at desk id
-some_standing desk id row ws n is found listed greatest =
+    → Some (seen_request_of row ws n) ≡ seen_request_at desk id
+some_seen desk id row ws n is found listed greatest =
     let it = only_request id desk.requests row found in
     let r = it.request in
     let rises = test_has persons_rise desk.requests r is.persons it.there in
@@ -92,14 +92,14 @@ some_standing desk id row ws n is found listed greatest =
     let n_is = greatest_counts place_of r.entries n (numbers_of r own)
     (subst (λ xs. IsGreatest place_of xs n) (entries_of_one id desk.requests row it is.entries)
     greatest) in
-    ap Some (standing_is r row ws n it.row_is ws_are n_is)
-    ∙ sym (ap (option_map standing) it.found)
+    ap Some (seen_is r row ws n it.row_is ws_are n_is)
+    ∙ sym (ap (option_map seen_request) it.found)
 
 pub queue_by_is : (desk : Desk) (id : ℕ)
-    → queue_by desk (standing_at desk id) ≡ queue_of desk (request_at desk id)
+    → queue_by desk (seen_request_at desk id) ≡ queue_of desk (request_at desk id)
 queue_by_is desk id = of (request_at desk id)
   where
-    of : (o : Option Request) → queue_by desk (option_map standing o) ≡ queue_of desk o
+    of : (o : Option Request) → queue_by desk (option_map seen_request o) ≡ queue_of desk o
     of None = refl
     of (Some r) = refl
 
@@ -179,10 +179,10 @@ queue_facts desk name q n m q_is n_is m_is =
     ap (λ v. counted v n m) q_is ∙ ap (λ v. counted (queue_at desk name) v m) n_is
     ∙ ap (counted (queue_at desk name) (queue_count desk)) m_is
 
-pub request_facts : (desk : Desk) (id : ℕ) (q : Option QueueRow) (on : Option Standing)
-    → on ≡ standing_at desk id → q ≡ queue_by desk on → filed q on ≡ facts_on_request desk id
-request_facts desk id q on on_is q_is =
-    ap (λ v. filed v on) (q_is ∙ ap (queue_by desk) on_is ∙ queue_by_is desk id)
+pub request_facts : (desk : Desk) (id : ℕ) (q : Option QueueRow) (request : Option SeenRequest)
+    → request ≡ seen_request_at desk id → q ≡ queue_by desk request → filed q request ≡ facts_on_request desk id
+request_facts desk id q request on_is q_is =
+    ap (λ v. filed v request) (q_is ∙ ap (queue_by desk) on_is ∙ queue_by_is desk id)
     ∙ ap (filed (queue_of desk (request_at desk id))) on_is
 
 pub link_there : (desk : Desk) (l : LinkRow) (o : Option LinkRow)
@@ -197,11 +197,11 @@ move_facts desk id facts ds facts_are ds_are =
     ap (λ f. with_dependencies f ds) facts_are
     ∙ ap (with_dependencies (facts_on_request desk id)) ds_are
 
-pub link_facts : (desk : Desk) (l : LinkRow) (facts : Facts) (other : Option Standing) (b : Bool)
-    → facts ≡ facts_on_request desk l.source → other ≡ standing_at desk l.target
+pub link_facts : (desk : Desk) (l : LinkRow) (facts : Facts) (other : Option SeenRequest) (b : Bool)
+    → facts ≡ facts_on_request desk l.source → other ≡ seen_request_at desk l.target
     → b ≡ has_link desk l
     → with_link facts other b ≡ besides_on (Another l.kind l.target) l.source desk
 link_facts desk l facts other b facts_are other_is b_is =
     ap (λ f. with_link f other b) facts_are
     ∙ ap (λ v. with_link (facts_on_request desk l.source) v b) other_is
-    ∙ ap (with_link (facts_on_request desk l.source) (standing_at desk l.target)) b_is
+    ∙ ap (with_link (facts_on_request desk l.source) (seen_request_at desk l.target)) b_is

@@ -14,8 +14,8 @@ use Rattle.std.specs.Prelude.{find}
 use Rattle.sqlite_trees.specs.Tree.{IsAscending}
 use Rattle.sqlite_trees.proofs.ListLemmas.{all_weaker, filter_all, filter_none}
 use Rattle.desk_model.specs.declared.rows.Entry.{Entry}
-use Rattle.desk_core.specs.Desk.{Desk, Request}
-use Rattle.desk_core.specs.IsDesk.{IsDesk, are_numbered, has_its_entries}
+use Rattle.desk_model.specs.Desk.{Desk, Request}
+use Rattle.desk_model.specs.IsDesk.{IsDesk, are_numbered, has_its_entries}
 use Rattle.store_tables.specs.Contents.{entries, history_at}
 use Rattle.store_tables.specs.Kept.{itself}
 use Rattle.store_tables.specs.Orders.{by_number}

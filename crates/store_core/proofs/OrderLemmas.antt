@@ -11,13 +11,13 @@ use Rattle.std.specs.Cmp.{IsTotalOrder}
 use Rattle.std.proofs.lemmas.Cmp.{nat_cmp_total, on_total, then_total, nat_list_cmp_total}
 use Rattle.desk_model.specs.declared.rows.Entry.{Entry}
 use Rattle.desk_model.specs.declared.rows.LinkRow.{LinkRow}
-use Rattle.desk_core.specs.Desk.{has_lower_name}
-use Rattle.desk_core.specs.IsDesk.{is_rising}
+use Rattle.desk_model.specs.Desk.{has_lower_name}
+use Rattle.desk_model.specs.IsDesk.{is_rising}
 use Rattle.store_tables.specs.Kept.{itself}
 use Rattle.store_tables.specs.Picked.{AreOrdered}
 use Rattle.store_tables.specs.Orders.{by_id, by_entry, by_link, by_name, by_watcher}
 use Rattle.store_tables.specs.Spelling.{role_number}
-use Rattle.desk_core.specs.Links.{kind_number}
+use Rattle.desk_model.specs.Links.{kind_number}
 use Rattle.store_core.proofs.SortedLemmas.{Rises, sorted_same}
 
 lt_is : (o : Ordering) → is_lt o ≡ true → o ≡ Less

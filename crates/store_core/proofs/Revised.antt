@@ -8,9 +8,9 @@ use Rattle.std.proofs.lemmas.List.Sorted.{IsPermutation-refl}
 use Rattle.std.specs.List.{list_all, list_any}
 use Rattle.std.specs.Option.{is_some}
 use Rattle.desk_model.specs.declared.rows.RequestRow.{RequestRow}
-use Rattle.desk_core.specs.Change.{with_row}
-use Rattle.desk_core.specs.Desk.{Request, revised_at}
-use Rattle.desk_core.specs.IsDesk.{are_numbered}
+use Rattle.desk_model.specs.Change.{with_row}
+use Rattle.desk_model.specs.Desk.{Request, revised_at}
+use Rattle.desk_model.specs.IsDesk.{are_numbered}
 use Rattle.store_tables.specs.Selection.{is_numbered}
 use Rattle.store_core.proofs.Alike.{more_after, more_before}
 

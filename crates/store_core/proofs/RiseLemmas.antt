@@ -20,12 +20,12 @@ use Rattle.desk_model.specs.declared.rows.RequestRow.{RequestRow}
 use Rattle.desk_model.specs.declared.rows.Watcher.{Watcher}
 use Rattle.desk_model.specs.declared.rows.WatchRole.{WatchRole}
 use Rattle.desk_model.specs.declared.rows.WatchRole.TheVariants.{Requestor, Cc, AdminCc}
-use Rattle.desk_core.specs.Desk.{Desk, Request}
-use Rattle.desk_core.specs.IsDesk.{IsDesk, are_numbered, has_its_entries, names_rise}
-use Rattle.desk_core.specs.IsDesk.{persons_rise}
-use Rattle.desk_core.specs.Links.{is_lower_link, kind_number}
-use Rattle.desk_core.specs.Names.{text_order}
-use Rattle.desk_core.specs.Watchers.{watcher, watchers_of}
+use Rattle.desk_model.specs.Desk.{Desk, Request}
+use Rattle.desk_model.specs.IsDesk.{IsDesk, are_numbered, has_its_entries, names_rise}
+use Rattle.desk_model.specs.IsDesk.{persons_rise}
+use Rattle.desk_model.specs.Links.{is_lower_link, kind_number}
+use Rattle.desk_model.specs.Names.{text_order}
+use Rattle.desk_model.specs.Watchers.{watcher, watchers_of}
 use Rattle.store_tables.specs.Contents.{entries, request_rows, watchers}
 use Rattle.store_tables.specs.Kept.{itself}
 use Rattle.store_tables.specs.Orders.{by_entry, by_id, by_link, by_watcher}

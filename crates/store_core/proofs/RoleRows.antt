@@ -13,10 +13,10 @@ use Rattle.std.specs.declared.cmp.Ordering.TheVariants.{Less, Equal, Greater}
 use Rattle.desk_model.specs.declared.rows.Watcher.{Watcher}
 use Rattle.desk_model.specs.declared.rows.WatchRole.{WatchRole}
 use Rattle.desk_model.specs.declared.rows.WatchRole.TheVariants.{Requestor, Cc, AdminCc}
-use Rattle.desk_core.specs.Change.{in_role, without_name}
-use Rattle.desk_core.specs.Desk.{Request, revised_at}
-use Rattle.desk_core.specs.Names.{text_order, with_name}
-use Rattle.desk_core.specs.Watchers.{is_role, is_watching, watcher, watchers_of}
+use Rattle.desk_model.specs.Change.{in_role, without_name}
+use Rattle.desk_model.specs.Desk.{Request, revised_at}
+use Rattle.desk_model.specs.Names.{text_order, with_name}
+use Rattle.desk_model.specs.Watchers.{is_role, is_watching, watcher, watchers_of}
 use Rattle.store_tables.specs.Selection.{is_watcher}
 use Rattle.sqlite_trees.proofs.ListLemmas.{filter-map}
 use Rattle.std.proofs.lemmas.List.Elements.{filter-append}

@@ -18,14 +18,14 @@ use Rattle.desk_model.specs.declared.rows.WatchRole.TheVariants.{Requestor, Cc, 
 use Rattle.desk_core.proofs.NamesLaw.{among_named}
 use Rattle.desk_core.proofs.Rising.{is_lower_name, orders_go_on}
 use Rattle.desk_core.proofs.Roles.{roles_kept}
-use Rattle.desk_core.specs.Change.{in_role, person_put}
-use Rattle.desk_core.specs.Commands.Watch.{persons_in}
-use Rattle.desk_core.specs.Commands.Create.{requestor}
-use Rattle.desk_core.specs.Desk.{Desk, Request, revised_at}
-use Rattle.desk_core.specs.Facts.{standing}
-use Rattle.desk_core.specs.IsDesk.{are_numbered, comes_first, names_rise}
-use Rattle.desk_core.specs.Names.{text_order, with_name}
-use Rattle.desk_core.specs.Watchers.{is_watching, watcher, watchers_of}
+use Rattle.desk_model.specs.Change.{in_role, person_put}
+use Rattle.desk_model.specs.Commands.Watch.{persons_in}
+use Rattle.desk_model.specs.Commands.Create.{requestor}
+use Rattle.desk_model.specs.Desk.{Desk, Request, revised_at}
+use Rattle.desk_model.specs.Facts.{seen_request}
+use Rattle.desk_model.specs.IsDesk.{are_numbered, comes_first, names_rise}
+use Rattle.desk_model.specs.Names.{text_order, with_name}
+use Rattle.desk_model.specs.Watchers.{is_watching, watcher, watchers_of}
 use Rattle.store_tables.specs.Contents.{watchers}
 use Rattle.store_core.proofs.Revised.{id_of, none_before, none_revised, there_by_number}
 use Rattle.store_core.proofs.RoleRows.{is_row_of}
@@ -95,7 +95,7 @@ nobody id role person next (x ∷ xs) r numbered there none =
 -- who is in a role by the rows is among those in it
 pub watching_is : (role : WatchRole) (person : List ℕ) (r : Request)
     → is_watching person r.row.id role (watchers_of r)
-    ≡ is_among (persons_in role (standing r)) person
+    ≡ is_among (persons_in role (seen_request r)) person
 watching_is Requestor person r = ap (λ roles. roles.requestor) (roles_kept person r)
 watching_is Cc person r = ap (λ roles. roles.cc) (roles_kept person r)
 watching_is AdminCc person r = ap (λ roles. roles.admin_cc) (roles_kept person r)

@@ -11,23 +11,23 @@ use Rattle.desk_model.specs.declared.change.Change.{Change}
 use Rattle.desk_model.specs.declared.command.Command.{Command}
 use Rattle.desk_model.specs.declared.command.Command.TheVariants.{OpenQueue, Create, Reply, Watch}
 use Rattle.desk_model.specs.declared.command.Command.TheVariants.{Queues, Show, History}
-use Rattle.desk_model.specs.declared.facts.Standing.{Standing}
+use Rattle.desk_model.specs.declared.facts.SeenRequest.{SeenRequest}
 use Rattle.desk_model.specs.declared.refusal.Refusal.TheVariants.{UnknownCaller, BadMoment}
 use Rattle.desk_model.specs.declared.rows.RequestRow.{RequestRow}
 use Rattle.desk_core.proofs.DeskLaw.ByKind.{Meets, by_plan, change_fits}
 use Rattle.desk_core.proofs.DeskLaw.Fitting as fitting
 use Rattle.desk_core.proofs.NamesLaw.{names_in_order_rise}
-use Rattle.desk_core.specs.Change.{filed, request_filed}
-use Rattle.desk_core.specs.Commands.{plan_of}
-use Rattle.desk_core.specs.Commands.Create.{given_or_caller}
-use Rattle.desk_core.specs.Commands.Reply as reply
-use Rattle.desk_core.specs.Condition.{Condition}
-use Rattle.desk_core.specs.Desk.{Desk, Request, request_at}
-use Rattle.desk_core.specs.Facts.{standing}
-use Rattle.desk_core.specs.IsDesk.{IsDesk, are_numbered}
-use Rattle.desk_core.specs.Names.{in_order}
-use Rattle.desk_core.specs.Plan.{Call, change_by}
-use Rattle.desk_core.specs.Step.{call, facts_of, guard}
+use Rattle.desk_model.specs.Change.{filed, request_filed}
+use Rattle.desk_model.specs.Commands.{plan_of}
+use Rattle.desk_model.specs.Commands.Create.{given_or_caller}
+use Rattle.desk_model.specs.Commands.Reply as reply
+use Rattle.desk_model.specs.Condition.{Condition}
+use Rattle.desk_model.specs.Desk.{Desk, Request, request_at}
+use Rattle.desk_model.specs.Facts.{seen_request}
+use Rattle.desk_model.specs.IsDesk.{IsDesk, are_numbered}
+use Rattle.desk_model.specs.Names.{in_order}
+use Rattle.desk_model.specs.Plan.{Call, change_by}
+use Rattle.desk_model.specs.Step.{call, facts_of, guard}
 use Rattle.store_core.proofs.Revised.{id_of}
 use Rattle.store_core.proofs.Writable.{IsLast, are_new, last_there, nobody, requestors_anew}
 use Rattle.store_core.proofs.Writable.{rising_apart, watching_is}
@@ -105,11 +105,11 @@ notes_there desk change =
     list_all (λ e. is_there (with_filed change desk) e.id)
     change.entries ≡ true
 
-second_there : (desk : Desk) (call : Call) (on : Standing) (move : Option (List ℕ))
-    → is_there desk on.row.id ≡ true
-    → list_all (λ e. is_there desk e.id) (reply.second_entry call on move) ≡ true
-second_there desk call on None there = refl
-second_there desk call on (Some status) there = and_from (is_there desk on.row.id) true there refl
+second_there : (desk : Desk) (call : Call) (request : SeenRequest) (move : Option (List ℕ))
+    → is_there desk request.row.id ≡ true
+    → list_all (λ e. is_there desk e.id) (reply.second_entry call request move) ≡ true
+second_there desk call request None there = refl
+second_there desk call request (Some status) there = and_from (is_there desk request.row.id) true there refl
 
 notes : (desk : Desk) → IsDesk desk → (command : Command) → Meets notes_there desk (plan_of command)
 notes desk is (OpenQueue name lifecycle level) = λ call none. refl
@@ -120,7 +120,7 @@ notes desk is (Show id) = λ call r there same none. refl
 notes desk is (History id) = λ call r there same none. refl
 notes desk is (Reply id text) = λ call r there same none.
     let here = found_there desk id r there same in
-    and_from (is_there desk r.row.id) _ here (second_there desk call (standing r) _ here)
+    and_from (is_there desk r.row.id) _ here (second_there desk call (seen_request r) _ here)
 notes desk is other = λ call r there same none.
     and_from (is_there desk r.row.id) true (found_there desk _ r there same) refl
 

@@ -22,17 +22,17 @@ use Rattle.desk_model.specs.declared.rows.Watcher.{Watcher}
 use Rattle.desk_model.specs.declared.rows.WatchRole.{WatchRole}
 use Rattle.desk_model.specs.declared.rows.WatchRole.TheVariants.{Requestor, Cc, AdminCc}
 use Rattle.desk_core.proofs.DeskLaw.Numbers.{numbered_more}
-use Rattle.desk_core.specs.Change.{applied, entry_put, filed, in_role, link_put, link_taken}
-use Rattle.desk_core.specs.Change.{person_put}
-use Rattle.desk_core.specs.Change.{person_taken, queue_put, request_filed, row_set, with_entry}
-use Rattle.desk_core.specs.Change.{with_row, without_name}
-use Rattle.desk_core.specs.Desk.{Desk, Request, has_lower_name}
-use Rattle.desk_core.specs.Desk.{with_revised}
-use Rattle.desk_core.specs.IsDesk.{IsDesk, are_numbered, ids}
-use Rattle.desk_core.specs.Links as links
-use Rattle.desk_core.specs.Links.{is_kind, is_lower_link, kind_number}
-use Rattle.desk_core.specs.Names.{with_name}
-use Rattle.desk_core.specs.Watchers.{is_watching, watcher, watchers_of}
+use Rattle.desk_model.specs.Change.{applied, entry_put, filed, in_role, link_put, link_taken}
+use Rattle.desk_model.specs.Change.{person_put}
+use Rattle.desk_model.specs.Change.{person_taken, queue_put, request_filed, row_set, with_entry}
+use Rattle.desk_model.specs.Change.{with_row, without_name}
+use Rattle.desk_model.specs.Desk.{Desk, Request, has_lower_name}
+use Rattle.desk_model.specs.Desk.{with_revised}
+use Rattle.desk_model.specs.IsDesk.{IsDesk, are_numbered, ids}
+use Rattle.desk_model.specs.Links as links
+use Rattle.desk_model.specs.Links.{is_kind, is_lower_link, kind_number}
+use Rattle.desk_model.specs.Names.{with_name}
+use Rattle.desk_model.specs.Watchers.{is_watching, watcher, watchers_of}
 use Rattle.store_tables.specs.Contents.{Contents, contents_of, entries, request_rows, watchers}
 use Rattle.store_tables.specs.Contents.{add_entry, add_watcher, drop_watcher}
 use Rattle.store_tables.specs.Selection as selection

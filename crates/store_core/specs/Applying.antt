@@ -2,9 +2,9 @@
 use Rattle.std.specs.Prelude.{OnOk, Result}
 use Rattle.sqlite.specs.State.{State}
 use Rattle.desk_model.specs.declared.change.Change.{Change}
-use Rattle.desk_core.specs.Change.{applied}
-use Rattle.desk_core.specs.Desk.{Desk}
-use Rattle.desk_core.specs.IsDesk.{IsDesk}
+use Rattle.desk_model.specs.Change.{applied}
+use Rattle.desk_model.specs.Desk.{Desk}
+use Rattle.desk_model.specs.IsDesk.{IsDesk}
 use Rattle.store_tables.specs.Stands.{StandsFor}
 use Rattle.store_tables.specs.declared.fault.StoreFault.{StoreFault}
 use Rattle.store_core.specs.Written.{IsWritable}

@@ -4,24 +4,24 @@ use Rattle.std.specs.Prelude.{option_and_then}
 use Rattle.std.specs.Option.{option_map, option_to_list}
 use Rattle.desk_model.specs.declared.facts.Dependency.{Dependency}
 use Rattle.desk_model.specs.declared.facts.Facts.{Facts}
-use Rattle.desk_model.specs.declared.facts.Standing.{Standing}
+use Rattle.desk_model.specs.declared.facts.SeenRequest.{SeenRequest}
 use Rattle.desk_model.specs.declared.rows.LinkRow.{LinkRow}
 use Rattle.desk_model.specs.declared.rows.QueueRow.{QueueRow}
 use Rattle.desk_model.specs.declared.rows.RequestRow.{RequestRow}
 use Rattle.desk_model.specs.declared.rows.Watcher.{Watcher}
 use Rattle.desk_model.specs.declared.rows.WatchRole.{WatchRole}
 use Rattle.desk_model.specs.declared.rows.WatchRole.TheVariants.{Requestor, Cc, AdminCc}
-use Rattle.desk_core.specs.Desk.{Desk, Request, queue_at, request_at}
-use Rattle.desk_core.specs.Facts.{as_dependency, no_facts}
-use Rattle.desk_core.specs.Watchers.{is_role}
+use Rattle.desk_model.specs.Desk.{Desk, Request, queue_at, request_at}
+use Rattle.desk_model.specs.Facts.{as_dependency, no_facts}
+use Rattle.desk_model.specs.Watchers.{is_role}
 
 -- the persons in a role, in the order of the watchers
 abbrev pub persons_in : WatchRole → List Watcher → List (List ℕ)
 persons_in role watchers = map (λ w. w.person) (filter (λ w. is_role role w.role) watchers)
 
 -- a request's row with the persons among its watchers, and the number of its entries
-abbrev pub standing_of : RequestRow → List Watcher → ℕ → Standing
-standing_of row watchers entry_count =
+abbrev pub seen_request_of : RequestRow → List Watcher → ℕ → SeenRequest
+seen_request_of row watchers entry_count =
     record {
       row = row;
       requestors = persons_in Requestor watchers;
@@ -34,8 +34,8 @@ abbrev pub has_number : ℕ → Request → Bool
 has_number id r = r.row.id == id
 
 -- the queue that a request is filed in
-abbrev pub queue_by : Desk → Option Standing → Option QueueRow
-queue_by desk on = option_and_then (λ s. queue_at desk s.row.queue) on
+abbrev pub queue_by : Desk → Option SeenRequest → Option QueueRow
+queue_by desk request = option_and_then (λ s. queue_at desk s.row.queue) request
 
 -- what the request of that number is to one that depends on it
 abbrev pub dependency_at : Desk → ℕ → Option Dependency
@@ -56,11 +56,11 @@ abbrev pub counted : Option QueueRow → ℕ → ℕ → Facts
 counted queue queues requests =
     record no_facts { queue = queue; queue_count = queues; request_count = requests }
 
-abbrev pub filed : Option QueueRow → Option Standing → Facts
+abbrev pub filed : Option QueueRow → Option SeenRequest → Facts
 filed queue request = record no_facts { queue = queue; request = request }
 
 abbrev pub with_dependencies : Facts → List Dependency → Facts
 with_dependencies facts dependencies = record facts { dependencies = dependencies }
 
-abbrev pub with_link : Facts → Option Standing → Bool → Facts
+abbrev pub with_link : Facts → Option SeenRequest → Bool → Facts
 with_link facts other is_linked = record facts { other = other; is_linked = is_linked }

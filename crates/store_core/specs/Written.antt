@@ -11,13 +11,13 @@ use Rattle.desk_model.specs.declared.rows.LinkRow.{LinkRow}
 use Rattle.desk_model.specs.declared.rows.QueueRow.{QueueRow}
 use Rattle.desk_model.specs.declared.rows.RequestRow.{RequestRow}
 use Rattle.desk_model.specs.declared.rows.Watcher.{Watcher}
-use Rattle.desk_core.specs.Change.{person_put, queue_put, request_filed, row_set}
-use Rattle.desk_core.specs.Commands.{plan_of}
-use Rattle.desk_core.specs.Desk.{Desk, request_at}
-use Rattle.desk_core.specs.IsDesk.{IsDesk}
-use Rattle.desk_core.specs.Plan.{change_by}
-use Rattle.desk_core.specs.Step.{call, facts_of, guard}
-use Rattle.desk_core.specs.Watchers.{is_watching}
+use Rattle.desk_model.specs.Change.{person_put, queue_put, request_filed, row_set}
+use Rattle.desk_model.specs.Commands.{plan_of}
+use Rattle.desk_model.specs.Desk.{Desk, request_at}
+use Rattle.desk_model.specs.IsDesk.{IsDesk}
+use Rattle.desk_model.specs.Plan.{change_by}
+use Rattle.desk_model.specs.Step.{call, facts_of, guard}
+use Rattle.desk_model.specs.Watchers.{is_watching}
 use Rattle.store_tables.specs.Contents.{Contents, watchers}
 use Rattle.store_tables.specs.Contents.{add_queue, add_request, set_request, add_watcher}
 use Rattle.store_tables.specs.Contents.{drop_watcher, add_link, drop_link, add_entry}

@@ -2,12 +2,12 @@
 ghost use Rattle.std.specs.Prelude.{◌++◌, ◌∷◌, ◌≡◌, ◌≢◌, IfErr, OnOk, [], false};
 ghost use Rattle.std.specs.List.{flat_map};
 ghost use Rattle.sqlite.specs.Held.{state};
-ghost use Rattle.desk_core.specs.Facts as facts;
+ghost use Rattle.desk_model.specs.Facts as facts;
 ghost use Rattle.store_tables.specs.declared.fault.StoreFault.{StoreFault};
 ghost use Rattle.store_tables.specs.Calls.{OnlyRefuses, Spares, Tells};
 ghost use Rattle.store_core.specs.Found as found;
 
-use crate::standing::queue_at;
+use crate::seen_request::queue_at;
 use desk_core::{Dependency, LinkKind, LinkRow, QueueRow, RequestRow};
 use sqlite::{Alter, Connection};
 use std::alloc::Global;

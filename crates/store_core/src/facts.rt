@@ -1,20 +1,20 @@
 //! The facts of a command: what it looks at on the desk that the tables stand for.
 ghost use Rattle.std.specs.Prelude.{◌≡◌, ◌≢◌, IfErr, false, length};
 ghost use Rattle.sqlite.specs.Held.{state};
-ghost use Rattle.desk_core.specs.Facts as facts;
-ghost use Rattle.desk_core.specs.Links.{has_link};
-ghost use Rattle.desk_core.specs.Plan.{Dependencies, besides_on};
-ghost use Rattle.desk_core.specs.Scope.{seen_in};
-ghost use Rattle.desk_core.specs.Step.{facts_of};
+ghost use Rattle.desk_model.specs.Facts as facts;
+ghost use Rattle.desk_model.specs.Links.{has_link};
+ghost use Rattle.desk_model.specs.Plan.{Dependencies, besides_on};
+ghost use Rattle.desk_model.specs.Scope.{seen_in};
+ghost use Rattle.desk_model.specs.Step.{facts_of};
 ghost use Rattle.store_tables.specs.declared.fault.StoreFault.{StoreFault};
 ghost use Rattle.store_tables.specs.Calls.{OnlyRefuses, Spares, Tells};
 ghost use Rattle.store_core.specs.Found as found;
 ghost use Rattle.store_core.specs.Seen.{state_of};
 
 use crate::dependencies::dependencies_of;
-use crate::standing::{queue_at, queue_of, standing_at};
+use crate::seen_request::{queue_at, queue_of, seen_request_at};
 use crate::store::Store;
-use desk_core::{Command, Dependency, Facts, LinkRow, QueueRow, Scope, Standing};
+use desk_core::{Command, Dependency, Facts, LinkRow, QueueRow, Scope, SeenRequest};
 use sqlite::{Alter, Connection};
 use std::alloc::Global;
 use store_tables::StoreFault;
@@ -123,7 +123,7 @@ fn facts_on<S: Alter>(alloc: Global, conn: &mut Connection<S>, id: u32) -> Resul
         (state S.Store conn.old) (state S.Store conn.new) result }
     ensures fault { IfErr result (λ e. e ≢ StoreFault.WrongVersion) }
 {
-    let request = standing_at(alloc, conn, id)?;
+    let request = seen_request_at(alloc, conn, id)?;
     let queue = queue_of(conn, &request)?;
     Ok(filed(alloc, queue, request))
 }
@@ -166,7 +166,7 @@ fn facts_of_link<S: Alter>(
     ensures fault { IfErr result (λ e. e ≢ StoreFault.WrongVersion) }
 {
     let is_linked = is_there(conn, link)?;
-    let other = standing_at(alloc, conn, link.target)?;
+    let other = seen_request_at(alloc, conn, link.target)?;
     let facts = facts_on(alloc, conn, link.source)?;
     Ok(with_link(facts, other, is_linked))
 }
@@ -202,7 +202,7 @@ fn counted(alloc: Global, queue: Option<QueueRow>, queue_count: u32, request_cou
 }
 
 /// Facts of a request and its queue.
-fn filed(alloc: Global, queue: Option<QueueRow>, request: Option<Standing>) -> Facts
+fn filed(alloc: Global, queue: Option<QueueRow>, request: Option<SeenRequest>) -> Facts
     ensures { result ≡ found.filed queue request }
 {
     Facts {
@@ -232,7 +232,7 @@ fn with_dependencies(facts: Facts, dependencies: Sequence<Dependency>) -> Facts
 }
 
 /// The facts, with the request at the other end of a link, and whether the link is there.
-fn with_link(facts: Facts, other: Option<Standing>, is_linked: bool) -> Facts
+fn with_link(facts: Facts, other: Option<SeenRequest>, is_linked: bool) -> Facts
     ensures { result ≡ found.with_link facts other is_linked }
 {
     Facts {

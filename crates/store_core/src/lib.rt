@@ -11,7 +11,7 @@ pub mod laws;
 mod lists;
 mod making;
 mod opening;
-mod standing;
+mod seen_request;
 pub mod store;
 
 pub use store::Store;

@@ -1,7 +1,3 @@
-pub use Rattle.desk_model.specs.Desk
-pub use Rattle.desk_model.specs.Facts
-pub use Rattle.desk_model.specs.Links
-pub use Rattle.desk_model.specs.Step
 pub mod Calls
 pub mod Contents
 pub mod Fault

@@ -164,9 +164,9 @@ pub fn facts<S: Alter>(
 
 fn seen(rt: &HostRuntime, line: &str, facts: &Facts) -> Result<(), Failure> {
     println!(rt; "{line}:")?;
-    if let Some(on) = &facts.request {
-        let count = on.entry_count;
-        println!(rt; "  {} {count}", on.row.status.as_str())?;
+    if let Some(request) = &facts.request {
+        let count = request.entry_count;
+        println!(rt; "  {} {count}", request.row.status.as_str())?;
     }
     for dependency in facts.dependencies.as_slice() {
         println!(rt;

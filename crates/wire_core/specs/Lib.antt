@@ -1,4 +1,3 @@
-pub use Rattle.text_core.specs.Form
 pub mod Arguments
 pub mod Faults
 pub mod Number

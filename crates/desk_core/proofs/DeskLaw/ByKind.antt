@@ -13,7 +13,7 @@ use Rattle.desk_model.specs.Commands.{plan_of}
 use Rattle.desk_model.specs.Commands.Reply as reply
 use Rattle.desk_model.specs.Condition.{Condition, first_holding}
 use Rattle.desk_model.specs.Desk.{Desk, Request, queue_at, request_at}
-use Rattle.desk_model.specs.Facts.{facts_on_queue, standing}
+use Rattle.desk_model.specs.Facts.{facts_on_queue, seen_request}
 use Rattle.desk_model.specs.IsDesk.{IsDesk}
 use Rattle.desk_model.specs.Links.{has_link, link}
 use Rattle.desk_model.specs.Plan.{Call, Plan, OnDesk, OnQueue, OnRequest, Nothing, Dependencies}
@@ -24,7 +24,7 @@ use Rattle.desk_model.specs.declared.change.Change.{Change}
 use Rattle.desk_model.specs.declared.command.Command.{Command}
 use Rattle.desk_model.specs.declared.command.Command.TheVariants.{OpenQueue, Create, Reply}
 use Rattle.desk_model.specs.declared.command.Command.TheVariants.{Link, Queues, Show, History}
-use Rattle.desk_model.specs.declared.facts.Standing.{Standing}
+use Rattle.desk_model.specs.declared.facts.SeenRequest.{SeenRequest}
 use Rattle.desk_model.specs.declared.refusal.Refusal.TheVariants.{UnknownCaller, BadMoment}
 use Rattle.desk_model.specs.declared.refusal.Refusal.TheVariants.{BadText, NotFound}
 use Rattle.desk_core.proofs.DeskLaw.Entries.{counts_apart, counts_found}
@@ -42,22 +42,22 @@ Meets P desk (OnQueue name conditions change) =
 Meets P desk (OnRequest id besides text conditions change) =
     (call : Call) (r : Request) → request_at desk id ≡ Some r → id ≡ r.row.id
     → NoneHolds (another_shown call besides (besides_on besides id desk)
-    (conditions call (besides_on besides id desk) (standing r)))
-    → P desk (change call (besides_on besides id desk) (standing r))
+    (conditions call (besides_on besides id desk) (seen_request r)))
+    → P desk (change call (besides_on besides id desk) (seen_request r))
 
 on_request : (P : Change → Type 0) (call : Call) (desk : Desk) (id : ℕ) (o : Option Request)
     (front : List Condition)
-    (asks : Standing → List Condition) (change : Standing → Change) → request_at desk id ≡ o
+    (asks : SeenRequest → List Condition) (change : SeenRequest → Change) → request_at desk id ≡ o
     → P no_change
-    → ((r : Request) → request_at desk id ≡ Some r → id ≡ r.row.id → NoneHolds (asks (standing r))
-    → P (change (standing r)))
-    → first_holding (front ++ on_shown call (option_map standing o) asks) ≡ None
-    → P (change_of_request (option_map standing o) change)
+    → ((r : Request) → request_at desk id ≡ Some r → id ≡ r.row.id → NoneHolds (asks (seen_request r))
+    → P (change (seen_request r)))
+    → first_holding (front ++ on_shown call (option_map seen_request o) asks) ≡ None
+    → P (change_of_request (option_map seen_request o) change)
 on_request P call desk id None front asks change there nothing meets free = nothing
 on_request P call desk id (Some r) front asks change there nothing meets free =
     meets r there (sym (number_found desk id r there))
-    (none_holds (asks (standing r))
-    (passed (NotFound, is_missing call (Some (standing r))) (asks (standing r))
+    (none_holds (asks (seen_request r))
+    (passed (NotFound, is_missing call (Some (seen_request r))) (asks (seen_request r))
     (rest_passes front _ free)).1)
 
 -- what goes for the plan goes for the change
@@ -84,7 +84,7 @@ by_plan P call (OnRequest id (Another kind other) text conditions change) front 
     free =
     let facts = besides_on (Another kind other) id desk in
     on_request (P desk) call desk id (request_at desk id) ((BadText, is_bad_text text) ∷ [])
-    (λ on. (NotFound, is_missing call facts.other) ∷ conditions call facts on)
+    (λ request. (NotFound, is_missing call facts.other) ∷ conditions call facts request)
     (change call facts) refl nothing (meets call)
     (rest_passes front _ free)
 
@@ -125,7 +125,7 @@ stays desk is other = λ call r there same none. (
       (λ x. is_some (queue_at desk x.row.queue)) _ desk.requests r is.filed_in there,
 )
 
-shown_there : (call : Call) (o : Option Request) → is_missing call (option_map standing o) ≡ false
+shown_there : (call : Call) (o : Option Request) → is_missing call (option_map seen_request o) ≡ false
     → is_some o ≡ true
 shown_there call None shown = cc
 shown_there call (Some r) shown = refl
@@ -144,10 +144,10 @@ links desk (Link id kind other) = λ call r there same none. (
 )
 links desk other = λ call r there same none. tt
 
-second_follows : (call : Call) (on : Standing) (move : Option (List ℕ))
-    → FollowOn on.row.id on.entry_count 2 (reply.second_entry call on move)
-second_follows call on None = tt
-second_follows call on (Some status) = (refl, refl, tt)
+second_follows : (call : Call) (request : SeenRequest) (move : Option (List ℕ))
+    → FollowOn request.row.id request.entry_count 2 (reply.second_entry call request move)
+second_follows call request None = tt
+second_follows call request (Some status) = (refl, refl, tt)
 
 -- no request has the number 0
 none_of_zero : (desk : Desk) → IsDesk desk → list_all (has_count 0 0) desk.requests ≡ true
@@ -196,7 +196,7 @@ appends desk is (Reply id text) = λ call r there same none.
       id = r.row.id;
       count = length r.entries;
       counted = lone desk r id is there same;
-      follow = (refl, refl, second_follows call (standing r) _);
+      follow = (refl, refl, second_follows call (seen_request r) _);
     }
 appends desk is other = λ call r there same none.
     record {

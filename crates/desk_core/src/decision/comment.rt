@@ -4,7 +4,7 @@ ghost use Rattle.desk_model.specs.Plan.{Nothing};
 ghost use Rattle.desk_core.specs.Context.{DecidesOn, PassesOn};
 
 use crate::decision::Context;
-use desk_model::{Change, EntryKind, Refusal, Standing};
+use desk_model::{Change, EntryKind, Refusal, SeenRequest};
 use rights_core::right;
 use text_core::Text;
 
@@ -15,18 +15,18 @@ impl Context<'_> {
             comment.conditions (comment.change text.now) self.now }
     {
         self.ask_for_text(text)?;
-        let on = self.shown()?;
-        self.ask_to_comment(on)?;
-        let entries = self.one_entry(on, EntryKind::Comment, "", text.as_str())?;
+        let request = self.shown()?;
+        self.ask_to_comment(request)?;
+        let entries = self.one_entry(request, EntryKind::Comment, "", text.as_str())?;
         Ok(Change::noting(self.alloc, entries))
     }
 
     #[tactic(auto, unfolding(rights_core::specs::Right::comment_on_ticket))]
-    fn ask_to_comment(&self, on: &Standing) -> Result<(), Refusal>
-        ensures asks { PassesOn result comment.conditions self.now on.now }
-        ensures fits { OnOk result (on.now.entry_count + 1 < 2 ^ 32) }
+    fn ask_to_comment(&self, request: &SeenRequest) -> Result<(), Refusal>
+        ensures asks { PassesOn result comment.conditions self.now request.now }
+        ensures fits { OnOk result (request.now.entry_count + 1 < 2 ^ 32) }
     {
-        self.ask(right::COMMENT_ON_TICKET, on)?;
-        self.ask_for_room(on, 1)
+        self.ask(right::COMMENT_ON_TICKET, request)?;
+        self.ask_for_room(request, 1)
     }
 }

@@ -4,7 +4,7 @@ ghost use Rattle.desk_model.specs.Plan.{Another};
 ghost use Rattle.desk_core.specs.Context.{DecidesOn, PassesOn};
 
 use crate::decision::Context;
-use desk_model::{Change, EntryKind, LinkKind, LinkRow, Refusal, Standing};
+use desk_model::{Change, EntryKind, LinkKind, LinkRow, Refusal, SeenRequest};
 use rights_core::right;
 use std::alloc::{AllocError, Global};
 use text_core::Text;
@@ -15,12 +15,12 @@ impl Context<'_> {
         ensures { DecidesOn result (Another kind other) None
             (link.conditions other) (link.change kind other) self.now }
     {
-        let on = self.both_shown()?;
-        self.ask_to_link(on, other)?;
+        let request = self.both_shown()?;
+        self.ask_to_link(request, other)?;
         let number = in_digits(self.alloc, other)?;
-        let entries = self.one_entry(on, EntryKind::Link, kind_word(kind), number.as_str())?;
+        let entries = self.one_entry(request, EntryKind::Link, kind_word(kind), number.as_str())?;
         let link = LinkRow {
-            source: on.row.id,
+            source: request.row.id,
             kind,
             target: other,
         };
@@ -28,18 +28,18 @@ impl Context<'_> {
     }
 
     #[tactic(auto, unfolding(rights_core::specs::Right::modify_ticket))]
-    fn ask_to_link(&self, on: &Standing, other: u32) -> Result<(), Refusal>
-        ensures asks { PassesOn result (link.conditions other) self.now on.now }
-        ensures fits { OnOk result (on.now.entry_count + 1 < 2 ^ 32) }
+    fn ask_to_link(&self, request: &SeenRequest, other: u32) -> Result<(), Refusal>
+        ensures asks { PassesOn result (link.conditions other) self.now request.now }
+        ensures fits { OnOk result (request.now.entry_count + 1 < 2 ^ 32) }
     {
-        self.ask(right::MODIFY_TICKET, on)?;
+        self.ask(right::MODIFY_TICKET, request)?;
         if self.facts.is_linked {
             return Err(Refusal::NoChange);
         }
-        if on.row.id == other {
+        if request.row.id == other {
             return Err(Refusal::SelfLink);
         }
-        self.ask_for_room(on, 1)
+        self.ask_for_room(request, 1)
     }
 }
 

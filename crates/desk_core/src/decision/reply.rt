@@ -6,7 +6,7 @@ ghost use Rattle.desk_core.specs.Context.{call_of, DecidesOn, PassesOn};
 
 use crate::decision::Context;
 use desk_model::lifecycles::{lifecycle_of, reply_target};
-use desk_model::{Change, Entry, EntryKind, Refusal, RequestRow, Standing};
+use desk_model::{Change, Entry, EntryKind, Refusal, RequestRow, SeenRequest};
 use rights_core::right;
 use std::alloc::AllocError;
 use text_core::{Sequence, Text};
@@ -18,66 +18,66 @@ impl<'c> Context<'c> {
             reply.conditions (reply.change text.now) self.now }
     {
         self.ask_for_text(text)?;
-        let on = self.shown()?;
-        self.ask_to_reply(on)?;
-        let reopened = self.move_of(on);
-        let entries = self.entries_of_reply(on, text, reopened)?;
-        let row = self.replied_row(on, reopened)?;
+        let request = self.shown()?;
+        self.ask_to_reply(request)?;
+        let reopened = self.move_of(request);
+        let entries = self.entries_of_reply(request, text, reopened)?;
+        let row = self.replied_row(request, reopened)?;
         Ok(Change::revising(self.alloc, row, entries))
     }
 
     #[tactic(auto, unfolding(rights_core::specs::Right::reply_to_ticket))]
-    fn ask_to_reply(&self, on: &Standing) -> Result<(), Refusal>
-        ensures asks { PassesOn result reply.conditions self.now on.now }
-        ensures fits { OnOk result (on.now.entry_count
-            + reply.entries_wanted (call_of self.now) self.now.facts.now on.now < 2 ^ 32) }
+    fn ask_to_reply(&self, request: &SeenRequest) -> Result<(), Refusal>
+        ensures asks { PassesOn result reply.conditions self.now request.now }
+        ensures fits { OnOk result (request.now.entry_count
+            + reply.entries_wanted (call_of self.now) self.now.facts.now request.now < 2 ^ 32) }
     {
-        self.ask(right::REPLY_TO_TICKET, on)?;
-        self.ask_for_room(on, entries_of_move(self.move_of(on)))
+        self.ask(right::REPLY_TO_TICKET, request)?;
+        self.ask_for_room(request, entries_of_move(self.move_of(request)))
     }
 
     /// The status that a reply moves the request to, if it moves it.
-    fn move_of(&self, on: &Standing) -> Option<&'c str>
+    fn move_of(&self, request: &SeenRequest) -> Option<&'c str>
         ensures { option_map (λ s. s.now) result
-            ≡ reply.move_of (call_of self.now) self.now.facts.now on.now }
+            ≡ reply.move_of (call_of self.now) self.now.facts.now request.now }
     {
         let lifecycle = lifecycle_of(self.settings, &self.facts.queue);
-        let is_requestor = on.requestors.contains(self.caller);
-        reply_target(lifecycle, is_requestor, on.row.status.as_str())
+        let is_requestor = request.requestors.contains(self.caller);
+        reply_target(lifecycle, is_requestor, request.row.status.as_str())
     }
 
     /// The row after a reply.
-    fn replied_row(&self, on: &Standing, reopened: Option<&str>) -> Result<RequestRow, AllocError>
+    fn replied_row(&self, request: &SeenRequest, reopened: Option<&str>) -> Result<RequestRow, AllocError>
         ensures { IfOk result (λ row. row ≡ reply.replied_row (call_of self.now)
-            self.now.facts.now (option_map (λ s. s.now) reopened.entry) on.now) }
+            self.now.facts.now (option_map (λ s. s.now) reopened.entry) request.now) }
     {
         let lifecycle = lifecycle_of(self.settings, &self.facts.queue);
-        let is_requestor = on.requestors.contains(self.caller);
-        let status = reopened.unwrap_or(on.row.status.as_str());
+        let is_requestor = request.requestors.contains(self.caller);
+        let status = reopened.unwrap_or(request.row.status.as_str());
         let alloc = self.alloc;
-        let moved = on.row.in_status(alloc, lifecycle, self.moment, status)?;
+        let moved = request.row.in_status(alloc, lifecycle, self.moment, status)?;
         Ok(moved.turned(is_requestor, self.moment))
     }
 
     /// The entry of the reply, and that of the move.
     fn entries_of_reply(
         &self,
-        on: &Standing,
+        request: &SeenRequest,
         text: &Text,
         reopened: Option<&str>,
     ) -> Result<Sequence<Entry>, AllocError>
-        requires { on.now.entry_count
+        requires { request.now.entry_count
             + reply.entries_of_move (option_map (λ s. s.now) reopened) < 2 ^ 32 }
         ensures { IfOk result (λ entries. entries ≡ reply.entries_of text.now (call_of self.now)
-            on.now (option_map (λ s. s.now) reopened.entry)) }
+            request.now (option_map (λ s. s.now) reopened.entry)) }
     {
         match reopened {
             Some(status) => {
-                let reply = self.entry(on, 1, EntryKind::Reply, "", text.as_str())?;
-                let moving = self.moving(on, 2, status)?;
+                let reply = self.entry(request, 1, EntryKind::Reply, "", text.as_str())?;
+                let moving = self.moving(request, 2, status)?;
                 Ok(Sequence::from(vec![in self.alloc; reply, moving]?))
             }
-            None => self.one_entry(on, EntryKind::Reply, "", text.as_str()),
+            None => self.one_entry(request, EntryKind::Reply, "", text.as_str()),
         }
     }
 }

@@ -4,7 +4,7 @@ ghost use Rattle.desk_model.specs.Plan.{Nothing};
 ghost use Rattle.desk_core.specs.Context.{DecidesOn, PassesOn};
 
 use crate::decision::Context;
-use desk_model::{Change, EntryKind, Refusal, RequestRow, Standing};
+use desk_model::{Change, EntryKind, Refusal, RequestRow, SeenRequest};
 use rights_core::right;
 use std::alloc::AllocError;
 use text_core::Text;
@@ -15,27 +15,27 @@ impl Context<'_> {
         ensures { DecidesOn result Nothing None
             (set_level.conditions level.now) (set_level.change level.now) self.now }
     {
-        let on = self.shown()?;
-        self.ask_to_set_level(on, level)?;
-        let old = level_word(&on.row.level);
-        let entries = self.one_entry(on, EntryKind::Level, old, level_word(level))?;
-        let row = on.row.with_level(level)?;
+        let request = self.shown()?;
+        self.ask_to_set_level(request, level)?;
+        let old = level_word(&request.row.level);
+        let entries = self.one_entry(request, EntryKind::Level, old, level_word(level))?;
+        let row = request.row.with_level(level)?;
         Ok(Change::revising(self.alloc, row, entries))
     }
 
     #[tactic(auto, unfolding(rights_core::specs::Right::modify_ticket))]
-    fn ask_to_set_level(&self, on: &Standing, level: &Option<Text>) -> Result<(), Refusal>
-        ensures asks { PassesOn result (set_level.conditions level.now) self.now on.now }
-        ensures fits { OnOk result (on.now.entry_count + 1 < 2 ^ 32) }
+    fn ask_to_set_level(&self, request: &SeenRequest, level: &Option<Text>) -> Result<(), Refusal>
+        ensures asks { PassesOn result (set_level.conditions level.now) self.now request.now }
+        ensures fits { OnOk result (request.now.entry_count + 1 < 2 ^ 32) }
     {
         if !self.knows_level(level) {
             return Err(Refusal::UnknownName);
         }
-        self.ask(right::MODIFY_TICKET, on)?;
-        if is_same_level(&on.row.level, level) {
+        self.ask(right::MODIFY_TICKET, request)?;
+        if is_same_level(&request.row.level, level) {
             return Err(Refusal::NoChange);
         }
-        self.ask_for_room(on, 1)
+        self.ask_for_room(request, 1)
     }
 }
 

@@ -6,7 +6,7 @@ ghost use Rattle.desk_core.specs.Context.{call_of, DecidesOn, PassesOn};
 
 use crate::decision::Context;
 use desk_model::lifecycles::{has_status, is_allowed, is_inactive, lifecycle_of, right_of};
-use desk_model::{Change, Entry, EntryKind, Refusal, Standing};
+use desk_model::{Change, Entry, EntryKind, Refusal, SeenRequest};
 use std::alloc::AllocError;
 use text_core::Text;
 
@@ -17,27 +17,27 @@ impl Context<'_> {
             (set_status.conditions status.now) (set_status.change status.now) self.now }
         ensures named { IfErr result (λ refusal. names_its_right refusal ≡ true) }
     {
-        let on = self.shown()?;
-        self.ask_to_move(on, status)?;
-        let (from, to) = (on.row.status.as_str(), status.as_str());
-        let entries = self.one_entry(on, EntryKind::Status, from, to)?;
+        let request = self.shown()?;
+        self.ask_to_move(request, status)?;
+        let (from, to) = (request.row.status.as_str(), status.as_str());
+        let entries = self.one_entry(request, EntryKind::Status, from, to)?;
         let lifecycle = lifecycle_of(self.settings, &self.facts.queue);
-        let row = on.row.in_status(self.alloc, lifecycle, self.moment, to)?;
+        let row = request.row.in_status(self.alloc, lifecycle, self.moment, to)?;
         Ok(Change::revising(self.alloc, row, entries))
     }
 
-    fn ask_to_move(&self, on: &Standing, status: &Text) -> Result<(), Refusal>
-        ensures asks { PassesOn result (set_status.conditions status.now) self.now on.now }
-        ensures fits { OnOk result (on.now.entry_count + 1 < 2 ^ 32) }
+    fn ask_to_move(&self, request: &SeenRequest, status: &Text) -> Result<(), Refusal>
+        ensures asks { PassesOn result (set_status.conditions status.now) self.now request.now }
+        ensures fits { OnOk result (request.now.entry_count + 1 < 2 ^ 32) }
         ensures named { IfErr result (λ refusal. names_its_right refusal ≡ true) }
     {
         let lifecycle = lifecycle_of(self.settings, &self.facts.queue);
-        let (from, to) = (on.row.status.as_str(), status.as_str());
+        let (from, to) = (request.row.status.as_str(), status.as_str());
         if !has_status(lifecycle, to) {
             return Err(Refusal::UnknownName);
         }
-        self.ask(right_of(lifecycle, from, to), on)?;
-        if on.row.status == *status {
+        self.ask(right_of(lifecycle, from, to), request)?;
+        if request.row.status == *status {
             return Err(Refusal::NoChange);
         }
         if !is_allowed(lifecycle, from, to) {
@@ -46,21 +46,21 @@ impl Context<'_> {
         if is_inactive(lifecycle, to) && self.facts.has_open_dependency(self.settings) {
             return Err(Refusal::OpenDependency);
         }
-        self.ask_for_room(on, 1)
+        self.ask_for_room(request, 1)
     }
 
     /// The entry of a move.
     pub(super) fn moving(
         &self,
-        on: &Standing,
+        request: &SeenRequest,
         number: u32,
         status: &str,
     ) -> Result<Entry, AllocError>
-        requires { on.now.entry_count + number < 2 ^ 32 }
+        requires { request.now.entry_count + number < 2 ^ 32 }
         ensures { IfOk result (λ entry.
-            entry ≡ set_status.moving (call_of self.now) on.now number status.now) }
+            entry ≡ set_status.moving (call_of self.now) request.now number status.now) }
     {
-        let from = on.row.status.as_str();
-        self.entry(on, number, EntryKind::Status, from, status)
+        let from = request.row.status.as_str();
+        self.entry(request, number, EntryKind::Status, from, status)
     }
 }

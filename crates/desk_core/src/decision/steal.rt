@@ -4,7 +4,7 @@ ghost use Rattle.desk_model.specs.Plan.{Nothing};
 ghost use Rattle.desk_core.specs.Context.{DecidesOn, PassesOn};
 
 use crate::decision::Context;
-use desk_model::{Change, Refusal, Standing};
+use desk_model::{Change, Refusal, SeenRequest};
 use rights_core::right;
 
 impl Context<'_> {
@@ -13,24 +13,24 @@ impl Context<'_> {
         ensures { DecidesOn result Nothing None
             steal.conditions steal.change self.now }
     {
-        let on = self.shown()?;
-        self.ask_to_steal(on)?;
-        Ok(self.giving_owner(Some(self.caller), on)?)
+        let request = self.shown()?;
+        self.ask_to_steal(request)?;
+        Ok(self.giving_owner(Some(self.caller), request)?)
     }
 
     #[tactic(auto, unfolding(rights_core::specs::Right::steal_ticket))]
-    fn ask_to_steal(&self, on: &Standing) -> Result<(), Refusal>
-        ensures asks { PassesOn result steal.conditions self.now on.now }
-        ensures fits { OnOk result (on.now.entry_count + 1 < 2 ^ 32) }
+    fn ask_to_steal(&self, request: &SeenRequest) -> Result<(), Refusal>
+        ensures asks { PassesOn result steal.conditions self.now request.now }
+        ensures fits { OnOk result (request.now.entry_count + 1 < 2 ^ 32) }
     {
-        self.ask(right::STEAL_TICKET, on)?;
-        self.ask_to_own(self.caller, on)?;
-        if on.is_owned_by(self.caller) {
+        self.ask(right::STEAL_TICKET, request)?;
+        self.ask_to_own(self.caller, request)?;
+        if request.is_owned_by(self.caller) {
             return Err(Refusal::NoChange);
         }
-        if on.row.owner.is_none() {
+        if request.row.owner.is_none() {
             return Err(Refusal::NotOwned);
         }
-        self.ask_for_room(on, 1)
+        self.ask_for_room(request, 1)
     }
 }

@@ -6,7 +6,7 @@ ghost use Rattle.desk_model.specs.Plan.{Nothing};
 ghost use Rattle.desk_core.specs.Context.{call_of, DecidesOn, PassesOn};
 
 use crate::decision::Context;
-use desk_model::{Change, EntryKind, Refusal, Standing};
+use desk_model::{Change, EntryKind, Refusal, SeenRequest};
 use rights_core::right;
 use std::alloc::AllocError;
 
@@ -16,40 +16,40 @@ impl Context<'_> {
         ensures { DecidesOn result Nothing None
             take.conditions take.change self.now }
     {
-        let on = self.shown()?;
-        self.ask_to_take(on)?;
-        Ok(self.giving_owner(Some(self.caller), on)?)
+        let request = self.shown()?;
+        self.ask_to_take(request)?;
+        Ok(self.giving_owner(Some(self.caller), request)?)
     }
 
     #[tactic(auto, unfolding(rights_core::specs::Right::take_ticket))]
-    fn ask_to_take(&self, on: &Standing) -> Result<(), Refusal>
-        ensures asks { PassesOn result take.conditions self.now on.now }
-        ensures fits { OnOk result (on.now.entry_count + 1 < 2 ^ 32) }
+    fn ask_to_take(&self, request: &SeenRequest) -> Result<(), Refusal>
+        ensures asks { PassesOn result take.conditions self.now request.now }
+        ensures fits { OnOk result (request.now.entry_count + 1 < 2 ^ 32) }
     {
-        self.ask(right::TAKE_TICKET, on)?;
-        self.ask_to_own(self.caller, on)?;
-        if on.is_owned_by(self.caller) {
+        self.ask(right::TAKE_TICKET, request)?;
+        self.ask_to_own(self.caller, request)?;
+        if request.is_owned_by(self.caller) {
             return Err(Refusal::NoChange);
         }
-        if on.row.owner.is_some() {
+        if request.row.owner.is_some() {
             return Err(Refusal::Owned);
         }
-        self.ask_for_room(on, 1)
+        self.ask_for_room(request, 1)
     }
 
     /// The request with this owner, or with none.
     pub(super) fn giving_owner(
         &self,
         owner: Option<&str>,
-        on: &Standing,
+        request: &SeenRequest,
     ) -> Result<Change, AllocError>
-        requires { on.now.entry_count + 1 < 2 ^ 32 }
+        requires { request.now.entry_count + 1 < 2 ^ 32 }
         ensures { IfOk result (λ change. change
-            ≡ take.giving_owner (option_map (λ o. o.now) owner.entry) (call_of self.now) on.now) }
+            ≡ take.giving_owner (option_map (λ o. o.now) owner.entry) (call_of self.now) request.now) }
     {
-        let old = on.row.owner.as_ref().map(|o| o.as_str());
-        let entries = self.one_entry(on, EntryKind::Owner, owner_word(old), owner_word(owner))?;
-        let row = on.row.with_owner(self.alloc, owner)?;
+        let old = request.row.owner.as_ref().map(|o| o.as_str());
+        let entries = self.one_entry(request, EntryKind::Owner, owner_word(old), owner_word(owner))?;
+        let row = request.row.with_owner(self.alloc, owner)?;
         Ok(Change::revising(self.alloc, row, entries))
     }
 }

@@ -5,7 +5,7 @@ ghost use Rattle.desk_core.specs.Context.{DecidesOn, PassesOn};
 
 use crate::decision::Context;
 use crate::decision::link::{in_digits, kind_word};
-use desk_model::{Change, EntryKind, LinkKind, LinkRow, Refusal, Standing};
+use desk_model::{Change, EntryKind, LinkKind, LinkRow, Refusal, SeenRequest};
 use rights_core::right;
 
 impl Context<'_> {
@@ -14,12 +14,12 @@ impl Context<'_> {
         ensures { DecidesOn result (Another kind other) None
             unlink.conditions (unlink.change kind other) self.now }
     {
-        let on = self.both_shown()?;
-        self.ask_to_unlink(on)?;
+        let request = self.both_shown()?;
+        self.ask_to_unlink(request)?;
         let number = in_digits(self.alloc, other)?;
-        let entries = self.one_entry(on, EntryKind::Unlink, kind_word(kind), number.as_str())?;
+        let entries = self.one_entry(request, EntryKind::Unlink, kind_word(kind), number.as_str())?;
         let link = LinkRow {
-            source: on.row.id,
+            source: request.row.id,
             kind,
             target: other,
         };
@@ -27,14 +27,14 @@ impl Context<'_> {
     }
 
     #[tactic(auto, unfolding(rights_core::specs::Right::modify_ticket))]
-    fn ask_to_unlink(&self, on: &Standing) -> Result<(), Refusal>
-        ensures asks { PassesOn result unlink.conditions self.now on.now }
-        ensures fits { OnOk result (on.now.entry_count + 1 < 2 ^ 32) }
+    fn ask_to_unlink(&self, request: &SeenRequest) -> Result<(), Refusal>
+        ensures asks { PassesOn result unlink.conditions self.now request.now }
+        ensures fits { OnOk result (request.now.entry_count + 1 < 2 ^ 32) }
     {
-        self.ask(right::MODIFY_TICKET, on)?;
+        self.ask(right::MODIFY_TICKET, request)?;
         if !self.facts.is_linked {
             return Err(Refusal::NoChange);
         }
-        self.ask_for_room(on, 1)
+        self.ask_for_room(request, 1)
     }
 }

@@ -4,7 +4,7 @@ ghost use Rattle.desk_model.specs.Plan.{Nothing};
 ghost use Rattle.desk_core.specs.Context.{DecidesOn, PassesOn};
 
 use crate::decision::Context;
-use desk_model::{Change, Refusal, Standing};
+use desk_model::{Change, Refusal, SeenRequest};
 
 impl Context<'_> {
     /// Leaves a request that the caller owns without an owner.
@@ -12,21 +12,21 @@ impl Context<'_> {
         ensures { DecidesOn result Nothing None
             untake.conditions untake.change self.now }
     {
-        let on = self.shown()?;
-        self.ask_to_untake(on)?;
-        Ok(self.giving_owner(None, on)?)
+        let request = self.shown()?;
+        self.ask_to_untake(request)?;
+        Ok(self.giving_owner(None, request)?)
     }
 
-    fn ask_to_untake(&self, on: &Standing) -> Result<(), Refusal>
-        ensures asks { PassesOn result untake.conditions self.now on.now }
-        ensures fits { OnOk result (on.now.entry_count + 1 < 2 ^ 32) }
+    fn ask_to_untake(&self, request: &SeenRequest) -> Result<(), Refusal>
+        ensures asks { PassesOn result untake.conditions self.now request.now }
+        ensures fits { OnOk result (request.now.entry_count + 1 < 2 ^ 32) }
     {
-        if on.row.owner.is_none() {
+        if request.row.owner.is_none() {
             return Err(Refusal::NotOwned);
         }
-        if !on.is_owned_by(self.caller) {
+        if !request.is_owned_by(self.caller) {
             return Err(Refusal::NotOwner);
         }
-        self.ask_for_room(on, 1)
+        self.ask_for_room(request, 1)
     }
 }

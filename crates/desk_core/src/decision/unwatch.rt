@@ -5,7 +5,7 @@ ghost use Rattle.desk_core.specs.Context.{DecidesOn, PassesOn};
 
 use crate::decision::Context;
 use crate::decision::watch::{one_watcher, persons_in, role_word};
-use desk_model::{Change, EntryKind, Refusal, Standing, WatchRole};
+use desk_model::{Change, EntryKind, Refusal, SeenRequest, WatchRole};
 use rights_core::right;
 use text_core::Text;
 
@@ -15,27 +15,27 @@ impl Context<'_> {
         ensures { DecidesOn result Nothing None
             (unwatch.conditions role person.now) (unwatch.change role person.now) self.now }
     {
-        let on = self.shown()?;
-        self.ask_to_unwatch(on, role, person)?;
-        let entries = self.one_entry(on, EntryKind::Unwatch, role_word(role), person.as_str())?;
-        let taken = one_watcher(self.alloc, on, role, person)?;
+        let request = self.shown()?;
+        self.ask_to_unwatch(request, role, person)?;
+        let entries = self.one_entry(request, EntryKind::Unwatch, role_word(role), person.as_str())?;
+        let taken = one_watcher(self.alloc, request, role, person)?;
         Ok(Change::taking(self.alloc, taken, entries))
     }
 
     #[tactic(auto, unfolding(rights_core::specs::Right::modify_ticket))]
-    fn ask_to_unwatch(&self, on: &Standing, role: WatchRole, person: &Text) -> Result<(), Refusal>
-        ensures asks { PassesOn result (unwatch.conditions role person.now) self.now on.now }
-        ensures fits { OnOk result (on.now.entry_count + 1 < 2 ^ 32) }
+    fn ask_to_unwatch(&self, request: &SeenRequest, role: WatchRole, person: &Text) -> Result<(), Refusal>
+        ensures asks { PassesOn result (unwatch.conditions role person.now) self.now request.now }
+        ensures fits { OnOk result (request.now.entry_count + 1 < 2 ^ 32) }
     {
         if !self.settings.people().knows(person.as_str()) {
             return Err(Refusal::UnknownName);
         }
-        if !self.may_set_role(on, role, person) {
+        if !self.may_set_role(request, role, person) {
             return Err(self.denied(right::MODIFY_TICKET));
         }
-        if !persons_in(role, on).contains(person.as_str()) {
+        if !persons_in(role, request).contains(person.as_str()) {
             return Err(Refusal::NoChange);
         }
-        self.ask_for_room(on, 1)
+        self.ask_for_room(request, 1)
     }
 }

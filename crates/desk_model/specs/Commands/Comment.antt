@@ -8,15 +8,15 @@ use Rattle.desk_model.specs.Plan.{Call}
 use Rattle.desk_model.specs.Rights.{holds_on}
 use Rattle.desk_model.specs.declared.change.Change.{Change}
 use Rattle.desk_model.specs.declared.facts.Facts.{Facts}
-use Rattle.desk_model.specs.declared.facts.Standing.{Standing}
+use Rattle.desk_model.specs.declared.facts.SeenRequest.{SeenRequest}
 use Rattle.desk_model.specs.declared.refusal.Refusal.TheVariants.{Denied, Full}
 use Rattle.desk_model.specs.declared.rows.EntryKind.TheVariants as kind
 
-abbrev pub conditions : Call → Facts → Standing → List Condition
-conditions call facts on =
-    (Denied comment_on_ticket, not (holds_on call.settings call.caller comment_on_ticket on))
-    ∷ (Full, lacks_room call on 1)
+abbrev pub conditions : Call → Facts → SeenRequest → List Condition
+conditions call facts request =
+    (Denied comment_on_ticket, not (holds_on call.settings call.caller comment_on_ticket request))
+    ∷ (Full, lacks_room call request 1)
     ∷ []
 
-abbrev pub change : List ℕ → Call → Facts → Standing → Change
-change text call facts on = noting (entry_of call on 1 kind.Comment [] text ∷ [])
+abbrev pub change : List ℕ → Call → Facts → SeenRequest → Change
+change text call facts request = noting (entry_of call request 1 kind.Comment [] text ∷ [])

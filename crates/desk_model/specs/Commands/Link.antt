@@ -9,7 +9,7 @@ use Rattle.desk_model.specs.Plan.{Call}
 use Rattle.desk_model.specs.Rights.{holds_on}
 use Rattle.desk_model.specs.declared.change.Change.{Change}
 use Rattle.desk_model.specs.declared.facts.Facts.{Facts}
-use Rattle.desk_model.specs.declared.facts.Standing.{Standing}
+use Rattle.desk_model.specs.declared.facts.SeenRequest.{SeenRequest}
 use Rattle.desk_model.specs.declared.refusal.Refusal.TheVariants.{Denied, NoChange, SelfLink, Full}
 use Rattle.desk_model.specs.declared.rows.EntryKind.TheVariants as entry
 use Rattle.desk_model.specs.declared.rows.LinkKind.{LinkKind}
@@ -20,15 +20,15 @@ kind_word DependsOn = codes "DependsOn"
 kind_word MemberOf = codes "MemberOf"
 kind_word RefersTo = codes "RefersTo"
 
-abbrev pub conditions : ℕ → Call → Facts → Standing → List Condition
-conditions other call facts on =
-    (Denied modify_ticket, not (holds_on call.settings call.caller modify_ticket on))
+abbrev pub conditions : ℕ → Call → Facts → SeenRequest → List Condition
+conditions other call facts request =
+    (Denied modify_ticket, not (holds_on call.settings call.caller modify_ticket request))
     ∷ (NoChange, facts.is_linked)
-    ∷ (SelfLink, on.row.id == other)
-    ∷ (Full, lacks_room call on 1)
+    ∷ (SelfLink, request.row.id == other)
+    ∷ (Full, lacks_room call request 1)
     ∷ []
 
-abbrev pub change : LinkKind → ℕ → Call → Facts → Standing → Change
-change kind other call facts on =
-    linking (link on.row.id kind other)
-    (entry_of call on 1 entry.Link (kind_word kind) (decimal other) ∷ [])
+abbrev pub change : LinkKind → ℕ → Call → Facts → SeenRequest → Change
+change kind other call facts request =
+    linking (link request.row.id kind other)
+    (entry_of call request 1 entry.Link (kind_word kind) (decimal other) ∷ [])

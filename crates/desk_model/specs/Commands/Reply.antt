@@ -13,7 +13,7 @@ use Rattle.desk_model.specs.Plan.{Call}
 use Rattle.desk_model.specs.Rights.{holds_on}
 use Rattle.desk_model.specs.declared.change.Change.{Change}
 use Rattle.desk_model.specs.declared.facts.Facts.{Facts}
-use Rattle.desk_model.specs.declared.facts.Standing.{Standing}
+use Rattle.desk_model.specs.declared.facts.SeenRequest.{SeenRequest}
 use Rattle.desk_model.specs.declared.refusal.Refusal.TheVariants.{Denied, Full}
 use Rattle.desk_model.specs.declared.rows.Entry.{Entry}
 use Rattle.desk_model.specs.declared.rows.EntryKind.TheVariants as kind
@@ -28,23 +28,23 @@ reply_target lifecycle is_requestor status =
     then reopening_of lifecycle status
     else None
 
-abbrev pub move_of : Call → Facts → Standing → Option (List ℕ)
-move_of call facts on =
-    reply_target (lifecycle_of call.settings facts.queue) (is_among on.requestors call.caller)
-    on.row.status
+abbrev pub move_of : Call → Facts → SeenRequest → Option (List ℕ)
+move_of call facts request =
+    reply_target (lifecycle_of call.settings facts.queue) (is_among request.requestors call.caller)
+    request.row.status
 
 -- how many entries a reply appends
 abbrev pub entries_of_move : Option (List ℕ) → ℕ
 entries_of_move None = 1
 entries_of_move (Some status) = 2
 
-abbrev pub entries_wanted : Call → Facts → Standing → ℕ
-entries_wanted call facts on = entries_of_move (move_of call facts on)
+abbrev pub entries_wanted : Call → Facts → SeenRequest → ℕ
+entries_wanted call facts request = entries_of_move (move_of call facts request)
 
-abbrev pub conditions : Call → Facts → Standing → List Condition
-conditions call facts on =
-    (Denied reply_to_ticket, not (holds_on call.settings call.caller reply_to_ticket on))
-    ∷ (Full, lacks_room call on (entries_wanted call facts on))
+abbrev pub conditions : Call → Facts → SeenRequest → List Condition
+conditions call facts request =
+    (Denied reply_to_ticket, not (holds_on call.settings call.caller reply_to_ticket request))
+    ∷ (Full, lacks_room call request (entries_wanted call facts request))
     ∷ []
 
 abbrev pub is_desks : Turn → Bool
@@ -60,23 +60,23 @@ turned is_requestor at row =
     }
 
 -- the entry of the move, if the request is moved
-abbrev pub second_entry : Call → Standing → Option (List ℕ) → List Entry
-second_entry call on None = []
-second_entry call on (Some status) = moving call on 2 status ∷ []
+abbrev pub second_entry : Call → SeenRequest → Option (List ℕ) → List Entry
+second_entry call request None = []
+second_entry call request (Some status) = moving call request 2 status ∷ []
 
 -- the entry of the reply, and that of the move
-abbrev pub entries_of : List ℕ → Call → Standing → Option (List ℕ) → List Entry
-entries_of text call on move =
-    entry_of call on 1 kind.Reply [] text ∷ second_entry call on move
+abbrev pub entries_of : List ℕ → Call → SeenRequest → Option (List ℕ) → List Entry
+entries_of text call request move =
+    entry_of call request 1 kind.Reply [] text ∷ second_entry call request move
 
 -- the row after a reply: where the status stays, as after a move to that status
-abbrev pub replied_row : Call → Facts → Option (List ℕ) → Standing → RequestRow
-replied_row call facts move on =
+abbrev pub replied_row : Call → Facts → Option (List ℕ) → SeenRequest → RequestRow
+replied_row call facts move request =
     let lifecycle = lifecycle_of call.settings facts.queue in
-    let moved = row_in_status lifecycle call.at (unwrap_or move on.row.status) on.row in
-    turned (is_among on.requestors call.caller) call.at moved
+    let moved = row_in_status lifecycle call.at (unwrap_or move request.row.status) request.row in
+    turned (is_among request.requestors call.caller) call.at moved
 
-abbrev pub change : List ℕ → Call → Facts → Standing → Change
-change text call facts on =
-    let move = move_of call facts on in
-    revising (replied_row call facts move on) (entries_of text call on move)
+abbrev pub change : List ℕ → Call → Facts → SeenRequest → Change
+change text call facts request =
+    let move = move_of call facts request in
+    revising (replied_row call facts move request) (entries_of text call request move)

@@ -11,7 +11,7 @@ use Rattle.desk_model.specs.Plan.{Call}
 use Rattle.desk_model.specs.Rights.{holds_on}
 use Rattle.desk_model.specs.declared.change.Change.{Change}
 use Rattle.desk_model.specs.declared.facts.Facts.{Facts}
-use Rattle.desk_model.specs.declared.facts.Standing.{Standing}
+use Rattle.desk_model.specs.declared.facts.SeenRequest.{SeenRequest}
 use Rattle.desk_model.specs.declared.refusal.Refusal.TheVariants.{UnknownName, Denied}
 use Rattle.desk_model.specs.declared.refusal.Refusal.TheVariants.{NoChange, Full}
 use Rattle.desk_model.specs.declared.rows.EntryKind.TheVariants as kind
@@ -22,12 +22,12 @@ is_same_level None None = true
 is_same_level (Some a) (Some b) = bytes_eq a b
 is_same_level a b = false
 
-abbrev pub conditions : Option (List ℕ) → Call → Facts → Standing → List Condition
-conditions level call facts on =
+abbrev pub conditions : Option (List ℕ) → Call → Facts → SeenRequest → List Condition
+conditions level call facts request =
     (UnknownName, not (knows_level call.settings level))
-    ∷ (Denied modify_ticket, not (holds_on call.settings call.caller modify_ticket on))
-    ∷ (NoChange, is_same_level on.row.level level)
-    ∷ (Full, lacks_room call on 1)
+    ∷ (Denied modify_ticket, not (holds_on call.settings call.caller modify_ticket request))
+    ∷ (NoChange, is_same_level request.row.level level)
+    ∷ (Full, lacks_room call request 1)
     ∷ []
 
 -- a level in an entry, or a dash for none
@@ -37,7 +37,7 @@ level_word level = unwrap_or level (codes "-")
 abbrev pub with_level : Option (List ℕ) → RequestRow → RequestRow
 with_level level row = record row { level = level }
 
-abbrev pub change : Option (List ℕ) → Call → Facts → Standing → Change
-change level call facts on =
-    revising (with_level level on.row)
-    (entry_of call on 1 kind.Level (level_word on.row.level) (level_word level) ∷ [])
+abbrev pub change : Option (List ℕ) → Call → Facts → SeenRequest → Change
+change level call facts request =
+    revising (with_level level request.row)
+    (entry_of call request 1 kind.Level (level_word request.row.level) (level_word level) ∷ [])

@@ -15,7 +15,7 @@ use Rattle.desk_model.specs.Rights.{holds_on}
 use Rattle.desk_model.specs.declared.change.Change.{Change}
 use Rattle.desk_model.specs.declared.facts.Dependency.{Dependency}
 use Rattle.desk_model.specs.declared.facts.Facts.{Facts}
-use Rattle.desk_model.specs.declared.facts.Standing.{Standing}
+use Rattle.desk_model.specs.declared.facts.SeenRequest.{SeenRequest}
 use Rattle.desk_model.specs.declared.refusal.Refusal.TheVariants.{UnknownName, Denied, NoChange}
 use Rattle.desk_model.specs.declared.refusal.Refusal.TheVariants.{NoTransition, OpenDependency}
 use Rattle.desk_model.specs.declared.refusal.Refusal.TheVariants.{Full}
@@ -31,20 +31,20 @@ is_open_dependency settings dependency =
 abbrev pub has_open_dependency : Settings → List Dependency → Bool
 has_open_dependency settings dependencies = list_any (is_open_dependency settings) dependencies
 
-abbrev pub conditions : List ℕ → Call → Facts → Standing → List Condition
-conditions status call facts on =
+abbrev pub conditions : List ℕ → Call → Facts → SeenRequest → List Condition
+conditions status call facts request =
     let lifecycle = lifecycle_of call.settings facts.queue in
-    let right = right_of lifecycle on.row.status status in
+    let right = right_of lifecycle request.row.status status in
     (UnknownName, not (has_status lifecycle status))
-    ∷ (Denied right, not (holds_on call.settings call.caller right on))
-    ∷ (NoChange, bytes_eq on.row.status status)
-    ∷ (NoTransition, not (is_allowed lifecycle on.row.status status))
+    ∷ (Denied right, not (holds_on call.settings call.caller right request))
+    ∷ (NoChange, bytes_eq request.row.status status)
+    ∷ (NoTransition, not (is_allowed lifecycle request.row.status status))
     ∷ (
       OpenDependency,
       is_inactive lifecycle status
           && has_open_dependency call.settings facts.dependencies,
     )
-    ∷ (Full, lacks_room call on 1)
+    ∷ (Full, lacks_room call request 1)
     ∷ []
 
 -- the row after a move
@@ -58,10 +58,10 @@ row_in_status lifecycle at status row =
     }
 
 -- the entry of a move
-abbrev pub moving : Call → Standing → ℕ → List ℕ → Entry
-moving call on number status = entry_of call on number kind.Status on.row.status status
+abbrev pub moving : Call → SeenRequest → ℕ → List ℕ → Entry
+moving call request number status = entry_of call request number kind.Status request.row.status status
 
-abbrev pub change : List ℕ → Call → Facts → Standing → Change
-change status call facts on =
-    revising (row_in_status (lifecycle_of call.settings facts.queue) call.at status on.row)
-    (moving call on 1 status ∷ [])
+abbrev pub change : List ℕ → Call → Facts → SeenRequest → Change
+change status call facts request =
+    revising (row_in_status (lifecycle_of call.settings facts.queue) call.at status request.row)
+    (moving call request 1 status ∷ [])

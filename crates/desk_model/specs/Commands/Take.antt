@@ -8,28 +8,28 @@ use Rattle.desk_model.specs.Plan.{Call}
 use Rattle.desk_model.specs.Rights.{holds_on, owns}
 use Rattle.desk_model.specs.declared.change.Change.{Change}
 use Rattle.desk_model.specs.declared.facts.Facts.{Facts}
-use Rattle.desk_model.specs.declared.facts.Standing.{Standing}
+use Rattle.desk_model.specs.declared.facts.SeenRequest.{SeenRequest}
 use Rattle.desk_model.specs.declared.refusal.Refusal.TheVariants.{Denied, NoChange, Owned, Full}
 use Rattle.desk_model.specs.declared.rows.RequestRow.{RequestRow}
 use Rattle.desk_model.specs.declared.rows.EntryKind.TheVariants as kind
 
-abbrev pub conditions : Call → Facts → Standing → List Condition
-conditions call facts on =
-    (Denied take_ticket, not (holds_on call.settings call.caller take_ticket on))
-    ∷ (Denied own_ticket, not (holds_on call.settings call.caller own_ticket on))
-    ∷ (NoChange, owns call.caller on)
-    ∷ (Owned, is_some on.row.owner)
-    ∷ (Full, lacks_room call on 1)
+abbrev pub conditions : Call → Facts → SeenRequest → List Condition
+conditions call facts request =
+    (Denied take_ticket, not (holds_on call.settings call.caller take_ticket request))
+    ∷ (Denied own_ticket, not (holds_on call.settings call.caller own_ticket request))
+    ∷ (NoChange, owns call.caller request)
+    ∷ (Owned, is_some request.row.owner)
+    ∷ (Full, lacks_room call request 1)
     ∷ []
 
 abbrev pub with_owner : Option (List ℕ) → RequestRow → RequestRow
 with_owner owner row = record row { owner = owner }
 
 -- the request with another owner, or with none
-abbrev pub giving_owner : Option (List ℕ) → Call → Standing → Change
-giving_owner owner call on =
-    revising (with_owner owner on.row)
-    (entry_of call on 1 kind.Owner (owner_word on.row.owner) (owner_word owner) ∷ [])
+abbrev pub giving_owner : Option (List ℕ) → Call → SeenRequest → Change
+giving_owner owner call request =
+    revising (with_owner owner request.row)
+    (entry_of call request 1 kind.Owner (owner_word request.row.owner) (owner_word owner) ∷ [])
 
-abbrev pub change : Call → Facts → Standing → Change
-change call facts on = giving_owner (Some call.caller) call on
+abbrev pub change : Call → Facts → SeenRequest → Change
+change call facts request = giving_owner (Some call.caller) call request

@@ -10,19 +10,19 @@ use Rattle.desk_model.specs.Plan.{Call}
 use Rattle.desk_model.specs.Rights.{holds_on}
 use Rattle.desk_model.specs.declared.change.Change.{Change}
 use Rattle.desk_model.specs.declared.facts.Facts.{Facts}
-use Rattle.desk_model.specs.declared.facts.Standing.{Standing}
+use Rattle.desk_model.specs.declared.facts.SeenRequest.{SeenRequest}
 use Rattle.desk_model.specs.declared.refusal.Refusal.TheVariants.{Denied, NoChange, Full}
 use Rattle.desk_model.specs.declared.rows.EntryKind.TheVariants as entry
 use Rattle.desk_model.specs.declared.rows.LinkKind.{LinkKind}
 
-abbrev pub conditions : Call → Facts → Standing → List Condition
-conditions call facts on =
-    (Denied modify_ticket, not (holds_on call.settings call.caller modify_ticket on))
+abbrev pub conditions : Call → Facts → SeenRequest → List Condition
+conditions call facts request =
+    (Denied modify_ticket, not (holds_on call.settings call.caller modify_ticket request))
     ∷ (NoChange, not facts.is_linked)
-    ∷ (Full, lacks_room call on 1)
+    ∷ (Full, lacks_room call request 1)
     ∷ []
 
-abbrev pub change : LinkKind → ℕ → Call → Facts → Standing → Change
-change kind other call facts on =
-    unlinking (link on.row.id kind other)
-    (entry_of call on 1 entry.Unlink (kind_word kind) (decimal other) ∷ [])
+abbrev pub change : LinkKind → ℕ → Call → Facts → SeenRequest → Change
+change kind other call facts request =
+    unlinking (link request.row.id kind other)
+    (entry_of call request 1 entry.Unlink (kind_word kind) (decimal other) ∷ [])

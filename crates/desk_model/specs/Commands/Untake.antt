@@ -7,15 +7,15 @@ use Rattle.desk_model.specs.Plan.{Call}
 use Rattle.desk_model.specs.Rights.{owns}
 use Rattle.desk_model.specs.declared.change.Change.{Change}
 use Rattle.desk_model.specs.declared.facts.Facts.{Facts}
-use Rattle.desk_model.specs.declared.facts.Standing.{Standing}
+use Rattle.desk_model.specs.declared.facts.SeenRequest.{SeenRequest}
 use Rattle.desk_model.specs.declared.refusal.Refusal.TheVariants.{NotOwned, NotOwner, Full}
 
-abbrev pub conditions : Call → Facts → Standing → List Condition
-conditions call facts on =
-    (NotOwned, is_none on.row.owner)
-    ∷ (NotOwner, not (owns call.caller on))
-    ∷ (Full, lacks_room call on 1)
+abbrev pub conditions : Call → Facts → SeenRequest → List Condition
+conditions call facts request =
+    (NotOwned, is_none request.row.owner)
+    ∷ (NotOwner, not (owns call.caller request))
+    ∷ (Full, lacks_room call request 1)
     ∷ []
 
-abbrev pub change : Call → Facts → Standing → Change
-change call facts on = giving_owner None call on
+abbrev pub change : Call → Facts → SeenRequest → Change
+change call facts request = giving_owner None call request

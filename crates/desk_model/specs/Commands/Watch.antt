@@ -12,17 +12,17 @@ use Rattle.desk_model.specs.Rights.{holds_on}
 use Rattle.desk_model.specs.Watchers.{watcher}
 use Rattle.desk_model.specs.declared.change.Change.{Change}
 use Rattle.desk_model.specs.declared.facts.Facts.{Facts}
-use Rattle.desk_model.specs.declared.facts.Standing.{Standing}
+use Rattle.desk_model.specs.declared.facts.SeenRequest.{SeenRequest}
 use Rattle.desk_model.specs.declared.refusal.Refusal.TheVariants.{UnknownName, Denied}
 use Rattle.desk_model.specs.declared.refusal.Refusal.TheVariants.{NoChange, Full}
 use Rattle.desk_model.specs.declared.rows.EntryKind.TheVariants as kind
 use Rattle.desk_model.specs.declared.rows.WatchRole.{WatchRole}
 use Rattle.desk_model.specs.declared.rows.WatchRole.TheVariants.{Requestor, Cc, AdminCc}
 
-abbrev pub persons_in : WatchRole → Standing → List (List ℕ)
-persons_in Requestor on = on.requestors
-persons_in Cc on = on.cc
-persons_in AdminCc on = on.admin_cc
+abbrev pub persons_in : WatchRole → SeenRequest → List (List ℕ)
+persons_in Requestor request = request.requestors
+persons_in Cc request = request.cc
+persons_in AdminCc request = request.admin_cc
 
 -- the right to put oneself into a role
 abbrev pub right_to_watch : WatchRole → List ℕ
@@ -37,20 +37,20 @@ role_word AdminCc = codes "admincc"
 
 -- the caller may modify the request, or names himself and may watch it: to put into a role, and to
 -- take out of it
-abbrev pub may_set_role : WatchRole → List ℕ → Call → Standing → Bool
-may_set_role role person call on =
-    holds_on call.settings call.caller modify_ticket on
-    || (bytes_eq person call.caller && holds_on call.settings call.caller (right_to_watch role) on)
+abbrev pub may_set_role : WatchRole → List ℕ → Call → SeenRequest → Bool
+may_set_role role person call request =
+    holds_on call.settings call.caller modify_ticket request
+    || (bytes_eq person call.caller && holds_on call.settings call.caller (right_to_watch role) request)
 
-abbrev pub conditions : WatchRole → List ℕ → Call → Facts → Standing → List Condition
-conditions role person call facts on =
+abbrev pub conditions : WatchRole → List ℕ → Call → Facts → SeenRequest → List Condition
+conditions role person call facts request =
     (UnknownName, not (knows call.settings person))
-    ∷ (Denied modify_ticket, not (may_set_role role person call on))
-    ∷ (NoChange, is_among (persons_in role on) person)
-    ∷ (Full, lacks_room call on 1)
+    ∷ (Denied modify_ticket, not (may_set_role role person call request))
+    ∷ (NoChange, is_among (persons_in role request) person)
+    ∷ (Full, lacks_room call request 1)
     ∷ []
 
-abbrev pub change : WatchRole → List ℕ → Call → Facts → Standing → Change
-change role person call facts on =
-    putting (watcher on.row.id role person ∷ [])
-    (entry_of call on 1 kind.Watch (role_word role) person ∷ [])
+abbrev pub change : WatchRole → List ℕ → Call → Facts → SeenRequest → Change
+change role person call facts request =
+    putting (watcher request.row.id role person ∷ [])
+    (entry_of call request 1 kind.Watch (role_word role) person ∷ [])

@@ -5,7 +5,7 @@ use Rattle.std.proofs.lemmas.Iterator.Splits.{YieldsList-from_lines}
 use Rattle.std.proofs.lemmas.List.{length_push, take_all}
 use Rattle.std.specs.Str.Lines.{lines}
 use Rattle.settings_core.specs.declared.settings.Settings.{Settings}
-use Rattle.service_core.specs.Desk.{empty_desk}
+use Rattle.desk_model.specs.Desk.{empty_desk}
 use Rattle.service_core.specs.Seen.{settings_of, tables_of}
 use Rattle.desk_program.specs.Script.{LineLeads, line_of}
 use Rattle.desk_program.proofs.PrintedLines.{LinesPrint, PrintUpTo, print_one_more}

@@ -1,9 +1,9 @@
 -- what the lines so far print was printed, and the tables stand for the desk that they left
 use Rattle.std.proofs.Common.{◌≡◌, ℕ, List, length}
 use Rattle.std.specs.Str.Lines.{lines}
-use Rattle.store_core.specs.Stands.{StandsFor}
-use Rattle.service_core.specs.Desk.{Desk}
-use Rattle.service_core.specs.IsDesk.{IsDesk}
+use Rattle.store_tables.specs.Stands.{StandsFor}
+use Rattle.desk_model.specs.Desk.{Desk}
+use Rattle.desk_model.specs.IsDesk.{IsDesk}
 use Rattle.service_core.specs.Seen.{settings_of, tables_of}
 use Rattle.desk_program.specs.Written.{Prints}
 use Rattle.desk_program.proofs.PrintedLines.{PrintUpTo}

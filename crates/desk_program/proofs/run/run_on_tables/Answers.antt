@@ -2,9 +2,9 @@
 use Rattle.std.proofs.Common.{inl, refl, subst}
 use Rattle.settings_core.specs.declared.settings.Settings.{Settings}
 use Rattle.store_tables.proofs.Spared.{stands}
-use Rattle.store_core.specs.Contents.{contents_of}
+use Rattle.store_tables.specs.Contents.{contents_of}
 use Rattle.store_core.specs.Seen.{state_of}
-use Rattle.service_core.specs.Desk.{empty_desk}
+use Rattle.desk_model.specs.Desk.{empty_desk}
 use Rattle.desk_program.specs.Script.{AnswersCommands}
 use Rattle.desk_program.proofs.LedLines.{not_attached}
 use Rattle.desk_program.proofs.run.run_on_tables.Goals as goal

@@ -4,7 +4,7 @@ use Rattle.store_tables.proofs.RefusalLemmas.{requests_refuse}
 use Rattle.service_core.specs.Attaching.{knows_rows}
 use Rattle.service_core.proofs.KnownLemmas.{known_of_rows}
 use Rattle.store_tables.proofs.Spared.{stands}
-use Rattle.store_core.specs.Contents.{contents_of, watchers}
+use Rattle.store_tables.specs.Contents.{contents_of, watchers}
 use Rattle.store_core.specs.Seen.{state_of}
 use Rattle.service_core.proofs.attach.is_known.Goals as goal
 

@@ -3,7 +3,7 @@ use Rattle.std.proofs.lemmas.List.Folds.{list_all_more}
 use Rattle.desk_model.specs.declared.rows.RequestRow.{RequestRow}
 use Rattle.store_tables.proofs.Spared.{joined, stands}
 use Rattle.service_core.specs.Attaching.{knows_history}
-use Rattle.store_core.specs.Contents.{contents_of}
+use Rattle.store_tables.specs.Contents.{contents_of}
 use Rattle.service_core.proofs.attach.knows_histories.Goals as goal
 
 pub loop-request-preserved : goal.loop-request-preserved

@@ -2,11 +2,11 @@
 use Rattle.std.proofs.Common.{◌≡◌, take}
 use Rattle.std.specs.List.{list_all}
 use Rattle.sqlite.specs.State.{HasCleanDisk}
-use Rattle.desk_core.specs.Desk.{Desk}
-use Rattle.desk_core.specs.IsDesk.{IsDesk}
-use Rattle.store_core.specs.Calls.{Spares}
+use Rattle.desk_model.specs.Desk.{Desk}
+use Rattle.desk_model.specs.IsDesk.{IsDesk}
+use Rattle.store_tables.specs.Calls.{Spares}
 use Rattle.store_core.specs.Seen.{state_of}
-use Rattle.store_core.specs.Stands.{StandsFor}
+use Rattle.store_tables.specs.Stands.{StandsFor}
 use Rattle.service_core.specs.Attaching.{knows_history}
 use Rattle.service_core.proofs.attach.knows_histories.Given as goal
 

@@ -3,7 +3,7 @@ use Rattle.std.specs.Prelude.{⊤}
 use Rattle.store_tables.proofs.RefusalLemmas.{queues_refuse, watchers_refuse}
 use Rattle.service_core.proofs.KnownLemmas.{same_rows}
 use Rattle.store_tables.proofs.Spared.{stands}
-use Rattle.store_core.specs.Contents.{contents_of}
+use Rattle.store_tables.specs.Contents.{contents_of}
 use Rattle.store_core.specs.Seen.{state_of}
 use Rattle.service_core.proofs.attach.knows_lists.Goals as goal
 

@@ -1,6 +1,6 @@
 -- what is seen of the desk is what the command is decided by
 use Rattle.store_tables.proofs.Spared.{stands}
-use Rattle.store_core.specs.Contents.{contents_of}
+use Rattle.store_tables.specs.Contents.{contents_of}
 use Rattle.service_core.specs.TableSteps.{ask_by}
 use Rattle.service_core.proofs.Stepping.{left_after, unavailable_on}
 use Rattle.store_core.specs.Seen.{state_of}

@@ -3,7 +3,7 @@ use Rattle.store_tables.proofs.Spared.{stands}
 use Rattle.service_core.specs.Shown.{is_shown_at}
 use Rattle.service_core.specs.declared.links.End.TheVariants.{Source, Target}
 use Rattle.service_core.proofs.Linked.{links_are}
-use Rattle.store_core.specs.Contents.{contents_of}
+use Rattle.store_tables.specs.Contents.{contents_of}
 use Rattle.service_core.proofs.links.links_of.Goals as goal
 
 pub returns-clause-told : goal.returns-clause-told

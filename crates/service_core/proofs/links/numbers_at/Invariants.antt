@@ -1,6 +1,6 @@
 -- the numbers at that end of those of the links so far
 use Rattle.std.proofs.Common.{◌≡◌, filter, map, take}
-use Rattle.desk_core.specs.Links.{is_kind}
+use Rattle.desk_model.specs.Links.{is_kind}
 use Rattle.service_core.specs.Shown.{number_at}
 use Rattle.service_core.proofs.links.numbers_at.Given as goal
 

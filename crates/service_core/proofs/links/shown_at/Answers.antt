@@ -3,12 +3,12 @@ use Rattle.std.proofs.Common.{rules, sym}
 use Rattle.std.proofs.lemmas.List.{append-nil, take_all}
 use Rattle.desk_model.specs.declared.rows.LinkKind.TheVariants.{DependsOn}
 use Rattle.desk_model.specs.declared.rows.LinkRow.{LinkRow}
-use Rattle.desk_core.specs.Reading.{is_shown}
+use Rattle.desk_model.specs.Reading.{is_shown}
 use Rattle.store_tables.proofs.Spared.{stands, joined}
 use Rattle.service_core.specs.Shown.{is_shown_at}
 use Rattle.service_core.proofs.Linked.{filtered_more}
 use Rattle.service_core.proofs.links.shown_at.Goals as goal
-use Rattle.store_core.specs.Contents.{contents_of}
+use Rattle.store_tables.specs.Contents.{contents_of}
 use Rattle.service_core.proofs.links.shown_at.Goals.{then-shown+in_ok-push, else-shown}
 
 pub loop-link-preserved : goal.loop-link-preserved

@@ -1,11 +1,11 @@
 -- those of the links so far of which the caller may show the request at that end
 use Rattle.std.proofs.Common.{◌≡◌, filter, take}
 use Rattle.sqlite.specs.State.{HasCleanDisk}
-use Rattle.desk_core.specs.Desk.{Desk}
-use Rattle.desk_core.specs.IsDesk.{IsDesk}
-use Rattle.store_core.specs.Calls.{Spares}
+use Rattle.desk_model.specs.Desk.{Desk}
+use Rattle.desk_model.specs.IsDesk.{IsDesk}
+use Rattle.store_tables.specs.Calls.{Spares}
 use Rattle.store_core.specs.Seen.{state_of}
-use Rattle.store_core.specs.Stands.{StandsFor}
+use Rattle.store_tables.specs.Stands.{StandsFor}
 use Rattle.service_core.specs.Shown.{is_shown_at}
 use Rattle.service_core.proofs.links.shown_at.Given as goal
 

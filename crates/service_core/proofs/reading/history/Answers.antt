@@ -7,7 +7,7 @@ pub returns-in-Some-clause-told : goal.returns-in-Some-clause-told
 returns-in-Some-clause-told g c at id desk is stand clean =
     if_ok c.told_to.result
     (λ answer told seen. told
-    ∙ tells c.args.settings.now at c.args.caller.now desk id c.args.facts.now c.in-Some.on
+    ∙ tells c.args.settings.now at c.args.caller.now desk id c.args.facts.now c.in-Some.request
     c.in-Some.is seen)
     (c.told_to.ensures.told desk is stand clean)
 

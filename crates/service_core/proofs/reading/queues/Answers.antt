@@ -1,6 +1,6 @@
 use Rattle.std.proofs.Common.{◌∙◌, ap, filter}
 use Rattle.desk_model.specs.declared.answer.Answer.TheVariants.{Queues}
-use Rattle.desk_core.specs.Rights.{sees_queue}
+use Rattle.desk_model.specs.Rights.{sees_queue}
 use Rattle.service_core.proofs.reading.queues.Goals as goal
 
 pub returns-clause-told : goal.returns-clause-told

@@ -11,8 +11,8 @@ returns-in-Some-clause-told g c at id desk is stand clean =
     let caller = c.args.caller.now in
     if_ok c.shown_to.result
     (λ answer told seen. told
-    ∙ ap (λ due. Shown (shown_to settings caller due c.in-Some.on desk)) c.due_in.ensures
-    ∙ shows settings at caller desk id c.args.facts.now c.in-Some.on c.in-Some.is seen)
+    ∙ ap (λ due. Shown (shown_to settings caller due c.in-Some.request desk)) c.due_in.ensures
+    ∙ shows settings at caller desk id c.args.facts.now c.in-Some.request c.in-Some.is seen)
     (c.shown_to.ensures.told desk is stand clean)
 
 pub returns-in-None-clause-told : goal.returns-in-None-clause-told

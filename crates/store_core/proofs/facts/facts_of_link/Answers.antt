@@ -7,9 +7,9 @@ use Rattle.store_core.proofs.facts.facts_of_link.Goals as goal
 pub returns-clause-told : goal.returns-clause-told
 returns-clause-told g c desk is stand clean =
     let first = stands c.is_there.ensures.kept (contents_of desk) stand in
-    let second = stands c.standing_at.ensures.kept (contents_of desk) first in
+    let second = stands c.seen_request_at.ensures.kept (contents_of desk) first in
     let clean-second = c.facts_on.ensures.kept.clean clean in
-    let clean-first = c.standing_at.ensures.kept.clean clean-second in
+    let clean-first = c.seen_request_at.ensures.kept.clean clean-second in
     c.with_link.ensures
     ∙ link_facts desk c.args.link _ _ _ (c.in_ok-facts.ensures.told desk is second clean)
     (c.in_ok-other.ensures.told desk is first clean-second)

@@ -1,7 +1,7 @@
 -- the commands so far have run
 use Rattle.std.proofs.Common.{◌≡◌, ◌≤◌, length, map, take}
 use Rattle.std.specs.Vec.{vec_capacity, vec_len}
-use Rattle.store_core.specs.Calls.{WasClean}
+use Rattle.store_tables.specs.Calls.{WasClean}
 use Rattle.desk_texts.specs.Short.{AreNamed}
 use Rattle.service_core.specs.TableSteps.{ask_of}
 use Rattle.service_core.specs.Seen.{settings_of, tables_of}

@@ -1,5 +1,5 @@
 use Rattle.sqlite.specs.Held.{state}
-use Rattle.desk_core.specs.Change.{applied}
+use Rattle.desk_model.specs.Change.{applied}
 use Rattle.store_tables.specs.Contents.{contents_of}
 use Rattle.store_core.specs.Written.{written}
 use Rattle.store_core.proofs.StandsAlike.{done_alike, left_at_fault}

@@ -1,13 +1,13 @@
 //! A request with its people and the number of its entries, of its rows.
 ghost use Rattle.std.specs.Prelude.{◌++◌, ◌∷◌, ◌≡◌, ◌≢◌, IfErr, IfOk, OnOk, [], false};
 ghost use Rattle.sqlite.specs.Held.{state};
-ghost use Rattle.desk_core.specs.Desk.{queue_at};
-ghost use Rattle.desk_core.specs.Facts as facts;
+ghost use Rattle.desk_model.specs.Desk.{queue_at};
+ghost use Rattle.desk_model.specs.Facts as facts;
 ghost use Rattle.store_tables.specs.declared.fault.StoreFault.{StoreFault};
 ghost use Rattle.store_tables.specs.Calls.{OnlyRefuses, Spares, Tells};
 ghost use Rattle.store_core.specs.Found as found;
 
-use desk_core::{QueueRow, RequestRow, Standing, WatchRole, Watcher, is_role};
+use desk_core::{QueueRow, RequestRow, SeenRequest, WatchRole, Watcher, is_role};
 use sqlite::{Alter, Connection};
 use std::alloc::Global;
 use store_tables::StoreFault;
@@ -37,7 +37,7 @@ pub(crate) fn queue_at<S: Alter>(
 /// The queue that a request is filed in, or none.
 pub(crate) fn queue_of<S: Alter>(
     conn: &mut Connection<S>,
-    request: &Option<Standing>,
+    request: &Option<SeenRequest>,
 ) -> Result<Option<QueueRow>, StoreFault>
     requires { conn.old.in_transaction ≡ false }
     ensures idle { conn.new.in_transaction ≡ false }
@@ -49,21 +49,21 @@ pub(crate) fn queue_of<S: Alter>(
     ensures fault { IfErr result (λ e. e ≢ StoreFault.WrongVersion) }
 {
     match request {
-        Some(on) => queue_at(conn, &on.row.queue),
+        Some(request) => queue_at(conn, &request.row.queue),
         None => Ok(None),
     }
 }
 
 /// The request with that number, with its people and the number of its entries, or none.
 #[tactic(auto, using(store_tables::proofs::Spared::joined, store_tables::proofs::Spared::stands))]
-pub(crate) fn standing_at<S: Alter>(
+pub(crate) fn seen_request_at<S: Alter>(
     alloc: Global,
     conn: &mut Connection<S>,
     id: u32,
-) -> Result<Option<Standing>, StoreFault>
+) -> Result<Option<SeenRequest>, StoreFault>
     requires { conn.old.in_transaction ≡ false }
     ensures idle { conn.new.in_transaction ≡ false }
-    ensures told { Tells (λ desk on. on ≡ facts.standing_at desk id)
+    ensures told { Tells (λ desk request. request ≡ facts.seen_request_at desk id)
         (state S.Store conn.old) (state S.Store conn.new) result }
     ensures kept { Spares (state S.Store conn.old) (state S.Store conn.new) }
     ensures refuses { OnlyRefuses
@@ -75,23 +75,23 @@ pub(crate) fn standing_at<S: Alter>(
     match request_numbered(conn, id)? {
         None => Ok(None),
         Some(row) => {
-            let standing = standing_of(alloc, row, watchers.as_slice(), entry_count)?;
-            Ok(Some(standing))
+            let seen_request = seen_request_of(alloc, row, watchers.as_slice(), entry_count)?;
+            Ok(Some(seen_request))
         }
     }
 }
 
 /// A request's row with the persons among its watchers, and the number of its entries.
-fn standing_of(
+fn seen_request_of(
     alloc: Global,
     row: RequestRow,
     watchers: &[Watcher],
     entry_count: u32,
-) -> Result<Standing, StoreFault>
-    ensures ok { IfOk result (λ on. on ≡ found.standing_of row watchers.now entry_count) }
+) -> Result<SeenRequest, StoreFault>
+    ensures ok { IfOk result (λ request. request ≡ found.seen_request_of row watchers.now entry_count) }
     ensures fault { IfErr result (λ e. e ≡ StoreFault.Refused) }
 {
-    Ok(Standing {
+    Ok(SeenRequest {
         row,
         requestors: persons_in(alloc, WatchRole::Requestor, watchers)?,
         cc: persons_in(alloc, WatchRole::Cc, watchers)?,

@@ -1,7 +1,7 @@
 use Rattle.store_tables.specs.Contents.{contents_of}
 use Rattle.store_tables.proofs.ReadingLemmas.{if_ok}
 use Rattle.store_core.proofs.FactsLemmas.{found_queue}
-use Rattle.store_core.proofs.standing.queue_at.Goals as goal
+use Rattle.store_core.proofs.seen_request.queue_at.Goals as goal
 
 pub returns-clause-told : goal.returns-clause-told
 returns-clause-told g c desk is stand clean =
