@@ -1,6 +1,7 @@
 -- A command that names a hidden request is refused as one that names a request that isn't there.
 use Rattle.std.proofs.Common.{◌≡◌, ◌⊎◌, ◌∙◌, ℕ, ◌≤◌, ◌==◌, ◌||◌, Bool, true, false, not, cond}
 use Rattle.std.proofs.Common.{List, ◌∷◌, Option, Some, None, inl, inr, refl, ap, sym, arith}
+use Rattle.std.specs.List.{list_any}
 use Rattle.std.specs.Option.{option_map, option_map_or}
 use Rattle.std.proofs.Math.Bool.{or-false}
 use Rattle.std.proofs.lemmas.Bool.{eqb-true, or_cases}
@@ -11,20 +12,20 @@ use Rattle.desk_model.specs.Commands.{plan_of}
 use Rattle.desk_model.specs.Condition.{Condition, first_holding}
 use Rattle.desk_model.specs.Desk.{Desk, Request, request_at}
 use Rattle.desk_model.specs.Facts.{seen_request, seen_request_at}
-use Rattle.desk_model.specs.Plan.{Call, Plan, OnDesk, OnQueue, OnRequest, Nothing}
+use Rattle.desk_model.specs.Plan.{Call, Plan, Reads, OnQueue, OnRequest, Nothing}
 use Rattle.desk_model.specs.Plan.{Dependencies, Another, besides_on, conditions_by}
-use Rattle.desk_model.specs.Plan.{is_bad_text, is_missing, names_request, on_shown, seen_by}
-use Rattle.desk_model.specs.Reading.{answer_of}
+use Rattle.desk_model.specs.Plan.{OneRequest, WholeDesk, is_bad_text, is_missing, named_by}
+use Rattle.desk_model.specs.Plan.{on_shown, seen_by}
+use Rattle.desk_model.specs.Step.{answer_of}
 use Rattle.desk_model.specs.Refusals.{number_of}
 use Rattle.desk_model.specs.Rights.{may_show}
 use Rattle.desk_model.specs.Step.{call, outcome_unless}
 use Rattle.desk_model.specs.declared.command.Command.{Command}
-use Rattle.desk_model.specs.declared.command.Command.TheVariants.{Link, Unlink}
 use Rattle.desk_model.specs.declared.facts.SeenRequest.{SeenRequest}
 use Rattle.desk_model.specs.declared.refusal.Refusal.{Refusal}
 use Rattle.desk_model.specs.declared.refusal.Refusal.TheVariants.{UnknownCaller, BadMoment}
 use Rattle.desk_model.specs.declared.refusal.Refusal.TheVariants.{BadText, NotFound}
-use Rattle.desk_core.specs.Laws.{RefusesAsMissing, names}
+use Rattle.desk_core.specs.Laws.{RefusesAsMissing}
 
 -- the refusal of a command on a request that isn't there, by whether the caller is unknown, the
 -- moment none and the text none
@@ -154,9 +155,16 @@ hidden_second c asked end text conditions desk id same hidden =
     (λ other none. inr (λ request. holds_first (is_missing c (seen_request_at other end))
     (conditions other request) (gone_at c other end id same none)))
 
-hidden_by_plan : (c : Call) (plan : Plan) (desk : Desk) (id : ℕ) → names_request plan id ≡ true
+-- the plan names the request of that number
+abbrev names_at : Plan → ℕ → Bool
+names_at plan id = list_any (λ n. n == id) (named_by plan)
+
+hidden_by_plan : (c : Call) (plan : Plan) (desk : Desk) (id : ℕ) → names_at plan id ≡ true
     → is_missing c (seen_request_at desk id) ≡ true → RefusedByPlan c plan desk id
-hidden_by_plan c OnDesk desk id named hidden = cc
+hidden_by_plan c (Reads WholeDesk answer) desk id named hidden = cc
+hidden_by_plan c (Reads (OneRequest asked) answer) desk id named hidden =
+    hidden_first c asked None (λ d request. []) desk id
+    (sym (or-false (asked == id)) ∙ named) hidden
 hidden_by_plan c (OnQueue name conditions change) desk id named hidden = cc
 hidden_by_plan c (OnRequest asked Nothing text conditions change) desk id named hidden =
     hidden_first c asked text (λ d. conditions c (besides_on Nothing asked d)) desk id
@@ -167,27 +175,18 @@ hidden_by_plan c (OnRequest asked Dependencies text conditions change) desk id n
 hidden_by_plan c (OnRequest asked (Another kind end) text conditions change) desk id named hidden =
     let besides : Desk → SeenRequest → List Condition =
     λ d. conditions c (besides_on (Another kind end) asked d) in
-    elim (or_cases (asked == id) (end == id) named) [
+    elim (or_cases (asked == id) (end == id)
+    (ap (λ b. asked == id || b) (sym (or-false (end == id))) ∙ named)) [
       | inl first ↦
           hidden_first c asked text
           (λ d request. (NotFound, is_missing c (seen_request_at d end)) ∷ besides d request) desk id first hidden
       | inr second ↦ hidden_second c asked end text besides desk id second hidden
     ]
 
--- the plan of a command names the requests that the command names
-named_by_plan : (command : Command) (id : ℕ) → names command id ≡ true
-    → names_request (plan_of command) id ≡ true
-named_by_plan (Link asked kind other) id named =
-    ap (λ b. asked == id || b) (sym (or-false (other == id))) ∙ named
-named_by_plan (Unlink asked kind other) id named =
-    ap (λ b. asked == id || b) (sym (or-false (other == id))) ∙ named
-named_by_plan other id named = named
-
 pub hidden_law : (s : Settings) (at : ℕ) (caller : List ℕ) (command : Command) (desk : Desk)
     → RefusesAsMissing s at caller command desk
 hidden_law s at caller command desk id named hidden =
-    let by = hidden_by_plan (call s at caller) (plan_of command) desk id
-    (named_by_plan command id named)
+    let by = hidden_by_plan (call s at caller) (plan_of command) desk id named
     (missing_unless_shown s at caller (seen_request_at desk id) hidden) in (
       by.0,
       by.1,

@@ -28,7 +28,7 @@ use Rattle.desk_model.specs.Plan.{Call}
 use Rattle.desk_model.specs.Step.{call, desk_after, facts_of}
 use Rattle.desk_model.specs.declared.command.Command.{Command}
 use Rattle.desk_model.specs.declared.command.Command.TheVariants.{OpenQueue, Create}
-use Rattle.desk_model.specs.declared.command.Command.TheVariants.{SetStatus, Reply, Queues}
+use Rattle.desk_model.specs.declared.command.Command.TheVariants.{SetStatus, Reply}
 use Rattle.desk_model.specs.declared.facts.Dependency.{Dependency}
 use Rattle.desk_model.specs.declared.facts.Facts.{Facts}
 use Rattle.desk_model.specs.declared.facts.SeenRequest.{SeenRequest}
@@ -98,7 +98,6 @@ reply_goes call facts id text request new (Some to) e status =
 dependencies_go : (command : Command) → Goes (DependencyGoes command) (plan_of command)
 dependencies_go (OpenQueue name lifecycle level) = tt
 dependencies_go (Create queue subject status requestors) = tt
-dependencies_go Queues = tt
 dependencies_go (SetStatus id status) = λ call facts request new same free sets.
     let lifecycle = lifecycle_of call.settings facts.queue in
     let to : status ≡ new.status = ap (λ o. status_in o request.row.status) sets in

@@ -1,34 +1,34 @@
 -- Due moments in answers are those of the requests that are shown.
-use Rattle.std.proofs.Common.{◌≡◌, ◌∙◌, ℕ, List, [], Option, Some, None, refl, ap}
+use Rattle.std.proofs.Common.{◌≡◌, ℕ, List, Option, Some, None}
 use Rattle.std.specs.List.{All}
-use Rattle.std.proofs.lemmas.List.Elements.{All-nil, All-cons}
+use Rattle.std.proofs.lemmas.List.Elements.{All-nil}
 use Rattle.settings_core.specs.declared.settings.Settings.{Settings}
-use Rattle.desk_model.specs.Desk.{Desk, Request, request_at}
-use Rattle.desk_model.specs.Due.{due_on}
-use Rattle.desk_model.specs.Reading.{entries_told, answer_of_request, shown_of}
-use Rattle.desk_model.specs.declared.answer.Answer.TheVariants as answer
+use Rattle.desk_model.specs.Commands.{plan_of}
+use Rattle.desk_model.specs.Desk.{Desk}
+use Rattle.desk_model.specs.Plan.{Call, Plan, Reads, OnQueue, OnRequest, answer_by, besides_on}
+use Rattle.desk_model.specs.Plan.{change_of_request, filed_or_done}
+use Rattle.desk_model.specs.Facts.{facts_on_queue}
+use Rattle.desk_model.specs.Step.{call}
 use Rattle.desk_model.specs.declared.command.Command.{Command}
-use Rattle.desk_model.specs.declared.command.Command.TheVariants.{Show, History}
-use Rattle.desk_core.proofs.Goes.{number_found}
+use Rattle.desk_model.specs.declared.rows.RequestRow.{RequestRow}
+use Rattle.desk_core.proofs.Readings.{OwesRight, each_right}
 use Rattle.desk_core.specs.Laws.{IsDue, TellsDueMoments, dues_told}
 
-told_of_shown : (s : Settings) (caller : List ℕ) (desk : Desk) (id : ℕ) (o : Option Request)
-    → request_at desk id ≡ o
-    → All (IsDue s desk)
-    (dues_told (answer_of_request o (λ r. answer.Shown (shown_of s caller desk r))))
-told_of_shown s caller desk id None there = All-nil (IsDue s desk)
-told_of_shown s caller desk id (Some r) there =
-    All-cons (IsDue s desk) (r.row.id, due_on s desk r) []
-    (r, ap (request_at desk) (number_found desk id r there) ∙ there, refl) (All-nil (IsDue s desk))
+no_due : (s : Settings) (desk : Desk) (filed : Option RequestRow)
+    → All (IsDue s desk) (dues_told (filed_or_done filed))
+no_due s desk None = All-nil (IsDue s desk)
+no_due s desk (Some row) = All-nil (IsDue s desk)
 
-told_of_history : (s : Settings) (caller : List ℕ) (desk : Desk) (o : Option Request)
-    → All (IsDue s desk)
-    (dues_told (answer_of_request o (λ r. answer.History (entries_told s caller r))))
-told_of_history s caller desk None = All-nil (IsDue s desk)
-told_of_history s caller desk (Some r) = All-nil (IsDue s desk)
+due_by_plan : (c : Call) (plan : Plan) (desk : Desk) → OwesRight plan
+    → All (IsDue c.settings desk) (dues_told (answer_by c desk plan))
+due_by_plan c (Reads topic told) desk right = right.due c desk
+due_by_plan c (OnQueue name conditions change) desk right =
+    no_due c.settings desk (change c (facts_on_queue desk name)).filed
+due_by_plan c (OnRequest id besides text conditions change) desk right =
+    let facts = besides_on besides id desk in
+    no_due c.settings desk (change_of_request facts.request (change c facts)).filed
 
 pub due_law : (s : Settings) (at : ℕ) (caller : List ℕ) (command : Command) (desk : Desk)
     → TellsDueMoments s at caller command desk
-due_law s at caller (Show id) desk = told_of_shown s caller desk id (request_at desk id) refl
-due_law s at caller (History id) desk = told_of_history s caller desk (request_at desk id)
-due_law s at caller other desk = All-nil (IsDue s desk)
+due_law s at caller command desk =
+    due_by_plan (call s at caller) (plan_of command) desk (each_right command)

@@ -6,11 +6,12 @@ use Rattle.std.proofs.lemmas.Bool.{eqb-true}
 use Rattle.hours_core.specs.Moment.{is_moment}
 use Rattle.settings_core.specs.Settings.{knows}
 use Rattle.settings_core.specs.declared.settings.Settings.{Settings}
+use Rattle.desk_model.specs.Change.{no_change}
 use Rattle.desk_model.specs.Commands.{plan_of}
 use Rattle.desk_model.specs.Condition.{Condition, first_holding}
 use Rattle.desk_model.specs.Desk.{Desk, Request, queue_at, request_at}
 use Rattle.desk_model.specs.Facts.{queue_of, seen_request}
-use Rattle.desk_model.specs.Plan.{Call, Plan, OnDesk, OnQueue, OnRequest, Nothing}
+use Rattle.desk_model.specs.Plan.{Call, Plan, Reads, OnQueue, OnRequest, Nothing}
 use Rattle.desk_model.specs.Plan.{Dependencies, Another, besides_on}
 use Rattle.desk_model.specs.Plan.{change_by, change_of_request, conditions_by}
 use Rattle.desk_model.specs.Plan.{is_bad_text, is_missing, on_shown, seen_by}
@@ -129,16 +130,22 @@ id_in (Some row) id = row.id
 
 -- a plan gives rows to no request but its own
 abbrev pub KeepsIds : Plan → Type 0
-KeepsIds OnDesk = Unit {0}
+KeepsIds (Reads topic answer) =
+    (call : Call) (facts : Facts) (request : SeenRequest)
+    → id_in no_change.row request.row.id ≡ request.row.id
 KeepsIds (OnQueue name conditions change) =
     (call : Call) (facts : Facts) → (change call facts).row ≡ None
 KeepsIds (OnRequest id besides text conditions change) =
     (call : Call) (facts : Facts) (request : SeenRequest)
     → id_in (change call facts request).row request.row.id ≡ request.row.id
 
--- a relation of a request to the row that a plan gives it, where the plan's conditions let it pass
+-- a relation of a request to the row that a plan gives it, where the plan's conditions let it pass;
+-- a reading gives none, which is said in the same form, so that one clause covers all commands that
+-- leave a row alone
 abbrev pub Goes : (Call → Facts → SeenRequest → RequestRow → Type 0) → Plan → Type 0
-Goes P OnDesk = Unit {0}
+Goes P (Reads topic answer) =
+    (call : Call) (facts : Facts) (request : SeenRequest) (new : RequestRow) → Unit {0} → Unit {0}
+    → no_change.row ≡ Some new → P call facts request new
 Goes P (OnQueue name conditions change) = Unit {0}
 Goes P (OnRequest id besides text conditions change) =
     (call : Call) (facts : Facts) (request : SeenRequest) (new : RequestRow) → id ≡ request.row.id
@@ -183,7 +190,7 @@ by_plan : (P : Call → Facts → SeenRequest → RequestRow → Type 0) (call :
     → Goes P plan
     → P call (seen_by plan desk) (seen_request before) new
     × ((seen_by plan desk).queue ≡ queue_at desk before.row.queue)
-by_plan P call OnDesk front desk id before new was ids free sets same goes = cc
+by_plan P call (Reads topic answer) front desk id before new was ids free sets same goes = cc
 by_plan P call (OnQueue name conditions change) front desk id before new was ids free sets same
     goes =
     let none : None ≡ Some new = sym (ids call _) ∙ sets in cc

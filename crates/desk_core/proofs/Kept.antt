@@ -25,7 +25,7 @@ use Rattle.desk_model.specs.declared.command.Command.{Command}
 use Rattle.desk_model.specs.declared.command.Command.TheVariants.{OpenQueue, Create}
 use Rattle.desk_model.specs.declared.command.Command.TheVariants.{SetStatus, Take}
 use Rattle.desk_model.specs.declared.command.Command.TheVariants.{Steal, Untake, Give}
-use Rattle.desk_model.specs.declared.command.Command.TheVariants.{Reply, Queues}
+use Rattle.desk_model.specs.declared.command.Command.TheVariants.{Reply}
 use Rattle.desk_model.specs.declared.facts.Facts.{Facts}
 use Rattle.desk_model.specs.declared.facts.SeenRequest.{SeenRequest}
 use Rattle.desk_model.specs.declared.refusal.Refusal.{Refusal}
@@ -61,7 +61,6 @@ history_law s at caller command desk id before there =
 pub ids_kept : (command : Command) → KeepsIds (plan_of command)
 ids_kept (OpenQueue name lifecycle level) = λ call facts. refl
 ids_kept (Create queue subject status requestors) = λ call facts. refl
-ids_kept Queues = tt
 ids_kept other = λ call facts request. refl
 
 abbrev owner_in : Option RequestRow → Option (List ℕ) → Option (List ℕ)
@@ -77,7 +76,6 @@ OwnerGoes command call facts request new =
 owners_go : (command : Command) → Goes (OwnerGoes command) (plan_of command)
 owners_go (OpenQueue name lifecycle level) = tt
 owners_go (Create queue subject status requestors) = tt
-owners_go Queues = tt
 owners_go (Take id) = λ call facts request new same free sets.
     let owner : Some call.caller ≡ new.owner = ap (λ o. owner_in o request.row.owner) sets in
     let none : NoneHolds (take.conditions call facts request) =
@@ -181,7 +179,6 @@ reply_goes call facts id text request new (Some to) same e status =
 statuses_go : (command : Command) → Goes (StatusGoes command) (plan_of command)
 statuses_go (OpenQueue name lifecycle level) = tt
 statuses_go (Create queue subject status requestors) = tt
-statuses_go Queues = tt
 statuses_go (SetStatus id status) = λ call facts request new same free sets.
     let lifecycle = lifecycle_of call.settings facts.queue in
     let to : status ≡ new.status = ap (λ o. status_in o request.row.status) sets in

@@ -5,9 +5,11 @@ pub mod DeskLaw
 pub mod DueLaw
 pub mod Every
 pub mod Goes
+pub mod InView
 pub mod Kept
 pub mod NamedRights
 pub mod NamesLaw
+pub mod Readings
 pub mod Rising
 pub mod Roles
 pub mod Unchanged

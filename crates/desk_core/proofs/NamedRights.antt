@@ -9,25 +9,27 @@ use Rattle.rights_core.specs.Right.{take_ticket, steal_ticket, reassign_ticket, 
 use Rattle.rights_core.specs.Right.{watch, watch_as_admin_cc, admin_queue}
 use Rattle.desk_model.specs.Commands.{IsMove, plan_of}
 use Rattle.desk_model.specs.Condition.{Condition, Decides, first_holding}
-use Rattle.desk_model.specs.Plan.{Call, Plan, OnDesk, OnQueue, OnRequest}
+use Rattle.desk_model.specs.Plan.{Call, Plan, Reads, OnQueue, OnRequest, OneRequest, WholeDesk}
 use Rattle.desk_model.specs.Plan.{Besides, Nothing, Dependencies, Another, another_shown}
 use Rattle.desk_model.specs.Plan.{change_by, conditions_by, of_request}
 use Rattle.desk_model.specs.Refusals.{names_its_right}
 use Rattle.desk_model.specs.declared.change.Change.{Change}
 use Rattle.desk_model.specs.declared.command.Command.{Command}
 use Rattle.desk_model.specs.declared.command.Command.TheVariants.{OpenQueue, Create, SetStatus}
-use Rattle.desk_model.specs.declared.command.Command.TheVariants.{Queues}
 use Rattle.desk_model.specs.declared.facts.Facts.{Facts}
 use Rattle.desk_model.specs.declared.facts.SeenRequest.{SeenRequest}
 use Rattle.desk_model.specs.declared.refusal.Refusal.{Refusal}
-use Rattle.desk_model.specs.declared.refusal.Refusal.TheVariants.{Denied, Unavailable}
+use Rattle.desk_model.specs.declared.refusal.Refusal.TheVariants.{Denied, NotFound}
+use Rattle.desk_model.specs.declared.refusal.Refusal.TheVariants.{Unavailable}
 
 abbrev is_named : Condition → Bool
 is_named condition = names_its_right condition.0
 
 -- each refusal of a plan names its right
 abbrev NamesRights : Plan → Type 0
-NamesRights OnDesk = Unit {0}
+NamesRights (Reads topic answer) =
+    (call : Call) (facts : Facts) (request : SeenRequest)
+    → names_its_right NotFound ≡ true
 NamesRights (OnQueue name conditions change) =
     (call : Call) (facts : Facts) → list_all is_named (conditions call facts) ≡ true
 NamesRights (OnRequest id besides text conditions change) =
@@ -42,7 +44,6 @@ unfolding see_queue create_ticket show_ticket show_ticket_comments modify_ticket
 names_rights (SetStatus id status) = inl tt
 names_rights (OpenQueue name lifecycle level) = inr (λ call facts. refl)
 names_rights (Create queue subject status requestors) = inr (λ call facts. refl)
-names_rights Queues = inr tt
 names_rights other = inr (λ call facts request. refl)
 
 another_named : (call : Call) (besides : Besides) (facts : Facts) (conditions : List Condition)
@@ -60,7 +61,9 @@ of_request_named (Some request) conditions named = named request
 
 plan_named : (plan : Plan) (call : Call) (facts : Facts) → NamesRights plan
     → list_all is_named (conditions_by call facts plan) ≡ true
-plan_named OnDesk call facts names = refl
+plan_named (Reads WholeDesk answer) call facts names = refl
+plan_named (Reads (OneRequest id) answer) call facts names =
+    of_request_named facts.request (λ request. []) (λ request. refl)
 plan_named (OnQueue name conditions change) call facts names = names call facts
 plan_named (OnRequest id besides text conditions change) call facts names =
     of_request_named facts.request

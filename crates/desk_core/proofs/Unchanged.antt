@@ -1,27 +1,28 @@
--- A reading command changes nothing.
-use Rattle.std.proofs.Common.{◌≡◌, ◌∙◌, List, Option, Some, None, Result, Ok, Err, IfOk, refl}
-use Rattle.desk_model.specs.Change.{no_change}
+-- A reading changes nothing, and leaves the desk.
+use Rattle.std.proofs.Common.{◌≡◌, ◌∙◌, ℕ, List, Option, Some, None, Result, Ok, Err, IfOk}
+use Rattle.std.proofs.Common.{true, refl, ap}
+use Rattle.settings_core.specs.declared.settings.Settings.{Settings}
+use Rattle.desk_model.specs.Change.{applied, no_change}
 use Rattle.desk_model.specs.Commands.{IsReading, plan_of}
 use Rattle.desk_model.specs.Condition.{Condition, Decides}
-use Rattle.desk_model.specs.Plan.{Call, change_by, change_of_request}
+use Rattle.desk_model.specs.Desk.{Desk}
+use Rattle.desk_model.specs.Plan.{Call, Plan, Reads, change_by, is_reading}
+use Rattle.desk_model.specs.Step.{call, desk_unless, facts_of, guard}
 use Rattle.desk_model.specs.declared.change.Change.{Change}
 use Rattle.desk_model.specs.declared.command.Command.{Command}
-use Rattle.desk_model.specs.declared.command.Command.TheVariants.{Queues, Show, History}
 use Rattle.desk_model.specs.declared.facts.Facts.{Facts}
-use Rattle.desk_model.specs.declared.facts.SeenRequest.{SeenRequest}
 use Rattle.desk_model.specs.declared.refusal.Refusal.{Refusal}
+use Rattle.desk_core.specs.Laws.{LeavesTheDesk}
 
-unread : (request : Option SeenRequest) → change_of_request request (λ request. no_change) ≡ no_change
-unread None = refl
-unread (Some request) = refl
+unchanged_by_plan : (plan : Plan) (call : Call) (facts : Facts) → is_reading plan ≡ true
+    → change_by call facts plan ≡ no_change
+unchanged_by_plan (Reads topic answer) call facts reads = refl
+unchanged_by_plan other call facts reads = cc
 
 -- the plan of a reading command changes nothing
 pub reads_nothing : (command : Command) (call : Call) (facts : Facts) → IsReading command
     → change_by call facts (plan_of command) ≡ no_change
-reads_nothing Queues call facts reads = refl
-reads_nothing (Show id) call facts reads = unread facts.request
-reads_nothing (History id) call facts reads = unread facts.request
-reads_nothing other call facts reads = absurd reads
+reads_nothing command call facts reads = unchanged_by_plan (plan_of command) call facts reads
 
 -- what is decided of a reading command changes nothing
 pub reads_on : (command : Command) (call : Call) (facts : Facts) (conditions : List Condition)
@@ -31,3 +32,15 @@ pub reads_on : (command : Command) (call : Call) (facts : Facts) (conditions : L
 reads_on command call facts conditions (Ok change) decides reads =
     decides.0.1 ∙ reads_nothing command call facts reads
 reads_on command call facts conditions (Err refusal) decides reads = tt
+
+same_desk : (o : Option Refusal) (desk : Desk) → desk_unless o desk desk ≡ desk
+same_desk None desk = refl
+same_desk (Some refusal) desk = refl
+
+pub reading_law : (s : Settings) (at : ℕ) (caller : List ℕ) (command : Command) (desk : Desk)
+    → LeavesTheDesk s at caller command desk
+reading_law s at caller command desk reads =
+    ap (λ (change : Change). desk_unless (guard s at caller command desk) desk
+    (applied change desk))
+    (reads_nothing command (call s at caller) (facts_of command desk) reads)
+    ∙ same_desk (guard s at caller command desk) desk

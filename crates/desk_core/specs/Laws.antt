@@ -15,7 +15,8 @@ use Rattle.desk_model.specs.IsDesk.{IsDesk}
 use Rattle.desk_model.specs.Lifecycles.{is_allowed, is_inactive}
 use Rattle.desk_model.specs.Lifecycles.{lifecycle_of, reopening_of, right_of}
 use Rattle.desk_model.specs.Links.{has_link, link}
-use Rattle.desk_model.specs.Reading.{answer_of, is_shown}
+use Rattle.desk_model.specs.Rights.{is_shown}
+use Rattle.desk_model.specs.Step.{answer_of}
 use Rattle.desk_model.specs.Refusals.{number_of}
 use Rattle.desk_model.specs.Rights.{holds_on, may_show}
 use Rattle.desk_model.specs.Step.{Outcome, desk_after, outcome_of}
@@ -167,6 +168,11 @@ DueLaw settings desk answer = All (IsDue settings desk) (dues_told answer)
 abbrev pub TellsDueMoments : Settings → ℕ → List ℕ → Command → Desk → Type 0
 TellsDueMoments settings at caller command desk =
     DueLaw settings desk (answer_of settings at caller command desk)
+
+-- A reading command leaves the desk as it was.
+abbrev pub LeavesTheDesk : Settings → ℕ → List ℕ → Command → Desk → Type 0
+LeavesTheDesk settings at caller command desk =
+    IsReading command → desk_after settings at caller command desk ≡ desk
 
 -- Nothing leaks by reading: what comes of a reading command on the desk is what comes of it on the
 -- caller's view.

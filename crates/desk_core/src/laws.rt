@@ -6,7 +6,8 @@ ghost use Rattle.desk_model.specs.Desk.{Desk, Request, empty_desk};
 ghost use Rattle.desk_model.specs.IsDesk.{IsDesk, KeepsDesk, names_rise};
 ghost use Rattle.desk_model.specs.Names.{in_order};
 ghost use Rattle.desk_core.specs.Laws.{AtEveryStep, HidesTheRest, KeepsDependencyLaw, KeepsHistory};
-ghost use Rattle.desk_core.specs.Laws.{KeepsOwnerLaw, KeepsStatusLaw, RefusesAsMissing};
+ghost use Rattle.desk_core.specs.Laws.{KeepsOwnerLaw, KeepsStatusLaw, LeavesTheDesk};
+ghost use Rattle.desk_core.specs.Laws.{RefusesAsMissing};
 ghost use Rattle.desk_core.specs.Laws.{ShowsByWatchers, TellsDueMoments, TellsOfTheView};
 ghost use Rattle.text_core.specs.Texts.{is_among};
 
@@ -43,6 +44,11 @@ pub fn hidden_law()
 /// A due moment in an answer is that of its request, by the level that it has.
 pub fn due_law()
     ensures { AtEveryStep TellsDueMoments }
+{}
+
+/// A reading command leaves the desk as it was.
+pub fn reading_law()
+    ensures { AtEveryStep LeavesTheDesk }
 {}
 
 /// What comes of a reading command is told of the caller's view of the desk alone. A request

@@ -1,6 +1,6 @@
 -- The commands: the plan of each, which requests it names, and whether it only reads or moves a
 -- request.
-use Rattle.std.specs.Prelude.{ℕ, ⊤, List, [], ◌∷◌, Some, None}
+use Rattle.std.specs.Prelude.{◌≡◌, ℕ, ⊤, true, List, Some, None}
 use Rattle.desk_model.specs.Commands.Comment as comment
 use Rattle.desk_model.specs.Commands.Create as create
 use Rattle.desk_model.specs.Commands.Give as give
@@ -15,8 +15,11 @@ use Rattle.desk_model.specs.Commands.Unlink as unlink
 use Rattle.desk_model.specs.Commands.Untake as untake
 use Rattle.desk_model.specs.Commands.Unwatch as unwatch
 use Rattle.desk_model.specs.Commands.Watch as watch
-use Rattle.desk_model.specs.Plan.{Plan, OnDesk, OnQueue, OnRequest}
-use Rattle.desk_model.specs.Plan.{Nothing, Dependencies, Another, reading}
+use Rattle.desk_model.specs.Plan.{Plan, OnQueue, OnRequest}
+use Rattle.desk_model.specs.Plan.{Nothing, Dependencies, Another, is_reading, named_by}
+use Rattle.desk_model.specs.Readings.History as history
+use Rattle.desk_model.specs.Readings.Queues as queues
+use Rattle.desk_model.specs.Readings.Show as show
 use Rattle.desk_model.specs.declared.command.Command.{Command}
 use Rattle.desk_model.specs.declared.command.Command.TheVariants as command
 pub mod Comment
@@ -62,49 +65,17 @@ plan_of (command.Unlink id kind other) =
     OnRequest id (Another kind other) None unlink.conditions (unlink.change kind other)
 plan_of (command.SetLevel id level) =
     OnRequest id Nothing None (set_level.conditions level) (set_level.change level)
-plan_of command.Queues = OnDesk
-plan_of (command.Show id) = reading id
-plan_of (command.History id) = reading id
+plan_of command.Queues = queues.reading
+plan_of (command.Show id) = show.reading id
+plan_of (command.History id) = history.reading id
 
--- the requests that a command names: the one that it is on, and the other end of a link
+-- the requests that a command names
 abbrev pub requests_named : Command → List ℕ
-requests_named (command.OpenQueue queue lifecycle level) = []
-requests_named (command.Create queue subject status requestors) = []
-requests_named (command.SetStatus id status) = id ∷ []
-requests_named (command.Take id) = id ∷ []
-requests_named (command.Steal id) = id ∷ []
-requests_named (command.Untake id) = id ∷ []
-requests_named (command.Give id person) = id ∷ []
-requests_named (command.Reply id text) = id ∷ []
-requests_named (command.Comment id text) = id ∷ []
-requests_named (command.Watch id role person) = id ∷ []
-requests_named (command.Unwatch id role person) = id ∷ []
-requests_named (command.Link id kind other) = id ∷ other ∷ []
-requests_named (command.Unlink id kind other) = id ∷ other ∷ []
-requests_named (command.SetLevel id level) = id ∷ []
-requests_named command.Queues = []
-requests_named (command.Show id) = id ∷ []
-requests_named (command.History id) = id ∷ []
+requests_named command = named_by (plan_of command)
 
 -- the command only reads
 abbrev pub IsReading : Command → Type 0
-IsReading (command.OpenQueue queue lifecycle level) = ⊥
-IsReading (command.Create queue subject status requestors) = ⊥
-IsReading (command.SetStatus id status) = ⊥
-IsReading (command.Take id) = ⊥
-IsReading (command.Steal id) = ⊥
-IsReading (command.Untake id) = ⊥
-IsReading (command.Give id person) = ⊥
-IsReading (command.Reply id text) = ⊥
-IsReading (command.Comment id text) = ⊥
-IsReading (command.Watch id role person) = ⊥
-IsReading (command.Unwatch id role person) = ⊥
-IsReading (command.Link id kind other) = ⊥
-IsReading (command.Unlink id kind other) = ⊥
-IsReading (command.SetLevel id level) = ⊥
-IsReading command.Queues = ⊤
-IsReading (command.Show id) = ⊤
-IsReading (command.History id) = ⊤
+IsReading command = is_reading (plan_of command) ≡ true
 
 -- the command asks for the right of a move of its lifecycle
 abbrev pub IsMove : Command → Type 0

@@ -11,7 +11,7 @@ pub mod Lifecycles
 pub mod Links
 pub mod Names
 pub mod Plan
-pub mod Reading
+pub mod Readings
 pub mod Refusals
 pub mod Rights
 pub mod Scope

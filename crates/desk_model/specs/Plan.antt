@@ -1,21 +1,25 @@
--- What there is to a command: what it looks at, its conditions in their order, and its change.
-use Rattle.std.specs.Prelude.{ℕ, ◌==◌, Bool, true, false, not, ◌||◌}
+-- What there is to a command: what it looks at, its conditions in their order, and its change, or
+-- what it tells where it only reads.
+use Rattle.std.specs.Prelude.{ℕ, Bool, true, false, not}
 use Rattle.std.specs.Prelude.{List, [], ◌∷◌, Option, Some, None}
 use Rattle.std.specs.Option.{option_map_or}
 use Rattle.text_core.specs.Form.{is_text}
 use Rattle.settings_core.specs.declared.settings.Settings.{Settings}
 use Rattle.desk_model.specs.Change.{no_change}
 use Rattle.desk_model.specs.Condition.{Condition}
-use Rattle.desk_model.specs.Desk.{Desk}
+use Rattle.desk_model.specs.Desk.{Desk, Request}
 use Rattle.desk_model.specs.Facts.{no_facts, facts_on_queue, facts_on_request}
 use Rattle.desk_model.specs.Facts.{seen_request_at, dependencies_of}
 use Rattle.desk_model.specs.Links.{has_link, link}
 use Rattle.desk_model.specs.Rights.{may_show}
+use Rattle.desk_model.specs.declared.answer.Answer.{Answer}
+use Rattle.desk_model.specs.declared.answer.Answer.TheVariants as answer
 use Rattle.desk_model.specs.declared.change.Change.{Change}
 use Rattle.desk_model.specs.declared.facts.Facts.{Facts}
 use Rattle.desk_model.specs.declared.facts.SeenRequest.{SeenRequest}
 use Rattle.desk_model.specs.declared.refusal.Refusal.TheVariants.{BadText, NotFound}
 use Rattle.desk_model.specs.declared.rows.LinkKind.{LinkKind}
+use Rattle.desk_model.specs.declared.rows.RequestRow.{RequestRow}
 
 -- a call: under which settings, at which moment and by whom
 pub record Call : Type 0 where
@@ -29,11 +33,18 @@ pub data Besides : Type 0 where
   Dependencies : Besides
   Another : LinkKind → ℕ → Besides
 
--- a command on the desk, which only reads; on a queue; or on a request, maybe with a text
+-- what a reading is about: the desk, or one request
+pub data Topic : Type 0 where
+  WholeDesk : Topic
+  OneRequest : ℕ → Topic
+
+-- a command that reads, and what it tells of its topic; that changes the desk, on a queue; or that
+-- changes a request, maybe by a text
 pub data Plan : Type 0 where
-  OnDesk : Plan
+  Reads : Topic → (Call → Desk → Answer) → Plan
   OnQueue : List ℕ → (Call → Facts → List Condition) → (Call → Facts → Change) → Plan
-  OnRequest : ℕ → Besides → Option (List ℕ) → (Call → Facts → SeenRequest → List Condition)
+  OnRequest : ℕ → Besides → Option (List ℕ)
+      → (Call → Facts → SeenRequest → List Condition)
       → (Call → Facts → SeenRequest → Change) → Plan
 
 -- what a command on a request looks at on a desk
@@ -47,16 +58,21 @@ besides_on (Another kind other) id desk =
       is_linked = has_link desk (link id kind other);
     }
 
+-- what a reading looks at on a desk before it tells something
+abbrev pub topic_on : Topic → Desk → Facts
+topic_on WholeDesk desk = no_facts
+topic_on (OneRequest id) desk = facts_on_request desk id
+
 -- what a plan looks at on a desk
 abbrev pub seen_by : Plan → Desk → Facts
-seen_by OnDesk desk = no_facts
+seen_by (Reads topic answer) desk = topic_on topic desk
 seen_by (OnQueue name conditions change) desk = facts_on_queue desk name
 seen_by (OnRequest id besides text conditions change) desk = besides_on besides id desk
 
 -- the request isn't there, or is hidden from the caller
 abbrev pub is_missing : Call → Option SeenRequest → Bool
 is_missing call request =
-    option_map_or (λ request. not (may_show call.settings call.caller request)) request true
+    option_map_or (λ r. not (may_show call.settings call.caller r)) request true
 
 abbrev pub another_shown : Call → Besides → Facts → List Condition → List Condition
 another_shown call Nothing facts conditions = conditions
@@ -86,8 +102,13 @@ conditions_on_request call facts besides text conditions =
     (BadText, is_bad_text text) ∷ on_shown call facts.request
     (λ request. another_shown call besides facts (conditions call facts request))
 
+-- what a reading asks: of a request, that the caller may show it
+abbrev pub conditions_of_topic : Call → Facts → Topic → List Condition
+conditions_of_topic call facts WholeDesk = []
+conditions_of_topic call facts (OneRequest id) = on_shown call facts.request (λ request. [])
+
 abbrev pub conditions_by : Call → Facts → Plan → List Condition
-conditions_by call facts OnDesk = []
+conditions_by call facts (Reads topic answer) = conditions_of_topic call facts topic
 conditions_by call facts (OnQueue name conditions change) = conditions call facts
 conditions_by call facts (OnRequest id besides text conditions change) =
     conditions_on_request call facts besides text conditions
@@ -97,24 +118,48 @@ abbrev pub change_of_request : Option SeenRequest → (SeenRequest → Change) �
 change_of_request None change = no_change
 change_of_request (Some request) change = change request
 
+-- a reading changes nothing
 abbrev pub change_by : Call → Facts → Plan → Change
-change_by call facts OnDesk = no_change
+change_by call facts (Reads topic answer) = no_change
 change_by call facts (OnQueue name conditions change) = change call facts
 change_by call facts (OnRequest id besides text conditions change) =
     change_of_request facts.request (change call facts)
 
--- the plan of a command that only reads a request
-abbrev pub reading : ℕ → Plan
-reading id = OnRequest id Nothing None (λ call facts request. []) (λ call facts request. no_change)
+-- a command that changes the desk tells the number of a request that it files, or that it is done
+abbrev pub filed_or_done : Option RequestRow → Answer
+filed_or_done None = answer.Done
+filed_or_done (Some row) = answer.Created row.id
 
-abbrev pub names_besides : Besides → ℕ → Bool
-names_besides Nothing id = false
-names_besides Dependencies id = false
-names_besides (Another kind other) id = other == id
+abbrev pub told_of : Change → Answer
+told_of change = filed_or_done change.filed
 
--- the command names the request of that number: it is on it, or that one is the other end of a link
-abbrev pub names_request : Plan → ℕ → Bool
-names_request OnDesk id = false
-names_request (OnQueue name conditions change) id = false
-names_request (OnRequest asked besides text conditions change) id =
-    asked == id || names_besides besides id
+-- what a command answers where nothing refuses it
+abbrev pub answer_by : Call → Desk → Plan → Answer
+answer_by call desk (Reads topic answer) = answer call desk
+answer_by call desk (OnQueue name conditions change) =
+    told_of (change call (facts_on_queue desk name))
+answer_by call desk (OnRequest id besides text conditions change) =
+    told_of (change_of_request (besides_on besides id desk).request
+    (change call (besides_on besides id desk)))
+
+-- what a reading tells of a request, if it is there
+abbrev pub answer_of_request : Option Request → (Request → Answer) → Answer
+answer_of_request None made = answer.Done
+answer_of_request (Some request) made = made request
+
+abbrev pub is_reading : Plan → Bool
+is_reading (Reads topic answer) = true
+is_reading (OnQueue name conditions change) = false
+is_reading (OnRequest id besides text conditions change) = false
+
+-- the requests that a plan names: the one that it is on, and the other end of a link
+abbrev pub named_besides : Besides → List ℕ
+named_besides Nothing = []
+named_besides Dependencies = []
+named_besides (Another kind other) = other ∷ []
+
+abbrev pub named_by : Plan → List ℕ
+named_by (Reads WholeDesk answer) = []
+named_by (Reads (OneRequest id) answer) = id ∷ []
+named_by (OnQueue name conditions change) = []
+named_by (OnRequest id besides text conditions change) = id ∷ named_besides besides

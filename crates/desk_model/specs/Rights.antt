@@ -8,6 +8,8 @@ use Rattle.rights_core.specs.declared.role.Roles.{Roles}
 use Rattle.text_core.specs.Texts.{is_among}
 use Rattle.settings_core.specs.Settings.{people_of}
 use Rattle.settings_core.specs.declared.settings.Settings.{Settings}
+use Rattle.desk_model.specs.Desk.{Desk}
+use Rattle.desk_model.specs.Facts.{seen_request_at}
 use Rattle.desk_model.specs.declared.facts.SeenRequest.{SeenRequest}
 use Rattle.desk_model.specs.declared.rows.QueueRow.{QueueRow}
 
@@ -41,3 +43,8 @@ may_show settings person request = holds_on settings person show_ticket request
 
 abbrev pub may_show_comments : Settings → List ℕ → SeenRequest → Bool
 may_show_comments settings person request = holds_on settings person show_ticket_comments request
+
+-- the request with that number is there, and the person may show it
+abbrev pub is_shown : Settings → List ℕ → Desk → ℕ → Bool
+is_shown settings person desk id =
+    option_map_or (may_show settings person) (seen_request_at desk id) false

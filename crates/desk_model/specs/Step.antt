@@ -8,8 +8,7 @@ use Rattle.desk_model.specs.Change.{applied}
 use Rattle.desk_model.specs.Commands.{plan_of}
 use Rattle.desk_model.specs.Condition.{Condition, first_holding}
 use Rattle.desk_model.specs.Desk.{Desk}
-use Rattle.desk_model.specs.Plan.{Call, change_by, conditions_by, seen_by}
-use Rattle.desk_model.specs.Reading.{answer_of}
+use Rattle.desk_model.specs.Plan.{Call, answer_by, change_by, conditions_by, seen_by}
 use Rattle.desk_model.specs.declared.answer.Answer.{Answer}
 use Rattle.desk_model.specs.declared.command.Command.{Command}
 use Rattle.desk_model.specs.declared.facts.Facts.{Facts}
@@ -59,6 +58,11 @@ Outcome = Result Answer Refusal
 abbrev pub outcome_unless : Option Refusal → Answer → Outcome
 outcome_unless None answer = Ok answer
 outcome_unless (Some refusal) answer = Err refusal
+
+-- what a command answers where nothing refuses it
+abbrev pub answer_of : Settings → ℕ → List ℕ → Command → Desk → Answer
+answer_of settings at caller command desk =
+    answer_by (call settings at caller) desk (plan_of command)
 
 -- what comes of a command
 abbrev pub outcome_of : Settings → ℕ → List ℕ → Command → Desk → Outcome

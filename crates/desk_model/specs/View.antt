@@ -5,7 +5,8 @@ use Rattle.std.specs.Str.{bytes_eq}
 use Rattle.settings_core.specs.declared.settings.Settings.{Settings}
 use Rattle.desk_model.specs.Desk.{Desk, Request}
 use Rattle.desk_model.specs.Facts.{seen_request}
-use Rattle.desk_model.specs.Reading.{entries_told, is_shown}
+use Rattle.desk_model.specs.Readings.History.{entries_told}
+use Rattle.desk_model.specs.Rights.{is_shown}
 use Rattle.desk_model.specs.Rights.{may_show, sees_queue}
 use Rattle.desk_model.specs.declared.rows.LinkRow.{LinkRow}
 

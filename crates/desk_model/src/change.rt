@@ -1,6 +1,8 @@
 ghost use Rattle.std.specs.Prelude.{◌≡◌};
 ghost use Rattle.desk_model.specs.Change as change;
+ghost use Rattle.desk_model.specs.Plan.{told_of};
 
+use crate::answer::Answer;
 use crate::rows::{Entry, LinkRow, QueueRow, RequestRow, Watcher};
 use std::alloc::Global;
 use text_core::Sequence;
@@ -27,6 +29,17 @@ pub struct Change {
 }
 
 impl Change {
+    /// What a command that makes this change answers: the number of the request that it files, or
+    /// that it is done.
+    pub fn answer(&self) -> Answer
+        ensures { result ≡ told_of self.now }
+    {
+        match &self.filed {
+            Some(row) => Answer::Created(row.id),
+            None => Answer::Done,
+        }
+    }
+
     /// Nothing.
     pub fn no_change(alloc: Global) -> Change
         ensures { result ≡ change.no_change }

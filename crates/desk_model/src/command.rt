@@ -1,5 +1,7 @@
 ghost use Rattle.std.specs.Prelude.{◌≡◌};
+ghost use Rattle.desk_model.specs.Commands.{plan_of};
 ghost use Rattle.desk_model.specs.Desk.{Desk};
+ghost use Rattle.desk_model.specs.Plan.{is_reading};
 ghost use Rattle.desk_model.specs.Scope.{seen_in};
 ghost use Rattle.desk_model.specs.Step.{facts_of};
 
@@ -99,6 +101,31 @@ pub enum Command {
 }
 
 impl Command {
+    /// Whether the command only reads.
+    pub fn is_reading(&self) -> bool
+        ensures { result ≡ is_reading (plan_of self.now) }
+    {
+        match self {
+            Command::OpenQueue { .. } => false,
+            Command::Create { .. } => false,
+            Command::SetStatus { .. } => false,
+            Command::Take { .. } => false,
+            Command::Steal { .. } => false,
+            Command::Untake { .. } => false,
+            Command::Give { .. } => false,
+            Command::Reply { .. } => false,
+            Command::Comment { .. } => false,
+            Command::Watch { .. } => false,
+            Command::Unwatch { .. } => false,
+            Command::Link { .. } => false,
+            Command::Unlink { .. } => false,
+            Command::SetLevel { .. } => false,
+            Command::Queues => true,
+            Command::Show { .. } => true,
+            Command::History { .. } => true,
+        }
+    }
+
     /// What the command looks at on a desk.
     pub fn scope(&self) -> Scope<'_>
         ensures { (desk : Desk) → seen_in result desk ≡ facts_of self.now desk }

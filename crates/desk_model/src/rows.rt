@@ -1,5 +1,5 @@
 ghost use Rattle.std.specs.Prelude.{◌≡◌};
-ghost use Rattle.desk_model.specs.Reading.{is_comment};
+ghost use Rattle.desk_model.specs.Readings.History.{is_comment};
 
 use hours_core::Minute;
 use std::alloc::AllocError;

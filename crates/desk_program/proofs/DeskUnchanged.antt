@@ -1,67 +1,49 @@
 -- A command that shows something leaves the desk as it was, and so may be left out of a run.
-use Rattle.std.proofs.Common.{◌≡◌, ◌∙◌, inl, inr, ℕ, ◌+◌, false, List, Option, Some, None, Ok}
-use Rattle.std.proofs.Common.{Err, refl, subst, sym}
-use Rattle.std.specs.Prelude.{⊤}
+use Rattle.std.proofs.Common.{◌≡◌, ◌∙◌, inl, inr, ℕ, true, false, List, Option, Some, None, Ok, Err}
+use Rattle.std.proofs.Common.{refl, ap, sym}
 use Rattle.settings_core.specs.declared.settings.Settings.{Settings}
+use Rattle.desk_model.specs.Change.{applied}
+use Rattle.desk_model.specs.Commands.{plan_of}
+use Rattle.desk_model.specs.Desk.{Desk}
+use Rattle.desk_model.specs.Facts.{facts_on_queue}
+use Rattle.desk_model.specs.Plan.{Call, Plan, Reads, OnQueue, OnRequest, answer_by, besides_on}
+use Rattle.desk_model.specs.Plan.{change_by, change_of_request, filed_or_done, seen_by}
+use Rattle.desk_model.specs.Step.{Outcome, Steps, call, desk_unless, guard, outcome_unless}
 use Rattle.desk_model.specs.declared.answer.Answer.{Answer}
-use Rattle.desk_model.specs.declared.answer.Answer.TheVariants as answer
 use Rattle.desk_model.specs.declared.command.Command.{Command}
-use Rattle.desk_model.specs.declared.command.Command.TheVariants.{Create, Queues, Show, History}
-use Rattle.desk_model.specs.declared.facts.SeenRequest.{SeenRequest}
 use Rattle.desk_model.specs.declared.refusal.Refusal.{Refusal}
-use Rattle.desk_model.specs.Change.{applied, no_change}
-use Rattle.desk_model.specs.Desk.{Desk, request_count}
-use Rattle.desk_model.specs.Plan.{change_of_request}
-use Rattle.desk_model.specs.Reading.{answer_of}
+use Rattle.desk_model.specs.declared.rows.RequestRow.{RequestRow}
 use Rattle.desk_texts.specs.Short.{is_short}
-use Rattle.desk_model.specs.Step.{Outcome, Steps, desk_unless, effect, facts_of, guard}
-use Rattle.desk_model.specs.Step.{outcome_unless}
 
--- an answer that shows something
-abbrev Tells : Answer → Type 0
-Tells (answer.Queues queues) = ⊤
-Tells (answer.Shown x) = ⊤
-Tells (answer.History entries) = ⊤
-Tells other = ⊥
+-- what a command that changes the desk answers is short
+changed_short : (filed : Option RequestRow) → is_short (Ok (filed_or_done filed)) ≡ true
+changed_short None = refl
+changed_short (Some row) = refl
 
-applied-no_change : (o : Option SeenRequest) (desk : Desk)
-    → applied (change_of_request o (λ request. no_change)) desk ≡ desk
-applied-no_change None desk = refl
-applied-no_change (Some request) desk = refl
+long_is_not_short : (x : Answer) (filed : Option RequestRow) → is_short (Ok x) ≡ false
+    → Ok (filed_or_done filed) ≡ Ok x → ⊥
+long_is_not_short x filed long same =
+    let no : true ≡ false = sym (changed_short filed) ∙ ap is_short same ∙ long in cc
 
-unchanged_by_plan : (s : Settings) (at : ℕ) (caller : List ℕ) (o : Option Refusal)
-    (command : Command) (old : Desk) (x : Answer)
-    → Tells x → outcome_unless o (answer_of s at caller command old) ≡ Ok x
-    → desk_unless o old (effect s at caller command old) ≡ old
-unchanged_by_plan s at caller (Some refusal) command old x t e = refl
-unchanged_by_plan s at caller None Queues old x t e = refl
-unchanged_by_plan s at caller None (Show id) old x t e =
-    applied-no_change (facts_of (Show id) old).request old
-unchanged_by_plan s at caller None (History id) old x t e =
-    applied-no_change (facts_of (History id) old).request old
-unchanged_by_plan s at caller None (Create queue subject status requestors) old x t e =
-    let made : answer.Created (request_count old + 1) ≡ x = cc in
-    absurd (subst Tells (sym made) t)
-unchanged_by_plan s at caller None other old x t e =
-    let made : answer.Done ≡ x = cc in absurd (subst Tells (sym made) t)
-
-unchanged : (s : Settings) (at : ℕ) (caller : List ℕ) (command : Command) (old new : Desk)
-    (x : Answer) → Tells x → Steps s at caller command old (Ok x) new → new ≡ old
-unchanged s at caller command old new x t (inl left) = left.1
-unchanged s at caller command old new x t (inr made) =
-    made.1
-    ∙ unchanged_by_plan s at caller (guard s at caller command old) command old x t (sym made.0)
+-- what a plan answers at length it tells of a desk that it leaves
+unchanged_by_plan : (c : Call) (o : Option Refusal) (plan : Plan) (old : Desk) (x : Answer)
+    → is_short (Ok x) ≡ false → outcome_unless o (answer_by c old plan) ≡ Ok x
+    → desk_unless o old (applied (change_by c (seen_by plan old) plan) old) ≡ old
+unchanged_by_plan c (Some refusal) plan old x long e = refl
+unchanged_by_plan c None (Reads topic told) old x long e = refl
+unchanged_by_plan c None (OnQueue name conditions change) old x long e =
+    absurd (long_is_not_short x (change c (facts_on_queue old name)).filed long e)
+unchanged_by_plan c None (OnRequest id besides text conditions change) old x long e =
+    let facts = besides_on besides id old in
+    absurd (long_is_not_short x (change_of_request facts.request (change c facts)).filed long e)
 
 -- what isn't told shortly is shown
 pub unchanged_if_long : (s : Settings) (at : ℕ) (caller : List ℕ) (command : Command)
     (old new : Desk) (outcome : Outcome)
     → is_short outcome ≡ false → Steps s at caller command old outcome new → new ≡ old
 unchanged_if_long s at caller command old new (Err refusal) long = absurd cc
-unchanged_if_long s at caller command old new (Ok answer.Done) long = absurd cc
-unchanged_if_long s at caller command old new (Ok (answer.Created id)) long = absurd cc
-unchanged_if_long s at caller command old new (Ok (answer.Queues queues)) long =
-    unchanged s at caller command old new (answer.Queues queues) tt
-unchanged_if_long s at caller command old new (Ok (answer.Shown x)) long =
-    unchanged s at caller command old new (answer.Shown x) tt
-unchanged_if_long s at caller command old new (Ok (answer.History entries)) long =
-    unchanged s at caller command old new (answer.History entries) tt
+unchanged_if_long s at caller command old new (Ok x) long (inl left) = left.1
+unchanged_if_long s at caller command old new (Ok x) long (inr made) =
+    made.1
+    ∙ unchanged_by_plan (call s at caller) (guard s at caller command old) (plan_of command) old x
+    long (sym made.0)

@@ -10,7 +10,7 @@ ghost use Rattle.desk_program.specs.Script.{LineLeads, line_of, line_of_words, i
 ghost use Rattle.desk_program.specs.Script.{is_comment};
 
 use desk_core::{Answer, Command, Refusal};
-use service_core::{Desk, SHORT_TEXT, history_text, put_short, queues_text, show_text};
+use service_core::{Desk, SHORT_TEXT, is_short, outcome_text, put_short};
 use sqlite::Alter;
 use std::alloc::{AllocError, Global};
 use text_core::Text;
@@ -104,14 +104,11 @@ fn text_of(
     ensures ok { IfOk result (λ text. text.items ≡ outcome_text outcome.now) }
     ensures err { OnErr result (is_short outcome.now ≡ false) }
 {
-    match outcome {
-        Ok(Answer::Queues(queues)) => bytes_of(queues_text(alloc, queues.as_slice())),
-        Ok(Answer::Shown(shown)) => bytes_of(show_text(alloc, shown)),
-        Ok(Answer::History(entries)) => bytes_of(history_text(alloc, entries.as_slice())),
-        _ => {
-            put_short(outcome, &mut room);
-            Ok(room)
-        }
+    if is_short(outcome) {
+        put_short(outcome, &mut room);
+        Ok(room)
+    } else {
+        bytes_of(outcome_text(alloc, outcome))
     }
 }
 

@@ -9,6 +9,6 @@ pub mod texts;
 
 pub use history::history_text;
 pub use queues::queues_text;
-pub use short::{SHORT_TEXT, put_short};
+pub use short::{SHORT_TEXT, is_short, put_short};
 pub use shown::show_text;
-pub use texts::{answer_text, refusal_text};
+pub use texts::{answer_text, outcome_text, refusal_text};

@@ -14,6 +14,19 @@ pub const SHORT_TEXT: usize = 64;
 /// The most bytes that a right's name has.
 const LONGEST_RIGHT: usize = 32;
 
+/// Whether the text of what came of a command is a short one: of `Done`, of `Created` or of a
+/// refusal.
+pub fn is_short(outcome: &Result<Answer, Refusal>) -> bool
+    ensures { result ≡ is_short outcome.now }
+{
+    match outcome {
+        Ok(Answer::Done) => true,
+        Ok(Answer::Created(_)) => true,
+        Ok(_) => false,
+        Err(_) => true,
+    }
+}
+
 /// Puts the text of `Done`, of `Created` or of a refusal at the end, where there is room for 64
 /// bytes. Takes no memory. Where the right of `Denied` has more than 32 bytes, which no right of
 /// `decide` or `execute` has, its text might be longer than that: nothing is put.

@@ -21,6 +21,19 @@ pub fn answer_text(alloc: Global, answer: &Answer) -> Result<String, AllocError>
     }
 }
 
+/// The text of what came of a command: of its answer, or of its refusal.
+pub fn outcome_text(
+    alloc: Global,
+    outcome: &Result<Answer, Refusal>,
+) -> Result<String, AllocError>
+    ensures { IfOk result (λ t. string_bytes t ≡ text.outcome_text outcome.now) }
+{
+    match outcome {
+        Ok(answer) => answer_text(alloc, answer),
+        Err(refusal) => refusal_text(alloc, refusal),
+    }
+}
+
 fn created_text(alloc: Global, id: u32) -> Result<String, AllocError>
     ensures { IfOk result (λ t. string_bytes t ≡ text.created_text id) }
 {

@@ -14,7 +14,7 @@ use Rattle.desk_core.proofs.ViewLaw.{view_law}
 use Rattle.desk_model.specs.Desk.{Desk}
 use Rattle.desk_model.specs.IsDesk.{IsDesk}
 use Rattle.desk_core.specs.Laws.{DueLaw}
-use Rattle.desk_model.specs.Reading.{answer_of}
+use Rattle.desk_model.specs.Step.{answer_of}
 use Rattle.desk_model.specs.Step.{Ask, Outcome, Steps, desk_after, guard, outcome_of}
 use Rattle.desk_model.specs.Step.{outcome_unless}
 use Rattle.service_core.specs.TableSteps.{IsStep}

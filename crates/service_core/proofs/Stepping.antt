@@ -6,7 +6,6 @@ use Rattle.settings_core.specs.declared.settings.Settings.{Settings}
 use Rattle.desk_model.specs.declared.answer.Answer.{Answer}
 use Rattle.desk_model.specs.declared.change.Change.{Change}
 use Rattle.desk_model.specs.declared.command.Command.{Command}
-use Rattle.desk_model.specs.declared.command.Command.TheVariants.{Create, Queues, Show, History}
 use Rattle.desk_model.specs.declared.facts.Facts.{Facts}
 use Rattle.desk_model.specs.declared.refusal.Refusal.{Refusal}
 use Rattle.desk_model.specs.declared.refusal.Refusal.TheVariants.{Unavailable}
@@ -14,18 +13,17 @@ use Rattle.desk_core.proofs.Unchanged.{reads_nothing}
 use Rattle.desk_model.specs.Change.{applied}
 use Rattle.desk_model.specs.Commands.{IsReading, plan_of}
 use Rattle.desk_model.specs.Desk.{Desk}
-use Rattle.desk_model.specs.Plan.{change_by}
-use Rattle.desk_model.specs.Reading.{answer_of}
+use Rattle.desk_model.specs.Plan.{Call, Plan, Reads, answer_by, change_by, is_reading, seen_by}
+use Rattle.desk_model.specs.Plan.{told_of}
+use Rattle.desk_model.specs.Step.{answer_of}
 use Rattle.desk_model.specs.Step.{Ask, Outcome, Steps, call, desk_unless, effect, facts_of, guard}
 use Rattle.desk_model.specs.Step.{outcome_unless}
 use Rattle.store_core.proofs.WritableByKind.{change_writable}
-use Rattle.store_tables.specs.Calls.{Leaves, Tells}
+use Rattle.store_tables.specs.Calls.{Leaves}
 use Rattle.store_tables.specs.Contents.{contents_of}
 use Rattle.store_tables.specs.Stands.{StandsFor}
 use Rattle.store_core.specs.Written.{IsWritable}
-use Rattle.service_core.specs.Decided.{CarriesOut, IsDecided, StepsSeeing}
-use Rattle.service_core.specs.Decided.{Writes, answered}
-use Rattle.service_core.specs.Decided.{reads}
+use Rattle.service_core.specs.Decided.{Answers, CarriesOut, IsDecided, StepsSeeing, Writes}
 use Rattle.service_core.specs.TableSteps.{StepsOn, ask_by}
 use Rattle.service_core.proofs.Laws.{lawful}
 
@@ -68,37 +66,26 @@ done s ask desk answer free told =
       ap (λ (o : Option Refusal). desk_unless o desk after) (sym free),
     )
 
-no_reading : false ≡ true → ⊥
-no_reading e = cc
-
-no_writing : true ≡ false → ⊥
-no_writing e = cc
-
-is_reading : (command : Command) → reads command ≡ true → IsReading command
-is_reading Queues so = tt
-is_reading (Show id) so = tt
-is_reading (History id) so = tt
-is_reading other so = absurd (no_reading so)
-
 -- a command that only reads leaves the desk
-unchanged : (s : Settings) (ask : Ask) (desk : Desk) → reads ask.command ≡ true
+unchanged : (s : Settings) (ask : Ask) (desk : Desk) → IsReading ask.command
     → effect s ask.at ask.caller ask.command desk ≡ desk
-unchanged s ask desk so =
+unchanged s ask desk reads =
     ap (λ (change : Change). applied change desk)
-    (reads_nothing ask.command (call s ask.at ask.caller) (facts_of ask.command desk)
-    (is_reading ask.command so))
+    (reads_nothing ask.command (call s ask.at ask.caller) (facts_of ask.command desk) reads)
 
--- what a command that changes the desk answers
-answered_so : (s : Settings) (at : ℕ) (caller : List ℕ) (command : Command) (desk : Desk)
-    (change : Change) → reads command ≡ false
-    → change ≡ change_by (call s at caller) (facts_of command desk) (plan_of command)
-    → answered command change ≡ answer_of s at caller command desk
-answered_so s at caller (Create queue subject status requestors) desk change so made =
-    ap (λ (c : Change). answered (Create queue subject status requestors) c) made
-answered_so s at caller Queues desk change so made = absurd (no_writing so)
-answered_so s at caller (Show id) desk change so made = absurd (no_writing so)
-answered_so s at caller (History id) desk change so made = absurd (no_writing so)
-answered_so s at caller other desk change so made = refl
+answered_by_plan : (plan : Plan) (c : Call) (desk : Desk) → is_reading plan ≡ false
+    → told_of (change_by c (seen_by plan desk) plan) ≡ answer_by c desk plan
+answered_by_plan (Reads topic told) c desk writes = cc
+answered_by_plan other c desk writes = refl
+
+-- what a command that changes the desk answers is told of its change
+answered_so : (s : Settings) (ask : Ask) (desk : Desk) (change : Change)
+    → is_reading (plan_of ask.command) ≡ false
+    → change
+    ≡ change_by (call s ask.at ask.caller) (facts_of ask.command desk) (plan_of ask.command)
+    → told_of change ≡ answer_of s ask.at ask.caller ask.command desk
+answered_so s ask desk change writes made =
+    ap told_of made ∙ answered_by_plan (plan_of ask.command) (call s ask.at ask.caller) desk writes
 
 parts : (facts : Facts) (change : Change) (s : Settings) (ask : Ask) (desk : Desk)
     → IsDecided facts change s ask desk
@@ -142,9 +129,7 @@ refused_seeing facts s ask refusal request refuses desk is seen stand clean = (
 )
 
 pub read_where : (facts : Facts) (change : Change) (s : Settings) (ask : Ask) (outcome : Outcome)
-    (old new : State) → reads ask.command ≡ true
-    → Tells (λ desk answer. facts ≡ facts_of ask.command desk
-    → answer ≡ answer_of s ask.at ask.caller ask.command desk) old new outcome
+    (old new : State) → IsReading ask.command → Answers s ask facts old new outcome
     → IfErr outcome (λ refusal. refusal ≡ Unavailable) → Leaves old new
     → CarriesOut facts change s ask outcome old new
 read_where facts change s ask (Ok answer) old new so told fault kept desk is holds stand clean =
@@ -162,37 +147,17 @@ read_where facts change s ask (Err refusal) old new so told fault kept desk is h
   kept (contents_of desk) stand,
 )
 
--- of the command that is asked
-pub asked_where : (facts : Facts) (change : Change) (s : Settings) (at : ℕ) (caller : List ℕ)
-    (command asked : Command) (outcome : Outcome) (old new : State)
-    → command ≡ asked → reads asked ≡ true
-    → Tells (λ desk answer. facts ≡ facts_of asked desk
-    → answer ≡ answer_of s at caller asked desk) old new outcome
-    → IfErr outcome (λ refusal. refusal ≡ Unavailable) → Leaves old new
-    → CarriesOut facts change s (ask_by at caller command) outcome old new
-asked_where facts change s at caller command asked outcome old new same so told fault kept =
-    subst (λ (c : Command). CarriesOut facts change s (ask_by at caller c) outcome old new)
-    (sym same)
-    (read_where facts change s (ask_by at caller asked) outcome old new so told fault kept)
-
--- what is so of whatever is seen
-pub unseen : {X E : Type 0} (A : Type 0) (r : Result X E) (P : X → Type 0) → IfOk r P
-    → IfOk r (λ x. A → P x)
-unseen A (Ok x) P so = λ seen. so
-unseen A (Err e) P so = tt
-
--- a command that isn't one of those that read
-pub writes_unless : (command : Command) → (command ≡ Queues → ⊥)
-    → ((id : ℕ) → command ≡ Show id → ⊥) → ((id : ℕ) → command ≡ History id → ⊥)
-    → reads command ≡ false
-writes_unless Queues queues show history = absurd (queues refl)
-writes_unless (Show id) queues show history = absurd (show id refl)
-writes_unless (History id) queues show history = absurd (history id refl)
-writes_unless other queues show history = refl
+-- as it is told of the command that is asked
+pub asked_as : (facts : Facts) (s : Settings) (at : ℕ) (caller : List ℕ) (command asked : Command)
+    (outcome : Outcome) (old new : State) → command ≡ asked
+    → Answers s (ask_by at caller asked) facts old new outcome
+    → Answers s (ask_by at caller command) facts old new outcome
+asked_as facts s at caller command asked outcome old new same told =
+    subst (λ (c : Command). Answers s (ask_by at caller c) facts old new outcome) (sym same) told
 
 pub written_where : (facts : Facts) (change : Change) (s : Settings) (ask : Ask) (outcome : Outcome)
-    (old new : State) → reads ask.command ≡ false
-    → IfOk outcome (λ answer. answer ≡ answered ask.command change)
+    (old new : State) → is_reading (plan_of ask.command) ≡ false
+    → IfOk outcome (λ answer. answer ≡ told_of change)
     → OnOk outcome (Writes change old new)
     → IfErr outcome (λ refusal. refusal ≡ Unavailable) → OnErr outcome (Leaves old new)
     → CarriesOut facts change s ask outcome old new
@@ -205,7 +170,7 @@ written_where facts change s ask (Ok answer) old new so told writes fault kept d
     (change_writable s ask.at ask.caller ask.command desk is decided.1) in
     let step =
     done s ask desk answer decided.1
-    (told ∙ answered_so s ask.at ask.caller ask.command desk change so decided.2) in (
+    (told ∙ answered_so s ask desk change so decided.2) in (
       after,
       lawful s ask desk (Ok answer) after is step,
       subst (λ (c : Change). StandsFor (applied c desk) new) decided.2

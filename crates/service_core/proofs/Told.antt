@@ -12,7 +12,10 @@ use Rattle.desk_model.specs.declared.rows.QueueRow.{QueueRow}
 use Rattle.desk_model.specs.Desk.{Desk, Request, request_at}
 use Rattle.desk_model.specs.Due.{due_of}
 use Rattle.desk_model.specs.Facts.{queue_of, seen_request}
-use Rattle.desk_model.specs.Reading.{answer_of, answer_of_request, entries_told, shown_of}
+use Rattle.desk_model.specs.Plan.{answer_of_request}
+use Rattle.desk_model.specs.Readings.History.{entries_told}
+use Rattle.desk_model.specs.Readings.Show.{shown_of}
+use Rattle.desk_model.specs.Step.{answer_of}
 use Rattle.desk_model.specs.Rights.{may_show_comments}
 use Rattle.desk_model.specs.Step.{facts_of}
 use Rattle.desk_core.proofs.Goes.{number_found}

@@ -1,20 +1,16 @@
 -- What is decided of a command by its facts, and what that makes of the tables.
-use Rattle.std.specs.Prelude.{◌≡◌, Bool, true, false, Option, Some, None}
+use Rattle.std.specs.Prelude.{◌≡◌, None}
 use Rattle.sqlite.specs.State.{State, HasCleanDisk}
 use Rattle.settings_core.specs.declared.settings.Settings.{Settings}
-use Rattle.desk_model.specs.declared.answer.Answer.{Answer}
-use Rattle.desk_model.specs.declared.answer.Answer.TheVariants as answer
 use Rattle.desk_model.specs.declared.change.Change.{Change}
-use Rattle.desk_model.specs.declared.command.Command.{Command}
-use Rattle.desk_model.specs.declared.command.Command.TheVariants as command
 use Rattle.desk_model.specs.declared.facts.Facts.{Facts}
-use Rattle.desk_model.specs.declared.rows.RequestRow.{RequestRow}
 use Rattle.desk_model.specs.Change.{applied}
 use Rattle.desk_model.specs.Commands.{plan_of}
 use Rattle.desk_model.specs.Desk.{Desk}
 use Rattle.desk_model.specs.IsDesk.{IsDesk}
 use Rattle.desk_model.specs.Plan.{change_by}
-use Rattle.desk_model.specs.Step.{Ask, Outcome, call, facts_of, guard}
+use Rattle.desk_model.specs.Step.{Ask, Outcome, answer_of, call, facts_of, guard}
+use Rattle.store_tables.specs.Calls.{Tells}
 use Rattle.store_tables.specs.Stands.{StandsFor}
 use Rattle.store_core.specs.Written.{IsWritable}
 use Rattle.service_core.specs.TableSteps.{IsStep}
@@ -49,18 +45,8 @@ Writes change old new =
     (desk : Desk) → IsDesk desk → IsWritable desk change → StandsFor desk old
     → StandsFor (applied change desk) new
 
-abbrev pub reads : Command → Bool
-reads command.Queues = true
-reads (command.Show id) = true
-reads (command.History id) = true
-reads other = false
-
--- `Created` with the number of the request that was filed, or `Done` where none was
-abbrev pub created_if : Option RequestRow → Answer
-created_if None = answer.Done
-created_if (Some row) = answer.Created row.id
-
--- what a command that makes this change answers
-abbrev pub answered : Command → Change → Answer
-answered (command.Create queue subject status requestors) change = created_if change.filed
-answered other change = answer.Done
+-- what is told of whatever desk the tables stand for, of which the command sees this, is its answer
+abbrev pub Answers : Settings → Ask → Facts → State → State → Outcome → Type 0
+Answers settings ask facts old new outcome =
+    Tells (λ desk answer. facts ≡ facts_of ask.command desk
+    → answer ≡ answer_of settings ask.at ask.caller ask.command desk) old new outcome

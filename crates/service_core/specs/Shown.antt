@@ -13,7 +13,9 @@ use Rattle.desk_model.specs.declared.rows.LinkRow.{LinkRow}
 use Rattle.desk_model.specs.Desk.{Desk}
 use Rattle.desk_model.specs.Due.{due_of}
 use Rattle.desk_model.specs.Links.{is_kind}
-use Rattle.desk_model.specs.Reading.{is_comment, is_shown, links_of}
+use Rattle.desk_model.specs.Readings.History.{is_comment}
+use Rattle.desk_model.specs.Readings.Show.{links_of}
+use Rattle.desk_model.specs.Rights.{is_shown}
 use Rattle.desk_model.specs.Rights.{may_show, may_show_comments}
 use Rattle.store_tables.specs.Contents.{history_at}
 use Rattle.service_core.specs.declared.links.End.{End}

@@ -1,9 +1,9 @@
 //! One command on the desk.
 ghost use Rattle.std.specs.Prelude.{◌≡◌, ℕ, true, IfErr, IfOk, OnErr, OnOk};
+ghost use Rattle.desk_model.specs.Plan.{told_of};
 ghost use Rattle.desk_model.specs.Refusals.{names_its_right};
 ghost use Rattle.store_tables.specs.Calls.{Leaves, WasClean};
 ghost use Rattle.store_core.specs.Seen.{state_of};
-ghost use Rattle.service_core.specs.Decided as decided;
 ghost use Rattle.service_core.specs.Decided.{CarriesOut, StepsSeeing, Writes};
 ghost use Rattle.service_core.specs.TableSteps.{StepsOn, ask_by};
 ghost use Rattle.service_core.specs.Seen.{settings_of, tables_of};
@@ -115,21 +115,16 @@ fn carry_out<S: Alter>(
     ensures named { IfErr result (λ refusal. names_its_right refusal ≡ true) }
     ensures honest { WasClean (state_of S.Store store.old) (state_of S.Store store.new) }
 {
-    match command {
-        Command::Queues => reading::queues(alloc, store, settings, caller),
-        Command::Show { .. } => reading::show(alloc, store, settings, caller, facts),
-        Command::History { .. } => reading::history(alloc, store, settings, caller, facts),
-        _ => write(store, command, change),
+    if command.is_reading() {
+        reading::read(alloc, store, settings, caller, command, facts)
+    } else {
+        write(store, change)
     }
 }
 
-/// Writes a change, and tells what a command that changes the desk answers.
-fn write<S: Alter>(
-    store: &mut Store<S>,
-    command: &Command,
-    change: &Change,
-) -> Result<Answer, Refusal>
-    ensures told { IfOk result (λ answer. answer ≡ decided.answered command.now change.now) }
+/// Writes a change, and tells which request it filed, or that it is done.
+fn write<S: Alter>(store: &mut Store<S>, change: &Change) -> Result<Answer, Refusal>
+    ensures told { IfOk result (λ answer. answer ≡ told_of change.now) }
     ensures done { OnOk result
         (Writes change.now (state_of S.Store store.old) (state_of S.Store store.new)) }
     ensures undone { OnErr result
@@ -138,17 +133,7 @@ fn write<S: Alter>(
     ensures fault { IfErr result (λ refusal. refusal ≡ Refusal.Unavailable) }
 {
     match store.apply(change) {
-        Ok(()) => Ok(answered(command, change)),
+        Ok(()) => Ok(change.answer()),
         Err(_) => Err(Refusal::Unavailable),
-    }
-}
-
-/// The answer of a command that makes this change: which request was filed, or that it is done.
-fn answered(command: &Command, change: &Change) -> Answer
-    ensures { result ≡ decided.answered command.now change.now }
-{
-    match (command, &change.filed) {
-        (Command::Create { .. }, Some(row)) => Answer::Created(row.id),
-        _ => Answer::Done,
     }
 }

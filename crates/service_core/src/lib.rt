@@ -13,6 +13,7 @@ mod run;
 
 pub use desk::Desk;
 pub use desk_texts::{
-    SHORT_TEXT, answer_text, history_text, put_short, queues_text, refusal_text, show_text,
+    SHORT_TEXT, answer_text, history_text, is_short, outcome_text, put_short, queues_text,
+    refusal_text, show_text,
 };
 pub use fault::AttachFault;

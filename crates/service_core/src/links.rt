@@ -1,7 +1,7 @@
 //! The links of a request, as far as the caller may show what is at their other ends.
 ghost use Rattle.std.specs.Prelude.{◌≡◌, IfErr, IfOk, filter};
 ghost use Rattle.desk_model.specs.Facts.{facts_on_request};
-ghost use Rattle.desk_model.specs.Reading as reading;
+ghost use Rattle.desk_model.specs.Readings.Show as showing;
 ghost use Rattle.store_tables.specs.Calls.{Spares, Tells};
 ghost use Rattle.store_core.specs.Seen.{state_of};
 ghost use Rattle.service_core.specs.Shown as shown;
@@ -43,7 +43,7 @@ pub(crate) fn links_of<S: Alter>(
     id: u32,
 ) -> Result<Links, Refusal>
     ensures told { Tells (λ desk links. links
-        ≡ reading.links_of settings.now caller.now desk id)
+        ≡ showing.links_of settings.now caller.now desk id)
         (state_of S.Store store.old) (state_of S.Store store.new) result }
     ensures kept { Spares (state_of S.Store store.old) (state_of S.Store store.new) }
     ensures fault { IfErr result (λ refusal. refusal ≡ Refusal.Unavailable) }

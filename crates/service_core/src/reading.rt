@@ -1,11 +1,12 @@
 //! What commands that read answer, of the tables.
 ghost use Rattle.std.specs.Prelude.{◌≡◌, ℕ, IfErr, filter};
-ghost use Rattle.desk_model.specs.Reading as reading;
 ghost use Rattle.desk_model.specs.Rights as rights;
-ghost use Rattle.desk_model.specs.Step.{facts_of};
+ghost use Rattle.desk_model.specs.declared.facts.Facts.{Facts};
 ghost use Rattle.store_tables.specs.Calls.{Spares, Tells};
 ghost use Rattle.store_core.specs.Seen.{state_of};
+ghost use Rattle.service_core.specs.Decided.{Answers};
 ghost use Rattle.service_core.specs.Shown as shown;
+ghost use Rattle.service_core.specs.TableSteps.{ask_by};
 
 use crate::links::links_of;
 use desk_core::{
@@ -18,16 +19,39 @@ use std::alloc::Global;
 use store_core::Store;
 use text_core::Sequence;
 
+/// What a command that reads answers, with its facts. `Unavailable` where memory or the store
+/// refused, and for a command that changes the desk. The tables stay as they are.
+pub(crate) fn read<S: Alter>(
+    alloc: Global,
+    store: &mut Store<S>,
+    settings: &Settings,
+    caller: &str,
+    command: &Command,
+    facts: &Facts,
+) -> Result<Answer, Refusal>
+    ensures told { (at : ℕ) → Answers settings.now (ask_by at caller.now command.now) facts.now
+        (state_of S.Store store.old) (state_of S.Store store.new) result }
+    ensures kept { Spares (state_of S.Store store.old) (state_of S.Store store.new) }
+    ensures fault { IfErr result (λ refusal. refusal ≡ Refusal.Unavailable) }
+{
+    match command {
+        Command::Queues => queues(alloc, store, settings, caller),
+        Command::Show { .. } => show(alloc, store, settings, caller, facts),
+        Command::History { .. } => history(alloc, store, settings, caller, facts),
+        _ => Err(Refusal::Unavailable),
+    }
+}
+
 /// The queues that the caller may see. `Unavailable` where memory or the store refused. The tables
 /// stay as they are.
-pub(crate) fn queues<S: Alter>(
+fn queues<S: Alter>(
     alloc: Global,
     store: &mut Store<S>,
     settings: &Settings,
     caller: &str,
 ) -> Result<Answer, Refusal>
-    ensures told { Tells (λ desk answer. answer
-        ≡ Answer.Queues (filter (rights.sees_queue settings.now caller.now) desk.queues))
+    ensures told { (at : ℕ) (facts : Facts)
+        → Answers settings.now (ask_by at caller.now Command.Queues) facts
         (state_of S.Store store.old) (state_of S.Store store.new) result }
     ensures kept { Spares (state_of S.Store store.old) (state_of S.Store store.new) }
     ensures fault { IfErr result (λ refusal. refusal ≡ Refusal.Unavailable) }
@@ -46,16 +70,15 @@ fn queues_seen(settings: &Settings, caller: &str, mut queues: Vec<QueueRow>) -> 
 
 /// The request that a command sees, as it is shown to the caller. `Unavailable` where memory or the
 /// store refused. The tables stay as they are.
-pub(crate) fn show<S: Alter>(
+fn show<S: Alter>(
     alloc: Global,
     store: &mut Store<S>,
     settings: &Settings,
     caller: &str,
     facts: &Facts,
 ) -> Result<Answer, Refusal>
-    ensures told { (at id : ℕ) → Tells (λ desk answer.
-        facts.now ≡ facts_of (Command.Show id) desk
-        → answer ≡ reading.answer_of settings.now at caller.now (Command.Show id) desk)
+    ensures told { (at id : ℕ)
+        → Answers settings.now (ask_by at caller.now (Command.Show id)) facts.now
         (state_of S.Store store.old) (state_of S.Store store.new) result }
     ensures kept { Spares (state_of S.Store store.old) (state_of S.Store store.new) }
     ensures fault { IfErr result (λ refusal. refusal ≡ Refusal.Unavailable) }
@@ -112,16 +135,15 @@ fn shown_with(request: SeenRequest, due: Option<Minute>, links: Links) -> Shown
 
 /// The history of the request that a command sees, as far as it is told to the caller.
 /// `Unavailable` where memory or the store refused. The tables stay as they are.
-pub(crate) fn history<S: Alter>(
+fn history<S: Alter>(
     alloc: Global,
     store: &mut Store<S>,
     settings: &Settings,
     caller: &str,
     facts: &Facts,
 ) -> Result<Answer, Refusal>
-    ensures told { (at id : ℕ) → Tells (λ desk answer.
-        facts.now ≡ facts_of (Command.History id) desk
-        → answer ≡ reading.answer_of settings.now at caller.now (Command.History id) desk)
+    ensures told { (at id : ℕ)
+        → Answers settings.now (ask_by at caller.now (Command.History id)) facts.now
         (state_of S.Store store.old) (state_of S.Store store.new) result }
     ensures kept { Spares (state_of S.Store store.old) (state_of S.Store store.new) }
     ensures fault { IfErr result (λ refusal. refusal ≡ Refusal.Unavailable) }

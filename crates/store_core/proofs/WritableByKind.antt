@@ -10,11 +10,11 @@ use Rattle.settings_core.specs.declared.settings.Settings.{Settings}
 use Rattle.desk_model.specs.declared.change.Change.{Change}
 use Rattle.desk_model.specs.declared.command.Command.{Command}
 use Rattle.desk_model.specs.declared.command.Command.TheVariants.{OpenQueue, Create, Reply, Watch}
-use Rattle.desk_model.specs.declared.command.Command.TheVariants.{Queues, Show, History}
 use Rattle.desk_model.specs.declared.facts.SeenRequest.{SeenRequest}
 use Rattle.desk_model.specs.declared.refusal.Refusal.TheVariants.{UnknownCaller, BadMoment}
+use Rattle.desk_model.specs.declared.rows.Entry.{Entry}
 use Rattle.desk_model.specs.declared.rows.RequestRow.{RequestRow}
-use Rattle.desk_core.proofs.DeskLaw.ByKind.{Meets, by_plan, change_fits}
+use Rattle.desk_core.proofs.DeskLaw.ByKind.{IsNext, Meets, by_plan, change_fits}
 use Rattle.desk_core.proofs.DeskLaw.Fitting as fitting
 use Rattle.desk_core.proofs.NamesLaw.{names_in_order_rise}
 use Rattle.desk_model.specs.Change.{filed, request_filed}
@@ -59,7 +59,6 @@ found_there desk id r there same = ap (is_there desk) (sym same) ∙ ap is_some 
 sets : (desk : Desk) (command : Command) → Meets SetsOne desk (plan_of command)
 sets desk (OpenQueue name lifecycle level) = λ call none. (0, refl, λ e. cc)
 sets desk (Create queue subject status requestors) = λ call none. (0, refl, λ e. cc)
-sets desk Queues = tt
 sets desk other = λ call r there same none. (r.row.id, refl, λ e. found_there desk _ r there same)
 
 -- numbers up to here don't have one that comes later
@@ -89,7 +88,6 @@ puts desk is (Create queue subject status requestors) = λ call none.
     let names = in_order (given_or_caller call.caller requestors) in
     requestors_anew names _ desk.requests _ (filed_last desk _ is refl) (all_new names)
     (rising_apart names (names_in_order_rise (given_or_caller call.caller requestors)))
-puts desk is Queues = tt
 puts desk is (Watch id role person) = λ call r there same none. (
   found_there desk id r there same,
   nobody r.row.id role person 1 desk.requests r is.requests
@@ -100,10 +98,24 @@ puts desk is (Watch id role person) = λ call r there same none. (
 puts desk is other = λ call r there same none. tt
 
 -- all entries are of a request that is there
-abbrev pub notes_there : Desk → Change → Type 0
-notes_there desk change =
-    list_all (λ e. is_there (with_filed change desk) e.id)
-    change.entries ≡ true
+pub record NotesThere (desk : Desk) (change : Change) : Type 0 where
+  pub there : list_all (λ e. is_there (with_filed change desk) e.id) change.entries ≡ true
+
+all_there : (desk : Desk) (id count : ℕ) (entries : List Entry) → is_there desk id ≡ true
+    → IsNext id count entries → list_all (λ e. is_there desk e.id) entries ≡ true
+all_there desk id count [] there next = refl
+all_there desk id count (e ∷ []) there next =
+    and_from (is_there desk e.id) true (ap (is_there desk) next.0 ∙ there) refl
+all_there desk id count (e ∷ f ∷ rest) there next = absurd next.2
+
+-- at most one entry, of the request that a command is on
+notes_one : (desk : Desk) (change : Change) (r : Request) → with_filed change desk ≡ desk
+    → is_there desk r.row.id ≡ true → IsNext r.row.id (length r.entries) change.entries
+    → NotesThere desk change
+notes_one desk change r same there next = record {
+  there = subst (λ (d : Desk). list_all (λ e. is_there d e.id) change.entries ≡ true) (sym same)
+      (all_there desk r.row.id (length r.entries) change.entries there next);
+}
 
 second_there : (desk : Desk) (call : Call) (request : SeenRequest) (move : Option (List ℕ))
     → is_there desk request.row.id ≡ true
@@ -111,18 +123,18 @@ second_there : (desk : Desk) (call : Call) (request : SeenRequest) (move : Optio
 second_there desk call request None there = refl
 second_there desk call request (Some status) there = and_from (is_there desk request.row.id) true there refl
 
-notes : (desk : Desk) → IsDesk desk → (command : Command) → Meets notes_there desk (plan_of command)
-notes desk is (OpenQueue name lifecycle level) = λ call none. refl
+notes : (desk : Desk) → IsDesk desk → (command : Command) → Meets NotesThere desk (plan_of command)
+notes desk is (OpenQueue name lifecycle level) = λ call none. record { there = refl }
 notes desk is (Create queue subject status requestors) = λ call none.
-    and_from _ true (last_there _ desk.requests _ (filed_last desk _ is refl)) refl
-notes desk is Queues = tt
-notes desk is (Show id) = λ call r there same none. refl
-notes desk is (History id) = λ call r there same none. refl
+    record { there = and_from _ true (last_there _ desk.requests _ (filed_last desk _ is refl)) refl }
 notes desk is (Reply id text) = λ call r there same none.
     let here = found_there desk id r there same in
-    and_from (is_there desk r.row.id) _ here (second_there desk call (seen_request r) _ here)
+    record {
+      there = and_from (is_there desk r.row.id) _ here
+          (second_there desk call (seen_request r) _ here);
+    }
 notes desk is other = λ call r there same none.
-    and_from (is_there desk r.row.id) true (found_there desk _ r there same) refl
+    notes_one desk _ r refl (found_there desk _ r there same) (refl, refl, tt)
 
 files_next : (desk : Desk) (row : Option RequestRow) → fitting.FilesNext desk row
     → FilesNext desk row
@@ -146,5 +158,6 @@ change_writable s at caller command desk is free =
           one.1 one.2;
       puts = by_plan (λ d c. PutsAnew (with_rows c d) c.put) asks plan front desk tt
           (puts desk is command) free;
-      notes = by_plan notes_there asks plan front desk refl (notes desk is command) free;
+      notes = (by_plan NotesThere asks plan front desk (record { there = refl })
+          (notes desk is command) free).there;
     }

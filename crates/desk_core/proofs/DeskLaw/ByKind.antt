@@ -8,7 +8,7 @@ use Rattle.std.specs.Option.{is_none, is_some, option_map}
 use Rattle.hours_core.specs.Moment.{is_moment}
 use Rattle.settings_core.specs.Settings.{knows}
 use Rattle.settings_core.specs.declared.settings.Settings.{Settings}
-use Rattle.desk_model.specs.Change.{no_change}
+use Rattle.desk_model.specs.Change.{no_change, request_filed}
 use Rattle.desk_model.specs.Commands.{plan_of}
 use Rattle.desk_model.specs.Commands.Reply as reply
 use Rattle.desk_model.specs.Condition.{Condition, first_holding}
@@ -16,26 +16,31 @@ use Rattle.desk_model.specs.Desk.{Desk, Request, queue_at, request_at}
 use Rattle.desk_model.specs.Facts.{facts_on_queue, seen_request}
 use Rattle.desk_model.specs.IsDesk.{IsDesk}
 use Rattle.desk_model.specs.Links.{has_link, link}
-use Rattle.desk_model.specs.Plan.{Call, Plan, OnDesk, OnQueue, OnRequest, Nothing, Dependencies}
+use Rattle.desk_model.specs.Plan.{Call, Plan, Reads, OnQueue, OnRequest, Nothing, Dependencies}
 use Rattle.desk_model.specs.Plan.{Another, another_shown, besides_on, change_by, change_of_request}
 use Rattle.desk_model.specs.Plan.{conditions_by, is_bad_text, is_missing, on_shown, seen_by}
 use Rattle.desk_model.specs.Step.{call, facts_of, guard}
 use Rattle.desk_model.specs.declared.change.Change.{Change}
 use Rattle.desk_model.specs.declared.command.Command.{Command}
 use Rattle.desk_model.specs.declared.command.Command.TheVariants.{OpenQueue, Create, Reply}
-use Rattle.desk_model.specs.declared.command.Command.TheVariants.{Link, Queues, Show, History}
+use Rattle.desk_model.specs.declared.command.Command.TheVariants.{Link}
 use Rattle.desk_model.specs.declared.facts.SeenRequest.{SeenRequest}
 use Rattle.desk_model.specs.declared.refusal.Refusal.TheVariants.{UnknownCaller, BadMoment}
 use Rattle.desk_model.specs.declared.refusal.Refusal.TheVariants.{BadText, NotFound}
+use Rattle.desk_model.specs.declared.rows.Entry.{Entry}
 use Rattle.desk_core.proofs.DeskLaw.Entries.{counts_apart, counts_found}
 use Rattle.desk_core.proofs.DeskLaw.Fitting.{Appends, FilesNext, Fits, FollowOn}
 use Rattle.desk_core.proofs.DeskLaw.Fitting.{LinksAnew, OpensNew, StaysInQueue, has_count}
 use Rattle.desk_core.proofs.Every.{every_found}
 use Rattle.desk_core.proofs.Goes.{NoneHolds, none_holds, number_found, passed, rest_passes}
 
--- what a plan changes meets this, where the plan's conditions let it pass
+-- what a plan changes meets this, where the plan's conditions let it pass; a reading changes
+-- nothing, which is said in the form of a command on a request, so that one clause covers all
+-- commands that leave a part alone
 abbrev pub Meets : (Desk → Change → Type 0) → Desk → Plan → Type 0
-Meets P desk OnDesk = Unit {0}
+Meets P desk (Reads topic answer) =
+    (call : Call) (r : Request) → request_at desk r.row.id ≡ Some r → r.row.id ≡ r.row.id
+    → Unit {0} → P desk no_change
 Meets P desk (OnQueue name conditions change) =
     (call : Call) → NoneHolds (conditions call (facts_on_queue desk name))
     → P desk (change call (facts_on_queue desk name))
@@ -66,7 +71,7 @@ pub by_plan : (P : Desk → Change → Type 0) (call : Call) (plan : Plan) (fron
     → Meets P desk plan → first_holding (front ++ conditions_by call (seen_by plan desk) plan)
     ≡ None
     → P desk (change_by call (seen_by plan desk) plan)
-by_plan P call OnDesk front desk nothing meets free = nothing
+by_plan P call (Reads topic answer) front desk nothing meets free = nothing
 by_plan P call (OnQueue name conditions change) front desk nothing meets free =
     let facts = facts_on_queue desk name in
     meets call (none_holds (conditions call facts) (rest_passes front (conditions call facts) free))
@@ -97,7 +102,6 @@ opens : (desk : Desk) (command : Command)
     → Meets (λ d change. OpensNew d change.queue) desk (plan_of command)
 opens desk (OpenQueue name lifecycle level) = λ call none. none.1.1.1.0
 opens desk (Create queue subject status requestors) = λ call none. tt
-opens desk Queues = tt
 opens desk other = λ call r there same none. tt
 
 -- only creating a request files one: with the next number, in a queue that is there
@@ -106,7 +110,6 @@ files : (desk : Desk) (command : Command)
 files desk (OpenQueue name lifecycle level) = λ call none. tt
 files desk (Create queue subject status requestors) =
     λ call none. (refl, some_is (queue_at desk queue) none.1.0)
-files desk Queues = tt
 files desk other = λ call r there same none. tt
 
 no_row : (desk : Desk) → StaysInQueue desk None
@@ -117,7 +120,6 @@ stays : (desk : Desk) → IsDesk desk → (command : Command)
     → Meets (λ d change. StaysInQueue d change.row) desk (plan_of command)
 stays desk is (OpenQueue name lifecycle level) = λ call none. no_row desk
 stays desk is (Create queue subject status requestors) = λ call none. no_row desk
-stays desk is Queues = tt
 stays desk is other = λ call r there same none. (
   r.row.queue,
   refl,
@@ -135,7 +137,6 @@ links : (desk : Desk) (command : Command)
     → Meets (λ d change. LinksAnew d change.linked) desk (plan_of command)
 links desk (OpenQueue name lifecycle level) = λ call none. tt
 links desk (Create queue subject status requestors) = λ call none. tt
-links desk Queues = tt
 links desk (Link id kind other) = λ call r there same none. (
   subst (λ (n : ℕ). has_link desk (link n kind other) ≡ false) same none.1.1.0,
   and_from (is_some (request_at desk r.row.id)) (is_some (request_at desk other))
@@ -161,6 +162,44 @@ lone desk r id is there same =
     counts_found r.row.id 1 desk.requests r is.requests
     (subst (λ (n : ℕ). request_at desk n ≡ Some r) same there)
 
+-- the request and the number of the first of these entries, or those given where there is none
+abbrev id_first : ℕ → List Entry → ℕ
+id_first id [] = id
+id_first id (e ∷ es) = e.id
+
+abbrev number_first : ℕ → List Entry → ℕ
+number_first number [] = number
+number_first number (e ∷ es) = e.number
+
+abbrev AtMostOne : List Entry → Type 0
+AtMostOne [] = Unit {0}
+AtMostOne (e ∷ []) = Unit {0}
+AtMostOne (e ∷ f ∷ rest) = ⊥
+
+-- at most one entry, and it is the next of the request
+abbrev pub IsNext : ℕ → ℕ → List Entry → Type 0
+IsNext id count entries =
+    (id_first id entries ≡ id) × (number_first (count + 1) entries ≡ count + 1)
+    × AtMostOne entries
+
+next_follows : (id count : ℕ) (entries : List Entry) → IsNext id count entries
+    → FollowOn id count 1 entries
+next_follows id count [] next = tt
+next_follows id count (e ∷ []) next = (next.0, next.1, tt)
+next_follows id count (e ∷ f ∷ rest) next = absurd next.2
+
+appends_one : (desk : Desk) (change : Change) (r : Request)
+    → request_filed change.filed desk ≡ desk
+    → list_all (has_count r.row.id (length r.entries)) desk.requests ≡ true
+    → IsNext r.row.id (length r.entries) change.entries → Appends desk change
+appends_one desk change r same counted next = record {
+  id = r.row.id;
+  count = length r.entries;
+  counted = subst (λ (d : Desk).
+      list_all (has_count r.row.id (length r.entries)) d.requests ≡ true) (sym same) counted;
+  follow = next_follows r.row.id (length r.entries) change.entries next;
+}
+
 -- the entries of a command follow on those of its request
 appends : (desk : Desk) → IsDesk desk → (command : Command) → Meets Appends desk (plan_of command)
 appends desk is (OpenQueue name lifecycle level) = λ call none.
@@ -176,21 +215,6 @@ appends desk is (Create queue subject status requestors) = λ call none.
           (and_from (not (id == id) || true) true (or_right (not (id == id)) true refl) refl);
       follow = (refl, refl, tt);
     }
-appends desk is Queues = tt
-appends desk is (Show id) = λ call r there same none.
-    record {
-      id = r.row.id;
-      count = length r.entries;
-      counted = lone desk r id is there same;
-      follow = tt;
-    }
-appends desk is (History id) = λ call r there same none.
-    record {
-      id = r.row.id;
-      count = length r.entries;
-      counted = lone desk r id is there same;
-      follow = tt;
-    }
 appends desk is (Reply id text) = λ call r there same none.
     record {
       id = r.row.id;
@@ -199,12 +223,7 @@ appends desk is (Reply id text) = λ call r there same none.
       follow = (refl, refl, second_follows call (seen_request r) _);
     }
 appends desk is other = λ call r there same none.
-    record {
-      id = r.row.id;
-      count = length r.entries;
-      counted = lone desk r _ is there same;
-      follow = (refl, refl, tt);
-    }
+    appends_one desk _ r refl (lone desk r _ is there same) (refl, refl, tt)
 
 -- the change of a command that isn't refused fits
 pub change_fits : (s : Settings) (at : ℕ) (caller : List ℕ) (command : Command) (desk : Desk)

@@ -3,7 +3,7 @@ use Rattle.std.proofs.Common.{rules, sym}
 use Rattle.std.proofs.lemmas.List.{append-nil, take_all}
 use Rattle.desk_model.specs.declared.rows.LinkKind.TheVariants.{DependsOn}
 use Rattle.desk_model.specs.declared.rows.LinkRow.{LinkRow}
-use Rattle.desk_model.specs.Reading.{is_shown}
+use Rattle.desk_model.specs.Rights.{is_shown}
 use Rattle.store_tables.proofs.Spared.{stands, joined}
 use Rattle.service_core.specs.Shown.{is_shown_at}
 use Rattle.service_core.proofs.Linked.{filtered_more}

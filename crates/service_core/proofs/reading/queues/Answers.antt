@@ -4,7 +4,7 @@ use Rattle.desk_model.specs.Rights.{sees_queue}
 use Rattle.service_core.proofs.reading.queues.Goals as goal
 
 pub returns-clause-told : goal.returns-clause-told
-returns-clause-told g c desk is stand clean =
+returns-clause-told g c at facts desk is stand clean seen =
     ap Queues (c.queues_seen.ensures
     ∙ ap (filter (sees_queue c.args.settings.now c.args.caller.now))
     (c.in_ok-queues.ensures.listed desk is stand clean))

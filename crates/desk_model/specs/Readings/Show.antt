@@ -1,30 +1,19 @@
--- What a command answers, of the desk as it was before.
-use Rattle.std.specs.Prelude.{ℕ, ◌+◌, ◌==◌, Bool, true, false, not, ◌&&◌}
-use Rattle.std.specs.Prelude.{◌||◌, List, filter, map, Option, Some, None}
-use Rattle.std.specs.Option.{option_map_or}
+-- Shows a request: its row, its people, when it is due, and its links with requests that the caller
+-- may show.
+use Rattle.std.specs.Prelude.{ℕ, ◌==◌, Bool, ◌&&◌, List, filter, map}
 use Rattle.settings_core.specs.declared.settings.Settings.{Settings}
-use Rattle.desk_model.specs.Desk.{Desk, Request, request_at, request_count}
+use Rattle.desk_model.specs.Desk.{Desk, Request, request_at}
 use Rattle.desk_model.specs.Due.{due_on}
-use Rattle.desk_model.specs.Facts.{seen_request, seen_request_at}
 use Rattle.desk_model.specs.Links.{is_kind}
-use Rattle.desk_model.specs.Rights.{may_show, may_show_comments, sees_queue}
+use Rattle.desk_model.specs.Plan.{Call, Plan, OneRequest, Reads, answer_of_request}
+use Rattle.desk_model.specs.Rights.{is_shown}
 use Rattle.desk_model.specs.declared.answer.Answer.{Answer}
 use Rattle.desk_model.specs.declared.answer.Answer.TheVariants as answer
 use Rattle.desk_model.specs.declared.answer.Links.{Links}
 use Rattle.desk_model.specs.declared.answer.Shown as shown
-use Rattle.desk_model.specs.declared.command.Command.{Command}
-use Rattle.desk_model.specs.declared.command.Command.TheVariants as command
-use Rattle.desk_model.specs.declared.rows.Entry.{Entry}
-use Rattle.desk_model.specs.declared.rows.EntryKind.{EntryKind}
-use Rattle.desk_model.specs.declared.rows.EntryKind.TheVariants.{Comment}
 use Rattle.desk_model.specs.declared.rows.LinkKind.{LinkKind}
 use Rattle.desk_model.specs.declared.rows.LinkKind.TheVariants.{DependsOn, MemberOf, RefersTo}
 use Rattle.desk_model.specs.declared.rows.LinkRow.{LinkRow}
-
--- the request with that number is there, and the caller may show it
-abbrev pub is_shown : Settings → List ℕ → Desk → ℕ → Bool
-is_shown settings caller desk id =
-    option_map_or (may_show settings caller) (seen_request_at desk id) false
 
 -- the link leads from the request to one that the caller may show
 abbrev pub leads_from : Settings → List ℕ → Desk → LinkKind → ℕ → LinkRow → Bool
@@ -70,34 +59,10 @@ shown_of settings caller desk request =
       links = links_of settings caller desk request.row.id;
     }
 
-abbrev pub is_comment : EntryKind → Bool
-is_comment Comment = true
-is_comment other = false
-
--- an entry is told unless it is a comment that the caller may not see
-abbrev pub is_told : Settings → List ℕ → Request → Entry → Bool
-is_told settings caller request entry =
-    not (is_comment entry.kind) || may_show_comments settings caller (seen_request request)
-
--- the entries of a request that the caller is told of, with their own numbers
-abbrev pub entries_told : Settings → List ℕ → Request → List Entry
-entries_told settings caller request = filter (is_told settings caller request) request.entries
-
--- what is answered of a request, if it is there
-abbrev pub answer_of_request : Option Request → (Request → Answer) → Answer
-answer_of_request None made = answer.Done
-answer_of_request (Some request) made = made request
-
--- the answer of a command that isn't refused
-abbrev pub answer_of : Settings → ℕ → List ℕ → Command → Desk → Answer
-answer_of settings at caller (command.Create queue subject status requestors) desk =
-    answer.Created (request_count desk + 1)
-answer_of settings at caller command.Queues desk =
-    answer.Queues (filter (sees_queue settings caller) desk.queues)
-answer_of settings at caller (command.Show id) desk =
+abbrev pub told : ℕ → Call → Desk → Answer
+told id call desk =
     answer_of_request (request_at desk id)
-    (λ request. answer.Shown (shown_of settings caller desk request))
-answer_of settings at caller (command.History id) desk =
-    answer_of_request (request_at desk id)
-    (λ request. answer.History (entries_told settings caller request))
-answer_of settings at caller other desk = answer.Done
+    (λ request. answer.Shown (shown_of call.settings call.caller desk request))
+
+abbrev pub reading : ℕ → Plan
+reading id = Reads (OneRequest id) (told id)

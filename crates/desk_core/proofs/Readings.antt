@@ -1,0 +1,28 @@
+-- Each reading tells of the caller's view what it tells of the desk, and each due moment in it is
+-- right: a line for each reading.
+use Rattle.std.proofs.Common.{◌≡◌, true}
+use Rattle.std.specs.Prelude.{⊤}
+use Rattle.desk_model.specs.Commands.{plan_of}
+use Rattle.desk_model.specs.Plan.{Plan, Reads, OnQueue, OnRequest}
+use Rattle.desk_model.specs.declared.command.Command.{Command}
+use Rattle.desk_model.specs.declared.command.Command.TheVariants.{Queues, Show, History}
+use Rattle.desk_core.proofs.Readings.History as history
+use Rattle.desk_core.proofs.Readings.Owed.{IsRight}
+use Rattle.desk_core.proofs.Readings.Queues as queues
+use Rattle.desk_core.proofs.Readings.Show as show
+pub mod History
+pub mod Owed
+pub mod Queues
+pub mod Show
+
+-- what is owed of a plan: nothing, unless it reads
+abbrev pub OwesRight : Plan → Type 0
+OwesRight (Reads topic answer) = IsRight topic answer
+OwesRight (OnQueue name conditions change) = ⊤
+OwesRight (OnRequest id besides text conditions change) = ⊤
+
+pub each_right : (command : Command) → OwesRight (plan_of command)
+each_right Queues = queues.right
+each_right (Show id) = show.right id
+each_right (History id) = history.right id
+each_right other = tt

@@ -1,0 +1,24 @@
+-- The queues that a caller sees are those of the caller's view.
+use Rattle.std.proofs.Common.{◌||◌, List, ap, sym}
+use Rattle.std.proofs.lemmas.Bool.{or_left}
+use Rattle.std.proofs.lemmas.List.Elements.{All-nil}
+use Rattle.desk_model.specs.Plan.{WholeDesk}
+use Rattle.desk_model.specs.Readings.Queues as queues
+use Rattle.desk_model.specs.Rights.{sees_queue}
+use Rattle.desk_model.specs.View.{has_shown}
+use Rattle.desk_model.specs.declared.answer.Answer.TheVariants as answer
+use Rattle.desk_model.specs.declared.rows.QueueRow.{QueueRow}
+use Rattle.desk_core.proofs.InView.{filter_within}
+use Rattle.desk_core.proofs.Readings.Owed.{IsRight}
+use Rattle.desk_core.specs.Laws.{IsDue}
+
+pub right : IsRight WholeDesk queues.told
+right = record {
+  alike = λ call desk is.
+      let sees = sees_queue call.settings call.caller in
+      let shows = has_shown call.settings call.caller desk in
+      ap (λ (list : List QueueRow). answer.Queues list)
+      (sym (filter_within sees (λ q. sees q || shows q.name)
+      (λ q seen. or_left (sees q) (shows q.name) seen) desk.queues));
+  due = λ call desk. All-nil (IsDue call.settings desk);
+}
