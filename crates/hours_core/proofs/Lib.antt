@@ -6,4 +6,5 @@ pub mod RunLemmas
 pub mod ScheduleLemmas
 pub mod SearchLemmas
 pub mod SpanLemmas
+pub mod TextLemmas
 pub mod ZoneLemmas

@@ -1,13 +1,14 @@
 -- Halving finds the first span that reaches a mark, and how often it reads.
 use Rattle.std.proofs.Common.{◌≡◌, ℕ, zero, suc, ◌+◌, ◌/◌, ◌^◌, ◌<◌, ◌≤◌, Bool, true, false}
-use Rattle.std.proofs.Common.{List, [], ◌∷◌, length, get_or, slice_get, refl, sym, arith}
+use Rattle.std.proofs.Common.{List, [], ◌∷◌, length, get_or, slice_get, Some, ap, ◌∙◌}
+use Rattle.std.proofs.Common.{refl, sym, arith}
 use Rattle.std.specs.List.{list_all, find}
 use Rattle.std.specs.Int.Digits.{digits_of}
 use Rattle.std.proofs.lemmas.Bool.{lt-ltb, le-leb, ltb-true, leb-true, both_ways}
 use Rattle.std.proofs.lemmas.Int.Digits.{length-digits_of_step, length-digits_of-le, number_lt}
 use Rattle.std.proofs.lemmas.Int.Digits.{number_digits_of, all_below_base_digits_of}
 use Rattle.std.proofs.lemmas.List.Folds.{list_all_at}
-use Rattle.std.proofs.lemmas.Option.{slice_get_past}
+use Rattle.std.proofs.lemmas.Option.{slice_get_past, slice_get-get_or}
 use Rattle.hours_core.specs.Probes.{reaches, halvings}
 use Rattle.hours_core.specs.Spans.{AreSpans, minutes_of}
 use Rattle.hours_core.specs.declared.search.Mark.{Mark}
@@ -94,6 +95,29 @@ halvings_rise a b h =
     length-digits_of-le 2 (halvings b) a (omega arith) (omega (arith, below_power b))
 
 -- one probe leaves at most half
-pub halved : (n left : ℕ) → 0 < n → left ≤ n / 2 → halvings left + 1 ≤ halvings n
+halved : (n left : ℕ) → 0 < n → left ≤ n / 2 → halvings left + 1 ≤ halvings n
 halved n left some h =
     omega (arith, length-digits_of_step 2 n (omega arith) some, halvings_rise left (n / 2) h)
+
+-- the span at an index is found there
+pub found_there : (xs : List Span) (i : ℕ) (s : Span) → i < length xs
+    → ((d : Span) → s ≡ get_or xs i d) → Some s ≡ slice_get xs i
+found_there xs i s within read = ap Some (read s) ∙ sym (slice_get-get_or xs i s within)
+
+-- the last span before the next index doesn't reach the mark
+pub none_below : (p : Span → Bool) (xs : List Span) (i : ℕ) (s : Span)
+    → ((d : Span) → s ≡ get_or xs i d) → p s ≡ false
+    → (k : ℕ) (d : Span) → k + 1 ≡ i + 1 → p (get_or xs k d) ≡ false
+none_below p xs i s read shut k d e =
+    let same : k ≡ i = omega arith in
+    rw same (ap p (sym (read d)) ∙ shut)
+
+-- so many probes, with what a search among those that are left reads, are at most so many
+pub record Bounded (probes left most : ℕ) : Type 0 where
+  pub sum : probes + halvings left ≤ most
+
+-- one probe more, and at most half is left
+pub one_more : (probes more n left most : ℕ) → 0 < n → left ≤ n / 2 → more ≤ probes + 1
+    → Bounded probes n most → Bounded more left most
+one_more probes more n left most some half counted before =
+    record { sum = omega (arith, halved n left some half, counted, before.sum) }

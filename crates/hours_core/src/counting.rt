@@ -1,9 +1,10 @@
-ghost use Rattle.std.specs.Prelude.{◌≡◌, ◌+◌, ◌*◌, ◌<◌, ◌≤◌, length};
+ghost use Rattle.std.specs.Prelude.{◌≡◌, ◌+◌, ◌*◌, ◌<◌, ◌≤◌, length, IsSome};
 ghost use Rattle.hours_core.specs.Calendar.{opens, spans_of};
 ghost use Rattle.hours_core.specs.Counting.{first_of, add_of, has_passed};
 ghost use Rattle.hours_core.specs.Least.{IsLeast};
 ghost use Rattle.hours_core.specs.Moment.{end_minute};
 ghost use Rattle.hours_core.specs.Probes.{most_probes, at_least};
+ghost use Rattle.hours_core.specs.Runs.{AreRuns};
 
 use crate::calendar::Calendar;
 use crate::moment::Minute;
@@ -13,7 +14,8 @@ use crate::spans::Probes;
 impl Calendar {
     /// How many opening spans there are: runs of open minutes that no other open minute touches.
     pub fn spans(&self) -> u32
-        ensures { result ≡ length (spans_of self.now) }
+        ensures number { result ≡ length (spans_of self.now) }
+        ensures runs { AreRuns (opens self.now) (spans_of self.now) }
     {
         self.spans.len() as u32
     }
@@ -37,14 +39,15 @@ impl Calendar {
         self.first_open_counted(m, &mut Probes::new())
     }
 
-    /// The same as `first_open`. For each span that it reads the count of the probes grows by one:
-    /// by at least one where there is a span, and by at most one more than the number of binary
-    /// digits of `spans`.
+    /// The same as `first_open`. For each span that it reads the count of the probes grows by one,
+    /// up to the greatest `u32`: by at least one where there is a span, and by at most one more than
+    /// the number of binary digits of `spans`.
     pub fn first_open_counted(&self, m: Minute, probes: &mut Probes) -> Option<Minute>
         ensures first { result ≡ first_of (opens self.now) m }
         ensures least { IsLeast (opens self.now) m end_minute result }
         ensures most { probes.new ≤ probes.old + most_probes (length (spans_of self.now)) }
         ensures some { 0 < length (spans_of self.now) → at_least probes.old 1 ≤ probes.new }
+        ensures kept { probes.old ≤ probes.new }
     {
         let first = first_held(&self.spans, m.get(), probes)?;
         Some(Minute::at(first))
@@ -59,14 +62,17 @@ impl Calendar {
         self.add_open_counted(m, n, &mut Probes::new())
     }
 
-    /// The same as `add_open`. For each span that it reads the count of the probes grows by one: by
-    /// at least one where `n` isn't 0 and there is a span, and by at most twice what
-    /// `first_open_counted` adds at most.
+    /// The same as `add_open`. For each span that it reads the count of the probes grows by one, up
+    /// to the greatest `u32`. Where `n` isn't 0, it grows by at least one where there is a span, and
+    /// by at least two where an end is found, since that takes two searches; and by at most twice
+    /// what `first_open_counted` adds at most.
     pub fn add_open_counted(&self, m: Minute, n: u32, probes: &mut Probes) -> Option<Minute>
         ensures end { result ≡ add_of (opens self.now) m n }
         ensures least { IsLeast (has_passed (opens self.now) m n) m (end_minute + 1) result }
         ensures most { probes.new ≤ probes.old + 2 * most_probes (length (spans_of self.now)) }
         ensures some { 0 < n → 0 < length (spans_of self.now) → at_least probes.old 1 ≤ probes.new }
+        ensures found { 0 < n → IsSome result → at_least probes.old 2 ≤ probes.new }
+        ensures kept { probes.old ≤ probes.new }
     {
         let end = end_of_count(&self.spans, m.get(), n, probes)?;
         Some(Minute::at(end))

@@ -1,4 +1,5 @@
 ghost use Rattle.std.specs.Prelude.{◌≡◌, ◌<◌, ◌≤◌, ◌+◌, ◌*◌, ℕ, false, length, min, MatchOption};
+ghost use Rattle.std.specs.Prelude.{IsSome};
 ghost use Rattle.std.specs.List.{find};
 ghost use Rattle.hours_core.specs.Counting.{has_passed};
 ghost use Rattle.hours_core.specs.Least.{IsLeast};
@@ -34,6 +35,8 @@ fn first_reaching(spans: &Spans, mark: Mark, probes: &mut Probes) -> Option<Span
     ensures spans { AreSpans first_minute 0 spans.now }
     ensures most { probes.new ≤ probes.old + spec.halvings (length spans.now) }
     ensures some { spec.at_least probes.old (min 1 (length spans.now)) ≤ probes.new }
+    ensures found { IsSome result → spec.at_least probes.old 1 ≤ probes.new }
+    ensures kept { probes.old ≤ probes.new }
 {
     let mut low = 0;
     let mut high = spans.len();
@@ -57,6 +60,7 @@ pub fn first_held(spans: &Spans, m: u32, probes: &mut Probes) -> Option<u32>
     ensures end { (late : ℕ) → end_minute ≤ late → is_held spans.now late ≡ false }
     ensures most { probes.new ≤ probes.old + spec.halvings (length spans.now) }
     ensures some { spec.at_least probes.old (min 1 (length spans.now)) ≤ probes.new }
+    ensures kept { probes.old ≤ probes.new }
 {
     let span = first_reaching(spans, Mark::EndsAfter(m), probes)?;
     Some(span.start.max(m))
@@ -70,6 +74,8 @@ fn minutes_before(spans: &Spans, m: u32, probes: &mut Probes) -> Option<u32>
     ensures spans { AreSpans first_minute 0 spans.now }
     ensures most { probes.new ≤ probes.old + spec.halvings (length spans.now) }
     ensures some { spec.at_least probes.old (min 1 (length spans.now)) ≤ probes.new }
+    ensures found { IsSome result → spec.at_least probes.old 1 ≤ probes.new }
+    ensures kept { probes.old ≤ probes.new }
 {
     let span = first_reaching(spans, Mark::EndsAfter(m), probes)?;
     Some(span.before + m.saturating_sub(span.start))
@@ -81,6 +87,8 @@ pub fn end_of_count(spans: &Spans, m: u32, n: u32, probes: &mut Probes) -> Optio
     ensures least { IsLeast (has_passed (is_held spans.now) m n) m (end_minute + 1) result }
     ensures most { probes.new ≤ probes.old + 2 * spec.halvings (length spans.now) }
     ensures some { 0 < n → spec.at_least probes.old (min 1 (length spans.now)) ≤ probes.new }
+    ensures found { 0 < n → IsSome result → spec.at_least probes.old 2 ≤ probes.new }
+    ensures kept { probes.old ≤ probes.new }
 {
     if n == 0 {
         return Some(m);

@@ -1,6 +1,6 @@
 -- the text of a minute is ASCII, and so it is text
 use Rattle.std.proofs.lemmas.Str.{IsUtf8-from_ascii}
-use Rattle.desk_texts.proofs.Ascii.{ascii_minute}
+use Rattle.hours_core.proofs.TextLemmas.{ascii_minute}
 use Rattle.desk_texts.proofs.shown.put_minute.Goals as goal
 
 pub unreachable-requires : goal.unreachable-requires

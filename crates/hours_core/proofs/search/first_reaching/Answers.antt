@@ -1,57 +1,42 @@
-use Rattle.std.proofs.Common.{◌≡◌, ◌+◌, ◌-◌, ◌/◌, ◌<◌, false, length}
-use Rattle.std.proofs.Common.{get_or, Some, sym, ap, ◌∙◌, arith}
-use Rattle.std.proofs.lemmas.Option.{slice_get-get_or}
+use Rattle.std.proofs.Common.{◌≡◌, ◌-◌, ◌<◌, sym, ap, ◌∙◌, arith}
 use Rattle.hours_core.specs.Moment.{first_minute}
 use Rattle.hours_core.specs.Probes as spec
-use Rattle.hours_core.specs.declared.spans.Span.{Span}
-use Rattle.hours_core.proofs.SearchLemmas.{halved, marks_rise, found_at}
+use Rattle.hours_core.proofs.SearchLemmas.{marks_rise, found_at}
+use Rattle.hours_core.proofs.SearchLemmas.{found_there, none_below, one_more}
 use Rattle.hours_core.proofs.search.first_reaching.Goals as goal
 
 pub loop-low-preserved-then-is_reached : goal.loop-low-preserved-then-is_reached
 loop-low-preserved-then-is_reached c =
-    let n = c.loop-low.high - c.loop-low.low in
-    let middle = c.loop-low.low + n / 2 in
-    let some : 0 < n = omega arith in
-    let within : middle < length c.args.spans.now = omega (arith, c.loop-low.invariant.within) in
+    let some : 0 < c.loop-low.high - c.loop-low.low = omega arith in
     record {
       ordered = omega arith;
-      within = omega arith;
+      within = omega (arith, c.loop-low.invariant.within);
       below = c.loop-low.invariant.below;
       above = λ d h. ap (spec.reaches c.args.mark) (sym (c.read-span.ensures.span d))
           ∙ sym c.if-is_reached.ensures;
-      found = ap Some (c.read-span.ensures.span c.read-span.result)
-          ∙ sym (slice_get-get_or c.args.spans.now middle c.read-span.result within);
-      most = omega (
-        arith,
-        halved n (middle - c.loop-low.low) some (omega arith),
-        c.loop-low.invariant.most,
-        c.read-span.ensures.counted,
-      );
+      found = found_there c.args.spans.now _ c.read-span.result
+          (omega (arith, c.loop-low.invariant.within)) c.read-span.ensures.span;
+      most = one_more c.loop-low.probes _ (c.loop-low.high - c.loop-low.low) _ _ some (omega arith)
+          (omega (arith, c.read-span.ensures.counted)) c.loop-low.invariant.most;
       kept = omega (arith, c.loop-low.invariant.kept, c.read-span.ensures.kept);
+      found_counts = λ h. omega (arith, c.loop-low.invariant.kept, c.read-span.ensures.counted);
       some = λ h. omega (arith, c.loop-low.invariant.kept, c.read-span.ensures.counted);
     }
 
 pub loop-low-preserved : goal.loop-low-preserved
 loop-low-preserved c =
-    let n = c.loop-low.high - c.loop-low.low in
-    let middle = c.loop-low.low + n / 2 in
-    let some : 0 < n = omega arith in
-    let closed : (d : Span) → spec.reaches c.args.mark (get_or c.args.spans.now middle d) ≡ false =
-    λ d. ap (spec.reaches c.args.mark) (sym (c.read-span.ensures.span d))
-    ∙ sym c.if-is_reached.ensures in
+    let some : 0 < c.loop-low.high - c.loop-low.low = omega arith in
     record {
       ordered = omega arith;
       within = c.loop-low.invariant.within;
-      below = λ k d e. let same : k ≡ middle = omega arith in rw same (closed d);
+      below = none_below (spec.reaches c.args.mark) c.args.spans.now _ c.read-span.result
+          c.read-span.ensures.span (sym c.if-is_reached.ensures);
       above = c.loop-low.invariant.above;
       found = c.loop-low.invariant.found;
-      most = omega (
-        arith,
-        halved n (c.loop-low.high - (middle + 1)) some (omega arith),
-        c.loop-low.invariant.most,
-        c.read-span.ensures.counted,
-      );
+      most = one_more c.loop-low.probes _ (c.loop-low.high - c.loop-low.low) _ _ some (omega arith)
+          (omega (arith, c.read-span.ensures.counted)) c.loop-low.invariant.most;
       kept = omega (arith, c.loop-low.invariant.kept, c.read-span.ensures.kept);
+      found_counts = λ h. omega (arith, c.loop-low.invariant.kept, c.read-span.ensures.counted);
       some = λ h. omega (arith, c.loop-low.invariant.kept, c.read-span.ensures.counted);
     }
 
