@@ -5,6 +5,7 @@ pub mod DeskLaw
 pub mod DueLaw
 pub mod Every
 pub mod Goes
+pub mod Identity
 pub mod InView
 pub mod Kept
 pub mod NamedRights

@@ -1,3 +1,4 @@
 pub mod Context
 pub mod Decision
 pub mod Laws
+pub mod Stays

@@ -9,12 +9,18 @@ ghost use Rattle.desk_core.specs.Laws.{AtEveryStep, HidesTheRest, KeepsDependenc
 ghost use Rattle.desk_core.specs.Laws.{KeepsOwnerLaw, KeepsStatusLaw, LeavesTheDesk};
 ghost use Rattle.desk_core.specs.Laws.{RefusesAsMissing};
 ghost use Rattle.desk_core.specs.Laws.{ShowsByWatchers, TellsDueMoments, TellsOfTheView};
+ghost use Rattle.desk_core.specs.Stays.{KeepsIdentity};
 ghost use Rattle.text_core.specs.Texts.{is_among};
 
 /// A request stays, and so do the entries of its history.
 #[tactic(auto, using(crate::proofs::Kept::history_law))]
 pub fn history_law()
     ensures { AtEveryStep KeepsHistory }
+{}
+
+/// A request stays, with its number, its queue, its subject and the moment at which it was filed.
+pub fn identity_law()
+    ensures { AtEveryStep KeepsIdentity }
 {}
 
 /// A request stays, and its owner changes only by taking, stealing, untaking or giving, to the one
