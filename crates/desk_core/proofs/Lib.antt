@@ -1,5 +1,6 @@
 pub mod Applied
 pub mod AsMissing
+pub mod Changed
 pub mod Depends
 pub mod DeskLaw
 pub mod DueLaw
@@ -13,5 +14,6 @@ pub mod NamesLaw
 pub mod Readings
 pub mod Rising
 pub mod Roles
+pub mod Touches
 pub mod Unchanged
 pub mod ViewLaw

@@ -9,7 +9,7 @@ ghost use Rattle.desk_core.specs.Laws.{AtEveryStep, HidesTheRest, KeepsDependenc
 ghost use Rattle.desk_core.specs.Laws.{KeepsOwnerLaw, KeepsStatusLaw, LeavesTheDesk};
 ghost use Rattle.desk_core.specs.Laws.{RefusesAsMissing};
 ghost use Rattle.desk_core.specs.Laws.{ShowsByWatchers, TellsDueMoments, TellsOfTheView};
-ghost use Rattle.desk_core.specs.Stays.{KeepsIdentity};
+ghost use Rattle.desk_core.specs.Stays.{KeepsIdentity, KeepsOthers};
 ghost use Rattle.text_core.specs.Texts.{is_among};
 
 /// A request stays, and so do the entries of its history.
@@ -21,6 +21,12 @@ pub fn history_law()
 /// A request stays, with its number, its queue, its subject and the moment at which it was filed.
 pub fn identity_law()
     ensures { AtEveryStep KeepsIdentity }
+{}
+
+/// On a well-formed desk a request that the command doesn't name is the same afterwards: its row,
+/// its persons and its entries.
+pub fn others_law()
+    ensures { AtEveryStep KeepsOthers }
 {}
 
 /// A request stays, and its owner changes only by taking, stealing, untaking or giving, to the one
