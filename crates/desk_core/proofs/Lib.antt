@@ -1,3 +1,4 @@
+pub mod Added
 pub mod Applied
 pub mod AsMissing
 pub mod Changed

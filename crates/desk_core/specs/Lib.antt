@@ -1,4 +1,5 @@
 pub mod Context
 pub mod Decision
+pub mod Histories
 pub mod Laws
 pub mod Stays

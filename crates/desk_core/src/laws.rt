@@ -9,6 +9,7 @@ ghost use Rattle.desk_core.specs.Laws.{AtEveryStep, HidesTheRest, KeepsDependenc
 ghost use Rattle.desk_core.specs.Laws.{KeepsOwnerLaw, KeepsStatusLaw, LeavesTheDesk};
 ghost use Rattle.desk_core.specs.Laws.{RefusesAsMissing};
 ghost use Rattle.desk_core.specs.Laws.{ShowsByWatchers, TellsDueMoments, TellsOfTheView};
+ghost use Rattle.desk_core.specs.Histories.{KeepsEntriesLaw};
 ghost use Rattle.desk_core.specs.Stays.{KeepsIdentity, KeepsOthers};
 ghost use Rattle.text_core.specs.Texts.{is_among};
 
@@ -27,6 +28,12 @@ pub fn identity_law()
 /// its persons and its entries.
 pub fn others_law()
     ensures { AtEveryStep KeepsOthers }
+{}
+
+/// A request stays, and to its entries a step adds none, one, or the two of a reply that moves the
+/// request, each by the caller at the moment of the step.
+pub fn entries_law()
+    ensures { AtEveryStep KeepsEntriesLaw }
 {}
 
 /// A request stays, and its owner changes only by taking, stealing, untaking or giving, to the one
