@@ -12,6 +12,7 @@ pub mod InView
 pub mod Kept
 pub mod NamedRights
 pub mod NamesLaw
+pub mod Opened
 pub mod Readings
 pub mod Rising
 pub mod Roles

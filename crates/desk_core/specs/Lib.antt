@@ -2,4 +2,5 @@ pub mod Context
 pub mod Decision
 pub mod Histories
 pub mod Laws
+pub mod Opened
 pub mod Stays

@@ -10,6 +10,7 @@ ghost use Rattle.desk_core.specs.Laws.{KeepsOwnerLaw, KeepsStatusLaw, LeavesTheD
 ghost use Rattle.desk_core.specs.Laws.{RefusesAsMissing};
 ghost use Rattle.desk_core.specs.Laws.{ShowsByWatchers, TellsDueMoments, TellsOfTheView};
 ghost use Rattle.desk_core.specs.Histories.{KeepsEntriesLaw};
+ghost use Rattle.desk_core.specs.Opened.{KeepsOpenedLaw};
 ghost use Rattle.desk_core.specs.Stays.{KeepsIdentity, KeepsOthers};
 ghost use Rattle.text_core.specs.Texts.{is_among};
 
@@ -34,6 +35,12 @@ pub fn others_law()
 /// request, each by the caller at the moment of the step.
 pub fn entries_law()
     ensures { AtEveryStep KeepsEntriesLaw }
+{}
+
+/// A request stays, and where it is moved out of an inactive status to one that isn't inactive, it
+/// is open since the moment of the step: each limit of a level counts from there.
+pub fn opened_law()
+    ensures { AtEveryStep KeepsOpenedLaw }
 {}
 
 /// A request stays, and its owner changes only by taking, stealing, untaking or giving, to the one
