@@ -5,6 +5,7 @@ pub mod Changed
 pub mod Depends
 pub mod DeskLaw
 pub mod DueLaw
+pub mod EachRequest
 pub mod Every
 pub mod Goes
 pub mod Identity
@@ -16,6 +17,7 @@ pub mod Opened
 pub mod Readings
 pub mod Rising
 pub mod Roles
+pub mod Told
 pub mod Touches
 pub mod Unchanged
 pub mod ViewLaw

@@ -9,7 +9,7 @@ ghost use Rattle.desk_core.specs.Laws.{AtEveryStep, HidesTheRest, KeepsDependenc
 ghost use Rattle.desk_core.specs.Laws.{KeepsOwnerLaw, KeepsStatusLaw, LeavesTheDesk};
 ghost use Rattle.desk_core.specs.Laws.{RefusesAsMissing};
 ghost use Rattle.desk_core.specs.Laws.{ShowsByWatchers, TellsDueMoments, TellsOfTheView};
-ghost use Rattle.desk_core.specs.Histories.{KeepsEntriesLaw};
+ghost use Rattle.desk_core.specs.Histories.{KeepsEntriesLaw, KeepsStatusesTold, TellsStatuses};
 ghost use Rattle.desk_core.specs.Opened.{KeepsOpenedLaw};
 ghost use Rattle.desk_core.specs.Stays.{KeepsIdentity, KeepsOthers};
 ghost use Rattle.text_core.specs.Texts.{is_among};
@@ -35,6 +35,13 @@ pub fn others_law()
 /// request, each by the caller at the moment of the step.
 pub fn entries_law()
     ensures { AtEveryStep KeepsEntriesLaw }
+{}
+
+/// The history of each request tells its status: so on the empty desk, and every command leaves it
+/// so on a well-formed one.
+pub fn status_told_law()
+    ensures empty { TellsStatuses empty_desk }
+    ensures step { AtEveryStep KeepsStatusesTold }
 {}
 
 /// A request stays, and where it is moved out of an inactive status to one that isn't inactive, it
