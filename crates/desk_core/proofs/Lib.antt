@@ -1,6 +1,7 @@
 pub mod Added
 pub mod Applied
 pub mod AsMissing
+pub mod Bounds
 pub mod Changed
 pub mod Depends
 pub mod DeskLaw

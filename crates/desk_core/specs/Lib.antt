@@ -1,3 +1,4 @@
+pub mod Bounds
 pub mod Context
 pub mod Decision
 pub mod Histories

@@ -9,6 +9,7 @@ ghost use Rattle.desk_core.specs.Laws.{AtEveryStep, HidesTheRest, KeepsDependenc
 ghost use Rattle.desk_core.specs.Laws.{KeepsOwnerLaw, KeepsStatusLaw, LeavesTheDesk};
 ghost use Rattle.desk_core.specs.Laws.{RefusesAsMissing};
 ghost use Rattle.desk_core.specs.Laws.{ShowsByWatchers, TellsDueMoments, TellsOfTheView};
+ghost use Rattle.desk_core.specs.Bounds.{KeepsEntryLimit, KeepsQueueLimit, KeepsRequestLimit};
 ghost use Rattle.desk_core.specs.Histories.{KeepsEntriesLaw, KeepsStatusesTold, TellsStatuses};
 ghost use Rattle.desk_core.specs.Opened.{KeepsOpenedLaw};
 ghost use Rattle.desk_core.specs.Stays.{KeepsIdentity, KeepsOthers};
@@ -77,6 +78,14 @@ pub fn hidden_law()
 /// A due moment in an answer is that of its request, by the level that it has.
 pub fn due_law()
     ensures { AtEveryStep TellsDueMoments }
+{}
+
+/// A command keeps the limits: of 1,000 queues, of the settings' requests, and, on a well-formed desk
+/// where the settings allow an entry at all, of the settings' entries of each request.
+pub fn limits_law()
+    ensures queues { AtEveryStep KeepsQueueLimit }
+    ensures requests { AtEveryStep KeepsRequestLimit }
+    ensures entries { AtEveryStep KeepsEntryLimit }
 {}
 
 /// A reading command leaves the desk as it was.
