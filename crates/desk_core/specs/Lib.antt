@@ -4,4 +4,5 @@ pub mod Decision
 pub mod Histories
 pub mod Laws
 pub mod Opened
+pub mod Shown
 pub mod Stays

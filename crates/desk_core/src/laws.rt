@@ -5,6 +5,7 @@ ghost use Rattle.settings_core.specs.declared.settings.Settings.{Settings};
 ghost use Rattle.desk_model.specs.Desk.{Desk, Request, empty_desk};
 ghost use Rattle.desk_model.specs.IsDesk.{IsDesk, KeepsDesk, names_rise};
 ghost use Rattle.desk_model.specs.Names.{in_order};
+ghost use Rattle.desk_model.specs.declared.rows.Watcher.{Watcher};
 ghost use Rattle.desk_core.specs.Laws.{AtEveryStep, HidesTheRest, KeepsDependencyLaw, KeepsHistory};
 ghost use Rattle.desk_core.specs.Laws.{KeepsOwnerLaw, KeepsStatusLaw, LeavesTheDesk};
 ghost use Rattle.desk_core.specs.Laws.{RefusesAsMissing};
@@ -12,6 +13,7 @@ ghost use Rattle.desk_core.specs.Laws.{ShowsByWatchers, TellsDueMoments, TellsOf
 ghost use Rattle.desk_core.specs.Bounds.{KeepsEntryLimit, KeepsQueueLimit, KeepsRequestLimit};
 ghost use Rattle.desk_core.specs.Histories.{KeepsEntriesLaw, KeepsStatusesTold, TellsStatuses};
 ghost use Rattle.desk_core.specs.Opened.{KeepsOpenedLaw};
+ghost use Rattle.desk_core.specs.Shown.{ShowsByList};
 ghost use Rattle.desk_core.specs.Stays.{KeepsIdentity, KeepsOthers};
 ghost use Rattle.text_core.specs.Texts.{is_among};
 
@@ -101,9 +103,12 @@ pub fn view_law()
         → HidesTheRest settings caller desk }
 {}
 
-/// The rows of a request's people tell who may show it.
+/// A list of watchers in which a person stands in the roles that the person has on a request tells
+/// whether the person may show it. So do the rows of the request's own people.
 pub fn roles_law()
-    ensures { (settings : Settings) (person : List ℕ) (request : Request)
+    ensures by_list { (settings : Settings) (person : List ℕ) (request : Request)
+        (watchers : List Watcher) → ShowsByList settings person request watchers }
+    ensures own { (settings : Settings) (person : List ℕ) (request : Request)
         → ShowsByWatchers settings person request }
 {}
 
