@@ -15,6 +15,7 @@ pub mod Kept
 pub mod NamedRights
 pub mod NamesLaw
 pub mod Opened
+pub mod Orders
 pub mod Readings
 pub mod Rising
 pub mod Roles

@@ -4,5 +4,6 @@ pub mod Decision
 pub mod Histories
 pub mod Laws
 pub mod Opened
+pub mod Orders
 pub mod Shown
 pub mod Stays

@@ -13,6 +13,7 @@ ghost use Rattle.desk_core.specs.Laws.{ShowsByWatchers, TellsDueMoments, TellsOf
 ghost use Rattle.desk_core.specs.Bounds.{KeepsEntryLimit, KeepsQueueLimit, KeepsRequestLimit};
 ghost use Rattle.desk_core.specs.Histories.{KeepsEntriesLaw, KeepsStatusesTold, TellsStatuses};
 ghost use Rattle.desk_core.specs.Opened.{KeepsOpenedLaw};
+ghost use Rattle.desk_core.specs.Orders.{TellsInOrder};
 ghost use Rattle.desk_core.specs.Shown.{ShowsByList};
 ghost use Rattle.desk_core.specs.Stays.{KeepsIdentity, KeepsOthers};
 ghost use Rattle.text_core.specs.Texts.{is_among};
@@ -93,6 +94,12 @@ pub fn limits_law()
 /// A reading command leaves the desk as it was.
 pub fn reading_law()
     ensures { AtEveryStep LeavesTheDesk }
+{}
+
+/// What a command answers on a well-formed desk is in order: queues by their names, the persons of
+/// each role by their bytes, linked requests and entries by their numbers.
+pub fn orders_law()
+    ensures { AtEveryStep TellsInOrder }
 {}
 
 /// What comes of a reading command is told of the caller's view of the desk alone. A request
