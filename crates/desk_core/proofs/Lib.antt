@@ -1,5 +1,6 @@
 pub mod Added
 pub mod Applied
+pub mod Asked
 pub mod AsMissing
 pub mod Bounds
 pub mod Changed

@@ -10,6 +10,7 @@ ghost use Rattle.desk_core.specs.Laws.{AtEveryStep, HidesTheRest, KeepsDependenc
 ghost use Rattle.desk_core.specs.Laws.{KeepsOwnerLaw, KeepsStatusLaw, LeavesTheDesk};
 ghost use Rattle.desk_core.specs.Laws.{RefusesAsMissing};
 ghost use Rattle.desk_core.specs.Laws.{ShowsByWatchers, TellsDueMoments, TellsOfTheView};
+ghost use Rattle.desk_core.specs.Asked.{AsksToWatch};
 ghost use Rattle.desk_core.specs.Bounds.{KeepsEntryLimit, KeepsQueueLimit, KeepsRequestLimit};
 ghost use Rattle.desk_core.specs.Histories.{KeepsEntriesLaw, KeepsStatusesTold, TellsStatuses};
 ghost use Rattle.desk_core.specs.Opened.{KeepsOpenedLaw};
@@ -64,6 +65,12 @@ pub fn owner_law()
 /// holds the right of the move, or by a reply to the status to which the request is opened again.
 pub fn status_law()
     ensures { AtEveryStep KeepsStatusLaw }
+{}
+
+/// Who puts a person into a role on a request, or takes one out of it, holds `ModifyTicket`, or names
+/// himself and holds `Watch`, as admincc `WatchAsAdminCc`.
+pub fn watch_law()
+    ensures { AtEveryStep AsksToWatch }
 {}
 
 /// A request stays, and it becomes inactive by a change of status only where all that it depends on
