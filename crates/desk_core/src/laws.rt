@@ -10,7 +10,8 @@ ghost use Rattle.desk_core.specs.Laws.{AtEveryStep, HidesTheRest, KeepsDependenc
 ghost use Rattle.desk_core.specs.Laws.{KeepsOwnerLaw, KeepsStatusLaw, LeavesTheDesk};
 ghost use Rattle.desk_core.specs.Laws.{RefusesAsMissing};
 ghost use Rattle.desk_core.specs.Laws.{ShowsByWatchers, TellsDueMoments, TellsOfTheView};
-ghost use Rattle.desk_core.specs.Asked.{AsksToWatch};
+ghost use Rattle.lifecycle_core.specs.declared.parts.Parts.{Parts};
+ghost use Rattle.desk_core.specs.Asked.{AsksToWatch, AsksUsualRight};
 ghost use Rattle.desk_core.specs.Bounds.{KeepsEntryLimit, KeepsQueueLimit, KeepsRequestLimit};
 ghost use Rattle.desk_core.specs.Histories.{KeepsEntriesLaw, KeepsStatusesTold, TellsStatuses};
 ghost use Rattle.desk_core.specs.Opened.{KeepsOpenedLaw};
@@ -71,6 +72,12 @@ pub fn status_law()
 /// himself and holds `Watch`, as admincc `WatchAsAdminCc`.
 pub fn watch_law()
     ensures { AtEveryStep AsksToWatch }
+{}
+
+/// A move that no entry of the lifecycle names asks for `DeleteTicket` where it is to `deleted`, and
+/// for `ModifyTicket` where it isn't.
+pub fn usual_right_law()
+    ensures { (lifecycle : Parts) (from : List ℕ) (to : List ℕ) → AsksUsualRight lifecycle from to }
 {}
 
 /// A request stays, and it becomes inactive by a change of status only where all that it depends on
