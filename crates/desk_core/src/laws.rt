@@ -11,7 +11,7 @@ ghost use Rattle.desk_core.specs.Laws.{KeepsOwnerLaw, KeepsStatusLaw, LeavesTheD
 ghost use Rattle.desk_core.specs.Laws.{RefusesAsMissing};
 ghost use Rattle.desk_core.specs.Laws.{ShowsByWatchers, TellsDueMoments, TellsOfTheView};
 ghost use Rattle.lifecycle_core.specs.declared.parts.Parts.{Parts};
-ghost use Rattle.desk_core.specs.Asked.{AsksToWatch, AsksUsualRight};
+ghost use Rattle.desk_core.specs.Asked.{AsksToWatch, AsksUsualRight, LinksShown};
 ghost use Rattle.desk_core.specs.Bounds.{KeepsEntryLimit, KeepsQueueLimit, KeepsRequestLimit};
 ghost use Rattle.desk_core.specs.Histories.{KeepsEntriesLaw, KeepsStatusesTold, TellsStatuses};
 ghost use Rattle.desk_core.specs.Opened.{KeepsOpenedLaw};
@@ -78,6 +78,11 @@ pub fn watch_law()
 /// for `ModifyTicket` where it isn't.
 pub fn usual_right_law()
     ensures { (lifecycle : Parts) (from : List ℕ) (to : List ℕ) → AsksUsualRight lifecycle from to }
+{}
+
+/// Both ends of a link that a command puts are requests that the caller may show.
+pub fn ends_law()
+    ensures { AtEveryStep LinksShown }
 {}
 
 /// A request stays, and it becomes inactive by a change of status only where all that it depends on
