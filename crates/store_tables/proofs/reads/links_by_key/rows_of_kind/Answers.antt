@@ -5,7 +5,7 @@ use Rattle.store_tables.specs.Queries.{links_from_test, links_from_text, target_
 use Rattle.store_tables.specs.Spelling.{count_value}
 use Rattle.desk_model.specs.Links.{kind_number}
 use Rattle.std.proofs.Common.{[], ◌∷◌}
-use Rattle.store_tables.proofs.reads.links_by_key.rows_links_from.Goals as goal
+use Rattle.store_tables.proofs.reads.links_by_key.rows_of_kind.Goals as goal
 
 pub select-requires-clause-plain : goal.select-requires-clause-plain
 select-requires-clause-plain g c = links_from_is.plain

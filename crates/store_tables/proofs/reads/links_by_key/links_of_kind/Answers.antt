@@ -9,7 +9,7 @@ use Rattle.store_tables.proofs.ReadingLemmas.{if_ok, fails_in}
 use Rattle.store_tables.proofs.RefusalLemmas.{links_refuse}
 use Rattle.store_tables.specs.Queries.{three_shown}
 use Rattle.sqlite.specs.Held.{state}
-use Rattle.store_tables.proofs.reads.links_by_key.links_from.Goals as goal
+use Rattle.store_tables.proofs.reads.links_by_key.links_of_kind.Goals as goal
 
 pub returns-clause-listed : goal.returns-clause-listed
 returns-clause-listed g c d stand clean =
@@ -22,8 +22,8 @@ returns-clause-listed g c d stand clean =
 pub returns-clause-refuses : goal.returns-clause-refuses
 returns-clause-refuses g c =
     let old = state g.S.Store c.args.conn.now in
-    let new = state g.S.Store c.rows_links_from.new.conn in
-    links_refuse old new c.rows_links_from.ensures.kept.clean c.read_all.result
+    let new = state g.S.Store c.rows_of_kind.new.conn in
+    links_refuse old new c.rows_of_kind.ensures.kept.clean c.read_all.result
     (fails_in 6 three_shown IsLinkRow old new c.in_ok-rows.rows.items c.read_all.result
     c.in_ok-rows.ensures.of_table (rw c.as_slice.ensures.value at c.read_all.ensures.mismatch)
     c.read_all.ensures.fault)
