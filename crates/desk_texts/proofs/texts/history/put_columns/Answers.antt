@@ -1,8 +1,8 @@
 -- each column is what the formatter makes of its text
 use Rattle.std.proofs.Common.{rules, arith}
-use Rattle.desk_texts.specs.History.{columns}
+use Rattle.desk_texts.specs.Texts.History.{columns}
 use Rattle.desk_texts.proofs.Columns.{left-padded, number-padded}
-use Rattle.desk_texts.proofs.history.put_columns.Goals as goal
+use Rattle.desk_texts.proofs.texts.history.put_columns.Goals as goal
 
 pub returns : goal.returns
 unfolding columns

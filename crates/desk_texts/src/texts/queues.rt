@@ -1,8 +1,8 @@
 ghost use Rattle.std.specs.Prelude.{◌≡◌, ◌++◌, IfOk, OnOk, string_bytes};
 ghost use Rattle.std.specs.List.{flat_map};
-ghost use Rattle.desk_texts.specs.Queues as text;
+ghost use Rattle.desk_texts.specs.Texts.Queues as text;
 
-use crate::shown::name_or;
+use crate::texts::shown::name_or;
 use desk_model::QueueRow;
 use std::alloc::{AllocError, Global};
 

@@ -1,8 +1,8 @@
 -- the lines of the queues so far
 use Rattle.std.proofs.Common.{◌≡◌, ◌++◌, take, string_bytes}
 use Rattle.std.specs.List.{flat_map}
-use Rattle.desk_texts.specs.Queues.{line_of_queue}
-use Rattle.desk_texts.proofs.queues.put_queues.Given as goal
+use Rattle.desk_texts.specs.Texts.Queues.{line_of_queue}
+use Rattle.desk_texts.proofs.texts.queues.put_queues.Given as goal
 
 abbrev pub invariant-loop-queue : goal.invariant-loop-queue
 invariant-loop-queue l =

@@ -1,6 +1,6 @@
 use Rattle.std.proofs.Common.{rules, arith}
 use Rattle.desk_texts.proofs.Columns.{left-padded}
-use Rattle.desk_texts.proofs.queues.put_line.Goals as goal
+use Rattle.desk_texts.proofs.texts.queues.put_line.Goals as goal
 
 pub returns : goal.returns
 returns c =

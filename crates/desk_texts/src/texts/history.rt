@@ -2,7 +2,7 @@ ghost use Rattle.std.specs.Prelude.{◌≡◌, ◌++◌, IfOk, OnOk, encode_utf8
 ghost use Rattle.std.specs.List.{flat_map};
 ghost use Rattle.hours_core.specs.Date.{text_of_minute};
 ghost use Rattle.desk_texts.specs.Columns as columns;
-ghost use Rattle.desk_texts.specs.History as history;
+ghost use Rattle.desk_texts.specs.Texts.History as history;
 
 use desk_model::{Entry, EntryKind};
 use hours_core::minute_text;
@@ -20,7 +20,7 @@ pub fn history_text(alloc: Global, entries: &[Entry]) -> Result<String, AllocErr
     Ok(out)
 }
 
-#[tactic(auto, unfolding(crate::specs::History::entry_line))]
+#[tactic(auto, unfolding(crate::specs::Texts::History::entry_line))]
 fn put_entry(out: &mut String, entry: &Entry) -> Result<(), AllocError>
     ensures { OnOk result (string_bytes out.new
         ≡ string_bytes out.old ++ history.entry_line entry.now) }
@@ -42,7 +42,7 @@ fn put_moment(out: &mut String, entry: &Entry) -> Result<(), AllocError>
 }
 
 /// A number, a moment and a person, each with a space after it.
-#[tactic(auto, unfolding(crate::specs::History::columns))]
+#[tactic(auto, unfolding(crate::specs::Texts::History::columns))]
 fn put_columns(out: &mut String, number: u32, moment: &str, person: &str) -> Result<(), AllocError>
     ensures { OnOk result (string_bytes out.new
         ≡ string_bytes out.old ++ history.columns number moment.now person.now) }

@@ -3,8 +3,8 @@ use Rattle.std.proofs.Common.{◌≡◌, ◌∙◌, ℕ, List, [], ◌∷◌, �
 use Rattle.std.proofs.lemmas.Iterator.{YieldsList-from_chars}
 use Rattle.std.proofs.lemmas.Iterator.Consumers.{YieldsList-end}
 use Rattle.std.specs.List.{flat_map}
-use Rattle.desk_texts.specs.History.{escape}
-use Rattle.desk_texts.proofs.history.put_on_one_line.Goals as goal
+use Rattle.desk_texts.specs.Texts.History.{escape}
+use Rattle.desk_texts.proofs.texts.history.put_on_one_line.Goals as goal
 
 as_they_are : (xs : List ℕ) → xs ≡ map (λ x. x) xs
 as_they_are [] = refl
