@@ -7,7 +7,7 @@ use Rattle.std.specs.Bool.{nat_lt}
 use Rattle.std.specs.Cmp.{IsTotalOrder, unsigned_ties}
 use Rattle.std.specs.List.{list_all, list_any}
 use Rattle.std.specs.Option.{is_some}
-use Rattle.std.specs.Ordering.{is_eq, is_lt, nat_cmp, request, ordering_reverse, ordering_then, then_cmp}
+use Rattle.std.specs.Ordering.{is_eq, is_lt, nat_cmp, on, ordering_reverse, ordering_then, then_cmp}
 use Rattle.std.specs.declared.cmp.Ordering.{Ordering}
 use Rattle.std.specs.declared.cmp.Ordering.TheVariants.{Less, Equal, Greater}
 use Rattle.desk_model.specs.Change.{applied, link_put, link_taken}
@@ -27,8 +27,8 @@ use Rattle.desk_core.proofs.Rising.{orders_go_on, orders_part, placed_rises}
 
 abbrev link_order : LinkRow → LinkRow → Ordering
 link_order =
-    then_cmp (request (λ l. l.source) nat_cmp)
-    (then_cmp (request (λ l. kind_number l.kind) nat_cmp) (request (λ l. l.target) nat_cmp))
+    then_cmp (on (λ l. l.source) nat_cmp)
+    (then_cmp (on (λ l. kind_number l.kind) nat_cmp) (on (λ l. l.target) nat_cmp))
 
 link_order_total : IsTotalOrder link_order
 link_order_total =
