@@ -16,7 +16,7 @@ use Rattle.desk_core.proofs.DeskLaw.Fitting.{Fits}
 use Rattle.desk_core.proofs.DeskLaw.Links.{ends_there, links_rise}
 use Rattle.desk_core.proofs.DeskLaw.Numbers.{stay_numbered}
 use Rattle.desk_core.proofs.DeskLaw.Persons.{persons_after}
-use Rattle.desk_core.proofs.DeskLaw.Queues.{each_in_queue, queues_rise}
+use Rattle.desk_core.proofs.DeskLaw.Queues.{each_in_queue, queues_named, queues_rise}
 pub mod ByKind
 pub mod Entries
 pub mod Fitting
@@ -30,6 +30,7 @@ pub empty_is_desk : IsDesk empty_desk
 empty_is_desk =
     record {
       queues = refl;
+      named = refl;
       requests = refl;
       persons = refl;
       entries = refl;
@@ -44,6 +45,7 @@ desk_applied : (change : Change) (desk : Desk) → Fits desk change → IsDesk d
 desk_applied change desk fits is =
     record {
       queues = queues_rise change desk fits.opens is.queues;
+      named = queues_named change desk fits.named is.named;
       requests = stay_numbered change desk fits.files is.requests;
       persons = persons_after change desk is.persons;
       entries = entries_follow change desk fits.appends is.entries;

@@ -2,6 +2,7 @@
 use Rattle.std.specs.Prelude.{◌≡◌, ℕ, ◌+◌, ◌==◌, Bool, true, ◌&&◌, List, [], ◌∷◌, map, is_some}
 use Rattle.std.specs.List.{list_all}
 use Rattle.std.specs.Ordering.{is_lt}
+use Rattle.text_core.specs.Form.{is_name}
 use Rattle.settings_core.specs.declared.settings.Settings.{Settings}
 use Rattle.desk_model.specs.Desk.{Desk, Request, has_lower_name, queue_at, request_at}
 use Rattle.desk_model.specs.Links.{is_lower_link}
@@ -41,10 +42,12 @@ abbrev pub has_both_ends : Desk → LinkRow → Bool
 has_both_ends desk link =
     is_some (request_at desk link.source) && is_some (request_at desk link.target)
 
--- queue names rise; requests are numbered from 1; each request's persons rise, its entries are its
--- own and numbered from 1, and its queue is there; links rise, and both ends of each are there
+-- queues' names rise, and are names; requests are numbered from 1; each request's persons rise, its
+-- entries are its own and numbered from 1, and its queue is there; links rise, and both ends of each
+-- are there
 pub record IsDesk (desk : Desk) : Type 0 where
   pub queues : is_rising has_lower_name desk.queues ≡ true
+  pub named : list_all (λ q. is_name q.name) desk.queues ≡ true
   pub requests : are_numbered 1 (ids desk) ≡ true
   pub persons : list_all persons_rise desk.requests ≡ true
   pub entries : list_all has_its_entries desk.requests ≡ true

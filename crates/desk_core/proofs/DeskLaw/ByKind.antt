@@ -8,6 +8,7 @@ use Rattle.std.specs.Option.{is_none, is_some, option_map}
 use Rattle.hours_core.specs.Moment.{is_moment}
 use Rattle.settings_core.specs.Settings.{knows}
 use Rattle.settings_core.specs.declared.settings.Settings.{Settings}
+use Rattle.text_core.specs.Form.{is_name}
 use Rattle.desk_model.specs.Change.{no_change, request_filed}
 use Rattle.desk_model.specs.Commands.{plan_of}
 use Rattle.desk_model.specs.Commands.Reply as reply
@@ -30,25 +31,29 @@ use Rattle.desk_model.specs.declared.refusal.Refusal.TheVariants.{BadText, NotFo
 use Rattle.desk_model.specs.declared.rows.Entry.{Entry}
 use Rattle.desk_core.proofs.DeskLaw.Entries.{counts_apart, counts_found}
 use Rattle.desk_core.proofs.DeskLaw.Fitting.{Appends, FilesNext, Fits, FollowOn}
-use Rattle.desk_core.proofs.DeskLaw.Fitting.{LinksAnew, OpensNew, StaysInQueue, has_count}
+use Rattle.desk_core.proofs.DeskLaw.Fitting.{LinksAnew, OpensNamed, OpensNew, StaysInQueue, has_count}
 use Rattle.desk_core.proofs.Every.{every_found}
-use Rattle.desk_core.proofs.Goes.{NoneHolds, none_holds, number_found, passed, rest_passes}
+use Rattle.desk_core.proofs.Goes.{NoneHolds, holding, none_holds, number_found, passed, rest_passes}
 
--- what a plan changes meets this, where the plan's conditions let it pass; a reading changes
--- nothing, which is said in the form of a command on a request, so that one clause covers all
+-- what a plan changes at a call meets this, where the plan's conditions let it pass; a reading
+-- changes nothing, which is said in the form of a command on a request, so that one clause covers all
 -- commands that leave a part alone
-abbrev pub Meets : (Desk → Change → Type 0) → Desk → Plan → Type 0
-Meets P desk (Reads topic answer) =
-    (call : Call) (r : Request) → request_at desk r.row.id ≡ Some r → r.row.id ≡ r.row.id
+abbrev pub MeetsAt : Call → (Desk → Change → Type 0) → Desk → Plan → Type 0
+MeetsAt call P desk (Reads topic answer) =
+    (r : Request) → request_at desk r.row.id ≡ Some r → r.row.id ≡ r.row.id
     → Unit {0} → P desk no_change
-Meets P desk (OnQueue name conditions change) =
-    (call : Call) → NoneHolds (conditions call (facts_on_queue desk name))
+MeetsAt call P desk (OnQueue name conditions change) =
+    NoneHolds (conditions call (facts_on_queue desk name))
     → P desk (change call (facts_on_queue desk name))
-Meets P desk (OnRequest id besides text conditions change) =
-    (call : Call) (r : Request) → request_at desk id ≡ Some r → id ≡ r.row.id
+MeetsAt call P desk (OnRequest id besides text conditions change) =
+    (r : Request) → request_at desk id ≡ Some r → id ≡ r.row.id
     → NoneHolds (another_shown call besides (besides_on besides id desk)
     (conditions call (besides_on besides id desk) (seen_request r)))
     → P desk (change call (besides_on besides id desk) (seen_request r))
+
+-- at every call
+abbrev pub Meets : (Desk → Change → Type 0) → Desk → Plan → Type 0
+Meets P desk plan = (call : Call) → MeetsAt call P desk plan
 
 on_request : (P : Change → Type 0) (call : Call) (desk : Desk) (id : ℕ) (o : Option Request)
     (front : List Condition)
@@ -66,32 +71,40 @@ on_request P call desk id (Some r) front asks change there nothing meets free =
     (rest_passes front _ free)).1)
 
 -- what goes for the plan goes for the change
+pub by_plan_at : (P : Desk → Change → Type 0) (call : Call) (plan : Plan) (front : List Condition)
+    (desk : Desk) → P desk no_change
+    → MeetsAt call P desk plan → first_holding (front ++ conditions_by call (seen_by plan desk) plan)
+    ≡ None
+    → P desk (change_by call (seen_by plan desk) plan)
+by_plan_at P call (Reads topic answer) front desk nothing meets free = nothing
+by_plan_at P call (OnQueue name conditions change) front desk nothing meets free =
+    let facts = facts_on_queue desk name in
+    meets (none_holds (conditions call facts) (rest_passes front (conditions call facts) free))
+by_plan_at P call (OnRequest id Nothing text conditions change) front desk nothing meets free =
+    let facts = besides_on Nothing id desk in
+    on_request (P desk) call desk id (request_at desk id) ((BadText, is_bad_text text) ∷ [])
+    (conditions call facts) (change call facts) refl nothing meets
+    (rest_passes front _ free)
+by_plan_at P call (OnRequest id Dependencies text conditions change) front desk nothing meets free =
+    let facts = besides_on Dependencies id desk in
+    on_request (P desk) call desk id (request_at desk id) ((BadText, is_bad_text text) ∷ [])
+    (conditions call facts) (change call facts) refl nothing meets
+    (rest_passes front _ free)
+by_plan_at P call (OnRequest id (Another kind other) text conditions change) front desk nothing meets
+    free =
+    let facts = besides_on (Another kind other) id desk in
+    on_request (P desk) call desk id (request_at desk id) ((BadText, is_bad_text text) ∷ [])
+    (λ request. (NotFound, is_missing call facts.other) ∷ conditions call facts request)
+    (change call facts) refl nothing meets
+    (rest_passes front _ free)
+
 pub by_plan : (P : Desk → Change → Type 0) (call : Call) (plan : Plan) (front : List Condition)
     (desk : Desk) → P desk no_change
     → Meets P desk plan → first_holding (front ++ conditions_by call (seen_by plan desk) plan)
     ≡ None
     → P desk (change_by call (seen_by plan desk) plan)
-by_plan P call (Reads topic answer) front desk nothing meets free = nothing
-by_plan P call (OnQueue name conditions change) front desk nothing meets free =
-    let facts = facts_on_queue desk name in
-    meets call (none_holds (conditions call facts) (rest_passes front (conditions call facts) free))
-by_plan P call (OnRequest id Nothing text conditions change) front desk nothing meets free =
-    let facts = besides_on Nothing id desk in
-    on_request (P desk) call desk id (request_at desk id) ((BadText, is_bad_text text) ∷ [])
-    (conditions call facts) (change call facts) refl nothing (meets call)
-    (rest_passes front _ free)
-by_plan P call (OnRequest id Dependencies text conditions change) front desk nothing meets free =
-    let facts = besides_on Dependencies id desk in
-    on_request (P desk) call desk id (request_at desk id) ((BadText, is_bad_text text) ∷ [])
-    (conditions call facts) (change call facts) refl nothing (meets call)
-    (rest_passes front _ free)
-by_plan P call (OnRequest id (Another kind other) text conditions change) front desk nothing meets
-    free =
-    let facts = besides_on (Another kind other) id desk in
-    on_request (P desk) call desk id (request_at desk id) ((BadText, is_bad_text text) ∷ [])
-    (λ request. (NotFound, is_missing call facts.other) ∷ conditions call facts request)
-    (change call facts) refl nothing (meets call)
-    (rest_passes front _ free)
+by_plan P call plan front desk nothing meets free =
+    by_plan_at P call plan front desk nothing (meets call) free
 
 pub some_is : {A : Type 0} (o : Option A) → is_none o ≡ false → is_some o ≡ true
 some_is None e = cc
@@ -103,6 +116,13 @@ opens : (desk : Desk) (command : Command)
 opens desk (OpenQueue name lifecycle level) = λ call none. none.1.1.1.0
 opens desk (Create queue subject status requestors) = λ call none. tt
 opens desk other = λ call r there same none. tt
+
+-- the name of a queue that is opened has its form
+named : (desk : Desk) (command : Command)
+    → Meets (λ d change. OpensNamed change.queue) desk (plan_of command)
+named desk (OpenQueue name lifecycle level) = λ call none. holding (is_name name) none.0
+named desk (Create queue subject status requestors) = λ call none. tt
+named desk other = λ call r there same none. tt
 
 -- only creating a request files one: with the next number, in a queue that is there
 files : (desk : Desk) (command : Command)
@@ -238,6 +258,8 @@ change_fits s at caller command desk is free =
     record {
       opens = by_plan (λ d change. OpensNew d change.queue) asks plan front desk tt
           (opens desk command) free;
+      named = by_plan (λ d change. OpensNamed change.queue) asks plan front desk tt
+          (named desk command) free;
       files = by_plan (λ d change. FilesNext d change.filed) asks plan front desk tt
           (files desk command) free;
       stays = by_plan (λ d change. StaysInQueue d change.row) asks plan front desk (no_row desk)

@@ -3,6 +3,7 @@ use Rattle.std.proofs.Common.{◌≡◌, ℕ, ◌+◌, ◌==◌, Bool, true, fal
 use Rattle.std.proofs.Common.{◌||◌, List, [], ◌∷◌, length, Option, Some, None}
 use Rattle.std.specs.List.{list_all}
 use Rattle.std.specs.Option.{is_some}
+use Rattle.text_core.specs.Form.{is_name}
 use Rattle.desk_model.specs.Change.{request_filed}
 use Rattle.desk_model.specs.Desk.{Desk, Request, queue_at, request_at}
 use Rattle.desk_model.specs.Links.{has_link}
@@ -16,6 +17,11 @@ use Rattle.desk_model.specs.declared.rows.RequestRow.{RequestRow}
 abbrev pub OpensNew : Desk → Option QueueRow → Type 0
 OpensNew desk None = Unit {0}
 OpensNew desk (Some queue) = is_some (queue_at desk queue.name) ≡ false
+
+-- a queue that is opened has a name
+abbrev pub OpensNamed : Option QueueRow → Type 0
+OpensNamed None = Unit {0}
+OpensNamed (Some queue) = is_name queue.name ≡ true
 
 -- a request that is filed has the next number, and its queue is there
 abbrev pub FilesNext : Desk → Option RequestRow → Type 0
@@ -62,6 +68,7 @@ pub record Appends (desk : Desk) (change : Change) : Type 0 where
 
 pub record Fits (desk : Desk) (change : Change) : Type 0 where
   pub opens : OpensNew desk change.queue
+  pub named : OpensNamed change.queue
   pub files : FilesNext desk change.filed
   pub stays : StaysInQueue desk change.row
   pub links : LinksAnew desk change.linked

@@ -1,4 +1,4 @@
--- The queues rise, and the queue of each request is there.
+-- The queues rise and have names, and the queue of each request is there.
 use Rattle.std.proofs.Common.{◌≡◌, ◌∙◌, ℕ, Bool, true, false, ◌&&◌, ◌||◌, cond}
 use Rattle.std.proofs.Common.{List, [], ◌∷◌, find, Option, Some, None, refl, ap}
 use Rattle.std.proofs.lemmas.Bool.{and_from}
@@ -6,6 +6,7 @@ use Rattle.std.proofs.lemmas.List.Folds.{list_all-append}
 use Rattle.std.specs.List.{list_all}
 use Rattle.std.specs.Option.{is_some}
 use Rattle.std.specs.Str.{bytes_eq}
+use Rattle.text_core.specs.Form.{is_name}
 use Rattle.desk_model.specs.Change.{applied, entry_put, filed, queue_put, request_filed, with_entry}
 use Rattle.desk_model.specs.Desk.{Desk, Request, has_lower_name, placed, queue_at}
 use Rattle.desk_model.specs.IsDesk.{is_rising}
@@ -13,10 +14,10 @@ use Rattle.desk_model.specs.declared.change.Change.{Change}
 use Rattle.desk_model.specs.declared.rows.QueueRow.{QueueRow}
 use Rattle.desk_model.specs.declared.rows.RequestRow.{RequestRow}
 use Rattle.desk_model.specs.declared.rows.WatchRole.TheVariants.{Requestor, Cc, AdminCc}
-use Rattle.desk_core.proofs.DeskLaw.Fitting.{FilesNext, OpensNew, StaysInQueue, queue_in}
+use Rattle.desk_core.proofs.DeskLaw.Fitting.{FilesNext, OpensNamed, OpensNew, StaysInQueue, queue_in}
 use Rattle.desk_core.proofs.DeskLaw.Stages.{HoldsAtPersons, HoldsAtRow, all_revised}
 use Rattle.desk_core.proofs.DeskLaw.Stages.{all_with_links, by_all, queues_after, with_links}
-use Rattle.desk_core.proofs.Every.{every_so}
+use Rattle.desk_core.proofs.Every.{every_placed, every_so}
 use Rattle.desk_core.proofs.Rising.{is_apart, names_part, placed_rises}
 
 -- there is a queue of that name among these
@@ -51,6 +52,20 @@ pub queues_rise : (change : Change) (desk : Desk) → OpensNew desk change.queue
 queues_rise change desk new rises =
     ap (is_rising has_lower_name) (queues_after change desk)
     ∙ opened_rises change.queue desk new rises
+
+opened_named : (o : Option QueueRow) (desk : Desk) → OpensNamed o
+    → list_all (λ q. is_name q.name) desk.queues ≡ true
+    → list_all (λ q. is_name q.name) (queue_put o desk).queues ≡ true
+opened_named None desk named all = all
+opened_named (Some queue) desk named all =
+    every_placed (λ q. is_name q.name) has_lower_name desk.queues queue named all
+
+pub queues_named : (change : Change) (desk : Desk) → OpensNamed change.queue
+    → list_all (λ q. is_name q.name) desk.queues ≡ true
+    → list_all (λ q. is_name q.name) (applied change desk).queues ≡ true
+queues_named change desk named all =
+    ap (list_all (λ q. is_name q.name)) (queues_after change desk)
+    ∙ opened_named change.queue desk named all
 
 -- a queue stays where one more is placed
 still_found : (lower : QueueRow → QueueRow → Bool) (queues : List QueueRow) (queue : QueueRow)
