@@ -1,4 +1,4 @@
-use crate::words::{Failure, halves, minute_of_day, number};
+use crate::failure::{Failure, halves, minute_of_day, number};
 use hours_core::{Calendar, HoursFault, Intervals, Zone};
 use std::alloc::{AllocError, Global};
 

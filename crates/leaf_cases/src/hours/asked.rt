@@ -1,4 +1,4 @@
-use crate::words::{Failure, count, halves, moment};
+use crate::failure::{Failure, count, halves, moment};
 use hours_core::{Calendar, Level, Limit, Minute, Probes, date_of, minute_text};
 use text_core::Text;
 
@@ -43,6 +43,7 @@ fn asked(
         "due" => due(rt, calendar, line, words, false),
         "bounded" => bounded(rt, calendar, line, words),
         "greatest" => greatest(rt, calendar, line, words),
+        "ends" => ends(rt, calendar, line, words),
         _ => Err(Failure::BadLine),
     }
 }
@@ -129,13 +130,11 @@ fn bounded(rt: &impl Print, calendar: &Calendar, line: &str, words: &str) -> Res
 }
 
 /// Goes over the minute of the day that the first word says, from one day to before another. Writes
-/// at how many of them a span begins, and whether each call reads at least as many spans as the
-/// last word says at one of these.
+/// at how many of them a span begins, and the most spans that each call reads at one of these.
 fn greatest(rt: &impl Print, calendar: &Calendar, line: &str, words: &str) -> Result<(), Failure> {
     let (opening, rest) = halves(words, ' ')?;
-    let (from, rest) = halves(rest, ' ')?;
-    let (to, least) = halves(rest, ' ')?;
-    let (opening, least) = (count(opening)?, count(least)?);
+    let (from, to) = halves(rest, ' ')?;
+    let opening = count(opening)?;
     let mut starts = 0u32;
     let mut most = (0, 0);
     for day in count(from)?..count(to)? {
@@ -146,7 +145,7 @@ fn greatest(rt: &impl Print, calendar: &Calendar, line: &str, words: &str) -> Re
             most = (first.max(most.0), add.max(most.1));
         }
     }
-    println!(rt; "{line}: {starts} {}", least <= most.0 && least <= most.1)?;
+    println!(rt; "{line}: {starts} {} {}", most.0, most.1)?;
     Ok(())
 }
 
@@ -159,4 +158,24 @@ fn start_of_span(calendar: &Calendar, number: u32) -> Option<Minute> {
     } else {
         None
     }
+}
+
+/// Adds open minutes from each of so many minutes on, a day's round and round, and writes the sum of
+/// the ends. So one line measures many calls.
+fn ends(rt: &impl Print, calendar: &Calendar, line: &str, words: &str) -> Result<(), Failure> {
+    let (from, rest) = halves(words, ' ')?;
+    let (n, calls) = halves(rest, ' ')?;
+    let (from, n) = (count(from)?, count(n)?);
+    let mut sum = 0u64;
+    for call in 0..count(calls)? {
+        if let Some(end) = end_from(calendar, from.saturating_add(call % 1440), n) {
+            sum = sum.wrapping_add(end.get() as u64);
+        }
+    }
+    println!(rt; "{line}: {sum}")?;
+    Ok(())
+}
+
+fn end_from(calendar: &Calendar, from: u32, n: u32) -> Option<Minute> {
+    calendar.add_open(Minute::new(from)?, n)
 }

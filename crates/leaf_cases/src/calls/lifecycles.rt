@@ -1,4 +1,4 @@
-use crate::forms::texts_of;
+use crate::calls::forms::{texts_of, yes_or_no};
 use lifecycle_core::{Class, Lifecycle, LifecycleFault, Move, MoveRight, Parts};
 use std::alloc::{AllocError, Global};
 use text_core::{Sequence, Text};
@@ -63,10 +63,6 @@ fn class_name(class: Option<Class>) -> &'static str {
         Some(Class::Inactive) => "inactive",
         None => "none",
     }
-}
-
-fn yes_or_no(holds: bool) -> &'static str {
-    if holds { "yes" } else { "no" }
 }
 
 /// The parts that seven words spell: the initial, active and inactive statuses, the status on

@@ -1,18 +1,16 @@
-//! The suite of settings: what each text of the standard input is read as.
+//! Settings: a line `=== NAME` begins a case, which is a text, and after a line `---` questions to
+//! its settings, one in each line.
 //!
-//! A line `=== NAME` begins a case: a text, and after a line `---` questions to its settings, one
-//! in each line. The text `built_in` alone stands for the settings without a text. A line
-//! `%COUNT LINE` of a text stands for that many lines, in which `#` is a number from 0 on, and `+`
-//! the one after it.
-#![tactic(auto)]
+//! The text `built_in` alone stands for the settings without a text. A line `%COUNT LINE` of a text
+//! stands for that many lines, in which `#` is a number from 0 on, and `+` the one after it.
 
 mod changed;
 mod expanded;
-mod questions;
 
+use crate::questions;
+use crate::settings::expanded::expanded;
 use settings_core::{Settings, SettingsFault};
-use std::io::{self, Read};
-use std::process::ExitCode;
+use std::io;
 
 /// What begins the name of a case.
 const BEGIN: &str = "=== ";
@@ -23,19 +21,9 @@ const QUESTIONS: &str = "---\n";
 /// The text that stands for the settings without one.
 const BUILT_IN: &str = "built_in\n";
 
-fn main(rt: HostRuntime) -> ExitCode {
-    match run(&rt) {
-        Ok(()) => ExitCode::from(0),
-        Err(_) => ExitCode::from(1),
-    }
-}
-
-/// Answers each case of the standard input.
-fn run(rt: &HostRuntime) -> io::Result<()> {
-    let mut suite = Vec::new(rt.alloc());
-    rt.reader().read_to_end(&mut suite)?;
-    let suite = str::from_utf8(suite.as_slice()).unwrap_or("");
-    for case in suite.split(BEGIN) {
+/// Writes what each text is read as.
+pub fn run(rt: &HostRuntime, cases: &str) -> io::Result<()> {
+    for case in cases.split(BEGIN) {
         if let Some((name, rest)) = case.split_once('\n') {
             println!(rt; "{BEGIN}{name}")?;
             let (text, questions) = rest.split_once(QUESTIONS).unwrap_or((rest, ""));
@@ -45,9 +33,9 @@ fn run(rt: &HostRuntime) -> io::Result<()> {
     Ok(())
 }
 
-/// Prints what a text is read as, and the answers to the questions.
+/// Writes what a text is read as, and the answers to the questions.
 fn answer(rt: &HostRuntime, text: &str, questions: &str) -> io::Result<()> {
-    let text = expanded::expanded(rt.alloc(), text)?;
+    let text = expanded(rt.alloc(), text)?;
     match read(rt, text.as_str()) {
         Ok(settings) => {
             println!(rt; "settings")?;
@@ -69,7 +57,7 @@ fn read(rt: &HostRuntime, text: &str) -> Result<Settings, SettingsFault> {
     }
 }
 
-/// Prints a fault as scripts tell it.
+/// Writes a fault as scripts tell it.
 fn tell(rt: &HostRuntime, fault: SettingsFault) -> io::Result<()> {
     let number = fault.number();
     let name = fault.name();

@@ -1,6 +1,9 @@
+ghost use Rattle.std.specs.Prelude.{◌<◌};
+
 use hours_core::{Level, Limit, Minute};
-use rights_core::Roles;
+use rights_core::{People, Roles, right};
 use settings_core::Settings;
+use std::alloc::AllocError;
 use std::io;
 
 /// What stands where there is nothing to tell.
@@ -10,16 +13,10 @@ const NONE: &str = "-";
 pub fn ask(rt: &HostRuntime, settings: &Settings, question: &str) -> io::Result<()> {
     let (word, rest) = cut(question);
     match word {
-        "knows" => {
-            let known = settings.people().knows(rest);
-            println!(rt; "{question}: {known}")
-        }
         "token" => {
             let person = settings.person_of_token(rest).unwrap_or(NONE);
             println!(rt; "{question}: {person}")
         }
-        "member" => member(rt, settings, question, rest),
-        "holds" => holds(rt, settings, question, rest),
         "lifecycle" => lifecycle(rt, settings, question, rest),
         "move" => moves(rt, settings, question, rest),
         "open" => open(rt, settings, question, rest),
@@ -29,6 +26,21 @@ pub fn ask(rt: &HostRuntime, settings: &Settings, question: &str) -> io::Result<
             let entries = settings.max_entries();
             println!(rt; "{question}: {requests} {entries}")
         }
+        _ => ask_people(rt, settings.people(), question),
+    }
+}
+
+/// Answers a question to people, and passes over what is none.
+pub fn ask_people(rt: &HostRuntime, people: &People, question: &str) -> io::Result<()> {
+    let (word, rest) = cut(question);
+    match word {
+        "knows" => {
+            let known = people.knows(rest);
+            println!(rt; "{question}: {known}")
+        }
+        "member" => member(rt, people, question, rest),
+        "holds" => holds(rt, people, question, rest),
+        "held" => held(rt, people, question, rest),
         _ => Ok(()),
     }
 }
@@ -39,19 +51,50 @@ fn cut(text: &str) -> (&str, &str) {
 }
 
 /// `member PERSON GROUP`
-fn member(rt: &HostRuntime, settings: &Settings, question: &str, words: &str) -> io::Result<()> {
+fn member(rt: &HostRuntime, people: &People, question: &str, words: &str) -> io::Result<()> {
     let (person, group) = cut(words);
-    let is_member = settings.people().member(person, group);
+    let is_member = people.member(person, group);
     println!(rt; "{question}: {is_member}")
 }
 
 /// `holds PERSON RIGHT QUEUE [ROLE]`
-fn holds(rt: &HostRuntime, settings: &Settings, question: &str, words: &str) -> io::Result<()> {
+fn holds(rt: &HostRuntime, people: &People, question: &str, words: &str) -> io::Result<()> {
     let (person, rest) = cut(words);
     let (right, rest) = cut(rest);
     let (queue, role) = cut(rest);
-    let holds = settings.people().holds(person, right, queue, roles(role));
+    let holds = people.holds(person, right, queue, roles(role));
     println!(rt; "{question}: {holds}")
+}
+
+/// `held PERSONS COUNT`: of so many questions about so many persons `p0`, `p1` and so on, the
+/// standard rights and the queues `q0` to `q49`, how many are answered with yes. So one line
+/// measures many calls.
+fn held(rt: &HostRuntime, people: &People, question: &str, words: &str) -> io::Result<()> {
+    let (persons, count) = cut(words);
+    let persons = persons.parse::<u32>().unwrap_or(0).max(1);
+    let mut held = 0_u32;
+    for number in 0..count.parse::<u32>().unwrap_or(0) {
+        if holds_in_turn(rt, people, persons, number)? {
+            held = held.saturating_add(1);
+        }
+    }
+    println!(rt; "{question}: {held}")
+}
+
+fn holds_in_turn(
+    rt: &impl AllocGlobal,
+    people: &People,
+    persons: u32,
+    number: u32,
+) -> Result<bool, AllocError>
+    requires { 0 < persons }
+{
+    let person = number % persons;
+    let queue = number / 7 % 50;
+    let person = format!(in rt.alloc(); "p{person}")?;
+    let queue = format!(in rt.alloc(); "q{queue}")?;
+    let name = right::STANDARD[(number / 3 % 16) as usize];
+    Ok(people.holds(person.as_str(), name, queue.as_str(), Roles::none()))
 }
 
 /// The roles of one, of all but the requestor's, or of none.

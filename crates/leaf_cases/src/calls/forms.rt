@@ -12,13 +12,13 @@ pub(crate) fn form_answer(
     words: &[String],
 ) -> Result<Option<String>, AllocError> {
     let answer = match (call, words) {
-        ("name", [text]) => truth(is_name(text.as_str())),
-        ("right", [text]) => truth(is_right_name(text.as_str())),
+        ("name", [text]) => yes_or_no(is_name(text.as_str())),
+        ("right", [text]) => yes_or_no(is_right_name(text.as_str())),
         ("subject", [times, text]) => {
-            truth(is_subject(repeated(alloc, times.as_str(), text.as_str())?.as_str()))
+            yes_or_no(is_subject(repeated(alloc, times.as_str(), text.as_str())?.as_str()))
         }
         ("text", [times, text]) => {
-            truth(is_text(repeated(alloc, times.as_str(), text.as_str())?.as_str()))
+            yes_or_no(is_text(repeated(alloc, times.as_str(), text.as_str())?.as_str()))
         }
         ("character", [code]) => character_answer(alloc, code.as_str())?,
         ("order", [text, other]) => order_of(alloc, text.as_str(), other.as_str())?,
@@ -34,24 +34,27 @@ fn list_answer(alloc: Global, call: &str, words: &[String]) -> Result<Option<Str
         ("among", [texts, text]) => {
             let texts = texts_of(alloc, texts.as_str())?;
             let same = texts.contains(text.as_str()) == is_among(texts.as_slice(), text.as_str());
-            truth(same && texts.contains(text.as_str()))
+            yes_or_no(same && texts.contains(text.as_str()))
         }
-        ("repeats", [texts]) => truth(repeats_text(texts_of(alloc, texts.as_str())?.as_slice())),
+        ("repeats", [texts]) => yes_or_no(repeats_text(texts_of(
+            alloc,
+            texts.as_str(),
+        )?.as_slice())),
         ("shares", [texts, others]) => {
             let others = texts_of(alloc, others.as_str())?;
             let texts = texts_of(alloc, texts.as_str())?;
-            truth(shares_text(texts.as_slice(), others.as_slice()))
+            yes_or_no(shares_text(texts.as_slice(), others.as_slice()))
         }
         ("same", [texts, others]) => {
             let others = texts_of(alloc, others.as_str())?;
-            truth(texts_of(alloc, texts.as_str())? == others.clone()?)
+            yes_or_no(texts_of(alloc, texts.as_str())? == others.clone()?)
         }
         _ => return Ok(None),
     };
     Ok(Some(String::from_str(alloc, answer)?))
 }
 
-fn truth(holds: bool) -> &'static str {
+pub(crate) fn yes_or_no(holds: bool) -> &'static str {
     if holds { "yes" } else { "no" }
 }
 
