@@ -1,7 +1,5 @@
 pub use Rattle.service_core.specs.Texts
-pub mod Calls
 pub mod Fault
 pub mod FaultLines
 pub mod Input
 pub mod Script
-pub mod Written

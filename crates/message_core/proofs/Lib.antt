@@ -1,0 +1,3 @@
+pub mod HeadLemmas
+pub mod MessageLemmas
+pub mod OneReading
