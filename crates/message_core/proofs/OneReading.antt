@@ -1,5 +1,5 @@
 -- A stream is read in one way: it has a head or has none, and one head at most.
-use Rattle.std.proofs.Common.{◌≡◌, ◌∙◌, ◌⊎◌, inl, inr, ℕ, List, ◌++◌, Option, Some, Result, ap, sym}
+use Rattle.std.proofs.Common.{◌≡◌, ◌∙◌, inl, inr, ℕ, List, ◌++◌, Option, Some, Result, ap, sym}
 use Rattle.std.proofs.Common.{subst}
 use Rattle.httparse.specs.Grammar.{ReadsRequest, RequestHead}
 use Rattle.httparse.proofs.GrammarLemmas.{request_unique}

@@ -1,5 +1,6 @@
 -- What the head of a message says: its method, its target, its token and the length of its body.
-use Rattle.std.specs.Prelude.{◌≡◌, ℕ, ◌+◌, ◌*◌, ◌-◌, nat_le, nat_lt, min, Bool, ◌&&◌, if◌then◌else◌, List, [], length, map, fold, codes}
+use Rattle.std.specs.Prelude.{◌≡◌, ℕ, ◌+◌, ◌*◌, ◌-◌, nat_le, nat_lt, min, Bool, ◌&&◌, if◌then◌else◌}
+use Rattle.std.specs.Prelude.{List, [], length, map, fold, codes}
 use Rattle.std.specs.Prelude.{Option, Some, None, Result, Ok, Err}
 use Rattle.std.specs.Option.{option_map}
 use Rattle.std.specs.List.{count_by, find, list_all}

@@ -1,5 +1,6 @@
 -- What a stream of bytes is read as.
-use Rattle.std.specs.Prelude.{◌≡◌, ℕ, nat_le, if◌then◌else◌, List, [], ◌++◌, length, take, drop, Option, Result, Ok, Err, ◌⊎◌}
+use Rattle.std.specs.Prelude.{◌≡◌, ◌⊎◌, ℕ, nat_le, if◌then◌else◌, List, ◌++◌, length, take, drop}
+use Rattle.std.specs.Prelude.{Option, Result, Ok, Err}
 use Rattle.httparse.specs.Grammar.{RequestHead}
 use Rattle.stream_core.specs.Streams.{Takes}
 use Rattle.message_core.specs.Head.{StartsWith, LacksHead}
@@ -36,7 +37,8 @@ pub record IsMessage (stream left : List ℕ) (read : Result Message WireFault) 
 -- what is read of a reader's stream is a message or its fault, and the rest is left to the reader
 abbrev pub ReadsMessage : Option (List ℕ) → Option (List ℕ) → Result Message WireFault → Type 0
 ReadsMessage old new read =
-    (taken : List ℕ) × (left : List ℕ) × Takes old new taken left × IsMessage (taken ++ left) left read
+    (taken : List ℕ) × (left : List ℕ)
+    × Takes old new taken left × IsMessage (taken ++ left) left read
 
 -- no head, or the message of a stream or its fault
 abbrev pub Reads : Option (List ℕ) → Option (List ℕ) → Result Message WireFault → Type 0

@@ -1,6 +1,7 @@
 -- The bytes of a reply.
-use Rattle.std.specs.Prelude.{◌≡◌, ◌==◌, ◌||◌, ℕ, Bool, true, false, if◌then◌else◌, List, []}
+use Rattle.std.specs.Prelude.{◌≡◌, ◌==◌, ℕ, Bool, true, false, if◌then◌else◌, List, [], ◌∷◌}
 use Rattle.std.specs.Prelude.{◌++◌, length, Option, Some, None, is_some, codes, decimal, unwrap_or}
+use Rattle.std.specs.List.{list_any}
 use Rattle.http.specs.StatusCode.{reason_phrase}
 use Rattle.message_core.specs.declared.reply.Allow.{Allow}
 use Rattle.message_core.specs.declared.reply.Allow.TheVariants.{Get, GetPost, Post}
@@ -8,12 +9,13 @@ use Rattle.message_core.specs.declared.reply.Reply.{Reply}
 
 -- ---- which replies there are
 
-abbrev pub is_reply_code : ℕ → Bool
-is_reply_code code =
-    (code == 200) || (code == 201) || (code == 400) || (code == 403)
-    || (code == 404) || (code == 405) || (code == 409) || (code == 503)
+abbrev pub reply_codes : List ℕ
+reply_codes = 200 ∷ (201 ∷ (400 ∷ (403 ∷ (404 ∷ (405 ∷ (409 ∷ (503 ∷ [])))))))
 
--- the code is one of the eight, and the methods of the path are told exactly with 405
+abbrev pub is_reply_code : ℕ → Bool
+is_reply_code code = list_any (λ known. code == known) reply_codes
+
+-- the code is one of these, and the methods of the path are told exactly with 405
 pub record IsReply (reply : Reply) : Type 0 where
   pub code : is_reply_code reply.status ≡ true
   pub allow : is_some reply.allow ≡ (reply.status == 405)

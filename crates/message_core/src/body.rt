@@ -1,8 +1,9 @@
 //! The body of a message is taken from a reader, and nothing after it.
-ghost use Rattle.std.specs.Prelude.{◌≡◌, ◌≢◌, ◌≤◌, ◌<◌, ◌+◌, ◌||◌, ◌++◌, List, ℕ, IfOk, IfErr};
+ghost use Rattle.std.specs.Prelude.{◌≡◌, ◌≢◌, ◌≤◌, ◌<◌, ◌+◌, ◌-◌, ◌||◌, ◌++◌, List, ℕ, IfOk, IfErr};
 ghost use Rattle.std.specs.Prelude.{length, Err};
 ghost use Rattle.std.specs.Io.KnownBytes.{Consumes, IsAtEnd};
 ghost use Rattle.stream_core.specs.Seen.{HaveOneReader, has_read_failed, left_in, reads_of};
+ghost use Rattle.stream_core.specs.Streams.{ConsumesAtMost};
 ghost use Rattle.message_core.specs.Body.{EndsWithin};
 ghost use Rattle.message_core.specs.Fault.{tells_failed_read};
 
@@ -27,6 +28,8 @@ pub(crate) fn take_body<R: Read>(
         → EndsWithin wanted (left_in R.remaining reader.old) (left_in R.remaining reader.new) }
     ensures kinds { IfErr result (λ fault. fault ≢ WireFault.Truncated
         → fault ≢ WireFault.Read → fault ≡ WireFault.NoMemory) }
+    ensures taken { ConsumesAtMost (left_in R.remaining reader.old)
+        (left_in R.remaining reader.new) wanted }
     ensures failed { has_read_failed reader.new
         ≡ (tells_failed_read result || has_read_failed reader.old) }
     ensures reads { reads_of reader.new ≤ reads_of reader.old + wanted }
@@ -54,6 +57,8 @@ fn take_some<R: Read>(
         × (n ≡ 0 → IsAtEnd (left_in R.remaining reader.new))) }
     ensures within { IfOk result (λ _. length body.new.items ≤ wanted) }
     ensures kinds { IfErr result (λ fault. fault ≢ WireFault.Read → fault ≡ WireFault.NoMemory) }
+    ensures taken { ConsumesAtMost (left_in R.remaining reader.old)
+        (left_in R.remaining reader.new) (wanted - length body.old.items) }
     ensures failed { has_read_failed reader.new
         ≡ (tells_failed_read result || has_read_failed reader.old) }
     ensures reads { reads_of reader.new ≤ reads_of reader.old + 1 }

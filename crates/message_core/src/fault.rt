@@ -18,7 +18,7 @@ pub enum WireFault {
     /// lines.
     #[error("the message has no head, or too long a head")]
     BadHead = 3,
-    /// The head has a `Transfer-Encoding`, more than one `Content-Length`, or one that isn't digits.
+    /// The head has a `Transfer-Encoding`, two `Content-Length` lines, or one that isn't digits.
     #[error("the length of a body must be stated once, in digits")]
     BadLength = 4,
     /// A read failed.

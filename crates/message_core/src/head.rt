@@ -5,6 +5,7 @@ ghost use Rattle.std.specs.Io.KnownBytes.{Consumes, IsAtEnd, Keeps};
 ghost use Rattle.httparse.specs.Grammar.{HasNoRequest};
 ghost use Rattle.httparse.specs.Spans.{RequestOverflows};
 ghost use Rattle.stream_core.specs.Seen.{HaveOneReader, has_read_failed, left_in, reads_of};
+ghost use Rattle.stream_core.specs.Streams.{ConsumesAtMost};
 ghost use Rattle.message_core.specs.Fault.{tells_failed_read};
 ghost use Rattle.message_core.specs.Head.{HasLimitedHead, IsHead, LacksHead};
 
@@ -70,6 +71,8 @@ fn next_byte<R: Read>(reader: &mut CountedReader<'_, R>) -> Result<Option<u8>, W
         × IsAtEnd (left_in R.remaining reader.new)) }
     ensures err { IfErr result (λ fault. (fault ≡ WireFault.Read)
         × Keeps (left_in R.remaining reader.old) (left_in R.remaining reader.new)) }
+    ensures taken { ConsumesAtMost (left_in R.remaining reader.old)
+        (left_in R.remaining reader.new) 1 }
     ensures failed { has_read_failed reader.new
         ≡ (tells_failed_read result || has_read_failed reader.old) }
     ensures reads { reads_of reader.new ≤ reads_of reader.old + 1 }
@@ -82,9 +85,9 @@ fn next_byte<R: Read>(reader: &mut CountedReader<'_, R>) -> Result<Option<u8>, W
     }
 }
 
-/// The bytes of the head at the front of what the reader has left. It is read byte by byte up to its
-/// last one, so nothing after it is taken. A stream without a head is told after the line feed that
-/// shows it, after 8,192 bytes, or at its end.
+/// The bytes of the head at the front of what the reader has left. It is read byte by byte up to
+/// its last one, so nothing after it is taken. A stream without a head is told after the line feed
+/// that shows it, after 8,192 bytes, or at its end.
 pub(crate) fn take_head<R: Read>(
     alloc: Global,
     reader: &mut CountedReader<'_, R>,
@@ -96,6 +99,8 @@ pub(crate) fn take_head<R: Read>(
         → LacksHead (left_in R.remaining reader.old) (left_in R.remaining reader.new) }
     ensures kinds { IfErr result (λ fault. fault ≢ WireFault.BadHead
         → fault ≢ WireFault.Read → fault ≡ WireFault.NoMemory) }
+    ensures taken { ConsumesAtMost (left_in R.remaining reader.old)
+        (left_in R.remaining reader.new) 8192 }
     ensures failed { has_read_failed reader.new
         ≡ (tells_failed_read result || has_read_failed reader.old) }
     ensures reads { reads_of reader.new ≤ reads_of reader.old + 8192 }

@@ -136,17 +136,24 @@ fn heading_at(
     requires path { IsWithin (length bytes.now) spans.now.path }
     ensures small { IfOk result (λ heading. heading.length ≤ form.body_limit) }
     ensures ok { IfOk result (λ heading. form.heading_by (span_bytes bytes.now spans.now.method)
-        (span_bytes bytes.now spans.now.path) (map (header_bytes bytes.now) lines.now) ≡ Ok heading) }
+        (span_bytes bytes.now spans.now.path) (map (header_bytes bytes.now) lines.now)
+        ≡ Ok heading) }
     ensures err { IfErr result (λ fault. fault ≢ WireFault.NoMemory
         → form.heading_by (span_bytes bytes.now spans.now.method)
-        (span_bytes bytes.now spans.now.path) (map (header_bytes bytes.now) lines.now) ≡ Err fault) }
+        (span_bytes bytes.now spans.now.path) (map (header_bytes bytes.now) lines.now)
+        ≡ Err fault) }
     ensures unread { tells_failed_read result ≡ false }
 {
     let length = stated_length(bytes, lines)?;
     let token = owned_text(alloc, stated_token(bytes, lines))?;
     let method = owned_bytes(alloc, spans.method.of(bytes))?;
     let target = owned_bytes(alloc, spans.path.of(bytes))?;
-    Ok(Heading { method, target, token, length })
+    Ok(Heading {
+        method,
+        target,
+        token,
+        length,
+    })
 }
 
 /// What a head says.

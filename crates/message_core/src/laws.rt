@@ -9,5 +9,4 @@ pub fn reading_law()
     ensures { (stream : List ℕ) (left other : Option (List ℕ))
         (read again : Result Message WireFault)
         → Reads (Some stream) left read → Reads (Some stream) other again → read ≡ again }
-{
-}
+{}

@@ -30,11 +30,7 @@ pub(crate) fn count_named(bytes: &[u8], lines: &[HeaderSpan], name: &str) -> usi
 }
 
 /// The value of the first line of that name.
-pub(crate) fn first_named<'b>(
-    bytes: &'b [u8],
-    lines: &[HeaderSpan],
-    name: &str,
-) -> Option<&'b [u8]>
+pub(crate) fn first_named<'b>(bytes: &'b [u8], lines: &[HeaderSpan], name: &str) -> Option<&'b [u8]>
     requires { All (IsHeaderWithin (length bytes.now)) lines.now }
     ensures { option_map (λ v. v.now) result
         ≡ form.first_value name.now (map (header_bytes bytes.now) lines.now) }

@@ -2,6 +2,7 @@
 ghost use Rattle.std.specs.Prelude.{◌≡◌, ◌≢◌, ◌≤◌, ◌+◌, ◌||◌, Option, List, ℕ, Err};
 ghost use Rattle.std.specs.Io.KnownBytes.{Consumes};
 ghost use Rattle.stream_core.specs.Seen.{HaveOneReader, has_read_failed, left_in, reads_of};
+ghost use Rattle.stream_core.specs.Streams.{ConsumesAtMost};
 ghost use Rattle.message_core.specs.Fault.{tells_failed_read};
 ghost use Rattle.message_core.specs.Head.{IsHead};
 ghost use Rattle.message_core.specs.Message.{Reads, ReadsMessage};
@@ -42,8 +43,9 @@ pub struct Message {
 /// A head is read a byte at a time, so a reader that asks a system each time should stand behind a
 /// buffer.
 pub fn read_message<R: Read>(alloc: Global, reader: &mut R) -> Result<Message, WireFault>
-    ensures { result ≢ Err WireFault.Read → result ≢ Err WireFault.NoMemory
+    ensures read { result ≢ Err WireFault.Read → result ≢ Err WireFault.NoMemory
         → Reads (R.remaining reader.old) (R.remaining reader.new) result }
+    ensures taken { ConsumesAtMost (R.remaining reader.old) (R.remaining reader.new) 73728 }
 {
     let mut reader = CountedReader::new(reader);
     read_message_counted(alloc, &mut reader)
@@ -58,6 +60,8 @@ pub fn read_message_counted<R: Read>(
     ensures one { HaveOneReader reader.new reader.old }
     ensures read { result ≢ Err WireFault.Read → result ≢ Err WireFault.NoMemory
         → Reads (left_in R.remaining reader.old) (left_in R.remaining reader.new) result }
+    ensures taken { ConsumesAtMost (left_in R.remaining reader.old)
+        (left_in R.remaining reader.new) 73728 }
     ensures failed { has_read_failed reader.new
         ≡ (tells_failed_read result || has_read_failed reader.old) }
     ensures reads { reads_of reader.new ≤ reads_of reader.old + 73728 }
@@ -79,6 +83,8 @@ fn read_after<R: Read>(
     ensures read { (had : Option (List ℕ)) → Consumes had (left_in R.remaining reader.old) head.now
         → result ≢ Err WireFault.Read → result ≢ Err WireFault.NoMemory
         → ReadsMessage had (left_in R.remaining reader.new) result }
+    ensures taken { ConsumesAtMost (left_in R.remaining reader.old)
+        (left_in R.remaining reader.new) 65536 }
     ensures failed { has_read_failed reader.new
         ≡ (tells_failed_read result || has_read_failed reader.old) }
     ensures reads { reads_of reader.new ≤ reads_of reader.old + 65536 }

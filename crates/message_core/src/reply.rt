@@ -59,7 +59,12 @@ pub fn put_reply(reply: &Reply, out: &mut Vec<u8>)
 pub fn unavailable_reply() -> &'static [u8]
     ensures { result.now ≡ form.bytes_of form.unavailable }
 {
-    b"HTTP/1.1 503 Service Unavailable\r\nContent-Type: text/plain; charset=utf-8\r\nContent-Length: 23\r\nConnection: close\r\n\r\nrefused 16 Unavailable\n"
+    b"HTTP/1.1 503 Service Unavailable\r\n\
+      Content-Type: text/plain; charset=utf-8\r\n\
+      Content-Length: 23\r\n\
+      Connection: close\r\n\
+      \r\n\
+      refused 16 Unavailable\n"
 }
 
 /// What is written of the body.

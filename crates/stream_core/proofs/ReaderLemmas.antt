@@ -1,7 +1,7 @@
 -- Bytes that a reader has lost in more than one turn.
-use Rattle.std.proofs.Common.{◌∙◌, ℕ, ◌≤◌, ◌-◌, List, [], ◌++◌, length, Option, Some}
+use Rattle.std.proofs.Common.{◌∙◌, ℕ, ◌≤◌, ◌+◌, ◌-◌, List, [], ◌++◌, length, Option, Some}
 use Rattle.std.proofs.Common.{None, refl, ap, sym, append_assoc, length-append, arith}
-use Rattle.std.specs.Io.KnownBytes.{Consumes, IsAtEnd, Keeps}
+use Rattle.std.specs.Io.KnownBytes.{Consumes, IsAtEnd}
 use Rattle.stream_core.specs.Streams.{ConsumesAtMost, Takes}
 
 pub consumes_none : (a : Option (List ℕ)) → Consumes a a []
@@ -16,17 +16,17 @@ consumes_both (Some xs) (Some ys) None x y first second = absurd second
 consumes_both (Some xs) (Some ys) (Some zs) x y first second =
     first ∙ ap (λ (l : List ℕ). x ++ l) second ∙ sym (append_assoc x y zs)
 
--- what a reader kept it has lost none of
-pub keeps_all : (a b : Option (List ℕ)) → Keeps a b → Consumes a b []
-keeps_all None b kept = tt
-keeps_all (Some xs) None kept = absurd kept
-keeps_all (Some xs) (Some ys) kept = sym kept
-
 -- at most that many bytes were lost in two turns
 pub consumes_at_most_both : (a b c : Option (List ℕ)) (x : List ℕ) (most : ℕ) → Consumes a b x
     → ConsumesAtMost b c (most - length x) → length x ≤ most → ConsumesAtMost a c most
 consumes_at_most_both a b c x most first (y, second, few) within =
     (x ++ y, consumes_both a b c x y first second, omega (arith, length-append x y))
+
+-- the same of two bounds
+pub consumes_within : (a b c : Option (List ℕ)) (first second most : ℕ) → ConsumesAtMost a b first
+    → ConsumesAtMost b c second → first + second ≤ most → ConsumesAtMost a c most
+consumes_within a b c first second most (x, one, few) (y, other, fewer) within =
+    (x ++ y, consumes_both a b c x y one other, omega (arith, length-append x y))
 
 -- what was lost stood in front of what is left
 pub takes : (old new : Option (List ℕ)) (taken : List ℕ)

@@ -7,4 +7,5 @@ pub returns-else-spans-le-MAX_LINES-clause-refused :
 returns-else-spans-le-MAX_LINES-clause-refused c = λ _.
     over_found c.args.bytes.now c.parse_request.new.headers c.in-Ok-Complete.spans
     (rw c.in-Ok-Complete.field-0-is at c.in-Ok-Complete.ensures.within)
-    (rw c.in-Ok-Complete.field-0-is at c.in-Ok-Complete.ensures.complete) c.if-spans-le-MAX_LINES.false
+    (rw c.in-Ok-Complete.field-0-is at c.in-Ok-Complete.ensures.complete)
+    c.if-spans-le-MAX_LINES.false

@@ -1,5 +1,5 @@
 -- the number of the digits so far, or one over the limit
-use Rattle.std.proofs.Common.{◌≡◌, ◌≤◌, true, take}
+use Rattle.std.proofs.Common.{◌≡◌, true, take}
 use Rattle.std.specs.Prelude.{min}
 use Rattle.std.specs.List.{list_all}
 use Rattle.message_core.specs.Heading.{is_digit, value_of}

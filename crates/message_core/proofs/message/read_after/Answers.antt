@@ -1,7 +1,6 @@
 -- the head that was lost before, and what follows it
 use Rattle.std.proofs.Common.{◌≡◌, List, ℕ, ap, refl}
 use Rattle.stream_core.specs.Seen.{left_in}
-use Rattle.message_core.specs.declared.fault.WireFault.{WireFault}
 use Rattle.message_core.specs.declared.fault.WireFault.TheVariants.{NoMemory}
 use Rattle.message_core.specs.Message.{message_with}
 use Rattle.message_core.proofs.MessageLemmas.{Sent, bodiless, refused, whole}
