@@ -1,7 +1,8 @@
 -- What a writer has taken of a text.
 use Rattle.std.specs.Prelude.{◌≡◌, ◌≤◌, ◌+◌, ℕ, Bool, true, false, List, ◌∷◌, ◌++◌, Option, length}
 use Rattle.std.specs.Io.KnownBytes.{Appends}
-use Rattle.desk_program.specs.declared.writer.CountedWriter.{CountedWriter}
+use Rattle.stream_core.specs.Seen.{has_write_failed, held_in, writes_of}
+use Rattle.stream_core.specs.declared.writer.CountedWriter.{CountedWriter}
 
 -- a text was written whole, or where a write failed a part from its front that lacks a byte or more
 abbrev pub IsWritten : Bool → Option (List ℕ) → Option (List ℕ) → List ℕ → Type 0
@@ -18,6 +19,6 @@ WritesOn true failed old new text = (failed ≡ true) × (new ≡ old)
 -- a text was written after other texts, in at most as many writes as it has bytes
 pub record Prints {W : Type 0} (contents : W → Option (List ℕ)) (old new : CountedWriter W)
     (text : List ℕ) : Type 0 where
-  pub written :
-      WritesOn old.failed new.failed (contents old.writer.now) (contents new.writer.now) text
-  pub counted : new.writes ≤ old.writes + length text
+  pub written : WritesOn (has_write_failed old) (has_write_failed new)
+      (held_in contents old) (held_in contents new) text
+  pub counted : writes_of new ≤ writes_of old + length text

@@ -1,7 +1,7 @@
 -- what was taken so far, each time by a write that took a byte
 use Rattle.std.proofs.Common.{◌≡◌, ◌≤◌, ◌+◌, ◌-◌, false, length, take}
 use Rattle.std.specs.Io.KnownBytes.{Appends}
-use Rattle.desk_program.proofs.writer.CountedWriter.put_whole.Given as goal
+use Rattle.stream_core.proofs.writer.CountedWriter.put_whole.Given as goal
 
 abbrev pub invariant-loop-taken : goal.invariant-loop-taken
 invariant-loop-taken g l = record {

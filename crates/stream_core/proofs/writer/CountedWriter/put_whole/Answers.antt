@@ -2,8 +2,8 @@
 use Rattle.std.proofs.Common.{◌≡◌, ◌≤◌, ◌-◌, true, false, length, take, drop, arith, length-drop}
 use Rattle.std.proofs.Math.Seq.{take-add}
 use Rattle.std.proofs.lemmas.List.{take_all}
-use Rattle.desk_program.proofs.WriterLemmas.{appends_both, cut_short, fails, fails_not, written_if}
-use Rattle.desk_program.proofs.writer.CountedWriter.put_whole.Goals as goal
+use Rattle.stream_core.proofs.WriterLemmas.{appends_both, cut_short, fails, fails_not, written_if}
+use Rattle.stream_core.proofs.writer.CountedWriter.put_whole.Goals as goal
 
 pub loop-taken-preserved : goal.loop-taken-preserved
 loop-taken-preserved g c =

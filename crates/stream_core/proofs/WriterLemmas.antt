@@ -6,8 +6,8 @@ use Rattle.std.proofs.Common.{arith}
 use Rattle.std.proofs.lemmas.List.{drop_more, take-append-drop}
 use Rattle.std.specs.Io.KnownBytes.{Appends}
 use borrow.Author.Tests.{ne_eqb}
-use Rattle.desk_program.specs.Written.{IsWritten, Prints, WritesOn}
-use Rattle.desk_program.specs.declared.writer.CountedWriter.{CountedWriter}
+use Rattle.stream_core.specs.Written.{IsWritten, Prints, WritesOn}
+use Rattle.stream_core.specs.declared.writer.CountedWriter.{CountedWriter}
 
 pub appends_both : (a b c : Option (List ℕ)) (x y : List ℕ)
     → Appends a b x → Appends b c y → Appends a c (x ++ y)
