@@ -19,6 +19,7 @@ use Rattle.desk_model.specs.declared.rows.Watcher.{Watcher}
 use Rattle.desk_model.specs.declared.rows.WatchRole.{WatchRole}
 use Rattle.desk_model.specs.declared.rows.WatchRole.TheVariants.{Requestor, Cc, AdminCc}
 use Rattle.desk_core.specs.Laws.{ShowsByWatchers}
+use Rattle.desk_core.specs.Shown.{ShowsByList, TellsRoles}
 
 pub same_number : (n : ℕ) → (n == n) ≡ true
 same_number n = eq-eqb n n refl
@@ -52,18 +53,30 @@ in_one person asked r =
       in_the_role person id asked AdminCc r.admin_cc,
     ) refl
 
+-- the watchers of a request tell each person's roles on it
+pub watchers_tell : (person : List ℕ) (r : Request) → TellsRoles person r (watchers_of r)
+watchers_tell person r Requestor = in_one person Requestor r ∙ or-false (is_among r.requestors person)
+watchers_tell person r Cc = in_one person Cc r ∙ or-false (is_among r.cc person)
+watchers_tell person r AdminCc = in_one person AdminCc r
+
+-- a list that tells the person's roles on a request tells them all
+roles_told : (person : List ℕ) (r : Request) (watchers : List Watcher)
+    → TellsRoles person r watchers
+    → roles_among person r.row watchers ≡ roles_on person (seen_request r)
+roles_told person r watchers tells = rw (tells Requestor, tells Cc, tells AdminCc) refl
+
 -- the roles that the watchers tell are the person's on the request
 pub roles_kept : (person : List ℕ) (r : Request)
     → roles_among person r.row (watchers_of r) ≡ roles_on person (seen_request r)
-roles_kept person r =
-    rw (
-      in_one person Requestor r ∙ or-false (is_among r.requestors person),
-      in_one person Cc r ∙ or-false (is_among r.cc person),
-      in_one person AdminCc r,
-    ) refl
+roles_kept person r = roles_told person r (watchers_of r) (watchers_tell person r)
 
--- who may show a request by its watchers may show it
-pub roles_law : (s : Settings) (person : List ℕ) (r : Request) → ShowsByWatchers s person r
-roles_law s person r =
+-- who may show a request by such a list may show it
+pub roles_law : (s : Settings) (person : List ℕ) (r : Request) (watchers : List Watcher)
+    → ShowsByList s person r watchers
+roles_law s person r watchers tells =
     ap (λ (roles : Roles). holds (people_of s) person show_ticket r.row.queue roles)
-    (roles_kept person r)
+    (roles_told person r watchers tells)
+
+-- so by its own watchers
+pub own_roles_law : (s : Settings) (person : List ℕ) (r : Request) → ShowsByWatchers s person r
+own_roles_law s person r = roles_law s person r (watchers_of r) (watchers_tell person r)

@@ -5,16 +5,52 @@ ghost use Rattle.settings_core.specs.declared.settings.Settings.{Settings};
 ghost use Rattle.desk_model.specs.Desk.{Desk, Request, empty_desk};
 ghost use Rattle.desk_model.specs.IsDesk.{IsDesk, KeepsDesk, names_rise};
 ghost use Rattle.desk_model.specs.Names.{in_order};
+ghost use Rattle.desk_model.specs.declared.rows.Watcher.{Watcher};
 ghost use Rattle.desk_core.specs.Laws.{AtEveryStep, HidesTheRest, KeepsDependencyLaw, KeepsHistory};
 ghost use Rattle.desk_core.specs.Laws.{KeepsOwnerLaw, KeepsStatusLaw, LeavesTheDesk};
 ghost use Rattle.desk_core.specs.Laws.{RefusesAsMissing};
 ghost use Rattle.desk_core.specs.Laws.{ShowsByWatchers, TellsDueMoments, TellsOfTheView};
+ghost use Rattle.desk_core.specs.Bounds.{KeepsEntryLimit, KeepsQueueLimit, KeepsRequestLimit};
+ghost use Rattle.desk_core.specs.Histories.{KeepsEntriesLaw, KeepsStatusesTold, TellsStatuses};
+ghost use Rattle.desk_core.specs.Opened.{KeepsOpenedLaw};
+ghost use Rattle.desk_core.specs.Shown.{ShowsByList};
+ghost use Rattle.desk_core.specs.Stays.{KeepsIdentity, KeepsOthers};
 ghost use Rattle.text_core.specs.Texts.{is_among};
 
 /// A request stays, and so do the entries of its history.
 #[tactic(auto, using(crate::proofs::Kept::history_law))]
 pub fn history_law()
     ensures { AtEveryStep KeepsHistory }
+{}
+
+/// A request stays, with its number, its queue, its subject and the moment at which it was filed.
+pub fn identity_law()
+    ensures { AtEveryStep KeepsIdentity }
+{}
+
+/// On a well-formed desk a request that the command doesn't name is the same afterwards: its row,
+/// its persons and its entries.
+pub fn others_law()
+    ensures { AtEveryStep KeepsOthers }
+{}
+
+/// A request stays, and to its entries a step adds none, one, or the two of a reply that moves the
+/// request, each by the caller at the moment of the step.
+pub fn entries_law()
+    ensures { AtEveryStep KeepsEntriesLaw }
+{}
+
+/// The history of each request tells its status: so on the empty desk, and every command leaves it
+/// so on a well-formed one.
+pub fn status_told_law()
+    ensures empty { TellsStatuses empty_desk }
+    ensures step { AtEveryStep KeepsStatusesTold }
+{}
+
+/// A request stays, and where it is moved out of an inactive status to one that isn't inactive, it
+/// is open since the moment of the step: each limit of a level counts from there.
+pub fn opened_law()
+    ensures { AtEveryStep KeepsOpenedLaw }
 {}
 
 /// A request stays, and its owner changes only by taking, stealing, untaking or giving, to the one
@@ -46,6 +82,14 @@ pub fn due_law()
     ensures { AtEveryStep TellsDueMoments }
 {}
 
+/// A command keeps the limits: of 1,000 queues, of the settings' requests, and, on a well-formed desk
+/// where the settings allow an entry at all, of the settings' entries of each request.
+pub fn limits_law()
+    ensures queues { AtEveryStep KeepsQueueLimit }
+    ensures requests { AtEveryStep KeepsRequestLimit }
+    ensures entries { AtEveryStep KeepsEntryLimit }
+{}
+
 /// A reading command leaves the desk as it was.
 pub fn reading_law()
     ensures { AtEveryStep LeavesTheDesk }
@@ -59,9 +103,12 @@ pub fn view_law()
         → HidesTheRest settings caller desk }
 {}
 
-/// The rows of a request's people tell who may show it.
+/// A list of watchers in which a person stands in the roles that the person has on a request tells
+/// whether the person may show it. So do the rows of the request's own people.
 pub fn roles_law()
-    ensures { (settings : Settings) (person : List ℕ) (request : Request)
+    ensures by_list { (settings : Settings) (person : List ℕ) (request : Request)
+        (watchers : List Watcher) → ShowsByList settings person request watchers }
+    ensures own { (settings : Settings) (person : List ℕ) (request : Request)
         → ShowsByWatchers settings person request }
 {}
 

@@ -1,0 +1,9 @@
+-- the laws of the definitions
+use Rattle.desk_core.proofs.Told as told
+use Rattle.desk_core.proofs.laws.status_told_law.Goals as goal
+
+pub returns-clause-empty : goal.returns-clause-empty
+returns-clause-empty c = told.empty_told
+
+pub returns-clause-step : goal.returns-clause-step
+returns-clause-step c = told.status_told_law
