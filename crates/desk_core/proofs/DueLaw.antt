@@ -12,7 +12,8 @@ use Rattle.desk_model.specs.Step.{call}
 use Rattle.desk_model.specs.declared.command.Command.{Command}
 use Rattle.desk_model.specs.declared.rows.RequestRow.{RequestRow}
 use Rattle.desk_core.proofs.Readings.{OwesRight, each_right}
-use Rattle.desk_core.specs.Laws.{IsDue, TellsDueMoments, dues_told}
+use Rattle.desk_model.specs.Readings.{dues_told}
+use Rattle.desk_core.specs.Laws.{IsDue, TellsDueMoments}
 
 no_due : (s : Settings) (desk : Desk) (filed : Option RequestRow)
     → All (IsDue s desk) (dues_told (filed_or_done filed))

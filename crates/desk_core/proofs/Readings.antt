@@ -5,7 +5,7 @@ use Rattle.std.specs.Prelude.{⊤}
 use Rattle.desk_model.specs.Commands.{plan_of}
 use Rattle.desk_model.specs.Plan.{Plan, Reads, OnQueue, OnRequest}
 use Rattle.desk_model.specs.declared.command.Command.{Command}
-use Rattle.desk_model.specs.declared.command.Command.TheVariants.{Queues, Show, History}
+use Rattle.desk_model.specs.declared.command.Command.TheVariants as command
 use Rattle.desk_core.proofs.Readings.History as history
 use Rattle.desk_core.proofs.Readings.Owed.{IsRight}
 use Rattle.desk_core.proofs.Readings.Queues as queues
@@ -21,8 +21,8 @@ OwesRight (Reads topic answer) = IsRight topic answer
 OwesRight (OnQueue name conditions change) = ⊤
 OwesRight (OnRequest id besides text conditions change) = ⊤
 
-pub each_right : (command : Command) → OwesRight (plan_of command)
-each_right Queues = queues.right
-each_right (Show id) = show.right id
-each_right (History id) = history.right id
+pub each_right : (asked : Command) → OwesRight (plan_of asked)
+each_right command.Queues = queues.right
+each_right (command.Show id) = show.right id
+each_right (command.History id) = history.right id
 each_right other = tt

@@ -17,13 +17,13 @@ use Rattle.desk_model.specs.Lifecycles.{lifecycle_of, reopening_of, right_of}
 use Rattle.desk_model.specs.Links.{has_link, link}
 use Rattle.desk_model.specs.Rights.{is_shown}
 use Rattle.desk_model.specs.Step.{answer_of}
+use Rattle.desk_model.specs.Readings.{dues_told}
 use Rattle.desk_model.specs.Refusals.{number_of}
 use Rattle.desk_model.specs.Rights.{holds_on, may_show}
 use Rattle.desk_model.specs.Step.{Outcome, desk_after, outcome_of}
 use Rattle.desk_model.specs.View.{view}
 use Rattle.desk_model.specs.Watchers.{may_show_by, watchers_of}
 use Rattle.desk_model.specs.declared.answer.Answer.{Answer}
-use Rattle.desk_model.specs.declared.answer.Answer.TheVariants as answer
 use Rattle.desk_model.specs.declared.command.Command.{Command}
 use Rattle.desk_model.specs.declared.command.Command.TheVariants.{SetStatus, Take, Steal}
 use Rattle.desk_model.specs.declared.command.Command.TheVariants.{Untake, Give, Reply}
@@ -146,14 +146,6 @@ DependencyLaw settings old new =
 abbrev pub KeepsDependencyLaw : Settings → ℕ → List ℕ → Command → Desk → Type 0
 KeepsDependencyLaw settings at caller command desk =
     DependencyLaw settings desk (desk_after settings at caller command desk)
-
--- the due moments that an answer tells, each with the number of its request
-abbrev pub dues_told : Answer → List (ℕ × Option ℕ)
-dues_told answer.Done = []
-dues_told (answer.Created id) = []
-dues_told (answer.Queues queues) = []
-dues_told (answer.Shown shown) = (shown.row.id, shown.due) ∷ []
-dues_told (answer.History entries) = []
 
 -- the request is there, and this is when it is due
 abbrev pub IsDue : Settings → Desk → ℕ × Option ℕ → Type 0

@@ -177,7 +177,7 @@ impl<'c> Context<'c> {
     {
         let request = self.shown()?;
         match &self.facts.other {
-            Some(other) if self.may_show(other) => Ok(request),
+            Some(other) if self.is_shown(other) => Ok(request),
             _ => Err(Refusal::NotFound),
         }
     }
@@ -190,16 +190,16 @@ impl<'c> Context<'c> {
             × (is_missing (call_of self.now) self.now.facts.now.request ≡ true)) }
     {
         match &self.facts.request {
-            Some(request) if self.may_show(request) => Ok(request),
+            Some(request) if self.is_shown(request) => Ok(request),
             _ => Err(Refusal::NotFound),
         }
     }
 
     /// Whether the caller may show the request.
-    fn may_show(&self, request: &SeenRequest) -> bool
+    fn is_shown(&self, request: &SeenRequest) -> bool
         ensures { result ≡ rights.may_show self.now.settings.now self.now.caller.now request.now }
     {
-        request.may_show(self.settings, self.caller)
+        request.is_shown_to(self.settings, self.caller)
     }
 
     /// Whether a person holds a right on the request, with the person's roles on it.

@@ -27,8 +27,7 @@ impl RequestRow {
             (option_map (λ l. l.now) lifecycle.entry) at status.now self.now) }
     {
         let to = Text::new(alloc, status)?;
-        let mut moved = self.clone()?;
-        moved.status = to;
+        let mut moved = self.with_status(to)?;
         if opens_anew(lifecycle, self.status.as_str(), status) {
             moved.opened = at;
             moved.since = at;

@@ -39,7 +39,7 @@ pub fn sees_queue(settings: &Settings, person: &str, queue: &QueueRow) -> bool
 impl SeenRequest {
     /// Whether the person may show the request.
     #[tactic(auto, unfolding(rights_core::specs::Right::show_ticket))]
-    pub fn may_show(&self, settings: &Settings, person: &str) -> bool
+    pub fn is_shown_to(&self, settings: &Settings, person: &str) -> bool
         ensures { result ≡ rights.may_show settings.now person.now self.now }
     {
         self.is_held(settings, person, right::SHOW_TICKET)
@@ -47,7 +47,7 @@ impl SeenRequest {
 
     /// Whether the person may show the comments of the request.
     #[tactic(auto, unfolding(rights_core::specs::Right::show_ticket_comments))]
-    pub fn may_show_comments(&self, settings: &Settings, person: &str) -> bool
+    pub fn shows_comments_to(&self, settings: &Settings, person: &str) -> bool
         ensures { result ≡ rights.may_show_comments settings.now person.now self.now }
     {
         self.is_held(settings, person, right::SHOW_TICKET_COMMENTS)

@@ -1,4 +1,4 @@
-ghost use Rattle.std.specs.Prelude.{◌≡◌};
+ghost use Rattle.std.specs.Prelude.{◌≡◌, IfOk};
 ghost use Rattle.desk_model.specs.Readings.History.{is_comment};
 
 use hours_core::Minute;
@@ -40,13 +40,13 @@ pub struct RequestRow {
     pub since: Minute,
 }
 
-impl Clone for RequestRow {
-    ghost is_clone = { λ row copy. copy ≡ row };
-
-    fn clone(&self) -> Result<RequestRow, AllocError> {
+impl RequestRow {
+    /// A copy with this status in place of the row's own.
+    pub(crate) fn with_status(&self, status: Text) -> Result<RequestRow, AllocError>
+        ensures { IfOk result (λ row. row ≡ record self.now { status = status }) }
+    {
         let queue = self.queue.clone()?;
         let subject = self.subject.clone()?;
-        let status = self.status.clone()?;
         let owner = self.owner.clone()?;
         let level = self.level.clone()?;
         Ok(RequestRow {
@@ -57,6 +57,15 @@ impl Clone for RequestRow {
             level,
             ..*self
         })
+    }
+}
+
+impl Clone for RequestRow {
+    ghost is_clone = { λ row copy. copy ≡ row };
+
+    fn clone(&self) -> Result<RequestRow, AllocError> {
+        let status = self.status.clone()?;
+        self.with_status(status)
     }
 }
 

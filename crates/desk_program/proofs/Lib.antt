@@ -1,8 +1,7 @@
 pub mod DeskUnchanged
 pub mod InputFaults
 pub mod LedLines
+pub mod LongInput
 pub mod MarkerSearch
 pub mod PrintedLines
 pub mod ReadSettings
-pub mod ReaderLemmas
-pub mod WriterLemmas

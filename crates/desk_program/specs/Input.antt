@@ -1,7 +1,6 @@
 -- A script's input: settings, a line `%%`, and commands, a line each.
 use Rattle.std.specs.Prelude.{◌≡◌, ◌≢◌, ◌≤◌, ◌<◌, ◌⊎◌, ℕ, List, [], ◌∷◌, ◌++◌, take, drop, length}
 use Rattle.std.specs.Prelude.{Option, Some, None, IfSome, Result, Ok, Err, codes, if◌then◌else◌}
-use Rattle.std.specs.Io.KnownBytes.{Consumes}
 use Rattle.std.specs.List.{All}
 use Rattle.std.specs.Str.{bytes_eq, is_utf8}
 use Rattle.std.specs.Str.Lines.{lines}
@@ -15,10 +14,6 @@ use Rattle.desk_program.specs.declared.fault.InputFault.TheVariants.{NoMarker, T
 -- the most bytes of a script
 abbrev pub input_limit : ℕ
 input_limit = 1048576
-
--- a reader lost at most that many bytes
-abbrev pub ConsumesAtMost : Option (List ℕ) → Option (List ℕ) → ℕ → Type 0
-ConsumesAtMost old new most = (bytes : List ℕ) × Consumes old new bytes × (length bytes ≤ most)
 
 -- what a reader has left, where it is known, is more than a script may have
 abbrev pub IsLong : Option (List ℕ) → Type 0

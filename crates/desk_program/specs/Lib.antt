@@ -1,6 +1,4 @@
-pub mod Calls
 pub mod Fault
 pub mod FaultLines
 pub mod Input
 pub mod Script
-pub mod Written

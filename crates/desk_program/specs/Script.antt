@@ -22,7 +22,7 @@ use Rattle.wire_core.specs.Words.{words_of}
 use Rattle.desk_program.specs.FaultLines.{attach_fault_text, input_fault_text}
 use Rattle.desk_program.specs.FaultLines.{settings_fault_text, store_fault_text, unavailable_text}
 use Rattle.desk_program.specs.Input.{GivesSettings, IsScript, Script}
-use Rattle.desk_program.specs.Written.{IsWritten}
+use Rattle.stream_core.specs.Written.{IsWritten}
 use Rattle.desk_program.specs.declared.fault.InputFault.{InputFault}
 use Rattle.desk_program.specs.declared.fault.InputFault.TheVariants.{Read}
 use Rattle.desk_program.specs.declared.line.Line.{Line}

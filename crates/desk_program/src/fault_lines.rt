@@ -1,21 +1,22 @@
 ghost use Rattle.std.specs.Prelude.{◌≡◌};
+ghost use Rattle.stream_core.specs.Seen.{HaveOneWriter};
+ghost use Rattle.stream_core.specs.Written.{Prints};
 ghost use Rattle.desk_program.specs.FaultLines.{attach_fault_text, input_fault_text, inner_text};
 ghost use Rattle.desk_program.specs.FaultLines.{numbered, numbered_line, settings_fault_text};
 ghost use Rattle.desk_program.specs.FaultLines.{store_fault_text, unavailable_text};
-ghost use Rattle.desk_program.specs.Written.{Prints};
 
 use crate::fault::InputFault;
-use crate::writer::CountedWriter;
 use desk_core::Refusal;
 use itoa::Buffer;
 use service_core::AttachFault;
 use settings_core::SettingsFault;
 use std::io::Write;
 use store_core::StoreFault;
+use stream_core::CountedWriter;
 
 /// Prints the line of a fault of the input.
 pub(crate) fn put_input_fault<W: Write>(output: &mut CountedWriter<'_, W>, fault: InputFault)
-    ensures same_writer { output.new.writer.ghost_name ≡ output.old.writer.ghost_name }
+    ensures same_writer { HaveOneWriter output.new output.old }
     ensures printed { Prints W.contents output.old output.new (input_fault_text fault) }
 {
     output.put(b"input: ");
@@ -25,7 +26,7 @@ pub(crate) fn put_input_fault<W: Write>(output: &mut CountedWriter<'_, W>, fault
 
 /// Prints the line of a fault of the settings.
 pub(crate) fn put_settings_fault<W: Write>(output: &mut CountedWriter<'_, W>, fault: SettingsFault)
-    ensures same_writer { output.new.writer.ghost_name ≡ output.old.writer.ghost_name }
+    ensures same_writer { HaveOneWriter output.new output.old }
     ensures printed { Prints W.contents output.old output.new (settings_fault_text fault) }
 {
     output.put(b"settings:");
@@ -36,7 +37,7 @@ pub(crate) fn put_settings_fault<W: Write>(output: &mut CountedWriter<'_, W>, fa
 
 /// Prints the number and the name of the fault inside one, if there is one.
 fn put_inner<W: Write>(output: &mut CountedWriter<'_, W>, fault: SettingsFault)
-    ensures same_writer { output.new.writer.ghost_name ≡ output.old.writer.ghost_name }
+    ensures same_writer { HaveOneWriter output.new output.old }
     ensures printed { Prints W.contents output.old output.new (inner_text fault) }
 {
     if let Some((number, name)) = fault.inner() {
@@ -46,7 +47,7 @@ fn put_inner<W: Write>(output: &mut CountedWriter<'_, W>, fault: SettingsFault)
 
 /// Prints the line of a fault of the store.
 pub(crate) fn put_store_fault<W: Write>(output: &mut CountedWriter<'_, W>, fault: StoreFault)
-    ensures same_writer { output.new.writer.ghost_name ≡ output.old.writer.ghost_name }
+    ensures same_writer { HaveOneWriter output.new output.old }
     ensures printed { Prints W.contents output.old output.new (store_fault_text fault) }
 {
     put_numbered_line(output, b"store:", fault.number(), fault.name());
@@ -54,7 +55,7 @@ pub(crate) fn put_store_fault<W: Write>(output: &mut CountedWriter<'_, W>, fault
 
 /// Prints the line of a fault of attaching.
 pub(crate) fn put_attach_fault<W: Write>(output: &mut CountedWriter<'_, W>, fault: AttachFault)
-    ensures same_writer { output.new.writer.ghost_name ≡ output.old.writer.ghost_name }
+    ensures same_writer { HaveOneWriter output.new output.old }
     ensures printed { Prints W.contents output.old output.new (attach_fault_text fault) }
 {
     put_numbered_line(output, b"attach:", fault.number(), fault.name());
@@ -67,7 +68,7 @@ fn put_numbered_line<W: Write>(
     number: u8,
     name: &str,
 )
-    ensures same_writer { output.new.writer.ghost_name ≡ output.old.writer.ghost_name }
+    ensures same_writer { HaveOneWriter output.new output.old }
     ensures printed { Prints W.contents output.old output.new
         (numbered_line word.now number name.now) }
 {
@@ -78,7 +79,7 @@ fn put_numbered_line<W: Write>(
 
 /// Prints that a line was left out, since there was no memory for it.
 pub(crate) fn put_unavailable<W: Write>(output: &mut CountedWriter<'_, W>)
-    ensures same_writer { output.new.writer.ghost_name ≡ output.old.writer.ghost_name }
+    ensures same_writer { HaveOneWriter output.new output.old }
     ensures printed { Prints W.contents output.old output.new unavailable_text }
 {
     let refusal = Refusal::Unavailable;
@@ -89,7 +90,7 @@ pub(crate) fn put_unavailable<W: Write>(output: &mut CountedWriter<'_, W>)
 
 /// Prints a number and a name, each after a space.
 fn put_numbered<W: Write>(output: &mut CountedWriter<'_, W>, number: u8, name: &str)
-    ensures same_writer { output.new.writer.ghost_name ≡ output.old.writer.ghost_name }
+    ensures same_writer { HaveOneWriter output.new output.old }
     ensures printed { Prints W.contents output.old output.new (numbered number name.now) }
 {
     let mut buffer = Buffer::new();

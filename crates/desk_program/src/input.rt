@@ -2,13 +2,15 @@ ghost use Rattle.std.specs.Prelude.{◌≡◌, ◌≢◌, ◌≤◌, ◌<◌, �
 ghost use Rattle.std.specs.Prelude.{Ok, Err, None, length, IfOk, IfErr, IfSome, if◌then◌else◌};
 ghost use Rattle.std.specs.Option.{option_map};
 ghost use Rattle.std.specs.Io.KnownBytes.{Consumes, IsAtEnd};
+ghost use Rattle.stream_core.specs.Seen.{HaveOneReader, left_in, reads_of};
+ghost use Rattle.stream_core.specs.Streams.{ConsumesAtMost};
 ghost use Rattle.desk_program.specs.Input as form;
 
 use crate::fault::InputFault;
-use crate::reader::CountedReader;
 use std::alloc::Global;
 use std::io::Read;
 use std::str;
+use stream_core::CountedReader;
 
 /// The most bytes of a script.
 pub(crate) const MAX_INPUT: usize = 1_048_576;
@@ -32,15 +34,15 @@ pub(crate) fn take_input<R: Read>(
     alloc: Global,
     reader: &mut CountedReader<'_, R>,
 ) -> Result<Vec<u8>, InputFault>
-    ensures same_reader { reader.new.reader.ghost_name ≡ reader.old.reader.ghost_name }
+    ensures same_reader { HaveOneReader reader.new reader.old }
     ensures whole { IfOk result (λ taken. (length taken.items ≤ form.input_limit)
-        × IfSome (R.remaining reader.old.reader.now) (λ all. all ≡ taken.items)) }
+        × IfSome (left_in R.remaining reader.old) (λ all. all ≡ taken.items)) }
     ensures long { result ≡ Err InputFault.TooLong
-        → form.IsLong (R.remaining reader.old.reader.now) }
+        → form.IsLong (left_in R.remaining reader.old) }
     ensures kinds { IfErr result (λ fault. fault ≢ InputFault.TooLong → fault ≡ InputFault.Read) }
-    ensures taken { form.ConsumesAtMost (R.remaining reader.old.reader.now)
-        (R.remaining reader.new.reader.now) (form.input_limit + 1) }
-    ensures reads { reader.new.reads ≤ reader.old.reads + 1048577 }
+    ensures taken { ConsumesAtMost (left_in R.remaining reader.old)
+        (left_in R.remaining reader.new) (form.input_limit + 1) }
+    ensures reads { reads_of reader.new ≤ reads_of reader.old + 1048577 }
 {
     let mut taken = Vec::new(alloc);
     for turn in 0..MAX_READS {
@@ -63,15 +65,15 @@ fn take_some<R: Read>(
     taken: &mut Vec<u8>,
 ) -> Result<usize, InputFault>
     requires { length taken.old.items ≤ form.input_limit }
-    ensures same_reader { reader.new.reader.ghost_name ≡ reader.old.reader.ghost_name }
+    ensures same_reader { HaveOneReader reader.new reader.old }
     ensures some { IfOk result (λ n. (length taken.new.items ≡ length taken.old.items + n)
         × ((bytes : List ℕ) × (taken.new.items ≡ taken.old.items ++ bytes)
-        × Consumes (R.remaining reader.old.reader.now) (R.remaining reader.new.reader.now) bytes)
-        × (n ≡ 0 → IsAtEnd (R.remaining reader.new.reader.now))) }
+        × Consumes (left_in R.remaining reader.old) (left_in R.remaining reader.new) bytes)
+        × (n ≡ 0 → IsAtEnd (left_in R.remaining reader.new))) }
     ensures err { IfErr result (λ fault. fault ≡ InputFault.Read) }
-    ensures taken { form.ConsumesAtMost (R.remaining reader.old.reader.now)
-        (R.remaining reader.new.reader.now) (form.input_limit + 1 - length taken.old.items) }
-    ensures reads { reader.new.reads ≤ reader.old.reads + 1 }
+    ensures taken { ConsumesAtMost (left_in R.remaining reader.old)
+        (left_in R.remaining reader.new) (form.input_limit + 1 - length taken.old.items) }
+    ensures reads { reads_of reader.new ≤ reads_of reader.old + 1 }
 {
     let mut chunk = [0u8; CHUNK];
     let room = CHUNK.min(MAX_INPUT + 1 - taken.len());

@@ -5,19 +5,20 @@ ghost use Rattle.store_core.specs.Seen.{state_of};
 ghost use Rattle.store_tables.specs.Stands.{StandsFor};
 ghost use Rattle.desk_model.specs.Desk.{empty_desk};
 ghost use Rattle.service_core.specs.Seen.{settings_of, tables_of};
+ghost use Rattle.stream_core.specs.Seen.{HaveOneWriter};
+ghost use Rattle.stream_core.specs.Written.{Prints};
 ghost use Rattle.desk_program.specs.Script.{AnswersCommands, HasCleanDisks, IsCommandsOutput};
 ghost use Rattle.desk_program.specs.Script.{LineLeads, line_of};
-ghost use Rattle.desk_program.specs.Written.{Prints};
 
 use crate::fault_lines::{put_attach_fault, put_store_fault, put_unavailable};
 use crate::line::answer_line;
-use crate::writer::CountedWriter;
 use service_core::Desk;
 use settings_core::Settings;
 use sqlite::Alter;
 use std::alloc::Global;
 use std::io::Write;
 use store_core::Store;
+use stream_core::CountedWriter;
 
 /// The exit status of a script that ran, refused lines included.
 const DONE: u8 = 0;
@@ -32,7 +33,7 @@ pub(crate) fn run_in_memory<W: Write>(
     commands: &str,
     output: &mut CountedWriter<'_, W>,
 ) -> u8
-    ensures same_writer { output.new.writer.ghost_name ≡ output.old.writer.ghost_name }
+    ensures same_writer { HaveOneWriter output.new output.old }
     ensures printed { (text : List ℕ)
         × IsCommandsOutput (Ok settings) commands.now text result
         × Prints W.contents output.old output.new text }
@@ -57,7 +58,7 @@ fn run_in_store<S: Alter + Drop, W: Write>(
 ) -> u8
     requires clean { HasCleanDisks S.Store }
     requires blank { IsBlank (state_of S.Store store) }
-    ensures same_writer { output.new.writer.ghost_name ≡ output.old.writer.ghost_name }
+    ensures same_writer { HaveOneWriter output.new output.old }
     ensures printed { (text : List ℕ)
         × IsCommandsOutput (Ok settings) commands.now text result
         × Prints W.contents output.old output.new text }
@@ -83,7 +84,7 @@ fn run_on_tables<S: Alter + Drop, W: Write>(
 ) -> u8
     requires clean { HasCleanDisks S.Store }
     requires empty { StandsFor empty_desk (state_of S.Store store) }
-    ensures same_writer { output.new.writer.ghost_name ≡ output.old.writer.ghost_name }
+    ensures same_writer { HaveOneWriter output.new output.old }
     ensures printed { (text : List ℕ)
         × IsCommandsOutput (Ok settings) commands.now text result
         × Prints W.contents output.old output.new text }
@@ -112,7 +113,7 @@ fn run_lines<S: Alter, W: Write>(
 )
     requires clean { HasCleanDisks S.Store }
     requires empty { StandsFor empty_desk (tables_of S.Store desk.old) }
-    ensures same_writer { output.new.writer.ghost_name ≡ output.old.writer.ghost_name }
+    ensures same_writer { HaveOneWriter output.new output.old }
     ensures printed { (text : List ℕ)
         × AnswersCommands (settings_of S.Store desk.old) commands.now text
         × Prints W.contents output.old output.new text }
@@ -132,7 +133,7 @@ fn run_line<S: Alter, W: Write>(
     line: &str,
     output: &mut CountedWriter<'_, W>,
 )
-    ensures same_writer { output.new.writer.ghost_name ≡ output.old.writer.ghost_name }
+    ensures same_writer { HaveOneWriter output.new output.old }
     ensures same { settings_of S.Store desk.new ≡ settings_of S.Store desk.old }
     ensures printed { (text : List ℕ)
         × LineLeads (settings_of S.Store desk.old) (line_of line.now) text

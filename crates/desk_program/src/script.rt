@@ -1,19 +1,20 @@
 ghost use Rattle.std.specs.Prelude.{◌≡◌, ◌≤◌, ◌+◌, ℕ, List, IfSome, Result, if◌then◌else◌};
 ghost use Rattle.desk_program.specs.Input as form;
-ghost use Rattle.desk_program.specs.Input.{ConsumesAtMost};
 ghost use Rattle.desk_program.specs.Script as script;
 ghost use Rattle.desk_program.specs.Script.{RunsScript};
-ghost use Rattle.desk_program.specs.Written.{Prints};
+ghost use Rattle.stream_core.specs.Seen.{HaveOneReader, HaveOneWriter, has_write_failed, left_in};
+ghost use Rattle.stream_core.specs.Seen.{reads_of, writes_of};
+ghost use Rattle.stream_core.specs.Streams.{ConsumesAtMost};
+ghost use Rattle.stream_core.specs.Written.{Prints};
 
 use crate::fault::InputFault;
 use crate::fault_lines::{put_input_fault, put_settings_fault};
 use crate::input::{script_of, take_input};
-use crate::reader::CountedReader;
 use crate::run::run_in_memory;
-use crate::writer::CountedWriter;
 use settings_core::{Settings, SettingsFault};
 use std::alloc::Global;
 use std::io::{Read, Write};
+use stream_core::{CountedReader, CountedWriter};
 
 /// The exit status where the settings have a fault.
 const BAD_SETTINGS: u8 = 3;
@@ -41,10 +42,10 @@ impl Ended {
         reader: &CountedReader<'_, R>,
         output: &CountedWriter<'_, W>,
     ) -> Ended
-        ensures status { result.status ≡ (if output.now.failed then 4 else status) }
-        ensures reads { result.reads ≡ reader.now.reads }
-        ensures writes { result.writes ≡ output.now.writes }
-        ensures failed { result.failed ≡ output.now.failed }
+        ensures status { result.status ≡ (if has_write_failed output.now then 4 else status) }
+        ensures reads { result.reads ≡ reads_of reader.now }
+        ensures writes { result.writes ≡ writes_of output.now }
+        ensures failed { result.failed ≡ has_write_failed output.now }
     {
         Ended {
             status: if output.failed() { BAD_INPUT } else { status },
@@ -93,14 +94,14 @@ fn print_script<R: Read, W: Write>(
     reader: &mut CountedReader<'_, R>,
     output: &mut CountedWriter<'_, W>,
 ) -> u8
-    ensures same_reader { reader.new.reader.ghost_name ≡ reader.old.reader.ghost_name }
-    ensures same_writer { output.new.writer.ghost_name ≡ output.old.writer.ghost_name }
+    ensures same_reader { HaveOneReader reader.new reader.old }
+    ensures same_writer { HaveOneWriter output.new output.old }
     ensures printed { (input : List ℕ) × (text : List ℕ)
-        × IfSome (R.remaining reader.old.reader.now) (λ all. all ≡ input)
+        × IfSome (left_in R.remaining reader.old) (λ all. all ≡ input)
         × script.IsOutput input text result × Prints W.contents output.old output.new text }
-    ensures taken { ConsumesAtMost (R.remaining reader.old.reader.now)
-        (R.remaining reader.new.reader.now) 1048577 }
-    ensures reads { reader.new.reads ≤ reader.old.reads + 1048577 }
+    ensures taken { ConsumesAtMost (left_in R.remaining reader.old)
+        (left_in R.remaining reader.new) 1048577 }
+    ensures reads { reads_of reader.new ≤ reads_of reader.old + 1048577 }
 {
     match take_input(alloc, reader) {
         Ok(input) => run_input(alloc, input.as_slice(), output),
@@ -113,7 +114,7 @@ fn print_script<R: Read, W: Write>(
 
 /// Runs an input that isn't too long.
 fn run_input<W: Write>(alloc: Global, input: &[u8], output: &mut CountedWriter<'_, W>) -> u8
-    ensures same_writer { output.new.writer.ghost_name ≡ output.old.writer.ghost_name }
+    ensures same_writer { HaveOneWriter output.new output.old }
     ensures printed { (found : Result form.Script InputFault) × (text : List ℕ)
         × form.IsScriptWithin input.now found × script.IsScriptOutput found text result
         × Prints W.contents output.old output.new text }
@@ -134,7 +135,7 @@ fn run_commands<W: Write>(
     commands: &str,
     output: &mut CountedWriter<'_, W>,
 ) -> u8
-    ensures same_writer { output.new.writer.ghost_name ≡ output.old.writer.ghost_name }
+    ensures same_writer { HaveOneWriter output.new output.old }
     ensures printed { (given : Result Settings SettingsFault) × (text : List ℕ)
         × form.GivesSettings settings.now given
         × script.IsCommandsOutput given commands.now text result

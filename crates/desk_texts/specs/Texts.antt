@@ -12,9 +12,11 @@ use Rattle.desk_model.specs.declared.answer.Shown.{Shown}
 use Rattle.desk_model.specs.declared.refusal.Refusal.{Refusal}
 use Rattle.desk_model.specs.declared.refusal.Refusal.TheVariants.{Denied}
 use Rattle.desk_model.specs.declared.rows.RequestRow.{RequestRow}
-use Rattle.desk_texts.specs.History.{history_text}
-use Rattle.desk_texts.specs.Queues.{queues_text}
+use Rattle.desk_texts.specs.Texts.History.{history_text}
+use Rattle.desk_texts.specs.Texts.Queues.{queues_text}
 use Rattle.desk_texts.specs.Words.{or_dash}
+pub mod History
+pub mod Queues
 
 -- a label, its value and a line feed
 unfoldable pub line : List ℕ → List ℕ → List ℕ

@@ -1,11 +1,16 @@
 ghost use Rattle.std.specs.Prelude.{◌≡◌, ◌++◌, [], IfOk, codes, string_bytes};
 ghost use Rattle.desk_texts.specs.Texts as text;
 
-use crate::history::history_text;
-use crate::queues::queues_text;
-use crate::shown::show_text;
 use desk_model::{Answer, Refusal};
 use std::alloc::{AllocError, Global};
+
+pub mod history;
+pub mod queues;
+pub mod shown;
+
+use history::history_text;
+use queues::queues_text;
+use shown::show_text;
 
 /// The text of an answer: `ok`, `request N`, a line for each queue, the lines of a request, or one
 /// for each entry.

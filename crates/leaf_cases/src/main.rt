@@ -1,72 +1,46 @@
-//! Cases of the crates below the desk: each line of the standard input is a call with its
-//! arguments, and is printed with the call's answer.
+//! Cases of the crates below the desk. The standard input has parts, each under a line `## NAME`:
 //!
-//! The first word names the call; the words after it are read as those of a command. An empty line,
-//! or one that begins with `#`, is printed as it stands.
+//! - `calls`, of text_core, lifecycle_core and wire_core;
+//! - `hours`, of calendars and moments;
+//! - `people`, of persons, groups and grants;
+//! - `settings`, of texts and what they are read as.
+//!
+//! Each part says in its module how a case stands there. A name that is none ends all.
 #![tactic(auto)]
 
-mod forms;
-mod lifecycles;
-mod words;
+mod calls;
+mod failure;
+mod hours;
+mod people;
+mod questions;
+mod settings;
 
-use crate::forms::form_answer;
-use crate::lifecycles::lifecycle_answer;
-use crate::words::{command_answer, words_answer};
-use lifecycle_core::Lifecycle;
-use std::alloc::{AllocError, Global};
-use std::io;
-use std::process::ExitCode;
-use wire_core::words_of;
+use crate::failure::Failure;
+use std::io::Read;
 
-fn main(rt: HostRuntime) -> ExitCode {
-    match run_cases(&rt) {
-        Ok(()) => ExitCode::from(0),
-        Err(_) => ExitCode::from(1),
-    }
-}
+/// What begins the name of a part.
+const PART: &str = "## ";
 
-/// Prints each line with its answer.
-fn run_cases(rt: &HostRuntime) -> io::Result<()> {
-    let mut lifecycle = None;
-    for line in rt.lines(rt.alloc()) {
-        let line = line?;
-        let line = line.as_str();
-        if line.is_empty() || line.starts_with('#') {
-            println!(rt; "{line}")?;
-        } else {
-            let answer = answer_to(rt.alloc(), &mut lifecycle, line)?;
-            println!(rt; "{line} => {answer}")?;
+fn main(rt: HostRuntime) -> Result<(), Failure> {
+    let mut input = Vec::new(rt.alloc());
+    rt.reader().read_to_end(&mut input)?;
+    let text = str::from_utf8(input.as_slice()).unwrap_or("");
+    for part in text.split(PART) {
+        if let Some((name, cases)) = part.split_once('\n') {
+            println!(rt; "{PART}{name}")?;
+            run_part(&rt, name, cases)?;
         }
     }
     Ok(())
 }
 
-/// The answer to a line. Questions about a lifecycle are about the one that was built last.
-fn answer_to(
-    alloc: Global,
-    lifecycle: &mut Option<Lifecycle>,
-    line: &str,
-) -> Result<String, AllocError> {
-    let (call, rest) = line.split_once(' ').unwrap_or((line, ""));
-    match call {
-        "words" => words_answer(alloc, rest),
-        "command" => command_answer(alloc, rest),
-        _ => called(alloc, lifecycle, call, rest),
-    }
-}
-
-/// The answer to a call whose arguments are words.
-fn called(
-    alloc: Global,
-    lifecycle: &mut Option<Lifecycle>,
-    call: &str,
-    rest: &str,
-) -> Result<String, AllocError> {
-    let Ok(words) = words_of(alloc, rest) else {
-        return String::from_str(alloc, "bad quotes");
-    };
-    match form_answer(alloc, call, words.as_slice())? {
-        Some(answer) => Ok(answer),
-        None => lifecycle_answer(alloc, lifecycle, call, words.as_slice()),
+/// Runs the cases of a part.
+fn run_part(rt: &HostRuntime, name: &str, cases: &str) -> Result<(), Failure> {
+    match name {
+        "calls" => Ok(calls::run(rt, cases)?),
+        "hours" => hours::run(rt, cases),
+        "people" => people::run(rt, cases),
+        "settings" => Ok(settings::run(rt, cases)?),
+        _ => Err(Failure::BadLine),
     }
 }

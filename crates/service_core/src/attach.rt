@@ -14,11 +14,10 @@ use crate::fault::AttachFault;
 use crate::known::{knows_actors, knows_rows};
 use desk_core::RequestRow;
 use settings_core::Settings;
-use sqlite::Alter;
 use std::alloc::Global;
-use store_core::{Store, StoreFault};
+use store_core::{Backend, Store, StoreFault};
 
-impl<S: Alter> Desk<S> {
+impl<S: Backend> Desk<S> {
     /// The desk over these tables, with these settings. Answers `Store` where a row is no value of
     /// its type, or the store or memory refuses it, and otherwise `UnknownName` where the settings
     /// lack a name of the tables; the store is given back with either. The tables stay as they are.
@@ -56,7 +55,7 @@ impl<S: Alter> Desk<S> {
 
 /// Whether the settings know each name of the tables. The tables stay as they are.
 #[tactic(auto, using(store_tables::proofs::Spared::joined, store_tables::proofs::Spared::stands))]
-fn is_known<S: Alter>(
+fn is_known<S: Backend>(
     alloc: Global,
     store: &mut Store<S>,
     settings: &Settings,
@@ -76,7 +75,7 @@ fn is_known<S: Alter>(
 /// Whether the settings know each name in the lists of queues and watchers, and in these requests.
 /// The tables stay as they are.
 #[tactic(auto, using(store_tables::proofs::Spared::joined, store_tables::proofs::Spared::stands))]
-fn knows_lists<S: Alter>(
+fn knows_lists<S: Backend>(
     alloc: Global,
     store: &mut Store<S>,
     settings: &Settings,
@@ -96,7 +95,7 @@ fn knows_lists<S: Alter>(
 }
 
 /// Reads the links: they have no names, but each has to be one. The tables stay as they are.
-fn read_links<S: Alter>(alloc: Global, store: &mut Store<S>) -> Result<(), StoreFault>
+fn read_links<S: Backend>(alloc: Global, store: &mut Store<S>) -> Result<(), StoreFault>
     ensures kept { Spares (state_of S.Store store.old) (state_of S.Store store.new) }
     ensures fault { OnlyRefuses
         (state_of S.Store store.old) (state_of S.Store store.new) result }
@@ -109,7 +108,7 @@ fn read_links<S: Alter>(alloc: Global, store: &mut Store<S>) -> Result<(), Store
 
 /// Whether the settings know those who made the entries of these requests. The tables stay as they
 /// are.
-fn knows_histories<S: Alter>(
+fn knows_histories<S: Backend>(
     alloc: Global,
     store: &mut Store<S>,
     settings: &Settings,
@@ -132,7 +131,7 @@ fn knows_histories<S: Alter>(
 
 /// Whether the settings know those who made the entries of the request with that number. The
 /// tables stay as they are.
-fn knows_history<S: Alter>(
+fn knows_history<S: Backend>(
     alloc: Global,
     store: &mut Store<S>,
     settings: &Settings,

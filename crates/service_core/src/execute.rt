@@ -12,11 +12,10 @@ use crate::desk::Desk;
 use crate::reading;
 use desk_core::{Answer, Change, Command, Facts, Refusal, decide};
 use settings_core::Settings;
-use sqlite::Alter;
 use std::alloc::Global;
-use store_core::Store;
+use store_core::{Backend, Store};
 
-impl<S: Alter> Desk<S> {
+impl<S: Backend> Desk<S> {
     /// One command by a caller at a moment, in minutes since 1970-01-01 00:00 UTC: its answer, or
     /// the refusal that is called for. A change is written in one transaction.
     ///
@@ -44,7 +43,7 @@ impl<S: Alter> Desk<S> {
 
 /// One command on the desk of these tables.
 #[tactic(auto, using(store_tables::proofs::Spared::stands))]
-fn step<S: Alter>(
+fn step<S: Backend>(
     alloc: Global,
     store: &mut Store<S>,
     settings: &Settings,
@@ -70,7 +69,7 @@ fn step<S: Alter>(
 }
 
 /// One command with its facts.
-fn decided<S: Alter>(
+fn decided<S: Backend>(
     alloc: Global,
     store: &mut Store<S>,
     settings: &Settings,
@@ -98,7 +97,7 @@ fn decided<S: Alter>(
 
 /// A command that isn't refused: its answer, once its change is made.
 #[tactic(auto, using(store_tables::proofs::Spared::stands))]
-fn carry_out<S: Alter>(
+fn carry_out<S: Backend>(
     alloc: Global,
     store: &mut Store<S>,
     settings: &Settings,
@@ -123,7 +122,7 @@ fn carry_out<S: Alter>(
 }
 
 /// Writes a change, and tells which request it filed, or that it is done.
-fn write<S: Alter>(store: &mut Store<S>, change: &Change) -> Result<Answer, Refusal>
+fn write<S: Backend>(store: &mut Store<S>, change: &Change) -> Result<Answer, Refusal>
     ensures told { IfOk result (λ answer. answer ≡ told_of change.now) }
     ensures done { OnOk result
         (Writes change.now (state_of S.Store store.old) (state_of S.Store store.new)) }

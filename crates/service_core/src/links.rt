@@ -8,9 +8,8 @@ ghost use Rattle.service_core.specs.Shown as shown;
 
 use desk_core::{Command, Facts, LinkKind, LinkRow, Links, Refusal, is_kind};
 use settings_core::Settings;
-use sqlite::Alter;
 use std::alloc::{AllocError, Global};
-use store_core::{Store, StoreFault};
+use store_core::{Backend, Store, StoreFault};
 use text_core::Sequence;
 
 /// An end of a link.
@@ -35,7 +34,7 @@ impl End {
 /// The requests that one is linked with, as far as the caller may show them. `Unavailable` where
 /// memory or the store refused. The tables stay as they are.
 #[tactic(auto, using(store_tables::proofs::Spared::joined))]
-pub(crate) fn links_of<S: Alter>(
+pub(crate) fn links_of<S: Backend>(
     alloc: Global,
     store: &mut Store<S>,
     settings: &Settings,
@@ -57,7 +56,7 @@ pub(crate) fn links_of<S: Alter>(
 }
 
 /// The links of which the caller may show the request at this end.
-fn shown_at<S: Alter>(
+fn shown_at<S: Backend>(
     alloc: Global,
     store: &mut Store<S>,
     settings: &Settings,
@@ -82,7 +81,7 @@ fn shown_at<S: Alter>(
 }
 
 /// Whether the request with this number is there and the caller may show it.
-fn is_shown<S: Alter>(
+fn is_shown<S: Backend>(
     alloc: Global,
     store: &mut Store<S>,
     settings: &Settings,
@@ -96,7 +95,7 @@ fn is_shown<S: Alter>(
 {
     match facts_on(alloc, store, id) {
         Ok(facts) => {
-            let shown = may_show(settings, caller, &facts);
+            let shown = is_shown_in(settings, caller, &facts);
             drop(facts);
             Ok(shown)
         }
@@ -105,7 +104,7 @@ fn is_shown<S: Alter>(
 }
 
 /// What is seen of the request with this number, and of its queue.
-fn facts_on<S: Alter>(alloc: Global, store: &mut Store<S>, id: u32) -> Result<Facts, StoreFault>
+fn facts_on<S: Backend>(alloc: Global, store: &mut Store<S>, id: u32) -> Result<Facts, StoreFault>
     ensures told { Tells (λ desk facts. facts ≡ facts_on_request desk id)
         (state_of S.Store store.old) (state_of S.Store store.new) result }
     ensures kept { Spares (state_of S.Store store.old) (state_of S.Store store.new) }
@@ -117,11 +116,11 @@ fn facts_on<S: Alter>(alloc: Global, store: &mut Store<S>, id: u32) -> Result<Fa
 }
 
 /// Whether the request of these facts is there and the caller may show it.
-fn may_show(settings: &Settings, caller: &str, facts: &Facts) -> bool
+fn is_shown_in(settings: &Settings, caller: &str, facts: &Facts) -> bool
     ensures { result ≡ shown.may_show_in settings.now caller.now facts.now }
 {
     match &facts.request {
-        Some(request) => request.may_show(settings, caller),
+        Some(request) => request.is_shown_to(settings, caller),
         None => false,
     }
 }

@@ -14,14 +14,13 @@ use desk_core::{
 };
 use hours_core::Minute;
 use settings_core::Settings;
-use sqlite::Alter;
 use std::alloc::Global;
-use store_core::Store;
+use store_core::{Backend, Store};
 use text_core::Sequence;
 
 /// What a command that reads answers, with its facts. `Unavailable` where memory or the store
 /// refused, and for a command that changes the desk. The tables stay as they are.
-pub(crate) fn read<S: Alter>(
+pub(crate) fn read<S: Backend>(
     alloc: Global,
     store: &mut Store<S>,
     settings: &Settings,
@@ -44,7 +43,7 @@ pub(crate) fn read<S: Alter>(
 
 /// The queues that the caller may see. `Unavailable` where memory or the store refused. The tables
 /// stay as they are.
-fn queues<S: Alter>(
+fn queues<S: Backend>(
     alloc: Global,
     store: &mut Store<S>,
     settings: &Settings,
@@ -70,7 +69,7 @@ fn queues_seen(settings: &Settings, caller: &str, mut queues: Vec<QueueRow>) -> 
 
 /// The request that a command sees, as it is shown to the caller. `Unavailable` where memory or the
 /// store refused. The tables stay as they are.
-fn show<S: Alter>(
+fn show<S: Backend>(
     alloc: Global,
     store: &mut Store<S>,
     settings: &Settings,
@@ -100,7 +99,7 @@ fn due_in(settings: &Settings, facts: &Facts) -> Option<Minute>
 }
 
 /// A request with this due moment, as it is shown to the caller.
-fn shown_to<S: Alter>(
+fn shown_to<S: Backend>(
     alloc: Global,
     store: &mut Store<S>,
     settings: &Settings,
@@ -135,7 +134,7 @@ fn shown_with(request: SeenRequest, due: Option<Minute>, links: Links) -> Shown
 
 /// The history of the request that a command sees, as far as it is told to the caller.
 /// `Unavailable` where memory or the store refused. The tables stay as they are.
-fn history<S: Alter>(
+fn history<S: Backend>(
     alloc: Global,
     store: &mut Store<S>,
     settings: &Settings,
@@ -155,7 +154,7 @@ fn history<S: Alter>(
 }
 
 /// The history of a request, as far as it is told to the caller.
-fn told_to<S: Alter>(
+fn told_to<S: Backend>(
     alloc: Global,
     store: &mut Store<S>,
     settings: &Settings,
@@ -168,7 +167,7 @@ fn told_to<S: Alter>(
     ensures kept { Spares (state_of S.Store store.old) (state_of S.Store store.new) }
     ensures fault { IfErr result (λ refusal. refusal ≡ Refusal.Unavailable) }
 {
-    let comments = request.may_show_comments(settings, caller);
+    let comments = request.shows_comments_to(settings, caller);
     let entries = store.entries_of(alloc, request.row.id)?;
     Ok(Answer::History(told(entries, comments)))
 }

@@ -7,10 +7,10 @@ ghost use Rattle.service_core.specs.Seen.{settings_of, tables_of};
 
 use crate::desk::Desk;
 use desk_core::{Answer, Command, Refusal};
-use sqlite::Alter;
 use std::alloc::{AllocError, Global};
+use store_core::Backend;
 
-impl<S: Alter> Desk<S> {
+impl<S: Backend> Desk<S> {
     /// Executes the commands in their order, each at its moment, in minutes since 1970-01-01 00:00
     /// UTC, and by its caller: what comes of each. One that is `Unavailable` changes nothing.
     ///

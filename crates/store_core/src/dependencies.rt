@@ -12,7 +12,7 @@ use desk_core::{Dependency, LinkKind, LinkRow, QueueRow, RequestRow};
 use sqlite::{Alter, Connection};
 use std::alloc::Global;
 use store_tables::StoreFault;
-use store_tables::reads::links_by_key::links_from;
+use store_tables::reads::links_by_key::links_of_kind;
 use store_tables::reads::requests_by_key::request_numbered;
 use text_core::Sequence;
 
@@ -32,7 +32,7 @@ pub(crate) fn dependencies_of<S: Alter>(
         (state S.Store conn.old) (state S.Store conn.new) result }
     ensures fault { IfErr result (λ e. e ≢ StoreFault.WrongVersion) }
 {
-    let links = links_from(alloc, conn, id, LinkKind::DependsOn)?;
+    let links = links_of_kind(alloc, conn, id, LinkKind::DependsOn)?;
     dependencies_by(alloc, conn, links.as_slice())
 }
 

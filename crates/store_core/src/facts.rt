@@ -194,10 +194,7 @@ fn counted(alloc: Global, queue: Option<QueueRow>, queue_count: u32, request_cou
         queue,
         queue_count,
         request_count,
-        request: None,
-        other: None,
-        is_linked: false,
-        dependencies: Sequence::from(Vec::new(alloc)),
+        ..no_facts(alloc)
     }
 }
 
@@ -207,12 +204,8 @@ fn filed(alloc: Global, queue: Option<QueueRow>, request: Option<SeenRequest>) -
 {
     Facts {
         queue,
-        queue_count: 0,
-        request_count: 0,
         request,
-        other: None,
-        is_linked: false,
-        dependencies: Sequence::from(Vec::new(alloc)),
+        ..no_facts(alloc)
     }
 }
 
@@ -221,13 +214,8 @@ fn with_dependencies(facts: Facts, dependencies: Sequence<Dependency>) -> Facts
     ensures { result ≡ found.with_dependencies facts dependencies }
 {
     Facts {
-        queue: facts.queue,
-        queue_count: facts.queue_count,
-        request_count: facts.request_count,
-        request: facts.request,
-        other: facts.other,
-        is_linked: facts.is_linked,
         dependencies,
+        ..facts
     }
 }
 
@@ -236,13 +224,9 @@ fn with_link(facts: Facts, other: Option<SeenRequest>, is_linked: bool) -> Facts
     ensures { result ≡ found.with_link facts other is_linked }
 {
     Facts {
-        queue: facts.queue,
-        queue_count: facts.queue_count,
-        request_count: facts.request_count,
-        request: facts.request,
         other,
         is_linked,
-        dependencies: facts.dependencies,
+        ..facts
     }
 }
 

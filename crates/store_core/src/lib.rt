@@ -14,5 +14,7 @@ mod opening;
 mod seen_request;
 pub mod store;
 
+/// What keeps the tables of a store: memory, or a file.
+pub use sqlite::Alter as Backend;
 pub use store::Store;
 pub use store_tables::StoreFault;

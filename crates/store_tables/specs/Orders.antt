@@ -1,5 +1,5 @@
 -- The orders in which lists are read: each by its key.
-use Rattle.std.specs.Ordering.{nat_cmp, request, then_cmp}
+use Rattle.std.specs.Ordering.{nat_cmp, on, then_cmp}
 use Rattle.std.specs.declared.cmp.Ordering.{Ordering}
 use Rattle.std.specs.Cmp.Lexicographic.{slice_cmp}
 use Rattle.desk_model.specs.Links.{kind_number}
@@ -18,13 +18,13 @@ by_id a b = nat_cmp a.id b.id
 
 -- within one request: by role and person
 abbrev pub by_role : Watcher → Watcher → Ordering
-by_role = then_cmp (request (λ w. role_number w.role) nat_cmp) (request (λ w. w.person) (slice_cmp nat_cmp))
+by_role = then_cmp (on (λ w. role_number w.role) nat_cmp) (on (λ w. w.person) (slice_cmp nat_cmp))
 
 -- by request, role and person
 abbrev pub by_watcher : Watcher → Watcher → Ordering
 by_watcher =
-    then_cmp (request (λ w. w.id) nat_cmp)
-    (then_cmp (request (λ w. role_number w.role) nat_cmp) (request (λ w. w.person) (slice_cmp nat_cmp)))
+    then_cmp (on (λ w. w.id) nat_cmp)
+    (then_cmp (on (λ w. role_number w.role) nat_cmp) (on (λ w. w.person) (slice_cmp nat_cmp)))
 
 -- of links with one source and kind: by the target
 abbrev pub by_target : LinkRow → LinkRow → Ordering
@@ -33,8 +33,8 @@ by_target a b = nat_cmp a.target b.target
 -- by source, kind and target
 abbrev pub by_link : LinkRow → LinkRow → Ordering
 by_link =
-    then_cmp (request (λ l. l.source) nat_cmp)
-    (then_cmp (request (λ l. kind_number l.kind) nat_cmp) (request (λ l. l.target) nat_cmp))
+    then_cmp (on (λ l. l.source) nat_cmp)
+    (then_cmp (on (λ l. kind_number l.kind) nat_cmp) (on (λ l. l.target) nat_cmp))
 
 -- within one request: by number
 abbrev pub by_number : Entry → Entry → Ordering
@@ -42,4 +42,4 @@ by_number a b = nat_cmp a.number b.number
 
 -- by request and number
 abbrev pub by_entry : Entry → Entry → Ordering
-by_entry = then_cmp (request (λ e. e.id) nat_cmp) (request (λ e. e.number) nat_cmp)
+by_entry = then_cmp (on (λ e. e.id) nat_cmp) (on (λ e. e.number) nat_cmp)

@@ -12,7 +12,8 @@ use Rattle.desk_model.specs.declared.answer.Answer.TheVariants as answer
 use Rattle.desk_model.specs.declared.rows.Entry.{Entry}
 use Rattle.desk_core.proofs.InView.{filter_within, found_in_view}
 use Rattle.desk_core.proofs.Readings.Owed.{IsRight}
-use Rattle.desk_core.specs.Laws.{IsDue, dues_told}
+use Rattle.desk_model.specs.Readings.{dues_told}
+use Rattle.desk_core.specs.Laws.{IsDue}
 
 -- in the view the same entries are told
 entries_alike : (s : Settings) (caller : List ℕ) (r : Request)

@@ -9,7 +9,8 @@ use Rattle.desk_model.specs.Plan.{Call, Topic, OneRequest, WholeDesk}
 use Rattle.desk_model.specs.Rights.{may_show}
 use Rattle.desk_model.specs.View.{view}
 use Rattle.desk_model.specs.declared.answer.Answer.{Answer}
-use Rattle.desk_core.specs.Laws.{IsDue, dues_told}
+use Rattle.desk_model.specs.Readings.{dues_told}
+use Rattle.desk_core.specs.Laws.{IsDue}
 
 -- where it isn't refused, it tells of the view what it tells of the desk
 abbrev pub TellsAlike : Topic → (Call → Desk → Answer) → Type 0

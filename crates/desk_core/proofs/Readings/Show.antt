@@ -27,7 +27,8 @@ use Rattle.desk_core.proofs.Goes.{number_found}
 use Rattle.desk_core.proofs.InView.{filter_within, found_in_view, queue_in_view, shown_in_view}
 use Rattle.desk_core.proofs.InView.{shown_there}
 use Rattle.desk_core.proofs.Readings.Owed.{IsRight}
-use Rattle.desk_core.specs.Laws.{IsDue, dues_told}
+use Rattle.desk_model.specs.Readings.{dues_told}
+use Rattle.desk_core.specs.Laws.{IsDue}
 
 -- a filter of the view's links is one of the desk's links, where it tests alike and keeps only
 -- links that are seen

@@ -1,12 +1,14 @@
-ghost use Rattle.std.specs.Prelude.{◌≡◌, ◌+◌, ◌^◌, ◌<◌, IfOk, OnOk, Some};
+ghost use Rattle.std.specs.Prelude.{◌≡◌, ◌+◌, ◌^◌, ◌<◌, IfOk, OnOk, Some, unwrap_or};
 ghost use Rattle.std.specs.Option.{option_map};
 ghost use Rattle.desk_model.specs.Commands.Reply as reply;
+ghost use Rattle.desk_model.specs.Commands.SetStatus.{row_in_status};
 ghost use Rattle.desk_model.specs.Plan.{Nothing};
 ghost use Rattle.desk_core.specs.Context.{call_of, DecidesOn, PassesOn};
 
 use crate::decision::Context;
 use desk_model::lifecycles::{lifecycle_of, reply_target};
 use desk_model::{Change, Entry, EntryKind, Refusal, RequestRow, SeenRequest};
+use lifecycle_core::Lifecycle;
 use rights_core::right;
 use std::alloc::AllocError;
 use text_core::{Sequence, Text};
@@ -19,40 +21,41 @@ impl<'c> Context<'c> {
     {
         self.ask_for_text(text)?;
         let request = self.shown()?;
-        self.ask_to_reply(request)?;
-        let reopened = self.move_of(request);
+        let lifecycle = lifecycle_of(self.settings, &self.facts.queue);
+        let is_requestor = request.requestors.contains(self.caller);
+        let reopened = reply_target(lifecycle, is_requestor, request.row.status.as_str());
+        self.ask_to_reply(request, reopened)?;
         let entries = self.entries_of_reply(request, text, reopened)?;
-        let row = self.replied_row(request, reopened)?;
+        let row = self.replied_row(request, lifecycle, is_requestor, reopened)?;
         Ok(Change::revising(self.alloc, row, entries))
     }
 
+    /// Asks what a reply asks that moves the request to this status, if to any.
     #[tactic(auto, unfolding(rights_core::specs::Right::reply_to_ticket))]
-    fn ask_to_reply(&self, request: &SeenRequest) -> Result<(), Refusal>
-        ensures asks { PassesOn result reply.conditions self.now request.now }
+    fn ask_to_reply(&self, request: &SeenRequest, reopened: Option<&str>) -> Result<(), Refusal>
+        ensures asks { option_map (λ s. s.now) reopened.entry
+            ≡ reply.move_of (call_of self.now) self.now.facts.now request.now
+            → PassesOn result reply.conditions self.now request.now }
         ensures fits { OnOk result (request.now.entry_count
-            + reply.entries_wanted (call_of self.now) self.now.facts.now request.now < 2 ^ 32) }
+            + reply.entries_of_move (option_map (λ s. s.now) reopened.entry) < 2 ^ 32) }
     {
         self.ask(right::REPLY_TO_TICKET, request)?;
-        self.ask_for_room(request, entries_of_move(self.move_of(request)))
+        self.ask_for_room(request, entries_of_move(reopened))
     }
 
-    /// The status that a reply moves the request to, if it moves it.
-    fn move_of(&self, request: &SeenRequest) -> Option<&'c str>
-        ensures { option_map (λ s. s.now) result
-            ≡ reply.move_of (call_of self.now) self.now.facts.now request.now }
+    /// The row after a reply that moves the request to this status, if to any.
+    fn replied_row(
+        &self,
+        request: &SeenRequest,
+        lifecycle: Option<&Lifecycle>,
+        is_requestor: bool,
+        reopened: Option<&str>,
+    ) -> Result<RequestRow, AllocError>
+        ensures { IfOk result (λ row. row ≡ reply.turned is_requestor self.now.moment
+            (row_in_status (option_map (λ l. l.now) lifecycle.entry) self.now.moment
+            (unwrap_or (option_map (λ s. s.now) reopened.entry) request.now.row.status)
+            request.now.row)) }
     {
-        let lifecycle = lifecycle_of(self.settings, &self.facts.queue);
-        let is_requestor = request.requestors.contains(self.caller);
-        reply_target(lifecycle, is_requestor, request.row.status.as_str())
-    }
-
-    /// The row after a reply.
-    fn replied_row(&self, request: &SeenRequest, reopened: Option<&str>) -> Result<RequestRow, AllocError>
-        ensures { IfOk result (λ row. row ≡ reply.replied_row (call_of self.now)
-            self.now.facts.now (option_map (λ s. s.now) reopened.entry) request.now) }
-    {
-        let lifecycle = lifecycle_of(self.settings, &self.facts.queue);
-        let is_requestor = request.requestors.contains(self.caller);
         let status = reopened.unwrap_or(request.row.status.as_str());
         let alloc = self.alloc;
         let moved = request.row.in_status(alloc, lifecycle, self.moment, status)?;

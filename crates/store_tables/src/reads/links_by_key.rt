@@ -16,8 +16,8 @@ use desk_model::{LinkKind, LinkRow};
 use sqlite::{Alter, Connection, Row};
 use std::alloc::Global;
 
-/// The rows of `links_from`.
-fn rows_links_from<S: Alter>(
+/// The rows of `links_of_kind`.
+fn rows_of_kind<S: Alter>(
     conn: &mut Connection<S>,
     id: u32,
     kind: LinkKind,
@@ -41,7 +41,7 @@ fn rows_links_from<S: Alter>(
 
 /// The links of a kind from a request, by target. `Mismatch` where a row is no link, `Refused`
 /// where the store or memory refuses it.
-pub fn links_from<S: Alter>(
+pub fn links_of_kind<S: Alter>(
     alloc: Global,
     conn: &mut Connection<S>,
     id: u32,
@@ -57,7 +57,7 @@ pub fn links_from<S: Alter>(
         (state S.Store conn.old) (state S.Store conn.new) result }
     ensures fault { IfErr result (λ e. e ≢ StoreFault.WrongVersion) }
 {
-    let rows = rows_links_from(conn, id, kind)?;
+    let rows = rows_of_kind(conn, id, kind)?;
     read_all(alloc, rows.as_slice())
 }
 

@@ -1,5 +1,5 @@
 -- the pieces of the line, one after the other
-use Rattle.desk_program.proofs.WriterLemmas.{prints_both}
+use Rattle.stream_core.proofs.WriterLemmas.{prints_both}
 use Rattle.desk_program.proofs.fault_lines.put_numbered_line.Goals as goal
 
 pub returns-clause-printed : goal.returns-clause-printed

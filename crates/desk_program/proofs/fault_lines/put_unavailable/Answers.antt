@@ -1,8 +1,8 @@
 -- the pieces of the line, one after the other
 use Rattle.std.proofs.Common.{List, ℕ, append_assoc, ap, subst, ◌++◌}
 use Rattle.std.specs.Prelude.{codes, decimal}
-use Rattle.desk_program.specs.Written.{Prints}
-use Rattle.desk_program.proofs.WriterLemmas.{prints_both}
+use Rattle.stream_core.specs.Written.{Prints}
+use Rattle.stream_core.proofs.WriterLemmas.{prints_both}
 use Rattle.desk_program.proofs.fault_lines.put_unavailable.Goals as goal
 
 pub returns-clause-printed : goal.returns-clause-printed

@@ -7,10 +7,11 @@ use Rattle.std.specs.Str.Lines.{lines}
 use Rattle.settings_core.specs.declared.settings.Settings.{Settings}
 use Rattle.desk_model.specs.Desk.{empty_desk}
 use Rattle.service_core.specs.Seen.{settings_of, tables_of}
+use Rattle.stream_core.specs.Seen.{has_write_failed}
+use Rattle.stream_core.proofs.WriterLemmas.{prints_both, prints_cut_short}
 use Rattle.desk_program.specs.Script.{LineLeads, line_of}
 use Rattle.desk_program.proofs.PrintedLines.{LinesPrint, PrintUpTo, print_one_more}
 use Rattle.desk_program.proofs.PrintedLines.{print_the_rest, run_of_lines}
-use Rattle.desk_program.proofs.WriterLemmas.{prints_both, prints_cut_short}
 use Rattle.desk_program.proofs.run.run_lines.Goals as goal
 
 pub loop-line-preserved : goal.loop-line-preserved
@@ -56,7 +57,8 @@ returns-then-failed-clause-printed g c =
     (YieldsList-from_lines c.args.commands.now c.lines-line-items.ensures.rest) in
     let turn = YieldsList-turn gives c.loop-line.yielded _ c.loop-line.yielded_by _ _
     c.in-Some.line c.in-Some.is c.next.ensures.steps in
-    let failed : c.run_line.new.output.failed ≡ true = sym c.failed.ensures ∙ c.if-failed.true in
+    let failed : has_write_failed c.run_line.new.output ≡ true =
+    sym c.failed.ensures ∙ c.if-failed.true in
     let so_far = c.loop-line.invariant.printed in
     let here = c.run_line.ensures.printed in
     let old = tables_of g.S.Store c.loop-line.desk in

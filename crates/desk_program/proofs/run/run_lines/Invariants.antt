@@ -5,13 +5,14 @@ use Rattle.store_tables.specs.Stands.{StandsFor}
 use Rattle.desk_model.specs.Desk.{Desk}
 use Rattle.desk_model.specs.IsDesk.{IsDesk}
 use Rattle.service_core.specs.Seen.{settings_of, tables_of}
-use Rattle.desk_program.specs.Written.{Prints}
+use Rattle.stream_core.specs.Seen.{HaveOneWriter}
+use Rattle.stream_core.specs.Written.{Prints}
 use Rattle.desk_program.proofs.PrintedLines.{PrintUpTo}
 use Rattle.desk_program.proofs.run.run_lines.Given as goal
 
 abbrev pub invariant-loop-line : goal.invariant-loop-line
 invariant-loop-line g l = record {
-  same : l.output.writer.ghost_name ≡ l.initial.output.writer.ghost_name;
+  same : HaveOneWriter l.output l.initial.output;
   settings : settings_of g.S.Store l.desk ≡ settings_of g.S.Store l.initial.desk;
   printed : (text : List ℕ) × (now : Desk) × IsDesk now
       × StandsFor now (tables_of g.S.Store l.desk)

@@ -1,12 +1,13 @@
 -- the input was taken in and run, or it was too long or couldn't be taken in
 use Rattle.std.proofs.Common.{inr, ℕ, List, Err, ap, subst}
+use Rattle.stream_core.specs.Seen.{left_in}
 use Rattle.desk_program.specs.Input.{IsScriptWithin}
 use Rattle.desk_program.proofs.InputFaults.{output_of_fault}
 use Rattle.desk_program.proofs.script.print_script.Goals as goal
 
 pub returns-in-Err-clause-printed : goal.returns-in-Err-clause-printed
 returns-in-Err-clause-printed g c =
-    let all = output_of_fault (g.R.Read.remaining c.args.reader.now.reader.now) c.in-Err.fault
+    let all = output_of_fault (left_in g.R.Read.remaining c.args.reader.now) c.in-Err.fault
     c.in-Err.ensures.kinds (λ e. c.in-Err.ensures.long (ap Err e)) in
     (all.0, _, all.1, all.2, c.put_input_fault.ensures.printed)
 

@@ -9,5 +9,5 @@ returns-clause-told g c desk is stand clean =
     let comments = may_show_comments c.args.settings.now c.args.caller.now c.args.request.now in
     ap History (c.told.ensures
     ∙ ap (λ b. filter (is_told b) c.in_ok-entries.entries.items)
-    c.may_show_comments-comments.ensures
+    c.shows_comments_to-comments.ensures
     ∙ ap (filter (is_told comments)) (c.in_ok-entries.ensures.listed desk is stand clean))

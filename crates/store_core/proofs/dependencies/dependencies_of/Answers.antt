@@ -11,4 +11,4 @@ returns-clause-told g c desk is stand clean =
     (λ ds. dependencies_are desk c.args.id c.in_ok-links.links.items ds is
     (c.in_ok-links.ensures.listed d stand (c.dependencies_by.ensures.kept.clean clean)))
     (rw c.as_slice.ensures.value at
-    (c.dependencies_by.ensures.told desk is (stands c.links_from.ensures.kept d stand) clean))
+    (c.dependencies_by.ensures.told desk is (stands c.links_of_kind.ensures.kept d stand) clean))

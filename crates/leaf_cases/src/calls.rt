@@ -1,0 +1,60 @@
+//! Calls: each line is a call with its arguments, and is written again with the answer.
+//!
+//! The first word names the call; the words after it are read as those of a command. An empty line,
+//! or one that begins with `#`, is written as it stands.
+
+mod forms;
+mod lifecycles;
+mod words;
+
+use crate::calls::forms::form_answer;
+use crate::calls::lifecycles::lifecycle_answer;
+use crate::calls::words::{command_answer, words_answer};
+use lifecycle_core::Lifecycle;
+use std::alloc::{AllocError, Global};
+use std::io;
+use wire_core::words_of;
+
+/// Writes each line with its answer.
+pub fn run(rt: &HostRuntime, cases: &str) -> io::Result<()> {
+    let mut lifecycle = None;
+    for line in cases.lines() {
+        if line.is_empty() || line.starts_with('#') {
+            println!(rt; "{line}")?;
+        } else {
+            let answer = answer_to(rt.alloc(), &mut lifecycle, line)?;
+            println!(rt; "{line} => {answer}")?;
+        }
+    }
+    Ok(())
+}
+
+/// The answer to a line. Questions about a lifecycle are about the one that was built last.
+fn answer_to(
+    alloc: Global,
+    lifecycle: &mut Option<Lifecycle>,
+    line: &str,
+) -> Result<String, AllocError> {
+    let (call, rest) = line.split_once(' ').unwrap_or((line, ""));
+    match call {
+        "words" => words_answer(alloc, rest),
+        "command" => command_answer(alloc, rest),
+        _ => called(alloc, lifecycle, call, rest),
+    }
+}
+
+/// The answer to a call whose arguments are words.
+fn called(
+    alloc: Global,
+    lifecycle: &mut Option<Lifecycle>,
+    call: &str,
+    rest: &str,
+) -> Result<String, AllocError> {
+    let Ok(words) = words_of(alloc, rest) else {
+        return String::from_str(alloc, "bad quotes");
+    };
+    match form_answer(alloc, call, words.as_slice())? {
+        Some(answer) => Ok(answer),
+        None => lifecycle_answer(alloc, lifecycle, call, words.as_slice()),
+    }
+}

@@ -1,0 +1,112 @@
+use crate::calls::forms::{texts_of, yes_or_no};
+use lifecycle_core::{Class, Lifecycle, LifecycleFault, Move, MoveRight, Parts};
+use std::alloc::{AllocError, Global};
+use text_core::{Sequence, Text};
+
+/// The answer to a call on lifecycles: `lifecycle` and `default` build one, and the others ask
+/// about it.
+pub(crate) fn lifecycle_answer(
+    alloc: Global,
+    lifecycle: &mut Option<Lifecycle>,
+    call: &str,
+    words: &[String],
+) -> Result<String, AllocError> {
+    match (call, words) {
+        ("default", []) => keep(alloc, lifecycle, Lifecycle::default_lifecycle(alloc)),
+        ("lifecycle", _) => match parts_of(alloc, words)? {
+            Some(parts) => keep(alloc, lifecycle, Lifecycle::build(alloc, &parts)),
+            None => String::from_str(alloc, "no parts"),
+        },
+        _ => match lifecycle {
+            Some(lifecycle) => String::from_str(alloc, asked(lifecycle, call, words)),
+            None => String::from_str(alloc, "no lifecycle"),
+        },
+    }
+}
+
+/// Keeps a lifecycle that was built, or answers its fault.
+fn keep(
+    alloc: Global,
+    lifecycle: &mut Option<Lifecycle>,
+    built: Result<Lifecycle, LifecycleFault>,
+) -> Result<String, AllocError> {
+    match built {
+        Ok(built) => {
+            *lifecycle = Some(built);
+            String::from_str(alloc, "built")
+        }
+        Err(fault) => {
+            let number = fault.number();
+            let name = fault.name();
+            format!(in alloc; "{number} {name}: {fault}")
+        }
+    }
+}
+
+/// What the lifecycle answers.
+fn asked<'l>(lifecycle: &'l Lifecycle, call: &str, words: &[String]) -> &'l str {
+    match (call, words) {
+        ("class", [status]) => class_name(lifecycle.class(status.as_str())),
+        ("creates", [status]) => yes_or_no(lifecycle.may_create(status.as_str())),
+        ("moves", [from, to]) => yes_or_no(lifecycle.may_move(from.as_str(), to.as_str())),
+        ("right_for", [from, to]) => lifecycle.right_for(from.as_str(), to.as_str()),
+        ("reopens", [from]) => lifecycle.reopen_to(from.as_str()).unwrap_or("none"),
+        ("on_create", []) => lifecycle.on_create(),
+        _ => "no such call",
+    }
+}
+
+fn class_name(class: Option<Class>) -> &'static str {
+    match class {
+        Some(Class::Initial) => "initial",
+        Some(Class::Active) => "active",
+        Some(Class::Inactive) => "inactive",
+        None => "none",
+    }
+}
+
+/// The parts that seven words spell: the initial, active and inactive statuses, the status on
+/// create, those for creation, the moves, each as `new>open`, and the rights, each as
+/// `new>open:ModifyTicket`.
+fn parts_of(alloc: Global, words: &[String]) -> Result<Option<Parts>, AllocError> {
+    let [initial, active, inactive, on_create, create, moves, rights] = words else {
+        return Ok(None);
+    };
+    Ok(Some(Parts {
+        initial: texts_of(alloc, initial.as_str())?,
+        active: texts_of(alloc, active.as_str())?,
+        inactive: texts_of(alloc, inactive.as_str())?,
+        on_create: Text::new(alloc, on_create.as_str())?,
+        create: texts_of(alloc, create.as_str())?,
+        moves: moves_of(alloc, moves.as_str())?,
+        rights: rights_of(alloc, rights.as_str())?,
+    }))
+}
+
+fn moves_of(alloc: Global, line: &str) -> Result<Sequence<Move>, AllocError> {
+    let mut moves = Vec::new(alloc);
+    for word in line.split(' ') {
+        if let Some((from, to)) = word.split_once('>') {
+            moves.push(Move {
+                from: Text::new(alloc, from)?,
+                to: Text::new(alloc, to)?,
+            })?;
+        }
+    }
+    Ok(Sequence::from(moves))
+}
+
+fn rights_of(alloc: Global, line: &str) -> Result<Sequence<MoveRight>, AllocError> {
+    let mut rights = Vec::new(alloc);
+    for word in line.split(' ') {
+        if let Some((pair, right)) = word.split_once(':') {
+            let (from, to) = pair.split_once('>').unwrap_or((pair, ""));
+            rights.push(MoveRight {
+                from: Text::new(alloc, from)?,
+                to: Text::new(alloc, to)?,
+                right: Text::new(alloc, right)?,
+            })?;
+        }
+    }
+    Ok(Sequence::from(rights))
+}

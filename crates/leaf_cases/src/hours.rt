@@ -1,0 +1,28 @@
+//! Opening hours: each line is a call, and is written again with its answer.
+//!
+//! The lines `zone`, `week`, `holidays` and `years` give the parts of a calendar, and `build` makes
+//! it, which the calls after it are asked of. An empty line and one that begins with `#` are no
+//! calls. A line that isn't understood ends all.
+
+mod asked;
+mod parts;
+
+use crate::failure::Failure;
+use crate::hours::asked::answer;
+use crate::hours::parts::Parts;
+
+/// Writes each call with its answer.
+pub fn run(rt: &HostRuntime, cases: &str) -> Result<(), Failure> {
+    let mut parts = Parts::new(rt.alloc())?;
+    let mut calendar = None;
+    for line in cases.lines() {
+        if line.is_empty() || line.starts_with('#') {
+            println!(rt; "{line}")?;
+        } else if line == "build" {
+            calendar = parts.build(rt)?;
+        } else if !parts.take(rt.alloc(), line)? {
+            answer(rt, calendar.as_ref(), line)?;
+        }
+    }
+    Ok(())
+}

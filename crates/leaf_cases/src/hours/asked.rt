@@ -1,0 +1,181 @@
+use crate::failure::{Failure, count, halves, moment};
+use hours_core::{Calendar, Level, Limit, Minute, Probes, date_of, minute_text};
+use text_core::Text;
+
+/// Writes the line and the answer of the call that it spells.
+pub fn answer(
+    rt: &(impl AllocGlobal + Print),
+    calendar: Option<&Calendar>,
+    line: &str,
+) -> Result<(), Failure> {
+    let (call, words) = halves(line, ' ')?;
+    match call {
+        "minute" => show(rt, line, Minute::new(count(words)?)),
+        "in_order" => in_order(rt, line, words),
+        "date" => show_date(rt, line, moment(words)?),
+        "text" => show_text(rt, line, moment(words)?),
+        _ => match calendar {
+            Some(calendar) => asked(rt, calendar, line, call, words),
+            None => Err(Failure::BadLine),
+        },
+    }
+}
+
+/// Writes the answer of a call on a calendar.
+fn asked(
+    rt: &(impl AllocGlobal + Print),
+    calendar: &Calendar,
+    line: &str,
+    call: &str,
+    words: &str,
+) -> Result<(), Failure> {
+    match call {
+        "is_open" => {
+            println!(rt; "{line}: {}", calendar.is_open(moment(words)?))?;
+            Ok(())
+        }
+        "first_open" => show(rt, line, calendar.first_open(moment(words)?)),
+        "add_open" => {
+            let (from, n) = halves(words, ' ')?;
+            show(rt, line, calendar.add_open(moment(from)?, count(n)?))
+        }
+        "due_at_once" => due(rt, calendar, line, words, true),
+        "due" => due(rt, calendar, line, words, false),
+        "bounded" => bounded(rt, calendar, line, words),
+        "greatest" => greatest(rt, calendar, line, words),
+        "ends" => ends(rt, calendar, line, words),
+        _ => Err(Failure::BadLine),
+    }
+}
+
+/// Writes the number of the minute, or `-`.
+fn show(rt: &impl Print, line: &str, minute: Option<Minute>) -> Result<(), Failure> {
+    match minute {
+        Some(minute) => println!(rt; "{line}: {}", minute.get())?,
+        None => println!(rt; "{line}: -")?,
+    }
+    Ok(())
+}
+
+/// Writes whether the first of two minutes is before the second.
+fn in_order(rt: &impl Print, line: &str, words: &str) -> Result<(), Failure> {
+    let (earlier, later) = halves(words, ' ')?;
+    println!(rt; "{line}: {}", moment(earlier)? < moment(later)?)?;
+    Ok(())
+}
+
+fn show_date(rt: &impl Print, line: &str, minute: Minute) -> Result<(), Failure> {
+    let (year, month, day) = date_of(minute);
+    println!(rt; "{line}: {year} {month} {day}")?;
+    Ok(())
+}
+
+fn show_text(rt: &impl Print, line: &str, minute: Minute) -> Result<(), Failure> {
+    let text = minute_text(minute);
+    println!(rt;
+        "{line}: {}",
+        str::from_utf8(text.as_slice()).unwrap_or("?")
+    )?;
+    Ok(())
+}
+
+/// Writes when a limit is due, of a level that begins at once or with the opening.
+fn due(
+    rt: &(impl AllocGlobal + Print),
+    calendar: &Calendar,
+    line: &str,
+    words: &str,
+    start_immediately: bool,
+) -> Result<(), Failure> {
+    let (from, limit) = halves(words, ' ')?;
+    let limit = match halves(limit, ' ')? {
+        ("real", n) => Limit::RealMinutes(count(n)?),
+        ("business", n) => Limit::BusinessMinutes(count(n)?),
+        _ => return Err(Failure::BadLine),
+    };
+    let level = Level {
+        calendar: Text::new(rt.alloc(), "office")?,
+        start_immediately,
+        response: None,
+        keep_in_loop: None,
+        resolve: None,
+    };
+    show(rt, line, level.limit_due(calendar, moment(from)?, limit))
+}
+
+/// The spans that `first_open_counted` and `add_open_counted` of 60 read at the minute.
+fn probes_at(calendar: &Calendar, minute: Minute) -> (u32, u32) {
+    let mut first = Probes::new();
+    let mut add = Probes::new();
+    let _ = calendar.first_open_counted(minute, &mut first);
+    let _ = calendar.add_open_counted(minute, 60, &mut add);
+    (first.count(), add.count())
+}
+
+/// Writes whether at each minute from the first to before the second both calls read a span, the
+/// first at most as many as the third word says and the other at most twice as many.
+fn bounded(rt: &impl Print, calendar: &Calendar, line: &str, words: &str) -> Result<(), Failure> {
+    let (from, rest) = halves(words, ' ')?;
+    let (to, most) = halves(rest, ' ')?;
+    let most = count(most)?;
+    let mut holds = true;
+    for number in count(from)?..count(to)? {
+        if let Some(minute) = Minute::new(number) {
+            let (first, add) = probes_at(calendar, minute);
+            holds = holds && 0 < first && first <= most && 0 < add && add <= most.saturating_mul(2);
+        }
+    }
+    println!(rt; "{line}: {holds}")?;
+    Ok(())
+}
+
+/// Goes over the minute of the day that the first word says, from one day to before another. Writes
+/// at how many of them a span begins, and the most spans that each call reads at one of these.
+fn greatest(rt: &impl Print, calendar: &Calendar, line: &str, words: &str) -> Result<(), Failure> {
+    let (opening, rest) = halves(words, ' ')?;
+    let (from, to) = halves(rest, ' ')?;
+    let opening = count(opening)?;
+    let mut starts = 0u32;
+    let mut most = (0, 0);
+    for day in count(from)?..count(to)? {
+        let number = day.saturating_mul(1440).saturating_add(opening);
+        if let Some(minute) = start_of_span(calendar, number) {
+            let (first, add) = probes_at(calendar, minute);
+            starts = starts.saturating_add(1);
+            most = (first.max(most.0), add.max(most.1));
+        }
+    }
+    println!(rt; "{line}: {starts} {} {}", most.0, most.1)?;
+    Ok(())
+}
+
+/// The minute where a span begins with it.
+fn start_of_span(calendar: &Calendar, number: u32) -> Option<Minute> {
+    let before = Minute::new(number.saturating_sub(1))?;
+    let minute = Minute::new(number)?;
+    if calendar.is_open(minute) && !calendar.is_open(before) {
+        Some(minute)
+    } else {
+        None
+    }
+}
+
+/// Adds open minutes from each of so many minutes on, a day's round and round, and writes the sum of
+/// the ends. So one line measures many calls.
+fn ends(rt: &impl Print, calendar: &Calendar, line: &str, words: &str) -> Result<(), Failure> {
+    let (from, rest) = halves(words, ' ')?;
+    let (n, calls) = halves(rest, ' ')?;
+    let (from, n) = (count(from)?, count(n)?);
+    let mut sum = 0u64;
+    for call in 0..count(calls)? {
+        if let Some(end) = end_from(calendar, from.saturating_add(call % 1440), n) {
+            sum = sum.wrapping_add(end.get() as u64);
+        }
+    }
+    println!(rt; "{line}: {sum}")?;
+    Ok(())
+}
+
+fn end_from(calendar: &Calendar, from: u32, n: u32) -> Option<Minute> {
+    calendar.add_open(Minute::new(from)?, n)
+}

@@ -1,0 +1,143 @@
+use crate::failure::{Failure, halves, minute_of_day, number};
+use hours_core::{Calendar, HoursFault, Intervals, Zone};
+use std::alloc::{AllocError, Global};
+
+/// The parts of a calendar.
+#[derive(Drop)]
+pub struct Parts {
+    first: i64,
+    changes: Vec<(i64, i64)>,
+    week: [Intervals; 7],
+    holidays: Vec<u32>,
+    years: (i64, i64),
+}
+
+/// A week without intervals.
+fn closed(alloc: Global) -> Result<[Intervals; 7], AllocError> {
+    Ok([
+        Intervals::from(Vec::new(alloc)),
+        Intervals::from(Vec::new(alloc)),
+        Intervals::from(Vec::new(alloc)),
+        Intervals::from(Vec::new(alloc)),
+        Intervals::from(Vec::new(alloc)),
+        Intervals::from(Vec::new(alloc)),
+        Intervals::from(Vec::new(alloc)),
+    ])
+}
+
+impl Parts {
+    /// UTC, no intervals, no holidays, and the years that moments reach over.
+    pub fn new(alloc: Global) -> Result<Parts, AllocError> {
+        Ok(Parts {
+            first: 0,
+            changes: Vec::new(alloc),
+            week: closed(alloc)?,
+            holidays: Vec::new(alloc),
+            years: (2000, 2099),
+        })
+    }
+
+    /// Takes a line that gives one of the parts, and tells whether it was one.
+    pub fn take(&mut self, alloc: Global, line: &str) -> Result<bool, Failure> {
+        let (word, rest) = line.split_once(' ').unwrap_or((line, ""));
+        match word {
+            "zone" => self.take_zone(alloc, rest)?,
+            "week" => self.week = week(alloc, rest)?,
+            "holidays" => self.holidays = days(alloc, rest)?,
+            "years" => {
+                let (first, last) = halves(rest, ' ')?;
+                self.years = (number(first)?, number(last)?);
+            }
+            _ => return Ok(false),
+        }
+        Ok(true)
+    }
+
+    /// Takes the first offset, and changes as `MINUTE:OFFSET`, or `FIRST..END:OFFSET` for one at
+    /// each minute.
+    fn take_zone(&mut self, alloc: Global, rest: &str) -> Result<(), Failure> {
+        let (first, changes) = rest.split_once(' ').unwrap_or((rest, ""));
+        self.first = number(first)?;
+        self.changes = Vec::new(alloc);
+        for change in changes.split(' ') {
+            if !change.is_empty() {
+                let (minutes, offset) = halves(change, ':')?;
+                let (from, to) = range(minutes)?;
+                for minute in from..=to {
+                    self.changes.push((minute, number(offset)?))?;
+                }
+            }
+        }
+        Ok(())
+    }
+
+    /// The calendar of the parts. Writes how many spans it has, or the fault.
+    pub fn build(&self, rt: &(impl AllocGlobal + Print)) -> Result<Option<Calendar>, Failure> {
+        match self.calendar(rt.alloc()) {
+            Ok(calendar) => {
+                println!(rt; "build: {} spans", calendar.spans())?;
+                Ok(Some(calendar))
+            }
+            Err(fault) => {
+                println!(rt; "build: {} {}", fault.number(), fault.name())?;
+                Ok(None)
+            }
+        }
+    }
+
+    fn calendar(&self, alloc: Global) -> Result<Calendar, HoursFault> {
+        let zone = Zone::build(alloc, self.first, self.changes.as_slice())?;
+        Calendar::build(
+            alloc,
+            zone,
+            &self.week,
+            self.holidays.as_slice(),
+            self.years,
+        )
+    }
+}
+
+/// The first and the last number of `FIRST..END`, or of a number alone.
+fn range(word: &str) -> Result<(i64, i64), Failure> {
+    match word.split_once("..") {
+        Some((first, end)) => Ok((number(first)?, number(end)?.saturating_sub(1))),
+        None => {
+            let only = number(word)?;
+            Ok((only, only))
+        }
+    }
+}
+
+/// The intervals of each day from Sunday on, as `540-720,780-1080`, or `-` for none.
+fn week(alloc: Global, rest: &str) -> Result<[Intervals; 7], Failure> {
+    let mut week = closed(alloc)?;
+    for (day, word) in week.iter_mut().zip(rest.split(' ')) {
+        *day = intervals(alloc, word)?;
+    }
+    Ok(week)
+}
+
+fn intervals(alloc: Global, word: &str) -> Result<Intervals, Failure> {
+    let mut intervals = Vec::new(alloc);
+    if word != "-" {
+        for interval in word.split(',') {
+            let (start, end) = halves(interval, '-')?;
+            intervals.push((minute_of_day(start)?, minute_of_day(end)?))?;
+        }
+    }
+    Ok(Intervals::from(intervals))
+}
+
+/// Days, each as a number or as `FIRST..END`.
+fn days(alloc: Global, rest: &str) -> Result<Vec<u32>, Failure> {
+    let mut days = Vec::new(alloc);
+    for word in rest.split(' ') {
+        if !word.is_empty() {
+            let (first, last) = range(word)?;
+            for day in first..=last {
+                days.push(u32::try_from(day).map_err(|_| Failure::BadLine)?)?;
+            }
+        }
+    }
+    Ok(days)
+}

@@ -1,0 +1,18 @@
+-- what was taken is what the reader has lost, a byte or more by each read
+use Rattle.std.proofs.Common.{◌≡◌, ◌≤◌, ◌+◌, ◌-◌, length}
+use Rattle.std.specs.Io.KnownBytes.{Consumes}
+use Rattle.stream_core.specs.Seen.{HaveOneReader, has_read_failed, left_in, reads_of}
+use Rattle.message_core.proofs.body.take_body.Given as goal
+
+abbrev pub invariant-loop-reader : goal.invariant-loop-reader
+invariant-loop-reader g l = record {
+  one : HaveOneReader l.reader l.initial.reader;
+  lost : Consumes (left_in g.R.Read.remaining l.initial.reader)
+      (left_in g.R.Read.remaining l.reader) l.body.items;
+  within : length l.body.items ≤ l.wanted;
+  failed : has_read_failed l.reader ≡ has_read_failed l.initial.reader;
+  counted : reads_of l.reader ≤ reads_of l.initial.reader + length l.body.items;
+}
+
+abbrev pub decreases-loop-reader : goal.decreases-loop-reader
+decreases-loop-reader g l = l.wanted - length l.body.items

@@ -1,0 +1,6 @@
+pub mod Body
+pub mod Fault
+pub mod Head
+pub mod Heading
+pub mod Message
+pub mod Reply

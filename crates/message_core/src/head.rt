@@ -1,0 +1,125 @@
+//! The head of a message is taken from a reader, and nothing after it.
+ghost use Rattle.std.specs.Prelude.{◌≡◌, ◌≢◌, ◌≤◌, ◌+◌, ◌||◌, ◌∷◌, [], ℕ, IfOk, IfErr, IfSome};
+ghost use Rattle.std.specs.Prelude.{None, Err};
+ghost use Rattle.std.specs.Io.KnownBytes.{Consumes, IsAtEnd, Keeps};
+ghost use Rattle.httparse.specs.Grammar.{HasNoRequest};
+ghost use Rattle.httparse.specs.Spans.{RequestOverflows};
+ghost use Rattle.stream_core.specs.Seen.{HaveOneReader, has_read_failed, left_in, reads_of};
+ghost use Rattle.stream_core.specs.Streams.{ConsumesAtMost};
+ghost use Rattle.message_core.specs.Fault.{tells_failed_read};
+ghost use Rattle.message_core.specs.Head.{HasLimitedHead, IsHead, LacksHead};
+
+use crate::fault::WireFault;
+use httparse::spans::{EMPTY_HEADER_SPAN, parse_request};
+use httparse::{Error, Status};
+use std::alloc::Global;
+use std::io::Read;
+use stream_core::CountedReader;
+
+/// The most bytes of a head.
+const MAX_HEAD: u32 = 8_192;
+
+/// The most header lines of a head.
+const MAX_LINES: usize = 32;
+
+/// How many header lines are looked at: a head with more than 32, and no more than these, is
+/// refused where it ends.
+const LINES_READ: usize = 64;
+
+/// How bytes at the front of a stream stand to a head of at most 32 header lines.
+#[derive(Clone, Copy, PartialEq, Eq)]
+enum Standing {
+    /// They begin with one.
+    Whole,
+    /// They don't, and more may follow.
+    Unfinished,
+    /// They don't, whatever follows.
+    Refused,
+    /// They don't, whatever follows: there are more lines than are looked at.
+    Crowded,
+}
+
+/// How the bytes stand to a head.
+fn standing_of(bytes: &[u8]) -> Standing
+    ensures whole { result ≡ Standing.Whole → HasLimitedHead bytes.now }
+    ensures unfinished { result ≡ Standing.Unfinished → HasNoRequest bytes.now }
+    ensures refused { result ≡ Standing.Refused → RequestOverflows 32 bytes.now }
+    ensures crowded { result ≡ Standing.Crowded → RequestOverflows 32 bytes.now }
+{
+    let mut lines = [EMPTY_HEADER_SPAN; LINES_READ];
+    match parse_request(bytes, &mut lines) {
+        Ok(Status::Complete(spans)) => {
+            if spans.headers <= MAX_LINES {
+                Standing::Whole
+            } else {
+                Standing::Refused
+            }
+        }
+        Ok(Status::Partial) => Standing::Unfinished,
+        Err(Error::TooManyHeaders) => Standing::Crowded,
+        Err(_) => Standing::Refused,
+    }
+}
+
+/// The next byte of the reader, by one read, or none at its end.
+fn next_byte<R: Read>(reader: &mut CountedReader<'_, R>) -> Result<Option<u8>, WireFault>
+    ensures one { HaveOneReader reader.new reader.old }
+    ensures byte { IfOk result (λ next. IfSome next (λ b.
+        Consumes (left_in R.remaining reader.old) (left_in R.remaining reader.new) (b ∷ []))) }
+    ensures end { IfOk result (λ next. next ≡ None
+        → Consumes (left_in R.remaining reader.old) (left_in R.remaining reader.new) []
+        × IsAtEnd (left_in R.remaining reader.new)) }
+    ensures err { IfErr result (λ fault. (fault ≡ WireFault.Read)
+        × Keeps (left_in R.remaining reader.old) (left_in R.remaining reader.new)) }
+    ensures taken { ConsumesAtMost (left_in R.remaining reader.old)
+        (left_in R.remaining reader.new) 1 }
+    ensures failed { has_read_failed reader.new
+        ≡ (tells_failed_read result || has_read_failed reader.old) }
+    ensures reads { reads_of reader.new ≤ reads_of reader.old + 1 }
+{
+    let mut byte = [0u8; 1];
+    match reader.read(&mut byte) {
+        Ok(0) => Ok(None),
+        Ok(_) => Ok(Some(byte[0])),
+        Err(_) => Err(WireFault::Read),
+    }
+}
+
+/// The bytes of the head at the front of what the reader has left. It is read byte by byte up to
+/// its last one, so nothing after it is taken. A stream without a head is told after the line feed
+/// that shows it, after 8,192 bytes, or at its end.
+pub(crate) fn take_head<R: Read>(
+    alloc: Global,
+    reader: &mut CountedReader<'_, R>,
+) -> Result<Vec<u8>, WireFault>
+    ensures one { HaveOneReader reader.new reader.old }
+    ensures head { IfOk result (λ taken. IsHead taken.items
+        × Consumes (left_in R.remaining reader.old) (left_in R.remaining reader.new) taken.items) }
+    ensures lacks { result ≡ Err WireFault.BadHead
+        → LacksHead (left_in R.remaining reader.old) (left_in R.remaining reader.new) }
+    ensures kinds { IfErr result (λ fault. fault ≢ WireFault.BadHead
+        → fault ≢ WireFault.Read → fault ≡ WireFault.NoMemory) }
+    ensures taken { ConsumesAtMost (left_in R.remaining reader.old)
+        (left_in R.remaining reader.new) 8192 }
+    ensures failed { has_read_failed reader.new
+        ≡ (tells_failed_read result || has_read_failed reader.old) }
+    ensures reads { reads_of reader.new ≤ reads_of reader.old + 8192 }
+{
+    let mut taken = Vec::new(alloc);
+    let mut crowded = false;
+    for _turn in 0..MAX_HEAD {
+        let Some(byte) = next_byte(reader)? else {
+            return Err(WireFault::BadHead);
+        };
+        taken.push(byte).map_err(|_| WireFault::NoMemory)?;
+        if byte == b'\n' && !crowded {
+            match standing_of(taken.as_slice()) {
+                Standing::Whole => return Ok(taken),
+                Standing::Unfinished => {}
+                Standing::Refused => return Err(WireFault::BadHead),
+                Standing::Crowded => crowded = true,
+            }
+        }
+    }
+    Err(WireFault::BadHead)
+}

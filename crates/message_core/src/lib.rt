@@ -1,0 +1,15 @@
+//! Messages: bytes that are read off a stream, and the bytes of a reply.
+#![tactic(auto)]
+
+mod body;
+mod fault;
+mod head;
+mod heading;
+pub mod laws;
+mod lines;
+mod message;
+mod reply;
+
+pub use fault::WireFault;
+pub use message::{Message, read_message, read_message_counted};
+pub use reply::{Allow, Reply, answer_bytes, put_reply, unavailable_reply};

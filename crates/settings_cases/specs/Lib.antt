@@ -1,1 +1,0 @@
--- the program has no definitions of its own

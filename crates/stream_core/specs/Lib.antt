@@ -1,0 +1,4 @@
+pub mod Calls
+pub mod Seen
+pub mod Streams
+pub mod Written
