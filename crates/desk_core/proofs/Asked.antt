@@ -1,12 +1,13 @@
 -- Which rights an accepted command has asked for.
-use Rattle.std.proofs.Common.{◌≡◌, ◌≢◌, ◌⊎◌, ◌∙◌, ℕ, ◌==◌, Bool, true, false, not, ◌&&◌, ◌||◌}
+use Rattle.std.proofs.Common.{◌≡◌, ◌∙◌, ℕ, ◌==◌, Bool, true, false, not, ◌&&◌, ◌||◌}
 use Rattle.std.proofs.Common.{cond, List, [], ◌∷◌, ◌++◌, filter, find, Option, Some, None, codes}
 use Rattle.std.proofs.Common.{unwrap_or, inl, inr, refl, ap, sym, subst}
 use Rattle.std.specs.List.{list_any}
 use Rattle.std.specs.Option.{option_map, option_map_or}
 use Rattle.std.specs.Str.{bytes_eq}
 use Rattle.std.proofs.lemmas.Bool.{and_cases, and_left, and_parts, and_right, cond-false, cond-true}
-use Rattle.std.proofs.lemmas.Bool.{eqb-true, false_from_ne_true, or_cases, or_left, or_parts, or_right}
+use Rattle.std.proofs.lemmas.Bool.{eqb-true, false_from_ne_true, or_cases, or_left}
+use Rattle.std.proofs.lemmas.Bool.{or_parts, or_right}
 use Rattle.std.proofs.lemmas.Slice.Eq.{bytes_eq-Decides}
 use Rattle.hours_core.specs.Moment.{is_moment}
 use Rattle.lifecycle_core.specs.Lifecycle.{any_status, right_of_entry, right_of_move, usual_right}
@@ -15,7 +16,7 @@ use Rattle.lifecycle_core.specs.declared.parts.Parts.{Parts}
 use Rattle.rights_core.specs.Right.{delete_ticket, modify_ticket}
 use Rattle.settings_core.specs.Settings.{knows}
 use Rattle.settings_core.specs.declared.settings.Settings.{Settings}
-use Rattle.desk_model.specs.Change.{applied, link_put, link_taken}
+use Rattle.desk_model.specs.Change.{link_put, link_taken}
 use Rattle.desk_model.specs.Commands.{plan_of}
 use Rattle.desk_model.specs.Commands.Link as linking
 use Rattle.desk_model.specs.Commands.Unwatch as unwatch
@@ -28,7 +29,6 @@ use Rattle.desk_model.specs.Plan.{Call, Nothing, Another, besides_on, change_by,
 use Rattle.desk_model.specs.Plan.{is_missing, on_shown}
 use Rattle.desk_model.specs.Rights.{holds_on, is_shown, may_show}
 use Rattle.desk_model.specs.Step.{call, desk_unless, effect, facts_of, guard}
-use Rattle.desk_model.specs.declared.change.Change.{Change}
 use Rattle.desk_model.specs.declared.command.Command.{Command}
 use Rattle.desk_model.specs.declared.command.Command.TheVariants.{OpenQueue, Create, Watch}
 use Rattle.desk_model.specs.declared.command.Command.TheVariants.{Unwatch, Link}
@@ -42,8 +42,8 @@ use Rattle.desk_model.specs.declared.rows.WatchRole.TheVariants.{Requestor, Cc, 
 use Rattle.desk_core.proofs.DeskLaw.ByKind.{Meets, by_plan}
 use Rattle.desk_core.proofs.DeskLaw.Stages.{links_after}
 use Rattle.desk_core.proofs.Goes.{NoneHolds, holding, none_holds, passed, rest_passes}
-use Rattle.desk_core.specs.Asked.{AsksToWatch, AsksUsualRight, LinksShown, MayWatch, MaySetPerson}
-use Rattle.desk_core.specs.Asked.{MaySetRole, MaySetRoleOn, names_move, stands_for}
+use Rattle.desk_core.specs.Asked.{AsksToWatch, AsksUsualRight, LinksShown, MaySetPerson}
+use Rattle.desk_core.specs.Asked.{MaySetRole, names_move, stands_for}
 
 -- the conditions on the call and on its text
 abbrev before_request : Call → Option (List ℕ) → List Condition
@@ -222,7 +222,8 @@ puts desk (Create queue subject status requestors) = λ call none. tt
 puts desk (Link id kind other) = λ call r there same none. ap (λ n. link n kind other) (sym same)
 puts desk other = λ call r there same none. tt
 
-not_missing : (call : Call) (o : Option Request) → is_missing call (option_map seen_request o) ≡ false
+not_missing : (call : Call) (o : Option Request)
+    → is_missing call (option_map seen_request o) ≡ false
     → option_map_or (may_show call.settings call.caller) (option_map seen_request o) false ≡ true
 not_missing call None shown = cc
 not_missing call (Some r) shown =
@@ -266,7 +267,8 @@ put_or_there asked l (m ∷ ms) there before =
             | inr was ↦ let no : true ≡ false = sym was ∙ before in cc
           ]
       | false ↦ λ h.
-          elim (or_cases (is_link asked m) (list_any (is_link asked) (placed is_lower_link ms l)) h) [
+          elim (or_cases (is_link asked m)
+          (list_any (is_link asked) (placed is_lower_link ms l)) h) [
             | inl here ↦ let no : true ≡ false = sym here ∙ parts.0 in cc
             | inr further ↦ put_or_there asked l ms further parts.1
           ]

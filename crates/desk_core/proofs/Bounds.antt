@@ -2,7 +2,6 @@
 use Rattle.std.proofs.Common.{◌≡◌, ◌∙◌, ℕ, ◌+◌, ◌<◌, ◌≤◌, ◌==◌, Bool, true, false, not, cond}
 use Rattle.std.proofs.Common.{List, [], ◌∷◌, ◌++◌, length, length-append, Option, Some, None}
 use Rattle.std.proofs.Common.{refl, ap, sym, subst, arith}
-use Rattle.std.specs.List.{All}
 use Rattle.std.proofs.lemmas.Bool.{leb-false, ltb-false}
 use Rattle.std.proofs.lemmas.List.{length-map}
 use Rattle.hours_core.specs.Moment.{is_moment}
@@ -263,8 +262,8 @@ entries_unless s at caller command desk (Some refusal) refused is least short = 
 entries_unless s at caller command desk None free is least short =
     let asks = call s at caller in
     let plan = plan_of command in
-    by_plan_at (λ d change. HasShortHistories s d → HasShortHistories s (applied change d)) asks plan
-    (on_call s at caller) desk (λ all. all)
+    by_plan_at (λ d change. HasShortHistories s d → HasShortHistories s (applied change d)) asks
+    plan (on_call s at caller) desk (λ all. all)
     (short_by_plan plan asks desk is least (asks_room command) (touches desk command)) free short
 
 pub entry_limit_kept : (s : Settings) (at : ℕ) (caller : List ℕ) (command : Command) (desk : Desk)

@@ -2,7 +2,6 @@
 use Rattle.std.proofs.Common.{◌≡◌, ◌∙◌, ℕ, Bool, true, false, not, ◌&&◌, cond, List}
 use Rattle.std.proofs.Common.{Option, Some, unwrap_or, inl, inr, refl, ap, sym}
 use Rattle.std.proofs.lemmas.Bool.{cond-true}
-use Rattle.hours_core.specs.declared.level.Level.{Level}
 use Rattle.lifecycle_core.specs.declared.parts.Parts.{Parts}
 use Rattle.settings_core.specs.declared.settings.Settings.{Settings}
 use Rattle.text_core.specs.Texts.{is_among}
@@ -11,7 +10,7 @@ use Rattle.desk_model.specs.Commands.Reply as reply
 use Rattle.desk_model.specs.Commands.Reply.{is_desks}
 use Rattle.desk_model.specs.Commands.SetStatus.{row_in_status}
 use Rattle.desk_model.specs.Desk.{Desk, Request, queue_at, request_at}
-use Rattle.desk_model.specs.Due.{due_of_limit, least_due, limit_on_turn, sooner}
+use Rattle.desk_model.specs.Due.{due_of_limit, limit_on_turn, sooner}
 use Rattle.desk_model.specs.Lifecycles.{is_inactive, lifecycle_of, opens_anew}
 use Rattle.desk_model.specs.Plan.{Call}
 use Rattle.desk_model.specs.Step.{desk_after}
@@ -80,7 +79,8 @@ opens_go (Reply id text) = λ call facts request new same free sets anew.
 opens_go other = λ call facts request new same free sets anew.
     let lifecycle = lifecycle_of call.settings facts.queue in
     absurd (never_anew lifecycle request.row.status
-    (ap (λ o. opens_anew lifecycle request.row.status (status_in o request.row.status)) sets ∙ anew))
+    (ap (λ o. opens_anew lifecycle request.row.status (status_in o request.row.status)) sets
+    ∙ anew))
 
 -- each limit counts from the moment at which the request was opened and the turn began
 limits_count : (at : ℕ) (row : RequestRow) → row.opened ≡ at → row.since ≡ at

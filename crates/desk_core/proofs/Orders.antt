@@ -1,6 +1,7 @@
 -- What a command answers is in order.
 use Rattle.std.proofs.Common.{◌≡◌, ◌∙◌, ℕ, ◌+◌, ◌==◌, Bool, true, false, ◌&&◌, ◌||◌, cond}
-use Rattle.std.proofs.Common.{List, [], ◌∷◌, filter, map, Option, Some, None, inl, inr, refl, ap, sym, arith}
+use Rattle.std.proofs.Common.{List, [], ◌∷◌, filter, map, Option, Some, None, inl, inr, refl}
+use Rattle.std.proofs.Common.{ap, sym, arith}
 use Rattle.std.specs.Bool.{nat_lt}
 use Rattle.std.specs.Cmp.Lexicographic.{nat_list_cmp_total}
 use Rattle.std.specs.List.{list_all}
@@ -15,10 +16,8 @@ use Rattle.desk_model.specs.Links.{is_kind, is_lower_link, kind_number}
 use Rattle.desk_model.specs.Plan.{Call, Plan, Reads, OnQueue, OnRequest, answer_by}
 use Rattle.desk_model.specs.Plan.{answer_of_request, besides_on, change_of_request, filed_or_done}
 use Rattle.desk_model.specs.Facts.{facts_on_queue}
-use Rattle.desk_model.specs.Readings.History as history
 use Rattle.desk_model.specs.Readings.History.{entries_told, is_told}
 use Rattle.desk_model.specs.Readings.Queues as queues
-use Rattle.desk_model.specs.Readings.Show as show
 use Rattle.desk_model.specs.Readings.Show.{leads_from, leads_to, linked_from, linked_to, links_of}
 use Rattle.desk_model.specs.Readings.Show.{shown_of}
 use Rattle.desk_model.specs.Rights.{is_shown, sees_queue}
@@ -30,12 +29,11 @@ use Rattle.desk_model.specs.declared.rows.Entry.{Entry}
 use Rattle.desk_model.specs.declared.rows.LinkKind.{LinkKind}
 use Rattle.desk_model.specs.declared.rows.LinkKind.TheVariants.{DependsOn, MemberOf, RefersTo}
 use Rattle.desk_model.specs.declared.rows.LinkRow.{LinkRow}
-use Rattle.desk_model.specs.declared.rows.QueueRow.{QueueRow}
 use Rattle.desk_model.specs.declared.rows.RequestRow.{RequestRow}
 use Rattle.desk_core.proofs.DeskLaw.Links.{links_go_on, same_kind}
 use Rattle.desk_core.proofs.Every.{every_found}
 use Rattle.desk_core.proofs.Rising.{IsTransitive, filtered_rises, orders_go_on}
-use Rattle.desk_core.specs.Orders.{IsInOrder, LinksRise, ShownRises, TellsInOrder}
+use Rattle.desk_core.specs.Orders.{IsInOrder, LinksRise, TellsInOrder}
 use Rattle.desk_core.specs.Orders.{has_lower_number, numbers_rise}
 
 -- queues
@@ -215,7 +213,8 @@ shown_of_request call desk id None is there = tt
 shown_of_request call desk id (Some r) is there =
     let rise : persons_rise r ≡ true =
     every_found persons_rise (λ x. x.row.id == id) desk.requests r is.persons there in
-    let parts = and_parts (names_rise r.requestors) (names_rise r.cc && names_rise r.admin_cc) rise in
+    let parts = and_parts (names_rise r.requestors)
+    (names_rise r.cc && names_rise r.admin_cc) rise in
     let others = and_parts (names_rise r.cc) (names_rise r.admin_cc) parts.1 in
     record {
       requestors = parts.0;

@@ -1,5 +1,5 @@
 -- Which request a command changes, by the kind of the command; the others are the same afterwards.
-use Rattle.std.proofs.Common.{◌≡◌, ◌∙◌, ℕ, ◌+◌, ◌<◌, ◌==◌, Bool, true, false, not, cond}
+use Rattle.std.proofs.Common.{◌≡◌, ◌∙◌, ℕ, ◌+◌, ◌<◌, ◌==◌, true, false, not, cond}
 use Rattle.std.proofs.Common.{List, [], ◌∷◌, map, find, length, Option, Some, None, refl, ap}
 use Rattle.std.proofs.Common.{sym, arith}
 use Rattle.std.specs.List.{list_any}
@@ -181,4 +181,5 @@ stays_unless s at caller command desk None id r free is there unnamed =
 pub others_law : (s : Settings) (at : ℕ) (caller : List ℕ) (command : Command) (desk : Desk)
     → KeepsOthers s at caller command desk
 others_law s at caller command desk is id r there unnamed =
-    stays_unless s at caller command desk (guard s at caller command desk) id r refl is there unnamed
+    stays_unless s at caller command desk (guard s at caller command desk) id r refl is there
+    unnamed

@@ -4,7 +4,6 @@ use Rattle.std.specs.Prelude.{Some, None, codes}
 use Rattle.std.specs.List.{list_any}
 use Rattle.std.specs.Str.{bytes_eq}
 use Rattle.lifecycle_core.specs.Lifecycle.{any_status}
-use Rattle.lifecycle_core.specs.declared.parts.MoveRight.{MoveRight}
 use Rattle.lifecycle_core.specs.declared.parts.Parts.{Parts}
 use Rattle.rights_core.specs.Right.{delete_ticket, modify_ticket, watch, watch_as_admin_cc}
 use Rattle.settings_core.specs.declared.settings.Settings.{Settings}
@@ -27,8 +26,8 @@ MaySetPerson settings caller person right request =
     (holds_on settings caller modify_ticket request ≡ true)
     ⊎ ((person ≡ caller) × (holds_on settings caller right request ≡ true))
 
--- the right to put oneself into a role and to take oneself out of it: `Watch` as requestor and as cc,
--- `WatchAsAdminCc` as admincc
+-- the right to put oneself into a role and to take oneself out of it: `Watch` as requestor and as
+-- cc, `WatchAsAdminCc` as admincc
 abbrev pub MaySetRole : Settings → List ℕ → WatchRole → List ℕ → SeenRequest → Type 0
 MaySetRole settings caller Requestor person request =
     MaySetPerson settings caller person watch request

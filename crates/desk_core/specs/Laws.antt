@@ -1,7 +1,7 @@
 -- The laws of one step: what holds of every command by every caller at every moment, whatever the
 -- desk.
 use Rattle.std.specs.Prelude.{◌≡◌, ◌≢◌, ℕ, ◌≤◌, ◌==◌, ⊤, Bool, true, false}
-use Rattle.std.specs.Prelude.{List, [], ◌∷◌, ◌++◌, Option, Some, None, Err, All}
+use Rattle.std.specs.Prelude.{List, ◌++◌, Option, Some, None, Err, All}
 use Rattle.std.specs.List.{list_any}
 use Rattle.lifecycle_core.specs.declared.parts.Parts.{Parts}
 use Rattle.rights_core.specs.Right.{own_ticket}

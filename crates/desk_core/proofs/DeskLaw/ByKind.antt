@@ -31,13 +31,14 @@ use Rattle.desk_model.specs.declared.refusal.Refusal.TheVariants.{BadText, NotFo
 use Rattle.desk_model.specs.declared.rows.Entry.{Entry}
 use Rattle.desk_core.proofs.DeskLaw.Entries.{counts_apart, counts_found}
 use Rattle.desk_core.proofs.DeskLaw.Fitting.{Appends, FilesNext, Fits, FollowOn}
-use Rattle.desk_core.proofs.DeskLaw.Fitting.{LinksAnew, OpensNamed, OpensNew, StaysInQueue, has_count}
+use Rattle.desk_core.proofs.DeskLaw.Fitting.{LinksAnew, OpensNamed, OpensNew, StaysInQueue}
+use Rattle.desk_core.proofs.DeskLaw.Fitting.{has_count}
 use Rattle.desk_core.proofs.Every.{every_found}
 use Rattle.desk_core.proofs.Goes.{NoneHolds, holding, none_holds, number_found, passed, rest_passes}
 
 -- what a plan changes at a call meets this, where the plan's conditions let it pass; a reading
--- changes nothing, which is said in the form of a command on a request, so that one clause covers all
--- commands that leave a part alone
+-- changes nothing, which is said in the form of a command on a request, so that one clause covers
+-- all commands that leave a part alone
 abbrev pub MeetsAt : Call → (Desk → Change → Type 0) → Desk → Plan → Type 0
 MeetsAt call P desk (Reads topic answer) =
     (r : Request) → request_at desk r.row.id ≡ Some r → r.row.id ≡ r.row.id
@@ -73,8 +74,8 @@ on_request P call desk id (Some r) front asks change there nothing meets free =
 -- what goes for the plan goes for the change
 pub by_plan_at : (P : Desk → Change → Type 0) (call : Call) (plan : Plan) (front : List Condition)
     (desk : Desk) → P desk no_change
-    → MeetsAt call P desk plan → first_holding (front ++ conditions_by call (seen_by plan desk) plan)
-    ≡ None
+    → MeetsAt call P desk plan
+    → first_holding (front ++ conditions_by call (seen_by plan desk) plan) ≡ None
     → P desk (change_by call (seen_by plan desk) plan)
 by_plan_at P call (Reads topic answer) front desk nothing meets free = nothing
 by_plan_at P call (OnQueue name conditions change) front desk nothing meets free =
@@ -90,8 +91,8 @@ by_plan_at P call (OnRequest id Dependencies text conditions change) front desk 
     on_request (P desk) call desk id (request_at desk id) ((BadText, is_bad_text text) ∷ [])
     (conditions call facts) (change call facts) refl nothing meets
     (rest_passes front _ free)
-by_plan_at P call (OnRequest id (Another kind other) text conditions change) front desk nothing meets
-    free =
+by_plan_at P call (OnRequest id (Another kind other) text conditions change) front desk nothing
+    meets free =
     let facts = besides_on (Another kind other) id desk in
     on_request (P desk) call desk id (request_at desk id) ((BadText, is_bad_text text) ∷ [])
     (λ request. (NotFound, is_missing call facts.other) ∷ conditions call facts request)
