@@ -8,6 +8,7 @@ pub mod Depends
 pub mod DeskLaw
 pub mod DueLaw
 pub mod EachRequest
+pub mod Ends
 pub mod Every
 pub mod Goes
 pub mod Identity
