@@ -39,11 +39,11 @@ identity_stays : (s : Settings) (at : ℕ) (caller : List ℕ) (command : Comman
 identity_stays s at caller command desk id before after was is =
     elim (set_by s at caller command desk id before after was is) [
       | inl kept ↦ record {
-            number = ap (λ (r : RequestRow). r.id) kept;
-            queue = ap (λ (r : RequestRow). r.queue) kept;
-            subject = ap (λ (r : RequestRow). r.subject) kept;
-            created = ap (λ (r : RequestRow). r.created) kept;
-          }
+        number = ap (λ (r : RequestRow). r.id) kept;
+        queue = ap (λ (r : RequestRow). r.queue) kept;
+        subject = ap (λ (r : RequestRow). r.subject) kept;
+        created = ap (λ (r : RequestRow). r.created) kept;
+      }
       | inr sets ↦
           (row_goes IdentityGoes s at caller command desk id before after was
           (ids_kept command) (identities_go command) sets).0

@@ -1,5 +1,6 @@
 pub mod Added
 pub mod Applied
+pub mod Asked
 pub mod AsMissing
 pub mod Bounds
 pub mod Changed
@@ -15,6 +16,7 @@ pub mod Kept
 pub mod NamedRights
 pub mod NamesLaw
 pub mod Opened
+pub mod Orders
 pub mod Readings
 pub mod Rising
 pub mod Roles

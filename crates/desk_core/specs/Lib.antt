@@ -1,8 +1,10 @@
+pub mod Asked
 pub mod Bounds
 pub mod Context
 pub mod Decision
 pub mod Histories
 pub mod Laws
 pub mod Opened
+pub mod Orders
 pub mod Shown
 pub mod Stays

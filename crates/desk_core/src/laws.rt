@@ -10,9 +10,12 @@ ghost use Rattle.desk_core.specs.Laws.{AtEveryStep, HidesTheRest, KeepsDependenc
 ghost use Rattle.desk_core.specs.Laws.{KeepsOwnerLaw, KeepsStatusLaw, LeavesTheDesk};
 ghost use Rattle.desk_core.specs.Laws.{RefusesAsMissing};
 ghost use Rattle.desk_core.specs.Laws.{ShowsByWatchers, TellsDueMoments, TellsOfTheView};
+ghost use Rattle.lifecycle_core.specs.declared.parts.Parts.{Parts};
+ghost use Rattle.desk_core.specs.Asked.{AsksToWatch, AsksUsualRight, LinksShown};
 ghost use Rattle.desk_core.specs.Bounds.{KeepsEntryLimit, KeepsQueueLimit, KeepsRequestLimit};
 ghost use Rattle.desk_core.specs.Histories.{KeepsEntriesLaw, KeepsStatusesTold, TellsStatuses};
 ghost use Rattle.desk_core.specs.Opened.{KeepsOpenedLaw};
+ghost use Rattle.desk_core.specs.Orders.{TellsInOrder};
 ghost use Rattle.desk_core.specs.Shown.{ShowsByList};
 ghost use Rattle.desk_core.specs.Stays.{KeepsIdentity, KeepsOthers};
 ghost use Rattle.text_core.specs.Texts.{is_among};
@@ -65,6 +68,23 @@ pub fn status_law()
     ensures { AtEveryStep KeepsStatusLaw }
 {}
 
+/// Who puts a person into a role on a request, or takes one out of it, holds `ModifyTicket`, or names
+/// himself and holds `Watch`, as admincc `WatchAsAdminCc`.
+pub fn watch_law()
+    ensures { AtEveryStep AsksToWatch }
+{}
+
+/// A move that no entry of the lifecycle names asks for `DeleteTicket` where it is to `deleted`, and
+/// for `ModifyTicket` where it isn't.
+pub fn usual_right_law()
+    ensures { (lifecycle : Parts) (from : List ℕ) (to : List ℕ) → AsksUsualRight lifecycle from to }
+{}
+
+/// Both ends of a link that a command puts are requests that the caller may show.
+pub fn ends_law()
+    ensures { AtEveryStep LinksShown }
+{}
+
 /// A request stays, and it becomes inactive by a change of status only where all that it depends on
 /// is inactive.
 pub fn dependency_law()
@@ -93,6 +113,12 @@ pub fn limits_law()
 /// A reading command leaves the desk as it was.
 pub fn reading_law()
     ensures { AtEveryStep LeavesTheDesk }
+{}
+
+/// What a command answers on a well-formed desk is in order: queues by their names, the persons of
+/// each role by their bytes, linked requests and entries by their numbers.
+pub fn orders_law()
+    ensures { AtEveryStep TellsInOrder }
 {}
 
 /// What comes of a reading command is told of the caller's view of the desk alone. A request

@@ -66,12 +66,12 @@ lower_is a b =
     (lower_then (kind_number a.kind) (kind_number b.kind) (nat_cmp a.target b.target))
     ∙ lower_then a.source b.source later
 
-links_go_on : IsTransitive is_lower_link
+pub links_go_on : IsTransitive is_lower_link
 links_go_on x y z one two =
     lower_is x z ∙ orders_go_on link_order_total x y z (sym (lower_is x y) ∙ one)
     (sym (lower_is y z) ∙ two)
 
-same_kind : (a b : LinkKind) → is_kind a b ≡ (kind_number a == kind_number b)
+pub same_kind : (a b : LinkKind) → is_kind a b ≡ (kind_number a == kind_number b)
 same_kind DependsOn DependsOn = refl
 same_kind DependsOn MemberOf = refl
 same_kind DependsOn RefersTo = refl
