@@ -1,13 +1,23 @@
-//! Cases of the tables, and of the desk over them. After a line `=== NAME` stand statements of SQL,
-//! which are run on a new database in memory, and after a line `---` either
+//! Cases of the desk: scripts, the desk over tables, and the tables.
+//!
+//! A line `=== NAME` begins a case, which goes up to the next such line or the end. Without a line
+//! `---` it is a script, which is run over a desk of its own: what it prints is written, and its
+//! status. Else statements of SQL, which are run on a new database in memory, stand before that
+//! line, and after it either
 //!
 //! - calls of a store, a line each, which are written again with their answers, or
 //! - a text of settings, and after a line `%%` commands, a line each: a moment, a caller and words.
 //!   The whole list is asked at once, and each outcome is written as its text. Where the settings
 //!   can't be attached, it is written why, and what the store holds that is given back.
 //!
-//! A line `<<NAME>>` in a case stands for the text that a part `=== <<NAME>>` gave before. A line
-//! that isn't understood ends all.
+//! In a case words in `<<` and `>>` stand for others:
+//!
+//! - `<<3*TEXT>>` for the text three times, in which `@` is the number of the time, from 1,
+//! - `<<byte 255>>` for that byte,
+//! - `<<end>>` for the case's end,
+//! - `<<NAME>>` for the text that a part `=== <<NAME>>` gave before.
+//!
+//! Cases that aren't UTF-8 write nothing. A call or a command that isn't understood ends all.
 #![tactic(auto)]
 
 mod asks;
@@ -16,6 +26,7 @@ mod desks;
 mod expansion;
 mod failure;
 mod lists;
+mod scripts;
 mod stores;
 mod telling;
 
@@ -69,7 +80,15 @@ fn name_of_text(name: &str) -> Option<&str> {
 fn answer(rt: &HostRuntime, named: &[Named<'_>], name: &str, text: &str) -> Result<(), Failure> {
     println!(rt; "{BEGIN}{name}")?;
     let case = expanded(rt.alloc(), named, text)?;
-    let (statements, asked) = case.as_str().split_once(ASKED).ok_or(Failure::BadLine)?;
+    match text.split_once(ASKED) {
+        Some(_) => answer_on_tables(rt, str::from_utf8(case.as_slice()).unwrap_or("")),
+        None => scripts::run_case(rt, case.as_slice()),
+    }
+}
+
+/// Writes what comes of a case that has tables.
+fn answer_on_tables(rt: &HostRuntime, case: &str) -> Result<(), Failure> {
+    let (statements, asked) = case.split_once(ASKED).ok_or(Failure::BadLine)?;
     match asked.split_once(COMMANDS) {
         Some((settings, commands)) => desks::run_case(rt, statements, settings, commands),
         None => stores::run_case(rt, statements, asked),
