@@ -2,8 +2,9 @@
 //!
 //! A line `=== NAME` begins a case, which goes up to the next such line or the end. Without a line
 //! `---` it is a script, which is run over a desk of its own: what it prints is written, and its
-//! status. Else statements of SQL, which are run on a new database in memory, stand before that
-//! line, and after it either
+//! status; or, where lines that name readers and writers stand after a line `+++`, what comes of it
+//! over each of them. With a line `---` statements of SQL stand before it, which are run on a new
+//! database in memory, and after it either
 //!
 //! - calls of a store, a line each, which are written again with their answers, or
 //! - a text of settings, and after a line `%%` commands, a line each: a moment, a caller and words.
@@ -25,9 +26,11 @@ mod changes;
 mod desks;
 mod expansion;
 mod failure;
+mod faults;
 mod lists;
 mod scripts;
 mod stores;
+mod streams;
 mod telling;
 
 use crate::expansion::{Named, expanded};
@@ -40,6 +43,9 @@ const BEGIN: &str = "=== ";
 
 /// What stands after the statements.
 const ASKED: &str = "---\n";
+
+/// What stands between a script and the readers and writers that it is run over.
+const STREAMS: &str = "+++\n";
 
 /// What stands between settings and commands.
 const COMMANDS: &str = "%%\n";
@@ -79,7 +85,11 @@ fn name_of_text(name: &str) -> Option<&str> {
 /// Writes the name of a case, and what comes of it.
 fn answer(rt: &HostRuntime, named: &[Named<'_>], name: &str, text: &str) -> Result<(), Failure> {
     println!(rt; "{BEGIN}{name}")?;
+    let (text, streams) = text.split_once(STREAMS).unwrap_or((text, ""));
     let case = expanded(rt.alloc(), named, text)?;
+    if !streams.is_empty() {
+        return faults::run_case(rt, case.as_slice(), streams);
+    }
     match text.split_once(ASKED) {
         Some(_) => answer_on_tables(rt, str::from_utf8(case.as_slice()).unwrap_or("")),
         None => scripts::run_case(rt, case.as_slice()),
