@@ -3,18 +3,19 @@ use std::io::{Error, ErrorKind, Read, Result, Write};
 
 /// A reader that gives one byte at a time, and fails after a number of reads, if told to.
 #[derive(Drop)]
-pub struct Slow<'b> {
-    pub bytes: &'b [u8],
-    pub reads: u32,
-    pub fails_at: Option<u32>,
+pub(crate) struct Slow<'b> {
+    pub(crate) bytes: &'b [u8],
+    pub(crate) reads: u32,
+    pub(crate) fails_at: Option<u32>,
 }
 
 impl Read for Slow<'_> {
     fn read(&mut self, buf: &mut [u8]) -> Result<usize> {
-        if self.fails_at == Some(self.reads) {
+        let fails = self.fails_at == Some(self.reads);
+        self.reads = self.reads.saturating_add(1);
+        if fails {
             return Err(Error::from(ErrorKind::BrokenPipe));
         }
-        self.reads = self.reads.saturating_add(1);
         let Some((first, rest)) = self.bytes.split_first() else {
             return Ok(0);
         };
@@ -29,8 +30,8 @@ impl Read for Slow<'_> {
 
 /// A reader that never ends, and gives one byte at a time.
 #[derive(Drop)]
-pub struct Endless {
-    pub reads: u32,
+pub(crate) struct Endless {
+    pub(crate) reads: u32,
 }
 
 impl Read for Endless {
@@ -47,11 +48,11 @@ impl Read for Endless {
 /// A writer that takes a byte at a time, but for one write that fails, or takes none. It would take
 /// more afterwards.
 #[derive(Drop)]
-pub struct Faltering {
-    pub taken: Vec<u8>,
-    pub falters_at: u64,
-    pub fails: bool,
-    pub writes: u64,
+pub(crate) struct Faltering {
+    pub(crate) taken: Vec<u8>,
+    pub(crate) falters_at: u32,
+    pub(crate) fails: bool,
+    pub(crate) writes: u32,
 }
 
 impl Write for Faltering {

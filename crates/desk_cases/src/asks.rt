@@ -17,6 +17,12 @@ pub(crate) fn asks_of(alloc: Global, lines: &str) -> Result<Vec<Ask>, Failure> {
     Ok(asks)
 }
 
+/// The command that the words of a line spell.
+pub(crate) fn command_of(alloc: Global, line: &str) -> Result<Command, Failure> {
+    let words = words_of(alloc, line).map_err(failure_of)?;
+    command_of_words(alloc, words.as_slice()).map_err(failure_of)
+}
+
 /// What a line `MOMENT CALLER WORDS ..` asks.
 fn ask_of(alloc: Global, line: &str) -> Result<Ask, Failure> {
     let words = words_of(alloc, line).map_err(failure_of)?;

@@ -1,13 +1,24 @@
-//! Cases of the tables, and of the desk over them. After a line `=== NAME` stand statements of SQL,
-//! which are run on a new database in memory, and after a line `---` either
+//! Cases of the desk: scripts, the desk over tables, and the tables.
+//!
+//! A line `=== NAME` begins a case, which goes up to the next such line or the end. Without a line
+//! `---` it is a script, which is run over a desk of its own: what it prints is written, and its
+//! status; or, where lines that name readers and writers stand after a line `+++`, what comes of it
+//! over each of them. With a line `---` statements of SQL stand before it, which are run on a new
+//! database in memory, and after it either
 //!
 //! - calls of a store, a line each, which are written again with their answers, or
 //! - a text of settings, and after a line `%%` commands, a line each: a moment, a caller and words.
 //!   The whole list is asked at once, and each outcome is written as its text. Where the settings
 //!   can't be attached, it is written why, and what the store holds that is given back.
 //!
-//! A line `<<NAME>>` in a case stands for the text that a part `=== <<NAME>>` gave before. A line
-//! that isn't understood ends all.
+//! In a case words in `<<` and `>>` stand for others:
+//!
+//! - `<<3*TEXT>>` for the text three times, in which `@` is the number of the time, from 1,
+//! - `<<byte 255>>` for that byte,
+//! - `<<end>>` for the case's end,
+//! - `<<NAME>>` for the text that a part `=== <<NAME>>` gave before.
+//!
+//! Cases that aren't UTF-8 write nothing. A call or a command that isn't understood ends all.
 #![tactic(auto)]
 
 mod asks;
@@ -15,8 +26,11 @@ mod changes;
 mod desks;
 mod expansion;
 mod failure;
+mod faults;
 mod lists;
+mod scripts;
 mod stores;
+mod streams;
 mod telling;
 
 use crate::expansion::{Named, expanded};
@@ -29,6 +43,9 @@ const BEGIN: &str = "=== ";
 
 /// What stands after the statements.
 const ASKED: &str = "---\n";
+
+/// What stands between a script and the readers and writers that it is run over.
+const STREAMS: &str = "+++\n";
 
 /// What stands between settings and commands.
 const COMMANDS: &str = "%%\n";
@@ -68,8 +85,20 @@ fn name_of_text(name: &str) -> Option<&str> {
 /// Writes the name of a case, and what comes of it.
 fn answer(rt: &HostRuntime, named: &[Named<'_>], name: &str, text: &str) -> Result<(), Failure> {
     println!(rt; "{BEGIN}{name}")?;
+    let (text, streams) = text.split_once(STREAMS).unwrap_or((text, ""));
     let case = expanded(rt.alloc(), named, text)?;
-    let (statements, asked) = case.as_str().split_once(ASKED).ok_or(Failure::BadLine)?;
+    if !streams.is_empty() {
+        return faults::run_case(rt, case.as_slice(), streams);
+    }
+    match text.split_once(ASKED) {
+        Some(_) => answer_on_tables(rt, str::from_utf8(case.as_slice()).unwrap_or("")),
+        None => scripts::run_case(rt, case.as_slice()),
+    }
+}
+
+/// Writes what comes of a case that has tables.
+fn answer_on_tables(rt: &HostRuntime, case: &str) -> Result<(), Failure> {
+    let (statements, asked) = case.split_once(ASKED).ok_or(Failure::BadLine)?;
     match asked.split_once(COMMANDS) {
         Some((settings, commands)) => desks::run_case(rt, statements, settings, commands),
         None => stores::run_case(rt, statements, asked),

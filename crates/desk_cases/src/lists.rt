@@ -1,5 +1,6 @@
 //! What is read of a store: a line for the call, and one for each row.
 
+use crate::asks::command_of;
 use crate::changes::number;
 use crate::failure::Failure;
 use crate::stores::tell;
@@ -156,7 +157,27 @@ pub fn facts<S: Alter>(
         id: number(id)?,
         status: Text::new(rt.alloc(), "resolved")?,
     };
-    match store.facts_for(rt.alloc(), &command) {
+    tell_facts(rt, line, store, &command)
+}
+
+/// The same of what the command looks at that the words spell.
+pub fn facts_for<S: Alter>(
+    rt: &HostRuntime,
+    line: &str,
+    store: &mut Store<S>,
+    words: &str,
+) -> Result<(), Failure> {
+    let command = command_of(rt.alloc(), words)?;
+    tell_facts(rt, line, store, &command)
+}
+
+fn tell_facts<S: Alter>(
+    rt: &HostRuntime,
+    line: &str,
+    store: &mut Store<S>,
+    command: &Command,
+) -> Result<(), Failure> {
+    match store.facts_for(rt.alloc(), command) {
         Ok(facts) => seen(rt, line, &facts),
         Err(fault) => tell(rt, line, Err(fault)),
     }

@@ -2,7 +2,7 @@
 
 use crate::changes::{change_of, number};
 use crate::failure::Failure;
-use crate::lists::{entries, facts, links, queues, requests, watchers};
+use crate::lists::{entries, facts, facts_for, links, queues, requests, watchers};
 use sqlite::{Alter, Connection, MemStore};
 use std::alloc::Global;
 use store_core::{Store, StoreFault};
@@ -48,6 +48,7 @@ fn answer<S: Alter>(rt: &HostRuntime, store: &mut Store<S>, line: &str) -> Resul
         "links_to" => links(rt, line, store.links_to(rt.alloc(), number(rest)?)),
         "entries" => entries(rt, line, store, rest),
         "facts" => facts(rt, line, store, rest),
+        "facts_for" => facts_for(rt, line, store, rest),
         _ => {
             let change = change_of(rt.alloc(), call, rest)?;
             tell(rt, line, store.apply(&change))
