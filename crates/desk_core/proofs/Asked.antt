@@ -6,7 +6,8 @@ use Rattle.std.specs.List.{list_any}
 use Rattle.std.specs.Option.{option_map, option_map_or}
 use Rattle.std.specs.Str.{bytes_eq}
 use Rattle.std.proofs.lemmas.Bool.{and_cases, and_left, and_parts, and_right, cond-false, cond-true}
-use Rattle.std.proofs.lemmas.Bool.{eqb-true, false_from_ne_true, or_cases, or_left, or_parts, or_right}
+use Rattle.std.proofs.lemmas.Bool.{eqb-true, false_from_ne_true, or_cases, or_left, or_parts}
+use Rattle.std.proofs.lemmas.Bool.{or_right}
 use Rattle.std.proofs.lemmas.Slice.Eq.{bytes_eq-Decides}
 use Rattle.hours_core.specs.Moment.{is_moment}
 use Rattle.lifecycle_core.specs.Lifecycle.{any_status, right_of_entry, right_of_move, usual_right}
@@ -222,7 +223,8 @@ puts desk (Create queue subject status requestors) = λ call none. tt
 puts desk (Link id kind other) = λ call r there same none. ap (λ n. link n kind other) (sym same)
 puts desk other = λ call r there same none. tt
 
-not_missing : (call : Call) (o : Option Request) → is_missing call (option_map seen_request o) ≡ false
+not_missing : (call : Call) (o : Option Request) → is_missing call (option_map seen_request o)
+    ≡ false
     → option_map_or (may_show call.settings call.caller) (option_map seen_request o) false ≡ true
 not_missing call None shown = cc
 not_missing call (Some r) shown =
@@ -266,7 +268,8 @@ put_or_there asked l (m ∷ ms) there before =
             | inr was ↦ let no : true ≡ false = sym was ∙ before in cc
           ]
       | false ↦ λ h.
-          elim (or_cases (is_link asked m) (list_any (is_link asked) (placed is_lower_link ms l)) h) [
+          elim (or_cases (is_link asked m)
+          (list_any (is_link asked) (placed is_lower_link ms l)) h) [
             | inl here ↦ let no : true ≡ false = sym here ∙ parts.0 in cc
             | inr further ↦ put_or_there asked l ms further parts.1
           ]

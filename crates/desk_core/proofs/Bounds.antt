@@ -263,7 +263,8 @@ entries_unless s at caller command desk (Some refusal) refused is least short = 
 entries_unless s at caller command desk None free is least short =
     let asks = call s at caller in
     let plan = plan_of command in
-    by_plan_at (λ d change. HasShortHistories s d → HasShortHistories s (applied change d)) asks plan
+    by_plan_at (λ d change. HasShortHistories s d
+    → HasShortHistories s (applied change d)) asks plan
     (on_call s at caller) desk (λ all. all)
     (short_by_plan plan asks desk is least (asks_room command) (touches desk command)) free short
 

@@ -159,7 +159,8 @@ entries_staffed change r =
 pub row_changed : (change : Change) (r : Request)
     → (changed change r).row ≡ row_after change.row r.row
 row_changed change r =
-    left_by_all (λ x. x.row) noted_on (λ x e. left_at (λ y. y.row) e.id (with_entry e) (λ y. refl) x)
+    left_by_all (λ x. x.row) noted_on
+    (λ x e. left_at (λ y. y.row) e.id (with_entry e) (λ y. refl) x)
     change.entries (staffed change r)
     ∙ row_staffed change r
 
@@ -228,7 +229,8 @@ pub found_changed : (change : Change) (desk : Desk) (id : ℕ) (r : Request)
     → request_at desk id ≡ Some r → request_at (applied change desk) id ≡ Some (changed change r)
 found_changed change desk id r there =
     ap (find (λ x. x.row.id == id)) (requests_after change desk)
-    ∙ found_mapped (changed change) (id_changed change) id (request_filed change.filed desk).requests
+    ∙ found_mapped (changed change) (id_changed change) id
+    (request_filed change.filed desk).requests
     ∙ ap (option_map (changed change)) (still_found change.filed desk id r there)
 
 -- each of these has the number
@@ -274,7 +276,9 @@ spared change n r only other =
     (spared_by_all (λ w. w.id) put_on n r (λ w. spared_at r n w.id (adding w) other) change.put
     only.put)
     ∙ ap (λ q. fold noted_on q change.entries)
-    (spared_by_all (λ w. w.id) taken_from n r (λ w. spared_at r n w.id (taking w) other) change.taken
+    (spared_by_all (λ w. w.id) taken_from n r
+    (λ w. spared_at r n w.id (taking w) other) change.taken
     only.taken)
-    ∙ spared_by_all (λ e. e.id) noted_on n r (λ e. spared_at r n e.id (with_entry e) other) change.entries
+    ∙ spared_by_all (λ e. e.id) noted_on n r
+    (λ e. spared_at r n e.id (with_entry e) other) change.entries
     only.entries

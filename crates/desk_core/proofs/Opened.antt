@@ -80,7 +80,8 @@ opens_go (Reply id text) = λ call facts request new same free sets anew.
 opens_go other = λ call facts request new same free sets anew.
     let lifecycle = lifecycle_of call.settings facts.queue in
     absurd (never_anew lifecycle request.row.status
-    (ap (λ o. opens_anew lifecycle request.row.status (status_in o request.row.status)) sets ∙ anew))
+    (ap (λ o. opens_anew lifecycle request.row.status (status_in o request.row.status)) sets
+    ∙ anew))
 
 -- each limit counts from the moment at which the request was opened and the turn began
 limits_count : (at : ℕ) (row : RequestRow) → row.opened ≡ at → row.since ≡ at

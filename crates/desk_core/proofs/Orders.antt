@@ -1,6 +1,7 @@
 -- What a command answers is in order.
 use Rattle.std.proofs.Common.{◌≡◌, ◌∙◌, ℕ, ◌+◌, ◌==◌, Bool, true, false, ◌&&◌, ◌||◌, cond}
-use Rattle.std.proofs.Common.{List, [], ◌∷◌, filter, map, Option, Some, None, inl, inr, refl, ap, sym, arith}
+use Rattle.std.proofs.Common.{List, [], ◌∷◌, filter, map, Option, Some, None, inl, inr, refl, ap}
+use Rattle.std.proofs.Common.{sym, arith}
 use Rattle.std.specs.Bool.{nat_lt}
 use Rattle.std.specs.Cmp.Lexicographic.{nat_list_cmp_total}
 use Rattle.std.specs.List.{list_all}
@@ -215,7 +216,8 @@ shown_of_request call desk id None is there = tt
 shown_of_request call desk id (Some r) is there =
     let rise : persons_rise r ≡ true =
     every_found persons_rise (λ x. x.row.id == id) desk.requests r is.persons there in
-    let parts = and_parts (names_rise r.requestors) (names_rise r.cc && names_rise r.admin_cc) rise in
+    let parts = and_parts (names_rise r.requestors)
+        (names_rise r.cc && names_rise r.admin_cc) rise in
     let others = and_parts (names_rise r.cc) (names_rise r.admin_cc) parts.1 in
     record {
       requestors = parts.0;

@@ -55,7 +55,8 @@ in_one person asked r =
 
 -- the watchers of a request tell each person's roles on it
 pub watchers_tell : (person : List ℕ) (r : Request) → TellsRoles person r (watchers_of r)
-watchers_tell person r Requestor = in_one person Requestor r ∙ or-false (is_among r.requestors person)
+watchers_tell person r Requestor = in_one person Requestor r
+    ∙ or-false (is_among r.requestors person)
 watchers_tell person r Cc = in_one person Cc r ∙ or-false (is_among r.cc person)
 watchers_tell person r AdminCc = in_one person AdminCc r
 

@@ -181,4 +181,5 @@ stays_unless s at caller command desk None id r free is there unnamed =
 pub others_law : (s : Settings) (at : ℕ) (caller : List ℕ) (command : Command) (desk : Desk)
     → KeepsOthers s at caller command desk
 others_law s at caller command desk is id r there unnamed =
-    stays_unless s at caller command desk (guard s at caller command desk) id r refl is there unnamed
+    stays_unless s at caller command desk
+    (guard s at caller command desk) id r refl is there unnamed

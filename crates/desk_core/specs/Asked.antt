@@ -27,8 +27,8 @@ MaySetPerson settings caller person right request =
     (holds_on settings caller modify_ticket request ≡ true)
     ⊎ ((person ≡ caller) × (holds_on settings caller right request ≡ true))
 
--- the right to put oneself into a role and to take oneself out of it: `Watch` as requestor and as cc,
--- `WatchAsAdminCc` as admincc
+-- the right to put oneself into a role and to take oneself out of it: `Watch` as requestor and as
+-- cc, `WatchAsAdminCc` as admincc
 abbrev pub MaySetRole : Settings → List ℕ → WatchRole → List ℕ → SeenRequest → Type 0
 MaySetRole settings caller Requestor person request =
     MaySetPerson settings caller person watch request

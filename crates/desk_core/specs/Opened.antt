@@ -18,12 +18,13 @@ pub record IsOpenSince (at : ℕ) (row : RequestRow) : Type 0 where
       → least_due opens level row ≡ sooner (due_of_limit opens level at level.resolve)
       (due_of_limit opens level at (limit_on_turn level row.turn))
 
--- The opened law: a request stays, and where it is moved out of an inactive status to one that isn't
--- inactive, each limit counts from the moment of the step.
+-- The opened law: a request stays, and where it is moved out of an inactive status to one that
+-- isn't inactive, each limit counts from the moment of the step.
 abbrev pub OpenedLaw : Settings → ℕ → Desk → Desk → Type 0
 OpenedLaw settings at old new =
     EachStays old new (λ before after.
-    opens_anew (lifecycle_of settings (queue_at old before.row.queue)) before.row.status after.row.status
+    opens_anew (lifecycle_of settings
+    (queue_at old before.row.queue)) before.row.status after.row.status
     ≡ true
     → IsOpenSince at after.row)
 

@@ -10,8 +10,8 @@ use Rattle.desk_model.specs.Watchers.{is_watching, may_show_by}
 use Rattle.desk_model.specs.declared.rows.Watcher.{Watcher}
 use Rattle.desk_model.specs.declared.rows.WatchRole.{WatchRole}
 
--- in the list the person stands in a role of the request exactly where the request has the person in
--- that role
+-- in the list the person stands in a role of the request exactly where the request has the person
+-- in that role
 abbrev pub TellsRoles : List ℕ → Request → List Watcher → Type 0
 TellsRoles person request watchers =
     (role : WatchRole)

@@ -15,8 +15,8 @@ pub record IsSameRequest (before after : RequestRow) : Type 0 where
   pub subject : after.subject ≡ before.subject
   pub created : after.created ≡ before.created
 
--- The identity law: a request stays, with its number, its queue, its subject and the moment at which
--- it was filed.
+-- The identity law: a request stays, with its number, its queue, its subject and the moment at
+-- which it was filed.
 abbrev pub IdentityLaw : Desk → Desk → Type 0
 IdentityLaw old new = EachStays old new (λ before after. IsSameRequest before.row after.row)
 

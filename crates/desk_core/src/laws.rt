@@ -68,14 +68,14 @@ pub fn status_law()
     ensures { AtEveryStep KeepsStatusLaw }
 {}
 
-/// Who puts a person into a role on a request, or takes one out of it, holds `ModifyTicket`, or names
-/// himself and holds `Watch`, as admincc `WatchAsAdminCc`.
+/// Who puts a person into a role on a request, or takes one out of it, holds `ModifyTicket`, or
+/// names himself and holds `Watch`, as admincc `WatchAsAdminCc`.
 pub fn watch_law()
     ensures { AtEveryStep AsksToWatch }
 {}
 
-/// A move that no entry of the lifecycle names asks for `DeleteTicket` where it is to `deleted`, and
-/// for `ModifyTicket` where it isn't.
+/// A move that no entry of the lifecycle names asks for `DeleteTicket` where it is to `deleted`,
+/// and for `ModifyTicket` where it isn't.
 pub fn usual_right_law()
     ensures { (lifecycle : Parts) (from : List ℕ) (to : List ℕ) → AsksUsualRight lifecycle from to }
 {}
@@ -102,8 +102,8 @@ pub fn due_law()
     ensures { AtEveryStep TellsDueMoments }
 {}
 
-/// A command keeps the limits: of 1,000 queues, of the settings' requests, and, on a well-formed desk
-/// where the settings allow an entry at all, of the settings' entries of each request.
+/// A command keeps the limits: of 1,000 queues, of the settings' requests, and, on a well-formed
+/// desk where the settings allow an entry at all, of the settings' entries of each request.
 pub fn limits_law()
     ensures queues { AtEveryStep KeepsQueueLimit }
     ensures requests { AtEveryStep KeepsRequestLimit }

@@ -31,13 +31,14 @@ use Rattle.desk_model.specs.declared.refusal.Refusal.TheVariants.{BadText, NotFo
 use Rattle.desk_model.specs.declared.rows.Entry.{Entry}
 use Rattle.desk_core.proofs.DeskLaw.Entries.{counts_apart, counts_found}
 use Rattle.desk_core.proofs.DeskLaw.Fitting.{Appends, FilesNext, Fits, FollowOn}
-use Rattle.desk_core.proofs.DeskLaw.Fitting.{LinksAnew, OpensNamed, OpensNew, StaysInQueue, has_count}
+use Rattle.desk_core.proofs.DeskLaw.Fitting.{LinksAnew, OpensNamed, OpensNew, StaysInQueue}
+use Rattle.desk_core.proofs.DeskLaw.Fitting.{has_count}
 use Rattle.desk_core.proofs.Every.{every_found}
 use Rattle.desk_core.proofs.Goes.{NoneHolds, holding, none_holds, number_found, passed, rest_passes}
 
 -- what a plan changes at a call meets this, where the plan's conditions let it pass; a reading
--- changes nothing, which is said in the form of a command on a request, so that one clause covers all
--- commands that leave a part alone
+-- changes nothing, which is said in the form of a command on a request, so that one clause covers
+-- all commands that leave a part alone
 abbrev pub MeetsAt : Call → (Desk → Change → Type 0) → Desk → Plan → Type 0
 MeetsAt call P desk (Reads topic answer) =
     (r : Request) → request_at desk r.row.id ≡ Some r → r.row.id ≡ r.row.id
@@ -59,7 +60,8 @@ on_request : (P : Change → Type 0) (call : Call) (desk : Desk) (id : ℕ) (o :
     (front : List Condition)
     (asks : SeenRequest → List Condition) (change : SeenRequest → Change) → request_at desk id ≡ o
     → P no_change
-    → ((r : Request) → request_at desk id ≡ Some r → id ≡ r.row.id → NoneHolds (asks (seen_request r))
+    → ((r : Request) → request_at desk id ≡ Some r → id ≡ r.row.id
+    → NoneHolds (asks (seen_request r))
     → P (change (seen_request r)))
     → first_holding (front ++ on_shown call (option_map seen_request o) asks) ≡ None
     → P (change_of_request (option_map seen_request o) change)
@@ -73,7 +75,8 @@ on_request P call desk id (Some r) front asks change there nothing meets free =
 -- what goes for the plan goes for the change
 pub by_plan_at : (P : Desk → Change → Type 0) (call : Call) (plan : Plan) (front : List Condition)
     (desk : Desk) → P desk no_change
-    → MeetsAt call P desk plan → first_holding (front ++ conditions_by call (seen_by plan desk) plan)
+    → MeetsAt call P desk plan
+    → first_holding (front ++ conditions_by call (seen_by plan desk) plan)
     ≡ None
     → P desk (change_by call (seen_by plan desk) plan)
 by_plan_at P call (Reads topic answer) front desk nothing meets free = nothing
@@ -90,7 +93,8 @@ by_plan_at P call (OnRequest id Dependencies text conditions change) front desk 
     on_request (P desk) call desk id (request_at desk id) ((BadText, is_bad_text text) ∷ [])
     (conditions call facts) (change call facts) refl nothing meets
     (rest_passes front _ free)
-by_plan_at P call (OnRequest id (Another kind other) text conditions change) front desk nothing meets
+by_plan_at P call (OnRequest id
+    (Another kind other) text conditions change) front desk nothing meets
     free =
     let facts = besides_on (Another kind other) id desk in
     on_request (P desk) call desk id (request_at desk id) ((BadText, is_bad_text text) ∷ [])
@@ -147,7 +151,8 @@ stays desk is other = λ call r there same none. (
       (λ x. is_some (queue_at desk x.row.queue)) _ desk.requests r is.filed_in there,
 )
 
-shown_there : (call : Call) (o : Option Request) → is_missing call (option_map seen_request o) ≡ false
+shown_there : (call : Call) (o : Option Request) → is_missing call (option_map seen_request o)
+    ≡ false
     → is_some o ≡ true
 shown_there call None shown = cc
 shown_there call (Some r) shown = refl

@@ -14,7 +14,8 @@ use Rattle.desk_model.specs.declared.change.Change.{Change}
 use Rattle.desk_model.specs.declared.rows.QueueRow.{QueueRow}
 use Rattle.desk_model.specs.declared.rows.RequestRow.{RequestRow}
 use Rattle.desk_model.specs.declared.rows.WatchRole.TheVariants.{Requestor, Cc, AdminCc}
-use Rattle.desk_core.proofs.DeskLaw.Fitting.{FilesNext, OpensNamed, OpensNew, StaysInQueue, queue_in}
+use Rattle.desk_core.proofs.DeskLaw.Fitting.{FilesNext, OpensNamed, OpensNew, StaysInQueue}
+use Rattle.desk_core.proofs.DeskLaw.Fitting.{queue_in}
 use Rattle.desk_core.proofs.DeskLaw.Stages.{HoldsAtPersons, HoldsAtRow, all_revised}
 use Rattle.desk_core.proofs.DeskLaw.Stages.{all_with_links, by_all, queues_after, with_links}
 use Rattle.desk_core.proofs.Every.{every_placed, every_so}
