@@ -1,9 +1,3 @@
-pub use Rattle.text_core.specs.Form
-pub mod Arguments
-pub mod Faults
-pub mod Number
-pub mod Reader
-pub mod Spelling
-pub mod Subcommands
-pub mod Table
-pub mod Words
+pub use Rattle.desk_words.specs.Number
+pub use Rattle.desk_words.specs.Spelling
+pub use Rattle.desk_words.specs.Words
