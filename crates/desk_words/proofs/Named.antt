@@ -1,5 +1,5 @@
 -- A command that takes a subcommand of the command line, if there is one.
-use Rattle.std.proofs.Common.{List, ◌++◌, Option, Some, None, Result, IfOk}
+use Rattle.std.proofs.Common.{◌≡◌, List, ◌++◌, Option, Some, None, Result, Ok, Err, IfOk, subst}
 use Rattle.std.specs.Option.{option_or}
 use Rattle.std.specs.Str.{bytes_eq}
 use Rattle.std.proofs.lemmas.List.Folds.{find-append}
@@ -26,26 +26,33 @@ pub some_only : {E : Type 0} (named : Option App) (sub : Command) (r : Result Co
 some_only None sub r is f = absurd is
 some_only (Some b) sub r is f = f b is
 
--- among two parts, it is looked for in the first of them first
+-- it is looked for in the first of two parts first
 first_named : (first rest : Option App) (c : Command) → IsNamed first (Some c)
     → IsNamed (option_or first rest) (Some c)
 first_named None rest c is = absurd is
 first_named (Some a) rest c is = is
 
-rest_named : (first rest : Option App) (c : Option Command) → IsNamed first None
+rest_named : (first rest : Option App) (none c : Option Command) → IsNamed first none → none ≡ None
     → IsNamed rest c → IsNamed (option_or first rest) c
-rest_named None rest c none is = is
-rest_named (Some a) rest c none is = absurd none
+rest_named None rest none c is lacks later = later
+rest_named (Some a) rest none c is lacks later =
+    absurd (subst (λ (o : Option Command). IsNamed (Some a) o) lacks is)
 
-pub among_first : (xs ys : List App) (name : Text) (c : Command)
-    → IsNamed (among xs name) (Some c) → IsNamed (among (xs ++ ys) name) (Some c)
+pub among_first : (xs ys : List App) (name : Text) (c : Command) → IsNamed (among xs name) (Some c)
+    → IsNamed (among (xs ++ ys) name) (Some c)
 among_first xs ys name c is =
-    rw (find-append (λ s. bytes_eq name s.top.name) xs ys)
-    (first_named (among xs name) (among ys name) c is)
+    let parts = find-append (λ s. bytes_eq name s.top.name) xs ys in
+    rw parts (first_named (among xs name) (among ys name) c is)
 
-pub among_rest : (xs ys : List App) (name : Text) (c : Option Command)
-    → IsNamed (among xs name) None → IsNamed (among ys name) c
+pub among_rest : (xs ys : List App) (name : Text) (none c : Option Command)
+    → IsNamed (among xs name) none → none ≡ None → IsNamed (among ys name) c
     → IsNamed (among (xs ++ ys) name) c
-among_rest xs ys name c none is =
-    rw (find-append (λ s. bytes_eq name s.top.name) xs ys)
-    (rest_named (among xs name) (among ys name) c none is)
+among_rest xs ys name none c is lacks later =
+    let parts = find-append (λ s. bytes_eq name s.top.name) xs ys in
+    rw parts (rest_named (among xs name) (among ys name) none c is lacks later)
+
+pub among_rest_if_ok : {E : Type 0} (xs ys : List App) (name : Text) (none : Option Command)
+    (r : Result (Option Command) E) → IsNamed (among xs name) none → none ≡ None
+    → IfOk r (IsNamed (among ys name)) → IfOk r (IsNamed (among (xs ++ ys) name))
+among_rest_if_ok xs ys name none (Ok c) is lacks later = among_rest xs ys name none c is lacks later
+among_rest_if_ok xs ys name none (Err e) is lacks later = later

@@ -233,7 +233,7 @@ on_texts_and_links = correspond ∷ comment ∷ link ∷ []
 
 -- those on a request
 unfoldable pub on_requests : List App
-on_requests = on_statuses ++ on_people ++ on_texts_and_links
+on_requests = on_statuses ++ (on_people ++ on_texts_and_links)
 
 -- those that read
 unfoldable pub readings : List App
@@ -241,7 +241,7 @@ readings = queues ∷ show ∷ history ∷ []
 
 -- the subcommands
 unfoldable pub subcommands : List App
-subcommands = on_queues ++ on_requests ++ readings
+subcommands = on_queues ++ (on_requests ++ readings)
 
 -- the command of a subcommand on queues and of what it was given
 unfoldable pub command_on_queues : Text → List Row → Option Command

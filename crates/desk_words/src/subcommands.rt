@@ -40,7 +40,6 @@ pub(crate) const NAMES: [&str; 17] = [
 ];
 
 /// The subcommand of this name, if there is one.
-#[tactic(auto, unfolding(crate::specs::CommandLine::subcommand, crate::specs::Subcommands::subcommands))]
 pub(crate) fn subcommand<'a>(alloc: Global, name: &str) -> Result<Option<App<'a>>, AllocError>
     ensures { IfOk result (IsNamed (command_line.subcommand name.now)) }
 {

@@ -16,7 +16,6 @@ use desk_model::Command;
 use std::alloc::{AllocError, Global};
 
 /// The subcommand on a request of this name, if there is one.
-#[tactic(auto, unfolding(crate::specs::Subcommands::on_requests))]
 pub(crate) fn on_requests<'a>(alloc: Global, name: &str) -> Result<Option<App<'a>>, AllocError>
     ensures { IfOk result (IsNamed (among subcommands.on_requests name.now)) }
 {
