@@ -1,6 +1,6 @@
 -- What the command line makes of words is what their own subcommand alone makes of them.
-use Rattle.std.proofs.Common.{◌≡◌, ◌∙◌, true, List, [], ◌∷◌, ◌++◌, Option, Some, None, Bool, false, cond}
-use Rattle.std.proofs.Common.{refl, sym, subst, find}
+use Rattle.std.proofs.Common.{◌≡◌, ◌∙◌, true, List, [], ◌∷◌, ◌++◌, Option, Some, None, Bool, false}
+use Rattle.std.proofs.Common.{cond, refl, sym, subst, find}
 use Rattle.std.specs.Prelude.{⊤}
 use Rattle.std.specs.Str.{bytes_eq}
 use Rattle.std.proofs.lemmas.Slice.Eq.{bytes_eq-Decides}
@@ -71,23 +71,74 @@ each_append P (x ∷ xs) ys each later = (each.0, each_append P xs ys each.1 lat
 
 on_queues_alone : Each IsAlone on_queues
 unfolding whole subcommands on_queues on_requests on_statuses on_people on_texts_and_links readings
-on_queues_alone = (is_alone queue refl refl refl refl (λ r. refl) (λ r. refl), (is_alone create refl refl refl refl (λ r. refl) (λ r. refl), tt))
+on_queues_alone = (
+  is_alone queue refl refl refl refl (λ r. refl) (λ r. refl),
+  (
+    is_alone create refl refl refl refl (λ r. refl) (λ r. refl),
+    tt,
+  ),
+)
 
 on_statuses_alone : Each IsAlone on_statuses
 unfolding whole subcommands on_queues on_requests on_statuses on_people on_texts_and_links readings
-on_statuses_alone = (is_alone status refl refl refl refl (λ r. refl) (λ r. refl), (is_alone resolve refl refl refl refl (λ r. refl) (λ r. refl), (is_alone level refl refl refl refl (λ r. refl) (λ r. refl), tt)))
+on_statuses_alone = (
+  is_alone status refl refl refl refl (λ r. refl) (λ r. refl),
+  (
+    is_alone resolve refl refl refl refl (λ r. refl) (λ r. refl),
+    (
+      is_alone level refl refl refl refl (λ r. refl) (λ r. refl),
+      tt,
+    ),
+  ),
+)
 
 on_people_alone : Each IsAlone on_people
 unfolding whole subcommands on_queues on_requests on_statuses on_people on_texts_and_links readings
-on_people_alone = (is_alone take refl refl refl refl (λ r. refl) (λ r. refl), (is_alone steal refl refl refl refl (λ r. refl) (λ r. refl), (is_alone untake refl refl refl refl (λ r. refl) (λ r. refl), (is_alone give refl refl refl refl (λ r. refl) (λ r. refl), (is_alone watch refl refl refl refl (λ r. refl) (λ r. refl), (is_alone unwatch refl refl refl refl (λ r. refl) (λ r. refl), tt))))))
+on_people_alone = (
+  is_alone take refl refl refl refl (λ r. refl) (λ r. refl),
+  (
+    is_alone steal refl refl refl refl (λ r. refl) (λ r. refl),
+    (
+      is_alone untake refl refl refl refl (λ r. refl) (λ r. refl),
+      (
+        is_alone give refl refl refl refl (λ r. refl) (λ r. refl),
+        (
+          is_alone watch refl refl refl refl (λ r. refl) (λ r. refl),
+          (
+            is_alone unwatch refl refl refl refl (λ r. refl) (λ r. refl),
+            tt,
+          ),
+        ),
+      ),
+    ),
+  ),
+)
 
 on_texts_and_links_alone : Each IsAlone on_texts_and_links
 unfolding whole subcommands on_queues on_requests on_statuses on_people on_texts_and_links readings
-on_texts_and_links_alone = (is_alone correspond refl refl refl refl (λ r. refl) (λ r. refl), (is_alone comment refl refl refl refl (λ r. refl) (λ r. refl), (is_alone link refl refl refl refl (λ r. refl) (λ r. refl), tt)))
+on_texts_and_links_alone = (
+  is_alone correspond refl refl refl refl (λ r. refl) (λ r. refl),
+  (
+    is_alone comment refl refl refl refl (λ r. refl) (λ r. refl),
+    (
+      is_alone link refl refl refl refl (λ r. refl) (λ r. refl),
+      tt,
+    ),
+  ),
+)
 
 readings_alone : Each IsAlone readings
 unfolding whole subcommands on_queues on_requests on_statuses on_people on_texts_and_links readings
-readings_alone = (is_alone queues refl refl refl refl (λ r. refl) (λ r. refl), (is_alone show refl refl refl refl (λ r. refl) (λ r. refl), (is_alone history refl refl refl refl (λ r. refl) (λ r. refl), tt)))
+readings_alone = (
+  is_alone queues refl refl refl refl (λ r. refl) (λ r. refl),
+  (
+    is_alone show refl refl refl refl (λ r. refl) (λ r. refl),
+    (
+      is_alone history refl refl refl refl (λ r. refl) (λ r. refl),
+      tt,
+    ),
+  ),
+)
 
 on_requests_alone : Each IsAlone on_requests
 unfolding on_requests
@@ -132,7 +183,12 @@ pub record IsEnough (a : App) (words : List Text) : Type 0 where
   pub rows : subcommand_of a words ≡ subcommand_of whole words
 
 whole_is_enough : (words : List Text) → IsEnough whole words
-whole_is_enough words = record { free = whole_is_free; plain = whole_is_simple; fault = refl; rows = refl }
+whole_is_enough words = record {
+  free = whole_is_free;
+  plain = whole_is_simple;
+  fault = refl;
+  rows = refl;
+}
 
 by_word : (word : Text) (rest : List Text) (s : App) → IsAlone s → word ≡ s.top.name
     → IsEnough (alone s) (word ∷ rest)

@@ -32,10 +32,10 @@ first_named : (first rest : Option App) (c : Command) → IsNamed first (Some c)
 first_named None rest c is = absurd is
 first_named (Some a) rest c is = is
 
-rest_named : (first rest : Option App) (none c : Option Command) → IsNamed first none → none ≡ None
+rest_named : (first rest : Option App) (met c : Option Command) → IsNamed first met → met ≡ None
     → IsNamed rest c → IsNamed (option_or first rest) c
-rest_named None rest none c is lacks later = later
-rest_named (Some a) rest none c is lacks later =
+rest_named None rest met c is lacks later = later
+rest_named (Some a) rest met c is lacks later =
     absurd (subst (λ (o : Option Command). IsNamed (Some a) o) lacks is)
 
 pub among_first : (xs ys : List App) (name : Text) (c : Command) → IsNamed (among xs name) (Some c)
@@ -44,15 +44,15 @@ among_first xs ys name c is =
     let parts = find-append (λ s. bytes_eq name s.top.name) xs ys in
     rw parts (first_named (among xs name) (among ys name) c is)
 
-pub among_rest : (xs ys : List App) (name : Text) (none c : Option Command)
-    → IsNamed (among xs name) none → none ≡ None → IsNamed (among ys name) c
+pub among_rest : (xs ys : List App) (name : Text) (met c : Option Command)
+    → IsNamed (among xs name) met → met ≡ None → IsNamed (among ys name) c
     → IsNamed (among (xs ++ ys) name) c
-among_rest xs ys name none c is lacks later =
+among_rest xs ys name met c is lacks later =
     let parts = find-append (λ s. bytes_eq name s.top.name) xs ys in
-    rw parts (rest_named (among xs name) (among ys name) none c is lacks later)
+    rw parts (rest_named (among xs name) (among ys name) met c is lacks later)
 
-pub among_rest_if_ok : {E : Type 0} (xs ys : List App) (name : Text) (none : Option Command)
-    (r : Result (Option Command) E) → IsNamed (among xs name) none → none ≡ None
+pub among_rest_if_ok : {E : Type 0} (xs ys : List App) (name : Text) (met : Option Command)
+    (r : Result (Option Command) E) → IsNamed (among xs name) met → met ≡ None
     → IfOk r (IsNamed (among ys name)) → IfOk r (IsNamed (among (xs ++ ys) name))
-among_rest_if_ok xs ys name none (Ok c) is lacks later = among_rest xs ys name none c is lacks later
-among_rest_if_ok xs ys name none (Err e) is lacks later = later
+among_rest_if_ok xs ys name met (Ok c) is lacks later = among_rest xs ys name met c is lacks later
+among_rest_if_ok xs ys name met (Err e) is lacks later = later

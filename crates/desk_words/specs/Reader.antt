@@ -3,7 +3,8 @@ use Rattle.std.specs.Prelude.{ℕ, List, ◌++◌, Option, string_bytes}
 use Rattle.std.specs.Option.{option_map}
 use Rattle.desk_words.specs.Words.{word_of, between, bare, quoted, escaped, closed}
 use Rattle.desk_words.specs.declared.words.Place.{Place}
-use Rattle.desk_words.specs.declared.words.Place.TheVariants.{Between, Bare, Quoted, Escaped, Closed}
+use Rattle.desk_words.specs.declared.words.Place.TheVariants.{Between, Bare, Quoted, Escaped}
+use Rattle.desk_words.specs.declared.words.Place.TheVariants.{Closed}
 
 -- the words of the text, read from that place
 abbrev pub read_at : Place → List ℕ → Option (List (List ℕ))

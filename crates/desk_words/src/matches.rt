@@ -22,7 +22,8 @@ pub(crate) fn matches_of<'a>(
     alloc: Global,
     words: &'a [String],
 ) -> Result<ArgMatches<'a>, WordsFault>
-    ensures fits { IfOk result (λ _. fault_of command_line.whole (map string_bytes words.entry.now) ≡ []) }
+    ensures fits { IfOk result (λ _.
+        fault_of command_line.whole (map string_bytes words.entry.now) ≡ []) }
     ensures rows { IfOk result (λ m. subcommand_rows_of m
         ≡ subcommand_of command_line.whole (map string_bytes words.entry.now)) }
     ensures bad { result ≡ Err WordsFault.BadWords
