@@ -59,7 +59,8 @@ abbrev Misses : Call → Option SeenRequest → (SeenRequest → List Condition)
 Misses c o asks = (is_missing c o ≡ true)
     ⊎ ((request : SeenRequest) → first_holding (asks request) ≡ Some NotFound)
 
-not_found : (c : Call) (o : Option SeenRequest) (asks : SeenRequest → List Condition) → Misses c o asks
+not_found : (c : Call) (o : Option SeenRequest) (asks : SeenRequest → List Condition)
+    → Misses c o asks
     → first_holding (on_shown c o asks) ≡ Some NotFound
 not_found c None asks misses = refl
 not_found c (Some request) asks (inl gone) = rw gone refl
@@ -96,7 +97,8 @@ abbrev RefusedAlike : Call → ℕ → Option (List ℕ) → (Desk → SeenReque
 RefusedAlike c asked text asks desk id =
     (refusal : Refusal) × (number_of refusal ≤ 4)
     × (first_holding (after_call c
-    ((BadText, is_bad_text text) ∷ on_shown c (seen_request_at desk asked) (asks desk))) ≡ Some refusal)
+    ((BadText, is_bad_text text) ∷ on_shown c (seen_request_at desk asked) (asks desk)))
+    ≡ Some refusal)
     × ((other : Desk) → request_at other id ≡ None
     → first_holding (after_call c
     ((BadText, is_bad_text text) ∷ on_shown c (seen_request_at other asked) (asks other)))
@@ -179,7 +181,8 @@ hidden_by_plan c (OnRequest asked (Another kind end) text conditions change) des
     (ap (λ b. asked == id || b) (sym (or-false (end == id))) ∙ named)) [
       | inl first ↦
           hidden_first c asked text
-          (λ d request. (NotFound, is_missing c (seen_request_at d end)) ∷ besides d request) desk id first hidden
+          (λ d request. (NotFound, is_missing c (seen_request_at d end))
+          ∷ besides d request) desk id first hidden
       | inr second ↦ hidden_second c asked end text besides desk id second hidden
     ]
 

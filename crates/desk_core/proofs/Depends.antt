@@ -113,7 +113,8 @@ dependencies_go (Reply id text) = λ call facts request new same free sets.
     reply_goes call facts id text request new (reply.move_of call facts request) refl
     (sym (ap (λ o. status_in o request.row.status) sets))
 dependencies_go other =
-    λ call facts request new same free sets. inl (sym (ap (λ o. status_in o request.row.status) sets))
+    λ call facts request new same free sets. inl
+    (sym (ap (λ o. status_in o request.row.status) sets))
 
 -- the facts of a move have the dependencies of the request that is moved
 moved_free : (s : Settings) (command : Command) (desk : Desk) (n : ℕ)

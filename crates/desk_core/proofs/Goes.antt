@@ -149,7 +149,8 @@ Goes P (Reads topic answer) =
 Goes P (OnQueue name conditions change) = Unit {0}
 Goes P (OnRequest id besides text conditions change) =
     (call : Call) (facts : Facts) (request : SeenRequest) (new : RequestRow) → id ≡ request.row.id
-    → first_holding (conditions call facts request) ≡ None → (change call facts request).row ≡ Some new
+    → first_holding (conditions call facts request) ≡ None → (change call facts request).row
+    ≡ Some new
     → P call facts request new
 
 on_request : (P : SeenRequest → RequestRow → Type 0) (call : Call) (queue : Option QueueRow)
@@ -157,11 +158,13 @@ on_request : (P : SeenRequest → RequestRow → Type 0) (call : Call) (queue : 
     (front : List Condition) (asks conditions : SeenRequest → List Condition)
     (change : SeenRequest → Change) (before : Request) (new : RequestRow)
     → request_at desk asked ≡ o → request_at desk id ≡ Some before → queue ≡ queue_of desk o
-    → ((request : SeenRequest) → first_holding (asks request) ≡ None → first_holding (conditions request) ≡ None)
+    → ((request : SeenRequest) → first_holding (asks request) ≡ None
+    → first_holding (conditions request) ≡ None)
     → ((request : SeenRequest) → id_in (change request).row request.row.id ≡ request.row.id)
     → first_holding (front ++ on_shown call (option_map seen_request o) asks) ≡ None
     → (change_of_request (option_map seen_request o) change).row ≡ Some new → before.row.id ≡ new.id
-    → ((request : SeenRequest) (new : RequestRow) → asked ≡ request.row.id → first_holding (conditions request) ≡ None
+    → ((request : SeenRequest) (new : RequestRow) → asked ≡ request.row.id
+    → first_holding (conditions request) ≡ None
     → (change request).row ≡ Some new → P request new)
     → P (seen_request before) new × (queue ≡ queue_at desk before.row.queue)
 on_request P call queue desk asked id None front asks conditions change before new there was seen

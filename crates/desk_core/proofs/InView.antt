@@ -23,7 +23,8 @@ unless_kept true h = let no : false ≡ true = h refl in cc
 unless_kept false h = refl
 
 -- a filter of what another filter keeps, where that one keeps all that passes
-pub filter_within : {A : Type 0} (p q : A → Bool) → ((x : A) → p x ≡ true → q x ≡ true) → (xs : List A)
+pub filter_within : {A : Type 0} (p q : A → Bool) → ((x : A) → p x ≡ true → q x ≡ true)
+    → (xs : List A)
     → filter p (filter q xs) ≡ filter p xs
 filter_within p q keeps [] = refl
 filter_within {A} p q keeps (x ∷ xs) =
@@ -164,7 +165,8 @@ pub queue_in_view : (s : Settings) (caller : List ℕ) (desk : Desk) (id : ℕ) 
 queue_in_view s caller desk id r there shown =
     let has : has_shown s caller desk r.row.queue ≡ true =
     found_among (λ x. x.row.id == id)
-    (λ x. may_show s caller (seen_request x) && bytes_eq x.row.queue r.row.queue) desk.requests r there
+    (λ x. may_show s caller (seen_request x)
+    && bytes_eq x.row.queue r.row.queue) desk.requests r there
     (and_from (may_show s caller (seen_request r)) (bytes_eq r.row.queue r.row.queue) shown
     ((bytes_eq-Decides r.row.queue r.row.queue).1 refl)) in
     found_by_name (λ name. holds_on_queue s caller see_queue name || has_shown s caller desk name)

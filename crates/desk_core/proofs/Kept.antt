@@ -71,7 +71,8 @@ owner_in (Some row) owner = row.owner
 abbrev OwnerGoes : Command → Call → Facts → SeenRequest → RequestRow → Type 0
 OwnerGoes command call facts request new =
     (new.owner ≡ request.row.owner)
-    ⊎ (SetsOwner call.caller command request.row.id new.owner × MayOwn call.settings request new.owner)
+    ⊎ (SetsOwner call.caller command request.row.id new.owner
+    × MayOwn call.settings request new.owner)
 
 owners_go : (command : Command) → Goes (OwnerGoes command) (plan_of command)
 owners_go (OpenQueue name lifecycle level) = tt
@@ -105,7 +106,8 @@ owners_go (Give id person) = λ call facts request new same free sets.
     )
 owners_go (Untake id) = λ call facts request new same free sets.
     let owner : None ≡ new.owner = ap (λ o. owner_in o request.row.owner) sets in
-    inr ((same, sym owner), subst (λ (o : Option (List ℕ)). MayOwn call.settings request o) owner tt)
+    inr ((same, sym owner), subst
+    (λ (o : Option (List ℕ)). MayOwn call.settings request o) owner tt)
 owners_go other = λ call facts request new same free sets.
     inl (sym (ap (λ o. owner_in o request.row.owner) sets))
 
@@ -161,7 +163,8 @@ pub replied_to : (call : Call) (facts : Facts) (request : SeenRequest) (to : Lis
 replied_to call facts request to e =
     let lifecycle = lifecycle_of call.settings facts.queue in
     if_reopened (is_inactive lifecycle request.row.status
-    || (is_initial lifecycle request.row.status && not (is_among request.requestors call.caller))) _ to e
+    || (is_initial lifecycle request.row.status
+    && not (is_among request.requestors call.caller))) _ to e
 
 -- the status after a reply that moves to this one, if to any
 reply_goes : (call : Call) (facts : Facts) (id : ℕ) (text : List ℕ) (request : SeenRequest)
@@ -171,7 +174,8 @@ reply_goes : (call : Call) (facts : Facts) (id : ℕ) (text : List ℕ) (request
 reply_goes call facts id text request new None same e status = inl status
 reply_goes call facts id text request new (Some to) same e status =
     let lifecycle = lifecycle_of call.settings facts.queue in
-    let there : reopening_of lifecycle request.row.status ≡ Some to = replied_to call facts request to e in
+    let there : reopening_of lifecycle request.row.status
+        ≡ Some to = replied_to call facts request to e in
     inr (subst (λ (t : List ℕ). IsLawfulMove call.settings call.caller lifecycle
     (Reply id text) request t) (sym status)
     (reopening_allowed lifecycle request.row.status to there, (same, there)))
@@ -189,7 +193,8 @@ statuses_go (SetStatus id status) = λ call facts request new same free sets.
     let allowed = holding (is_allowed lifecycle request.row.status status) none.1.1.1.0 in
     inr (subst (λ (t : List ℕ). (is_allowed lifecycle request.row.status t ≡ true)
     × ((id ≡ request.row.id) × (status ≡ t)
-    × (holds_on call.settings call.caller (right_of lifecycle request.row.status t) request ≡ true))) to
+    × (holds_on call.settings call.caller (right_of lifecycle request.row.status t) request
+    ≡ true))) to
     (allowed, (same, refl, held)))
 statuses_go (Reply id text) = λ call facts request new same free sets.
     reply_goes call facts id text request new (reply.move_of call facts request) same refl

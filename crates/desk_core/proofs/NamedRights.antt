@@ -68,7 +68,8 @@ plan_named (OnQueue name conditions change) call facts names = names call facts
 plan_named (OnRequest id besides text conditions change) call facts names =
     of_request_named facts.request
     (λ request. another_shown call besides facts (conditions call facts request))
-    (λ request. another_named call besides facts (conditions call facts request) (names call facts request))
+    (λ request. another_named call besides facts (conditions call facts request)
+    (names call facts request))
 
 first_named : (conditions : List Condition) (refusal : Refusal)
     → list_all is_named conditions ≡ true → first_holding conditions ≡ Some refusal

@@ -22,7 +22,8 @@ DecidesOnQueue result conditions change context =
 -- a command on a request is decided by what it looks at besides, its text if it has one, these
 -- conditions and this change
 abbrev pub DecidesOn : Result Change Refusal → Besides → Option (List ℕ)
-    → (Call → Facts → SeenRequest → List Condition) → (Call → Facts → SeenRequest → Change) → Context
+    → (Call → Facts → SeenRequest → List Condition) → (Call → Facts → SeenRequest → Change)
+    → Context
     → Type 0
 DecidesOn result besides text conditions change context =
     Decides result

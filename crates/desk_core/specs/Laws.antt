@@ -93,7 +93,8 @@ MovesTo settings caller lifecycle other request to = ⊥
 
 abbrev pub IsLawfulMove : Settings → List ℕ → Option Parts → Command → SeenRequest → List ℕ → Type 0
 IsLawfulMove settings caller lifecycle command request to =
-    (is_allowed lifecycle request.row.status to ≡ true) × MovesTo settings caller lifecycle command request to
+    (is_allowed lifecycle request.row.status to ≡ true)
+    × MovesTo settings caller lifecycle command request to
 
 -- The status law: where a status changes, the lifecycle of the request's queue allows it, and the
 -- command moves it so.

@@ -69,4 +69,7 @@ facts_on_queue desk name =
 -- of a command on a request: the request and its queue
 abbrev pub facts_on_request : Desk → ℕ → Facts
 facts_on_request desk id =
-    record no_facts { queue = queue_of desk (request_at desk id); request = seen_request_at desk id }
+    record no_facts {
+      queue = queue_of desk (request_at desk id);
+      request = seen_request_at desk id;
+    }

@@ -42,8 +42,8 @@ abbrev pub has_both_ends : Desk → LinkRow → Bool
 has_both_ends desk link =
     is_some (request_at desk link.source) && is_some (request_at desk link.target)
 
--- queues' names rise, and are names; requests are numbered from 1; each request's persons rise,
--- its entries are its own and numbered from 1, and its queue is there; links rise, and both ends of
+-- queues' names rise, and are names; requests are numbered from 1; each request's persons rise, its
+-- entries are its own and numbered from 1, and its queue is there; links rise, and both ends of
 -- each are there
 pub record IsDesk (desk : Desk) : Type 0 where
   pub queues : is_rising has_lower_name desk.queues ≡ true

@@ -18,7 +18,8 @@ as_seen settings caller request = record request { entries = entries_told settin
 -- a request that the caller may show is in the queue of that name
 abbrev pub has_shown : Settings → List ℕ → Desk → List ℕ → Bool
 has_shown settings caller desk name =
-    list_any (λ r. may_show settings caller (seen_request r) && bytes_eq r.row.queue name) desk.requests
+    list_any (λ r. may_show settings caller (seen_request r)
+    && bytes_eq r.row.queue name) desk.requests
 
 -- both ends of the link are requests that the caller may show
 abbrev pub is_seen_link : Settings → List ℕ → Desk → LinkRow → Bool

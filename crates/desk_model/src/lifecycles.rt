@@ -1,5 +1,5 @@
-//! What the lifecycle of a queue says of a status and of a move. Where there is no lifecycle, it has
-//! no status and no move, and the text is empty.
+//! What the lifecycle of a queue says of a status and of a move. Where there is no lifecycle, it
+//! has no status and no move, and the text is empty.
 ghost use Rattle.std.specs.Prelude.{◌≡◌, true};
 ghost use Rattle.std.specs.Option.{option_map};
 ghost use Rattle.text_core.specs.Form.{is_right_name};

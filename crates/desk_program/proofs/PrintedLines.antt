@@ -9,9 +9,9 @@ use Rattle.desk_model.specs.declared.command.Command.{Command}
 use Rattle.desk_model.specs.declared.refusal.Refusal.TheVariants.{Unavailable}
 use Rattle.desk_model.specs.Desk.{Desk, empty_desk}
 use Rattle.desk_model.specs.Step.{Ask, Outcome, Runs}
-use Rattle.wire_core.specs.Number.{number_of}
-use Rattle.wire_core.specs.Spelling.{command_of}
-use Rattle.wire_core.specs.Words.{words_of}
+use Rattle.desk_words.specs.Number.{number_of}
+use Rattle.desk_words.specs.Spelling.{command_of}
+use Rattle.desk_words.specs.Words.{words_of}
 use Rattle.desk_program.specs.FaultLines.{unavailable_text}
 use Rattle.desk_program.specs.Script.{AreLineTexts, IsLineText, LinePrints, asks_of, bad_words_text}
 use Rattle.desk_program.specs.Script.{is_passed_over, line_if_spelled, line_if_words, line_of}

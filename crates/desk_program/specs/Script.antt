@@ -16,9 +16,9 @@ use Rattle.service_core.specs.TableSteps.{LeadsOn}
 use Rattle.desk_model.specs.Step.{Ask, Outcome, Runs, Steps}
 use Rattle.desk_texts.specs.Texts.{outcome_text}
 use Rattle.service_core.specs.declared.fault.AttachFault.TheVariants.{Store}
-use Rattle.wire_core.specs.Number.{number_of}
-use Rattle.wire_core.specs.Spelling.{command_of}
-use Rattle.wire_core.specs.Words.{words_of}
+use Rattle.desk_words.specs.Number.{number_of}
+use Rattle.desk_words.specs.Spelling.{command_of}
+use Rattle.desk_words.specs.Words.{words_of}
 use Rattle.desk_program.specs.FaultLines.{attach_fault_text, input_fault_text}
 use Rattle.desk_program.specs.FaultLines.{settings_fault_text, store_fault_text, unavailable_text}
 use Rattle.desk_program.specs.Input.{GivesSettings, IsScript, Script}

@@ -5,7 +5,7 @@ pub mod short;
 pub mod texts;
 
 pub use short::{SHORT_TEXT, is_short, put_short};
-pub use texts::{answer_text, outcome_text, refusal_text};
 pub use texts::history::history_text;
 pub use texts::queues::queues_text;
 pub use texts::shown::show_text;
+pub use texts::{answer_text, outcome_text, refusal_text};

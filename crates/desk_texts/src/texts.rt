@@ -27,10 +27,7 @@ pub fn answer_text(alloc: Global, answer: &Answer) -> Result<String, AllocError>
 }
 
 /// The text of what came of a command: of its answer, or of its refusal.
-pub fn outcome_text(
-    alloc: Global,
-    outcome: &Result<Answer, Refusal>,
-) -> Result<String, AllocError>
+pub fn outcome_text(alloc: Global, outcome: &Result<Answer, Refusal>) -> Result<String, AllocError>
     ensures { IfOk result (λ t. string_bytes t ≡ text.outcome_text outcome.now) }
 {
     match outcome {

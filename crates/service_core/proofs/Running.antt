@@ -32,8 +32,8 @@ abbrev pub RunsSoFar : Settings → List Ask → List Outcome → State → Stat
 RunsSoFar settings asks outcomes =
     LeadsOn (λ desk after. RunsBy (IsStep settings) desk asks outcomes after × IsDesk after)
 
-pub run_begins : (s : Settings) (request : State) → RunsSoFar s [] [] request request
-run_begins s request desk is stand clean = (desk, (refl, is), stand)
+pub run_begins : (s : Settings) (tables : State) → RunsSoFar s [] [] tables tables
+run_begins s tables desk is stand clean = (desk, (refl, is), stand)
 
 pub run_goes_on : (s : Settings) (asks : List Ask) (outcomes : List Outcome) (ask : Ask)
     (outcome : Outcome) (old mid new : State)

@@ -118,11 +118,12 @@ unavailable_on s ask refusal old new same kept desk is stand clean = (
   kept (contents_of desk) stand,
 )
 
-pub refused_seeing : (facts : Facts) (s : Settings) (ask : Ask) (refusal : Refusal) (request : State)
+pub refused_seeing : (facts : Facts) (s : Settings) (ask : Ask) (refusal : Refusal)
+    (tables : State)
     → ((desk : Desk) → facts ≡ facts_of ask.command desk → refusal ≢ Unavailable
     → guard s ask.at ask.caller ask.command desk ≡ Some refusal)
-    → StepsSeeing facts s ask (Err refusal) request request
-refused_seeing facts s ask refusal request refuses desk is seen stand clean = (
+    → StepsSeeing facts s ask (Err refusal) tables tables
+refused_seeing facts s ask refusal tables refuses desk is seen stand clean = (
   desk,
   lawful s ask desk (Err refusal) desk is (refused s ask desk refusal (refuses desk seen)),
   stand,

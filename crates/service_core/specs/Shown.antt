@@ -53,7 +53,8 @@ links_by from to =
 -- when the request that a command sees is due, if it and its queue are there
 abbrev pub due_in : Settings → Facts → Option ℕ
 due_in settings facts =
-    option_and_then (λ queue. option_and_then (λ request. due_of settings queue request.row) facts.request)
+    option_and_then (λ queue. option_and_then
+    (λ request. due_of settings queue request.row) facts.request)
     facts.queue
 
 -- a request with this due moment and these links

@@ -10,7 +10,7 @@ ghost use Rattle.service_core.specs.TableSteps.{ask_by};
 
 use crate::links::links_of;
 use desk_core::{
-    Answer, Command, Entry, Facts, Links, QueueRow, Refusal, Shown, SeenRequest, due_of, sees_queue,
+    Answer, Command, Entry, Facts, Links, QueueRow, Refusal, SeenRequest, Shown, due_of, sees_queue,
 };
 use hours_core::Minute;
 use settings_core::Settings;
@@ -83,7 +83,14 @@ fn show<S: Backend>(
     ensures fault { IfErr result (λ refusal. refusal ≡ Refusal.Unavailable) }
 {
     match &facts.request {
-        Some(request) => shown_to(alloc, store, settings, caller, due_in(settings, facts), request),
+        Some(request) => shown_to(
+            alloc,
+            store,
+            settings,
+            caller,
+            due_in(settings, facts),
+            request,
+        ),
         None => Ok(Answer::Done),
     }
 }

@@ -180,7 +180,8 @@ queue_facts desk name q n m q_is n_is m_is =
     ∙ ap (counted (queue_at desk name) (queue_count desk)) m_is
 
 pub request_facts : (desk : Desk) (id : ℕ) (q : Option QueueRow) (request : Option SeenRequest)
-    → request ≡ seen_request_at desk id → q ≡ queue_by desk request → filed q request ≡ facts_on_request desk id
+    → request ≡ seen_request_at desk id → q ≡ queue_by desk request → filed q request
+    ≡ facts_on_request desk id
 request_facts desk id q request on_is q_is =
     ap (λ v. filed v request) (q_is ∙ ap (queue_by desk) on_is ∙ queue_by_is desk id)
     ∙ ap (filed (queue_of desk (request_at desk id))) on_is

@@ -88,7 +88,8 @@ fn seen_request_of(
     watchers: &[Watcher],
     entry_count: u32,
 ) -> Result<SeenRequest, StoreFault>
-    ensures ok { IfOk result (λ request. request ≡ found.seen_request_of row watchers.now entry_count) }
+    ensures ok { IfOk result
+        (λ request. request ≡ found.seen_request_of row watchers.now entry_count) }
     ensures fault { IfErr result (λ e. e ≡ StoreFault.Refused) }
 {
     Ok(SeenRequest {

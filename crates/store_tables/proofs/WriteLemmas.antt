@@ -28,7 +28,7 @@ use Rattle.sqlite.specs.declared.run.Mode.{Mode}
 pub went : {B E R : Type 0} {b : B} {Stops : E → Type 0}
     → ((stop : E) × Stops stop × (Ok b ≡ Err stop)) ⊎ R → R
 went (inl stopped) = absurd (let e = stopped.2 in cc)
-went (inr request) = request
+went (inr on) = on
 
 pub same_value : {B E : Type 0} {a b : B} → ◌≡◌ {A = Result B E} (Ok a) (Ok b) → a ≡ b
 same_value e = cc
@@ -89,9 +89,9 @@ inserts limit schema db params text at width terms table tally after there uncou
           table;
       params = params;
     } in
-    let request : OnRows task enforced None (Insert at (Values terms width)) db (Ok (tally, after)) =
+    let on : OnRows task enforced None (Insert at (Values terms width)) db (Ok (tally, after)) =
     rw there at does in
-    let done = went request in
+    let done = went on in
     let wrote = written_by task db terms width done.0 uncounted done.1 in
     let tested = went done.2 in
     let shown = went tested.2 in
@@ -127,8 +127,8 @@ updates limit schema db params text at q table tally after is does =
           table;
       params = params;
     } in
-    let request : OnRows task enforced None (Update at q) db (Ok (tally, after)) = rw is at does in
-    let done = went request in
+    let on : OnRows task enforced None (Update at q) db (Ok (tally, after)) = rw is at does in
+    let done = went on in
     let asked = went done.1 in
     let wrote = went asked.2 in
     let tested = went done.2 in
@@ -173,8 +173,8 @@ deletes limit schema db params text at q table tally after is does =
           table;
       params = params;
     } in
-    let request : OnRows task enforced None (Delete at q) db (Ok (tally, after)) = rw is at does in
-    let done = went request in
+    let on : OnRows task enforced None (Delete at q) db (Ok (tally, after)) = rw is at does in
+    let done = went on in
     let asked = went done.1 in
     let wrote = went asked.2 in
     let tested = went done.2 in

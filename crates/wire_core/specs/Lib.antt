@@ -1,8 +1,1 @@
-pub mod Arguments
-pub mod Faults
-pub mod Number
-pub mod Reader
-pub mod Spelling
-pub mod Subcommands
-pub mod Table
-pub mod Words
+-- it passes on what crates below it define, and has no definitions of its own

@@ -1,15 +1,5 @@
-//! What a line of text asks of the desk: its words, and the command that words spell.
+//! What comes in from outside, and what it asks of the desk. The words of a line, and the command
+//! that words spell, stand in `desk_words` and are passed on.
 #![tactic(auto)]
 
-pub mod command;
-pub mod fault;
-mod matches;
-pub mod number;
-mod subcommands;
-mod table;
-pub mod words;
-
-pub use command::command_of_words;
-pub use fault::WordsFault;
-pub use number::number_of_word;
-pub use words::words_of;
+pub use desk_words::{WordsFault, command_of_words, number_of_word, words_of};

@@ -60,7 +60,8 @@ on_request : (P : Change → Type 0) (call : Call) (desk : Desk) (id : ℕ) (o :
     (front : List Condition)
     (asks : SeenRequest → List Condition) (change : SeenRequest → Change) → request_at desk id ≡ o
     → P no_change
-    → ((r : Request) → request_at desk id ≡ Some r → id ≡ r.row.id → NoneHolds (asks (seen_request r))
+    → ((r : Request) → request_at desk id ≡ Some r → id ≡ r.row.id
+    → NoneHolds (asks (seen_request r))
     → P (change (seen_request r)))
     → first_holding (front ++ on_shown call (option_map seen_request o) asks) ≡ None
     → P (change_of_request (option_map seen_request o) change)
@@ -148,7 +149,8 @@ stays desk is other = λ call r there same none. (
       (λ x. is_some (queue_at desk x.row.queue)) _ desk.requests r is.filed_in there,
 )
 
-shown_there : (call : Call) (o : Option Request) → is_missing call (option_map seen_request o) ≡ false
+shown_there : (call : Call) (o : Option Request) → is_missing call (option_map seen_request o)
+    ≡ false
     → is_some o ≡ true
 shown_there call None shown = cc
 shown_there call (Some r) shown = refl

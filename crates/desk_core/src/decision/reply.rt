@@ -58,7 +58,9 @@ impl<'c> Context<'c> {
     {
         let status = reopened.unwrap_or(request.row.status.as_str());
         let alloc = self.alloc;
-        let moved = request.row.in_status(alloc, lifecycle, self.moment, status)?;
+        let moved = request
+            .row
+            .in_status(alloc, lifecycle, self.moment, status)?;
         Ok(moved.turned(is_requestor, self.moment))
     }
 

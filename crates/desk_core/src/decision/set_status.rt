@@ -22,7 +22,9 @@ impl Context<'_> {
         let (from, to) = (request.row.status.as_str(), status.as_str());
         let entries = self.one_entry(request, EntryKind::Status, from, to)?;
         let lifecycle = lifecycle_of(self.settings, &self.facts.queue);
-        let row = request.row.in_status(self.alloc, lifecycle, self.moment, to)?;
+        let row = request
+            .row
+            .in_status(self.alloc, lifecycle, self.moment, to)?;
         Ok(Change::revising(self.alloc, row, entries))
     }
 

@@ -45,10 +45,16 @@ impl Context<'_> {
     ) -> Result<Change, AllocError>
         requires { request.now.entry_count + 1 < 2 ^ 32 }
         ensures { IfOk result (λ change. change
-            ≡ take.giving_owner (option_map (λ o. o.now) owner.entry) (call_of self.now) request.now) }
+            ≡ take.giving_owner (option_map (λ o. o.now) owner.entry)
+                (call_of self.now) request.now) }
     {
         let old = request.row.owner.as_ref().map(|o| o.as_str());
-        let entries = self.one_entry(request, EntryKind::Owner, owner_word(old), owner_word(owner))?;
+        let entries = self.one_entry(
+            request,
+            EntryKind::Owner,
+            owner_word(old),
+            owner_word(owner),
+        )?;
         let row = request.row.with_owner(self.alloc, owner)?;
         Ok(Change::revising(self.alloc, row, entries))
     }

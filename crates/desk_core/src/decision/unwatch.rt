@@ -17,13 +17,23 @@ impl Context<'_> {
     {
         let request = self.shown()?;
         self.ask_to_unwatch(request, role, person)?;
-        let entries = self.one_entry(request, EntryKind::Unwatch, role_word(role), person.as_str())?;
+        let entries = self.one_entry(
+            request,
+            EntryKind::Unwatch,
+            role_word(role),
+            person.as_str(),
+        )?;
         let taken = one_watcher(self.alloc, request, role, person)?;
         Ok(Change::taking(self.alloc, taken, entries))
     }
 
     #[tactic(auto, unfolding(rights_core::specs::Right::modify_ticket))]
-    fn ask_to_unwatch(&self, request: &SeenRequest, role: WatchRole, person: &Text) -> Result<(), Refusal>
+    fn ask_to_unwatch(
+        &self,
+        request: &SeenRequest,
+        role: WatchRole,
+        person: &Text,
+    ) -> Result<(), Refusal>
         ensures asks { PassesOn result (unwatch.conditions role person.now) self.now request.now }
         ensures fits { OnOk result (request.now.entry_count + 1 < 2 ^ 32) }
     {

@@ -24,7 +24,12 @@ impl Context<'_> {
     }
 
     #[tactic(auto, unfolding(rights_core::specs::Right::modify_ticket))]
-    fn ask_to_watch(&self, request: &SeenRequest, role: WatchRole, person: &Text) -> Result<(), Refusal>
+    fn ask_to_watch(
+        &self,
+        request: &SeenRequest,
+        role: WatchRole,
+        person: &Text,
+    ) -> Result<(), Refusal>
         ensures asks { PassesOn result (watch.conditions role person.now) self.now request.now }
         ensures fits { OnOk result (request.now.entry_count + 1 < 2 ^ 32) }
     {
@@ -46,7 +51,8 @@ impl Context<'_> {
         ensures { result ≡ watch.may_set_role role person.now (call_of self.now) request.now }
     {
         self.holds(self.caller, right::MODIFY_TICKET, request)
-            || (person.as_str() == self.caller && self.holds(self.caller, right_to_watch(role), request))
+            || (person.as_str() == self.caller
+                && self.holds(self.caller, right_to_watch(role), request))
     }
 }
 

@@ -15,7 +15,8 @@ use Rattle.desk_model.specs.declared.refusal.Refusal.TheVariants.{NoChange, Full
 
 -- the caller owns the request, or may give away what others own
 abbrev pub may_give : Call → SeenRequest → Bool
-may_give call request = owns call.caller request || holds_on call.settings call.caller reassign_ticket request
+may_give call request = owns call.caller request
+    || holds_on call.settings call.caller reassign_ticket request
 
 abbrev pub conditions : List ℕ → Call → Facts → SeenRequest → List Condition
 conditions person call facts request =

@@ -59,7 +59,8 @@ row_in_status lifecycle at status row =
 
 -- the entry of a move
 abbrev pub moving : Call → SeenRequest → ℕ → List ℕ → Entry
-moving call request number status = entry_of call request number kind.Status request.row.status status
+moving call request number status =
+    entry_of call request number kind.Status request.row.status status
 
 abbrev pub change : List ℕ → Call → Facts → SeenRequest → Change
 change status call facts request =

@@ -40,7 +40,8 @@ role_word AdminCc = codes "admincc"
 abbrev pub may_set_role : WatchRole → List ℕ → Call → SeenRequest → Bool
 may_set_role role person call request =
     holds_on call.settings call.caller modify_ticket request
-    || (bytes_eq person call.caller && holds_on call.settings call.caller (right_to_watch role) request)
+    || (bytes_eq person call.caller
+    && holds_on call.settings call.caller (right_to_watch role) request)
 
 abbrev pub conditions : WatchRole → List ℕ → Call → Facts → SeenRequest → List Condition
 conditions role person call facts request =

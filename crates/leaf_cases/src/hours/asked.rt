@@ -160,8 +160,8 @@ fn start_of_span(calendar: &Calendar, number: u32) -> Option<Minute> {
     }
 }
 
-/// Adds open minutes from each of so many minutes on, a day's round and round, and writes the sum of
-/// the ends. So one line measures many calls.
+/// Adds open minutes from each of so many minutes on, a day's round and round, and writes the sum
+/// of the ends. So one line measures many calls.
 fn ends(rt: &impl Print, calendar: &Calendar, line: &str, words: &str) -> Result<(), Failure> {
     let (from, rest) = halves(words, ' ')?;
     let (n, calls) = halves(rest, ' ')?;

@@ -1,0 +1,47 @@
+//! Commands with their moments and callers, as lines of words.
+
+use crate::failure::Failure;
+use desk_core::Command;
+use std::alloc::Global;
+use wire_core::{WordsFault, command_of_words, number_of_word, words_of};
+
+/// A moment, a caller and a command.
+pub(crate) type Ask = (u32, String, Command);
+
+/// What the lines ask, in their order.
+pub(crate) fn asks_of(alloc: Global, lines: &str) -> Result<Vec<Ask>, Failure> {
+    let mut asks = Vec::new(alloc);
+    for line in lines.lines() {
+        asks.push(ask_of(alloc, line)?)?;
+    }
+    Ok(asks)
+}
+
+/// The command that the words of a line spell.
+pub(crate) fn command_of(alloc: Global, line: &str) -> Result<Command, Failure> {
+    let words = words_of(alloc, line).map_err(failure_of)?;
+    command_of_words(alloc, words.as_slice()).map_err(failure_of)
+}
+
+/// What a line `MOMENT CALLER WORDS ..` asks.
+fn ask_of(alloc: Global, line: &str) -> Result<Ask, Failure> {
+    let words = words_of(alloc, line).map_err(failure_of)?;
+    ask_in(alloc, words.as_slice())
+}
+
+fn ask_in(alloc: Global, words: &[String]) -> Result<Ask, Failure> {
+    let [at, caller, command @ ..] = words else {
+        return Err(Failure::BadLine);
+    };
+    let at = number_of_word(at.as_str()).ok_or(Failure::BadLine)?;
+    let caller = String::from_str(alloc, caller.as_str())?;
+    let command = command_of_words(alloc, command).map_err(failure_of)?;
+    Ok((at, caller, command))
+}
+
+fn failure_of(fault: WordsFault) -> Failure {
+    match fault {
+        WordsFault::NoMemory => Failure::Memory,
+        _ => Failure::BadLine,
+    }
+}

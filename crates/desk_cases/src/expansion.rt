@@ -1,0 +1,69 @@
+use std::alloc::{AllocError, Global};
+
+/// A text that cases name.
+#[derive(Clone, Copy)]
+pub(crate) struct Named<'t> {
+    pub(crate) name: &'t str,
+    pub(crate) text: &'t str,
+}
+
+/// The case of a text whose words in `<<` and `>>` stand for others.
+pub(crate) fn expanded(
+    alloc: Global,
+    named: &[Named<'_>],
+    text: &str,
+) -> Result<Vec<u8>, AllocError> {
+    let mut case = Vec::new(alloc);
+    for piece in text.split("<<") {
+        match piece.split_once(">>") {
+            Some(("end", _)) => return Ok(case),
+            Some((word, plain)) => {
+                put_word(alloc, &mut case, named, word)?;
+                case.extend_from_slice(plain.as_bytes())?;
+            }
+            None => case.extend_from_slice(piece.as_bytes())?,
+        }
+    }
+    Ok(case)
+}
+
+/// Adds what a word stands for, or nothing for a word that stands for nothing.
+fn put_word(
+    alloc: Global,
+    case: &mut Vec<u8>,
+    named: &[Named<'_>],
+    word: &str,
+) -> Result<(), AllocError> {
+    if let Some((times, text)) = word.split_once('*') {
+        return put_repeated(alloc, case, times.parse().unwrap_or(0), text);
+    }
+    if let Some(byte) = word.strip_prefix("byte ") {
+        case.push(byte.parse().unwrap_or(0))?;
+        return Ok(());
+    }
+    for text in named {
+        if text.name == word {
+            case.extend_from_slice(text.text.as_bytes())?;
+        }
+    }
+    Ok(())
+}
+
+/// Adds a text that number of times, with the number of the time, from 1, for each `@`.
+fn put_repeated(
+    alloc: Global,
+    case: &mut Vec<u8>,
+    times: u32,
+    text: &str,
+) -> Result<(), AllocError> {
+    for time in 0..times {
+        for (i, piece) in text.split('@').enumerate() {
+            if i > 0 {
+                let number = format!(in alloc; "{}", u64::from(time) + 1)?;
+                case.extend_from_slice(number.as_bytes())?;
+            }
+            case.extend_from_slice(piece.as_bytes())?;
+        }
+    }
+    Ok(())
+}

@@ -1,0 +1,106 @@
+//! Cases of the desk: scripts, the desk over tables, and the tables.
+//!
+//! A line `=== NAME` begins a case, which goes up to the next such line or the end. Without a line
+//! `---` it is a script, which is run over a desk of its own: what it prints is written, and its
+//! status; or, where lines that name readers and writers stand after a line `+++`, what comes of it
+//! over each of them. With a line `---` statements of SQL stand before it, which are run on a new
+//! database in memory, and after it either
+//!
+//! - calls of a store, a line each, which are written again with their answers, or
+//! - a text of settings, and after a line `%%` commands, a line each: a moment, a caller and words.
+//!   The whole list is asked at once, and each outcome is written as its text. Where the settings
+//!   can't be attached, it is written why, and what the store holds that is given back.
+//!
+//! In a case words in `<<` and `>>` stand for others:
+//!
+//! - `<<3*TEXT>>` for the text three times, in which `@` is the number of the time, from 1,
+//! - `<<byte 255>>` for that byte,
+//! - `<<end>>` for the case's end,
+//! - `<<NAME>>` for the text that a part `=== <<NAME>>` gave before.
+//!
+//! Cases that aren't UTF-8 write nothing. A call or a command that isn't understood ends all.
+#![tactic(auto)]
+
+mod asks;
+mod changes;
+mod desks;
+mod expansion;
+mod failure;
+mod faults;
+mod lists;
+mod scripts;
+mod stores;
+mod streams;
+mod telling;
+
+use crate::expansion::{Named, expanded};
+use crate::failure::Failure;
+use std::io::Read;
+use std::process::ExitCode;
+
+/// What begins the name of a case.
+const BEGIN: &str = "=== ";
+
+/// What stands after the statements.
+const ASKED: &str = "---\n";
+
+/// What stands between a script and the readers and writers that it is run over.
+const STREAMS: &str = "+++\n";
+
+/// What stands between settings and commands.
+const COMMANDS: &str = "%%\n";
+
+fn main(rt: HostRuntime) -> ExitCode {
+    match run(&rt) {
+        Ok(()) => ExitCode::from(0),
+        Err(_) => ExitCode::from(1),
+    }
+}
+
+/// Answers each case of the standard input.
+fn run(rt: &HostRuntime) -> Result<(), Failure> {
+    let mut input = Vec::new(rt.alloc());
+    rt.reader().read_to_end(&mut input)?;
+    answer_each(rt, str::from_utf8(input.as_slice()).unwrap_or(""))
+}
+
+fn answer_each(rt: &HostRuntime, text: &str) -> Result<(), Failure> {
+    let mut named = Vec::new(rt.alloc());
+    for part in text.split(BEGIN) {
+        if let Some((name, text)) = part.split_once('\n') {
+            match name_of_text(name) {
+                Some(name) => named.push(Named { name, text })?,
+                None => answer(rt, named.as_slice(), name, text)?,
+            }
+        }
+    }
+    Ok(())
+}
+
+/// The name of a text for later cases, where the part has one.
+fn name_of_text(name: &str) -> Option<&str> {
+    name.strip_prefix("<<")?.strip_suffix(">>")
+}
+
+/// Writes the name of a case, and what comes of it.
+fn answer(rt: &HostRuntime, named: &[Named<'_>], name: &str, text: &str) -> Result<(), Failure> {
+    println!(rt; "{BEGIN}{name}")?;
+    let (text, streams) = text.split_once(STREAMS).unwrap_or((text, ""));
+    let case = expanded(rt.alloc(), named, text)?;
+    if !streams.is_empty() {
+        return faults::run_case(rt, case.as_slice(), streams);
+    }
+    match text.split_once(ASKED) {
+        Some(_) => answer_on_tables(rt, str::from_utf8(case.as_slice()).unwrap_or("")),
+        None => scripts::run_case(rt, case.as_slice()),
+    }
+}
+
+/// Writes what comes of a case that has tables.
+fn answer_on_tables(rt: &HostRuntime, case: &str) -> Result<(), Failure> {
+    let (statements, asked) = case.split_once(ASKED).ok_or(Failure::BadLine)?;
+    match asked.split_once(COMMANDS) {
+        Some((settings, commands)) => desks::run_case(rt, statements, settings, commands),
+        None => stores::run_case(rt, statements, asked),
+    }
+}

@@ -1,0 +1,84 @@
+//! Cases of a store: its calls.
+
+use crate::changes::{change_of, number};
+use crate::failure::Failure;
+use crate::lists::{entries, facts, facts_for, links, queues, requests, watchers};
+use sqlite::{Alter, Connection, MemStore};
+use std::alloc::Global;
+use store_core::{Store, StoreFault};
+
+/// Answers each call of a store over the tables.
+pub(crate) fn run_case(rt: &HostRuntime, statements: &str, calls: &str) -> Result<(), Failure> {
+    let mut store = opened(rt.alloc(), statements)?;
+    for line in calls.lines() {
+        answer(rt, &mut store, line)?;
+    }
+    Ok(())
+}
+
+/// A store without tables, or with those that the statements make.
+fn opened(alloc: Global, statements: &str) -> Result<Store<MemStore>, Failure> {
+    if statements.is_empty() {
+        return Store::open_in_memory(alloc).map_err(|_| Failure::Statement);
+    }
+    adopted(alloc, statements)
+}
+
+/// A store over a database in memory on which the statements were run.
+pub(crate) fn adopted(alloc: Global, statements: &str) -> Result<Store<MemStore>, Failure> {
+    let mut conn = Connection::open_in_memory(alloc)?;
+    conn.execute_batch(statements)?;
+    if !conn.is_autocommit() {
+        return Err(Failure::BadLine);
+    }
+    Ok(Store::adopt(conn))
+}
+
+/// Writes a call with its answer.
+fn answer<S: Alter>(rt: &HostRuntime, store: &mut Store<S>, line: &str) -> Result<(), Failure> {
+    let (call, rest) = line.split_once(' ').unwrap_or((line, ""));
+    match call {
+        "create" => tell(rt, line, store.create_schema()),
+        "version" => version(rt, line, store),
+        "queues" => queues(rt, line, store),
+        "requests" => requests(rt, line, store, rest),
+        "watchers" => watchers(rt, line, store),
+        "links" => links(rt, line, store.links(rt.alloc())),
+        "links_from" => links(rt, line, store.links_from(rt.alloc(), number(rest)?)),
+        "links_to" => links(rt, line, store.links_to(rt.alloc(), number(rest)?)),
+        "entries" => entries(rt, line, store, rest),
+        "facts" => facts(rt, line, store, rest),
+        "facts_for" => facts_for(rt, line, store, rest),
+        _ => {
+            let change = change_of(rt.alloc(), call, rest)?;
+            tell(rt, line, store.apply(&change))
+        }
+    }
+}
+
+fn version<S: Alter>(rt: &HostRuntime, line: &str, store: &mut Store<S>) -> Result<(), Failure> {
+    match store.version() {
+        Ok(version) => {
+            println!(rt; "{line}: {version}")?;
+            Ok(())
+        }
+        Err(fault) => tell(rt, line, Err(fault)),
+    }
+}
+
+/// Writes a call, and whether it was done.
+pub(crate) fn tell(
+    rt: &HostRuntime,
+    line: &str,
+    done: Result<(), StoreFault>,
+) -> Result<(), Failure> {
+    match done {
+        Ok(()) => println!(rt; "{line}: ok")?,
+        Err(fault) => {
+            let number = fault.number();
+            let name = fault.name();
+            println!(rt; "{line}: {number} {name}")?;
+        }
+    }
+    Ok(())
+}

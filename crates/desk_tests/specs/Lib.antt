@@ -1,1 +1,0 @@
--- tests have no definitions of their own

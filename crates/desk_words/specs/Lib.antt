@@ -1,0 +1,9 @@
+pub use Rattle.text_core.specs.Form
+pub mod Arguments
+pub mod CommandLine
+pub mod Faults
+pub mod Number
+pub mod Reader
+pub mod Spelling
+pub mod Subcommands
+pub mod Words

@@ -1,0 +1,90 @@
+ghost use Rattle.std.specs.Prelude.{◌≡◌};
+ghost use Rattle.desk_words.specs.Subcommands as subcommands;
+ghost use Rattle.desk_words.specs.Subcommands.{given_to};
+
+use crate::matches::{first, id};
+use crate::number::number_of_word;
+use clap::ArgMatches;
+use desk_model::{Command, LinkKind};
+
+/// A kind of link as a word names it: by its own name, or by that of its inverse, where the two
+/// requests change places.
+#[derive(Clone, Copy)]
+pub(crate) enum NamedKind {
+    Plain(LinkKind),
+    Inverse(LinkKind),
+}
+
+/// link [-d] ID KIND OTHER
+pub(crate) fn link(given: &ArgMatches<'_>) -> Option<Command>
+    ensures { result ≡ subcommands.link_of (given_to given.now) }
+{
+    let away = takes_away(given);
+    match (id(given), kind(given), other(given)) {
+        (Some(id), Some(kind), Some(other)) => Some(linking(away, id, kind, other)),
+        _ => None,
+    }
+}
+
+/// The link, or its removal. By an inverse the two requests change places.
+fn linking(away: bool, id: u32, kind: NamedKind, other: u32) -> Command
+    ensures { result ≡ subcommands.linking away id kind other }
+{
+    match kind {
+        NamedKind::Plain(kind) => link_or_unlink(away, id, kind, other),
+        NamedKind::Inverse(kind) => link_or_unlink(away, other, kind, id),
+    }
+}
+
+fn link_or_unlink(away: bool, id: u32, kind: LinkKind, other: u32) -> Command
+    ensures { result ≡ subcommands.link_or_unlink away id kind other }
+{
+    if away {
+        Command::Unlink { id, kind, other }
+    } else {
+        Command::Link { id, kind, other }
+    }
+}
+
+/// Whether the link is to be taken away.
+fn takes_away(given: &ArgMatches<'_>) -> bool
+    ensures { result ≡ subcommands.takes_away (given_to given.now) }
+{
+    match first(given, "delete") {
+        Some(word) => word == "true",
+        None => false,
+    }
+}
+
+/// The request at the other end.
+fn other(given: &ArgMatches<'_>) -> Option<u32>
+    ensures { result ≡ subcommands.other_of (given_to given.now) }
+{
+    match first(given, "other") {
+        Some(word) => number_of_word(word),
+        None => None,
+    }
+}
+
+fn kind(given: &ArgMatches<'_>) -> Option<NamedKind>
+    ensures { result ≡ subcommands.kind_of (given_to given.now) }
+{
+    match first(given, "kind") {
+        Some(word) => kind_named(word),
+        None => None,
+    }
+}
+
+fn kind_named(word: &str) -> Option<NamedKind>
+    ensures { result ≡ subcommands.kind_named word.now }
+{
+    match word {
+        "DependsOn" => Some(NamedKind::Plain(LinkKind::DependsOn)),
+        "MemberOf" => Some(NamedKind::Plain(LinkKind::MemberOf)),
+        "RefersTo" => Some(NamedKind::Plain(LinkKind::RefersTo)),
+        "DependedOnBy" => Some(NamedKind::Inverse(LinkKind::DependsOn)),
+        "HasMember" => Some(NamedKind::Inverse(LinkKind::MemberOf)),
+        "ReferredToBy" => Some(NamedKind::Inverse(LinkKind::RefersTo)),
+        _ => None,
+    }
+}

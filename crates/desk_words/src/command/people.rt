@@ -1,0 +1,66 @@
+ghost use Rattle.std.specs.Prelude.{◌≡◌, IfOk};
+ghost use Rattle.desk_words.specs.Subcommands as subcommands;
+ghost use Rattle.desk_words.specs.Subcommands.{given_to};
+
+use crate::matches::{first, first_text, id, id_and_word};
+use clap::ArgMatches;
+use desk_model::{Command, WatchRole};
+use std::alloc::{AllocError, Global};
+use text_core::Text;
+
+/// give ID PERSON
+pub(crate) fn give(alloc: Global, given: &ArgMatches<'_>) -> Result<Option<Command>, AllocError>
+    ensures { IfOk result (λ c. c ≡ subcommands.give_of (given_to given.now)) }
+{
+    let found = id_and_word(alloc, given, "person")?;
+    Ok(found.map(|(id, person)| Command::Give { id, person }))
+}
+
+/// watch ID ROLE PERSON
+pub(crate) fn watch(alloc: Global, given: &ArgMatches<'_>) -> Result<Option<Command>, AllocError>
+    ensures { IfOk result (λ c. c ≡ subcommands.watch_of (given_to given.now)) }
+{
+    let found = watcher(alloc, given)?;
+    Ok(found.map(|(id, role, person)| Command::Watch { id, role, person }))
+}
+
+/// unwatch ID ROLE PERSON
+pub(crate) fn unwatch(alloc: Global, given: &ArgMatches<'_>) -> Result<Option<Command>, AllocError>
+    ensures { IfOk result (λ c. c ≡ subcommands.unwatch_of (given_to given.now)) }
+{
+    let found = watcher(alloc, given)?;
+    Ok(found.map(|(id, role, person)| Command::Unwatch { id, role, person }))
+}
+
+/// ID ROLE PERSON
+fn watcher(
+    alloc: Global,
+    given: &ArgMatches<'_>,
+) -> Result<Option<(u32, WatchRole, Text)>, AllocError>
+    ensures { IfOk result (λ found. found ≡ subcommands.watcher_of (given_to given.now)) }
+{
+    match (id(given), role(given), first_text(alloc, given, "person")?) {
+        (Some(id), Some(role), Some(person)) => Ok(Some((id, role, person))),
+        _ => Ok(None),
+    }
+}
+
+fn role(given: &ArgMatches<'_>) -> Option<WatchRole>
+    ensures { result ≡ subcommands.role_of (given_to given.now) }
+{
+    match first(given, "role") {
+        Some(word) => role_named(word),
+        None => None,
+    }
+}
+
+fn role_named(word: &str) -> Option<WatchRole>
+    ensures { result ≡ subcommands.role_named word.now }
+{
+    match word {
+        "requestor" => Some(WatchRole::Requestor),
+        "cc" => Some(WatchRole::Cc),
+        "admincc" => Some(WatchRole::AdminCc),
+        _ => None,
+    }
+}

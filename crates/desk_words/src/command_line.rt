@@ -1,0 +1,169 @@
+ghost use Rattle.std.specs.Prelude.{◌≡◌, map, string_bytes, IfOk, false};
+ghost use Rattle.clap.specs.Words as clap;
+ghost use Rattle.clap.specs.Words.{Rule, rule_of, with_rule, with_subcommand};
+ghost use Rattle.desk_words.specs.Arguments.{allowed, bare, flag, option, several, wanted};
+ghost use Rattle.desk_words.specs.Arguments.{with_all};
+ghost use Rattle.desk_words.specs.Subcommands as subcommands;
+ghost use Rattle.desk_words.specs.CommandLine as command_line;
+ghost use Rattle.desk_words.specs.CommandLine.{Is, IsNamed, root};
+
+use crate::subcommands::{NAMES, subcommand};
+use clap::{Arg, ArgAction, Command as App};
+use std::alloc::{AllocError, Global};
+
+/// The command line of the desk, as far as these words need it: with the subcommand that the first
+/// of them names alone, or whole where it names none. To make all subcommands takes longer than
+/// all else that a line of a script asks for.
+pub(crate) fn needed_for<'a>(alloc: Global, words: &'a [String]) -> Result<App<'a>, AllocError>
+    ensures { IfOk result (Is (command_line.needed_for (map string_bytes words.entry.now))) }
+{
+    match words.first() {
+        Some(name) => only_or_whole(alloc, subcommand(alloc, name.as_str())?),
+        None => whole(alloc),
+    }
+}
+
+/// The command line with one subcommand, or with all where none is given.
+fn only_or_whole<'a>(alloc: Global, sub: Option<App<'a>>) -> Result<App<'a>, AllocError>
+    ensures { (named : _) → IsNamed named sub.entry
+        → IfOk result (Is (command_line.only_or_whole named)) }
+{
+    match sub {
+        Some(sub) => with_subcommand(root_command(alloc), sub),
+        None => whole(alloc),
+    }
+}
+
+/// The command line of the desk.
+fn whole<'a>(alloc: Global) -> Result<App<'a>, AllocError>
+    ensures { IfOk result (Is command_line.whole) }
+{
+    of_names(alloc, &NAMES)
+}
+
+/// The command line with the subcommands of these names.
+fn of_names<'a>(alloc: Global, names: &[&'a str]) -> Result<App<'a>, AllocError>
+    ensures { IfOk result (Is (command_line.of_names root (map (λ s. s.now) names.entry.now))) }
+{
+    let mut command = root_command(alloc);
+    for name in names {
+        command = with_named(command, subcommand(alloc, name)?)?;
+    }
+    Ok(command)
+}
+
+fn with_named<'a>(command: App<'a>, sub: Option<App<'a>>) -> Result<App<'a>, AllocError>
+    ensures { (a : clap.App) (named : _) → Is a command.entry → IsNamed named sub.entry
+        → IfOk result (Is (command_line.with_named a named)) }
+{
+    match sub {
+        Some(sub) => with_subcommand(command, sub),
+        None => Ok(command),
+    }
+}
+
+pub(crate) fn link<'a>(alloc: Global) -> Result<App<'a>, AllocError>
+    ensures { IfOk result (Is subcommands.link) }
+{
+    let command = leaf(alloc, "link", &["id", "kind", "other"])?;
+    with_argument(command, flag_argument(alloc, "delete", 'd'))
+}
+
+pub(crate) fn queue<'a>(alloc: Global) -> Result<App<'a>, AllocError>
+    ensures { IfOk result (Is subcommands.queue) }
+{
+    let command = leaf(alloc, "queue", &["name", "lifecycle"])?;
+    with_argument(command, allowed_argument(alloc, "level"))
+}
+
+pub(crate) fn create<'a>(alloc: Global) -> Result<App<'a>, AllocError>
+    ensures { IfOk result (Is subcommands.create) }
+{
+    let command = leaf(alloc, "create", &["queue", "subject"])?;
+    let command = with_argument(command, several_argument(alloc, "requestor"))?;
+    with_argument(command, option_argument(alloc, "status"))
+}
+
+pub(crate) fn level<'a>(alloc: Global) -> Result<App<'a>, AllocError>
+    ensures { IfOk result (Is subcommands.level) }
+{
+    let command = leaf(alloc, "level", &["id"])?;
+    with_argument(command, allowed_argument(alloc, "level"))
+}
+
+/// The command above all others. Help words are none of its words.
+fn root_command<'a>(alloc: Global) -> App<'a>
+    ensures { Is root result }
+{
+    bare_command(alloc, "desk")
+        .no_binary_name(true)
+        .disable_help_subcommand(true)
+        .subcommand_required(true)
+}
+
+/// A command with a wanted word for each id, in order.
+pub(crate) fn leaf<'a>(alloc: Global, name: &'a str, ids: &[&'a str]) -> Result<App<'a>, AllocError>
+    ensures { IfOk result (Is (with_all (bare name.entry.now) (map (λ s. s.now) ids.entry.now))) }
+{
+    let mut command = bare_command(alloc, name);
+    for id in ids {
+        command = with_argument(command, wanted_argument(alloc, id))?;
+    }
+    Ok(command)
+}
+
+pub(crate) fn bare_command<'a>(alloc: Global, name: &'a str) -> App<'a>
+    ensures { Is (bare name.entry.now) result }
+{
+    App::new(alloc, name).disable_help_flag(true)
+}
+
+fn with_argument<'a>(command: App<'a>, argument: Arg<'a>) -> Result<App<'a>, AllocError>
+    requires { argument.global ≡ false }
+    ensures { (a : clap.App) (r : Rule) → Is a command.entry → rule_of argument.entry ≡ r
+        → IfOk result (Is (with_rule a r)) }
+{
+    command.arg(argument)
+}
+
+fn with_subcommand<'a>(command: App<'a>, sub: App<'a>) -> Result<App<'a>, AllocError>
+    ensures { (a b : clap.App) → Is a command.entry → Is b sub.entry
+        → IfOk result (Is (with_subcommand a b.top)) }
+{
+    command.subcommand(sub)
+}
+
+fn wanted_argument<'a>(alloc: Global, id: &'a str) -> Arg<'a>
+    ensures rule { rule_of result ≡ wanted id.entry.now }
+    ensures local { result.global ≡ false }
+{
+    Arg::new(alloc, id).required(true).action(ArgAction::Set)
+}
+
+fn allowed_argument<'a>(alloc: Global, id: &'a str) -> Arg<'a>
+    ensures rule { rule_of result ≡ allowed id.entry.now }
+    ensures local { result.global ≡ false }
+{
+    Arg::new(alloc, id).action(ArgAction::Set)
+}
+
+fn several_argument<'a>(alloc: Global, id: &'a str) -> Arg<'a>
+    ensures rule { rule_of result ≡ several id.entry.now }
+    ensures local { result.global ≡ false }
+{
+    Arg::new(alloc, id).action(ArgAction::Append)
+}
+
+fn flag_argument<'a>(alloc: Global, id: &'a str, letter: char) -> Arg<'a>
+    ensures rule { rule_of result ≡ flag id.entry.now letter }
+    ensures local { result.global ≡ false }
+{
+    Arg::new(alloc, id).short(letter).action(ArgAction::SetTrue)
+}
+
+fn option_argument<'a>(alloc: Global, id: &'a str) -> Arg<'a>
+    ensures rule { rule_of result ≡ option id.entry.now }
+    ensures local { result.global ≡ false }
+{
+    Arg::new(alloc, id).long(id).action(ArgAction::Set)
+}

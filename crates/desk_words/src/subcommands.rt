@@ -1,0 +1,77 @@
+//! The subcommands of the command line: what each is given, and the command that its words spell.
+//! Each part of them has a file of its own.
+ghost use Rattle.std.specs.Prelude.{◌≡◌, Some, IfOk};
+ghost use Rattle.clap.specs.Words as clap;
+ghost use Rattle.desk_words.specs.Subcommands as subcommands;
+ghost use Rattle.desk_words.specs.Subcommands.{given_to};
+ghost use Rattle.desk_words.specs.CommandLine as command_line;
+ghost use Rattle.desk_words.specs.CommandLine.{Is, IsNamed};
+
+use crate::subcommands::queues::{command_on_queues, on_queues};
+use crate::subcommands::readings::{reading, reading_command};
+use crate::subcommands::requests::{command_on_requests, on_requests};
+use clap::{ArgMatches, Command as App};
+use desk_model::Command;
+use std::alloc::{AllocError, Global};
+
+mod queues;
+mod readings;
+mod requests;
+
+/// The names of the subcommands.
+pub(crate) const NAMES: [&str; 17] = [
+    "queue",
+    "create",
+    "status",
+    "resolve",
+    "level",
+    "take",
+    "steal",
+    "untake",
+    "give",
+    "watch",
+    "unwatch",
+    "correspond",
+    "comment",
+    "link",
+    "queues",
+    "show",
+    "history",
+];
+
+/// The subcommand of this name, if there is one.
+pub(crate) fn subcommand<'a>(alloc: Global, name: &str) -> Result<Option<App<'a>>, AllocError>
+    ensures { IfOk result (IsNamed (command_line.subcommand name.now)) }
+{
+    if let Some(found) = on_queues(alloc, name)? {
+        return Ok(Some(found));
+    }
+    if let Some(found) = on_requests(alloc, name)? {
+        return Ok(Some(found));
+    }
+    reading(alloc, name)
+}
+
+/// The subcommand, which is there.
+fn there<'a>(subcommand: Result<App<'a>, AllocError>) -> Result<Option<App<'a>>, AllocError>
+    ensures { (a : clap.App) → IfOk subcommand.entry (Is a) → IfOk result (IsNamed (Some a)) }
+{
+    Ok(Some(subcommand?))
+}
+
+/// The command of a subcommand and of what it was given, where its words spell one.
+pub(crate) fn command_in(
+    alloc: Global,
+    name: &str,
+    given: &ArgMatches<'_>,
+) -> Result<Option<Command>, AllocError>
+    ensures { IfOk result (λ c. c ≡ subcommands.command_in (name.now, given_to given.now)) }
+{
+    if let Some(command) = command_on_queues(alloc, name, given)? {
+        return Ok(Some(command));
+    }
+    if let Some(command) = command_on_requests(alloc, name, given)? {
+        return Ok(Some(command));
+    }
+    Ok(reading_command(name, given))
+}

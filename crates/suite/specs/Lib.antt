@@ -1,1 +1,0 @@
--- the suite has no definitions of its own
