@@ -106,8 +106,11 @@ owners_go (Give id person) = λ call facts request new same free sets.
     )
 owners_go (Untake id) = λ call facts request new same free sets.
     let owner : None ≡ new.owner = ap (λ o. owner_in o request.row.owner) sets in
-    inr ((same, sym owner), subst
-    (λ (o : Option (List ℕ)). MayOwn call.settings request o) owner tt)
+    inr (
+      (same, sym owner),
+      subst
+          (λ (o : Option (List ℕ)). MayOwn call.settings request o) owner tt,
+    )
 owners_go other = λ call facts request new same free sets.
     inl (sym (ap (λ o. owner_in o request.row.owner) sets))
 
@@ -175,7 +178,7 @@ reply_goes call facts id text request new None same e status = inl status
 reply_goes call facts id text request new (Some to) same e status =
     let lifecycle = lifecycle_of call.settings facts.queue in
     let there : reopening_of lifecycle request.row.status
-        ≡ Some to = replied_to call facts request to e in
+    ≡ Some to = replied_to call facts request to e in
     inr (subst (λ (t : List ℕ). IsLawfulMove call.settings call.caller lifecycle
     (Reply id text) request t) (sym status)
     (reopening_allowed lifecycle request.row.status to there, (same, there)))
