@@ -84,6 +84,7 @@ pub empty_is_desk : IsDesk empty_desk
 empty_is_desk =
     record {
       queues = refl;
+      named = refl;
       requests = refl;
       persons = refl;
       entries = refl;

@@ -2,6 +2,7 @@
 ghost use Rattle.std.specs.Prelude.{◌≡◌, IfErr, IfOk, filter};
 ghost use Rattle.desk_model.specs.Facts.{facts_on_request};
 ghost use Rattle.desk_model.specs.Readings.Show as showing;
+ghost use Rattle.desk_model.specs.Rights as rights;
 ghost use Rattle.store_tables.specs.Calls.{Spares, Tells};
 ghost use Rattle.store_core.specs.Seen.{state_of};
 ghost use Rattle.service_core.specs.Shown as shown;
@@ -88,7 +89,7 @@ fn is_shown<S: Backend>(
     caller: &str,
     id: u32,
 ) -> Result<bool, Refusal>
-    ensures told { Tells (λ desk shown. shown ≡ reading.is_shown settings.now caller.now desk id)
+    ensures told { Tells (λ desk shown. shown ≡ rights.is_shown settings.now caller.now desk id)
         (state_of S.Store store.old) (state_of S.Store store.new) result }
     ensures kept { Spares (state_of S.Store store.old) (state_of S.Store store.new) }
     ensures fault { IfErr result (λ refusal. refusal ≡ Refusal.Unavailable) }

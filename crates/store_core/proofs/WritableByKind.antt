@@ -127,8 +127,10 @@ second_there desk call request (Some status) there =
 notes : (desk : Desk) → IsDesk desk → (command : Command) → Meets NotesThere desk (plan_of command)
 notes desk is (OpenQueue name lifecycle level) = λ call none. record { there = refl }
 notes desk is (Create queue subject status requestors) = λ call none.
-    record { there = and_from _ true
-    (last_there _ desk.requests _ (filed_last desk _ is refl)) refl }
+    record {
+      there = and_from _ true
+          (last_there _ desk.requests _ (filed_last desk _ is refl)) refl;
+    }
 notes desk is (Reply id text) = λ call r there same none.
     let here = found_there desk id r there same in
     record {
