@@ -1,4 +1,5 @@
 -- what is read, or written, of a command makes its step
+use Rattle.std.proofs.Common.{◌∙◌, sym}
 use Rattle.store_tables.proofs.Spared.{stands}
 use Rattle.service_core.specs.TableSteps.{ask_by}
 use Rattle.service_core.proofs.Stepping.{left_by, read_where, written_where}
@@ -10,11 +11,13 @@ returns-then-is_reading-clause-done g c at =
     read_where c.args.facts.now c.args.change.now c.args.settings.now
     (ask_by at c.args.caller.now c.args.command.now) c.read.result
     (state_of g.S.Store c.args.store.now) (state_of g.S.Store c.read.new.store)
-    ? (c.read.ensures.told at) c.read.ensures.fault (stands c.read.ensures.kept)
+    (sym c.is_reading.ensures ∙ c.if-is_reading.true) (c.read.ensures.told at)
+    c.read.ensures.fault (stands c.read.ensures.kept)
 
 pub returns-else-is_reading-clause-done : goal.returns-else-is_reading-clause-done
 returns-else-is_reading-clause-done g c at =
     written_where c.args.facts.now c.args.change.now c.args.settings.now
     (ask_by at c.args.caller.now c.args.command.now) c.write.result
     (state_of g.S.Store c.args.store.now) (state_of g.S.Store c.write.new.store)
-    ? c.write.ensures.told c.write.ensures.done c.write.ensures.fault c.write.ensures.undone
+    (sym c.is_reading.ensures ∙ c.if-is_reading.false) c.write.ensures.told
+    c.write.ensures.done c.write.ensures.fault c.write.ensures.undone
