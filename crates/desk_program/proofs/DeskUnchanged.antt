@@ -21,7 +21,7 @@ changed_short None = refl
 changed_short (Some row) = refl
 
 long_is_not_short : (x : Answer) (filed : Option RequestRow) → is_short (Ok x) ≡ false
-    → Ok (filed_or_done filed) ≡ Ok x → ⊥
+    → outcome_unless None (filed_or_done filed) ≡ Ok x → ⊥
 long_is_not_short x filed long same =
     let no : true ≡ false = sym (changed_short filed) ∙ ap is_short same ∙ long in cc
 
@@ -41,7 +41,7 @@ unchanged_by_plan c None (OnRequest id besides text conditions change) old x lon
 pub unchanged_if_long : (s : Settings) (at : ℕ) (caller : List ℕ) (command : Command)
     (old new : Desk) (outcome : Outcome)
     → is_short outcome ≡ false → Steps s at caller command old outcome new → new ≡ old
-unchanged_if_long s at caller command old new (Err refusal) long = absurd cc
+unchanged_if_long s at caller command old new (Err refusal) long steps = absurd cc
 unchanged_if_long s at caller command old new (Ok x) long (inl left) = left.1
 unchanged_if_long s at caller command old new (Ok x) long (inr made) =
     made.1
