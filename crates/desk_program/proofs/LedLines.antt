@@ -23,7 +23,7 @@ use Rattle.desk_program.specs.Script.{IsCommandsOutput, LineLeads, LinePrints, i
 use Rattle.desk_program.specs.Script.{line_of}
 use Rattle.desk_program.specs.declared.line.Line.{Line}
 use Rattle.desk_program.specs.declared.line.Line.TheVariants.{Asked}
-use Rattle.desk_program.proofs.DeskUnchanged.{unchanged_if_long}
+use Rattle.desk_texts.proofs.DeskUnchanged.{unchanged_if_long}
 use Rattle.desk_program.proofs.PrintedLines.{unavailable_prints}
 
 -- ---- results

@@ -1,4 +1,3 @@
-pub mod DeskUnchanged
 pub mod InputFaults
 pub mod LedLines
 pub mod LongInput

@@ -9,8 +9,8 @@ ghost use Rattle.desk_program.specs.FaultLines.{unavailable_text};
 ghost use Rattle.desk_program.specs.Script.{LineLeads, line_of, line_of_words, is_passed_over};
 ghost use Rattle.desk_program.specs.Script.{is_comment};
 
-use desk_core::{Answer, Command, Refusal};
-use service_core::{Desk, SHORT_TEXT, is_short, outcome_text, put_short};
+use desk_core::Command;
+use service_core::{Desk, SHORT_TEXT, text_in_room};
 use sqlite::Alter;
 use std::alloc::{AllocError, Global};
 use text_core::Text;
@@ -83,42 +83,10 @@ fn answer_command<S: Alter>(
     match Vec::with_capacity(alloc, SHORT_TEXT) {
         Ok(room) => {
             let outcome = desk.execute(alloc, at, caller, command);
-            let text = text_of(alloc, &outcome, room);
+            let text = text_in_room(alloc, &outcome, room);
             drop(outcome);
             text
         }
-        Err(_) => Err(AllocError),
-    }
-}
-
-/// The text of what came of a command: a short one is put into the room, and one that shows
-/// something takes memory.
-fn text_of(
-    alloc: Global,
-    outcome: &Result<Answer, Refusal>,
-    mut room: Vec<u8>,
-) -> Result<Vec<u8>, AllocError>
-    requires named { IfErr outcome.now (λ refusal. names_its_right refusal ≡ true) }
-    requires empty { room.items ≡ [] }
-    requires room { vec_len room + 64 ≤ vec_capacity room }
-    ensures ok { IfOk result (λ text. text.items ≡ outcome_text outcome.now) }
-    ensures err { OnErr result (is_short outcome.now ≡ false) }
-{
-    if is_short(outcome) {
-        put_short(outcome, &mut room);
-        Ok(room)
-    } else {
-        bytes_of(outcome_text(alloc, outcome))
-    }
-}
-
-/// The bytes of a text, if there was memory for it.
-fn bytes_of(text: Result<String, AllocError>) -> Result<Vec<u8>, AllocError>
-    ensures ok { IfOk result (λ bytes. IfOk text (λ t. bytes.items ≡ string_bytes t)) }
-    ensures same { is_ok result ≡ is_ok text }
-{
-    match text {
-        Ok(text) => Ok(text.into_bytes()),
         Err(_) => Err(AllocError),
     }
 }

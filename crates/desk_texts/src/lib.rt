@@ -1,9 +1,11 @@
 //! The texts of answers and refusals, as they are printed.
 #![tactic(auto)]
 
+pub mod room;
 pub mod short;
 pub mod texts;
 
+pub use room::text_in_room;
 pub use short::{SHORT_TEXT, is_short, put_short};
 pub use texts::history::history_text;
 pub use texts::queues::queues_text;

@@ -33,7 +33,8 @@ pub fn is_short(outcome: &Result<Answer, Refusal>) -> bool
 pub fn put_short(outcome: &Result<Answer, Refusal>, out: &mut Vec<u8>)
     requires short { is_short outcome.now ≡ true }
     requires room { vec_len out.old + 64 ≤ vec_capacity out.old }
-    ensures { out.new.items ≡ out.old.items ++ short_text outcome.now }
+    ensures put { out.new.items ≡ out.old.items ++ short_text outcome.now }
+    ensures short { vec_len out.new ≤ vec_len out.old + 64 }
 {
     match outcome {
         Ok(Answer::Created(id)) => put_created(out, *id),
@@ -55,7 +56,8 @@ fn is_short_refusal(refusal: &Refusal) -> bool
 
 fn put_created(out: &mut Vec<u8>, id: u32)
     requires { vec_len out.old + 64 ≤ vec_capacity out.old }
-    ensures { out.new.items ≡ out.old.items ++ text.created_text id }
+    ensures put { out.new.items ≡ out.old.items ++ text.created_text id }
+    ensures short { vec_len out.new ≤ vec_len out.old + 64 }
 {
     put(out, "request ");
     put_number(out, id);
@@ -65,7 +67,8 @@ fn put_created(out: &mut Vec<u8>, id: u32)
 fn put_refusal(out: &mut Vec<u8>, refusal: &Refusal)
     requires short { short.is_short_refusal refusal.now ≡ true }
     requires room { vec_len out.old + 64 ≤ vec_capacity out.old }
-    ensures { out.new.items ≡ out.old.items ++ text.refusal_text refusal.now }
+    ensures put { out.new.items ≡ out.old.items ++ text.refusal_text refusal.now }
+    ensures short { vec_len out.new ≤ vec_len out.old + 64 }
 {
     put(out, "refused ");
     put_number(out, u32::from(refusal.number()));

@@ -53,10 +53,11 @@ bytes_of reply =
 
 -- ---- the reply for which no memory is needed
 
-abbrev pub unavailable : Reply
-unavailable = record {
-  status = 503;
-  allow = None;
-  body = codes "refused 16 Unavailable\n";
-  head_only = false;
-}
+abbrev pub unavailable : Bool → Reply
+unavailable head_only =
+    record {
+      status = 503;
+      allow = None;
+      body = codes "refused 16 Unavailable\n";
+      head_only = head_only;
+    }

@@ -1,5 +1,6 @@
 //! The bytes of a reply.
-ghost use Rattle.std.specs.Prelude.{◌≡◌, ◌++◌, ◌+◌, ◌≤◌, [], length, decimal, IfOk, unwrap_or};
+ghost use Rattle.std.specs.Prelude.{◌≡◌, ◌++◌, ◌+◌, ◌≤◌, [], true, false, length, decimal};
+ghost use Rattle.std.specs.Prelude.{IfOk, unwrap_or};
 ghost use Rattle.std.specs.Vec.{vec_capacity, vec_len};
 ghost use Rattle.http.specs.StatusCode.{IsStatusCode, reason_phrase};
 ghost use Rattle.message_core.specs.Reply as form;
@@ -55,9 +56,26 @@ pub fn put_reply(reply: &Reply, out: &mut Vec<u8>)
     put_bytes(out, body_of(reply));
 }
 
-/// The bytes of the reply `refused 16 Unavailable`, for which no memory is needed.
-pub fn unavailable_reply() -> &'static [u8]
-    ensures { result.now ≡ form.bytes_of form.unavailable }
+/// The bytes of the reply `refused 16 Unavailable`, for which no memory is needed; without its body
+/// in reply to a HEAD.
+pub fn unavailable_reply(head_only: bool) -> &'static [u8]
+    ensures { result.now ≡ form.bytes_of (form.unavailable head_only) }
+{
+    if head_only { unavailable_head() } else { unavailable_whole() }
+}
+
+fn unavailable_head() -> &'static [u8]
+    ensures { result.now ≡ form.bytes_of (form.unavailable true) }
+{
+    b"HTTP/1.1 503 Service Unavailable\r\n\
+      Content-Type: text/plain; charset=utf-8\r\n\
+      Content-Length: 23\r\n\
+      Connection: close\r\n\
+      \r\n"
+}
+
+fn unavailable_whole() -> &'static [u8]
+    ensures { result.now ≡ form.bytes_of (form.unavailable false) }
 {
     b"HTTP/1.1 503 Service Unavailable\r\n\
       Content-Type: text/plain; charset=utf-8\r\n\

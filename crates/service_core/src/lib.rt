@@ -14,6 +14,6 @@ mod run;
 pub use desk::Desk;
 pub use desk_texts::{
     SHORT_TEXT, answer_text, history_text, is_short, outcome_text, put_short, queues_text,
-    refusal_text, show_text,
+    refusal_text, show_text, text_in_room,
 };
 pub use fault::AttachFault;

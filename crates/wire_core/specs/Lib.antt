@@ -1,1 +1,5 @@
--- it passes on what crates below it define, and has no definitions of its own
+pub mod Fault
+pub mod Replies
+pub mod Runs
+pub mod Served
+pub mod Steps

@@ -1,5 +1,18 @@
-//! What comes in from outside, and what it asks of the desk. The words of a line, and the command
-//! that words spell, stand in `desk_words` and are passed on.
+//! What comes in from outside, and what it asks of the desk: messages are read, done and answered.
+//! Below it, `message_core` has the bytes of messages and replies, `route_core` what a message asks
+//! for, and `desk_words` the words of a line; what crates above need of them is passed on.
 #![tactic(auto)]
 
+mod fault;
+mod list;
+mod replies;
+mod room;
+mod serve;
+mod step;
+
 pub use desk_words::{WordsFault, command_of_words, number_of_word, words_of};
+pub use fault::ServeFault;
+pub use list::serve_list;
+pub use message_core::{Allow, Message, Reply, WireFault, answer_bytes, put_reply, read_message};
+pub use route_core::{CommandFault, command_of};
+pub use serve::serve_one;

@@ -2,7 +2,7 @@
 use Rattle.std.proofs.Common.{refl}
 use Rattle.std.specs.Fmt.{digits}
 use Rattle.message_core.specs.Reply.{allow_line, fields, last_line, status_line, type_line}
-use Rattle.message_core.proofs.reply.unavailable_reply.Goals as goal
+use Rattle.message_core.proofs.reply.unavailable_whole.Goals as goal
 
 pub returns : goal.returns
 unfolding digits allow_line fields last_line status_line type_line

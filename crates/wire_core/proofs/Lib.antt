@@ -1,0 +1,3 @@
+pub mod Forms
+pub mod Serving
+pub mod Stepping

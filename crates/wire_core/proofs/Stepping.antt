@@ -1,0 +1,125 @@
+-- A message step over tables, from the step of its command.
+use Rattle.std.proofs.Common.{◌≡◌, ◌≢◌, ◌⊎◌, inl, inr, ℕ, Bool, false, List, Option, Some, None}
+use Rattle.std.proofs.Common.{Result, Ok, Err, refl, ap, sym, subst}
+use Rattle.std.specs.Option.{option_map}
+use Rattle.sqlite.specs.State.{State}
+use Rattle.settings_core.specs.declared.settings.Settings.{Settings}
+use Rattle.desk_model.specs.Desk.{Desk}
+use Rattle.desk_model.specs.Step.{Ask, Outcome}
+use Rattle.desk_model.specs.declared.command.Command.{Command}
+use Rattle.desk_texts.specs.Short.{is_short}
+use Rattle.desk_texts.proofs.DeskUnchanged.{unchanged_if_long}
+use Rattle.message_core.specs.Message.{Reads}
+use Rattle.message_core.specs.Reply.{bytes_of, unavailable}
+use Rattle.message_core.specs.declared.fault.WireFault.{WireFault}
+use Rattle.message_core.specs.declared.message.Message.{Message}
+use Rattle.route_core.specs.Commands.{command_at, command_if_placed, command_of}
+use Rattle.route_core.specs.Places.{methods_of, place_of}
+use Rattle.route_core.specs.declared.fault.CommandFault.{CommandFault}
+use Rattle.route_core.specs.declared.fault.CommandFault.TheVariants.{NoRoute}
+use Rattle.route_core.specs.declared.place.Place.{Place}
+use Rattle.service_core.specs.TableSteps.{LeadsOn, StepsOn}
+use Rattle.wire_core.specs.Replies.{TellsFault, fault_reply, is_head, outcome_reply}
+use Rattle.wire_core.specs.Steps.{CommandSteps, CommandStepsOn, IsDoneOn, MessageStepsOn, StaysOn}
+use Rattle.wire_core.specs.Steps.{StreamStepsOn}
+
+-- what one relation leads to, a wider one does
+pub leads_wider : (P Q : Desk → Desk → Type 0) (old new : State)
+    → ((desk after : Desk) → P desk after → Q desk after) → LeadsOn P old new → LeadsOn Q old new
+leads_wider P Q old new wider leads desk is stands clean =
+    let led = leads desk is stands clean in (led.0, wider desk led.0 led.1, led.2)
+
+-- a relation that holds of each desk and itself leads from tables to themselves
+pub leads_nowhere : (P : Desk → Desk → Type 0) (tables : State)
+    → ((desk : Desk) → P desk desk) → LeadsOn P tables tables
+leads_nowhere P tables holds desk is stands clean = (desk, holds desk, stands)
+
+pub stays : (tables : State) → StaysOn tables tables
+stays tables = leads_nowhere (λ desk after. after ≡ desk) tables (λ desk. refl)
+
+-- ---- a command
+
+-- a command was done, and this is the reply with what came of it
+pub done : (s : Settings) (ask : Ask) (h : Bool) (outcome : Outcome) (bytes : List ℕ)
+    (old new : State) → bytes ≡ bytes_of (outcome_reply h outcome)
+    → StepsOn s ask outcome old new → IsDoneOn s ask h bytes old new
+done s ask h outcome bytes old new told steps desk is stands clean =
+    let step = steps desk is stands clean in (step.0, (outcome, step.1, told), step.2)
+
+-- a command was done for whose text there was no memory: it only read
+pub left_out_if_long : (s : Settings) (ask : Ask) (outcome : Outcome) (old new : State)
+    → is_short outcome ≡ false → StepsOn s ask outcome old new → StaysOn old new
+left_out_if_long s ask outcome old new long steps desk is stands clean =
+    let step = steps desk is stands clean in
+    let same =
+    unchanged_if_long s ask.at ask.caller ask.command desk step.0 outcome long step.1.step in
+    (step.0, same, step.2)
+
+-- ---- a message
+
+-- a message that asks for no command, at its place
+pub faulty : (s : Settings) (at : ℕ) (message : Message) (place : Place) (fault : CommandFault)
+    (bytes : List ℕ) (tables : State) → place_of message.target ≡ Some place
+    → bytes ≡ bytes_of (fault_reply (is_head message) (Some (methods_of place)) fault)
+    → CommandStepsOn s at message (Err fault) bytes tables tables
+faulty s at message place fault bytes tables placed told =
+    leads_nowhere (λ desk after. CommandSteps s at message (Err fault) desk bytes after) tables
+    (λ desk. (
+      rw (ap (option_map methods_of) placed) told,
+      refl,
+    ))
+
+-- a message whose path leads nowhere
+pub nowhere : (s : Settings) (at : ℕ) (message : Message) (bytes : List ℕ) (tables : State)
+    → place_of message.target ≡ None
+    → bytes ≡ bytes_of (fault_reply (is_head message) None NoRoute)
+    → CommandStepsOn s at message (command_of s message) bytes tables tables
+nowhere s at message bytes tables placed told =
+    leads_nowhere (λ desk after. CommandSteps s at message (command_of s message) desk bytes after)
+    tables
+    (λ desk. subst (λ (p : Option Place). CommandSteps s at message (command_if_placed s message p)
+    desk bytes desk) (sym placed) (rw (ap (option_map methods_of) placed) told, refl))
+
+-- what is asked for at the place of a message is what it asks for
+pub at_place : (s : Settings) (at : ℕ) (message : Message) (place : Place) (bytes : List ℕ)
+    (old new : State) → place_of message.target ≡ Some place
+    → CommandStepsOn s at message (command_at s place message) bytes old new
+    → CommandStepsOn s at message (command_of s message) bytes old new
+at_place s at message place bytes old new placed steps =
+    subst (λ (p : Option Place). CommandStepsOn s at message (command_if_placed s message p) bytes
+    old new) (sym placed) steps
+
+pub message_done : (s : Settings) (at : ℕ) (message : Message) (bytes : List ℕ) (old new : State)
+    → CommandStepsOn s at message (command_of s message) bytes old new
+    → MessageStepsOn s at message bytes old new
+message_done s at message bytes old new steps =
+    leads_wider _ _ old new (λ desk after did. inr did) steps
+
+pub message_left_out : (s : Settings) (at : ℕ) (message : Message) (bytes : List ℕ)
+    (old new : State) → bytes ≡ bytes_of (unavailable (is_head message)) → StaysOn old new
+    → MessageStepsOn s at message bytes old new
+message_left_out s at message bytes old new told stay =
+    leads_wider _ _ old new (λ desk after same. inl (told, same)) stay
+
+-- ---- a stream
+
+pub stream_done : (s : Settings) (at : ℕ) (had left : Option (List ℕ)) (message : Message)
+    (bytes : List ℕ) (old new : State) → Reads had left (Ok message)
+    → MessageStepsOn s at message bytes old new → StreamStepsOn s at had left bytes old new
+stream_done s at had left message bytes old new read steps =
+    leads_wider _ _ old new (λ desk after did. inr (Ok message, read, did)) steps
+
+-- a stream without a message, or no memory to read it
+pub stream_faulty : (s : Settings) (at : ℕ) (had left : Option (List ℕ)) (fault : WireFault)
+    (bytes : List ℕ) (tables : State) → fault ≢ WireFault.Read
+    → (Err {Message} fault ≢ Err WireFault.Read → Err {Message} fault ≢ Err WireFault.NoMemory
+        → Reads had left (Err fault))
+    → TellsFault fault bytes → StreamStepsOn s at had left bytes tables tables
+stream_faulty s at had left fault bytes tables unfailed reads (inl told) =
+    leads_nowhere _ tables (λ desk. inl (told, refl))
+stream_faulty s at had left fault bytes tables unfailed reads (inr told) =
+    let read = reads (λ e. unfailed (err_same e)) (λ e. told.0 (err_same e)) in
+    leads_nowhere _ tables (λ desk. inr (Err fault, read, (told.1, refl)))
+  where
+    err_same : {f g : WireFault} → Err {Message} f ≡ Err g → f ≡ g
+    err_same e = cc

@@ -1,0 +1,58 @@
+-- A list of messages, each with its moment.
+use Rattle.std.specs.Prelude.{◌≡◌, ℕ, List, [], ◌∷◌, Option, Some, Result, Ok, Err, Vec, map}
+use Rattle.sqlite.specs.State.{State}
+use Rattle.settings_core.specs.declared.settings.Settings.{Settings}
+use Rattle.desk_model.specs.Desk.{Desk}
+use Rattle.service_core.specs.TableSteps.{LeadsOn}
+use Rattle.wire_core.specs.Steps.{StreamSteps}
+use Rattle.wire_core.specs.declared.fault.ServeFault.{ServeFault}
+use Rattle.wire_core.specs.declared.fault.ServeFault.TheVariants.{Read, Write, NoMemory}
+
+-- a moment, and the bytes of a message
+abbrev pub Sent : Type 0
+Sent = ℕ × List ℕ
+
+abbrev pub Replied : Type 0
+Replied = Result (List ℕ) ServeFault
+
+-- the bytes of the reply, after the step of the message; or nothing is done for want of memory
+abbrev pub IsReplyTo : Settings → Sent → Desk → Replied → Desk → Type 0
+IsReplyTo settings sent old (Ok bytes) new =
+    (left : Option (List ℕ)) × StreamSteps settings sent.0 (Some sent.1) left old bytes new
+IsReplyTo settings sent old (Err NoMemory) new = new ≡ old
+IsReplyTo settings sent old (Err Read) new = ⊥
+IsReplyTo settings sent old (Err Write) new = ⊥
+
+-- one after the other, each from the desk that the one before left
+abbrev pub RunsMessages : Settings → Desk → List Sent → List Replied → Desk → Type 0
+RunsMessages settings old [] [] new = new ≡ old
+RunsMessages settings old (sent ∷ others) (reply ∷ replies) new =
+    (mid : Desk) × IsReplyTo settings sent old reply mid
+    × RunsMessages settings mid others replies new
+RunsMessages settings old [] (reply ∷ replies) new = ⊥
+RunsMessages settings old (sent ∷ others) [] new = ⊥
+
+-- ---- over tables
+
+abbrev pub RepliesOn : Settings → Sent → Replied → State → State → Type 0
+RepliesOn settings sent reply =
+    LeadsOn (λ desk after. IsReplyTo settings sent desk reply after)
+
+abbrev pub RunsMessagesOn : Settings → List Sent → List Replied → State → State → Type 0
+RunsMessagesOn settings sent replies =
+    LeadsOn (λ desk after. RunsMessages settings desk sent replies after)
+
+-- ---- as they are handed over
+
+abbrev pub sent_of : {A : Type 0} → ℕ × Vec ℕ A → Sent
+sent_of message = (message.0, message.1.items)
+
+abbrev pub all_sent : {A : Type 0} → List (ℕ × Vec ℕ A) → List Sent
+all_sent messages = map sent_of messages
+
+abbrev pub replied_of : {A : Type 0} → Result (Vec ℕ A) ServeFault → Replied
+replied_of (Ok bytes) = Ok bytes.items
+replied_of (Err fault) = Err fault
+
+abbrev pub all_replied : {A : Type 0} → List (Result (Vec ℕ A) ServeFault) → List Replied
+all_replied replies = map replied_of replies

@@ -1,0 +1,145 @@
+//! Replies are put into room that was had before.
+ghost use Rattle.std.specs.Prelude.{◌≡◌, ◌≢◌, ◌≤◌, [], true, false, None, Some, IfErr, OnErr, OnOk};
+ghost use Rattle.std.specs.Prelude.{length};
+ghost use Rattle.std.specs.Vec.{vec_capacity};
+ghost use Rattle.desk_model.specs.Refusals.{names_its_right};
+ghost use Rattle.desk_texts.specs.Short.{is_short};
+ghost use Rattle.message_core.specs.Reply as form;
+ghost use Rattle.message_core.specs.Reply.{IsReply, bytes_of};
+ghost use Rattle.route_core.specs.Places as places;
+ghost use Rattle.wire_core.specs.Replies as replies;
+ghost use Rattle.wire_core.specs.Replies.{TellsFault};
+
+use crate::replies::{fault_reply, outcome_reply, stream_reply};
+use desk_core::{Answer, Refusal};
+use message_core::{Reply, WireFault, answer_bytes, put_reply, unavailable_reply};
+use route_core::{CommandFault, Place};
+use service_core::text_in_room;
+use std::alloc::{AllocError, Global};
+
+/// Room for any short reply, in bytes.
+pub(crate) const SHORT_REPLY: usize = 512;
+
+/// A body of fewer bytes makes a short reply.
+const SHORT_BODY: usize = 100;
+
+/// Puts the reply with what came of a command into the room. One that isn't short takes memory.
+pub(crate) fn put_outcome(
+    alloc: Global,
+    head_only: bool,
+    outcome: &Result<Answer, Refusal>,
+    text: Vec<u8>,
+    room: &mut Vec<u8>,
+) -> Result<(), AllocError>
+    requires named { IfErr outcome.now (λ refusal. names_its_right refusal ≡ true) }
+    requires no_text { text.items ≡ [] }
+    requires text { 64 ≤ vec_capacity text }
+    requires empty { room.old.items ≡ [] }
+    requires room { 512 ≤ vec_capacity room.old }
+    ensures ok { OnOk result
+        (room.new.items ≡ bytes_of (replies.outcome_reply head_only outcome.now)) }
+    ensures err { OnErr result ((room.new ≡ room.old) × (is_short outcome.now ≡ false)) }
+{
+    match text_in_room(alloc, outcome, text) {
+        Ok(text) => put(alloc, &outcome_reply(head_only, outcome, text), room),
+        Err(_) => Err(AllocError),
+    }
+}
+
+/// Puts the reply to a message whose path leads nowhere into the room.
+pub(crate) fn put_no_route(alloc: Global, head_only: bool, room: &mut Vec<u8>) -> Result<(), AllocError>
+    requires empty { room.old.items ≡ [] }
+    requires room { 512 ≤ vec_capacity room.old }
+    ensures ok { OnOk result (room.new.items
+        ≡ bytes_of (replies.fault_reply head_only None CommandFault.NoRoute)) }
+    ensures err { OnErr result (room.new ≡ room.old) }
+{
+    match fault_reply(alloc, head_only, None, CommandFault::NoRoute) {
+        Ok(reply) => put(alloc, &reply, room),
+        Err(_) => Err(AllocError),
+    }
+}
+
+/// Puts the reply to a message that asks for no command at its place into the room.
+pub(crate) fn put_fault(
+    alloc: Global,
+    head_only: bool,
+    place: Place,
+    fault: CommandFault,
+    room: &mut Vec<u8>,
+) -> Result<(), AllocError>
+    requires empty { room.old.items ≡ [] }
+    requires room { 512 ≤ vec_capacity room.old }
+    ensures memory { OnOk result (fault ≢ CommandFault.NoMemory) }
+    ensures ok { OnOk result (room.new.items
+        ≡ bytes_of (replies.fault_reply head_only (Some (places.methods_of place)) fault)) }
+    ensures err { OnErr result (room.new ≡ room.old) }
+{
+    if fault == CommandFault::NoMemory {
+        return Err(AllocError);
+    }
+    match fault_reply(alloc, head_only, Some(place.methods()), fault) {
+        Ok(reply) => put(alloc, &reply, room),
+        Err(_) => Err(AllocError),
+    }
+}
+
+/// Puts the bytes of a reply into the room. One with a body of 100 bytes or more takes memory.
+#[tactic(auto, using(message_core::proofs::ReplyLemmas::short_reply))]
+fn put(alloc: Global, reply: &Reply, room: &mut Vec<u8>) -> Result<(), AllocError>
+    requires reply { IsReply reply.now }
+    requires empty { room.old.items ≡ [] }
+    requires room { 512 ≤ vec_capacity room.old }
+    ensures ok { OnOk result (room.new.items ≡ bytes_of reply.now) }
+    ensures err { OnErr result ((room.new ≡ room.old) × (100 ≤ length reply.now.body)) }
+{
+    if reply.body.len() < SHORT_BODY {
+        put_reply(reply, room);
+        return Ok(());
+    }
+    match answer_bytes(alloc, reply) {
+        Ok(bytes) => {
+            *room = bytes;
+            Ok(())
+        }
+        Err(_) => Err(AllocError),
+    }
+}
+
+/// Puts the reply that tells why a stream has no message into the room, or the one that nothing was
+/// done for want of memory.
+pub(crate) fn put_stream_fault(alloc: Global, fault: WireFault, room: &mut Vec<u8>)
+    requires empty { room.old.items ≡ [] }
+    requires room { 512 ≤ vec_capacity room.old }
+    ensures { TellsFault fault room.new.items }
+{
+    if fault == WireFault::NoMemory {
+        put_unavailable(false, room);
+    } else {
+        match put_stream_reply(alloc, fault, room) {
+            Ok(()) => (),
+            Err(_) => put_unavailable(false, room),
+        }
+    }
+}
+
+fn put_stream_reply(alloc: Global, fault: WireFault, room: &mut Vec<u8>) -> Result<(), AllocError>
+    requires empty { room.old.items ≡ [] }
+    requires room { 512 ≤ vec_capacity room.old }
+    ensures ok { OnOk result (room.new.items ≡ bytes_of (replies.stream_reply fault)) }
+    ensures err { OnErr result (room.new ≡ room.old) }
+{
+    match stream_reply(alloc, fault) {
+        Ok(reply) => put(alloc, &reply, room),
+        Err(_) => Err(AllocError),
+    }
+}
+
+/// Puts the reply that nothing was done for want of memory into the room.
+pub(crate) fn put_unavailable(head_only: bool, room: &mut Vec<u8>)
+    requires empty { room.old.items ≡ [] }
+    requires room { 512 ≤ vec_capacity room.old }
+    ensures { room.new.items ≡ bytes_of (form.unavailable head_only) }
+{
+    room.extend_from_slice(unavailable_reply(head_only)).unwrap();
+}

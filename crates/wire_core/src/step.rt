@@ -1,0 +1,134 @@
+//! One message: what it asks for is done, and its reply is put into room that was had before.
+ghost use Rattle.std.specs.Prelude.{◌≡◌, ◌≢◌, ◌≤◌, [], true, false, None, Some, IfErr, OnErr, OnOk};
+ghost use Rattle.std.specs.Prelude.{length};
+ghost use Rattle.std.specs.Vec.{vec_capacity, vec_len};
+ghost use Rattle.desk_model.specs.Refusals.{names_its_right};
+ghost use Rattle.desk_texts.specs.Short.{is_short};
+ghost use Rattle.message_core.specs.Reply.{IsReply, bytes_of};
+ghost use Rattle.route_core.specs.Commands as commands;
+ghost use Rattle.route_core.specs.Places as places;
+ghost use Rattle.service_core.specs.Seen.{settings_of, tables_of};
+ghost use Rattle.service_core.specs.TableSteps.{ask_by};
+ghost use Rattle.store_tables.specs.Calls.{WasClean};
+ghost use Rattle.wire_core.specs.Replies as replies;
+ghost use Rattle.wire_core.specs.Steps.{CommandStepsOn, IsDoneOn, MessageStepsOn, StaysOn};
+
+use crate::replies::is_head;
+use crate::room::{put_fault, put_no_route, put_outcome, put_unavailable};
+use desk_core::Command;
+use message_core::Message;
+use route_core::{Place, command_at, place_of};
+use service_core::{Desk, SHORT_TEXT};
+use std::alloc::{AllocError, Global};
+use store_core::Backend;
+
+/// Does what a message asks for and puts its reply into the room, or puts the reply there that
+/// nothing was done for want of memory.
+pub(crate) fn answer_message<S: Backend>(
+    alloc: Global,
+    message: &Message,
+    moment: u32,
+    desk: &mut Desk<S>,
+    room: &mut Vec<u8>,
+)
+    requires empty { room.old.items ≡ [] }
+    requires room { 512 ≤ vec_capacity room.old }
+    ensures step { MessageStepsOn (settings_of S.Store desk.old) moment message.now room.new.items
+        (tables_of S.Store desk.old) (tables_of S.Store desk.new) }
+    ensures honest { WasClean (tables_of S.Store desk.old) (tables_of S.Store desk.new) }
+    ensures same { settings_of S.Store desk.new ≡ settings_of S.Store desk.old }
+{
+    match reply_to(alloc, message, moment, desk, room) {
+        Ok(()) => (),
+        Err(_) => put_unavailable(is_head(message), room),
+    }
+}
+
+/// Does what a message asks for, and puts its reply into the room. Out of memory nothing is done,
+/// and nothing is put.
+fn reply_to<S: Backend>(
+    alloc: Global,
+    message: &Message,
+    at: u32,
+    desk: &mut Desk<S>,
+    room: &mut Vec<u8>,
+) -> Result<(), AllocError>
+    requires empty { room.old.items ≡ [] }
+    requires room { 512 ≤ vec_capacity room.old }
+    ensures ok { OnOk result (CommandStepsOn (settings_of S.Store desk.old) at message.now
+        (commands.command_of (settings_of S.Store desk.old) message.now) room.new.items
+        (tables_of S.Store desk.old) (tables_of S.Store desk.new)) }
+    ensures err { OnErr result ((room.new ≡ room.old)
+        × StaysOn (tables_of S.Store desk.old) (tables_of S.Store desk.new)) }
+    ensures honest { WasClean (tables_of S.Store desk.old) (tables_of S.Store desk.new) }
+    ensures same { settings_of S.Store desk.new ≡ settings_of S.Store desk.old }
+{
+    match place_of(alloc, message.target.as_slice()) {
+        Ok(Some(place)) => reply_at(alloc, place, message, at, desk, room),
+        Ok(None) => put_no_route(alloc, is_head(message), room),
+        Err(_) => Err(AllocError),
+    }
+}
+
+/// The same at the place to which the message's target leads.
+fn reply_at<S: Backend>(
+    alloc: Global,
+    place: Place,
+    message: &Message,
+    at: u32,
+    desk: &mut Desk<S>,
+    room: &mut Vec<u8>,
+) -> Result<(), AllocError>
+    requires place { places.place_of message.now.target ≡ Some place }
+    requires empty { room.old.items ≡ [] }
+    requires room { 512 ≤ vec_capacity room.old }
+    ensures ok { OnOk result (CommandStepsOn (settings_of S.Store desk.old) at message.now
+        (commands.command_at (settings_of S.Store desk.old) place message.now) room.new.items
+        (tables_of S.Store desk.old) (tables_of S.Store desk.new)) }
+    ensures err { OnErr result ((room.new ≡ room.old)
+        × StaysOn (tables_of S.Store desk.old) (tables_of S.Store desk.new)) }
+    ensures honest { WasClean (tables_of S.Store desk.old) (tables_of S.Store desk.new) }
+    ensures same { settings_of S.Store desk.new ≡ settings_of S.Store desk.old }
+{
+    let head_only = is_head(message);
+    match command_at(alloc, desk.settings(), place, message) {
+        Ok((caller, command)) => {
+            let replied = do_command(alloc, at, caller.as_str(), &command, head_only, desk, room);
+            drop(command);
+            replied
+        }
+        Err(fault) => put_fault(alloc, head_only, place, fault, room),
+    }
+}
+
+/// Does a command by a caller at a moment, and puts the reply with what came of it into the room.
+/// A change is made only once there is room for its text.
+fn do_command<S: Backend>(
+    alloc: Global,
+    at: u32,
+    caller: &str,
+    command: &Command,
+    head_only: bool,
+    desk: &mut Desk<S>,
+    room: &mut Vec<u8>,
+) -> Result<(), AllocError>
+    requires empty { room.old.items ≡ [] }
+    requires room { 512 ≤ vec_capacity room.old }
+    ensures ok { OnOk result (IsDoneOn (settings_of S.Store desk.old)
+        (ask_by at caller.now command.now) head_only room.new.items
+        (tables_of S.Store desk.old) (tables_of S.Store desk.new)) }
+    ensures err { OnErr result ((room.new ≡ room.old)
+        × StaysOn (tables_of S.Store desk.old) (tables_of S.Store desk.new)) }
+    ensures honest { WasClean (tables_of S.Store desk.old) (tables_of S.Store desk.new) }
+    ensures same { settings_of S.Store desk.new ≡ settings_of S.Store desk.old }
+{
+    match Vec::with_capacity(alloc, SHORT_TEXT) {
+        Ok(text) => {
+            let outcome = desk.execute(alloc, at, caller, command);
+            let told = put_outcome(alloc, head_only, &outcome, text, room);
+            drop(outcome);
+            told
+        }
+        Err(_) => Err(AllocError),
+    }
+}
