@@ -11,8 +11,8 @@ use desk_model::Command;
 use std::alloc::{AllocError, Global};
 use text_core::Text;
 
-pub(crate) mod links;
-pub(crate) mod people;
+pub mod links;
+pub mod people;
 pub(crate) mod texts;
 
 /// The command that the words spell, or `BadWords` where they spell none. Names and texts are

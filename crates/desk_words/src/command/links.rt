@@ -9,9 +9,11 @@ use desk_model::{Command, LinkKind};
 
 /// A kind of link as a word names it: by its own name, or by that of its inverse, where the two
 /// requests change places.
-#[derive(Clone, Copy)]
-pub(crate) enum NamedKind {
+#[derive(Clone, Copy, Debug, PartialEq, Eq)]
+pub enum NamedKind {
+    /// By its own name.
     Plain(LinkKind),
+    /// By the name of its inverse.
     Inverse(LinkKind),
 }
 
@@ -26,8 +28,9 @@ pub(crate) fn link(given: &ArgMatches<'_>) -> Option<Command>
     }
 }
 
-/// The link, or its removal. By an inverse the two requests change places.
-fn linking(away: bool, id: u32, kind: NamedKind, other: u32) -> Command
+/// The command that puts the link, or that takes it away. By an inverse the two requests change
+/// places.
+pub fn linking(away: bool, id: u32, kind: NamedKind, other: u32) -> Command
     ensures { result ≡ subcommands.linking away id kind other }
 {
     match kind {
@@ -75,7 +78,8 @@ fn kind(given: &ArgMatches<'_>) -> Option<NamedKind>
     }
 }
 
-fn kind_named(word: &str) -> Option<NamedKind>
+/// The kind of link that the word names, by itself or by its inverse, or none.
+pub fn kind_named(word: &str) -> Option<NamedKind>
     ensures { result ≡ subcommands.kind_named word.now }
 {
     match word {

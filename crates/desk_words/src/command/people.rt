@@ -54,7 +54,8 @@ fn role(given: &ArgMatches<'_>) -> Option<WatchRole>
     }
 }
 
-fn role_named(word: &str) -> Option<WatchRole>
+/// The role that the word names, or none.
+pub fn role_named(word: &str) -> Option<WatchRole>
     ensures { result ≡ subcommands.role_named word.now }
 {
     match word {
