@@ -1,5 +1,4 @@
 mod Acts
 mod Cuts
 mod Digits
-mod Table
 mod Trees
