@@ -1,5 +1,6 @@
 -- What is no text names no act.
-use Rattle.std.proofs.Common.{◌≡◌, ℕ, Bool, true, false, List, None, bytes_eq, codes, refl}
+use Rattle.std.proofs.Common.{◌≡◌, ℕ, Bool, true, false, List, None, bytes_eq, codes, refl, ap}
+use Rattle.std.proofs.Common.{◌∙◌, encode_utf8}
 use Rattle.std.specs.Str.{is_utf8, chars}
 use Rattle.std.proofs.lemmas.Bool.{both_ways}
 use Rattle.std.proofs.lemmas.Slice.Eq.{bytes_eq-Decides}
@@ -13,7 +14,7 @@ other_than name text true is none some =
 other_than name text false is none some = refl
 
 pub no_text_named : (name : List ℕ) (id : ℕ) → is_utf8 name ≡ false → place_named name id ≡ None
-unfolding is_utf8 chars
+unfolding is_utf8 chars encode_utf8
 no_text_named name id none =
     let apart = λ (text : List ℕ) (some : is_utf8 text ≡ true).
     other_than name text (bytes_eq name text) refl none some in

@@ -15,6 +15,7 @@ mod people;
 mod texts;
 
 /// A queue is opened: `queue`, `lifecycle`, and `level` if there is to be one.
+#[tactic(auto, unfolding(crate::specs::Bodies::opening))]
 pub(crate) fn opening(alloc: Global, members: &Members) -> Result<Option<Command>, AllocError>
     ensures { IfOk result (λ asked. asked ≡ bodies.opening (members_view members.now.entries)) }
 {
@@ -48,6 +49,7 @@ fn open_queue(
 }
 
 /// A request is filed in a queue: `subject`, and `status` and `requestors` if they are given.
+#[tactic(auto, unfolding(crate::specs::Bodies::filing))]
 pub(crate) fn filing(
     alloc: Global,
     queue: &str,
@@ -114,6 +116,7 @@ pub(crate) fn acting(
 }
 
 /// What is asked for, where nothing is said.
+#[tactic(auto, unfolding(crate::specs::Bodies::bare))]
 fn bare(asked: Command, members: &Members) -> Option<Command>
     ensures { result ≡ bodies.bare asked (members_view members.now.entries) }
 {

@@ -46,14 +46,14 @@ fn object_in(value: Value) -> Option<Members>
 }
 
 fn is_among(key: &str, keys: &[&str]) -> bool
-    ensures { result ≡ list_any (bytes_eq key.now) (map (λ k. k.now) keys.now) }
+    ensures { result ≡ list_any (λ known. bytes_eq key.now known.now) keys.now }
 {
     keys.iter().any(|known| key == *known)
 }
 
 fn all_are_among(members: &Members, keys: &[&str]) -> bool
     ensures { result ≡ list_all (λ key.
-        list_any (bytes_eq (string_bytes key)) (map (λ k. k.now) keys.now)) (map_keys members.now) }
+        list_any (λ known. bytes_eq (string_bytes key) known.now) keys.now) (map_keys members.now) }
 {
     members.keys().all(|key| is_among(key.as_str(), keys))
 }

@@ -18,6 +18,7 @@ fn kind_at(members: &Members) -> Option<NamedKind>
 }
 
 /// `kind` and `other`.
+#[tactic(auto, unfolding(crate::specs::Bodies::link))]
 pub(crate) fn link(away: bool, id: u32, members: &Members) -> Option<Command>
     ensures { result ≡ bodies.link away id (members_view members.now.entries) }
 {

@@ -20,6 +20,7 @@ fn role_at(members: &Members) -> Option<WatchRole>
 }
 
 /// `role` and a copy of `person`, where both are there and no other key.
+#[tactic(auto, unfolding(crate::specs::Bodies::watcher))]
 fn watcher(alloc: Global, members: &Members) -> Result<Option<(WatchRole, Text)>, AllocError>
     ensures { IfOk result (λ found. found ≡ bodies.watcher (members_view members.now.entries)) }
 {

@@ -9,6 +9,7 @@ use std::alloc::{AllocError, Global};
 use text_core::Text;
 
 /// A copy of the text at a key, where there is one and no other key.
+#[tactic(auto, unfolding(crate::specs::Bodies::only_text))]
 fn only_text(alloc: Global, members: &Members, key: &str) -> Result<Option<Text>, AllocError>
     ensures { IfOk result (λ text.
         text ≡ bodies.only_text key.now (members_view members.now.entries)) }
@@ -67,6 +68,7 @@ pub(crate) fn comment(
 }
 
 /// `level` if there is to be one.
+#[tactic(auto, unfolding(crate::specs::Bodies::levelled))]
 pub(crate) fn set_level(
     alloc: Global,
     id: u32,
