@@ -1,6 +1,7 @@
 -- What is no text names no act.
 use Rattle.std.proofs.Common.{◌≡◌, ℕ, Bool, true, false, List, None, bytes_eq, codes, refl, ap}
-use Rattle.std.proofs.Common.{◌∙◌, encode_utf8}
+use Rattle.std.proofs.Common.{◌∙◌}
+use Rattle.std.specs.Char.{encode_utf8}
 use Rattle.std.specs.Str.{is_utf8, chars}
 use Rattle.std.proofs.lemmas.Bool.{both_ways}
 use Rattle.std.proofs.lemmas.Slice.Eq.{bytes_eq-Decides}

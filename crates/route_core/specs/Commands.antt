@@ -61,8 +61,8 @@ abbrev pub posted_by : Place → List ℕ → Members → Option Command
 posted_by place.Queues path members = opening members
 posted_by place.Requests path members =
     option_and_then (λ queue. filing queue members) (text_in (queue_in path))
-posted_by (place.Request id) path members = None
-posted_by (place.History id) path members = None
+posted_by (place.Request id) path _ = None
+posted_by (place.History id) path _ = None
 posted_by (place.Act id act) path members = acting id act members
 
 -- what a POST asks for
