@@ -32,6 +32,7 @@ pub(crate) fn opening(alloc: Global, members: &Members) -> Result<Option<Command
     }
 }
 
+/// The command, of copies of its parts.
 fn open_queue(
     alloc: Global,
     queue: &str,
@@ -71,6 +72,7 @@ pub(crate) fn filing(
     }
 }
 
+/// The command, of copies of its parts.
 fn create(
     alloc: Global,
     queue: &str,

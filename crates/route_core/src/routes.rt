@@ -1,5 +1,5 @@
 //! The table of routes.
-ghost use Rattle.std.specs.Prelude.{◌≡◌, IfOk, IsTrue, OnOk};
+ghost use Rattle.std.specs.Prelude.{◌≡◌, [], IfOk, IsTrue, OnOk};
 ghost use Rattle.route_core.specs.Places as places;
 
 use matchit::{InsertError, Router};
@@ -34,11 +34,20 @@ fn router(alloc: Global) -> Result<Router<Route>, AllocError>
     ensures { IfOk result (λ router. router ≡ places.routes) }
 {
     let mut router = Router::new(alloc);
-    add(&mut router, "/queues", Route::Queues)?;
-    add(&mut router, "/queues/{queue}/requests", Route::Requests)?;
-    add(&mut router, "/requests/{id}", Route::Request)?;
-    add(&mut router, "/requests/{id}/{act}", Route::Act)?;
+    add_all(&mut router)?;
     Ok(router)
+}
+
+/// Adds the routes to an empty table.
+fn add_all(router: &mut Router<Route>) -> Result<(), AllocError>
+    requires { router.old ≡ [] }
+    ensures { OnOk result (router.new ≡ places.routes) }
+{
+    add(router, "/queues", Route::Queues)?;
+    add(router, "/queues/{queue}/requests", Route::Requests)?;
+    add(router, "/requests/{id}", Route::Request)?;
+    add(router, "/requests/{id}/{act}", Route::Act)?;
+    Ok(())
 }
 
 /// Adds a route that reads well and stands in the way of none.

@@ -33,6 +33,7 @@ fn watcher(alloc: Global, members: &Members) -> Result<Option<(WatchRole, Text)>
     }
 }
 
+/// `role` and `person`.
 pub(crate) fn watch(
     alloc: Global,
     id: u32,
@@ -45,6 +46,7 @@ pub(crate) fn watch(
     Ok(found.map(|(role, person)| Command::Watch { id, role, person }))
 }
 
+/// `role` and `person`.
 pub(crate) fn unwatch(
     alloc: Global,
     id: u32,

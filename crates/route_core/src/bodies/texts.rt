@@ -23,6 +23,7 @@ fn only_text(alloc: Global, members: &Members, key: &str) -> Result<Option<Text>
     }
 }
 
+/// `status`, alone.
 pub(crate) fn set_status(
     alloc: Global,
     id: u32,
@@ -35,6 +36,7 @@ pub(crate) fn set_status(
     Ok(status.map(|status| Command::SetStatus { id, status }))
 }
 
+/// `person`, alone.
 pub(crate) fn give(alloc: Global, id: u32, members: &Members) -> Result<Option<Command>, AllocError>
     ensures { IfOk result (λ asked. asked ≡ bodies.with_text (codes "person")
         (Command.Give id) (members_view members.now.entries)) }
@@ -43,6 +45,7 @@ pub(crate) fn give(alloc: Global, id: u32, members: &Members) -> Result<Option<C
     Ok(person.map(|person| Command::Give { id, person }))
 }
 
+/// `text`, alone.
 pub(crate) fn reply(
     alloc: Global,
     id: u32,
@@ -55,6 +58,7 @@ pub(crate) fn reply(
     Ok(text.map(|text| Command::Reply { id, text }))
 }
 
+/// `text`, alone.
 pub(crate) fn comment(
     alloc: Global,
     id: u32,
@@ -67,7 +71,7 @@ pub(crate) fn comment(
     Ok(text.map(|text| Command::Comment { id, text }))
 }
 
-/// `level` if there is to be one.
+/// `level` if there is to be one, alone.
 #[tactic(auto, unfolding(crate::specs::Bodies::levelled))]
 pub(crate) fn set_level(
     alloc: Global,

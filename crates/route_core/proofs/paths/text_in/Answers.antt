@@ -9,7 +9,7 @@ pub returns-in-Ok-clause-text : goal.returns-in-Ok-clause-text
 returns-in-Ok-clause-text c =
     rw (
       is_utf8-from_IsUtf8 c.args.bytes.now c.in-Ok.ensures.cases.1,
-      c.in-Ok.ensures.cases.0
+      c.in-Ok.ensures.cases.0,
     ) refl
 
 pub returns-in-Err-clause-text : goal.returns-in-Err-clause-text

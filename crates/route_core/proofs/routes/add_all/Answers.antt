@@ -2,20 +2,20 @@
 use Rattle.std.proofs.Common.{refl}
 use Rattle.matchit.proofs.OnLiterals.{matchit_on_literals}
 use Rattle.route_core.specs.Places.{routes}
-use Rattle.route_core.proofs.routes.router.Goals as goal
+use Rattle.route_core.proofs.routes.add_all.Goals as goal
 
 pub add-requires : goal.add-requires
 unfolding matchit_on_literals
-add-requires c = rw c.new-router.ensures refl
+add-requires c = rw c.requires refl
 
 pub add-requires-2 : goal.add-requires-2
 unfolding matchit_on_literals
-add-requires-2 c = rw (c.in_ok-add.ensures, c.new-router.ensures) refl
+add-requires-2 c = rw (c.in_ok-add.ensures, c.requires) refl
 
 pub add-requires-3 : goal.add-requires-3
 unfolding matchit_on_literals
 add-requires-3 c =
-    rw (c.in_ok-add-2.ensures, c.in_ok-add.ensures, c.new-router.ensures) refl
+    rw (c.in_ok-add-2.ensures, c.in_ok-add.ensures, c.requires) refl
 
 pub add-requires-4 : goal.add-requires-4
 unfolding matchit_on_literals
@@ -24,7 +24,7 @@ add-requires-4 c =
       c.in_ok-add-3.ensures,
       c.in_ok-add-2.ensures,
       c.in_ok-add.ensures,
-      c.new-router.ensures,
+      c.requires,
     ) refl
 
 pub returns : goal.returns
@@ -35,5 +35,5 @@ returns c =
       c.in_ok-add-3.ensures,
       c.in_ok-add-2.ensures,
       c.in_ok-add.ensures,
-      c.new-router.ensures,
+      c.requires,
     ) refl
