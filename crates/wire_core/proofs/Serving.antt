@@ -16,10 +16,10 @@ use Rattle.wire_core.specs.Runs.{IsReplyTo, Replied, RepliesOn, RunsMessages, Ru
 use Rattle.wire_core.specs.Runs.{all_replied, all_sent, replied_of, sent_of}
 use Rattle.wire_core.specs.Served.{IsSent, IsServed}
 use Rattle.wire_core.specs.Steps.{CommandSteps, LeavesOut, MessageSteps, ReadSteps, StreamSteps}
-use Rattle.wire_core.specs.Steps.{StreamStepsOn}
+use Rattle.wire_core.specs.Steps.{StaysOn, StreamStepsOn}
 use Rattle.wire_core.specs.declared.fault.ServeFault.{ServeFault}
 use Rattle.wire_core.specs.declared.fault.ServeFault.TheVariants.{NoMemory, Read, Write}
-use Rattle.wire_core.proofs.Stepping.{leads_nowhere}
+use Rattle.wire_core.proofs.Stepping.{leads_wider}
 
 -- ---- one message
 
@@ -32,11 +32,30 @@ served s at had left before after bytes (Err Write) old new steps sent = (bytes,
 served s at had left before after bytes (Err Read) old new steps sent = absurd sent
 served s at had left before after bytes (Err NoMemory) old new steps sent = absurd sent
 
+-- the same of a counted reader and a counted writer, in place of those that they count for
+pub served_counted : (s : Settings) (at : ℕ) (had left before after : Option (List ℕ))
+    (in_reader left_in_it in_writer held_in_it : Option (List ℕ)) (bytes sent : List ℕ)
+    (r : Result ⊤ ServeFault) (old new : State)
+    → in_reader ≡ had → left_in_it ≡ left → in_writer ≡ before → held_in_it ≡ after
+    → sent ≡ bytes → StreamStepsOn s at in_reader left_in_it bytes old new
+    → IsSent in_writer held_in_it sent r → IsServed s at had left before after r old new
+served_counted s at had left before after had1 left1 before1 after1 bytes sent r old new h l b a same
+    steps is_sent =
+    let by_reader =
+    subst (λ (x : Option (List ℕ)). StreamStepsOn s at x left1 bytes old new) h steps in
+    let by_both =
+    subst (λ (x : Option (List ℕ)). StreamStepsOn s at had x bytes old new) l by_reader in
+    let from = subst (λ (x : Option (List ℕ)). IsSent x after1 sent r) b is_sent in
+    let to = subst (λ (x : Option (List ℕ)). IsSent before x sent r) a from in
+    let whole = subst (λ (x : List ℕ). IsSent before after x r) same to in
+    served s at had left before after bytes r old new by_both whole
+
 -- there is no room for a reply: nothing is read, and nothing is done
 pub left_out : (s : Settings) (at : ℕ) (had left : Option (List ℕ)) (bytes : List ℕ)
-    (tables : State) → bytes ≡ bytes_of (unavailable false)
-    → StreamStepsOn s at had left bytes tables tables
-left_out s at had left bytes tables told = leads_nowhere _ tables (λ desk. inl (told, refl))
+    (old new : State) → bytes ≡ bytes_of (unavailable false) → StaysOn old new
+    → StreamStepsOn s at had left bytes old new
+left_out s at had left bytes old new told stay =
+    leads_wider _ _ old new (λ desk after same. inl (told, same)) stay
 
 -- ---- a message step leaves a well-formed desk
 
