@@ -1,12 +1,12 @@
 -- Digits are a text.
-use Rattle.std.proofs.Common.{◌≡◌, ◌≤◌, ◌<◌, ◌^◌, ℕ, zero, suc, Bool, true, false, List, [], ◌∷◌, None}
-use Rattle.std.proofs.Common.{length, nat_le, nat_lt, slice_index, refl, arith}
+use Rattle.std.proofs.Common.{◌≡◌, ◌≤◌, ◌<◌, ℕ, zero, suc, Bool, true, false, List, [], ◌∷◌, None}
+use Rattle.std.proofs.Common.{length, nat_le, slice_index, refl, arith}
 use Rattle.std.specs.List.{list_all}
 use Rattle.std.specs.Str.{is_utf8}
-use Rattle.std.proofs.lemmas.Bool.{and_left, and_parts, and_right, both_ways, leb-true}
+use Rattle.std.proofs.lemmas.Bool.{and_parts, and_right, both_ways, leb-true}
 use Rattle.std.proofs.lemmas.Str.{IsUtf8-from_ascii, is_utf8-from_IsUtf8}
 use Rattle.text_core.specs.Form.{is_digit}
-use Rattle.desk_words.specs.Number.{number_of, value_of}
+use Rattle.desk_words.specs.Number.{number_of}
 
 digits_are_ascii : (bytes : List ℕ) → list_all is_digit bytes ≡ true
     → (i : ℕ) → slice_index bytes i < 128

@@ -1,5 +1,5 @@
 -- The members of a body that is read.
-use Rattle.std.proofs.Common.{◌≡◌, ℕ, ◌==◌, Bool, true, false, List, [], ◌∷◌, length, Option, Some}
+use Rattle.std.proofs.Common.{◌≡◌, ℕ, ◌==◌, Bool, true, false, List, [], ◌∷◌, length, Some}
 use Rattle.std.proofs.Common.{None, if◌then◌else◌, option_and_then, IsUtf8, refl}
 use Rattle.std.specs.Str.{is_utf8}
 use Rattle.std.proofs.lemmas.Bool.{false≢true}

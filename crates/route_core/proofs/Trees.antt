@@ -1,12 +1,12 @@
 -- Walks of a map's entries and of a list beside walks of what they stand for.
-use Rattle.std.proofs.Common.{◌≡◌, List, [], ◌∷◌, ◌++◌, ℕ, String, Global, string_bytes, bytes_eq}
-use Rattle.std.proofs.Common.{Option, Some, None, option_map, is_some, if◌then◌else◌, refl, ap, sym}
-use Rattle.std.proofs.Common.{append_assoc, map, Bor}
+use Rattle.std.proofs.Common.{◌≡◌, List, [], ◌∷◌, ℕ, String, Global, string_bytes, bytes_eq}
+use Rattle.std.proofs.Common.{Some, None, option_map, is_some, if◌then◌else◌, refl}
+use Rattle.std.proofs.Common.{map, Bor}
 use Rattle.std.specs.List.{list_all, list_any}
 use Rattle.std.specs.Map.{keys_of}
-use Rattle.serde_json.specs.Data.{Data, null, boolean, number, string, array, object, Items}
+use Rattle.serde_json.specs.Data.{Data, null, boolean, number, string, array, object}
 use Rattle.serde_json.specs.Find.{as_null, as_str}
-use Rattle.serde_json.specs.View.{items_view, members_view}
+use Rattle.serde_json.specs.View.{members_view}
 use Rattle.serde_json.specs.declared.value.Value.{Value}
 use Rattle.route_core.specs.Members.{has_only, text_or_null}
 

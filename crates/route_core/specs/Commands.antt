@@ -56,7 +56,8 @@ got (place.Request id) = Some (command.Show id)
 got (place.History id) = Some (command.History id)
 got (place.Act id act) = None
 
--- what is asked for by these members, posted to the place of that path
+-- what is asked for by these members, posted to the place of that path; a queue is named by a text,
+-- as in each path that is one
 abbrev pub posted_by : Place → List ℕ → Members → Option Command
 posted_by place.Queues path members = opening members
 posted_by place.Requests path members =

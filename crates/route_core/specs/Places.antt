@@ -1,7 +1,8 @@
 -- Where the target of a message leads: its path is laid against the routes, and its parts are cut
 -- out of it.
 use Rattle.std.specs.Prelude.{ℕ, ◌+◌, ◌==◌, List, [], ◌∷◌, length, drop, if◌then◌else◌, codes}
-use Rattle.std.specs.Prelude.{Bool, false, Option, Some, None, is_none, option_and_then, Result, Ok, Err}
+use Rattle.std.specs.Prelude.{Bool, false, Option, Some, None, is_none, option_and_then}
+use Rattle.std.specs.Prelude.{Result, Ok, Err}
 use Rattle.std.specs.Option.{option_map}
 use Rattle.std.specs.Str.{bytes_eq, is_utf8}
 use Rattle.matchit.specs.Order.{placed}

@@ -36,7 +36,8 @@ pub fn command_of(
 }
 
 /// The caller and the command that a message asks for at the place to which its target leads, or
-/// the fault that `command_of` has, in the same order.
+/// the fault that `command_of` has, in the same order. The queue of `Place::Requests` is read off
+/// the target.
 pub fn command_at(
     alloc: Global,
     settings: &Settings,
