@@ -6,9 +6,9 @@ use crate::stores::adopted;
 use crate::telling::{tell_given_back, tell_run};
 use service_core::Desk;
 use settings_core::Settings;
-use sqlite::{Alter, MemStore};
+use sqlite::MemStore;
 use std::alloc::Global;
-use store_core::Store;
+use store_core::{Backend, Store};
 
 /// Attaches the settings to the tables, and asks all commands at once.
 pub(crate) fn run_case(
@@ -40,7 +40,7 @@ pub(crate) fn attached(
 }
 
 /// Asks all commands at once.
-fn ask_all<S: Alter>(rt: &HostRuntime, desk: &mut Desk<S>, commands: &str) -> Result<(), Failure> {
+fn ask_all<S: Backend>(rt: &HostRuntime, desk: &mut Desk<S>, commands: &str) -> Result<(), Failure> {
     let asks = asks_of(rt.alloc(), commands)?;
     tell_run(rt, desk, asks.as_slice())
 }

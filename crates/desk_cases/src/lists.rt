@@ -7,14 +7,13 @@ use crate::stores::tell;
 use desk_core::{
     Command, Entry, Facts, LinkKind, LinkRow, QueueRow, RequestRow, Turn, WatchRole, Watcher,
 };
-use sqlite::Alter;
-use store_core::{Store, StoreFault};
+use store_core::{Backend, Store, StoreFault};
 use text_core::Text;
 
 /// What stands where there is nothing to tell.
 const NONE: &str = "-";
 
-pub fn queues<S: Alter>(rt: &HostRuntime, line: &str, store: &mut Store<S>) -> Result<(), Failure> {
+pub fn queues<S: Backend>(rt: &HostRuntime, line: &str, store: &mut Store<S>) -> Result<(), Failure> {
     match store.queues(rt.alloc()) {
         Ok(rows) => tell_queues(rt, line, rows.as_slice()),
         Err(fault) => tell(rt, line, Err(fault)),
@@ -35,7 +34,7 @@ fn tell_queues(rt: &HostRuntime, line: &str, rows: &[QueueRow]) -> Result<(), Fa
 }
 
 /// The requests, or those of a queue.
-pub fn requests<S: Alter>(
+pub fn requests<S: Backend>(
     rt: &HostRuntime,
     line: &str,
     store: &mut Store<S>,
@@ -79,7 +78,7 @@ fn request(rt: &HostRuntime, row: &RequestRow) -> Result<(), Failure> {
     Ok(())
 }
 
-pub fn watchers<S: Alter>(
+pub fn watchers<S: Backend>(
     rt: &HostRuntime,
     line: &str,
     store: &mut Store<S>,
@@ -124,7 +123,7 @@ fn tell_links(rt: &HostRuntime, line: &str, rows: &[LinkRow]) -> Result<(), Fail
 }
 
 /// The entries of a request.
-pub fn entries<S: Alter>(
+pub fn entries<S: Backend>(
     rt: &HostRuntime,
     line: &str,
     store: &mut Store<S>,
@@ -147,7 +146,7 @@ fn tell_entries(rt: &HostRuntime, line: &str, rows: &[Entry]) -> Result<(), Fail
 
 /// What a move of a request looks at: its status, how many entries it has, and the statuses of what
 /// it depends on.
-pub fn facts<S: Alter>(
+pub fn facts<S: Backend>(
     rt: &HostRuntime,
     line: &str,
     store: &mut Store<S>,
@@ -161,7 +160,7 @@ pub fn facts<S: Alter>(
 }
 
 /// The same of what the command looks at that the words spell.
-pub fn facts_for<S: Alter>(
+pub fn facts_for<S: Backend>(
     rt: &HostRuntime,
     line: &str,
     store: &mut Store<S>,
@@ -171,7 +170,7 @@ pub fn facts_for<S: Alter>(
     tell_facts(rt, line, store, &command)
 }
 
-fn tell_facts<S: Alter>(
+fn tell_facts<S: Backend>(
     rt: &HostRuntime,
     line: &str,
     store: &mut Store<S>,

@@ -3,8 +3,8 @@
 use crate::failure::Failure;
 use crate::served::{Sent, put_reply};
 use service_core::Desk;
-use sqlite::Alter;
 use std::alloc::{AllocError, Global};
+use store_core::Backend;
 use wire_core::serve_one;
 
 /// What a reply begins with, before its code.
@@ -15,7 +15,7 @@ const CODES: [&str; 8] = ["200", "201", "400", "403", "404", "405", "409", "503"
 
 /// Makes a message of each of the given ones in each turn and serves it, and tells how many replies
 /// had which code; then serves the first message as it is, and tells its reply.
-pub(crate) fn answer_made<S: Alter>(
+pub(crate) fn answer_made<S: Backend>(
     alloc: Global,
     sent: &[Sent],
     turns: u32,
@@ -35,7 +35,7 @@ pub(crate) fn answer_made<S: Alter>(
 }
 
 /// One turn, from the generator's number on: its next number.
-fn serve_turn<S: Alter>(
+fn serve_turn<S: Backend>(
     alloc: Global,
     sent: &[Sent],
     turn: u32,
@@ -107,7 +107,7 @@ fn repeated(alloc: Global, bytes: &[u8], place: usize, times: u8) -> Result<Vec<
 }
 
 /// The bytes that are written for a message.
-fn reply_to<S: Alter>(alloc: Global, moment: u32, bytes: &[u8], desk: &mut Desk<S>) -> Vec<u8> {
+fn reply_to<S: Backend>(alloc: Global, moment: u32, bytes: &[u8], desk: &mut Desk<S>) -> Vec<u8> {
     let mut reader = bytes;
     let mut written = Vec::new(alloc);
     let _ = serve_one(alloc, &mut reader, &mut written, moment, desk);

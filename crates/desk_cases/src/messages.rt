@@ -8,8 +8,8 @@ use crate::failure::Failure;
 use crate::served::{Manner, Sent, served};
 use crate::{ASKED, COMMANDS};
 use service_core::Desk;
-use sqlite::{Alter, MemStore};
 use std::alloc::Global;
+use store_core::Backend;
 
 /// What begins a message, before its moment.
 pub(crate) const BEGIN: &str = "\n> ";
@@ -90,7 +90,7 @@ fn replies(alloc: Global, before: &str, sent: &[Sent], manner: Manner) -> Result
 }
 
 /// The replies to messages on a desk, once the commands are done on it.
-fn served_after<S: Alter>(
+fn served_after<S: Backend>(
     alloc: Global,
     commands: &str,
     sent: &[Sent],

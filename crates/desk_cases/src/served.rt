@@ -4,8 +4,8 @@ use crate::failure::Failure;
 use crate::made::answer_made;
 use crate::streams::{Faltering, Slow};
 use service_core::Desk;
-use sqlite::Alter;
 use std::alloc::{AllocError, Global};
+use store_core::Backend;
 use wire_core::{ServeFault, serve_list, serve_one};
 
 /// A message at its moment.
@@ -56,7 +56,7 @@ impl Manner {
 
 /// The replies to messages as a text: each with the fault of serving it, if there is one; then,
 /// where they are served one after the other, how many bytes of each were left unread.
-pub(crate) fn served<S: Alter>(
+pub(crate) fn served<S: Backend>(
     alloc: Global,
     sent: &[Sent],
     manner: Manner,
@@ -70,7 +70,7 @@ pub(crate) fn served<S: Alter>(
     }
 }
 
-fn in_list<S: Alter>(alloc: Global, sent: &[Sent], desk: &mut Desk<S>) -> Result<Vec<u8>, Failure> {
+fn in_list<S: Backend>(alloc: Global, sent: &[Sent], desk: &mut Desk<S>) -> Result<Vec<u8>, Failure> {
     let mut text = Vec::new(alloc);
     for reply in serve_list(alloc, sent, desk)? {
         match reply {
@@ -81,7 +81,7 @@ fn in_list<S: Alter>(alloc: Global, sent: &[Sent], desk: &mut Desk<S>) -> Result
     Ok(text)
 }
 
-fn one_by_one<S: Alter>(
+fn one_by_one<S: Backend>(
     alloc: Global,
     sent: &[Sent],
     failing: Option<Failing>,
@@ -104,7 +104,7 @@ fn one_by_one<S: Alter>(
 
 /// Serves a message, over memory or over streams, and adds its reply. Answers how many bytes are
 /// left unread.
-fn serve<S: Alter>(
+fn serve<S: Backend>(
     alloc: Global,
     message: &Sent,
     failing: Option<Failing>,

@@ -3,9 +3,9 @@
 use crate::changes::{change_of, number};
 use crate::failure::Failure;
 use crate::lists::{entries, facts, facts_for, links, queues, requests, watchers};
-use sqlite::{Alter, Connection, MemStore};
+use sqlite::{Connection, MemStore};
 use std::alloc::Global;
-use store_core::{Store, StoreFault};
+use store_core::{Backend, Store, StoreFault};
 
 /// Answers each call of a store over the tables.
 pub(crate) fn run_case(rt: &HostRuntime, statements: &str, calls: &str) -> Result<(), Failure> {
@@ -35,7 +35,7 @@ pub(crate) fn adopted(alloc: Global, statements: &str) -> Result<Store<MemStore>
 }
 
 /// Writes a call with its answer.
-fn answer<S: Alter>(rt: &HostRuntime, store: &mut Store<S>, line: &str) -> Result<(), Failure> {
+fn answer<S: Backend>(rt: &HostRuntime, store: &mut Store<S>, line: &str) -> Result<(), Failure> {
     let (call, rest) = line.split_once(' ').unwrap_or((line, ""));
     match call {
         "create" => tell(rt, line, store.create_schema()),
@@ -56,7 +56,7 @@ fn answer<S: Alter>(rt: &HostRuntime, store: &mut Store<S>, line: &str) -> Resul
     }
 }
 
-fn version<S: Alter>(rt: &HostRuntime, line: &str, store: &mut Store<S>) -> Result<(), Failure> {
+fn version<S: Backend>(rt: &HostRuntime, line: &str, store: &mut Store<S>) -> Result<(), Failure> {
     match store.version() {
         Ok(version) => {
             println!(rt; "{line}: {version}")?;

@@ -4,11 +4,10 @@ use crate::asks::Ask;
 use crate::failure::Failure;
 use desk_core::{Answer, Refusal};
 use service_core::{AttachFault, Desk, answer_text, refusal_text};
-use sqlite::Alter;
-use store_core::{Store, StoreFault};
+use store_core::{Backend, Store, StoreFault};
 
 /// Writes that the settings are attached and what comes of each command, all asked at once.
-pub(crate) fn tell_run<S: Alter>(
+pub(crate) fn tell_run<S: Backend>(
     rt: &HostRuntime,
     desk: &mut Desk<S>,
     asks: &[Ask],
@@ -36,7 +35,7 @@ fn tell_outcome(rt: &HostRuntime, outcome: &Result<Answer, Refusal>) -> Result<(
 }
 
 /// Writes why the settings can't be attached, and how many rows the store lists that is given back.
-pub(crate) fn tell_given_back<S: Alter>(
+pub(crate) fn tell_given_back<S: Backend>(
     rt: &HostRuntime,
     fault: AttachFault,
     store: &mut Store<S>,

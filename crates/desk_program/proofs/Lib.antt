@@ -1,3 +1,4 @@
+pub mod Connections
 pub mod InputFaults
 pub mod LedLines
 pub mod LongInput

@@ -9,10 +9,9 @@ ghost use Rattle.desk_program.specs.FaultLines.{unavailable_text};
 ghost use Rattle.desk_program.specs.Script.{LineLeads, line_of, line_of_words, is_passed_over};
 ghost use Rattle.desk_program.specs.Script.{is_comment};
 
-use desk_core::Command;
 use service_core::{Desk, SHORT_TEXT, text_in_room};
-use sqlite::Alter;
 use std::alloc::{AllocError, Global};
+use store_core::Backend;
 use text_core::Text;
 use wire_core::{WordsFault, command_of_words, number_of_word, words_of};
 
@@ -32,7 +31,7 @@ pub(crate) enum Line {
 }
 
 /// What a line prints, after its command is done. Out of memory the desk stays as it was.
-pub(crate) fn answer_line<S: Alter>(
+pub(crate) fn answer_line<S: Backend>(
     alloc: Global,
     desk: &mut Desk<S>,
     text: &str,
@@ -65,7 +64,7 @@ pub(crate) fn answer_line<S: Alter>(
 
 /// What a command prints, after it is done. A change of the desk is made only once there is room
 /// for its answer.
-fn answer_command<S: Alter>(
+fn answer_command<S: Backend>(
     alloc: Global,
     desk: &mut Desk<S>,
     at: u32,

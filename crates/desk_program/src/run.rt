@@ -14,10 +14,9 @@ use crate::fault_lines::{put_attach_fault, put_store_fault, put_unavailable};
 use crate::line::answer_line;
 use service_core::Desk;
 use settings_core::Settings;
-use sqlite::Alter;
 use std::alloc::Global;
 use std::io::Write;
-use store_core::Store;
+use store_core::{Backend, Store};
 use stream_core::CountedWriter;
 
 /// The exit status of a script that ran, refused lines included.
@@ -49,7 +48,7 @@ pub(crate) fn run_in_memory<W: Write>(
 }
 
 /// Makes the tables of a store without any, and runs the commands on its desk.
-fn run_in_store<S: Alter + Drop, W: Write>(
+fn run_in_store<S: Backend + Drop, W: Write>(
     alloc: Global,
     mut store: Store<S>,
     settings: Settings,
@@ -75,7 +74,7 @@ fn run_in_store<S: Alter + Drop, W: Write>(
 }
 
 /// Attaches the settings to the tables of the empty desk, and runs the commands.
-fn run_on_tables<S: Alter + Drop, W: Write>(
+fn run_on_tables<S: Backend + Drop, W: Write>(
     alloc: Global,
     store: Store<S>,
     settings: Settings,
@@ -105,7 +104,7 @@ fn run_on_tables<S: Alter + Drop, W: Write>(
 
 /// Prints what each line prints, after its command is done, on an empty desk. A write that fails
 /// ends the run.
-fn run_lines<S: Alter, W: Write>(
+fn run_lines<S: Backend, W: Write>(
     alloc: Global,
     desk: &mut Desk<S>,
     commands: &str,
@@ -127,7 +126,7 @@ fn run_lines<S: Alter, W: Write>(
 }
 
 /// Prints what a line prints, after its command is done.
-fn run_line<S: Alter, W: Write>(
+fn run_line<S: Backend, W: Write>(
     alloc: Global,
     desk: &mut Desk<S>,
     line: &str,

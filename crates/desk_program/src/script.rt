@@ -141,7 +141,7 @@ fn run_commands<W: Write>(
         × script.IsCommandsOutput given commands.now text result
         × Prints W.contents output.old output.new text }
 {
-    match settings_of(alloc, settings) {
+    match read_settings(alloc, settings) {
         Ok(settings) => run_in_memory(alloc, settings, commands, output),
         Err(fault) => {
             put_settings_fault(output, fault);
@@ -151,7 +151,7 @@ fn run_commands<W: Write>(
 }
 
 /// The settings of a text, or its least fault.
-fn settings_of(alloc: Global, text: &[u8]) -> Result<Settings, SettingsFault>
+pub(crate) fn read_settings(alloc: Global, text: &[u8]) -> Result<Settings, SettingsFault>
     ensures { form.GivesSettings text.now result }
 {
     Settings::read(alloc, text)

@@ -13,7 +13,7 @@ use crate::calls::words::{command_answer, words_answer};
 use lifecycle_core::Lifecycle;
 use std::alloc::{AllocError, Global};
 use std::io;
-use wire_core::words_of;
+use desk_words::words_of;
 
 /// Writes each line with its answer.
 pub fn run(rt: &HostRuntime, cases: &str) -> io::Result<()> {

@@ -1,6 +1,6 @@
 //! Cases of the crates below the desk. The standard input has parts, each under a line `## NAME`:
 //!
-//! - `calls`, of text_core, lifecycle_core and wire_core;
+//! - `calls`, of text_core, lifecycle_core and desk_words;
 //! - `hours`, of calendars and moments;
 //! - `people`, of persons, groups and grants;
 //! - `settings`, of texts and what they are read as.

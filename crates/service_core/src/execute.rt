@@ -9,6 +9,7 @@ ghost use Rattle.service_core.specs.TableSteps.{StepsOn, ask_by};
 ghost use Rattle.service_core.specs.Seen.{settings_of, tables_of};
 
 use crate::desk::Desk;
+use crate::fault::unavailable;
 use crate::reading;
 use desk_core::{Answer, Change, Command, Facts, Refusal, decide};
 use settings_core::Settings;
@@ -64,7 +65,7 @@ fn step<S: Backend>(
             drop(facts);
             answer
         }
-        Err(fault) => Err(Refusal::from(fault)),
+        Err(fault) => Err(unavailable(fault)),
     }
 }
 
@@ -133,6 +134,6 @@ fn write<S: Backend>(store: &mut Store<S>, change: &Change) -> Result<Answer, Re
 {
     match store.apply(change) {
         Ok(()) => Ok(change.answer()),
-        Err(_) => Err(Refusal::Unavailable),
+        Err(fault) => Err(unavailable(fault)),
     }
 }

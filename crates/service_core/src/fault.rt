@@ -1,7 +1,8 @@
-//! The faults of attaching settings to tables.
+//! The faults of attaching settings to tables, and what a fault of the store is to a command.
 ghost use Rattle.std.specs.Prelude.{◌≡◌};
 ghost use Rattle.service_core.specs.Fault.{name_of, number_of};
 
+use desk_core::Refusal;
 use store_core::StoreFault;
 use thiserror::Error;
 
@@ -42,4 +43,11 @@ impl AttachFault {
             AttachFault::NoMemory => "NoMemory",
         }
     }
+}
+
+/// What a command answers where its store did not do what it was asked, for whichever fault.
+pub(crate) fn unavailable(_fault: StoreFault) -> Refusal
+    ensures { result ≡ Refusal.Unavailable }
+{
+    Refusal::Unavailable
 }

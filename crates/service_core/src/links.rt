@@ -7,6 +7,7 @@ ghost use Rattle.store_tables.specs.Calls.{Spares, Tells};
 ghost use Rattle.store_core.specs.Seen.{state_of};
 ghost use Rattle.service_core.specs.Shown as shown;
 
+use crate::fault::unavailable;
 use desk_core::{Command, Facts, LinkKind, LinkRow, Links, Refusal, is_kind};
 use settings_core::Settings;
 use std::alloc::{AllocError, Global};
@@ -48,9 +49,9 @@ pub(crate) fn links_of<S: Backend>(
     ensures kept { Spares (state_of S.Store store.old) (state_of S.Store store.new) }
     ensures fault { IfErr result (λ refusal. refusal ≡ Refusal.Unavailable) }
 {
-    let from = store.links_from(alloc, id)?;
+    let from = store.links_from(alloc, id).map_err(unavailable)?;
     let targets = shown_at(alloc, store, settings, caller, End::Target, from.as_slice())?;
-    let to = store.links_to(alloc, id)?;
+    let to = store.links_to(alloc, id).map_err(unavailable)?;
     let sources = shown_at(alloc, store, settings, caller, End::Source, to.as_slice())?;
     let links = links_by(alloc, targets.as_slice(), sources.as_slice())?;
     Ok(links)
@@ -100,7 +101,7 @@ fn is_shown<S: Backend>(
             drop(facts);
             Ok(shown)
         }
-        Err(fault) => Err(Refusal::from(fault)),
+        Err(fault) => Err(unavailable(fault)),
     }
 }
 

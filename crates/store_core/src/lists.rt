@@ -8,14 +8,14 @@ ghost use Rattle.store_tables.specs.Mismatches.{MismatchesInWatchers};
 ghost use Rattle.store_tables.specs.Selection.{ends_at, is_filed_in, starts_at};
 ghost use Rattle.store_core.specs.Seen.{state_of};
 
+use crate::Backend;
 use crate::store::Store;
 use desk_core::{Entry, LinkRow, QueueRow, RequestRow, Watcher};
-use sqlite::Alter;
 use std::alloc::Global;
 use store_tables::{StoreFault, reads};
 use text_core::Text;
 
-impl<S: Alter> Store<S> {
+impl<S: Backend> Store<S> {
     /// The queues, in the order of their names. `Mismatch` where a row is no queue, `Refused` where
     /// the store or memory refuses it. The tables stay as they are.
     pub fn queues(&mut self, alloc: Global) -> Result<Vec<QueueRow>, StoreFault>

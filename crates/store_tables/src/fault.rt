@@ -1,9 +1,7 @@
 //! The faults of a store.
 ghost use Rattle.std.specs.Prelude.{◌≡◌};
-ghost use Rattle.desk_model.specs.declared.refusal.Refusal.TheVariants.{Unavailable};
 ghost use Rattle.store_tables.specs.Fault.{number_of, name_of};
 
-use desk_model::Refusal;
 use thiserror::Error;
 
 /// Why the store didn't do what it was asked.
@@ -37,13 +35,5 @@ impl StoreFault {
             StoreFault::Mismatch => "Mismatch",
             StoreFault::Refused => "Refused",
         }
-    }
-}
-
-impl From<StoreFault> for Refusal {
-    ghost from_gives = { λ _ r. r ≡ Unavailable };
-
-    fn from(_fault: StoreFault) -> Refusal {
-        Refusal::Unavailable
     }
 }

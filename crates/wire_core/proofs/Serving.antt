@@ -52,7 +52,7 @@ formed_read s at (Ok message) old bytes new is (inl left) = subst IsDesk (sym le
 formed_read s at (Ok message) old bytes new is (inr did) =
     formed_command s at message _ old bytes new is did
 
-formed_stream : (s : Settings) (at : ℕ) (had left : Option (List ℕ)) (old : Desk)
+pub formed_stream : (s : Settings) (at : ℕ) (had left : Option (List ℕ)) (old : Desk)
     (bytes : List ℕ) (new : Desk) → IsDesk old → StreamSteps s at had left old bytes new
     → IsDesk new
 formed_stream s at had left old bytes new is (inl out) = subst IsDesk (sym out.1) is

@@ -104,9 +104,12 @@ message_left_out s at message bytes old new told stay =
 -- ---- a stream
 
 pub stream_done : (s : Settings) (at : ℕ) (had left : Option (List ℕ)) (message : Message)
-    (bytes : List ℕ) (old new : State) → Reads had left (Ok message)
+    (bytes : List ℕ) (old new : State)
+    → (Ok message ≢ Err WireFault.Read → Ok message ≢ Err WireFault.NoMemory
+        → Reads had left (Ok message))
     → MessageStepsOn s at message bytes old new → StreamStepsOn s at had left bytes old new
-stream_done s at had left message bytes old new read steps =
+stream_done s at had left message bytes old new reads steps =
+    let read = reads (λ e. cc) (λ e. cc) in
     leads_wider _ _ old new (λ desk after did. inr (Ok message, read, did)) steps
 
 -- a stream without a message, or no memory to read it

@@ -5,7 +5,7 @@ use Rattle.desk_program.proofs.line.answer_command.Goals as goal
 
 pub returns-in-Ok-clause-ok : goal.returns-in-Ok-clause-ok
 returns-in-Ok-clause-ok g c =
-    if_ok c.text_in_room-text.result _ _ c.text_of-text.ensures.ok
+    if_ok c.text_in_room-text.result _ _ c.text_in_room-text.ensures.ok
     (λ printed told. led_by_step (settings_of g.S.Store c.args.desk.now) c.args.at
     c.args.caller.now c.args.command.now c.execute-outcome.result
     (tables_of g.S.Store c.args.desk.now) (tables_of g.S.Store c.execute-outcome.new.self)
@@ -13,7 +13,7 @@ returns-in-Ok-clause-ok g c =
 
 pub returns-in-Ok-clause-err : goal.returns-in-Ok-clause-err
 returns-in-Ok-clause-err g c =
-    on_err c.text_in_room-text.result _ _ c.text_of-text.ensures.err
+    on_err c.text_in_room-text.result _ _ c.text_in_room-text.ensures.err
     (λ long. left_out_if_long (settings_of g.S.Store c.args.desk.now) c.args.at
     c.args.caller.now c.args.command.now c.execute-outcome.result
     (tables_of g.S.Store c.args.desk.now) (tables_of g.S.Store c.execute-outcome.new.self)

@@ -21,5 +21,5 @@ returns-in-Ok-clause-refused g c =
 pub returns-in-Err-clause-step : goal.returns-in-Err-clause-step
 returns-in-Err-clause-step g c =
     unavailable_on c.args.settings.now (ask_by c.args.at c.args.caller.now c.args.command.now)
-    c.from.result (state_of g.S.Store c.args.store.now) (state_of g.S.Store c.facts_for.new.self)
-    c.from.ensures (stands c.facts_for.ensures.kept)
+    c.unavailable.result (state_of g.S.Store c.args.store.now) (state_of g.S.Store c.facts_for.new.self)
+    c.unavailable.ensures (stands c.facts_for.ensures.kept)

@@ -1,0 +1,172 @@
+//! A desk is opened over the tables of a store, with the settings of a text.
+ghost use Rattle.std.specs.Prelude.{◌≡◌, ◌≤◌, ◌+◌, ℕ, List, Ok, Err, length, IfErr, IfOk, IfSome, OnOk};
+ghost use Rattle.std.specs.Prelude.{Result, if◌then◌else◌};
+ghost use Rattle.store_core.specs.Seen.{state_of};
+ghost use Rattle.service_core.specs.Seen.{settings_of, tables_of};
+ghost use Rattle.store_tables.specs.Calls.{Leaves};
+ghost use Rattle.store_tables.specs.Making.{IsBlank};
+ghost use Rattle.store_tables.specs.Stands.{StandsFor};
+ghost use Rattle.desk_model.specs.Desk.{empty_desk};
+ghost use Rattle.stream_core.specs.Seen.{HaveOneWriter, has_write_failed, held_in};
+ghost use Rattle.stream_core.specs.Written.{Prints};
+ghost use Rattle.desk_program.specs.FaultLines.{input_fault_text, store_fault_text};
+ghost use Rattle.desk_program.specs.Input as form;
+ghost use Rattle.desk_program.specs.Opening.{EndsWith, IsNotOpened, IsOpened, IsOpeningFault};
+
+use crate::fault::InputFault;
+use crate::fault_lines::{put_attach_fault, put_input_fault, put_settings_fault, put_store_fault};
+use crate::input::take_input;
+use crate::script::read_settings;
+use service_core::Desk;
+use settings_core::{Settings, SettingsFault};
+use std::alloc::Global;
+use std::io::{Read, Write};
+use store_core::{Backend, Store, StoreFault};
+use stream_core::{CountedReader, CountedWriter};
+
+/// The exit status where the settings have a fault.
+const BAD_SETTINGS: u8 = 3;
+
+/// The exit status where there is no desk, or a write failed.
+const NO_DESK: u8 = 4;
+
+/// All that a reader of a settings file has left, where that is at most 1,048,576 bytes: `TooLong`
+/// where it is more, and `Read` where a read failed or it was out of memory.
+pub fn take_settings<R: Read>(alloc: Global, reader: &mut R) -> Result<Vec<u8>, InputFault>
+    ensures whole { IfOk result (λ taken. (length taken.items ≤ form.input_limit)
+        × IfSome (R.remaining reader.old) (λ all. all ≡ taken.items)) }
+    ensures long { result ≡ Err InputFault.TooLong → form.IsLong (R.remaining reader.old) }
+    ensures kinds { IfErr result (λ fault. fault ≢ InputFault.TooLong → fault ≡ InputFault.Read) }
+{
+    let mut reader = CountedReader::new(reader);
+    take_input(alloc, &mut reader)
+}
+
+/// Prints the line of a fault of the input, and answers the status 4.
+pub fn tell_input_fault<W: Write>(fault: InputFault, writer: &mut W) -> u8
+    ensures { EndsWith (input_fault_text fault) 4
+        (W.contents writer.old) (W.contents writer.new) result }
+{
+    let mut output = CountedWriter::new(writer);
+    put_input_fault(&mut output, fault);
+    ended(NO_DESK, &output)
+}
+
+/// Prints the line of a fault of the store, and answers the status 4.
+pub fn tell_store_fault<W: Write>(fault: StoreFault, writer: &mut W) -> u8
+    ensures { EndsWith (store_fault_text fault) 4
+        (W.contents writer.old) (W.contents writer.new) result }
+{
+    let mut output = CountedWriter::new(writer);
+    put_store_fault(&mut output, fault);
+    ended(NO_DESK, &output)
+}
+
+/// The status, or 4 where a write failed.
+fn ended<W: Write>(status: u8, output: &CountedWriter<'_, W>) -> u8
+    ensures { result ≡ (if has_write_failed output.now then 4 else status) }
+{
+    if output.failed() { NO_DESK } else { status }
+}
+
+/// The desk over the tables of a store, with the settings of a text. Tables that are missing are
+/// made; those that are there stay as they are.
+///
+/// Where there is none, a line tells the fault, and the exit status is the error: 3 for one of the
+/// settings, and 4 for one of the store or of attaching, or where the write of that line failed.
+pub fn open_desk<S: Backend + Drop, W: Write>(
+    alloc: Global,
+    store: Store<S>,
+    settings: &[u8],
+    writer: &mut W,
+) -> Result<Desk<S>, u8>
+    ensures opened { IfOk result (λ desk. IsOpened settings.now (state_of S.Store store)
+        (settings_of S.Store desk) (tables_of S.Store desk)) }
+    ensures quiet { OnOk result (W.contents writer.new ≡ W.contents writer.old) }
+    ensures told { IfErr result (λ status. IsNotOpened settings.now
+        (W.contents writer.old) (W.contents writer.new) status) }
+{
+    let mut output = CountedWriter::new(writer);
+    match open(alloc, store, settings, &mut output) {
+        Ok(desk) => Ok(desk),
+        Err(status) => Err(ended(status, &output)),
+    }
+}
+
+fn open<S: Backend + Drop, W: Write>(
+    alloc: Global,
+    store: Store<S>,
+    settings: &[u8],
+    output: &mut CountedWriter<'_, W>,
+) -> Result<Desk<S>, u8>
+    ensures same_writer { HaveOneWriter output.new output.old }
+    ensures opened { IfOk result (λ desk. IsOpened settings.now (state_of S.Store store)
+        (settings_of S.Store desk) (tables_of S.Store desk)) }
+    ensures quiet { OnOk result (output.new ≡ output.old) }
+    ensures told { IfErr result (λ status. (given : Result Settings SettingsFault)
+        × (line : List ℕ) × form.GivesSettings settings.now given
+        × IsOpeningFault given line status × Prints W.contents output.old output.new line) }
+{
+    match read_settings(alloc, settings) {
+        Ok(settings) => open_tables(alloc, store, settings, output),
+        Err(fault) => {
+            drop(store);
+            put_settings_fault(output, fault);
+            Err(BAD_SETTINGS)
+        }
+    }
+}
+
+/// Makes the tables that are missing, and attaches the settings.
+fn open_tables<S: Backend + Drop, W: Write>(
+    alloc: Global,
+    store: Store<S>,
+    settings: Settings,
+    output: &mut CountedWriter<'_, W>,
+) -> Result<Desk<S>, u8>
+    ensures same_writer { HaveOneWriter output.new output.old }
+    ensures settings { IfOk result (λ desk. settings_of S.Store desk ≡ settings) }
+    ensures kept { IfOk result (λ desk. Leaves (state_of S.Store store) (tables_of S.Store desk)) }
+    ensures made { IfOk result (λ desk. IsBlank (state_of S.Store store)
+        → StandsFor empty_desk (tables_of S.Store desk)) }
+    ensures quiet { OnOk result (output.new ≡ output.old) }
+    ensures told { IfErr result (λ status. (line : List ℕ)
+        × IsOpeningFault (Ok settings) line status
+        × Prints W.contents output.old output.new line) }
+{
+    let mut store = store;
+    match store.create_schema() {
+        Ok(()) => attach(alloc, store, settings, output),
+        Err(fault) => {
+            drop(settings);
+            drop(store);
+            put_store_fault(output, fault);
+            Err(NO_DESK)
+        }
+    }
+}
+
+/// Attaches the settings to the tables.
+fn attach<S: Backend + Drop, W: Write>(
+    alloc: Global,
+    store: Store<S>,
+    settings: Settings,
+    output: &mut CountedWriter<'_, W>,
+) -> Result<Desk<S>, u8>
+    ensures same_writer { HaveOneWriter output.new output.old }
+    ensures settings { IfOk result (λ desk. settings_of S.Store desk ≡ settings) }
+    ensures kept { IfOk result (λ desk. Leaves (state_of S.Store store) (tables_of S.Store desk)) }
+    ensures quiet { OnOk result (output.new ≡ output.old) }
+    ensures told { IfErr result (λ status. (line : List ℕ)
+        × IsOpeningFault (Ok settings) line status
+        × Prints W.contents output.old output.new line) }
+{
+    match Desk::attach(alloc, store, settings) {
+        Ok(desk) => Ok(desk),
+        Err((fault, store)) => {
+            drop(store);
+            put_attach_fault(output, fault);
+            Err(NO_DESK)
+        }
+    }
+}
