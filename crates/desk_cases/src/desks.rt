@@ -40,7 +40,11 @@ pub(crate) fn attached(
 }
 
 /// Asks all commands at once.
-fn ask_all<S: Backend>(rt: &HostRuntime, desk: &mut Desk<S>, commands: &str) -> Result<(), Failure> {
+fn ask_all<S: Backend>(
+    rt: &HostRuntime,
+    desk: &mut Desk<S>,
+    commands: &str,
+) -> Result<(), Failure> {
     let asks = asks_of(rt.alloc(), commands)?;
     tell_run(rt, desk, asks.as_slice())
 }

@@ -27,8 +27,8 @@ pub(crate) fn answer_made<S: Backend>(
         number = serve_turn(alloc, sent, turn, number, desk, &mut counts)?;
     }
     let mut text = told(alloc, &counts)?;
-    for message in sent.iter().take(1) {
-        let reply = reply_to(alloc, message.0, message.1.as_slice(), desk);
+    if let Some(first) = sent.first() {
+        let reply = reply_to(alloc, first.0, first.1.as_slice(), desk);
         put_reply(alloc, &mut text, reply.as_slice(), Ok(()))?;
     }
     Ok(text)

@@ -35,6 +35,7 @@ mod expansion;
 mod failure;
 mod faults;
 mod lists;
+mod loopback;
 mod made;
 mod messages;
 mod scripts;

@@ -32,7 +32,7 @@ pub(crate) fn run_case(
         return serve_alike(rt, before, sent.as_slice());
     }
     for line in manners.lines() {
-        let text = replies(rt.alloc(), before, sent.as_slice(), manner_of(line)?)?;
+        let text = replies(rt, before, sent.as_slice(), manner_of(line)?)?;
         print!(rt; "{line}\n{}", str::from_utf8(text.as_slice()).unwrap_or(""))?;
     }
     Ok(())
@@ -65,9 +65,9 @@ fn with_returns(alloc: Global, text: &[u8]) -> Result<Vec<u8>, Failure> {
 }
 
 fn serve_alike(rt: &HostRuntime, before: &str, sent: &[Sent]) -> Result<(), Failure> {
-    let whole = replies(rt.alloc(), before, sent, Manner::Whole)?;
-    let bytes = replies(rt.alloc(), before, sent, Manner::BYTES)?;
-    let list = replies(rt.alloc(), before, sent, Manner::List)?;
+    let whole = replies(rt, before, sent, Manner::Whole)?;
+    let bytes = replies(rt, before, sent, Manner::BYTES)?;
+    let list = replies(rt, before, sent, Manner::List)?;
     print!(rt; "{}", str::from_utf8(whole.as_slice()).unwrap_or(""))?;
     let alike = whole.as_slice() == bytes.as_slice();
     println!(rt;
@@ -80,26 +80,31 @@ fn serve_alike(rt: &HostRuntime, before: &str, sent: &[Sent]) -> Result<(), Fail
 }
 
 /// The replies to messages over a desk of their own.
-fn replies(alloc: Global, before: &str, sent: &[Sent], manner: Manner) -> Result<Vec<u8>, Failure> {
+fn replies(
+    rt: &HostRuntime,
+    before: &str,
+    sent: &[Sent],
+    manner: Manner,
+) -> Result<Vec<u8>, Failure> {
     let (statements, asked) = before.split_once(ASKED).ok_or(Failure::BadLine)?;
     let (settings, commands) = asked.split_once(COMMANDS).ok_or(Failure::BadLine)?;
-    match attached(alloc, statements, settings) {
-        Ok(mut desk) => served_after(alloc, commands, sent, manner, &mut desk),
+    match attached(rt.alloc(), statements, settings) {
+        Ok(mut desk) => served_after(rt, commands, sent, manner, &mut desk),
         Err(failure) => Err(failure),
     }
 }
 
 /// The replies to messages on a desk, once the commands are done on it.
 fn served_after<S: Backend>(
-    alloc: Global,
+    rt: &HostRuntime,
     commands: &str,
     sent: &[Sent],
     manner: Manner,
     desk: &mut Desk<S>,
 ) -> Result<Vec<u8>, Failure> {
-    let asks = asks_of(alloc, commands)?;
-    let _ = desk.execute_all(alloc, asks.as_slice())?;
-    served(alloc, sent, manner, desk)
+    let asks = asks_of(rt.alloc(), commands)?;
+    let _ = desk.execute_all(rt.alloc(), asks.as_slice())?;
+    served(rt, sent, manner, desk)
 }
 
 /// The manner that a line states:
@@ -109,14 +114,16 @@ fn served_after<S: Backend>(
 /// | `reader_fails N` | a byte at a time; of the first the reader fails after N reads |
 /// | `writer_fails N` | the same; of the first the writer fails after N writes |
 /// | `writer_stops N` | the same, and takes nothing then |
-/// | `made N` | N messages, made of those of the case: how many had which code; then the first |
+/// | `loopback` | each over a connection of its own, by a server that ends after it |
+/// | `made N` | N turns of messages made of them: how many had which code; then the first |
 fn manner_of(line: &str) -> Result<Manner, Failure> {
-    let (kind, rest) = line.split_once(' ').ok_or(Failure::BadLine)?;
+    let (kind, rest) = line.split_once(' ').unwrap_or((line, "0"));
     let count = number(rest)?;
     match kind {
         "reader_fails" => Ok(Manner::streams(Some(count), u32::MAX, true)),
         "writer_fails" => Ok(Manner::streams(None, count, true)),
         "writer_stops" => Ok(Manner::streams(None, count, false)),
+        "loopback" => Ok(Manner::Loopback),
         "made" => Ok(Manner::Made(count)),
         _ => Err(Failure::BadLine),
     }

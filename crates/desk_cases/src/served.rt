@@ -1,6 +1,7 @@
 //! Messages that are served on a desk, in one of several manners.
 
 use crate::failure::Failure;
+use crate::loopback::answer_by_loopback;
 use crate::made::answer_made;
 use crate::streams::{Faltering, Slow};
 use service_core::Desk;
@@ -21,7 +22,9 @@ pub(crate) enum Manner {
     /// One after the other, over streams that give and take a byte at a time and fail as is said
     /// for the first of them.
     Streams(Failing),
-    /// So many made of them.
+    /// Each over the loopback, at the clock's minute.
+    Loopback,
+    /// So many turns of messages made of them.
     Made(u32),
 }
 
@@ -57,20 +60,25 @@ impl Manner {
 /// The replies to messages as a text: each with the fault of serving it, if there is one; then,
 /// where they are served one after the other, how many bytes of each were left unread.
 pub(crate) fn served<S: Backend>(
-    alloc: Global,
+    rt: &HostRuntime,
     sent: &[Sent],
     manner: Manner,
     desk: &mut Desk<S>,
 ) -> Result<Vec<u8>, Failure> {
     match manner {
-        Manner::Whole => one_by_one(alloc, sent, None, desk),
-        Manner::Streams(failing) => one_by_one(alloc, sent, Some(failing), desk),
-        Manner::List => in_list(alloc, sent, desk),
-        Manner::Made(count) => answer_made(alloc, sent, count, desk),
+        Manner::Whole => one_by_one(rt.alloc(), sent, None, desk),
+        Manner::Streams(failing) => one_by_one(rt.alloc(), sent, Some(failing), desk),
+        Manner::List => in_list(rt.alloc(), sent, desk),
+        Manner::Loopback => answer_by_loopback(rt, sent, desk),
+        Manner::Made(turns) => answer_made(rt.alloc(), sent, turns, desk),
     }
 }
 
-fn in_list<S: Backend>(alloc: Global, sent: &[Sent], desk: &mut Desk<S>) -> Result<Vec<u8>, Failure> {
+fn in_list<S: Backend>(
+    alloc: Global,
+    sent: &[Sent],
+    desk: &mut Desk<S>,
+) -> Result<Vec<u8>, Failure> {
     let mut text = Vec::new(alloc);
     for reply in serve_list(alloc, sent, desk)? {
         match reply {
