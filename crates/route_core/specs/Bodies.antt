@@ -13,7 +13,7 @@ use Rattle.route_core.specs.declared.place.Act.{Act}
 use Rattle.route_core.specs.declared.place.Act.TheVariants as act
 
 -- what is asked for, where the members have no other keys than these
-abbrev pub if_only : List (List ℕ) → Members → Option Command → Option Command
+abbrev pub if_only : {A : Type 0} → List (List ℕ) → Members → Option A → Option A
 if_only keys members asked = if has_only keys members then asked else None
 
 -- ---- to queues
@@ -49,20 +49,30 @@ unfoldable pub bare : Command → Members → Option Command
 bare asked members = if_only [] members (Some asked)
 
 -- one text has to be given
-unfoldable pub with_text : List ℕ → (List ℕ → Command) → Members → Option Command
-with_text key made members = if_only (key ∷ []) members (option_map made (text_at key members))
+unfoldable pub only_text : List ℕ → Members → Option (List ℕ)
+only_text key members = if_only (key ∷ []) members (text_at key members)
 
-abbrev pub watched : (WatchRole → List ℕ → Command) → Option WatchRole → Option (List ℕ)
-    → Option Command
-watched made (Some role) (Some person) = Some (made role person)
-watched made role person = None
+abbrev pub with_text : List ℕ → (List ℕ → Command) → Members → Option Command
+with_text key made members = option_map made (only_text key members)
+
+abbrev pub role_at : Members → Option WatchRole
+role_at members = option_and_then role_named (text_at (codes "role") members)
+
+abbrev pub watched : Option WatchRole → Option (List ℕ) → Option (WatchRole × List ℕ)
+watched (Some role) (Some person) = Some (role, person)
+watched role person = None
 
 -- `role` and `person`
-unfoldable pub watching : (WatchRole → List ℕ → Command) → Members → Option Command
-watching made members =
+unfoldable pub watcher : Members → Option (WatchRole × List ℕ)
+watcher members =
     if_only (codes "role" ∷ codes "person" ∷ []) members
-    (watched made (option_and_then role_named (text_at (codes "role") members))
-    (text_at (codes "person") members))
+    (watched (role_at members) (text_at (codes "person") members))
+
+abbrev pub watching : (WatchRole → List ℕ → Command) → Members → Option Command
+watching made members = option_map (λ w. made w.0 w.1) (watcher members)
+
+abbrev pub kind_at : Members → Option NamedKind
+kind_at members = option_and_then kind_named (text_at (codes "kind") members)
 
 abbrev pub linked : Bool → ℕ → Option NamedKind → Option ℕ → Option Command
 linked away id (Some kind) (Some other) = Some (linking away id kind other)
@@ -72,8 +82,7 @@ linked away id kind other = None
 unfoldable pub link : Bool → ℕ → Members → Option Command
 link away id members =
     if_only (codes "kind" ∷ codes "other" ∷ []) members
-    (linked away id (option_and_then kind_named (text_at (codes "kind") members))
-    (number_at (codes "other") members))
+    (linked away id (kind_at members) (number_at (codes "other") members))
 
 -- `level` if there is to be one
 unfoldable pub levelled : ℕ → Members → Option Command

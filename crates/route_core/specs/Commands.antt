@@ -13,7 +13,7 @@ use Rattle.message_core.specs.declared.reply.Allow.{Allow}
 use Rattle.message_core.specs.declared.reply.Allow.TheVariants as allow
 use Rattle.route_core.specs.Bodies.{acting, filing, opening}
 use Rattle.route_core.specs.Members.{members_of}
-use Rattle.route_core.specs.Places.{methods_of, path_of, place_of, queue_in}
+use Rattle.route_core.specs.Places.{methods_of, path_of, place_of, queue_in, text_in}
 use Rattle.route_core.specs.declared.fault.CommandFault.{CommandFault}
 use Rattle.route_core.specs.declared.fault.CommandFault.TheVariants.{NoRoute, BadMethod, NoToken}
 use Rattle.route_core.specs.declared.fault.CommandFault.TheVariants.{BadBody}
@@ -59,9 +59,10 @@ got (place.Act id act) = None
 -- what is asked for by these members, posted to the place of that path
 abbrev pub posted_by : Place → List ℕ → Members → Option Command
 posted_by place.Queues path members = opening members
-posted_by place.Requests path members = filing (queue_in path) members
-posted_by (place.Request id) path members = None
-posted_by (place.History id) path members = None
+posted_by place.Requests path members =
+    option_and_then (λ queue. filing queue members) (text_in (queue_in path))
+posted_by (place.Request id) path _ = None
+posted_by (place.History id) path _ = None
 posted_by (place.Act id act) path members = acting id act members
 
 -- what a POST asks for

@@ -27,12 +27,16 @@ has_only keys (member key value rest) = list_any (bytes_eq key) keys && has_only
 abbrev pub text_at : List ℕ → Members → Option (List ℕ)
 text_at key members = option_and_then as_str (get_member key members)
 
+-- the text that a value is, or none where it is null; nothing where it is something else
+abbrev pub text_or_null : Data → Option (Option (List ℕ))
+text_or_null null = Some None
+text_or_null (string text) = Some (Some text)
+text_or_null other = None
+
 -- the text that may be left out, also as null; nothing where something else stands for it
 abbrev pub text_or_none : Option Data → Option (Option (List ℕ))
 text_or_none None = Some None
-text_or_none (Some null) = Some None
-text_or_none (Some (string text)) = Some (Some text)
-text_or_none (Some other) = None
+text_or_none (Some value) = text_or_null value
 
 abbrev pub text_or_none_at : List ℕ → Members → Option (Option (List ℕ))
 text_or_none_at key members = text_or_none (get_member key members)
@@ -56,12 +60,13 @@ texts_or_none (Some other) = None
 abbrev pub texts_at : List ℕ → Members → Option (List (List ℕ))
 texts_at key members = texts_or_none (get_member key members)
 
--- the number, if it is one of a request
+-- the number, if it is less than 2^32
 abbrev pub below_limit : ℕ → Option ℕ
 below_limit n = if nat_lt n (2 ^ 32) then Some n else None
 
--- the whole number at a key, written in digits alone and less than 2^32
+-- the whole number that a value is, written in digits alone and less than 2^32
+abbrev pub whole_number : Data → Option ℕ
+whole_number value = option_and_then below_limit (option_and_then as_u64 (as_number value))
+
 abbrev pub number_at : List ℕ → Members → Option ℕ
-number_at key members =
-    option_and_then below_limit (option_and_then as_u64
-    (option_and_then as_number (get_member key members)))
+number_at key members = option_and_then whole_number (get_member key members)

@@ -1,12 +1,12 @@
 -- Where the target of a message leads: its path is laid against the routes, and its parts are cut
 -- out of it.
 use Rattle.std.specs.Prelude.{ℕ, ◌+◌, ◌==◌, List, [], ◌∷◌, length, drop, if◌then◌else◌, codes}
-use Rattle.std.specs.Prelude.{Option, Some, None, option_and_then, Result, Ok, Err}
-use Rattle.std.specs.Option.{option_map, option_or}
+use Rattle.std.specs.Prelude.{Bool, false, Option, Some, None, is_none, option_and_then, Result, Ok, Err}
+use Rattle.std.specs.Option.{option_map}
 use Rattle.std.specs.Str.{bytes_eq, is_utf8}
 use Rattle.matchit.specs.Order.{placed}
 use Rattle.matchit.specs.Route.{Scan, parse_route}
-use Rattle.matchit.specs.Router.{RouteOf, route_from}
+use Rattle.matchit.specs.Router.{RouteOf, nearest, route_from}
 use Rattle.matchit.specs.Rows.{RowsOf}
 use Rattle.matchit.specs.Seek.{first}
 use Rattle.matchit.specs.declared.error.InsertError.{InsertError}
@@ -26,6 +26,10 @@ use Rattle.route_core.specs.declared.routes.Route.TheVariants as route
 abbrev pub before : ℕ → List ℕ → List ℕ
 before stop [] = []
 before stop (b ∷ bs) = if b == stop then [] else b ∷ before stop bs
+
+-- the bytes, where they are a text
+abbrev pub text_in : List ℕ → Option (List ℕ)
+text_in bytes = if is_utf8 bytes then Some bytes else None
 
 -- the target up to the first question mark
 abbrev pub path_of : List ℕ → List ℕ
@@ -60,6 +64,14 @@ with_scan (Err refused) leads routes = routes
 abbrev pub with_route : List ℕ → Route → Routes → Routes
 with_route text leads routes = with_scan (parse_route text) leads routes
 
+-- the route reads well, and none of those that are there conflicts with it
+abbrev pub is_scan_free : Result Scan InsertError → Routes → Bool
+is_scan_free (Ok scan) routes = is_none (nearest scan.pattern routes)
+is_scan_free (Err refused) routes = false
+
+abbrev pub is_free : List ℕ → Routes → Bool
+is_free text routes = is_scan_free (parse_route text) routes
+
 unfoldable pub routes : Routes
 routes =
     with_route (codes "/requests/{id}/{act}") route.Act
@@ -73,22 +85,27 @@ route_of path = option_map (λ found. found.value) (first routes path)
 
 -- ---- the place
 
--- what is posted to a request, by its name
-abbrev pub act_named : List ℕ → Option Act
-act_named name =
-    if bytes_eq name (codes "status") then Some act.Status
-    else if bytes_eq name (codes "take") then Some act.Take
-    else if bytes_eq name (codes "steal") then Some act.Steal
-    else if bytes_eq name (codes "untake") then Some act.Untake
-    else if bytes_eq name (codes "give") then Some act.Give
-    else if bytes_eq name (codes "reply") then Some act.Reply
+-- what is posted to a request to add a text, a watcher or a link or to take it away, by its name
+abbrev pub addition_named : List ℕ → Option Act
+addition_named name =
+    if bytes_eq name (codes "reply") then Some act.Reply
     else if bytes_eq name (codes "comment") then Some act.Comment
     else if bytes_eq name (codes "watch") then Some act.Watch
     else if bytes_eq name (codes "unwatch") then Some act.Unwatch
     else if bytes_eq name (codes "link") then Some act.Link
     else if bytes_eq name (codes "unlink") then Some act.Unlink
-    else if bytes_eq name (codes "level") then Some act.Level
     else None
+
+-- what is posted to a request, by its name
+abbrev pub act_named : List ℕ → Option Act
+act_named name =
+    if bytes_eq name (codes "status") then Some act.Status
+    else if bytes_eq name (codes "level") then Some act.Level
+    else if bytes_eq name (codes "take") then Some act.Take
+    else if bytes_eq name (codes "steal") then Some act.Steal
+    else if bytes_eq name (codes "untake") then Some act.Untake
+    else if bytes_eq name (codes "give") then Some act.Give
+    else addition_named name
 
 -- the place of a request with this name after its number
 abbrev pub place_named : List ℕ → ℕ → Option Place
@@ -103,14 +120,13 @@ place_on path route.Requests = Some place.Requests
 place_on path route.Request = option_map place.Request (number_of (id_in path))
 place_on path route.Act = option_and_then (place_named (act_in path)) (number_of (id_in path))
 
--- the place of a path, if it is a text that has one
+-- the place of a text, if it has one
 abbrev pub place_at : List ℕ → Option Place
-place_at path =
-    if is_utf8 path then option_and_then (place_on path) (route_of path) else None
+place_at path = option_and_then (place_on path) (route_of path)
 
 -- the place to which a target leads, if it leads to one
 abbrev pub place_of : List ℕ → Option Place
-place_of target = place_at (path_of target)
+place_of target = option_and_then place_at (text_in (path_of target))
 
 -- the methods of a place
 abbrev pub methods_of : Place → Allow

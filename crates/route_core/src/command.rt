@@ -3,12 +3,15 @@ ghost use Rattle.std.specs.Prelude.{◌≡◌, ◌≢◌, Ok, Err, IfOk, IfErr};
 ghost use Rattle.route_core.specs.Commands as commands;
 
 use crate::fault::CommandFault;
-use crate::place::Place;
+use crate::place::{Place, place_of};
 use desk_model::Command;
-use message_core::Message;
+use message_core::{Allow, Message};
 use settings_core::Settings;
-use std::alloc::Global;
+use std::alloc::{AllocError, Global};
 use text_core::Text;
+
+mod got;
+mod posted;
 
 /// The caller and the command that a message asks for.
 ///
@@ -26,10 +29,10 @@ pub fn command_of(
     ensures err { IfErr result (λ fault. fault ≢ CommandFault.NoMemory
         → commands.command_of settings.now message.now ≡ Err fault) }
 {
-    let _ = alloc;
-    let _ = settings;
-    let _ = message;
-    Err(CommandFault::NoMemory)
+    match place_of(alloc, message.target.as_slice())? {
+        Some(place) => command_at(alloc, settings, place, message),
+        None => Err(CommandFault::NoRoute),
+    }
 }
 
 /// The caller and the command that a message asks for at the place to which its target leads, or
@@ -45,9 +48,54 @@ pub fn command_at(
     ensures err { IfErr result (λ fault. fault ≢ CommandFault.NoMemory
         → commands.command_at settings.now place message.now ≡ Err fault) }
 {
-    let _ = alloc;
-    let _ = settings;
-    let _ = place;
-    let _ = message;
-    Err(CommandFault::NoMemory)
+    let method = message.method.as_slice();
+    if is_get(place, method) {
+        return got::asked_by_get(alloc, settings, place, message);
+    }
+    if is_post(place, method) {
+        return posted::asked_by_post(alloc, settings, place, message);
+    }
+    Err(CommandFault::BadMethod)
+}
+
+/// Whether it is a GET, at a place that has it.
+fn is_get(place: Place, method: &[u8]) -> bool
+    ensures { result ≡ commands.is_get place method.now }
+{
+    method == b"GET".as_slice()
+        && match place.methods() {
+            Allow::Get => true,
+            Allow::Post => false,
+            Allow::GetPost => true,
+        }
+}
+
+/// Whether it is a POST, at a place that has it.
+fn is_post(place: Place, method: &[u8]) -> bool
+    ensures { result ≡ commands.is_post place method.now }
+{
+    method == b"POST".as_slice()
+        && match place.methods() {
+            Allow::Get => false,
+            Allow::Post => true,
+            Allow::GetPost => true,
+        }
+}
+
+/// The person of the token, if there is one.
+fn caller_of(
+    alloc: Global,
+    settings: &Settings,
+    message: &Message,
+) -> Result<Option<Text>, AllocError>
+    ensures { IfOk result (λ caller.
+        caller ≡ commands.caller_of settings.now message.now.token) }
+{
+    let Some(token) = &message.token else {
+        return Ok(None);
+    };
+    match settings.person_of_token(token.as_str()) {
+        Some(person) => Ok(Some(Text::new(alloc, person)?)),
+        None => Ok(None),
+    }
 }

@@ -2,8 +2,11 @@
 //! and the command.
 #![tactic(auto)]
 
+mod bodies;
 mod command;
 mod fault;
+mod members;
+mod paths;
 mod place;
 mod routes;
 

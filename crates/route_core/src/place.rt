@@ -2,6 +2,8 @@
 ghost use Rattle.std.specs.Prelude.{◌≡◌, IfOk};
 ghost use Rattle.route_core.specs.Places as places;
 
+use crate::paths::{act_in, number_in, path_of, text_in};
+use crate::routes::{Route, route_of};
 use message_core::Allow;
 use std::alloc::{AllocError, Global};
 
@@ -58,7 +60,90 @@ impl Place {
 pub fn place_of(alloc: Global, target: &[u8]) -> Result<Option<Place>, AllocError>
     ensures { IfOk result (λ place. place ≡ places.place_of target.now) }
 {
-    let _ = alloc;
-    let _ = target;
-    Err(AllocError)
+    match text_in(path_of(target)) {
+        Some(path) => place_at(alloc, path),
+        None => Ok(None),
+    }
+}
+
+/// The place of a path, if it has one.
+fn place_at(alloc: Global, path: &str) -> Result<Option<Place>, AllocError>
+    ensures { IfOk result (λ place. place ≡ places.place_at path.now) }
+{
+    match route_of(alloc, path)? {
+        Some(route) => Ok(place_on(path.as_bytes(), route)),
+        None => Ok(None),
+    }
+}
+
+/// The place by its route and the parts of its path.
+fn place_on(path: &[u8], route: Route) -> Option<Place>
+    ensures { result ≡ places.place_on path.now route }
+{
+    match route {
+        Route::Queues => Some(Place::Queues),
+        Route::Requests => Some(Place::Requests),
+        Route::Request => match number_in(path) {
+            Some(id) => Some(Place::Request(id)),
+            None => None,
+        },
+        Route::Act => match number_in(path) {
+            Some(id) => place_of_act(path, id),
+            None => None,
+        },
+    }
+}
+
+/// The place of a request, by what follows its number.
+#[tactic(auto, using(crate::proofs::Acts::no_text_named))]
+fn place_of_act(path: &[u8], id: u32) -> Option<Place>
+    ensures { result ≡ places.place_named (places.act_in path.now) id }
+{
+    match text_in(act_in(path)) {
+        Some(name) => place_named(name, id),
+        None => None,
+    }
+}
+
+/// The place of a request with this name after its number.
+fn place_named(name: &str, id: u32) -> Option<Place>
+    ensures { result ≡ places.place_named name.now id }
+{
+    if name == "history" {
+        return Some(Place::History(id));
+    }
+    match act_named(name) {
+        Some(act) => Some(Place::Act(id, act)),
+        None => None,
+    }
+}
+
+/// What is posted to a request, by its name.
+fn act_named(name: &str) -> Option<Act>
+    ensures { result ≡ places.act_named name.now }
+{
+    match name {
+        "status" => Some(Act::Status),
+        "level" => Some(Act::Level),
+        "take" => Some(Act::Take),
+        "steal" => Some(Act::Steal),
+        "untake" => Some(Act::Untake),
+        "give" => Some(Act::Give),
+        _ => addition_named(name),
+    }
+}
+
+/// That of these that adds a text, a watcher or a link, or takes it away.
+fn addition_named(name: &str) -> Option<Act>
+    ensures { result ≡ places.addition_named name.now }
+{
+    match name {
+        "reply" => Some(Act::Reply),
+        "comment" => Some(Act::Comment),
+        "watch" => Some(Act::Watch),
+        "unwatch" => Some(Act::Unwatch),
+        "link" => Some(Act::Link),
+        "unlink" => Some(Act::Unlink),
+        _ => None,
+    }
 }

@@ -1,3 +1,10 @@
+//! The table of routes.
+ghost use Rattle.std.specs.Prelude.{◌≡◌, [], IfOk, IsTrue, OnOk};
+ghost use Rattle.route_core.specs.Places as places;
+
+use matchit::{InsertError, Router};
+use std::alloc::{AllocError, Global};
+
 /// A route of the table.
 #[derive(Clone, Copy, Debug, PartialEq, Eq)]
 pub(crate) enum Route {
@@ -9,4 +16,48 @@ pub(crate) enum Route {
     Request,
     /// `/requests/{id}/{act}`
     Act,
+}
+
+/// The route of a path, if it has one.
+pub(crate) fn route_of(alloc: Global, path: &str) -> Result<Option<Route>, AllocError>
+    ensures { IfOk result (λ route. route ≡ places.route_of path.now) }
+{
+    let router = router(alloc)?;
+    match router.at(path) {
+        Ok(found) => Ok(Some(*found.value)),
+        Err(_) => Ok(None),
+    }
+}
+
+/// The table.
+fn router(alloc: Global) -> Result<Router<Route>, AllocError>
+    ensures { IfOk result (λ router. router ≡ places.routes) }
+{
+    let mut router = Router::new(alloc);
+    add_all(&mut router)?;
+    Ok(router)
+}
+
+/// Adds the routes to an empty table.
+fn add_all(router: &mut Router<Route>) -> Result<(), AllocError>
+    requires { router.old ≡ [] }
+    ensures { OnOk result (router.new ≡ places.routes) }
+{
+    add(router, "/queues", Route::Queues)?;
+    add(router, "/queues/{queue}/requests", Route::Requests)?;
+    add(router, "/requests/{id}", Route::Request)?;
+    add(router, "/requests/{id}/{act}", Route::Act)?;
+    Ok(())
+}
+
+/// Adds a route that reads well and stands in the way of none.
+fn add(router: &mut Router<Route>, text: &str, leads: Route) -> Result<(), AllocError>
+    requires { IsTrue (places.is_free text.now router.old) }
+    ensures { OnOk result (router.new ≡ places.with_route text.now leads router.old) }
+{
+    match router.insert(text, leads) {
+        Ok(()) => Ok(()),
+        Err(InsertError::OutOfMemory) => Err(AllocError),
+        Err(_) => unreachable!(),
+    }
 }

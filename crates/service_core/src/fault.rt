@@ -1,5 +1,5 @@
 //! The faults of attaching settings to tables, and what a fault of the store is to a command.
-ghost use Rattle.std.specs.Prelude.{◌≡◌};
+ghost use Rattle.std.specs.Prelude.{◌≡◌, Ok, IfErr, IfOk};
 ghost use Rattle.service_core.specs.Fault.{name_of, number_of};
 
 use desk_core::Refusal;
@@ -42,6 +42,17 @@ impl AttachFault {
             AttachFault::UnknownName => "UnknownName",
             AttachFault::NoMemory => "NoMemory",
         }
+    }
+}
+
+/// What was read, or `Unavailable`, for whichever fault of the store.
+pub(crate) fn or_unavailable<T>(read: Result<T, StoreFault>) -> Result<T, Refusal>
+    ensures ok { IfOk result (λ value. read ≡ Ok value) }
+    ensures err { IfErr result (λ refusal. refusal ≡ Refusal.Unavailable) }
+{
+    match read {
+        Ok(value) => Ok(value),
+        Err(fault) => Err(unavailable(fault)),
     }
 }
 

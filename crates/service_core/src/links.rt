@@ -7,7 +7,7 @@ ghost use Rattle.store_tables.specs.Calls.{Spares, Tells};
 ghost use Rattle.store_core.specs.Seen.{state_of};
 ghost use Rattle.service_core.specs.Shown as shown;
 
-use crate::fault::unavailable;
+use crate::fault::{or_unavailable, unavailable};
 use desk_core::{Command, Facts, LinkKind, LinkRow, Links, Refusal, is_kind};
 use settings_core::Settings;
 use std::alloc::{AllocError, Global};
@@ -49,9 +49,9 @@ pub(crate) fn links_of<S: Backend>(
     ensures kept { Spares (state_of S.Store store.old) (state_of S.Store store.new) }
     ensures fault { IfErr result (λ refusal. refusal ≡ Refusal.Unavailable) }
 {
-    let from = store.links_from(alloc, id).map_err(unavailable)?;
+    let from = or_unavailable(store.links_from(alloc, id))?;
     let targets = shown_at(alloc, store, settings, caller, End::Target, from.as_slice())?;
-    let to = store.links_to(alloc, id).map_err(unavailable)?;
+    let to = or_unavailable(store.links_to(alloc, id))?;
     let sources = shown_at(alloc, store, settings, caller, End::Source, to.as_slice())?;
     let links = links_by(alloc, targets.as_slice(), sources.as_slice())?;
     Ok(links)

@@ -8,7 +8,7 @@ ghost use Rattle.service_core.specs.Decided.{Answers};
 ghost use Rattle.service_core.specs.Shown as shown;
 ghost use Rattle.service_core.specs.TableSteps.{ask_by};
 
-use crate::fault::unavailable;
+use crate::fault::or_unavailable;
 use crate::links::links_of;
 use desk_core::{
     Answer, Command, Entry, Facts, Links, QueueRow, Refusal, SeenRequest, Shown, due_of, sees_queue,
@@ -56,7 +56,7 @@ fn queues<S: Backend>(
     ensures kept { Spares (state_of S.Store store.old) (state_of S.Store store.new) }
     ensures fault { IfErr result (λ refusal. refusal ≡ Refusal.Unavailable) }
 {
-    let queues = store.queues(alloc).map_err(unavailable)?;
+    let queues = or_unavailable(store.queues(alloc))?;
     Ok(Answer::Queues(queues_seen(settings, caller, queues)))
 }
 
@@ -176,7 +176,7 @@ fn told_to<S: Backend>(
     ensures fault { IfErr result (λ refusal. refusal ≡ Refusal.Unavailable) }
 {
     let comments = request.shows_comments_to(settings, caller);
-    let entries = store.entries_of(alloc, request.row.id).map_err(unavailable)?;
+    let entries = or_unavailable(store.entries_of(alloc, request.row.id))?;
     Ok(Answer::History(told(entries, comments)))
 }
 

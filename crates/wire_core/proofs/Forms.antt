@@ -13,35 +13,35 @@ use Rattle.wire_core.specs.Replies.{fault_reply, outcome_reply, stream_reply}
 
 pub outcome_form : (head_only : Bool) (outcome : Outcome)
     → IsReply (outcome_reply head_only outcome)
-outcome_form h (Ok answer.Done) = record { code = refl; allow = refl; }
-outcome_form h (Ok (answer.Created id)) = record { code = refl; allow = refl; }
-outcome_form h (Ok (answer.Queues queues)) = record { code = refl; allow = refl; }
-outcome_form h (Ok (answer.Shown shown)) = record { code = refl; allow = refl; }
-outcome_form h (Ok (answer.History entries)) = record { code = refl; allow = refl; }
-outcome_form h (Err refusal.UnknownCaller) = record { code = refl; allow = refl; }
-outcome_form h (Err refusal.BadMoment) = record { code = refl; allow = refl; }
-outcome_form h (Err refusal.BadText) = record { code = refl; allow = refl; }
-outcome_form h (Err refusal.NotFound) = record { code = refl; allow = refl; }
-outcome_form h (Err refusal.UnknownName) = record { code = refl; allow = refl; }
-outcome_form h (Err (refusal.Denied right)) = record { code = refl; allow = refl; }
-outcome_form h (Err refusal.NoChange) = record { code = refl; allow = refl; }
-outcome_form h (Err refusal.NoTransition) = record { code = refl; allow = refl; }
-outcome_form h (Err refusal.OpenDependency) = record { code = refl; allow = refl; }
-outcome_form h (Err refusal.Owned) = record { code = refl; allow = refl; }
-outcome_form h (Err refusal.NotOwned) = record { code = refl; allow = refl; }
-outcome_form h (Err refusal.NotOwner) = record { code = refl; allow = refl; }
-outcome_form h (Err refusal.Exists) = record { code = refl; allow = refl; }
-outcome_form h (Err refusal.SelfLink) = record { code = refl; allow = refl; }
-outcome_form h (Err refusal.Full) = record { code = refl; allow = refl; }
-outcome_form h (Err refusal.Unavailable) = record { code = refl; allow = refl; }
+outcome_form h (Ok answer.Done) = record { code = refl; allow = refl }
+outcome_form h (Ok (answer.Created id)) = record { code = refl; allow = refl }
+outcome_form h (Ok (answer.Queues queues)) = record { code = refl; allow = refl }
+outcome_form h (Ok (answer.Shown shown)) = record { code = refl; allow = refl }
+outcome_form h (Ok (answer.History entries)) = record { code = refl; allow = refl }
+outcome_form h (Err refusal.UnknownCaller) = record { code = refl; allow = refl }
+outcome_form h (Err refusal.BadMoment) = record { code = refl; allow = refl }
+outcome_form h (Err refusal.BadText) = record { code = refl; allow = refl }
+outcome_form h (Err refusal.NotFound) = record { code = refl; allow = refl }
+outcome_form h (Err refusal.UnknownName) = record { code = refl; allow = refl }
+outcome_form h (Err (refusal.Denied right)) = record { code = refl; allow = refl }
+outcome_form h (Err refusal.NoChange) = record { code = refl; allow = refl }
+outcome_form h (Err refusal.NoTransition) = record { code = refl; allow = refl }
+outcome_form h (Err refusal.OpenDependency) = record { code = refl; allow = refl }
+outcome_form h (Err refusal.Owned) = record { code = refl; allow = refl }
+outcome_form h (Err refusal.NotOwned) = record { code = refl; allow = refl }
+outcome_form h (Err refusal.NotOwner) = record { code = refl; allow = refl }
+outcome_form h (Err refusal.Exists) = record { code = refl; allow = refl }
+outcome_form h (Err refusal.SelfLink) = record { code = refl; allow = refl }
+outcome_form h (Err refusal.Full) = record { code = refl; allow = refl }
+outcome_form h (Err refusal.Unavailable) = record { code = refl; allow = refl }
 
 pub stream_form : (fault : WireFault) → IsReply (stream_reply fault)
-stream_form fault = record { code = refl; allow = refl; }
+stream_form fault = record { code = refl; allow = refl }
 
 pub fault_form : (head_only : Bool) (methods : Option Allow) (fault : CommandFault)
     → (fault ≡ BadMethod → is_some methods ≡ true) → IsReply (fault_reply head_only methods fault)
-fault_form h methods NoRoute told = record { code = refl; allow = refl; }
-fault_form h methods BadMethod told = record { code = refl; allow = told refl; }
-fault_form h methods NoToken told = record { code = refl; allow = refl; }
-fault_form h methods BadBody told = record { code = refl; allow = refl; }
-fault_form h methods NoMemory told = record { code = refl; allow = refl; }
+fault_form h methods NoRoute told = record { code = refl; allow = refl }
+fault_form h methods BadMethod told = record { code = refl; allow = told refl }
+fault_form h methods NoToken told = record { code = refl; allow = refl }
+fault_form h methods BadBody told = record { code = refl; allow = refl }
+fault_form h methods NoMemory told = record { code = refl; allow = refl }

@@ -106,7 +106,7 @@ message_left_out s at message bytes old new told stay =
 pub stream_done : (s : Settings) (at : ℕ) (had left : Option (List ℕ)) (message : Message)
     (bytes : List ℕ) (old new : State)
     → (Ok message ≢ Err WireFault.Read → Ok message ≢ Err WireFault.NoMemory
-        → Reads had left (Ok message))
+    → Reads had left (Ok message))
     → MessageStepsOn s at message bytes old new → StreamStepsOn s at had left bytes old new
 stream_done s at had left message bytes old new reads steps =
     let read = reads (λ e. cc) (λ e. cc) in
@@ -116,7 +116,7 @@ stream_done s at had left message bytes old new reads steps =
 pub stream_faulty : (s : Settings) (at : ℕ) (had left : Option (List ℕ)) (fault : WireFault)
     (bytes : List ℕ) (tables : State) → fault ≢ WireFault.Read
     → (Err {Message} fault ≢ Err WireFault.Read → Err {Message} fault ≢ Err WireFault.NoMemory
-        → Reads had left (Err fault))
+    → Reads had left (Err fault))
     → TellsFault fault bytes → StreamStepsOn s at had left bytes tables tables
 stream_faulty s at had left fault bytes tables unfailed reads (inl told) =
     leads_nowhere _ tables (λ desk. inl (told, refl))

@@ -47,7 +47,11 @@ pub(crate) fn put_outcome(
 }
 
 /// Puts the reply to a message whose path leads nowhere into the room.
-pub(crate) fn put_no_route(alloc: Global, head_only: bool, room: &mut Vec<u8>) -> Result<(), AllocError>
+pub(crate) fn put_no_route(
+    alloc: Global,
+    head_only: bool,
+    room: &mut Vec<u8>,
+) -> Result<(), AllocError>
     requires empty { room.old.items ≡ [] }
     requires room { 512 ≤ vec_capacity room.old }
     ensures ok { OnOk result (room.new.items
@@ -141,5 +145,6 @@ pub(crate) fn put_unavailable(head_only: bool, room: &mut Vec<u8>)
     requires room { 512 ≤ vec_capacity room.old }
     ensures { room.new.items ≡ bytes_of (form.unavailable head_only) }
 {
-    room.extend_from_slice(unavailable_reply(head_only)).unwrap();
+    room.extend_from_slice(unavailable_reply(head_only))
+        .unwrap();
 }

@@ -1,4 +1,5 @@
 use Rattle.std.proofs.Common.{◌∙◌, ap, filter}
+use Rattle.std.proofs.lemmas.Result.{IfOk-at_ok}
 use Rattle.store_tables.proofs.Spared.{stands}
 use Rattle.service_core.specs.Shown.{is_shown_at}
 use Rattle.service_core.specs.declared.links.End.TheVariants.{Source, Target}
@@ -17,11 +18,12 @@ returns-clause-told g c desk is stand clean =
     let targets =
     c.in_ok-targets.ensures.told desk is second first_clean
     ∙ ap (filter (shows Target)) (c.as_slice.ensures.value
-    ∙ c.in_ok-from.ensures.listed desk is stand (c.shown_at.ensures.kept.clean first_clean)) in
+    ∙ IfOk-at_ok _ c.in_ok-from.ensures.ok
+    (c.links_from.ensures.listed desk is stand (c.shown_at.ensures.kept.clean first_clean))) in
     let sources =
     c.in_ok-sources.ensures.told desk is (stands c.links_to.ensures.kept d third) clean
     ∙ ap (filter (shows Source)) (c.as_slice-2.ensures.value
-    ∙ c.in_ok-to.ensures.listed desk is third was_clean) in
+    ∙ IfOk-at_ok _ c.in_ok-to.ensures.ok (c.links_to.ensures.listed desk is third was_clean)) in
     c.in_ok-links.ensures
     ∙ links_are c.args.settings.now c.args.caller.now desk c.args.id _ _
     (c.as_slice-3.ensures.value ∙ targets) (c.as_slice-4.ensures.value ∙ sources)

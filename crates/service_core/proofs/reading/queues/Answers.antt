@@ -1,4 +1,5 @@
 use Rattle.std.proofs.Common.{◌∙◌, ap, filter}
+use Rattle.std.proofs.lemmas.Result.{IfOk-at_ok}
 use Rattle.desk_model.specs.declared.answer.Answer.TheVariants.{Queues}
 use Rattle.desk_model.specs.Rights.{sees_queue}
 use Rattle.service_core.proofs.reading.queues.Goals as goal
@@ -7,4 +8,4 @@ pub returns-clause-told : goal.returns-clause-told
 returns-clause-told g c at facts desk is stand clean seen =
     ap Queues (c.queues_seen.ensures
     ∙ ap (filter (sees_queue c.args.settings.now c.args.caller.now))
-    (c.in_ok-queues.ensures.listed desk is stand clean))
+    (IfOk-at_ok _ c.in_ok-queues.ensures.ok (c.queues.ensures.listed desk is stand clean)))

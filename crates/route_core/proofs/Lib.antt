@@ -1,0 +1,5 @@
+mod Acts
+mod Cuts
+mod Digits
+mod Objects
+mod Trees

@@ -1,0 +1,39 @@
+-- each route reads well, and conflicts with none before it
+use Rattle.std.proofs.Common.{refl}
+use Rattle.matchit.proofs.OnLiterals.{matchit_on_literals}
+use Rattle.route_core.specs.Places.{routes}
+use Rattle.route_core.proofs.routes.add_all.Goals as goal
+
+pub add-requires : goal.add-requires
+unfolding matchit_on_literals
+add-requires c = rw c.requires refl
+
+pub add-requires-2 : goal.add-requires-2
+unfolding matchit_on_literals
+add-requires-2 c = rw (c.in_ok-add.ensures, c.requires) refl
+
+pub add-requires-3 : goal.add-requires-3
+unfolding matchit_on_literals
+add-requires-3 c =
+    rw (c.in_ok-add-2.ensures, c.in_ok-add.ensures, c.requires) refl
+
+pub add-requires-4 : goal.add-requires-4
+unfolding matchit_on_literals
+add-requires-4 c =
+    rw (
+      c.in_ok-add-3.ensures,
+      c.in_ok-add-2.ensures,
+      c.in_ok-add.ensures,
+      c.requires,
+    ) refl
+
+pub returns : goal.returns
+unfolding routes
+returns c =
+    rw (
+      c.in_ok-add-4.ensures,
+      c.in_ok-add-3.ensures,
+      c.in_ok-add-2.ensures,
+      c.in_ok-add.ensures,
+      c.requires,
+    ) refl
