@@ -9,6 +9,7 @@ ghost use Rattle.desk_program.specs.FaultLines.{unavailable_text};
 ghost use Rattle.desk_program.specs.Script.{LineLeads, line_of, line_of_words, is_passed_over};
 ghost use Rattle.desk_program.specs.Script.{is_comment};
 
+use desk_core::Command;
 use service_core::{Desk, SHORT_TEXT, text_in_room};
 use std::alloc::{AllocError, Global};
 use store_core::Backend;
