@@ -5,7 +5,7 @@ use crate::changes::number;
 use crate::desks::attached;
 use crate::expansion::{Named, expanded};
 use crate::failure::Failure;
-use crate::served::{Manner, Sent, served};
+use crate::served::{LEFT, Manner, Sent, served};
 use crate::{ASKED, COMMANDS};
 use service_core::Desk;
 use std::alloc::Global;
@@ -74,7 +74,8 @@ fn serve_alike(rt: &HostRuntime, before: &str, sent: &[Sent]) -> Result<(), Fail
         "a byte at a time: {}",
         if alike { "same" } else { "differs" }
     )?;
-    let alike = whole.as_slice().starts_with(list.as_slice());
+    let rest = whole.as_slice().strip_prefix(list.as_slice());
+    let alike = rest.unwrap_or(&[]).starts_with(LEFT);
     println!(rt; "in a list: {}", if alike { "same" } else { "differs" })?;
     Ok(())
 }

@@ -12,6 +12,9 @@ use wire_core::{ServeFault, serve_list, serve_one};
 /// A message at its moment.
 pub(crate) type Sent = (u32, Vec<u8>);
 
+/// What stands after all replies, where they are followed by what is left of each message.
+pub(crate) const LEFT: &[u8] = b"left:";
+
 /// How messages are served.
 #[derive(Clone, Copy)]
 pub(crate) enum Manner {
@@ -104,7 +107,7 @@ fn one_by_one<S: Backend>(
         left.extend_from_slice(number.as_bytes())?;
         failing = failing.map(|_| NEVER);
     }
-    text.extend_from_slice(b"left:")?;
+    text.extend_from_slice(LEFT)?;
     text.extend_from_slice(left.as_slice())?;
     text.push(b'\n')?;
     Ok(text)
