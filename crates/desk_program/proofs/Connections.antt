@@ -8,7 +8,6 @@ use Rattle.desk_model.specs.Desk.{Desk}
 use Rattle.desk_model.specs.IsDesk.{IsDesk}
 use Rattle.service_core.specs.TableSteps.{LeadsOn}
 use Rattle.store_tables.specs.Calls.{WasClean}
-use Rattle.store_tables.specs.Stands.{StandsFor}
 use Rattle.wire_core.specs.Served.{IsServed}
 use Rattle.wire_core.specs.declared.fault.ServeFault.{ServeFault}
 use Rattle.wire_core.specs.declared.fault.ServeFault.TheVariants.{NoMemory, Read, Write}
@@ -27,7 +26,7 @@ answered s at had left before after (Err Write) old new served desk is stands cl
     let led = served.1 desk is stands clean in
     (led.0, inr (at, had, left, served.0, led.1), led.2)
 answered s at had left before after (Err Read) old new served desk is stands clean =
-    (desk, inl refl, subst (StandsFor desk) (sym served.1) stands)
+    let led = served.1 desk is stands clean in (led.0, inl led.1, led.2)
 answered s at had left before after (Err NoMemory) old new served desk is stands clean =
     absurd served
 

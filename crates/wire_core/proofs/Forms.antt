@@ -1,9 +1,11 @@
 -- The replies to outcomes and faults have the form of a reply.
 use Rattle.std.proofs.Common.{◌≡◌, Bool, true, false, Option, Some, None, Ok, Err, refl, is_some}
+use Rattle.std.proofs.Common.{◌≤◌, length, arith, lit<}
 use Rattle.desk_model.specs.Step.{Outcome}
 use Rattle.desk_model.specs.declared.answer.Answer.TheVariants as answer
 use Rattle.desk_model.specs.declared.refusal.Refusal.TheVariants as refusal
-use Rattle.message_core.specs.Reply.{IsReply}
+use Rattle.message_core.specs.Reply.{IsReply, bytes_of, unavailable}
+use Rattle.message_core.proofs.ReplyLemmas.{short_reply}
 use Rattle.message_core.specs.declared.fault.WireFault.{WireFault}
 use Rattle.message_core.specs.declared.reply.Allow.{Allow}
 use Rattle.route_core.specs.declared.fault.CommandFault.{CommandFault}
@@ -45,3 +47,10 @@ fault_form h methods BadMethod told = record { code = refl; allow = told refl }
 fault_form h methods NoToken told = record { code = refl; allow = refl }
 fault_form h methods BadBody told = record { code = refl; allow = refl }
 fault_form h methods NoMemory told = record { code = refl; allow = refl }
+
+-- the reply that nothing was done is a short one
+pub unavailable_short : (head_only : Bool) → length (bytes_of (unavailable head_only)) ≤ 512
+unavailable_short head_only =
+    let short =
+    short_reply (unavailable head_only) (record { code = refl; allow = refl; }) (lit< tt) in
+    omega (arith, short)

@@ -2,6 +2,8 @@
 use Rattle.std.proofs.Common.{◌≡◌, ◌≢◌, ◌⊎◌, inl, inr, ℕ, Bool, false, List, Option, Some, None}
 use Rattle.std.proofs.Common.{Result, Ok, Err, refl, ap, sym, subst}
 use Rattle.std.specs.Option.{option_map}
+use Rattle.std.specs.Prelude.{⊤, OnOk}
+use Rattle.std.specs.declared.alloc.AllocError.{AllocError}
 use Rattle.sqlite.specs.State.{State}
 use Rattle.settings_core.specs.declared.settings.Settings.{Settings}
 use Rattle.desk_model.specs.Desk.{Desk}
@@ -16,12 +18,13 @@ use Rattle.message_core.specs.declared.message.Message.{Message}
 use Rattle.route_core.specs.Commands.{command_at, command_if_placed, command_of}
 use Rattle.route_core.specs.Places.{methods_of, place_of}
 use Rattle.route_core.specs.declared.fault.CommandFault.{CommandFault}
-use Rattle.route_core.specs.declared.fault.CommandFault.TheVariants.{NoRoute}
+use Rattle.route_core.specs.declared.fault.CommandFault.TheVariants.{NoMemory, NoRoute}
 use Rattle.route_core.specs.declared.place.Place.{Place}
 use Rattle.service_core.specs.TableSteps.{LeadsOn, StepsOn}
-use Rattle.wire_core.specs.Replies.{TellsFault, fault_reply, is_head, outcome_reply}
+use Rattle.wire_core.specs.Replies.{fault_reply, is_head, outcome_reply}
 use Rattle.wire_core.specs.Steps.{CommandSteps, CommandStepsOn, IsDoneOn, MessageStepsOn, StaysOn}
-use Rattle.wire_core.specs.Steps.{StreamStepsOn}
+use Rattle.wire_core.specs.Steps.{StreamSteps, StreamStepsOn}
+use Rattle.wire_core.specs.Runs.{RepliesOn}
 
 -- what one relation leads to, a wider one does
 pub leads_wider : (P Q : Desk → Desk → Type 0) (old new : State)
@@ -69,6 +72,23 @@ faulty s at message place fault bytes tables placed told =
       refl,
     ))
 
+-- the same, once its reply is put: then the fault isn't the want of memory
+pub told_without_memory : (s : Settings) (at : ℕ) (message : Message) (place : Place)
+    (fault : CommandFault) (h : Bool) (put : Result ⊤ AllocError) (bytes : List ℕ) (tables : State)
+    → place_of message.target ≡ Some place → h ≡ is_head message
+    → (fault ≢ NoMemory → command_at s place message ≡ Err fault)
+    → OnOk put (fault ≢ NoMemory)
+    → OnOk put (bytes ≡ bytes_of (fault_reply h (Some (methods_of place)) fault))
+    → OnOk put (CommandStepsOn s at message (command_at s place message) bytes tables tables)
+told_without_memory s at message place fault h (Err e) bytes tables placed head is memory told = tt
+told_without_memory s at message place fault h (Ok done) bytes tables placed head is memory told =
+    let by_head =
+    subst (λ (x : Bool). bytes ≡ bytes_of (fault_reply x (Some (methods_of place)) fault)) head
+    told in
+    subst (λ (a : Result (List ℕ × Command) CommandFault). CommandStepsOn s at message a bytes
+    tables tables) (sym (is memory))
+    (faulty s at message place fault bytes tables placed by_head)
+
 -- a message whose path leads nowhere
 pub nowhere : (s : Settings) (at : ℕ) (message : Message) (bytes : List ℕ) (tables : State)
     → place_of message.target ≡ None
@@ -78,7 +98,7 @@ nowhere s at message bytes tables placed told =
     leads_nowhere (λ desk after. CommandSteps s at message (command_of s message) desk bytes after)
     tables
     (λ desk. subst (λ (p : Option Place). CommandSteps s at message (command_if_placed s message p)
-    desk bytes desk) (sym placed) (rw (ap (option_map methods_of) placed) told, refl))
+    desk bytes desk) (sym placed) (told, refl))
 
 -- what is asked for at the place of a message is what it asks for
 pub at_place : (s : Settings) (at : ℕ) (message : Message) (place : Place) (bytes : List ℕ)
@@ -112,17 +132,11 @@ stream_done s at had left message bytes old new reads steps =
     let read = reads (λ e. cc) (λ e. cc) in
     leads_wider _ _ old new (λ desk after did. inr (Ok message, read, did)) steps
 
--- a stream without a message, or no memory to read it
-pub stream_faulty : (s : Settings) (at : ℕ) (had left : Option (List ℕ)) (fault : WireFault)
-    (bytes : List ℕ) (tables : State) → fault ≢ WireFault.Read
-    → (Err {Message} fault ≢ Err WireFault.Read → Err {Message} fault ≢ Err WireFault.NoMemory
-    → Reads had left (Err fault))
-    → TellsFault fault bytes → StreamStepsOn s at had left bytes tables tables
-stream_faulty s at had left fault bytes tables unfailed reads (inl told) =
-    leads_nowhere _ tables (λ desk. inl (told, refl))
-stream_faulty s at had left fault bytes tables unfailed reads (inr told) =
-    let read = reads (λ e. unfailed (err_same e)) (λ e. told.0 (err_same e)) in
-    leads_nowhere _ tables (λ desk. inr (Err fault, read, (told.1, refl)))
-  where
-    err_same : {f g : WireFault} → Err {Message} f ≡ Err g → f ≡ g
-    err_same e = cc
+-- what a stream steps by is the reply to its bytes
+pub replied : (s : Settings) (at : ℕ) (had left : Option (List ℕ)) (stream bytes : List ℕ)
+    (old new : State) → had ≡ Some stream → StreamStepsOn s at had left bytes old new
+    → RepliesOn s (at, stream) (Ok bytes) old new
+replied s at had left stream bytes old new known steps =
+    leads_wider _ _ old new
+    (λ desk after did. (left, subst (λ (h : Option (List ℕ)). StreamSteps s at h left desk bytes
+    after) known did)) steps

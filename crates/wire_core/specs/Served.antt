@@ -3,7 +3,7 @@ use Rattle.std.specs.Prelude.{◌≡◌, ℕ, Bool, true, false, List, Option, R
 use Rattle.sqlite.specs.State.{State}
 use Rattle.settings_core.specs.declared.settings.Settings.{Settings}
 use Rattle.stream_core.specs.Written.{IsWritten}
-use Rattle.wire_core.specs.Steps.{StreamStepsOn}
+use Rattle.wire_core.specs.Steps.{StaysOn, StreamStepsOn}
 use Rattle.wire_core.specs.declared.fault.ServeFault.{ServeFault}
 use Rattle.wire_core.specs.declared.fault.ServeFault.TheVariants.{Read, Write, NoMemory}
 
@@ -23,7 +23,8 @@ IsServed settings at had left before after (Ok done) old new =
     Replies settings at had left before after false old new
 IsServed settings at had left before after (Err Write) old new =
     Replies settings at had left before after true old new
-IsServed settings at had left before after (Err Read) old new = (after ≡ before) × (new ≡ old)
+IsServed settings at had left before after (Err Read) old new =
+    (after ≡ before) × StaysOn old new
 IsServed settings at had left before after (Err NoMemory) old new = ⊥
 
 -- the bytes went out whole, or short of a byte or more

@@ -39,6 +39,7 @@ pub fn serve_one<R: Read, W: Write, S: Backend>(
         (R.remaining reader.old) (R.remaining reader.new)
         (W.contents writer.old) (W.contents writer.new) result
         (tables_of S.Store desk.old) (tables_of S.Store desk.new) }
+    ensures untouched { result ≡ Err ServeFault.Read → desk.new ≡ desk.old }
     ensures taken { ConsumesAtMost (R.remaining reader.old) (R.remaining reader.new) 73728 }
     ensures honest { WasClean (tables_of S.Store desk.old) (tables_of S.Store desk.new) }
     ensures same { settings_of S.Store desk.new ≡ settings_of S.Store desk.old }

@@ -1,0 +1,32 @@
+-- what the message asks for at its place, or its fault
+use Rattle.std.proofs.Common.{◌≡◌, ℕ, Ok, List, Result, rules, subst}
+use Rattle.std.proofs.lemmas.Result.{on_ok_weaker}
+use Rattle.desk_model.specs.declared.command.Command.{Command}
+use Rattle.route_core.specs.Commands.{command_at}
+use Rattle.route_core.specs.declared.fault.CommandFault.{CommandFault}
+use Rattle.service_core.specs.Seen.{settings_of, tables_of}
+use Rattle.wire_core.specs.Steps.{CommandStepsOn}
+use Rattle.wire_core.proofs.Stepping.{faulty, told_without_memory}
+use Rattle.wire_core.proofs.step.reply_at.Goals as goal
+
+pub returns-in-Ok-clause-ok : goal.returns-in-Ok-clause-ok
+returns-in-Ok-clause-ok g c =
+    let settings = settings_of g.S.Store c.args.desk.now in
+    let asked :
+    Ok (c.as_str.result.now, c.in-Ok.command) ≡ command_at settings c.args.place c.args.message.now =
+    search rules in
+    on_ok_weaker c.do_command-replied.result
+    (λ done. subst (λ (a : Result (List ℕ × Command) CommandFault). CommandStepsOn settings c.args.at
+    c.args.message.now a c.do_command-replied.new.room.items
+    (tables_of g.S.Store c.args.desk.now) (tables_of g.S.Store c.do_command-replied.new.desk))
+    asked (rw c.is_head-head_only.ensures at done))
+    c.do_command-replied.ensures.ok
+
+pub returns-in-Err-clause-ok : goal.returns-in-Err-clause-ok
+returns-in-Err-clause-ok g c =
+    let is = rw c.settings.ensures at (rw c.in-Err.fault-is at c.in-Err.ensures.err) in
+    told_without_memory (settings_of g.S.Store c.args.desk.now) c.args.at c.args.message.now
+    c.args.place c.in-Err.fault c.is_head-head_only.result c.put_fault.result
+    c.put_fault.new.room.items (tables_of g.S.Store c.args.desk.now) c.requires.place
+    c.is_head-head_only.ensures is
+    c.put_fault.ensures.memory c.put_fault.ensures.ok
