@@ -25,8 +25,26 @@ pub(crate) fn run_case(
     }
 }
 
+/// A desk over the tables that the statements make, with the settings.
+pub(crate) fn attached(
+    alloc: Global,
+    statements: &str,
+    settings: &str,
+) -> Result<Desk<MemStore>, Failure> {
+    let settings = Settings::read(alloc, settings.as_bytes()).map_err(|_| Failure::Settings)?;
+    let store = opened(alloc, statements)?;
+    match Desk::attach(alloc, store, settings) {
+        Ok(desk) => Ok(desk),
+        Err(_) => Err(Failure::Settings),
+    }
+}
+
 /// Asks all commands at once.
-fn ask_all<S: Backend>(rt: &HostRuntime, desk: &mut Desk<S>, commands: &str) -> Result<(), Failure> {
+fn ask_all<S: Backend>(
+    rt: &HostRuntime,
+    desk: &mut Desk<S>,
+    commands: &str,
+) -> Result<(), Failure> {
     let asks = asks_of(rt.alloc(), commands)?;
     tell_run(rt, desk, asks.as_slice())
 }

@@ -13,7 +13,11 @@ use text_core::Text;
 /// What stands where there is nothing to tell.
 const NONE: &str = "-";
 
-pub fn queues<S: Backend>(rt: &HostRuntime, line: &str, store: &mut Store<S>) -> Result<(), Failure> {
+pub fn queues<S: Backend>(
+    rt: &HostRuntime,
+    line: &str,
+    store: &mut Store<S>,
+) -> Result<(), Failure> {
     match store.queues(rt.alloc()) {
         Ok(rows) => tell_queues(rt, line, rows.as_slice()),
         Err(fault) => tell(rt, line, Err(fault)),

@@ -11,6 +11,13 @@
 //!   The whole list is asked at once, and each outcome is written as its text. Where the settings
 //!   can't be attached, it is written why, and what the store holds that is given back.
 //!
+//! Where lines that begin with `> ` stand after the commands, each begins a message, which is bytes
+//! that come in: the line has its moment, and the message goes up to the line feed before the next
+//! such line, the next case or a line `+++`. In it a backslash and `r` stand for a carriage return.
+//! The commands are done first; then the messages are served, and their replies are written, in
+//! which a carriage return is a backslash and `r`. Lines after a line `+++` name other manners of
+//! serving them (`messages.rt`).
+//!
 //! In a case words in `<<` and `>>` stand for others:
 //!
 //! - `<<3*TEXT>>` for the text three times, in which `@` is the number of the time, from 1,
@@ -28,7 +35,11 @@ mod expansion;
 mod failure;
 mod faults;
 mod lists;
+mod loopback;
+mod made;
+mod messages;
 mod scripts;
+mod served;
 mod stores;
 mod streams;
 mod telling;
@@ -86,6 +97,9 @@ fn name_of_text(name: &str) -> Option<&str> {
 fn answer(rt: &HostRuntime, named: &[Named<'_>], name: &str, text: &str) -> Result<(), Failure> {
     println!(rt; "{BEGIN}{name}")?;
     let (text, streams) = text.split_once(STREAMS).unwrap_or((text, ""));
+    if text.contains(messages::BEGIN) {
+        return messages::run_case(rt, named, text, streams);
+    }
     let case = expanded(rt.alloc(), named, text)?;
     if !streams.is_empty() {
         return faults::run_case(rt, case.as_slice(), streams);

@@ -1,0 +1,134 @@
+//! Messages made of others: cut short, grown by a byte, with a byte changed, with a line repeated.
+
+use crate::failure::Failure;
+use crate::served::{Sent, put_reply};
+use service_core::Desk;
+use std::alloc::{AllocError, Global};
+use store_core::Backend;
+use wire_core::serve_one;
+
+/// What a reply begins with, before its code.
+const BEGIN: &[u8] = b"HTTP/1.1 ";
+
+/// The codes of replies.
+const CODES: [&str; 8] = ["200", "201", "400", "403", "404", "405", "409", "503"];
+
+/// Makes a message of each of the given ones in each turn and serves it, and tells how many replies
+/// had which code; then serves the first message as it is, and tells its reply.
+pub(crate) fn answer_made<S: Backend>(
+    alloc: Global,
+    sent: &[Sent],
+    turns: u32,
+    desk: &mut Desk<S>,
+) -> Result<Vec<u8>, Failure> {
+    let mut counts = [0u32; 8];
+    let mut number = 1u32;
+    for turn in 0..turns {
+        number = serve_turn(alloc, sent, turn, number, desk, &mut counts)?;
+    }
+    let mut text = told(alloc, &counts)?;
+    if let Some(first) = sent.first() {
+        let reply = reply_to(alloc, first.0, first.1.as_slice(), desk);
+        put_reply(alloc, &mut text, reply.as_slice(), Ok(()))?;
+    }
+    Ok(text)
+}
+
+/// One turn, from the generator's number on: its next number.
+fn serve_turn<S: Backend>(
+    alloc: Global,
+    sent: &[Sent],
+    turn: u32,
+    number: u32,
+    desk: &mut Desk<S>,
+    counts: &mut [u32; 8],
+) -> Result<u32, AllocError> {
+    let mut number = number;
+    for message in sent {
+        number = next(number);
+        let bytes = made_of(alloc, message.1.as_slice(), turn, number)?;
+        let reply = reply_to(alloc, message.0, bytes.as_slice(), desk);
+        count_code(counts, reply.as_slice());
+    }
+    Ok(number)
+}
+
+/// The generator's next number.
+fn next(number: u32) -> u32 {
+    ((u64::from(number) * 1_664_525 + 1_013_904_223) % 4_294_967_296) as u32
+}
+
+/// What is made of the bytes in a turn, by the generator's number.
+fn made_of(alloc: Global, bytes: &[u8], turn: u32, number: u32) -> Result<Vec<u8>, AllocError> {
+    let byte = [(number / 16_777_216) as u8];
+    let place = (number / 256) as usize % (bytes.len() + 1);
+    let (before, after) = bytes.split_at(place);
+    match turn % 4 {
+        0 => joined(
+            alloc,
+            &bytes[..(turn / 4) as usize % (bytes.len() + 1)],
+            &[],
+            &[],
+        ),
+        1 => joined(alloc, before, &byte, after),
+        2 => joined(alloc, before, &byte, after.get(1..).unwrap_or(&[])),
+        _ => repeated(alloc, bytes, place % 6, byte[0] % 40),
+    }
+}
+
+fn joined(
+    alloc: Global,
+    before: &[u8],
+    between: &[u8],
+    after: &[u8],
+) -> Result<Vec<u8>, AllocError> {
+    let mut bytes = Vec::new(alloc);
+    bytes.extend_from_slice(before)?;
+    bytes.extend_from_slice(between)?;
+    bytes.extend_from_slice(after)?;
+    Ok(bytes)
+}
+
+/// The bytes with the line at a place so many times more.
+fn repeated(alloc: Global, bytes: &[u8], place: usize, times: u8) -> Result<Vec<u8>, AllocError> {
+    let mut text = Vec::new(alloc);
+    for (i, line) in str::from_utf8(bytes)
+        .unwrap_or("")
+        .split_inclusive('\n')
+        .enumerate()
+    {
+        text.extend_from_slice(line.as_bytes())?;
+        if i == place {
+            let more = line.as_bytes().repeat(alloc, usize::from(times))?;
+            text.extend_from_slice(more.as_slice())?;
+        }
+    }
+    Ok(text)
+}
+
+/// The bytes that are written for a message.
+fn reply_to<S: Backend>(alloc: Global, moment: u32, bytes: &[u8], desk: &mut Desk<S>) -> Vec<u8> {
+    let mut reader = bytes;
+    let mut written = Vec::new(alloc);
+    let _ = serve_one(alloc, &mut reader, &mut written, moment, desk);
+    written
+}
+
+fn count_code(counts: &mut [u32; 8], reply: &[u8]) {
+    let rest = reply.strip_prefix(BEGIN).unwrap_or(&[]);
+    for (i, code) in CODES.iter().enumerate() {
+        if rest.starts_with(code.as_bytes()) {
+            counts[i] = counts[i].saturating_add(1);
+        }
+    }
+}
+
+/// A line for each code and its count.
+fn told(alloc: Global, counts: &[u32; 8]) -> Result<Vec<u8>, AllocError> {
+    let mut text = Vec::new(alloc);
+    for (i, code) in CODES.iter().enumerate() {
+        let line = format!(in alloc; "{code}: {}\n", counts[i])?;
+        text.extend_from_slice(line.as_bytes())?;
+    }
+    Ok(text)
+}

@@ -1,0 +1,131 @@
+//! Cases of messages: bytes that come in at their moments, and the bytes of their replies.
+
+use crate::asks::asks_of;
+use crate::changes::number;
+use crate::desks::attached;
+use crate::expansion::{Named, expanded};
+use crate::failure::Failure;
+use crate::served::{LEFT, Manner, Sent, served};
+use crate::{ASKED, COMMANDS};
+use service_core::Desk;
+use std::alloc::Global;
+use store_core::Backend;
+
+/// What begins a message, before its moment.
+pub(crate) const BEGIN: &str = "\n> ";
+
+/// Serves the messages of a case in each of three manners, each over a desk of its own: one after
+/// the other, the same a byte at a time, and all in a list. The replies are written as the first
+/// has them, then how many bytes of each message were left unread, and whether the other two are
+/// the same. Where lines name other manners, the replies of each are written in place of that.
+pub(crate) fn run_case(
+    rt: &HostRuntime,
+    named: &[Named<'_>],
+    text: &str,
+    manners: &str,
+) -> Result<(), Failure> {
+    let (before, messages) = text.split_once(BEGIN).ok_or(Failure::BadLine)?;
+    let before = expanded(rt.alloc(), named, before)?;
+    let sent = sent_in(rt.alloc(), named, messages)?;
+    let before = str::from_utf8(before.as_slice()).unwrap_or("");
+    if manners.is_empty() {
+        return serve_alike(rt, before, sent.as_slice());
+    }
+    for line in manners.lines() {
+        let text = replies(rt, before, sent.as_slice(), manner_of(line)?)?;
+        print!(rt; "{line}\n{}", str::from_utf8(text.as_slice()).unwrap_or(""))?;
+    }
+    Ok(())
+}
+
+/// The messages of a case.
+fn sent_in(alloc: Global, named: &[Named<'_>], messages: &str) -> Result<Vec<Sent>, Failure> {
+    let mut sent = Vec::new(alloc);
+    for message in messages.strip_suffix("\n").unwrap_or(messages).split(BEGIN) {
+        let (moment, text) = message.split_once('\n').ok_or(Failure::BadLine)?;
+        let moment = number(moment)?;
+        let text = expanded(alloc, named, text)?;
+        sent.push((moment, with_returns(alloc, text.as_slice())?))?;
+    }
+    Ok(sent)
+}
+
+/// The text with a carriage return for each backslash and `r`.
+fn with_returns(alloc: Global, text: &[u8]) -> Result<Vec<u8>, Failure> {
+    let mut bytes = Vec::new(alloc);
+    for byte in text {
+        if *byte == b'r' && bytes.last() == Some(&b'\\') {
+            let _ = bytes.pop();
+            bytes.push(b'\r')?;
+        } else {
+            bytes.push(*byte)?;
+        }
+    }
+    Ok(bytes)
+}
+
+fn serve_alike(rt: &HostRuntime, before: &str, sent: &[Sent]) -> Result<(), Failure> {
+    let whole = replies(rt, before, sent, Manner::Whole)?;
+    let bytes = replies(rt, before, sent, Manner::BYTES)?;
+    let list = replies(rt, before, sent, Manner::List)?;
+    print!(rt; "{}", str::from_utf8(whole.as_slice()).unwrap_or(""))?;
+    let alike = whole.as_slice() == bytes.as_slice();
+    println!(rt;
+        "a byte at a time: {}",
+        if alike { "same" } else { "differs" }
+    )?;
+    let rest = whole.as_slice().strip_prefix(list.as_slice());
+    let alike = rest.unwrap_or(&[]).starts_with(LEFT);
+    println!(rt; "in a list: {}", if alike { "same" } else { "differs" })?;
+    Ok(())
+}
+
+/// The replies to messages over a desk of their own.
+fn replies(
+    rt: &HostRuntime,
+    before: &str,
+    sent: &[Sent],
+    manner: Manner,
+) -> Result<Vec<u8>, Failure> {
+    let (statements, asked) = before.split_once(ASKED).ok_or(Failure::BadLine)?;
+    let (settings, commands) = asked.split_once(COMMANDS).ok_or(Failure::BadLine)?;
+    match attached(rt.alloc(), statements, settings) {
+        Ok(mut desk) => served_after(rt, commands, sent, manner, &mut desk),
+        Err(failure) => Err(failure),
+    }
+}
+
+/// The replies to messages on a desk, once the commands are done on it.
+fn served_after<S: Backend>(
+    rt: &HostRuntime,
+    commands: &str,
+    sent: &[Sent],
+    manner: Manner,
+    desk: &mut Desk<S>,
+) -> Result<Vec<u8>, Failure> {
+    let asks = asks_of(rt.alloc(), commands)?;
+    let _ = desk.execute_all(rt.alloc(), asks.as_slice())?;
+    served(rt, sent, manner, desk)
+}
+
+/// The manner that a line states:
+///
+/// | Line | The messages are served |
+/// |---|---|
+/// | `reader_fails N` | a byte at a time; of the first the reader fails after N reads |
+/// | `writer_fails N` | the same; of the first the writer fails after N writes |
+/// | `writer_stops N` | the same, and takes nothing then |
+/// | `loopback` | each over a connection of its own, by a server that ends after it |
+/// | `made N` | N turns of messages made of them: how many had which code; then the first |
+fn manner_of(line: &str) -> Result<Manner, Failure> {
+    let (kind, rest) = line.split_once(' ').unwrap_or((line, "0"));
+    let count = number(rest)?;
+    match kind {
+        "reader_fails" => Ok(Manner::streams(Some(count), u32::MAX, true)),
+        "writer_fails" => Ok(Manner::streams(None, count, true)),
+        "writer_stops" => Ok(Manner::streams(None, count, false)),
+        "loopback" => Ok(Manner::Loopback),
+        "made" => Ok(Manner::Made(count)),
+        _ => Err(Failure::BadLine),
+    }
+}
