@@ -1,12 +1,13 @@
 //! A server over a file of tables, on the loopback.
-use desk_program::{InputFault, Serving, open_desk, serve_on, take_settings};
-use desk_program::{tell_input_fault, tell_store_fault};
+use desk_program::{
+    InputFault, Serving, open_desk, serve_on, take_settings, tell_input_fault, tell_store_fault,
+};
+use service_core::Desk;
 use sqlite::Connection;
 use std::fs::File;
 use std::io;
 use std::net::TcpListener;
 use store_core::{Backend, Store, StoreFault};
-use service_core::Desk;
 
 /// The exit status where the port can't be listened on, or a write failed.
 const NO_NETWORK: u8 = 4;
@@ -48,7 +49,11 @@ fn listen<S: Backend>(rt: &HostRuntime, serving: &Serving<'_>, desk: &mut Desk<S
         return NO_NETWORK;
     }
     let status = serve_on(rt.alloc(), &listener, serving.count, rt, desk);
-    if status == NO_NETWORK { refuse_network(rt) } else { status }
+    if status == NO_NETWORK {
+        refuse_network(rt)
+    } else {
+        status
+    }
 }
 
 /// Prints that the network failed.

@@ -54,8 +54,7 @@ one_more s t n old mid new same many honest one desk is stands clean =
     let by_settings = subst (λ (x : Settings). AnswersOne x mid new) same one in
     let then =
     by_settings so_far.0 (formed_connections s n desk so_far.0 is so_far.1) so_far.2 clean in
-    let grown : suc n ≡ n + 1 = omega arith in
-    (
+    let grown : suc n ≡ n + 1 = omega arith in (
       then.0,
       subst (λ (m : ℕ). AnswersConnections s m desk then.0) grown (so_far.0, so_far.1, then.1),
       then.2,

@@ -3,5 +3,7 @@ pub mod InputFaults
 pub mod LedLines
 pub mod LongInput
 pub mod MarkerSearch
+pub mod Opened
 pub mod PrintedLines
 pub mod ReadSettings
+pub mod Served

@@ -1,16 +1,16 @@
 -- The words of a server.
-use Rattle.std.specs.Prelude.{ℕ, ◌&&◌, nat_le, if◌then◌else◌, List, [], ◌∷◌, Option, Some, None}
-use Rattle.std.specs.Prelude.{codes}
+use Rattle.std.specs.Prelude.{ℕ, Bool, false, ◌&&◌, ◌==◌, nat_le, if◌then◌else◌, List, [], ◌∷◌}
+use Rattle.std.specs.Prelude.{Option, Some, None, codes, length, take, drop}
 use Rattle.std.specs.Str.{bytes_eq}
 use Rattle.desk_words.specs.Number.{number_of}
 
 -- the values of two options, in either order, and nothing else
-abbrev pub both_values : List ℕ → List ℕ → List ℕ → List ℕ → List ℕ → List ℕ
-    → Option (List ℕ × List ℕ)
-both_values one other a x b y =
+unfoldable pub both_values : List ℕ → List ℕ → List (List ℕ) → Option (List ℕ × List ℕ)
+both_values one other (a ∷ x ∷ b ∷ y ∷ []) =
     if bytes_eq a one && bytes_eq b other then Some (x, y)
     else if bytes_eq a other && bytes_eq b one then Some (y, x)
     else None
+both_values one other words = None
 
 -- the number of a word, from 1 to the most
 abbrev pub from_one_to : ℕ → ℕ → Option ℕ
@@ -28,16 +28,19 @@ abbrev pub served_by : List ℕ × List ℕ → Option ℕ → Option ℕ → Op
 served_by files (Some port) (Some count) = Some (files.0, files.1, port, count)
 served_by files port count = None
 
-abbrev pub served_with : Option (List ℕ × List ℕ) → Option (List ℕ × List ℕ) → Option Served
+unfoldable pub served_with : Option (List ℕ × List ℕ) → Option (List ℕ × List ℕ) → Option Served
 served_with (Some files) (Some numbers) =
     served_by files (counted 65535 (number_of numbers.0)) (counted 1000000 (number_of numbers.1))
 served_with files numbers = None
 
+abbrev pub is_next : List ℕ → List (List ℕ) → Bool
+is_next wanted [] = false
+is_next wanted (word ∷ words) = bytes_eq word wanted
+
 -- `--db FILE --settings FILE serve --port N --count K`, each two options in either order
 abbrev pub serving_of : List (List ℕ) → Option Served
-serving_of (a ∷ b ∷ c ∷ d ∷ word ∷ e ∷ f ∷ g ∷ h ∷ []) =
-    if bytes_eq word (codes "serve")
-    then served_with (both_values (codes "--db") (codes "--settings") a b c d)
-    (both_values (codes "--port") (codes "--count") e f g h)
+serving_of words =
+    if (length words == 9) && is_next (codes "serve") (drop 4 words)
+    then served_with (both_values (codes "--db") (codes "--settings") (take 4 words))
+    (both_values (codes "--port") (codes "--count") (take 4 (drop 5 words)))
     else None
-serving_of words = None

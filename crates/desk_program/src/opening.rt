@@ -1,6 +1,6 @@
 //! A desk is opened over the tables of a store, with the settings of a text.
-ghost use Rattle.std.specs.Prelude.{◌≡◌, ◌≤◌, ◌+◌, ℕ, List, Ok, Err, length, IfErr, IfOk, IfSome, OnOk};
-ghost use Rattle.std.specs.Prelude.{Result, if◌then◌else◌};
+ghost use Rattle.std.specs.Prelude.{◌≡◌, ◌≢◌, ◌≤◌, ℕ, List, Ok, Err, length, IfErr, IfOk, IfSome};
+ghost use Rattle.std.specs.Prelude.{OnOk, Result, if◌then◌else◌};
 ghost use Rattle.store_core.specs.Seen.{state_of};
 ghost use Rattle.service_core.specs.Seen.{settings_of, tables_of};
 ghost use Rattle.store_tables.specs.Calls.{Leaves};

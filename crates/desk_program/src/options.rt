@@ -6,6 +6,9 @@ ghost use Rattle.desk_program.specs.Options as options;
 
 use wire_core::number_of_word;
 
+/// How many words ask for a server.
+const WORDS: usize = 9;
+
 /// The highest port.
 const MAX_PORT: u32 = 65_535;
 
@@ -32,67 +35,62 @@ pub fn serving_of(words: &[String]) -> Option<Serving<'_>>
     ensures { option_map (λ s. (s.tables.now, s.settings.now, s.port, s.count)) result
         ≡ options.serving_of (map string_bytes words.now) }
 {
-    let [a, b, c, d, word, e, f, g, h] = words else {
-        return None;
-    };
-    if word.as_str() != "serve" {
+    if words.len() != WORDS || !is_next("serve", &words[4..]) {
         return None;
     }
-    let files = both_values(
-        "--db",
-        "--settings",
-        (a.as_str(), b.as_str()),
-        (c.as_str(), d.as_str()),
-    );
-    let numbers = both_values(
-        "--port",
-        "--count",
-        (e.as_str(), f.as_str()),
-        (g.as_str(), h.as_str()),
-    );
-    match (files, numbers) {
-        (Some(files), Some(numbers)) => serving_with(files, numbers),
-        _ => None,
+    let files = both_values("--db", "--settings", &words[..4]);
+    let numbers = both_values("--port", "--count", &words[5..WORDS]);
+    serving_with(files, numbers)
+}
+
+/// Whether that word comes next.
+fn is_next(wanted: &str, words: &[String]) -> bool
+    ensures { result ≡ options.is_next wanted.now (map string_bytes words.now) }
+{
+    match words {
+        [] => false,
+        [word, ..] => word.as_str() == wanted,
     }
 }
 
 /// The values of two options, which are given in either order.
-fn both_values<'w>(
-    one: &str,
-    other: &str,
-    first: (&'w str, &'w str),
-    second: (&'w str, &'w str),
-) -> Option<(&'w str, &'w str)>
-    ensures { option_map (λ v. (v.0.now, v.1.now)) result ≡ options.both_values one.now other.now
-        first.0.now first.1.now second.0.now second.1.now }
+#[tactic(auto, unfolding(crate::specs::Options::both_values))]
+fn both_values<'w>(one: &str, other: &str, words: &'w [String]) -> Option<(&'w str, &'w str)>
+    ensures { option_map (λ v. (v.0.now, v.1.now)) result
+        ≡ options.both_values one.now other.now (map string_bytes words.now) }
 {
-    if first.0 == one && second.0 == other {
-        Some((first.1, second.1))
-    } else if first.0 == other && second.0 == one {
-        Some((second.1, first.1))
+    let [a, x, b, y] = words else {
+        return None;
+    };
+    if a.as_str() == one && b.as_str() == other {
+        Some((x.as_str(), y.as_str()))
+    } else if a.as_str() == other && b.as_str() == one {
+        Some((y.as_str(), x.as_str()))
     } else {
         None
     }
 }
 
-/// The server with these files, if the words for its port and its count are such numbers.
+/// The server with these files, if both are given, and so are a port and a count.
+#[tactic(auto, unfolding(crate::specs::Options::served_with))]
 fn serving_with<'w>(
-    files: (&'w str, &'w str),
-    numbers: (&'w str, &'w str),
+    files: Option<(&'w str, &'w str)>,
+    numbers: Option<(&'w str, &'w str)>,
 ) -> Option<Serving<'w>>
     ensures { option_map (λ s. (s.tables.now, s.settings.now, s.port, s.count)) result
-        ≡ options.served_with (Some (files.0.now, files.1.now))
-        (Some (numbers.0.now, numbers.1.now)) }
+        ≡ options.served_with (option_map (λ v. (v.0.now, v.1.now)) files.entry)
+        (option_map (λ v. (v.0.now, v.1.now)) numbers.entry) }
 {
-    match (number_up_to(MAX_PORT, numbers.0), number_up_to(MAX_CONNECTIONS, numbers.1)) {
-        (Some(port), Some(count)) => Some(Serving {
-            tables: files.0,
-            settings: files.1,
-            port: port as u16,
-            count,
-        }),
-        _ => None,
-    }
+    let (tables, settings) = files?;
+    let (port, count) = numbers?;
+    let port = number_up_to(MAX_PORT, port)?;
+    let count = number_up_to(MAX_CONNECTIONS, count)?;
+    Some(Serving {
+        tables,
+        settings,
+        port: port as u16,
+        count,
+    })
 }
 
 /// The number of a word, if it is from 1 to the most.

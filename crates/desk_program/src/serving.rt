@@ -6,7 +6,7 @@ ghost use Rattle.desk_program.specs.Serving.{AnswersOne, IsEnded};
 
 use service_core::Desk;
 use std::alloc::Global;
-use std::io::BufReader;
+use std::io::{BufReader, Read, Write};
 use std::net::{TcpListener, TcpStream};
 use std::time::Clock;
 use store_core::Backend;
@@ -58,11 +58,27 @@ fn serve_stream<S: Backend>(alloc: Global, stream: &TcpStream, moment: u32, desk
     ensures same { settings_of S.Store desk.new ≡ settings_of S.Store desk.old }
 {
     let mut output = stream;
-    let _served = match BufReader::new(alloc, stream) {
-        Ok(mut reader) => serve_one(alloc, &mut reader, &mut output, moment, desk),
+    match BufReader::new(alloc, stream) {
+        Ok(mut reader) => answer(alloc, &mut reader, &mut output, moment, desk),
         Err(_) => {
             let mut input = stream;
-            serve_one(alloc, &mut input, &mut output, moment, desk)
+            answer(alloc, &mut input, &mut output, moment, desk)
         }
-    };
+    }
+}
+
+/// Serves the message of a connection, whose fault is passed over.
+fn answer<R: Read, W: Write, S: Backend>(
+    alloc: Global,
+    reader: &mut R,
+    writer: &mut W,
+    moment: u32,
+    desk: &mut Desk<S>,
+)
+    ensures one { AnswersOne (settings_of S.Store desk.old)
+        (tables_of S.Store desk.old) (tables_of S.Store desk.new) }
+    ensures honest { WasClean (tables_of S.Store desk.old) (tables_of S.Store desk.new) }
+    ensures same { settings_of S.Store desk.new ≡ settings_of S.Store desk.old }
+{
+    let _served = serve_one(alloc, reader, writer, moment, desk);
 }

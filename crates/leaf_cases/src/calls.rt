@@ -10,10 +10,10 @@ mod words;
 use crate::calls::forms::form_answer;
 use crate::calls::lifecycles::lifecycle_answer;
 use crate::calls::words::{command_answer, words_answer};
+use desk_words::words_of;
 use lifecycle_core::Lifecycle;
 use std::alloc::{AllocError, Global};
 use std::io;
-use desk_words::words_of;
 
 /// Writes each line with its answer.
 pub fn run(rt: &HostRuntime, cases: &str) -> io::Result<()> {

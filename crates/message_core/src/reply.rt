@@ -61,7 +61,11 @@ pub fn put_reply(reply: &Reply, out: &mut Vec<u8>)
 pub fn unavailable_reply(head_only: bool) -> &'static [u8]
     ensures { result.now ≡ form.bytes_of (form.unavailable head_only) }
 {
-    if head_only { unavailable_head() } else { unavailable_whole() }
+    if head_only {
+        unavailable_head()
+    } else {
+        unavailable_whole()
+    }
 }
 
 fn unavailable_head() -> &'static [u8]

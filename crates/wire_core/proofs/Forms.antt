@@ -52,5 +52,5 @@ fault_form h methods NoMemory told = record { code = refl; allow = refl }
 pub unavailable_short : (head_only : Bool) → length (bytes_of (unavailable head_only)) ≤ 512
 unavailable_short head_only =
     let short =
-    short_reply (unavailable head_only) (record { code = refl; allow = refl; }) (lit< tt) in
+    short_reply (unavailable head_only) (record { code = refl; allow = refl }) (lit< tt) in
     omega (arith, short)

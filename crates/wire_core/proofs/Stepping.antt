@@ -138,5 +138,8 @@ pub replied : (s : Settings) (at : ℕ) (had left : Option (List ℕ)) (stream b
     → RepliesOn s (at, stream) (Ok bytes) old new
 replied s at had left stream bytes old new known steps =
     leads_wider _ _ old new
-    (λ desk after did. (left, subst (λ (h : Option (List ℕ)). StreamSteps s at h left desk bytes
-    after) known did)) steps
+    (λ desk after did. (
+      left,
+      subst (λ (h : Option (List ℕ)). StreamSteps s at h left desk bytes
+          after) known did,
+    )) steps

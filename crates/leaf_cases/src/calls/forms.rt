@@ -1,9 +1,9 @@
+use desk_words::number_of_word;
 use std::alloc::{AllocError, Global};
 use std::cmp::Ordering;
 use text_core::{
     Text, Texts, is_among, is_name, is_right_name, is_subject, is_text, repeats_text, shares_text,
 };
-use desk_words::number_of_word;
 
 /// The answer to a call on texts, where it is one.
 pub(crate) fn form_answer(

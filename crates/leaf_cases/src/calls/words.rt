@@ -1,5 +1,5 @@
-use std::alloc::{AllocError, Global};
 use desk_words::{WordsFault, command_of_words, words_of};
+use std::alloc::{AllocError, Global};
 
 /// The words of a line, each in `<` and `>`, or its fault.
 pub(crate) fn words_answer(alloc: Global, line: &str) -> Result<String, AllocError> {

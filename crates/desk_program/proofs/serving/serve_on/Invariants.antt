@@ -5,8 +5,8 @@ use Rattle.service_core.specs.Seen.{settings_of, tables_of}
 use Rattle.desk_program.specs.Serving.{AnswersMany}
 use Rattle.desk_program.proofs.serving.serve_on.Given as goal
 
-abbrev pub invariant-loop-_connection : goal.invariant-loop-_connection
-invariant-loop-_connection g l =
+abbrev pub invariant-loop-connection : goal.invariant-loop-connection
+invariant-loop-connection g l =
     record {
       many : AnswersMany (settings_of g.S.Store l.fn.desk) l._connection
           (tables_of g.S.Store l.fn.desk) (tables_of g.S.Store l.desk);
