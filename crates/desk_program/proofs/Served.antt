@@ -8,7 +8,7 @@ pub served_as : (words : List (String Global)) (files numbers : Option (List ℕ
     → length words ≡ 9 → is_next (codes "serve") (map string_bytes (drop 4 words)) ≡ true
     → files ≡ both_values (codes "--db") (codes "--settings") (map string_bytes (take 4 words))
     → numbers ≡ both_values (codes "--port") (codes "--count")
-        (map string_bytes (take 4 (drop 5 words)))
+    (map string_bytes (take 4 (drop 5 words)))
     → served_with files numbers ≡ serving_of (map string_bytes words)
 served_as words files numbers nine next given_files given_numbers =
     rw (
