@@ -20,7 +20,7 @@ use Rattle.desk_model.specs.Plan.{Call, Plan, Reads, OnQueue, OnRequest, answer_
 use Rattle.desk_model.specs.Plan.{answer_of_request, besides_on, change_of_request, filed_or_done}
 use Rattle.desk_model.specs.Facts.{facts_on_queue, seen_request}
 use Rattle.desk_model.specs.Readings.History.{entries_told, is_told}
-use Rattle.desk_model.specs.Readings.List as list
+use Rattle.desk_model.specs.Readings.Listing as listing
 use Rattle.desk_model.specs.Readings.Overdue as overdue
 use Rattle.desk_model.specs.Readings.Overdue.{is_sooner, late_line, late_order, line_if_late}
 use Rattle.desk_model.specs.Readings.Queues as queues
@@ -262,11 +262,11 @@ told_rise s caller desk is =
     (numbered_rise (λ (r : Request). r.row.id) 1 desk.requests is.requests)
 
 list_in_order : (queue : List ℕ) (call : Call) (desk : Desk) → IsDesk desk
-    → IsInOrder (list.told queue call desk)
+    → IsInOrder (listing.told queue call desk)
 list_in_order queue call desk is =
     let ts = told call.settings call.caller desk in
-    mapped_rises is_listed_first list.line_of (filter (list.is_in queue) ts)
-    ∙ filtered_rises (by (λ (t : Told). t.row.id)) (list.is_in queue) ts
+    mapped_rises is_listed_first listing.line_of (filter (listing.is_in queue) ts)
+    ∙ filtered_rises (by (λ (t : Told). t.row.id)) (listing.is_in queue) ts
     (numbers_go_on (λ (t : Told). t.row.id)) (told_rise call.settings call.caller desk is)
 
 -- of two lines with different numbers one comes first

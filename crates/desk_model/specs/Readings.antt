@@ -4,7 +4,7 @@ use Rattle.std.specs.Prelude.{ℕ, List, [], ◌∷◌, map, Option, Some}
 use Rattle.desk_model.specs.declared.answer.Answer.{Answer}
 use Rattle.desk_model.specs.declared.answer.Answer.TheVariants as answer
 pub mod History
-pub mod List
+pub mod Listing
 pub mod Overdue
 pub mod Queues
 pub mod Show
