@@ -1,17 +1,16 @@
 -- Lines of rows in the order of their numbers have numbers that differ.
 use Rattle.std.proofs.Common.{◌≡◌, ℕ, ◌-◌, ◌==◌, Bool, true, false, cond, List, [], ◌∷◌, Option, Some}
-use Rattle.std.proofs.Common.{None, refl, ap, sym, subst, ◌∙◌, arith, Ordering, Less, Equal, Greater}
+use Rattle.std.proofs.Common.{None, refl, ap, sym, subst, ◌∙◌, Ordering, Less, Equal, Greater}
 use Rattle.std.specs.Prelude.{IfSome, filter_map, nat_lt, option_and_then}
 use Rattle.std.specs.List.{AllByRecursion, cons_option}
 use Rattle.std.specs.Cmp.{IsTotalOrder, nat_cmp_total, on_total, then_total}
 use Rattle.std.specs.Ordering.{nat_cmp, on, ordering_then, then_cmp}
-use Rattle.std.proofs.lemmas.Bool.{lt-ltb, ltb-true}
 use Rattle.settings_core.specs.declared.settings.Settings.{Settings}
 use Rattle.desk_model.specs.Readings.Overdue.{late_line, late_order, line_if_late}
 use Rattle.desk_model.specs.declared.answer.LateLine.{LateLine}
 use Rattle.desk_model.specs.declared.rows.QueueRow.{QueueRow}
 use Rattle.desk_model.specs.declared.rows.RequestRow.{RequestRow}
-use Rattle.desk_core.proofs.Rising.{Climbs, IsTransitive}
+use Rattle.desk_core.proofs.Rising.{Climbs}
 use Rattle.desk_reports.specs.Rows.{told_among}
 use Rattle.sorted_lists.proofs.SortedLemmas.{Apart}
 
@@ -91,12 +90,9 @@ lines_apart at settings queues (row ∷ rows) climbs =
         → Apart late_key pair_cmp pair_total (cons_option o
         (filter_map (λ row. late_line at (told_among settings queues row)) rows))
     made None number others = others
-    made (Some l) number others =
-        (differs_from_later at settings queues l rows
-        (subst (λ n. AllByRecursion (λ (x : RequestRow). nat_lt n x.id ≡ true) rows) (sym number)
-        climbs.0), others)
-
-pub numbers_go_on : IsTransitive {X = RequestRow} (λ a b. nat_lt a.id b.id)
-numbers_go_on x y z one two =
-    lt-ltb x.id z.id
-    (let a = ltb-true x.id y.id one in let b = ltb-true y.id z.id two in omega arith)
+    made (Some l) number others = (
+      differs_from_later at settings queues l rows
+          (subst (λ n. AllByRecursion (λ (x : RequestRow). nat_lt n x.id ≡ true) rows) (sym number)
+          climbs.0),
+      others,
+    )

@@ -166,6 +166,7 @@ any_key k x (y ∷ ys) =
     doubled false false c e = refl
     doubled true false c e = cc
     doubled false true c e = cc
+
     swapped : (a b c : Bool) → (a || (b || c)) ≡ (b || (a || c))
     swapped true true c = refl
     swapped true false c = refl
@@ -242,6 +243,7 @@ found_counts at ts k =
     or_none : (b : Bool) → (b || false) ≡ b
     or_none true = refl
     or_none false = refl
+
     by : (b : Bool)
         → list_any (λ y. is_eq (owner_order k y)) (map (λ t. t.row.owner) ts) ≡ b
         → unwrap_or (cond b (Some (counts_of at ts k)) None) no_counts ≡ counts_of at ts k
@@ -345,5 +347,9 @@ live_more settings queues rows i row low is =
 pub live_fewer : (settings : Settings) (queues : List QueueRow) (rows : List RequestRow) (i : ℕ)
     → i ≤ length rows → length (live_among settings queues (take i rows)) ≤ i
 live_fewer settings queues rows i low =
-    omega (arith, fewer (λ t. t.is_live) (map (told_among settings queues) (take i rows)),
-    length-map (take i rows) (told_among settings queues), length-take-le i rows low)
+    omega (
+      arith,
+      fewer (λ t. t.is_live) (map (told_among settings queues) (take i rows)),
+      length-map (take i rows) (told_among settings queues),
+      length-take-le i rows low,
+    )

@@ -46,9 +46,9 @@ abbrev pub shown_by : Settings → List ℕ → List Watcher → List RequestRow
 shown_by settings person watches rows =
     filter (λ row. may_show_by settings person row watches) rows
 
--- a line for each row of that queue
-abbrev pub lines_by : Settings → QueueRow → List RequestRow → List Line
-lines_by settings queue rows = map (λ row. line_of (told_in settings (Some queue) row)) rows
+-- a line for each row of that queue, if the queue is there
+abbrev pub lines_by : Settings → Option QueueRow → List RequestRow → List Line
+lines_by settings queue rows = map (λ row. line_of (told_in settings queue row)) rows
 
 -- a line for each row that is late, in the order of the rows
 abbrev pub late_lines_by : ℕ → Settings → List QueueRow → List RequestRow → List LateLine

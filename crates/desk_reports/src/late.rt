@@ -12,7 +12,7 @@ use std::alloc::{AllocError, Global};
 /// A line for each row that was due before the moment, in the order of the due moments, and of the
 /// numbers where those are the same. The queues stand in the order of their names, and the rows in
 /// that of their numbers. `AllocError` where memory is refused.
-pub fn late_lines(
+pub(crate) fn late_lines(
     alloc: Global,
     at: u32,
     settings: &Settings,

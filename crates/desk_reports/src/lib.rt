@@ -4,12 +4,10 @@
 #![tactic(auto)]
 
 mod late;
-mod listed;
+mod lines;
 mod load;
 mod queues;
+mod reports;
 mod showing;
 
-pub use late::late_lines;
-pub use listed::lines;
-pub use load::loads;
-pub use showing::shown;
+pub use reports::{list, overdue, workload};

@@ -28,7 +28,7 @@ type Owners = BTreeMap<Option<Text>, Counts>;
 /// What each owner has of the rows that aren't inactive, and how much of it was due before the
 /// moment: nobody first, then in the order of the names. The queues stand in the order of their
 /// names. `AllocError` where memory is refused.
-pub fn loads(
+pub(crate) fn loads(
     alloc: Global,
     at: u32,
     settings: &Settings,

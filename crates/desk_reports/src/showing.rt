@@ -9,7 +9,7 @@ use settings_core::Settings;
 
 /// Those of the rows that a person may show. The watches are the person's own, in the order of
 /// their requests; the watches of others don't count.
-pub fn shown(
+pub(crate) fn shown(
     settings: &Settings,
     person: &str,
     watches: &[Watcher],
