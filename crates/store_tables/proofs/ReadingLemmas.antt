@@ -26,11 +26,12 @@ use Rattle.store_tables.specs.Queries.{named_test, number_order}
 use Rattle.store_tables.specs.Queries.{numbered_test, queue_named_text, queue_shown}
 use Rattle.store_tables.specs.Queries.{request_shown_terms, request_test, request_numbered_text}
 use Rattle.store_tables.specs.Queries.{filed_test, requests_of_text}
+use Rattle.store_tables.specs.Queries.{person_test, standing_order, watches_of_text}
 use Rattle.store_tables.specs.Queries.{requests_text, role_order, target_order}
 use Rattle.store_tables.specs.Queries.{three_order, three_shown, watchers_of_text}
 use Rattle.store_tables.specs.Queries.{watchers_text}
 use Rattle.store_tables.specs.Picked.{passes, shows, Picks, Shows, Lists, ShowsGreatest}
-use Rattle.store_tables.specs.Orders.{by_name, by_id, by_role, by_watcher, by_target}
+use Rattle.store_tables.specs.Orders.{by_name, by_id, by_role, by_standing, by_watcher, by_target}
 use Rattle.store_tables.specs.Orders.{by_link, by_number, by_entry}
 use Rattle.store_tables.specs.Contents.{Contents}
 use Rattle.store_tables.specs.Calls.{FailsIn}
@@ -40,14 +41,15 @@ use Rattle.store_tables.specs.declared.fault.StoreFault.TheVariants.{Mismatch, W
 use Rattle.store_tables.specs.Spelling.{queue_columns, request_columns, request_shown}
 use Rattle.store_tables.specs.Spelling.{watcher_columns, link_columns, entry_columns, count_value}
 use Rattle.store_tables.specs.Selection.{is_named, is_numbered, watches, links_from}
-use Rattle.store_tables.specs.Selection.{is_filed_in, tells_of}
+use Rattle.store_tables.specs.Selection.{is_filed_in, is_of_person, tells_of}
 use Rattle.desk_model.specs.Links.{kind_number}
 use Rattle.store_tables.proofs.TestLemmas.{name_order_is, named, numbered}
 use Rattle.store_tables.proofs.TestLemmas.{watched, told, from_source}
 use Rattle.store_tables.proofs.TestLemmas.{order_numbers, id_order_is, number_order_is}
 use Rattle.store_tables.proofs.TestLemmas.{entry_order_is, link_order_is, watcher_order_is}
 use Rattle.store_tables.proofs.TestLemmas.{filed_in, filed_order_is}
-use Rattle.store_tables.proofs.TestLemmas.{role_order_is, target_order_is}
+use Rattle.store_tables.proofs.TestLemmas.{of_person, role_order_is, standing_order_is}
+use Rattle.store_tables.proofs.TestLemmas.{target_order_is}
 use Rattle.store_tables.proofs.PickedLemmas.{picked_by, last_by}
 use Rattle.store_tables.proofs.ReadLemmas.{shows_values, lists_values}
 use Rattle.store_tables.proofs.LastLemmas.{shows_greatest, mapped_has, has_permuted}
@@ -56,6 +58,7 @@ use Rattle.store_tables.proofs.Statements.{queues_is, entries_is, entries_of_is,
 use Rattle.store_tables.proofs.Statements.{last_number_is, links_from_is, links_is}
 use Rattle.store_tables.proofs.Statements.{queue_named_is, request_numbered_is, requests_is}
 use Rattle.store_tables.proofs.Statements.{requests_of_is, watchers_is, watchers_of_is}
+use Rattle.store_tables.proofs.Statements.{watches_of_is}
 use Rattle.store_tables.proofs.Meaning.{Selects}
 
 pub if_err : {T E : Type 0} {P Q : E → Type 0} (r : Result T E) → ((e : E) → P e → Q e) → IfErr r P
@@ -170,6 +173,18 @@ lists_watchers_of d id old new clean stand c rows h =
     lists_values (filed watcher_columns) value_of watcher_columns 4 request_test three_shown
     role_order (count_value id ∷ []) d.watchers (old.now.trees 4) rows (watches id) (watched id)
     (λ k. refl) t.watchers p by_role (role_order_is id)
+
+pub lists_watches_of : (d : Contents) (person : List ℕ) (old new : State)
+    → (HasCleanDisk new → HasCleanDisk old) → Stand d old → HasCleanDisk new → (rows : List Row)
+    → Shown watches_of_text (Words person ∷ []) old new rows
+    → Lists by_standing watcher_columns (filter (is_of_person person) d.watchers) rows
+lists_watches_of d person old new clean stand c rows h =
+    let t = shown_tables d watches_of_text (Words person ∷ []) old new rows clean stand c h in
+    let p = picked_by watches_of_text (Words person ∷ []) old new t.schema 4 person_test three_shown
+    standing_order watches_of_is rows h in
+    lists_values (filed watcher_columns) value_of watcher_columns 4 person_test three_shown
+    standing_order (Words person ∷ []) d.watchers (old.now.trees 4) rows (is_of_person person)
+    (of_person person) (λ k. refl) t.watchers p by_standing (standing_order_is person)
 
 pub lists_watchers : (d : Contents) (old new : State) → (HasCleanDisk new → HasCleanDisk old)
     → Stand d old → HasCleanDisk new → (rows : List Row) → Shown watchers_text [] old new rows

@@ -23,6 +23,7 @@ use Rattle.store_tables.specs.Queries.{requests_text, role_order, source_test, t
 use Rattle.store_tables.specs.Queries.{target_test}
 use Rattle.store_tables.specs.Queries.{three_order, three_test, three_shown}
 use Rattle.store_tables.specs.Queries.{filed_test, requests_of_text}
+use Rattle.store_tables.specs.Queries.{person_test, standing_order, watches_of_text}
 use Rattle.store_tables.specs.Queries.{version_query, version_text, watchers_of_text, watchers_text}
 use Rattle.sqlite.specs.Listing.{understood}
 use Rattle.store_tables.proofs.Meaning.{Changes, Selects}
@@ -44,6 +45,11 @@ pub watchers_of_is : Selects watchers_of_text (reads 4 request_test three_shown 
     (codes "request" ∷ codes "role" ∷ codes "person" ∷ [])
 unfolding understood everything
 watchers_of_is = record { is = refl; plain = (refl, refl); unlisted = refl }
+
+pub watches_of_is : Selects watches_of_text (reads 4 person_test three_shown standing_order)
+    (codes "request" ∷ codes "role" ∷ codes "person" ∷ [])
+unfolding understood everything
+watches_of_is = record { is = refl; plain = (refl, refl); unlisted = refl }
 
 pub watchers_is : Selects watchers_text (reads 4 [] three_shown three_order)
     (codes "request" ∷ codes "role" ∷ codes "person" ∷ [])

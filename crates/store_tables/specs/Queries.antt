@@ -174,6 +174,16 @@ watchers_text = codes "SELECT request, role, person FROM watcher ORDER BY reques
 abbrev pub three_order : List Term
 three_order = col 1 1 ∷ col 1 2 ∷ col 1 3 ∷ []
 
+abbrev pub watches_of_text : List ℕ
+watches_of_text =
+    codes "SELECT request, role, person FROM watcher WHERE person = ?1 ORDER BY request, role"
+
+abbrev pub person_test : List Term
+person_test = eq (col 1 3) (col 0 0) ∷ []
+
+abbrev pub standing_order : List Term
+standing_order = col 1 1 ∷ col 1 2 ∷ []
+
 abbrev pub add_watcher_text : List ℕ
 add_watcher_text = codes "INSERT INTO watcher (request, role, person) VALUES (?1, ?2, ?3)"
 

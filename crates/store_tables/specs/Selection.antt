@@ -2,6 +2,7 @@
 use Rattle.std.specs.Prelude.{ℕ, Bool, List, ◌&&◌, ◌==◌}
 use Rattle.std.specs.Ordering.{is_eq, nat_cmp}
 use Rattle.std.specs.Cmp.Lexicographic.{slice_cmp}
+use Rattle.std.specs.Str.{bytes_eq}
 use Rattle.desk_model.specs.Links.{kind_number}
 use Rattle.desk_model.specs.declared.rows.Entry.{Entry}
 use Rattle.desk_model.specs.declared.rows.LinkKind.{LinkKind}
@@ -29,6 +30,10 @@ is_filed_in name r = same_text r.queue name
 -- a watcher of that request
 abbrev pub watches : ℕ → Watcher → Bool
 watches id w = w.id == id
+
+-- a watcher who is that person
+abbrev pub is_of_person : List ℕ → Watcher → Bool
+is_of_person person w = bytes_eq w.person person
 
 abbrev pub is_watcher : Watcher → Watcher → Bool
 is_watcher v w =

@@ -12,3 +12,4 @@ pub mod queues;
 pub mod requests_by_key;
 pub mod version;
 pub mod watchers_by_key;
+pub mod watches_by_person;
