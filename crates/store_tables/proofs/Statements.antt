@@ -4,6 +4,7 @@ use Rattle.sqlite_tied.specs.Compute.{everything}
 use Rattle.sqlite.specs.Term.{col}
 use Rattle.sqlite.specs.Source.TheVariants.{Values}
 use Rattle.sqlite.specs.Command.TheVariants.{Insert, Update, Delete}
+use Rattle.store_tables.specs.Queries.{actor_shown, actors_text}
 use Rattle.store_tables.specs.Queries.{add_version_text, add_version_terms}
 use Rattle.store_tables.specs.Queries.{add_entry_terms, add_entry_text, add_link_text}
 use Rattle.store_tables.specs.Queries.{add_queue_terms, add_queue_text, add_request_terms}
@@ -161,3 +162,7 @@ pub requests_of_is : Selects requests_of_text (reads 3 filed_test request_shown_
     ∷ codes "created" ∷ codes "opened" ∷ codes "turn" ∷ codes "since" ∷ [])
 unfolding understood everything
 requests_of_is = record { is = refl; plain = (refl, refl); unlisted = refl }
+
+pub actors_is : Selects actors_text (reads 8 [] actor_shown []) (codes "actor" ∷ [])
+unfolding understood everything
+actors_is = record { is = refl; plain = (refl, refl); unlisted = refl }

@@ -240,6 +240,12 @@ entry_shown_terms = col 1 1 ∷ col 1 2 ∷ col 1 3 ∷ col 1 4 ∷ col 1 5 ∷ 
 abbrev pub number_order : List Term
 number_order = col 1 2 ∷ []
 
+abbrev pub actors_text : List ℕ
+actors_text = codes "SELECT actor FROM entry"
+
+abbrev pub actor_shown : List Term
+actor_shown = col 1 4 ∷ []
+
 abbrev pub entries_text : List ℕ
 entries_text =
     codes "SELECT request, number, moment, actor, kind, head, body FROM entry ORDER BY request, "

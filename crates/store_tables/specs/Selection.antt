@@ -51,6 +51,10 @@ is_link k l =
 abbrev pub tells_of : ℕ → Entry → Bool
 tells_of id e = e.id == id
 
+-- who made the entry
+abbrev pub actor_of : Entry → List ℕ
+actor_of e = e.actor
+
 -- the link leads from the request with that number
 abbrev pub starts_at : ℕ → LinkRow → Bool
 starts_at id link = link.source == id

@@ -16,7 +16,7 @@ returns-clause-told g c desk is stand clean =
     let after_requests = stands c.requests.ensures.kept d stand in
     let after_histories = stands c.knows_histories.ensures.kept d after_requests in
     let listed = c.in_ok-requests.ensures.listed desk is stand rows_clean in
-    known_of_rows c.args.settings.now desk _ _ _ _ is refl
+    known_of_rows c.args.settings.now desk _ _ _ _ refl
     (c.as_slice.ensures.value ∙ listed) refl
     (c.in_ok-lists.ensures.told desk is after_histories clean
     ∙ ap (λ rows. knows_rows c.args.settings.now desk.queues rows (watchers desk))
