@@ -18,10 +18,7 @@ use sqlite::{Alter, Connection, Row};
 use std::alloc::Global;
 
 /// The rows of `watches_of`.
-fn rows_watches_of<S: Alter>(
-    conn: &mut Connection<S>,
-    person: &str,
-) -> Result<Vec<Row>, StoreFault>
+fn rows_watches_of<S: Alter>(conn: &mut Connection<S>, person: &str) -> Result<Vec<Row>, StoreFault>
     requires { conn.old.in_transaction ≡ false }
     ensures idle { conn.new.in_transaction ≡ false }
     ensures shown { Answers (λ c rows.
