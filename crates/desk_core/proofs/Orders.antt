@@ -292,7 +292,7 @@ lines_part a b lower =
 
 -- the number of a line is that of the request it is made of
 line_number : (at : ℕ) (t : Told) (due : Option ℕ)
-    → IfSome (option_and_then (line_if_late at t.row) due) (λ l. l.id ≡ t.row.id)
+    → IfSome (option_and_then (line_if_late at t.row) due) (λ (l : LateLine). l.id ≡ t.row.id)
 line_number at t None = tt
 line_number at t (Some due) =
     elim (nat_lt due at) as (λ b. IfSome (cond b (Some (record {
@@ -301,7 +301,7 @@ line_number at t (Some due) =
       owner = t.row.owner;
       due = due;
       late = at - due;
-    })) None) (λ l. l.id ≡ t.row.id)) [
+    })) None) (λ (l : LateLine). l.id ≡ t.row.id)) [
       | true ↦ refl
       | false ↦ tt
     ]

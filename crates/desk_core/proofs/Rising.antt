@@ -136,8 +136,8 @@ first_keyed cmp y (z ∷ zs) x above first =
 pub keyed_rises : {K : Type 0} (cmp : K → K → Ordering) → IsTotalOrder cmp → (keys : List K)
     (key : K) → keys_rise cmp keys ≡ true → keys_rise cmp (insert_key cmp keys key) ≡ true
 keyed_rises cmp total [] x rises = refl
-keyed_rises cmp total (y ∷ ys) x rises =
-    let lower = λ a b. is_lt (cmp a b) in
+keyed_rises {K} cmp total (y ∷ ys) x rises =
+    let lower : K → K → Bool = λ a b. is_lt (cmp a b) in
     let parts = and_parts (comes_first lower y ys) (keys_rise cmp ys) rises in
     elim (cmp x y) as (λ o. cmp x y ≡ o → cmp y x ≡ ordering_reverse o
     → keys_rise cmp (match_ordering o (x ∷ y ∷ ys) (y ∷ ys) (y ∷ insert_key cmp ys x)) ≡ true) [
