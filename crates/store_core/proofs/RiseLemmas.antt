@@ -255,7 +255,7 @@ their_watches person (w ∷ ws) =
     let others = filter (is_of_person person) ws in
     elim (is_of_person person w) as (λ b. is_of_person person w ≡ b
     → AllByRecursion P (cond b (w ∷ others) others)) [
-      | true ↦ λ is. (same_text w.person person is, their_watches person ws)
+      | true ↦ λ is. (same_text w.person person (sym is), their_watches person ws)
       | false ↦ λ is. their_watches person ws
     ] refl
 
