@@ -1,7 +1,5 @@
-use Rattle.std.proofs.Common.{◌∙◌, ap, ◌≡◌, Err, rules}
-use Rattle.std.specs.List.{list_all}
+use Rattle.std.proofs.Common.{◌∙◌, ◌≡◌, Err, rules}
 use Rattle.std.specs.Prelude.{⊤}
-use Rattle.settings_core.specs.Settings.{knows}
 use Rattle.store_tables.proofs.RefusalLemmas.{actors_refuse}
 use Rattle.store_core.specs.Seen.{state_of}
 use Rattle.service_core.proofs.KnownLemmas.{known_of_actors}
@@ -10,9 +8,9 @@ use Rattle.service_core.proofs.attach.knows_histories.Goals as goal
 pub returns-clause-told : goal.returns-clause-told
 returns-clause-told g c desk is stand clean =
     let settings = c.args.settings.now in
-    c.knows_actors.ensures
-    ∙ ap (list_all (knows settings)) c.as_slice.ensures.value
-    ∙ known_of_actors settings desk _ (c.in_ok-actors.ensures.listed desk is stand clean)
+    (rw c.as_slice.ensures.value at c.knows_actors.ensures)
+    ∙ known_of_actors settings desk c.in_ok-actors.actors.items
+    (c.in_ok-actors.ensures.listed desk is stand clean)
 
 pub returns-in_err-actors-clause-fault : goal.returns-in_err-actors-clause-fault
 returns-in_err-actors-clause-fault g c =
