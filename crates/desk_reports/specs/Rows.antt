@@ -1,6 +1,7 @@
 -- What the reports tell of rows.
-use Rattle.std.specs.Prelude.{◌≡◌, ℕ, ◌+◌, Bool, true, nat_lt, if◌then◌else◌, List, filter}
-use Rattle.std.specs.Prelude.{filter_map, find, map, Option, Some}
+use Rattle.std.specs.Prelude.{◌≡◌, ℕ, ◌+◌, ◌-◌, ◌^◌, min, Bool, true, nat_lt, if◌then◌else◌}
+use Rattle.std.specs.Prelude.{List, filter, filter_map, find, map, Option, Some, None}
+use Rattle.std.specs.Prelude.{option_and_then}
 use Rattle.std.specs.List.Sorted.{IsNonDecreasingBy}
 use Rattle.std.specs.Str.{bytes_eq}
 use Rattle.settings_core.specs.declared.settings.Settings.{Settings}
@@ -30,6 +31,11 @@ WatchesRise watches = IsNonDecreasingBy (λ w. w.id) watches
 -- the queue of that name, if it is among these
 abbrev pub queue_among : List QueueRow → List ℕ → Option QueueRow
 queue_among queues name = find (λ q. bytes_eq q.name name) queues
+
+-- the queue, if it has that name
+abbrev pub named_only : List ℕ → Option QueueRow → Option QueueRow
+named_only name queue =
+    option_and_then (λ q. if bytes_eq q.name name then Some q else None) queue
 
 -- a row as the reports tell of it, where these are the queues
 abbrev pub told_among : Settings → List QueueRow → RequestRow → Told
@@ -81,12 +87,15 @@ with_counts at requests owner = (owner, counts_of at requests owner)
 abbrev pub entries_of : ℕ → List Told → List (Option (List ℕ) × Counts)
 entries_of at requests = map (with_counts at requests) (owners requests)
 
+abbrev pub load_in : Option (List ℕ) × Counts → Load
+load_in entry = record { owner = entry.0; live = entry.1.live; overdue = entry.1.overdue }
+
 -- one request more, late or not; a count stays at the greatest number that it can hold
 abbrev pub counted : Bool → Counts → Counts
 counted is_late counts =
     record {
-      live = nat_min (counts.live + 1) 4294967295;
-      overdue = if is_late then nat_min (counts.overdue + 1) 4294967295 else counts.overdue;
+      live = min (counts.live + 1) (2 ^ 32 - 1);
+      overdue = if is_late then min (counts.overdue + 1) (2 ^ 32 - 1) else counts.overdue;
     }
 
 abbrev pub no_counts : Counts

@@ -7,9 +7,9 @@ mod late;
 mod listed;
 mod load;
 mod queues;
-mod shown;
+mod showing;
 
 pub use late::late_lines;
 pub use listed::lines;
 pub use load::loads;
-pub use shown::shown;
+pub use showing::shown;

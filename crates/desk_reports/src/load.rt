@@ -1,12 +1,11 @@
 //! What each owner has to do.
-ghost use Rattle.std.specs.Prelude.{◌≡◌, ◌<◌, ◌^◌, not, length, IfOk, OnOk, unwrap_or};
+ghost use Rattle.std.specs.Prelude.{◌≡◌, ◌<◌, ◌^◌, length, map, IfOk, OnOk, unwrap_or};
 ghost use Rattle.std.specs.BTreeMap.{get, insert_entry};
 ghost use Rattle.std.specs.Option.{option_map};
-ghost use Rattle.desk_model.specs.Lifecycles as lifecycles;
 ghost use Rattle.desk_model.specs.Readings.Workload.{owner_order};
 ghost use Rattle.desk_model.specs.Told as told;
 ghost use Rattle.desk_reports.specs.Rows.{QueuesRise, counted, entries_of, live_among, loads_by};
-ghost use Rattle.desk_reports.specs.Rows.{no_counts};
+ghost use Rattle.desk_reports.specs.Rows.{load_in, no_counts};
 
 use crate::queues::{due_in, queue_named};
 use desk_model::lifecycles::is_inactive;
@@ -40,6 +39,13 @@ pub fn loads(
         → IfOk result (λ loads. loads.items ≡ loads_by at settings.now queues.now rows.now) }
 {
     let owners = owners_of(alloc, at, settings, queues, rows)?;
+    told(alloc, owners)
+}
+
+/// What each owner has, as it is told.
+fn told(alloc: Global, owners: Owners) -> Result<Vec<Load>, AllocError>
+    ensures { IfOk result (λ loads. loads.items ≡ map load_in owners.entries) }
+{
     owners
         .into_iter()
         .map(|(owner, counts)| load(owner, counts))
@@ -48,7 +54,7 @@ pub fn loads(
 
 /// An owner's counts as they are told.
 fn load(owner: Option<Text>, counts: Counts) -> Load
-    ensures { result ≡ record { owner = owner; live = counts.live; overdue = counts.overdue } }
+    ensures { result ≡ load_in (owner, counts) }
 {
     Load {
         owner,
@@ -114,7 +120,7 @@ impl Counts {
 
 /// Whether the status of a request of this queue isn't inactive.
 fn is_live(settings: &Settings, queue: Option<&QueueRow>, row: &RequestRow) -> bool
-    ensures { result ≡ (told.told_in settings.now (option_map (λ q. q.now) queue) row.now).is_live }
+    ensures { result ≡ (told.told_in settings.now (option_map (λ q. q.now) queue.entry) row.now).is_live }
 {
     match queue {
         Some(queue) => !is_inactive(
@@ -128,7 +134,7 @@ fn is_live(settings: &Settings, queue: Option<&QueueRow>, row: &RequestRow) -> b
 /// Whether a request of this queue was due before the moment.
 fn is_late(at: u32, settings: &Settings, queue: Option<&QueueRow>, row: &RequestRow) -> bool
     ensures { result
-        ≡ told.is_late at (told.told_in settings.now (option_map (λ q. q.now) queue) row.now) }
+        ≡ told.is_late at (told.told_in settings.now (option_map (λ q. q.now) queue.entry) row.now) }
 {
     match due_in(settings, queue, row) {
         Some(due) => due.get() < at,
