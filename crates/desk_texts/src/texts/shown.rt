@@ -1,6 +1,7 @@
 ghost use Rattle.std.specs.Prelude.{◌≡◌, ◌++◌, IfOk, OnOk, codes, unwrap_or, string_bytes};
 ghost use Rattle.std.specs.List.{flat_map};
 ghost use Rattle.desk_texts.specs.Texts as text;
+ghost use Rattle.desk_texts.specs.Words.{minute_or_dash};
 
 use desk_model::{Links, RequestRow, Shown};
 use hours_core::{Minute, minute_text};
@@ -117,7 +118,7 @@ fn put_line(out: &mut String, label: &str, value: &str) -> Result<(), AllocError
 
 fn put_minute(out: &mut String, label: &str, minute: Option<Minute>) -> Result<(), AllocError>
     ensures { OnOk result (string_bytes out.new
-        ≡ string_bytes out.old ++ text.line label.now (text.minute_or_dash minute)) }
+        ≡ string_bytes out.old ++ text.line label.now (minute_or_dash minute)) }
 {
     let Some(minute) = minute else {
         return put_line(out, label, "-");
