@@ -15,7 +15,7 @@ columns id queue owner due late =
 abbrev pub header : List ℕ
 header = columns (codes "id") (codes "queue") (codes "owner") (codes "due") (codes "late")
 
-abbrev pub line_of_request : LateLine → List ℕ
+unfoldable pub line_of_request : LateLine → List ℕ
 line_of_request request =
     columns (decimal request.id) request.queue (or_nobody request.owner)
     (text_of_minute request.due) (decimal request.late)

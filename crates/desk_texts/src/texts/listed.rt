@@ -3,7 +3,7 @@ ghost use Rattle.std.specs.List.{flat_map};
 ghost use Rattle.desk_texts.specs.Texts.Listed as text;
 ghost use Rattle.desk_texts.specs.Words.{or_nobody};
 
-use crate::texts::minute::shown;
+use crate::texts::minute::as_text;
 use crate::texts::shown::name_or;
 use desk_model::Line;
 use hours_core::minute_text;
@@ -36,7 +36,7 @@ fn put_request(out: &mut String, request: &Line) -> Result<(), AllocError>
         ≡ string_bytes out.old ++ text.line_of_request request.now) }
 {
     match request.due {
-        Some(due) => put_due(out, request, shown(&minute_text(due))),
+        Some(due) => put_due(out, request, as_text(&minute_text(due))),
         None => put_due(out, request, "-"),
     }
 }

@@ -3,13 +3,13 @@ ghost use Rattle.hours_core.specs.Date.{text_of_minute};
 
 use std::str;
 
-/// The text of a minute, as a text.
-pub(crate) fn shown(text: &[u8; 16]) -> &str
-    requires minute { (minute : ℕ) × (text.now ≡ text_of_minute minute) }
-    ensures { result.now ≡ text.now }
+/// The bytes of a minute, which are a text.
+pub(crate) fn as_text(bytes: &[u8; 16]) -> &str
+    requires minute { (minute : ℕ) × (bytes.now ≡ text_of_minute minute) }
+    ensures { result.now ≡ bytes.now }
 {
-    match str::from_utf8(text) {
-        Ok(shown) => shown,
+    match str::from_utf8(bytes) {
+        Ok(text) => text,
         Err(_) => unreachable!(),
     }
 }

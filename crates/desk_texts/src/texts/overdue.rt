@@ -2,7 +2,7 @@ ghost use Rattle.std.specs.Prelude.{◌≡◌, ◌++◌, IfOk, OnOk, decimal, st
 ghost use Rattle.std.specs.List.{flat_map};
 ghost use Rattle.desk_texts.specs.Texts.Overdue as text;
 
-use crate::texts::minute::shown;
+use crate::texts::minute::as_text;
 use crate::texts::shown::name_or;
 use desk_model::LateLine;
 use hours_core::minute_text;
@@ -30,6 +30,7 @@ fn put_requests(out: &mut String, requests: &[LateLine]) -> Result<(), AllocErro
     Ok(())
 }
 
+#[tactic(auto, unfolding(crate::specs::Texts::Overdue::line_of_request))]
 fn put_request(out: &mut String, request: &LateLine) -> Result<(), AllocError>
     ensures { OnOk result (string_bytes out.new
         ≡ string_bytes out.old ++ text.line_of_request request.now) }
@@ -44,7 +45,7 @@ fn put_request(out: &mut String, request: &LateLine) -> Result<(), AllocError>
         id.format(request.id),
         queue,
         owner,
-        shown(&due),
+        as_text(&due),
         late.format(request.late),
     )
 }
