@@ -37,7 +37,7 @@ made s ask desk is =
       due =
           due_unless s desk (guard s ask.at ask.caller ask.command desk)
           (answer_of s ask.at ask.caller ask.command desk)
-          (due_law s ask.at ask.caller ask.command desk);
+          (due_law s ask.at ask.caller ask.command desk is);
       owner = owner_law s ask.at ask.caller ask.command desk;
       history = history_law s ask.at ask.caller ask.command desk;
       view = λ available. view_law s ask.at ask.caller ask.command desk is;

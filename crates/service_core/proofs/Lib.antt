@@ -3,5 +3,6 @@ pub mod Laws
 pub mod Reported
 pub mod Stepping
 pub mod Running
+pub mod RunsAlike
 pub mod Linked
 pub mod Told

@@ -28,12 +28,14 @@ use Rattle.desk_model.specs.Desk.{Desk, Request, queue_at}
 use Rattle.desk_model.specs.Facts.{seen_request}
 use Rattle.desk_model.specs.IsDesk.{IsDesk, are_numbered, is_rising}
 use Rattle.desk_model.specs.Readings.Listing as listing
-use Rattle.desk_model.specs.Readings.Overdue.{late_line}
+use Rattle.desk_model.specs.Readings.Overdue.{in_due_order, late_line}
+use Rattle.desk_model.specs.Readings.Workload.{loads}
 use Rattle.desk_model.specs.Rights.{may_show}
 use Rattle.desk_model.specs.Told.{Told, told, told_in, told_on}
 use Rattle.desk_model.specs.Watchers.{is_role, is_watching, may_show_by, watcher, watchers_of}
 use Rattle.desk_model.specs.declared.answer.LateLine.{LateLine}
 use Rattle.desk_model.specs.declared.answer.Line.{Line}
+use Rattle.desk_model.specs.declared.answer.Load.{Load}
 use Rattle.desk_model.specs.declared.rows.QueueRow.{QueueRow}
 use Rattle.desk_model.specs.declared.rows.RequestRow.{RequestRow}
 use Rattle.desk_model.specs.declared.rows.Watcher.{Watcher}
@@ -41,7 +43,8 @@ use Rattle.desk_model.specs.declared.rows.WatchRole.{WatchRole}
 use Rattle.desk_core.proofs.EachRequest.{found_each}
 use Rattle.desk_core.proofs.Rising.{by, filtered_rises, mapped_rises, numbered_rise, numbers_go_on}
 use Rattle.desk_core.proofs.Roles.{roles_law, watchers_tell}
-use Rattle.desk_reports.specs.Rows.{NumbersRise, late_lines_by, lines_by, shown_by, told_among}
+use Rattle.desk_reports.specs.Rows.{NumbersRise, QueuesRise, WatchesRise, late_lines_by, lines_by}
+use Rattle.desk_reports.specs.Rows.{loads_by, shown_by, told_among}
 use Rattle.store_tables.specs.Contents.{request_rows, watchers}
 use Rattle.store_tables.specs.Orders.{by_watcher}
 use Rattle.store_tables.specs.Selection.{is_filed_in, is_of_person, same_text}
@@ -68,6 +71,7 @@ any_kept {X} test keep keeps (x ∷ xs) =
     dropped : (b : Bool) → (b ≡ true → false ≡ true) → b ≡ false
     dropped true h = let no : false ≡ true = h refl in cc
     dropped false h = refl
+
     by : (k : Bool) → keep x ≡ k → list_any test (filter keep xs) ≡ list_any test xs
         → list_any test (cond k (x ∷ filter keep xs) (filter keep xs))
         ≡ (test x || list_any test xs)
@@ -316,3 +320,66 @@ watches_in_order person desk is =
     (watches_on desk person)
     (ascending-filter (λ a b. by_watcher a b ≡ Less) (is_of_person person) (watchers desk)
     (watchers_rise desk is)))
+
+-- ---- what is made of lists that are the desk's
+
+pub list_of : (s : Settings) (person queue : List ℕ) (desk : Desk) → IsDesk desk
+    → (watches : List Watcher) (at : Option QueueRow) (rows : List RequestRow) (lines : List Line)
+    → watches ≡ watches_on desk person → at ≡ queue_at desk queue
+    → rows ≡ filter (is_filed_in queue) (request_rows desk)
+    → (WatchesRise watches → lines ≡ lines_by s at (shown_by s person watches rows))
+    → lines ≡ listing.lines_of queue (told s person desk)
+list_of s person queue desk is watches at rows lines same_watches same_queue same_rows made =
+    let one = subst (λ (ws : List Watcher). WatchesRise ws
+    → lines ≡ lines_by s at (shown_by s person ws rows)) same_watches made in
+    one (watches_in_order person desk is)
+    ∙ ap (λ q. lines_by s q (shown_by s person (watches_on desk person) rows)) same_queue
+    ∙ ap (λ rs. lines_by s (queue_at desk queue) (shown_by s person (watches_on desk person) rs))
+    same_rows
+    ∙ list_told s person queue desk is
+
+-- the lists that the late requests and the workload are told of
+pub record AreOf (desk : Desk) (person : List ℕ) (watches : List Watcher) (queues : List QueueRow)
+    (rows : List RequestRow) : Type 0 where
+  pub watches : watches ≡ watches_on desk person
+  pub queues : queues ≡ desk.queues
+  pub rows : rows ≡ request_rows desk
+
+pub late_of : (at : ℕ) (s : Settings) (person : List ℕ) (desk : Desk) → IsDesk desk
+    → (watches : List Watcher) (queues : List QueueRow) (rows : List RequestRow)
+    (lines : List LateLine) → AreOf desk person watches queues rows
+    → (WatchesRise watches → QueuesRise queues → NumbersRise (shown_by s person watches rows)
+    → lines ≡ in_due_order (late_lines_by at s queues (shown_by s person watches rows)))
+    → lines ≡ in_due_order (filter_map (late_line at) (told s person desk))
+late_of at s person desk is watches queues rows lines same made =
+    let W = watches_on desk person in
+    let one = subst (λ (ws : List Watcher). WatchesRise ws → QueuesRise queues
+    → NumbersRise (shown_by s person ws rows)
+    → lines ≡ in_due_order (late_lines_by at s queues (shown_by s person ws rows)))
+    same.watches made in
+    let two = subst (λ (qs : List QueueRow). WatchesRise W → QueuesRise qs
+    → NumbersRise (shown_by s person W rows)
+    → lines ≡ in_due_order (late_lines_by at s qs (shown_by s person W rows))) same.queues one in
+    let three = subst (λ (rs : List RequestRow). WatchesRise W → QueuesRise desk.queues
+    → NumbersRise (shown_by s person W rs)
+    → lines ≡ in_due_order (late_lines_by at s desk.queues (shown_by s person W rs))) same.rows two
+    in
+    three (watches_in_order person desk is) is.queues (shown_rise s person desk is)
+    ∙ ap in_due_order (late_told at s person desk is)
+
+pub loads_of : (at : ℕ) (s : Settings) (person : List ℕ) (desk : Desk) → IsDesk desk
+    → (watches : List Watcher) (queues : List QueueRow) (rows : List RequestRow)
+    (given : List Load) → AreOf desk person watches queues rows
+    → (WatchesRise watches → QueuesRise queues
+    → given ≡ loads_by at s queues (shown_by s person watches rows))
+    → given ≡ loads at (filter (λ t. t.is_live) (told s person desk))
+loads_of at s person desk is watches queues rows given same made =
+    let W = watches_on desk person in
+    let one = subst (λ (ws : List Watcher). WatchesRise ws → QueuesRise queues
+    → given ≡ loads_by at s queues (shown_by s person ws rows)) same.watches made in
+    let two = subst (λ (qs : List QueueRow). WatchesRise W → QueuesRise qs
+    → given ≡ loads_by at s qs (shown_by s person W rows)) same.queues one in
+    let three = subst (λ (rs : List RequestRow). WatchesRise W → QueuesRise desk.queues
+    → given ≡ loads_by at s desk.queues (shown_by s person W rs)) same.rows two in
+    three (watches_in_order person desk is) is.queues
+    ∙ ap (λ ts. loads at (filter (λ t. t.is_live) ts)) (rows_told s person desk is)

@@ -1,3 +1,4 @@
+pub mod Alike
 pub mod Attaching
 pub mod Decided
 pub mod Fault

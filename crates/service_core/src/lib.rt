@@ -7,6 +7,7 @@ pub mod desk;
 mod execute;
 pub mod fault;
 mod known;
+pub mod laws;
 mod links;
 mod reading;
 mod reports;

@@ -34,8 +34,7 @@ pub(crate) fn list<S: Backend>(
     let watches = or_unavailable(store.watches_of(alloc, caller))?;
     let rows = or_unavailable(store.requests_of(alloc, queue))?;
     let in_queue = facts.queue.as_ref();
-    let lines =
-        desk_reports::list(alloc, settings, caller, watches.as_slice(), in_queue, rows)?;
+    let lines = desk_reports::list(alloc, settings, caller, watches.as_slice(), in_queue, rows)?;
     Ok(Answer::Listed(lines))
 }
 

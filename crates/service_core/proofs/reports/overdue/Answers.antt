@@ -1,4 +1,32 @@
+-- what is told of the rows is what is told of the desk
+use Rattle.std.proofs.Common.{◌∙◌, ap}
+use Rattle.std.proofs.lemmas.Result.{IfOk-at_ok}
+use Rattle.desk_model.specs.declared.answer.Answer.TheVariants.{Late}
+use Rattle.store_tables.specs.Contents.{contents_of}
+use Rattle.store_tables.proofs.Spared.{stands}
+use Rattle.service_core.proofs.Reported.{late_of}
 use Rattle.service_core.proofs.reports.overdue.Goals as goal
 
 pub returns-clause-told : goal.returns-clause-told
-returns-clause-told g c facts desk is stand clean seen = ?
+returns-clause-told g c facts desk is stand clean seen =
+    let first = stands c.watches_of.ensures.kept (contents_of desk) stand in
+    let second = stands c.queues.ensures.kept (contents_of desk) first in
+    let clean-second = c.requests.ensures.kept.clean clean in
+    let clean-first = c.queues.ensures.kept.clean clean-second in
+    ap Late (late_of c.args.at c.args.settings.now c.args.caller.now desk is
+    c.as_slice-watches.result.now c.as_slice-queues.result.now c.in_ok-rows.rows.items
+    c.in_ok-lines.lines
+    (record {
+      watches =
+          c.as_slice-watches.ensures.value
+          ∙ IfOk-at_ok _ c.in_ok-watches.ensures.ok
+          (c.watches_of.ensures.listed desk is stand clean-first);
+      queues =
+          c.as_slice-queues.ensures.value
+          ∙ IfOk-at_ok _ c.in_ok-queues.ensures.ok
+          (c.queues.ensures.listed desk is first clean-second);
+      rows =
+          IfOk-at_ok _ c.in_ok-rows.ensures.ok
+          (c.requests.ensures.listed desk is second clean);
+    })
+    c.in_ok-lines.ensures)

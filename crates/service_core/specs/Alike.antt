@@ -1,0 +1,32 @@
+-- What a caller may not see changes no answer to that caller's reading commands.
+use Rattle.std.specs.Prelude.{◌≡◌, ◌≢◌, ℕ, List, All, Err}
+use Rattle.sqlite.specs.State.{State, HasCleanDisk}
+use Rattle.settings_core.specs.declared.settings.Settings.{Settings}
+use Rattle.desk_model.specs.Commands.{IsReading}
+use Rattle.desk_model.specs.Desk.{Desk}
+use Rattle.desk_model.specs.IsDesk.{IsDesk}
+use Rattle.desk_model.specs.Step.{Ask, Outcome}
+use Rattle.desk_model.specs.View.{view}
+use Rattle.desk_model.specs.declared.refusal.Refusal.TheVariants.{Unavailable}
+use Rattle.store_tables.specs.Stands.{StandsFor}
+use Rattle.service_core.specs.TableSteps.{RunsOn}
+
+-- the commands are that caller's, and only read
+abbrev pub AreReadingsOf : List ℕ → List Ask → Type 0
+AreReadingsOf caller asks = All (λ ask. IsReading ask.command × (ask.caller ≡ caller)) asks
+
+-- none was out of memory
+abbrev pub AreAnswered : List Outcome → Type 0
+AreAnswered outcomes = All (λ outcome. outcome ≢ Err Unavailable) outcomes
+
+-- Two desks that a caller sees alike answer that caller's reading commands alike: lists of commands
+-- on tables that stand for them have the same outcomes, where none was out of memory.
+abbrev pub AnswersAlike : Settings → List ℕ → List Ask → Type 0
+AnswersAlike settings caller asks =
+    (one other : Desk) (old new old_other new_other : State) (outcomes others : List Outcome)
+    → IsDesk one → StandsFor one old → HasCleanDisk new
+    → IsDesk other → StandsFor other old_other → HasCleanDisk new_other
+    → view settings caller one ≡ view settings caller other
+    → AreReadingsOf caller asks → AreAnswered outcomes → AreAnswered others
+    → RunsOn settings asks outcomes old new → RunsOn settings asks others old_other new_other
+    → outcomes ≡ others

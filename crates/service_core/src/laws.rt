@@ -1,0 +1,13 @@
+//! A law over two desks and their tables, as the contract of a function that does nothing. It
+//! speaks of the words of `execute_all` alone, and so of each list of commands that is executed.
+ghost use Rattle.std.specs.Prelude.{ℕ, List};
+ghost use Rattle.settings_core.specs.declared.settings.Settings.{Settings};
+ghost use Rattle.desk_model.specs.Step.{Ask};
+ghost use Rattle.service_core.specs.Alike.{AnswersAlike};
+
+/// Nothing leaks by reading: two desks that a caller sees alike give that caller equal answers, for
+/// each list of the caller's reading commands, where none was out of memory.
+pub fn alike_law()
+    ensures { (settings : Settings) (caller : List ℕ) (asks : List Ask)
+        → AnswersAlike settings caller asks }
+{}
