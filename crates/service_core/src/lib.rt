@@ -2,12 +2,12 @@
 //! The texts of answers and refusals stand in `desk_texts`, and are passed on.
 #![tactic(auto)]
 
+pub mod alike;
 mod attach;
 pub mod desk;
 mod execute;
 pub mod fault;
 mod known;
-pub mod laws;
 mod links;
 mod reading;
 mod reports;

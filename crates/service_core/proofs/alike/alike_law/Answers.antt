@@ -1,6 +1,6 @@
 -- each step leaves the desk, and tells of the view
 use Rattle.service_core.proofs.RunsAlike.{answers_alike}
-use Rattle.service_core.proofs.laws.alike_law.Goals as goal
+use Rattle.service_core.proofs.alike.alike_law.Goals as goal
 
 pub returns : goal.returns
 returns c = answers_alike
