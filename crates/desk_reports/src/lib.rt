@@ -10,4 +10,5 @@ mod queues;
 mod reports;
 mod showing;
 
+pub use queues::queue_named;
 pub use reports::{list, overdue, workload};

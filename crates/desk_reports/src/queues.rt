@@ -10,7 +10,7 @@ use settings_core::Settings;
 use text_core::Text;
 
 /// The queue of that name, of queues in the order of their names.
-pub(crate) fn queue_named<'q>(queues: &'q [QueueRow], name: &Text) -> Option<&'q QueueRow>
+pub fn queue_named<'q>(queues: &'q [QueueRow], name: &Text) -> Option<&'q QueueRow>
     ensures { QueuesRise queues.now
         → option_map (λ q. q.now) result ≡ queue_among queues.now name.now }
 {

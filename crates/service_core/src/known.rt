@@ -1,18 +1,19 @@
 //! Whether settings know the names in rows of the tables.
-ghost use Rattle.std.specs.Prelude.{◌≡◌, find};
+ghost use Rattle.std.specs.Prelude.{◌≡◌};
 ghost use Rattle.std.specs.List.{list_all};
-ghost use Rattle.std.specs.Option.{option_map};
-ghost use Rattle.std.specs.Str.{bytes_eq};
 ghost use Rattle.settings_core.specs.Settings.{knows, lifecycle_named};
 ghost use Rattle.desk_model.specs.Known as known;
 ghost use Rattle.desk_model.specs.Lifecycles as lifecycles;
+ghost use Rattle.desk_reports.specs.Rows.{QueuesRise};
 ghost use Rattle.service_core.specs.Attaching as attaching;
 
 use desk_core::{QueueRow, RequestRow, Watcher};
+use desk_reports::queue_named;
 use settings_core::Settings;
 use text_core::Text;
 
-/// Whether the settings know each name in these rows of queues, requests and watchers.
+/// Whether the settings know each name in these rows of queues, in the order of their names,
+/// requests and watchers.
 #[tactic(auto, unfolding(crate::specs::Attaching::knows_rows))]
 pub(crate) fn knows_rows(
     settings: &Settings,
@@ -20,7 +21,8 @@ pub(crate) fn knows_rows(
     requests: &[RequestRow],
     watchers: &[Watcher],
 ) -> bool
-    ensures { result ≡ attaching.knows_rows settings.now queues.now requests.now watchers.now }
+    ensures { QueuesRise queues.now
+        → result ≡ attaching.knows_rows settings.now queues.now requests.now watchers.now }
 {
     knows_queues(settings, queues)
         && knows_requests(settings, queues, requests)
@@ -58,7 +60,7 @@ fn knows_queue(settings: &Settings, queue: &QueueRow) -> bool
 }
 
 fn knows_requests(settings: &Settings, queues: &[QueueRow], requests: &[RequestRow]) -> bool
-    ensures { result
+    ensures { QueuesRise queues.now → result
         ≡ list_all (known.knows_row settings.now (attaching.of_queues queues.now)) requests.now }
 {
     requests
@@ -69,7 +71,7 @@ fn knows_requests(settings: &Settings, queues: &[QueueRow], requests: &[RequestR
 /// Whether the status of a request is one of the lifecycle of its queue, and its level and its
 /// owner are known.
 fn knows_request(settings: &Settings, queues: &[QueueRow], request: &RequestRow) -> bool
-    ensures { result
+    ensures { QueuesRise queues.now → result
         ≡ known.knows_row settings.now (attaching.of_queues queues.now) request.now }
 {
     knows_status(settings, queues, request)
@@ -79,23 +81,13 @@ fn knows_request(settings: &Settings, queues: &[QueueRow], request: &RequestRow)
 
 /// Whether the queue of a request is among these, and the lifecycle of that queue has the status.
 fn knows_status(settings: &Settings, queues: &[QueueRow], request: &RequestRow) -> bool
-    ensures { result
+    ensures { QueuesRise queues.now → result
         ≡ known.knows_status settings.now (attaching.of_queues queues.now) request.now }
 {
     match queue_named(queues, &request.queue) {
         Some(queue) => has_status(settings, queue, &request.status),
         None => false,
     }
-}
-
-/// The queue of that name, if it is among these.
-fn queue_named<'q>(queues: &'q [QueueRow], name: &Text) -> Option<&'q QueueRow>
-    ensures { option_map (λ q. q.now) result
-        ≡ find (λ q. bytes_eq q.name name.now) queues.now }
-{
-    queues
-        .iter()
-        .find(|queue| queue.name.as_str() == name.as_str())
 }
 
 /// Whether the lifecycle of the queue is known and has the status.

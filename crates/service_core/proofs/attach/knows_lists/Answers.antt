@@ -1,6 +1,7 @@
-use Rattle.std.proofs.Common.{◌∙◌, refl, sym, ◌≡◌, Err, rules}
+use Rattle.std.proofs.Common.{◌∙◌, refl, subst, sym, ◌≡◌, Err, rules}
 use Rattle.std.specs.Prelude.{⊤}
 use Rattle.store_tables.proofs.RefusalLemmas.{queues_refuse, watchers_refuse}
+use Rattle.desk_reports.specs.Rows.{QueuesRise}
 use Rattle.service_core.proofs.KnownLemmas.{same_rows}
 use Rattle.store_tables.proofs.Spared.{stands}
 use Rattle.store_tables.specs.Contents.{contents_of}
@@ -13,9 +14,10 @@ returns-clause-told g c desk is stand clean =
     let queues_clean = c.watchers.ensures.kept.clean clean in
     let after_links = stands c.read_links.ensures.kept d stand in
     let after_queues = stands c.queues.ensures.kept d after_links in
-    c.knows_rows.ensures
-    ∙ sym (same_rows c.args.settings.now
-    (c.as_slice.ensures.value ∙ c.in_ok-queues.ensures.listed desk is after_links queues_clean)
+    let these = c.as_slice.ensures.value
+    ∙ c.in_ok-queues.ensures.listed desk is after_links queues_clean in
+    c.knows_rows.ensures (subst QueuesRise (sym these) is.queues)
+    ∙ sym (same_rows c.args.settings.now these
     refl
     (c.as_slice-2.ensures.value ∙ c.in_ok-watchers.ensures.listed desk is after_queues clean))
 
