@@ -341,9 +341,9 @@ list_of s person queue desk is watches at rows lines same_watches same_queue sam
 -- the lists that the late requests and the workload are told of
 pub record AreOf (desk : Desk) (person : List ℕ) (watches : List Watcher) (queues : List QueueRow)
     (rows : List RequestRow) : Type 0 where
-  pub watches : watches ≡ watches_on desk person
-  pub queues : queues ≡ desk.queues
-  pub rows : rows ≡ request_rows desk
+  pub own : watches ≡ watches_on desk person
+  pub all_queues : queues ≡ desk.queues
+  pub all_rows : rows ≡ request_rows desk
 
 pub late_of : (at : ℕ) (s : Settings) (person : List ℕ) (desk : Desk) → IsDesk desk
     → (watches : List Watcher) (queues : List QueueRow) (rows : List RequestRow)
@@ -356,13 +356,13 @@ late_of at s person desk is watches queues rows lines same made =
     let one = subst (λ (ws : List Watcher). WatchesRise ws → QueuesRise queues
     → NumbersRise (shown_by s person ws rows)
     → lines ≡ in_due_order (late_lines_by at s queues (shown_by s person ws rows)))
-    same.watches made in
+    same.own made in
     let two = subst (λ (qs : List QueueRow). WatchesRise W → QueuesRise qs
     → NumbersRise (shown_by s person W rows)
-    → lines ≡ in_due_order (late_lines_by at s qs (shown_by s person W rows))) same.queues one in
+    → lines ≡ in_due_order (late_lines_by at s qs (shown_by s person W rows))) same.all_queues one in
     let three = subst (λ (rs : List RequestRow). WatchesRise W → QueuesRise desk.queues
     → NumbersRise (shown_by s person W rs)
-    → lines ≡ in_due_order (late_lines_by at s desk.queues (shown_by s person W rs))) same.rows two
+    → lines ≡ in_due_order (late_lines_by at s desk.queues (shown_by s person W rs))) same.all_rows two
     in
     three (watches_in_order person desk is) is.queues (shown_rise s person desk is)
     ∙ ap in_due_order (late_told at s person desk is)
@@ -376,10 +376,10 @@ pub loads_of : (at : ℕ) (s : Settings) (person : List ℕ) (desk : Desk) → I
 loads_of at s person desk is watches queues rows given same made =
     let W = watches_on desk person in
     let one = subst (λ (ws : List Watcher). WatchesRise ws → QueuesRise queues
-    → given ≡ loads_by at s queues (shown_by s person ws rows)) same.watches made in
+    → given ≡ loads_by at s queues (shown_by s person ws rows)) same.own made in
     let two = subst (λ (qs : List QueueRow). WatchesRise W → QueuesRise qs
-    → given ≡ loads_by at s qs (shown_by s person W rows)) same.queues one in
+    → given ≡ loads_by at s qs (shown_by s person W rows)) same.all_queues one in
     let three = subst (λ (rs : List RequestRow). WatchesRise W → QueuesRise desk.queues
-    → given ≡ loads_by at s desk.queues (shown_by s person W rs)) same.rows two in
+    → given ≡ loads_by at s desk.queues (shown_by s person W rs)) same.all_rows two in
     three (watches_in_order person desk is) is.queues
     ∙ ap (λ ts. loads at (filter (λ t. t.is_live) ts)) (rows_told s person desk is)

@@ -3,6 +3,7 @@ use Rattle.std.proofs.Common.{◌≡◌, ◌≢◌, ◌∙◌, ◌⊎◌, ℕ, L
 use Rattle.std.proofs.Common.{ap₂}
 use Rattle.std.specs.List.{AllByRecursion}
 use Rattle.std.proofs.lemmas.List.Elements.{recursion_from_All}
+use Rattle.sqlite.specs.Store.{Ghosts}
 use Rattle.settings_core.specs.declared.settings.Settings.{Settings}
 use Rattle.desk_model.specs.Commands.{IsReading}
 use Rattle.desk_model.specs.Desk.{Desk}
@@ -60,8 +61,9 @@ runs_alike s caller (a ∷ asks) [] ps one other after after_other same reads to
 runs_alike s caller (a ∷ asks) (o ∷ os) [] one other after after_other same reads told told_other
     run run_other = absurd run_other
 
-pub answers_alike : (s : Settings) (caller : List ℕ) (asks : List Ask) → AnswersAlike s caller asks
-answers_alike s caller asks one other old new old_other new_other outcomes others is stand clean
+pub answers_alike : {S T : Type 0} (g : Ghosts S) (h : Ghosts T) (s : Settings) (caller : List ℕ)
+    (asks : List Ask) → AnswersAlike g h s caller asks
+answers_alike g h s caller asks one other old new old_other new_other outcomes others is stand clean
     is_other stand_other clean_other same reads told told_other runs runs_other =
     let run = runs one is stand clean in
     let run_other = runs_other other is_other stand_other clean_other in

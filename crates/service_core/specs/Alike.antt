@@ -1,6 +1,8 @@
 -- What a caller may not see changes no answer to that caller's reading commands.
 use Rattle.std.specs.Prelude.{◌≡◌, ◌≢◌, ℕ, List, All, Err}
-use Rattle.sqlite.specs.State.{State, HasCleanDisk}
+use Rattle.sqlite.specs.Held.{Held, state}
+use Rattle.sqlite.specs.State.{HasCleanDisk}
+use Rattle.sqlite.specs.Store.{Ghosts}
 use Rattle.settings_core.specs.declared.settings.Settings.{Settings}
 use Rattle.desk_model.specs.Commands.{IsReading}
 use Rattle.desk_model.specs.Desk.{Desk}
@@ -21,12 +23,15 @@ AreAnswered outcomes = All (λ outcome. outcome ≢ Err Unavailable) outcomes
 
 -- Two desks that a caller sees alike answer that caller's reading commands alike: lists of commands
 -- on tables that stand for them have the same outcomes, where none was out of memory.
-abbrev pub AnswersAlike : Settings → List ℕ → List Ask → Type 0
-AnswersAlike settings caller asks =
-    (one other : Desk) (old new old_other new_other : State) (outcomes others : List Outcome)
-    → IsDesk one → StandsFor one old → HasCleanDisk new
-    → IsDesk other → StandsFor other old_other → HasCleanDisk new_other
+abbrev pub AnswersAlike : {S T : Type 0} → Ghosts S → Ghosts T → Settings → List ℕ → List Ask
+    → Type 0
+AnswersAlike {S} {T} g h settings caller asks =
+    (one other : Desk) (old new : Held S) (old_other new_other : Held T)
+    (outcomes others : List Outcome)
+    → IsDesk one → StandsFor one (state g old) → HasCleanDisk (state g new)
+    → IsDesk other → StandsFor other (state h old_other) → HasCleanDisk (state h new_other)
     → view settings caller one ≡ view settings caller other
     → AreReadingsOf caller asks → AreAnswered outcomes → AreAnswered others
-    → RunsOn settings asks outcomes old new → RunsOn settings asks others old_other new_other
+    → RunsOn settings asks outcomes (state g old) (state g new)
+    → RunsOn settings asks others (state h old_other) (state h new_other)
     → outcomes ≡ others

@@ -5,9 +5,11 @@ ghost use Rattle.settings_core.specs.declared.settings.Settings.{Settings};
 ghost use Rattle.desk_model.specs.Step.{Ask};
 ghost use Rattle.service_core.specs.Alike.{AnswersAlike};
 
+use store_core::Backend;
+
 /// Nothing leaks by reading: two desks that a caller sees alike give that caller equal answers, for
 /// each list of the caller's reading commands, where none was out of memory.
-pub fn alike_law()
+pub fn alike_law<S: Backend, T: Backend>()
     ensures { (settings : Settings) (caller : List ℕ) (asks : List Ask)
-        → AnswersAlike settings caller asks }
+        → AnswersAlike S.Store T.Store settings caller asks }
 {}

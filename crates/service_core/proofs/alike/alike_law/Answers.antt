@@ -3,4 +3,4 @@ use Rattle.service_core.proofs.RunsAlike.{answers_alike}
 use Rattle.service_core.proofs.alike.alike_law.Goals as goal
 
 pub returns : goal.returns
-returns c = answers_alike
+returns g c = answers_alike g.S.Store g.T.Store

@@ -17,15 +17,15 @@ returns-clause-told g c facts desk is stand clean seen =
     c.as_slice-watches.result.now c.as_slice-queues.result.now c.in_ok-rows.rows.items
     c.in_ok-loads.loads
     (record {
-      watches =
+      own =
           c.as_slice-watches.ensures.value
           ∙ IfOk-at_ok _ c.in_ok-watches.ensures.ok
           (c.watches_of.ensures.listed desk is stand clean-first);
-      queues =
+      all_queues =
           c.as_slice-queues.ensures.value
           ∙ IfOk-at_ok _ c.in_ok-queues.ensures.ok
           (c.queues.ensures.listed desk is first clean-second);
-      rows =
+      all_rows =
           IfOk-at_ok _ c.in_ok-rows.ensures.ok
           (c.requests.ensures.listed desk is second clean);
     })
