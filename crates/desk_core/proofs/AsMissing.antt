@@ -14,8 +14,8 @@ use Rattle.desk_model.specs.Desk.{Desk, Request, request_at}
 use Rattle.desk_model.specs.Facts.{seen_request, seen_request_at}
 use Rattle.desk_model.specs.Plan.{Call, Plan, Reads, OnQueue, OnRequest, Nothing}
 use Rattle.desk_model.specs.Plan.{Dependencies, Another, besides_on, conditions_by}
-use Rattle.desk_model.specs.Plan.{OneRequest, WholeDesk, is_bad_text, is_missing, named_by}
-use Rattle.desk_model.specs.Plan.{on_shown, seen_by}
+use Rattle.desk_model.specs.Plan.{OneQueue, OneRequest, WholeDesk, is_bad_text, is_missing}
+use Rattle.desk_model.specs.Plan.{named_by, on_shown, seen_by}
 use Rattle.desk_model.specs.Step.{answer_of}
 use Rattle.desk_model.specs.Refusals.{number_of}
 use Rattle.desk_model.specs.Rights.{may_show}
@@ -164,6 +164,7 @@ names_at plan id = list_any (λ n. n == id) (named_by plan)
 hidden_by_plan : (c : Call) (plan : Plan) (desk : Desk) (id : ℕ) → names_at plan id ≡ true
     → is_missing c (seen_request_at desk id) ≡ true → RefusedByPlan c plan desk id
 hidden_by_plan c (Reads WholeDesk answer) desk id named hidden = cc
+hidden_by_plan c (Reads (OneQueue name) answer) desk id named hidden = cc
 hidden_by_plan c (Reads (OneRequest asked) answer) desk id named hidden =
     hidden_first c asked None (λ d request. []) desk id
     (sym (or-false (asked == id)) ∙ named) hidden

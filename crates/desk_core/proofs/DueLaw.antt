@@ -5,6 +5,7 @@ use Rattle.std.proofs.lemmas.List.Elements.{All-nil}
 use Rattle.settings_core.specs.declared.settings.Settings.{Settings}
 use Rattle.desk_model.specs.Commands.{plan_of}
 use Rattle.desk_model.specs.Desk.{Desk}
+use Rattle.desk_model.specs.IsDesk.{IsDesk}
 use Rattle.desk_model.specs.Plan.{Call, Plan, Reads, OnQueue, OnRequest, answer_by, besides_on}
 use Rattle.desk_model.specs.Plan.{change_of_request, filed_or_done}
 use Rattle.desk_model.specs.Facts.{facts_on_queue}
@@ -20,16 +21,16 @@ no_due : (s : Settings) (desk : Desk) (filed : Option RequestRow)
 no_due s desk None = All-nil (IsDue s desk)
 no_due s desk (Some row) = All-nil (IsDue s desk)
 
-due_by_plan : (c : Call) (plan : Plan) (desk : Desk) → OwesRight plan
+due_by_plan : (c : Call) (plan : Plan) (desk : Desk) → IsDesk desk → OwesRight plan
     → All (IsDue c.settings desk) (dues_told (answer_by c desk plan))
-due_by_plan c (Reads topic told) desk right = right.due c desk
-due_by_plan c (OnQueue name conditions change) desk right =
+due_by_plan c (Reads topic told) desk is right = right.due c desk is
+due_by_plan c (OnQueue name conditions change) desk is right =
     no_due c.settings desk (change c (facts_on_queue desk name)).filed
-due_by_plan c (OnRequest id besides text conditions change) desk right =
+due_by_plan c (OnRequest id besides text conditions change) desk is right =
     let facts = besides_on besides id desk in
     no_due c.settings desk (change_of_request facts.request (change c facts)).filed
 
 pub due_law : (s : Settings) (at : ℕ) (caller : List ℕ) (command : Command) (desk : Desk)
     → TellsDueMoments s at caller command desk
-due_law s at caller command desk =
-    due_by_plan (call s at caller) (plan_of command) desk (each_right command)
+due_law s at caller command desk is =
+    due_by_plan (call s at caller) (plan_of command) desk is (each_right command)

@@ -1,9 +1,10 @@
 -- What holds of each request after a change, where it held before.
 use Rattle.std.proofs.Common.{◌≡◌, ◌∙◌, ℕ, ◌+◌, ◌<◌, ◌≤◌, ◌==◌, true, false, cond}
 use Rattle.std.proofs.Common.{List, [], ◌∷◌, ◌++◌, map, find, length, Option, Some, None, refl}
-use Rattle.std.proofs.Common.{ap, sym, subst, arith}
+use Rattle.std.proofs.Common.{inl, inr, ap, sym, subst, arith}
 use Rattle.std.specs.List.{All}
-use Rattle.std.proofs.lemmas.Bool.{and_parts, eqb-false, eqb-true}
+use Rattle.std.proofs.lemmas.Bool.{and_parts, eq-eqb, eqb-false, eqb-true}
+use Rattle.std.proofs.lemmas.Bool.Decides.{eqb_tells}
 use Rattle.std.proofs.lemmas.List.{map-append}
 use Rattle.std.proofs.lemmas.List.Elements.{All-nil, All-cons, All-head, All-tail}
 use Rattle.desk_model.specs.Change.{applied, filed, request_filed}
@@ -79,6 +80,29 @@ lone id n (y ∷ ys) r numbered there =
           (λ e. absurd (eqb-false y.row.id id other e))
           (lone id (n + 1) ys r parts.1 further)
     ] refl there
+
+-- each of requests that are numbered is the one that is found at its number
+pub found_each : (n : ℕ) (xs : List Request)
+    → are_numbered n (map (λ x. x.row.id) xs) ≡ true
+    → All (λ r. find (λ x. x.row.id == r.row.id) xs ≡ Some r) xs
+found_each n [] numbered = All-nil (λ r. find (λ x. x.row.id == r.row.id) [] ≡ Some r)
+found_each n (y ∷ ys) numbered =
+    let parts = and_parts (y.row.id == n)
+    (are_numbered (n + 1) (map (λ x. x.row.id) ys)) numbered in
+    let number : y.row.id ≡ n = eqb-true y.row.id n parts.0 in
+    All-cons (λ r. find (λ x. x.row.id == r.row.id) (y ∷ ys) ≡ Some r) y ys
+    (rw (eq-eqb y.row.id y.row.id refl) refl)
+    (each_so (λ r. ((n + 1 ≤ r.row.id) × (r.row.id < n + 1 + length ys))
+    × (find (λ x. x.row.id == r.row.id) ys ≡ Some r))
+    (λ r. find (λ x. x.row.id == r.row.id) (y ∷ ys) ≡ Some r) ys
+    (λ r h. elim (eqb_tells y.row.id r.row.id) [
+      | inl same ↦ absurd (omega (arith, same.1, h.0.0, number))
+      | inr other ↦ rw other.0 h.1
+    ])
+    (each_both (λ r. (n + 1 ≤ r.row.id) × (r.row.id < n + 1 + length ys))
+    (λ r. find (λ x. x.row.id == r.row.id) ys ≡ Some r) ys
+    (numbers_lie (n + 1) (n + 1 + length ys) (n + 1) ys (omega arith) (omega arith) parts.1)
+    (found_each (n + 1) ys parts.1)))
 
 unfiled : (change : Change) (desk : Desk) → change.filed ≡ None
     → (request_filed change.filed desk).requests ≡ desk.requests

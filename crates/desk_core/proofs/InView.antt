@@ -12,7 +12,7 @@ use Rattle.settings_core.specs.declared.settings.Settings.{Settings}
 use Rattle.desk_model.specs.Desk.{Desk, Request, queue_at, request_at}
 use Rattle.desk_model.specs.Facts.{seen_request}
 use Rattle.desk_model.specs.IsDesk.{IsDesk, are_numbered}
-use Rattle.desk_model.specs.Rights.{holds_on_queue, is_shown, may_show}
+use Rattle.desk_model.specs.Rights.{holds_on_queue, is_shown, may_show, sees_queue}
 use Rattle.desk_model.specs.View.{as_seen, has_shown, view}
 use Rattle.desk_model.specs.declared.rows.QueueRow.{QueueRow}
 use Rattle.desk_core.proofs.Depends.{found_among}
@@ -21,6 +21,10 @@ use Rattle.desk_core.proofs.Goes.{number_found}
 unless_kept : (a : Bool) → (a ≡ true → false ≡ true) → a ≡ false
 unless_kept true h = let no : false ≡ true = h refl in cc
 unless_kept false h = refl
+
+unless_left : (a b : Bool) → (a || b) ≡ false → a ≡ false
+unless_left true b e = cc
+unless_left false b e = refl
 
 -- a filter of what another filter keeps, where that one keeps all that passes
 pub filter_within : {A : Type 0} (p q : A → Bool) → ((x : A) → p x ≡ true → q x ≡ true)
@@ -157,19 +161,75 @@ found_by_name keep name (y ∷ ys) k =
           ]
     ] refl
 
+-- the names of queues that a view keeps
+abbrev keeps : Settings → List ℕ → Desk → List ℕ → Bool
+keeps s caller desk name = holds_on_queue s caller see_queue name || has_shown s caller desk name
+
+-- a queue with a request that the caller may show is in the view
+pub queue_kept : (s : Settings) (caller : List ℕ) (desk : Desk) (name : List ℕ)
+    → has_shown s caller desk name ≡ true
+    → queue_at (view s caller desk) name ≡ queue_at desk name
+queue_kept s caller desk name has =
+    found_by_name (keeps s caller desk) name desk.queues
+    (or_right (holds_on_queue s caller see_queue name) (has_shown s caller desk name) has)
+
 -- the queue of a request that the caller may show is in the view
 pub queue_in_view : (s : Settings) (caller : List ℕ) (desk : Desk) (id : ℕ) (r : Request)
     → request_at desk id ≡ Some r
     → may_show s caller (seen_request r) ≡ true
     → queue_at (view s caller desk) r.row.queue ≡ queue_at desk r.row.queue
 queue_in_view s caller desk id r there shown =
-    let has : has_shown s caller desk r.row.queue ≡ true =
-    found_among (λ x. x.row.id == id)
+    queue_kept s caller desk r.row.queue
+    (found_among (λ x. x.row.id == id)
     (λ x. may_show s caller (seen_request x)
     && bytes_eq x.row.queue r.row.queue) desk.requests r there
     (and_from (may_show s caller (seen_request r)) (bytes_eq r.row.queue r.row.queue) shown
-    ((bytes_eq-Decides r.row.queue r.row.queue).1 refl)) in
-    found_by_name (λ name. holds_on_queue s caller see_queue name || has_shown s caller desk name)
-    r.row.queue desk.queues
-    (or_right (holds_on_queue s caller see_queue r.row.queue)
-    (has_shown s caller desk r.row.queue) has)
+    ((bytes_eq-Decides r.row.queue r.row.queue).1 refl)))
+
+-- no queue of a name is found where none of that name is kept
+none_kept : (keep : List ℕ → Bool) (name : List ℕ) (xs : List QueueRow) → keep name ≡ false
+    → find (λ q. bytes_eq q.name name) (filter (λ q. keep q.name) xs) ≡ None
+none_kept keep name [] k = refl
+none_kept keep name (y ∷ ys) k =
+    elim (keep y.name) as (λ b. keep y.name ≡ b
+    → find (λ q. bytes_eq q.name name)
+    (cond b (y ∷ filter (λ q. keep q.name) ys) (filter (λ q. keep q.name) ys)) ≡ None) [
+      | true ↦ λ kept.
+          elim (bytes_eq y.name name) as (λ b. bytes_eq y.name name ≡ b
+          → cond b (Some y) (find (λ q. bytes_eq q.name name) (filter (λ q. keep q.name) ys))
+          ≡ None) [
+            | true ↦ λ e.
+                let same : y.name ≡ name = (bytes_eq-Decides y.name name).0 e in
+                absurd (let no : true ≡ false = sym kept ∙ ap keep same ∙ k in cc)
+            | false ↦ λ e. none_kept keep name ys k
+          ] refl
+      | false ↦ λ gone. none_kept keep name ys k
+    ] refl
+
+-- a queue of a name that isn't seen is not there, or isn't seen
+all_unseen : (sees : List ℕ → Bool) (name : List ℕ) (xs : List QueueRow) → sees name ≡ false
+    → option_map_or (λ q. not (sees q.name)) (find (λ q. bytes_eq q.name name) xs) true ≡ true
+all_unseen sees name [] unseen = refl
+all_unseen sees name (y ∷ ys) unseen =
+    elim (bytes_eq y.name name) as (λ b. bytes_eq y.name name ≡ b
+    → option_map_or (λ q. not (sees q.name))
+    (cond b (Some y) (find (λ q. bytes_eq q.name name) ys)) true ≡ true) [
+      | true ↦ λ e. ap not (ap sees ((bytes_eq-Decides y.name name).0 e) ∙ unseen)
+      | false ↦ λ e. all_unseen sees name ys unseen
+    ] refl
+
+-- in the view the same queues are seen
+pub unseen_in_view : (s : Settings) (caller : List ℕ) (desk : Desk) (name : List ℕ)
+    → option_map_or (λ q. not (sees_queue s caller q)) (queue_at (view s caller desk) name) true
+    ≡ option_map_or (λ q. not (sees_queue s caller q)) (queue_at desk name) true
+unseen_in_view s caller desk name =
+    let sees : List ℕ → Bool = holds_on_queue s caller see_queue in
+    let unseen : Option QueueRow → Bool = λ o. option_map_or (λ q. not (sees q.name)) o true in
+    elim (keeps s caller desk name) as (λ b. keeps s caller desk name ≡ b
+    → unseen (queue_at (view s caller desk) name) ≡ unseen (queue_at desk name)) [
+      | true ↦ λ kept. ap unseen (found_by_name (keeps s caller desk) name desk.queues kept)
+      | false ↦ λ gone.
+          ap unseen (none_kept (keeps s caller desk) name desk.queues gone)
+          ∙ sym (all_unseen sees name desk.queues
+          (unless_left (sees name) (has_shown s caller desk name) gone))
+    ] refl

@@ -9,7 +9,8 @@ use Rattle.rights_core.specs.Right.{take_ticket, steal_ticket, reassign_ticket, 
 use Rattle.rights_core.specs.Right.{watch, watch_as_admin_cc, admin_queue}
 use Rattle.desk_model.specs.Commands.{IsMove, plan_of}
 use Rattle.desk_model.specs.Condition.{Condition, Decides, first_holding}
-use Rattle.desk_model.specs.Plan.{Call, Plan, Reads, OnQueue, OnRequest, OneRequest, WholeDesk}
+use Rattle.desk_model.specs.Plan.{Call, Plan, Reads, OnQueue, OnRequest, OneQueue, OneRequest}
+use Rattle.desk_model.specs.Plan.{WholeDesk}
 use Rattle.desk_model.specs.Plan.{Besides, Nothing, Dependencies, Another, another_shown}
 use Rattle.desk_model.specs.Plan.{change_by, conditions_by, of_request}
 use Rattle.desk_model.specs.Refusals.{names_its_right}
@@ -62,6 +63,7 @@ of_request_named (Some request) conditions named = named request
 plan_named : (plan : Plan) (call : Call) (facts : Facts) → NamesRights plan
     → list_all is_named (conditions_by call facts plan) ≡ true
 plan_named (Reads WholeDesk answer) call facts names = refl
+plan_named (Reads (OneQueue name) answer) call facts names = refl
 plan_named (Reads (OneRequest id) answer) call facts names =
     of_request_named facts.request (λ request. []) (λ request. refl)
 plan_named (OnQueue name conditions change) call facts names = names call facts

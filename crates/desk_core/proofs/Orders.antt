@@ -1,28 +1,38 @@
 -- What a command answers is in order.
 use Rattle.std.proofs.Common.{◌≡◌, ◌∙◌, ℕ, ◌+◌, ◌==◌, Bool, true, false, ◌&&◌, ◌||◌, cond}
-use Rattle.std.proofs.Common.{List, [], ◌∷◌, filter, map, Option, Some, None, inl, inr, refl}
-use Rattle.std.proofs.Common.{ap, sym, arith}
+use Rattle.std.proofs.Common.{List, [], ◌∷◌, filter, fold, map, Option, Some, None, inl, inr, refl}
+use Rattle.std.proofs.Common.{ap, sym, subst, arith, rules, ◌-◌, Ordering, Less, Equal, Greater}
 use Rattle.std.specs.Bool.{nat_lt}
 use Rattle.std.specs.Cmp.Lexicographic.{nat_list_cmp_total}
-use Rattle.std.specs.List.{list_all}
+use Rattle.std.specs.Cmp.{IsTotalOrder, nat_cmp_total, on_total, then_total}
+use Rattle.std.specs.List.{AllByRecursion, cons_option, list_all}
+use Rattle.std.specs.Ordering.{is_eq, nat_cmp, ordering_then}
+use Rattle.std.specs.Prelude.{filter_map, option_and_then, IfSome}
 use Rattle.std.proofs.lemmas.Bool.{and_from, and_parts, eq-eqb, eqb-true, le-ltb, lt-ltb, ltb-true}
 use Rattle.std.proofs.lemmas.Bool.{or_cases}
 use Rattle.settings_core.specs.declared.settings.Settings.{Settings}
 use Rattle.desk_model.specs.Commands.{plan_of}
-use Rattle.desk_model.specs.Desk.{Desk, Request, has_lower_name, request_at}
+use Rattle.desk_model.specs.Desk.{Desk, Request, has_lower_name, placed, request_at}
 use Rattle.desk_model.specs.IsDesk.{IsDesk, are_numbered, comes_first, has_its_entries, is_rising}
 use Rattle.desk_model.specs.IsDesk.{names_rise, persons_rise}
 use Rattle.desk_model.specs.Links.{is_kind, is_lower_link, kind_number}
 use Rattle.desk_model.specs.Plan.{Call, Plan, Reads, OnQueue, OnRequest, answer_by}
 use Rattle.desk_model.specs.Plan.{answer_of_request, besides_on, change_of_request, filed_or_done}
-use Rattle.desk_model.specs.Facts.{facts_on_queue}
+use Rattle.desk_model.specs.Facts.{facts_on_queue, seen_request}
 use Rattle.desk_model.specs.Readings.History.{entries_told, is_told}
+use Rattle.desk_model.specs.Readings.Listing as listing
+use Rattle.desk_model.specs.Readings.Overdue as overdue
+use Rattle.desk_model.specs.Readings.Overdue.{is_sooner, late_line, late_order, line_if_late}
 use Rattle.desk_model.specs.Readings.Queues as queues
 use Rattle.desk_model.specs.Readings.Show.{leads_from, leads_to, linked_from, linked_to, links_of}
 use Rattle.desk_model.specs.Readings.Show.{shown_of}
-use Rattle.desk_model.specs.Rights.{is_shown, sees_queue}
+use Rattle.desk_model.specs.Readings.Workload as workload
+use Rattle.desk_model.specs.Readings.Workload.{load_of, owner_order, owners}
+use Rattle.desk_model.specs.Rights.{is_shown, may_show, sees_queue}
 use Rattle.desk_model.specs.Step.{call}
+use Rattle.desk_model.specs.Told.{Told, told, told_on}
 use Rattle.desk_model.specs.declared.answer.Answer.TheVariants as answer
+use Rattle.desk_model.specs.declared.answer.LateLine.{LateLine}
 use Rattle.desk_model.specs.declared.command.Command.{Command}
 use Rattle.desk_model.specs.declared.command.Command.TheVariants as command
 use Rattle.desk_model.specs.declared.rows.Entry.{Entry}
@@ -32,9 +42,12 @@ use Rattle.desk_model.specs.declared.rows.LinkRow.{LinkRow}
 use Rattle.desk_model.specs.declared.rows.RequestRow.{RequestRow}
 use Rattle.desk_core.proofs.DeskLaw.Links.{links_go_on, same_kind}
 use Rattle.desk_core.proofs.Every.{every_found}
-use Rattle.desk_core.proofs.Rising.{IsTransitive, filtered_rises, orders_go_on}
+use Rattle.desk_core.proofs.Readings.Overdue.{all_at_place}
+use Rattle.desk_core.proofs.Rising.{Climbs, IsTransitive, all_keyed_rise, climbs, filtered_rises}
+use Rattle.desk_core.proofs.Rising.{is_apart, mapped_rises, orders_go_on, orders_part, placed_rises}
 use Rattle.desk_core.specs.Orders.{IsInOrder, LinksRise, TellsInOrder}
-use Rattle.desk_core.specs.Orders.{has_lower_number, numbers_rise}
+use Rattle.desk_core.specs.Orders.{has_first_owner, has_lower_number, is_listed_first}
+use Rattle.desk_core.specs.Orders.{numbers_rise}
 
 -- queues
 
@@ -48,30 +61,34 @@ queues_in_order call desk is =
 
 -- entries
 
-numbers_go_on : IsTransitive has_lower_number
-numbers_go_on x y z one two =
-    lt-ltb x.number z.number
-    (let a = ltb-true x.number y.number one in
-    let b = ltb-true y.number z.number two in omega arith)
+-- by a number of each
+abbrev by : {X : Type 0} → (X → ℕ) → X → X → Bool
+by number a b = nat_lt (number a) (number b)
 
-next_higher : (e : Entry) (n : ℕ) (es : List Entry) → e.number ≡ n
-    → are_numbered (n + 1) (map (λ x. x.number) es) ≡ true
-    → comes_first has_lower_number e es ≡ true
-next_higher e n [] number numbered = refl
-next_higher e n (f ∷ fs) number numbered =
-    let parts = and_parts (f.number == n + 1)
-    (are_numbered (n + 1 + 1) (map (λ x. x.number) fs)) numbered in
-    let next : f.number ≡ n + 1 = eqb-true f.number (n + 1) parts.0 in
-    lt-ltb e.number f.number (omega arith)
+numbers_go_on : {X : Type 0} (number : X → ℕ) → IsTransitive (by number)
+numbers_go_on number x y z one two =
+    lt-ltb (number x) (number z)
+    (let a = ltb-true (number x) (number y) one in
+    let b = ltb-true (number y) (number z) two in omega arith)
 
-numbered_rise : (n : ℕ) (es : List Entry) → are_numbered n (map (λ x. x.number) es) ≡ true
-    → is_rising has_lower_number es ≡ true
-numbered_rise n [] numbered = refl
-numbered_rise n (e ∷ es) numbered =
-    let parts = and_parts (e.number == n)
-    (are_numbered (n + 1) (map (λ x. x.number) es)) numbered in
-    and_from (comes_first has_lower_number e es) (is_rising has_lower_number es)
-    (next_higher e n es (eqb-true e.number n parts.0) parts.1) (numbered_rise (n + 1) es parts.1)
+next_higher : {X : Type 0} (number : X → ℕ) (e : X) (n : ℕ) (es : List X) → number e ≡ n
+    → are_numbered (n + 1) (map number es) ≡ true
+    → comes_first (by number) e es ≡ true
+next_higher number e n [] is numbered = refl
+next_higher number e n (f ∷ fs) is numbered =
+    let parts = and_parts (number f == n + 1)
+    (are_numbered (n + 1 + 1) (map number fs)) numbered in
+    let next : number f ≡ n + 1 = eqb-true (number f) (n + 1) parts.0 in
+    lt-ltb (number e) (number f) (omega (arith, is, next))
+
+numbered_rise : {X : Type 0} (number : X → ℕ) (n : ℕ) (es : List X)
+    → are_numbered n (map number es) ≡ true → is_rising (by number) es ≡ true
+numbered_rise number n [] numbered = refl
+numbered_rise number n (e ∷ es) numbered =
+    let parts = and_parts (number e == n) (are_numbered (n + 1) (map number es)) numbered in
+    and_from (comes_first (by number) e es) (is_rising (by number) es)
+    (next_higher number e n es (eqb-true (number e) n parts.0) parts.1)
+    (numbered_rise number (n + 1) es parts.1)
 
 history_of : (call : Call) (desk : Desk) (id : ℕ) (o : Option Request) → IsDesk desk
     → request_at desk id ≡ o
@@ -81,8 +98,9 @@ history_of call desk id None is there = tt
 history_of call desk id (Some r) is there =
     let own : has_its_entries r ≡ true =
     every_found has_its_entries (λ x. x.row.id == id) desk.requests r is.entries there in
-    filtered_rises has_lower_number (is_told call.settings call.caller r) r.entries numbers_go_on
-    (numbered_rise 1 r.entries
+    filtered_rises has_lower_number (is_told call.settings call.caller r) r.entries
+    (numbers_go_on (λ (e : Entry). e.number))
+    (numbered_rise (λ (e : Entry). e.number) 1 r.entries
     (and_parts (list_all (λ e. e.id == r.row.id) r.entries)
     (are_numbered 1 (map (λ e. e.number) r.entries)) own).1)
 
@@ -223,6 +241,150 @@ shown_of_request call desk id (Some r) is there =
       links = links_in_order call.settings call.caller desk r.row.id is;
     }
 
+-- reports
+
+owners_total : IsTotalOrder owner_order
+owners_total = record {
+  antisymm = λ x y. search (rules, nat_list_cmp_total.antisymm);
+  trans = λ x y z. search (rules, nat_list_cmp_total.trans);
+  congr = λ x y z. search (rules, nat_list_cmp_total.congr);
+}
+
+-- the requests that are told of rise by their numbers
+told_rise : (s : Settings) (caller : List ℕ) (desk : Desk) → IsDesk desk
+    → is_rising (by (λ (t : Told). t.row.id)) (told s caller desk) ≡ true
+told_rise s caller desk is =
+    let kept = filter (λ r. may_show s caller (seen_request r)) desk.requests in
+    mapped_rises (by (λ (t : Told). t.row.id)) (told_on s desk) kept
+    ∙ filtered_rises (by (λ (r : Request). r.row.id))
+    (λ r. may_show s caller (seen_request r)) desk.requests
+    (numbers_go_on (λ (r : Request). r.row.id))
+    (numbered_rise (λ (r : Request). r.row.id) 1 desk.requests is.requests)
+
+list_in_order : (queue : List ℕ) (call : Call) (desk : Desk) → IsDesk desk
+    → IsInOrder (listing.told queue call desk)
+list_in_order queue call desk is =
+    let ts = told call.settings call.caller desk in
+    mapped_rises is_listed_first listing.line_of (filter (listing.is_in queue) ts)
+    ∙ filtered_rises (by (λ (t : Told). t.row.id)) (listing.is_in queue) ts
+    (numbers_go_on (λ (t : Told). t.row.id)) (told_rise call.settings call.caller desk is)
+
+-- of two lines with different numbers one comes first
+abbrev Part : LateLine → LateLine → Type 0
+Part a b = (is_sooner b a || is_sooner a b) ≡ true
+
+late_total : IsTotalOrder late_order
+late_total =
+    then_total (on_total (λ (l : LateLine). l.due) nat_cmp_total)
+    (on_total (λ (l : LateLine). l.id) nat_cmp_total)
+
+not_tied : (o : Ordering) → is_eq (ordering_then o Less) ≡ false
+not_tied Less = refl
+not_tied Equal = refl
+not_tied Greater = refl
+
+lines_part : (a b : LateLine) → nat_lt a.id b.id ≡ true → Part a b
+lines_part a b lower =
+    let less : nat_cmp a.id b.id ≡ Less =
+    ap (λ c. cond c Less (cond (a.id == b.id) Equal Greater)) lower in
+    orders_part late_total a b
+    (ap (λ o. is_eq (ordering_then (nat_cmp a.due b.due) o)) less ∙ not_tied (nat_cmp a.due b.due))
+
+-- the number of a line is that of the request it is made of
+line_number : (at : ℕ) (t : Told) (due : Option ℕ)
+    → IfSome (option_and_then (line_if_late at t.row) due) (λ l. l.id ≡ t.row.id)
+line_number at t None = tt
+line_number at t (Some due) =
+    elim (nat_lt due at) as (λ b. IfSome (cond b (Some (record {
+      id = t.row.id;
+      queue = t.row.queue;
+      owner = t.row.owner;
+      due = due;
+      late = at - due;
+    })) None) (λ l. l.id ≡ t.row.id)) [
+      | true ↦ refl
+      | false ↦ tt
+    ]
+
+-- a line that comes of a request with a lower number than these parts from each that is made of them
+parts_from_later : (at : ℕ) (line : LateLine) (ts : List Told)
+    → AllByRecursion (λ t. nat_lt line.id t.row.id ≡ true) ts
+    → AllByRecursion (Part line) (filter_map (late_line at) ts)
+parts_from_later at line [] below = tt
+parts_from_later at line (t ∷ ts) below =
+    made (late_line at t) (line_number at t t.due) (parts_from_later at line ts below.1)
+  where
+    made : (o : Option LateLine) → IfSome o (λ l. l.id ≡ t.row.id)
+        → AllByRecursion (Part line) (filter_map (late_line at) ts)
+        → AllByRecursion (Part line) (cons_option o (filter_map (late_line at) ts))
+    made None number rest = rest
+    made (Some l) number rest =
+        (lines_part line l (ap (λ n. nat_lt line.id n) number ∙ below.0), rest)
+
+-- each line parts from all that follow it
+abbrev AllPart : List LateLine → Type 0
+AllPart [] = Unit {0}
+AllPart (line ∷ lines) = AllByRecursion (Part line) lines × AllPart lines
+
+lines_all_part : (at : ℕ) (ts : List Told) → Climbs (by (λ (t : Told). t.row.id)) ts
+    → AllPart (filter_map (late_line at) ts)
+lines_all_part at [] climbs = tt
+lines_all_part at (t ∷ ts) climbs =
+    made (late_line at t) (line_number at t t.due) (lines_all_part at ts climbs.1)
+  where
+    made : (o : Option LateLine) → IfSome o (λ l. l.id ≡ t.row.id)
+        → AllPart (filter_map (late_line at) ts)
+        → AllPart (cons_option o (filter_map (late_line at) ts))
+    made None number rest = rest
+    made (Some l) number rest =
+        (parts_from_later at l ts
+        (subst (λ n. AllByRecursion (λ (t : Told). nat_lt n t.row.id ≡ true) ts) (sym number)
+        climbs.0), rest)
+
+-- a line that parts from each has a place among them
+apart_from : (x : LateLine) (acc : List LateLine) → AllByRecursion (λ y. Part y x) acc
+    → is_apart is_sooner x acc ≡ true
+apart_from x [] all = refl
+apart_from x (y ∷ ys) all =
+    and_from (is_sooner x y || is_sooner y x) (is_apart is_sooner x ys) all.0
+    (apart_from x ys all.1)
+
+each_there : (lines acc : List LateLine) (x : LateLine) → AllByRecursion (Part x) lines
+    → AllByRecursion (λ z. AllByRecursion (λ y. Part y z) acc) lines
+    → AllByRecursion (λ z. AllByRecursion (λ y. Part y z) (placed is_sooner acc x)) lines
+each_there [] acc x one all = tt
+each_there (z ∷ zs) acc x one all =
+    (all_at_place (λ y. Part y z) is_sooner acc x one.0 all.0, each_there zs acc x one.1 all.1)
+
+placed_all_rise : (lines acc : List LateLine) → is_rising is_sooner acc ≡ true
+    → AllByRecursion (λ z. AllByRecursion (λ y. Part y z) acc) lines → AllPart lines
+    → is_rising is_sooner (fold (placed is_sooner) acc lines) ≡ true
+placed_all_rise [] acc rises apart part = rises
+placed_all_rise (x ∷ xs) acc rises apart part =
+    placed_all_rise xs (placed is_sooner acc x)
+    (placed_rises is_sooner acc x rises (apart_from x acc apart.0))
+    (each_there xs acc x part.0 apart.1) part.1
+
+none_before : (lines : List LateLine)
+    → AllByRecursion (λ z. AllByRecursion (λ y. Part y z) []) lines
+none_before [] = tt
+none_before (x ∷ xs) = (tt, none_before xs)
+
+overdue_in_order : (call : Call) (desk : Desk) → IsDesk desk → IsInOrder (overdue.told call desk)
+overdue_in_order call desk is =
+    let ts = told call.settings call.caller desk in
+    let lines = filter_map (late_line call.at) ts in
+    placed_all_rise lines [] refl (none_before lines)
+    (lines_all_part call.at ts
+    (climbs (by (λ (t : Told). t.row.id)) ts (numbers_go_on (λ (t : Told). t.row.id))
+    (told_rise call.settings call.caller desk is)))
+
+workload_in_order : (call : Call) (desk : Desk) → IsInOrder (workload.told call desk)
+workload_in_order call desk =
+    let ts = filter (λ t. t.is_live) (told call.settings call.caller desk) in
+    mapped_rises has_first_owner (load_of call.at ts) (owners ts)
+    ∙ all_keyed_rise owner_order owners_total (map (λ t. t.row.owner) ts) [] refl
+
 -- what a plan answers is in order; but a reading, none lists anything
 abbrev AnswersInOrder : Plan → Type 0
 AnswersInOrder (Reads topic told) =
@@ -234,6 +396,9 @@ answers_in_order : (command : Command) → AnswersInOrder (plan_of command)
 answers_in_order command.Queues = queues_in_order
 answers_in_order (command.Show id) =
     λ call desk is. shown_of_request call desk id (request_at desk id) is refl
+answers_in_order (command.List queue) = list_in_order queue
+answers_in_order command.Overdue = overdue_in_order
+answers_in_order command.Workload = λ call desk is. workload_in_order call desk
 answers_in_order (command.History id) =
     λ call desk is. history_of call desk id (request_at desk id) is refl
 answers_in_order other = tt

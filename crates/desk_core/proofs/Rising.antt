@@ -1,10 +1,11 @@
 -- Lists that rise: with one more at its place, with some taken away, and with a name in order.
 use Rattle.std.proofs.Common.{◌≡◌, ◌∙◌, ℕ, Bool, true, false, ◌||◌, cond}
-use Rattle.std.proofs.Common.{List, [], ◌∷◌, filter, fold, refl, ap, sym}
+use Rattle.std.proofs.Common.{◌&&◌, List, [], ◌∷◌, filter, fold, map, refl, ap, ap₂, sym}
 use Rattle.std.proofs.lemmas.Bool.{and_from, and_parts}
+use Rattle.std.specs.BTreeSet.{insert_key}
 use Rattle.std.specs.Cmp.{IsTotalOrder}
 use Rattle.std.specs.Cmp.Lexicographic.{nat_list_cmp_total, texts_ties}
-use Rattle.std.specs.List.{list_all}
+use Rattle.std.specs.List.{AllByRecursion, list_all}
 use Rattle.std.specs.Ordering.{is_lt, is_eq, match_ordering, ordering_reverse}
 use Rattle.std.specs.Str.{bytes_eq}
 use Rattle.std.specs.declared.cmp.Ordering.{Ordering}
@@ -114,41 +115,90 @@ pub names_part : (a b : List ℕ) → bytes_eq a b ≡ false
     → (is_lower_name b a || is_lower_name a b) ≡ true
 names_part a b differ = orders_part nat_list_cmp_total a b (sym (texts_ties a b) ∙ differ)
 
-first_named : (y : List ℕ) (ys : List (List ℕ)) (x : List ℕ) → is_lower_name y x ≡ true
-    → comes_first is_lower_name y ys ≡ true → comes_first is_lower_name y (with_name ys x) ≡ true
-first_named y [] x above first = above
-first_named y (z ∷ zs) x above first =
-    elim (text_order x z)
-    as (λ o. comes_first is_lower_name y
-    (match_ordering o (x ∷ z ∷ zs) (z ∷ zs) (z ∷ with_name zs x)) ≡ true) [
+-- the keys rise by an order
+abbrev pub keys_rise : {K : Type 0} → (K → K → Ordering) → List K → Bool
+keys_rise cmp keys = is_rising (λ a b. is_lt (cmp a b)) keys
+
+first_keyed : {K : Type 0} (cmp : K → K → Ordering) (y : K) (ys : List K) (x : K)
+    → is_lt (cmp y x) ≡ true
+    → comes_first (λ a b. is_lt (cmp a b)) y ys ≡ true
+    → comes_first (λ a b. is_lt (cmp a b)) y (insert_key cmp ys x) ≡ true
+first_keyed cmp y [] x above first = above
+first_keyed cmp y (z ∷ zs) x above first =
+    elim (cmp x z)
+    as (λ o. comes_first (λ a b. is_lt (cmp a b)) y
+    (match_ordering o (x ∷ z ∷ zs) (z ∷ zs) (z ∷ insert_key cmp zs x)) ≡ true) [
       | Less ↦ above
       | Equal ↦ first
       | Greater ↦ first
     ]
 
-pub named_rises : (names : List (List ℕ)) (name : List ℕ) → names_rise names ≡ true
-    → names_rise (with_name names name) ≡ true
-named_rises [] x rises = refl
-named_rises (y ∷ ys) x rises =
-    let parts = and_parts (comes_first is_lower_name y ys) (names_rise ys) rises in
-    elim (text_order x y) as (λ o. text_order x y ≡ o → text_order y x ≡ ordering_reverse o
-    → names_rise (match_ordering o (x ∷ y ∷ ys) (y ∷ ys) (y ∷ with_name ys x)) ≡ true) [
-      | Less ↦ λ below back. and_from (is_lower_name x y) (names_rise (y ∷ ys))
-          (ap is_lt below) rises
+pub keyed_rises : {K : Type 0} (cmp : K → K → Ordering) → IsTotalOrder cmp → (keys : List K)
+    (key : K) → keys_rise cmp keys ≡ true → keys_rise cmp (insert_key cmp keys key) ≡ true
+keyed_rises cmp total [] x rises = refl
+keyed_rises cmp total (y ∷ ys) x rises =
+    let lower = λ a b. is_lt (cmp a b) in
+    let parts = and_parts (comes_first lower y ys) (keys_rise cmp ys) rises in
+    elim (cmp x y) as (λ o. cmp x y ≡ o → cmp y x ≡ ordering_reverse o
+    → keys_rise cmp (match_ordering o (x ∷ y ∷ ys) (y ∷ ys) (y ∷ insert_key cmp ys x)) ≡ true) [
+      | Less ↦ λ below back. and_from (lower x y) (keys_rise cmp (y ∷ ys)) (ap is_lt below) rises
       | Equal ↦ λ same back. rises
       | Greater ↦ λ over back.
-          and_from (comes_first is_lower_name y (with_name ys x)) (names_rise (with_name ys x))
-          (first_named y ys x (ap is_lt back) parts.0)
-          (named_rises ys x parts.1)
-    ] refl (nat_list_cmp_total.antisymm y x)
+          and_from (comes_first lower y (insert_key cmp ys x)) (keys_rise cmp (insert_key cmp ys x))
+          (first_keyed cmp y ys x (ap is_lt back) parts.0)
+          (keyed_rises cmp total ys x parts.1)
+    ] refl (total.antisymm y x)
+
+pub all_keyed_rise : {K : Type 0} (cmp : K → K → Ordering) → IsTotalOrder cmp
+    → (keys start : List K) → keys_rise cmp start ≡ true
+    → keys_rise cmp (fold (insert_key cmp) start keys) ≡ true
+all_keyed_rise cmp total [] start rises = rises
+all_keyed_rise cmp total (key ∷ keys) start rises =
+    all_keyed_rise cmp total keys (insert_key cmp start key) (keyed_rises cmp total start key rises)
+
+pub named_rises : (names : List (List ℕ)) (name : List ℕ) → names_rise names ≡ true
+    → names_rise (with_name names name) ≡ true
+named_rises names name rises = keyed_rises text_order nat_list_cmp_total names name rises
 
 pub all_named_rise : (names start : List (List ℕ)) → names_rise start ≡ true
     → names_rise (fold with_name start names) ≡ true
-all_named_rise [] start rises = rises
-all_named_rise (name ∷ names) start rises =
-    all_named_rise names (with_name start name) (named_rises start name rises)
+all_named_rise names start rises = all_keyed_rise text_order nat_list_cmp_total names start rises
 
 pub unnamed_rises : (names : List (List ℕ)) (name : List ℕ) → names_rise names ≡ true
     → names_rise (without_name names name) ≡ true
 unnamed_rises names name rises =
     filtered_rises is_lower_name _ names (orders_go_on nat_list_cmp_total) rises
+
+-- the mapped list rises where the list does by what it is mapped to
+comes_first_mapped : {X Y : Type 0} (lower : Y → Y → Bool) (f : X → Y) (x : X) (ys : List X)
+    → comes_first lower (f x) (map f ys) ≡ comes_first (λ a b. lower (f a) (f b)) x ys
+comes_first_mapped lower f x [] = refl
+comes_first_mapped lower f x (y ∷ ys) = refl
+
+pub mapped_rises : {X Y : Type 0} (lower : Y → Y → Bool) (f : X → Y) (xs : List X)
+    → is_rising lower (map f xs) ≡ is_rising (λ a b. lower (f a) (f b)) xs
+mapped_rises lower f [] = refl
+mapped_rises lower f (x ∷ xs) =
+    ap₂ (λ a b. a && b) (comes_first_mapped lower f x xs) (mapped_rises lower f xs)
+
+-- each comes before all that follow it
+abbrev pub Climbs : {X : Type 0} → (X → X → Bool) → List X → Type 0
+Climbs lower [] = Unit {0}
+Climbs lower (x ∷ xs) = AllByRecursion (λ y. lower x y ≡ true) xs × Climbs lower xs
+
+below_all : {X : Type 0} (lower : X → X → Bool) (x : X) (ys : List X) → IsTransitive lower
+    → comes_first lower x ys ≡ true → is_rising lower ys ≡ true
+    → AllByRecursion (λ y. lower x y ≡ true) ys
+below_all lower x [] goes_on first rises = tt
+below_all lower x (y ∷ ys) goes_on first rises =
+    let parts = and_parts (comes_first lower y ys) (is_rising lower ys) rises in (
+      first,
+      below_all lower x ys goes_on (first_further lower x y ys goes_on first parts.0) parts.1,
+    )
+
+pub climbs : {X : Type 0} (lower : X → X → Bool) (xs : List X) → IsTransitive lower
+    → is_rising lower xs ≡ true → Climbs lower xs
+climbs lower [] goes_on rises = tt
+climbs lower (x ∷ xs) goes_on rises =
+    let parts = and_parts (comes_first lower x xs) (is_rising lower xs) rises in
+    (below_all lower x xs goes_on parts.0 parts.1, climbs lower xs goes_on parts.1)

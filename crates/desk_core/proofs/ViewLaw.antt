@@ -7,11 +7,11 @@ use Rattle.settings_core.specs.Settings.{knows}
 use Rattle.settings_core.specs.declared.settings.Settings.{Settings}
 use Rattle.desk_model.specs.Commands.{plan_of}
 use Rattle.desk_model.specs.Condition.{Condition, first_holding}
-use Rattle.desk_model.specs.Desk.{Desk, Request, request_at}
+use Rattle.desk_model.specs.Desk.{Desk, Request, queue_at, request_at}
 use Rattle.desk_model.specs.Facts.{seen_request}
 use Rattle.desk_model.specs.IsDesk.{IsDesk}
-use Rattle.desk_model.specs.Plan.{Call, Plan, Reads, OneRequest, WholeDesk, answer_by}
-use Rattle.desk_model.specs.Plan.{conditions_by, is_reading, on_shown, seen_by}
+use Rattle.desk_model.specs.Plan.{Call, Plan, Reads, OneQueue, OneRequest, WholeDesk, answer_by}
+use Rattle.desk_model.specs.Plan.{conditions_by, is_reading, is_unseen, on_shown, seen_by}
 use Rattle.desk_model.specs.Rights.{may_show}
 use Rattle.desk_model.specs.Step.{Outcome, call, outcome_unless}
 use Rattle.desk_model.specs.View.{as_seen, view}
@@ -19,7 +19,7 @@ use Rattle.desk_model.specs.declared.answer.Answer.{Answer}
 use Rattle.desk_model.specs.declared.command.Command.{Command}
 use Rattle.desk_model.specs.declared.refusal.Refusal.TheVariants.{UnknownCaller, BadMoment}
 use Rattle.desk_model.specs.declared.refusal.Refusal.TheVariants.{NotFound}
-use Rattle.desk_core.proofs.InView.{if_shown, in_view, is_shown_in}
+use Rattle.desk_core.proofs.InView.{if_shown, in_view, is_shown_in, unseen_in_view}
 use Rattle.desk_core.proofs.Readings.{OwesRight, each_right}
 use Rattle.desk_core.specs.Laws.{HidesTheRest, TellsOfTheView}
 
@@ -69,6 +69,12 @@ alike_by_plan : (c : Call) (plan : Plan) (desk : Desk) → IsDesk desk → is_re
     → outcome_by c plan desk ≡ outcome_by c plan (view c.settings c.caller desk)
 alike_by_plan c (Reads WholeDesk told) desk is reads right =
     ap (outcome_unless (first_holding (after_call c []))) (right.alike c desk is)
+alike_by_plan c (Reads (OneQueue name) told) desk is reads right =
+    ap (λ (b : Bool). outcome_unless (first_holding (after_call c ((NotFound, b) ∷ [])))
+    (told c desk)) (sym (unseen_in_view c.settings c.caller desk name))
+    ∙ ap (outcome_unless (first_holding (after_call c
+    ((NotFound, is_unseen c (queue_at (view c.settings c.caller desk) name)) ∷ []))))
+    (right.alike c desk is)
 alike_by_plan c (Reads (OneRequest id) told) desk is reads right =
     let seen = view c.settings c.caller desk in
     kept_alike c (request_at desk id) (told c desk) (told c seen)

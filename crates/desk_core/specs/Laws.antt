@@ -154,13 +154,14 @@ IsDue settings desk told =
     (request : Request) × (request_at desk told.0 ≡ Some request)
     × (told.1 ≡ due_on settings desk request)
 
--- The due law: each due moment in an answer is that of its request, by the level that it has.
+-- The due law: on a well-formed desk each due moment in an answer is that of its request, by the
+-- level that it has.
 abbrev pub DueLaw : Settings → Desk → Answer → Type 0
 DueLaw settings desk answer = All (IsDue settings desk) (dues_told answer)
 
 abbrev pub TellsDueMoments : Settings → ℕ → List ℕ → Command → Desk → Type 0
 TellsDueMoments settings at caller command desk =
-    DueLaw settings desk (answer_of settings at caller command desk)
+    IsDesk desk → DueLaw settings desk (answer_of settings at caller command desk)
 
 -- A reading command leaves the desk as it was.
 abbrev pub LeavesTheDesk : Settings → ℕ → List ℕ → Command → Desk → Type 0

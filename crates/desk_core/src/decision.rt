@@ -7,13 +7,13 @@ ghost use Rattle.desk_model.specs.Change.{no_change};
 ghost use Rattle.desk_model.specs.Commands.{plan_of, IsMove, IsReading};
 ghost use Rattle.desk_model.specs.Condition.{Decides};
 ghost use Rattle.desk_model.specs.Entries as entries;
-ghost use Rattle.desk_model.specs.Plan.{change_by, conditions_by, is_missing};
+ghost use Rattle.desk_model.specs.Plan.{change_by, conditions_by, is_missing, is_unseen};
 ghost use Rattle.desk_model.specs.Refusals.{names_its_right};
 ghost use Rattle.desk_model.specs.Rights as rights;
 ghost use Rattle.desk_core.specs.Context.{call_of};
 ghost use Rattle.desk_core.specs.Decision.{Accepts, FollowsPlan, Refuses};
 
-use desk_model::{Change, Command, Entry, EntryKind, Facts, Refusal, SeenRequest};
+use desk_model::{Change, Command, Entry, EntryKind, Facts, Refusal, SeenRequest, sees_queue};
 use hours_core::{END, Minute};
 use rights_core::{Roles, right};
 use settings_core::Settings;
@@ -138,7 +138,10 @@ impl<'c> Context<'c> {
             Command::SetLevel { level, .. } => self.set_level(level),
             Command::Queues => Ok(Change::no_change(self.alloc)),
             Command::Show { .. } => self.read(),
+            Command::List { .. } => self.read_queue(),
             Command::History { .. } => self.read(),
+            Command::Overdue => Ok(Change::no_change(self.alloc)),
+            Command::Workload => Ok(Change::no_change(self.alloc)),
         }
     }
 
@@ -151,6 +154,21 @@ impl<'c> Context<'c> {
     {
         self.shown()?;
         Ok(Change::no_change(self.alloc))
+    }
+
+    /// Lists the requests of the queue, where the caller may see it: nothing changes.
+    fn read_queue(&self) -> Result<Change, Refusal>
+        ensures ok { IfOk result (λ change. (change ≡ no_change)
+            × (is_unseen (call_of self.now) self.now.facts.now.queue ≡ false)) }
+        ensures err { IfErr result (λ refusal. (refusal ≡ Refusal.NotFound)
+            × (is_unseen (call_of self.now) self.now.facts.now.queue ≡ true)) }
+    {
+        match &self.facts.queue {
+            Some(queue) if sees_queue(self.settings, self.caller, queue) => {
+                Ok(Change::no_change(self.alloc))
+            }
+            _ => Err(Refusal::NotFound),
+        }
     }
 
     /// Refuses a text of a reply or a comment that isn't of its form.

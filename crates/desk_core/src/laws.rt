@@ -97,7 +97,8 @@ pub fn hidden_law()
     ensures { AtEveryStep RefusesAsMissing }
 {}
 
-/// A due moment in an answer is that of its request, by the level that it has.
+/// A due moment in an answer on a well-formed desk is that of its request, by the level that it
+/// has.
 pub fn due_law()
     ensures { AtEveryStep TellsDueMoments }
 {}
@@ -116,7 +117,8 @@ pub fn reading_law()
 {}
 
 /// What a command answers on a well-formed desk is in order: queues by their names, the persons of
-/// each role by their bytes, linked requests and entries by their numbers.
+/// each role by their bytes, linked requests, entries and the requests of a queue by their numbers,
+/// late requests by their due moments and numbers, and what owners have by the owners.
 pub fn orders_law()
     ensures { AtEveryStep TellsInOrder }
 {}

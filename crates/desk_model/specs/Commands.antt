@@ -18,8 +18,11 @@ use Rattle.desk_model.specs.Commands.Watch as watch
 use Rattle.desk_model.specs.Plan.{Plan, OnQueue, OnRequest}
 use Rattle.desk_model.specs.Plan.{Nothing, Dependencies, Another, is_reading, named_by}
 use Rattle.desk_model.specs.Readings.History as history
+use Rattle.desk_model.specs.Readings.Listing as listing
+use Rattle.desk_model.specs.Readings.Overdue as overdue
 use Rattle.desk_model.specs.Readings.Queues as queues
 use Rattle.desk_model.specs.Readings.Show as show
+use Rattle.desk_model.specs.Readings.Workload as workload
 use Rattle.desk_model.specs.declared.command.Command.{Command}
 use Rattle.desk_model.specs.declared.command.Command.TheVariants as command
 pub mod Comment
@@ -67,7 +70,10 @@ plan_of (command.SetLevel id level) =
     OnRequest id Nothing None (set_level.conditions level) (set_level.change level)
 plan_of command.Queues = queues.reading
 plan_of (command.Show id) = show.reading id
+plan_of (command.List queue) = listing.reading queue
 plan_of (command.History id) = history.reading id
+plan_of command.Overdue = overdue.reading
+plan_of command.Workload = workload.reading
 
 -- the requests that a command names
 abbrev pub requests_named : Command → List ℕ

@@ -57,7 +57,11 @@ no_facts =
       dependencies = [];
     }
 
--- of a command that names a queue: the queue and both counts
+-- of a reading of a queue: the queue alone
+abbrev pub facts_of_queue : Desk → List ℕ → Facts
+facts_of_queue desk name = record no_facts { queue = queue_at desk name }
+
+-- of a command that changes a queue: the queue and both counts
 abbrev pub facts_on_queue : Desk → List ℕ → Facts
 facts_on_queue desk name =
     record no_facts {

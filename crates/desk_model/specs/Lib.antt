@@ -16,5 +16,6 @@ pub mod Refusals
 pub mod Rights
 pub mod Scope
 pub mod Step
+pub mod Told
 pub mod View
 pub mod Watchers

@@ -8,10 +8,10 @@ use Rattle.settings_core.specs.declared.settings.Settings.{Settings}
 use Rattle.desk_model.specs.Change.{no_change}
 use Rattle.desk_model.specs.Condition.{Condition}
 use Rattle.desk_model.specs.Desk.{Desk, Request}
-use Rattle.desk_model.specs.Facts.{no_facts, facts_on_queue, facts_on_request}
+use Rattle.desk_model.specs.Facts.{no_facts, facts_of_queue, facts_on_queue, facts_on_request}
 use Rattle.desk_model.specs.Facts.{seen_request_at, dependencies_of}
 use Rattle.desk_model.specs.Links.{has_link, link}
-use Rattle.desk_model.specs.Rights.{may_show}
+use Rattle.desk_model.specs.Rights.{may_show, sees_queue}
 use Rattle.desk_model.specs.declared.answer.Answer.{Answer}
 use Rattle.desk_model.specs.declared.answer.Answer.TheVariants as answer
 use Rattle.desk_model.specs.declared.change.Change.{Change}
@@ -19,6 +19,7 @@ use Rattle.desk_model.specs.declared.facts.Facts.{Facts}
 use Rattle.desk_model.specs.declared.facts.SeenRequest.{SeenRequest}
 use Rattle.desk_model.specs.declared.refusal.Refusal.TheVariants.{BadText, NotFound}
 use Rattle.desk_model.specs.declared.rows.LinkKind.{LinkKind}
+use Rattle.desk_model.specs.declared.rows.QueueRow.{QueueRow}
 use Rattle.desk_model.specs.declared.rows.RequestRow.{RequestRow}
 
 -- a call: under which settings, at which moment and by whom
@@ -33,9 +34,10 @@ pub data Besides : Type 0 where
   Dependencies : Besides
   Another : LinkKind → ℕ → Besides
 
--- what a reading is about: the desk, or one request
+-- what a reading is about: the desk, one queue, or one request
 pub data Topic : Type 0 where
   WholeDesk : Topic
+  OneQueue : List ℕ → Topic
   OneRequest : ℕ → Topic
 
 -- a command that reads, and what it tells of its topic; that changes the desk, on a queue; or that
@@ -61,6 +63,7 @@ besides_on (Another kind other) id desk =
 -- what a reading looks at on a desk before it tells something
 abbrev pub topic_on : Topic → Desk → Facts
 topic_on WholeDesk desk = no_facts
+topic_on (OneQueue name) desk = facts_of_queue desk name
 topic_on (OneRequest id) desk = facts_on_request desk id
 
 -- what a plan looks at on a desk
@@ -102,9 +105,15 @@ conditions_on_request call facts besides text conditions =
     (BadText, is_bad_text text) ∷ on_shown call facts.request
     (λ request. another_shown call besides facts (conditions call facts request))
 
--- what a reading asks: of a request, that the caller may show it
+-- the queue isn't there, or the caller may not see it
+abbrev pub is_unseen : Call → Option QueueRow → Bool
+is_unseen call queue = option_map_or (λ q. not (sees_queue call.settings call.caller q)) queue true
+
+-- what a reading asks: of a queue, that the caller may see it, and of a request, that the caller
+-- may show it
 abbrev pub conditions_of_topic : Call → Facts → Topic → List Condition
 conditions_of_topic call facts WholeDesk = []
+conditions_of_topic call facts (OneQueue name) = (NotFound, is_unseen call facts.queue) ∷ []
 conditions_of_topic call facts (OneRequest id) = on_shown call facts.request (λ request. [])
 
 abbrev pub conditions_by : Call → Facts → Plan → List Condition
@@ -160,6 +169,7 @@ named_besides (Another kind other) = other ∷ []
 
 abbrev pub named_by : Plan → List ℕ
 named_by (Reads WholeDesk answer) = []
+named_by (Reads (OneQueue name) answer) = []
 named_by (Reads (OneRequest id) answer) = id ∷ []
 named_by (OnQueue name conditions change) = []
 named_by (OnRequest id besides text conditions change) = id ∷ named_besides besides

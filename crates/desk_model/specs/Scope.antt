@@ -1,6 +1,6 @@
 -- What a command looks at on a desk.
 use Rattle.desk_model.specs.Desk.{Desk}
-use Rattle.desk_model.specs.Facts.{no_facts, facts_on_queue, facts_on_request}
+use Rattle.desk_model.specs.Facts.{no_facts, facts_of_queue, facts_on_queue, facts_on_request}
 use Rattle.desk_model.specs.Plan.{Another, Dependencies, besides_on}
 use Rattle.desk_model.specs.declared.facts.Facts.{Facts}
 use Rattle.desk_model.specs.declared.scope.Scope.{Scope}
@@ -8,6 +8,7 @@ use Rattle.desk_model.specs.declared.scope.Scope.TheVariants as scope
 
 abbrev pub seen_in : Scope → Desk → Facts
 seen_in scope.Nothing desk = no_facts
+seen_in (scope.QueueAlone name) desk = facts_of_queue desk name.now
 seen_in (scope.Queue name) desk = facts_on_queue desk name.now
 seen_in (scope.Request id) desk = facts_on_request desk id
 seen_in (scope.Dependencies id) desk = besides_on Dependencies id desk

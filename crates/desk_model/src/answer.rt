@@ -1,6 +1,6 @@
 use crate::rows::{Entry, QueueRow, RequestRow};
 use hours_core::Minute;
-use text_core::{Sequence, Texts};
+use text_core::{Sequence, Text, Texts};
 
 /// What an accepted command answers.
 #[derive(Drop)]
@@ -13,8 +13,16 @@ pub enum Answer {
     Queues(Sequence<QueueRow>),
     /// The request that was asked for.
     Shown(Shown),
+    /// The requests of a queue that the caller may show, in the order of their numbers.
+    Listed(Sequence<Line>),
     /// The entries that the caller may see of a request's history, in the order of their numbers.
     History(Sequence<Entry>),
+    /// The requests that the caller may show and that are late, in the order of their due moments,
+    /// and of their numbers where those are the same.
+    Late(Sequence<LateLine>),
+    /// What each owner has of the requests that the caller may show and that aren't inactive:
+    /// nobody first, then in the order of the names.
+    Workload(Sequence<Load>),
 }
 
 /// A request as a caller sees it.
@@ -39,4 +47,40 @@ pub struct Links {
     pub has_member: Sequence<u32>,
     pub refers_to: Sequence<u32>,
     pub referred_to_by: Sequence<u32>,
+}
+
+/// A request as a queue's list tells of it.
+#[derive(Drop)]
+pub struct Line {
+    pub id: u32,
+    pub status: Text,
+    /// Nobody owns it where this is absent.
+    pub owner: Option<Text>,
+    /// When it is due, if a level says so.
+    pub due: Option<Minute>,
+    pub subject: Text,
+}
+
+/// A request that is late.
+#[derive(Drop)]
+pub struct LateLine {
+    pub id: u32,
+    pub queue: Text,
+    /// Nobody owns it where this is absent.
+    pub owner: Option<Text>,
+    /// When it was due.
+    pub due: Minute,
+    /// For how many minutes it has been late.
+    pub late: u32,
+}
+
+/// How much an owner has to do.
+#[derive(Drop)]
+pub struct Load {
+    /// Nobody's, where this is absent.
+    pub owner: Option<Text>,
+    /// How many requests aren't inactive.
+    pub live: u32,
+    /// How many of those are late.
+    pub overdue: u32,
 }

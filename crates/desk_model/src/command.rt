@@ -94,10 +94,18 @@ pub enum Command {
     Show {
         id: u32,
     },
+    /// Lists the requests of a queue.
+    List {
+        queue: Text,
+    },
     /// Tells the history of a request.
     History {
         id: u32,
     },
+    /// Lists the requests that are late.
+    Overdue,
+    /// Tells how many requests each owner has, and how many of them are late.
+    Workload,
 }
 
 impl Command {
@@ -122,7 +130,10 @@ impl Command {
             Command::SetLevel { .. } => false,
             Command::Queues => true,
             Command::Show { .. } => true,
+            Command::List { .. } => true,
             Command::History { .. } => true,
+            Command::Overdue => true,
+            Command::Workload => true,
         }
     }
 
@@ -155,7 +166,10 @@ impl Command {
             Command::SetLevel { id, .. } => Scope::Request(*id),
             Command::Queues => Scope::Nothing,
             Command::Show { id } => Scope::Request(*id),
+            Command::List { queue } => Scope::QueueAlone(queue),
             Command::History { id } => Scope::Request(*id),
+            Command::Overdue => Scope::Nothing,
+            Command::Workload => Scope::Nothing,
         }
     }
 }

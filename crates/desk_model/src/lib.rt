@@ -19,7 +19,7 @@ pub mod rights;
 pub mod rows;
 pub mod scope;
 
-pub use answer::{Answer, Links, Shown};
+pub use answer::{Answer, LateLine, Line, Links, Load, Shown};
 pub use change::Change;
 pub use command::Command;
 pub use due::due_of;

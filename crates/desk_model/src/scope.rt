@@ -5,6 +5,8 @@ use text_core::Text;
 #[derive(Drop)]
 pub enum Scope<'c> {
     Nothing,
+    /// A queue.
+    QueueAlone(&'c Text),
     /// A queue, and how many queues and requests there are.
     Queue(&'c Text),
     /// A request and its queue.

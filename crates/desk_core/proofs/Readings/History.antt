@@ -39,5 +39,5 @@ right id = record {
       ∙ ap (λ (o : Option Request). answer_of_request o
       (λ x. answer.History (entries_told s caller x)))
       (sym (found_in_view s caller desk id r is there may));
-  due = λ call desk. no_due call.settings call.caller desk (request_at desk id);
+  due = λ call desk is. no_due call.settings call.caller desk (request_at desk id);
 }

@@ -5,7 +5,7 @@ use Rattle.std.specs.List.{All}
 use Rattle.desk_model.specs.Desk.{Desk, Request, request_at}
 use Rattle.desk_model.specs.Facts.{seen_request}
 use Rattle.desk_model.specs.IsDesk.{IsDesk}
-use Rattle.desk_model.specs.Plan.{Call, Topic, OneRequest, WholeDesk}
+use Rattle.desk_model.specs.Plan.{Call, Topic, OneQueue, OneRequest, WholeDesk}
 use Rattle.desk_model.specs.Rights.{may_show}
 use Rattle.desk_model.specs.View.{view}
 use Rattle.desk_model.specs.declared.answer.Answer.{Answer}
@@ -17,6 +17,9 @@ abbrev pub TellsAlike : Topic → (Call → Desk → Answer) → Type 0
 TellsAlike WholeDesk answer =
     (call : Call) (desk : Desk) → IsDesk desk
     → answer call desk ≡ answer call (view call.settings call.caller desk)
+TellsAlike (OneQueue name) answer =
+    (call : Call) (desk : Desk) → IsDesk desk
+    → answer call desk ≡ answer call (view call.settings call.caller desk)
 TellsAlike (OneRequest id) answer =
     (call : Call) (desk : Desk) (r : Request) → IsDesk desk → request_at desk id ≡ Some r
     → may_show call.settings call.caller (seen_request r) ≡ true
@@ -24,5 +27,5 @@ TellsAlike (OneRequest id) answer =
 
 pub record IsRight (topic : Topic) (answer : Call → Desk → Answer) : Type 0 where
   pub alike : TellsAlike topic answer
-  pub due : (call : Call) (desk : Desk)
+  pub due : (call : Call) (desk : Desk) → IsDesk desk
       → All (IsDue call.settings desk) (dues_told (answer call desk))

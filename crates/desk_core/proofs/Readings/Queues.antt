@@ -20,5 +20,5 @@ right = record {
       ap (λ (list : List QueueRow). answer.Queues list)
       (sym (filter_within sees (λ q. sees q || shows q.name)
       (λ q seen. or_left (sees q) (shows q.name) seen) desk.queues));
-  due = λ call desk. All-nil (IsDue call.settings desk);
+  due = λ call desk is. All-nil (IsDue call.settings desk);
 }

@@ -138,5 +138,5 @@ right id = record {
       ∙ ap (λ (o : Option Request). answer_of_request o
       (λ x. answer.Shown (shown_of s caller seen x)))
       (sym (found_in_view s caller desk id r is there may));
-  due = λ call desk. due_of_shown call.settings call.caller desk id (request_at desk id) refl;
+  due = λ call desk is. due_of_shown call.settings call.caller desk id (request_at desk id) refl;
 }

@@ -1,0 +1,25 @@
+-- A queue's list is told alike of the desk and of the caller's view.
+use Rattle.std.proofs.Common.{ℕ, List, filter, ap, sym}
+use Rattle.std.proofs.lemmas.List.Elements.{All-filter, All-map}
+use Rattle.desk_model.specs.Plan.{OneQueue}
+use Rattle.desk_model.specs.Readings.Listing as listing
+use Rattle.desk_model.specs.Told.{Told}
+use Rattle.desk_model.specs.Told as reports
+use Rattle.desk_model.specs.declared.answer.Answer.TheVariants as answer
+use Rattle.desk_core.proofs.Readings.Owed.{IsRight}
+use Rattle.desk_core.proofs.Readings.Told.{told_due, told_in_view}
+use Rattle.desk_core.specs.Laws.{IsDue}
+
+pub right : (queue : List ℕ) → IsRight (OneQueue queue) (listing.told queue)
+right queue = record {
+  alike = λ call desk is.
+      ap (λ (ts : List Told). answer.Listed (listing.lines_of queue ts))
+      (sym (told_in_view call.settings call.caller desk));
+  due = λ call desk is.
+      let ts = reports.told call.settings call.caller desk in
+      All-map (IsDue call.settings desk) (λ l. (l.id, l.due)) (listing.lines_of queue ts)
+      (All-map (λ l. IsDue call.settings desk (l.id, l.due)) listing.line_of
+      (filter (listing.is_in queue) ts)
+      (All-filter (listing.is_in queue) (λ t. IsDue call.settings desk (t.row.id, t.due)) ts
+      (told_due call.settings call.caller desk is)));
+}
