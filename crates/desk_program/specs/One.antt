@@ -1,7 +1,9 @@
 -- One command on the tables of a store.
 use Rattle.std.specs.Prelude.{◌≡◌, ◌⊎◌, ℕ, Bool, true, List, Option, Some, None, Result, Ok, Err}
 use Rattle.std.specs.Prelude.{if◌then◌else◌}
+use Rattle.sqlite.specs.Held.{Held, state}
 use Rattle.sqlite.specs.State.{State, HasCleanDisk}
+use Rattle.sqlite.specs.Store.{Ghosts}
 use Rattle.settings_core.specs.declared.fault.SettingsFault.{SettingsFault}
 use Rattle.settings_core.specs.declared.settings.Settings.{Settings}
 use Rattle.desk_model.specs.declared.command.Command.{Command}
@@ -60,41 +62,42 @@ IsDone settings ask old new line status =
 -- ---- what is printed, and the status
 
 -- the settings were read and the desk was opened, or the first fault of that is told
-abbrev pub IsGivenOutput : Result Settings SettingsFault → Ask → State → State → List ℕ → ℕ
-    → Type 0
-IsGivenOutput (Err fault) ask old new line status =
-    IsOpeningFault (Err fault) old new line status
-IsGivenOutput (Ok settings) ask old new line status =
-    IsOpeningFault (Ok settings) old new line status ⊎ IsDone settings ask old new line status
+abbrev pub IsGivenOutput : {S : Type 0} → Ghosts S → Result Settings SettingsFault → Ask → Held S
+    → Held S → List ℕ → ℕ → Type 0
+IsGivenOutput g (Err fault) ask old new line status =
+    IsOpeningFault g (Err fault) old new line status
+IsGivenOutput g (Ok settings) ask old new line status =
+    IsOpeningFault g (Ok settings) old new line status
+    ⊎ IsDone settings ask (state g old) (state g new) line status
 
--- no command, or that command with the settings of a text
-abbrev pub IsCommandOutput : List ℕ → ℕ → List ℕ → Option Command → State → State → List ℕ → ℕ
-    → Type 0
-IsCommandOutput settings at caller None old new line status =
+-- no command, and the tables stay; or that command with the settings of a text
+abbrev pub IsCommandOutput : {S : Type 0} → Ghosts S → List ℕ → ℕ → List ℕ → Option Command → Held S
+    → Held S → List ℕ → ℕ → Type 0
+IsCommandOutput g settings at caller None old new line status =
     (line ≡ bad_words_text) × (status ≡ 2) × (new ≡ old)
-IsCommandOutput settings at caller (Some command) old new line status =
+IsCommandOutput g settings at caller (Some command) old new line status =
     (given : Result Settings SettingsFault) × GivesSettings settings given
-    × IsGivenOutput given (ask_by at caller command) old new line status
+    × IsGivenOutput g given (ask_by at caller command) old new line status
 
--- there was no memory to read the words, so nothing was done
-abbrev pub IsUnread : State → State → List ℕ → ℕ → Type 0
+-- there was no memory to read the words, and the tables stay
+abbrev pub IsUnread : {S : Type 0} → Held S → Held S → List ℕ → ℕ → Type 0
 IsUnread old new line status = (line ≡ unavailable_text) × (status ≡ 1) × (new ≡ old)
 
-abbrev pub IsOneOutput : Asked → State → State → List ℕ → ℕ → Type 0
-IsOneOutput asked old new line status =
+abbrev pub IsOneOutput : {S : Type 0} → Ghosts S → Asked → Held S → Held S → List ℕ → ℕ → Type 0
+IsOneOutput g asked old new line status =
     IsUnread old new line status
-    ⊎ IsCommandOutput asked.settings asked.at asked.caller (command_of asked.words) old new line
+    ⊎ IsCommandOutput g asked.settings asked.at asked.caller (command_of asked.words) old new line
     status
 
--- One command was run on tables, and its text was written.
-pub record RunsOne (asked : Asked) (old new : State) (before after : Option (List ℕ)) (ended : ℕ)
-    (failed : Bool) : Type 0 where
+-- One command was run on the tables of a connection, and its text was written.
+pub record RunsOne {S : Type 0} (g : Ghosts S) (asked : Asked) (old new : Held S)
+    (before after : Option (List ℕ)) (ended : ℕ) (failed : Bool) : Type 0 where
   -- the text of the answer, of the refusal or of the fault
   pub text : List ℕ
   -- the status that goes with it
   pub status : ℕ
   -- they are those of what is asked, and so are the tables afterwards
-  pub output : IsOneOutput asked old new text status
+  pub output : IsOneOutput g asked old new text status
   -- the text was written whole, or where a write failed a part from its front
   pub written : IsWritten failed before after text
   -- it ends with that status, or with 4 after a failed write

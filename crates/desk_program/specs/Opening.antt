@@ -1,7 +1,9 @@
 -- A desk over the tables of a store: what is opened, and what is told where it can't be.
 use Rattle.std.specs.Prelude.{◌≡◌, ◌≢◌, ◌⊎◌, ℕ, Bool, true, false, List, Option, Result, Ok, Err}
 use Rattle.std.specs.Prelude.{if◌then◌else◌}
+use Rattle.sqlite.specs.Held.{Held, state}
 use Rattle.sqlite.specs.State.{State, HasCleanDisk}
+use Rattle.sqlite.specs.Store.{Ghosts}
 use Rattle.desk_model.specs.Desk.{empty_desk}
 use Rattle.settings_core.specs.declared.fault.SettingsFault.{SettingsFault}
 use Rattle.settings_core.specs.declared.settings.Settings.{Settings}
@@ -66,22 +68,25 @@ pub record IsNotAttached (settings : Settings) (old new : State) (fault : Attach
 
 -- The line that is printed and the status, and what is left of the tables: a fault of the settings
 -- comes before one of the store, and that before one of attaching.
-abbrev pub IsOpeningFault : Result Settings SettingsFault → State → State → List ℕ → ℕ → Type 0
-IsOpeningFault (Err fault) old new line status =
+abbrev pub IsOpeningFault : {S : Type 0} → Ghosts S → Result Settings SettingsFault → Held S → Held S
+    → List ℕ → ℕ → Type 0
+IsOpeningFault g (Err fault) old new line status =
     (line ≡ settings_fault_text fault) × (status ≡ 3) × (new ≡ old)
-IsOpeningFault (Ok settings) old new line status =
-    (((fault : StoreFault) × (line ≡ store_fault_text fault) × IsNotMade old new fault)
+IsOpeningFault g (Ok settings) old new line status =
+    (((fault : StoreFault) × (line ≡ store_fault_text fault)
+    × IsNotMade (state g old) (state g new) fault)
     ⊎ ((fault : AttachFault) × (line ≡ attach_fault_text fault)
-    × IsNotAttached settings old new fault)) × (status ≡ 4)
+    × IsNotAttached settings (state g old) (state g new) fault)) × (status ≡ 4)
 
 -- a line was printed, whole or up to a write that failed; then the status is 4
 abbrev pub EndsWith : List ℕ → ℕ → Option (List ℕ) → Option (List ℕ) → ℕ → Type 0
 EndsWith line status old new ended =
     (failed : Bool) × IsWritten failed old new line × (ended ≡ (if failed then 4 else status))
 
--- the fault of opening tables, which were left so
-abbrev pub IsNotOpened : List ℕ → State → Option (List ℕ) → Option (List ℕ) → ℕ → Type 0
-IsNotOpened text tables old new ended =
-    (given : Result Settings SettingsFault) × (left : State) × (line : List ℕ) × (status : ℕ)
-    × GivesSettings text given × IsOpeningFault given tables left line status
+-- the fault of opening tables, whatever is left of them
+abbrev pub IsNotOpened : {S : Type 0} → Ghosts S → List ℕ → Held S → Option (List ℕ)
+    → Option (List ℕ) → ℕ → Type 0
+IsNotOpened {S} g text tables old new ended =
+    (given : Result Settings SettingsFault) × (left : Held S) × (line : List ℕ) × (status : ℕ)
+    × GivesSettings text given × IsOpeningFault g given tables left line status
     × EndsWith line status old new ended

@@ -1,15 +1,13 @@
 //! One command on the tables of a store.
-ghost use Rattle.std.specs.Prelude.{◌≡◌, ◌+◌, ◌≤◌, [], ℕ, Bool, List, IfErr, map, string_bytes, true};
+ghost use Rattle.std.specs.Prelude.{◌≡◌, ◌+◌, ◌≤◌, [], ℕ, Bool, List, Some, map, string_bytes};
 ghost use Rattle.std.specs.Vec.{vec_capacity, vec_len};
-ghost use Rattle.store_core.specs.Seen.{state_of};
+ghost use Rattle.sqlite.specs.Held.{Held};
+ghost use Rattle.store_core.specs.Seen.{connection_of, state_of};
 ghost use Rattle.store_tables.specs.Calls.{WasClean};
 ghost use Rattle.service_core.specs.Seen.{settings_of, tables_of};
 ghost use Rattle.service_core.specs.TableSteps.{LeadsOn, ask_by};
-ghost use Rattle.desk_model.specs.Refusals.{names_its_right};
-ghost use Rattle.desk_words.specs.Spelling as spelling;
 ghost use Rattle.stream_core.specs.Seen.{HaveOneWriter};
 ghost use Rattle.stream_core.specs.Written.{Prints};
-ghost use Rattle.sqlite.specs.State.{State};
 ghost use Rattle.desk_program.specs.One as one;
 ghost use Rattle.desk_program.specs.One.{RunsOne, TakesStep, asked_by};
 
@@ -63,9 +61,10 @@ pub fn run_one<S: Backend + Drop, W: Write>(
     words: &[String],
     writer: &mut W,
 ) -> u8
-    ensures { (new : State) × (failed : Bool) × RunsOne
+    ensures { (left : Held S) × (failed : Bool) × RunsOne S.Store
         (asked_by settings.now at caller.now (map string_bytes words.now))
-        (state_of S.Store store) new (W.contents writer.old) (W.contents writer.new) result failed }
+        (connection_of S.Store store) left (W.contents writer.old) (W.contents writer.new)
+        result failed }
 {
     let ended = run_one_whole(alloc, settings, store, caller, at, words, writer);
     let status = ended.status;
@@ -83,8 +82,8 @@ pub fn run_one_whole<S: Backend, W: Write>(
     words: &[String],
     writer: &mut W,
 ) -> OneEnded<S>
-    ensures { RunsOne (asked_by settings.now at caller.now (map string_bytes words.now))
-        (state_of S.Store store) (state_of S.Store result.store)
+    ensures { RunsOne S.Store (asked_by settings.now at caller.now (map string_bytes words.now))
+        (connection_of S.Store store) (connection_of S.Store result.store)
         (W.contents writer.old) (W.contents writer.new) result.status result.failed }
 {
     let mut output = CountedWriter::new(writer);
@@ -108,8 +107,9 @@ fn run_words<S: Backend, W: Write>(
 ) -> (u8, Store<S>)
     ensures same_writer { HaveOneWriter output.new output.old }
     ensures printed { (line : List ℕ)
-        × one.IsOneOutput (asked_by settings.now at caller.now (map string_bytes words.now))
-        (state_of S.Store store) (state_of S.Store result.1) line result.0
+        × one.IsOneOutput S.Store
+        (asked_by settings.now at caller.now (map string_bytes words.now))
+        (connection_of S.Store store) (connection_of S.Store result.1) line result.0
         × Prints W.contents output.old output.new line }
 {
     match command_of_words(alloc, words) {
@@ -141,8 +141,8 @@ fn run_command<S: Backend, W: Write>(
 ) -> (u8, Store<S>)
     ensures same_writer { HaveOneWriter output.new output.old }
     ensures printed { (line : List ℕ)
-        × one.IsCommandOutput settings.now at caller.now (Some command.now)
-        (state_of S.Store store) (state_of S.Store result.1) line result.0
+        × one.IsCommandOutput S.Store settings.now at caller.now (Some command.now)
+        (connection_of S.Store store) (connection_of S.Store result.1) line result.0
         × Prints W.contents output.old output.new line }
 {
     match open(alloc, store, settings, output) {

@@ -1,7 +1,7 @@
 //! A desk is opened over the tables of a store, with the settings of a text.
 ghost use Rattle.std.specs.Prelude.{◌≡◌, ◌≢◌, ◌≤◌, ℕ, List, Ok, Err, length, IfErr, IfOk, IfSome};
 ghost use Rattle.std.specs.Prelude.{OnOk, Result, true, if◌then◌else◌};
-ghost use Rattle.store_core.specs.Seen.{state_of};
+ghost use Rattle.store_core.specs.Seen.{connection_of, state_of};
 ghost use Rattle.service_core.specs.Attaching.{TellsKnown};
 ghost use Rattle.service_core.specs.Seen.{settings_of, tables_of};
 ghost use Rattle.service_core.specs.declared.fault.AttachFault.{AttachFault};
@@ -87,7 +87,7 @@ pub fn open_desk<S: Backend + Drop, W: Write>(
     ensures opened { IfOk result (λ desk. IsOpened settings.now (state_of S.Store store)
         (settings_of S.Store desk) (tables_of S.Store desk)) }
     ensures quiet { OnOk result (W.contents writer.new ≡ W.contents writer.old) }
-    ensures told { IfErr result (λ status. IsNotOpened settings.now (state_of S.Store store)
+    ensures told { IfErr result (λ status. IsNotOpened S.Store settings.now (connection_of S.Store store)
         (W.contents writer.old) (W.contents writer.new) status) }
 {
     let mut output = CountedWriter::new(writer);
@@ -114,7 +114,8 @@ pub(crate) fn open<S: Backend, W: Write>(
     ensures quiet { OnOk result (output.new ≡ output.old) }
     ensures told { IfErr result (λ back. (given : Result Settings SettingsFault)
         × (line : List ℕ) × form.GivesSettings settings.now given
-        × IsOpeningFault given (state_of S.Store store) (state_of S.Store back.1) line back.0
+        × IsOpeningFault S.Store given (connection_of S.Store store)
+        (connection_of S.Store back.1) line back.0
         × Prints W.contents output.old output.new line) }
 {
     match read_settings(alloc, settings) {
@@ -142,8 +143,8 @@ fn open_tables<S: Backend, W: Write>(
         TellsKnown settings (state_of S.Store store) (tables_of S.Store desk) true) }
     ensures quiet { OnOk result (output.new ≡ output.old) }
     ensures told { IfErr result (λ back. (line : List ℕ)
-        × IsOpeningFault (Ok settings) (state_of S.Store store) (state_of S.Store back.1) line
-        back.0
+        × IsOpeningFault S.Store (Ok settings) (connection_of S.Store store)
+        (connection_of S.Store back.1) line back.0
         × Prints W.contents output.old output.new line) }
 {
     let mut store = store;
