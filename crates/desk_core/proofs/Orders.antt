@@ -43,8 +43,9 @@ use Rattle.desk_model.specs.declared.rows.RequestRow.{RequestRow}
 use Rattle.desk_core.proofs.DeskLaw.Links.{links_go_on, same_kind}
 use Rattle.desk_core.proofs.Every.{every_found}
 use Rattle.desk_core.proofs.Readings.Overdue.{all_at_place}
-use Rattle.desk_core.proofs.Rising.{Climbs, IsTransitive, all_keyed_rise, climbs, filtered_rises}
-use Rattle.desk_core.proofs.Rising.{is_apart, mapped_rises, orders_go_on, orders_part, placed_rises}
+use Rattle.desk_core.proofs.Rising.{Climbs, IsTransitive, all_keyed_rise, by, climbs}
+use Rattle.desk_core.proofs.Rising.{filtered_rises, is_apart, mapped_rises, numbered_rise}
+use Rattle.desk_core.proofs.Rising.{numbers_go_on, orders_go_on, orders_part, placed_rises}
 use Rattle.desk_core.specs.Orders.{IsInOrder, LinksRise, TellsInOrder}
 use Rattle.desk_core.specs.Orders.{has_first_owner, has_lower_number, is_listed_first}
 use Rattle.desk_core.specs.Orders.{numbers_rise}
@@ -60,35 +61,6 @@ queues_in_order call desk is =
     is.queues
 
 -- entries
-
--- by a number of each
-abbrev by : {X : Type 0} → (X → ℕ) → X → X → Bool
-by number a b = nat_lt (number a) (number b)
-
-numbers_go_on : {X : Type 0} (number : X → ℕ) → IsTransitive (by number)
-numbers_go_on number x y z one two =
-    lt-ltb (number x) (number z)
-    (let a = ltb-true (number x) (number y) one in
-    let b = ltb-true (number y) (number z) two in omega arith)
-
-next_higher : {X : Type 0} (number : X → ℕ) (e : X) (n : ℕ) (es : List X) → number e ≡ n
-    → are_numbered (n + 1) (map number es) ≡ true
-    → comes_first (by number) e es ≡ true
-next_higher number e n [] is numbered = refl
-next_higher number e n (f ∷ fs) is numbered =
-    let parts = and_parts (number f == n + 1)
-    (are_numbered (n + 1 + 1) (map number fs)) numbered in
-    let next : number f ≡ n + 1 = eqb-true (number f) (n + 1) parts.0 in
-    lt-ltb (number e) (number f) (omega (arith, is, next))
-
-numbered_rise : {X : Type 0} (number : X → ℕ) (n : ℕ) (es : List X)
-    → are_numbered n (map number es) ≡ true → is_rising (by number) es ≡ true
-numbered_rise number n [] numbered = refl
-numbered_rise number n (e ∷ es) numbered =
-    let parts = and_parts (number e == n) (are_numbered (n + 1) (map number es)) numbered in
-    and_from (comes_first (by number) e es) (is_rising (by number) es)
-    (next_higher number e n es (eqb-true (number e) n parts.0) parts.1)
-    (numbered_rise number (n + 1) es parts.1)
 
 history_of : (call : Call) (desk : Desk) (id : ℕ) (o : Option Request) → IsDesk desk
     → request_at desk id ≡ o
@@ -292,7 +264,7 @@ lines_part a b lower =
 
 -- the number of a line is that of the request it is made of
 line_number : (at : ℕ) (t : Told) (due : Option ℕ)
-    → IfSome (option_and_then (line_if_late at t.row) due) (λ l. l.id ≡ t.row.id)
+    → IfSome (option_and_then (line_if_late at t.row) due) (λ (l : LateLine). l.id ≡ t.row.id)
 line_number at t None = tt
 line_number at t (Some due) =
     elim (nat_lt due at) as (λ b. IfSome (cond b (Some (record {
@@ -301,7 +273,7 @@ line_number at t (Some due) =
       owner = t.row.owner;
       due = due;
       late = at - due;
-    })) None) (λ l. l.id ≡ t.row.id)) [
+    })) None) (λ (l : LateLine). l.id ≡ t.row.id)) [
       | true ↦ refl
       | false ↦ tt
     ]

@@ -1,7 +1,9 @@
 -- Lists that rise: with one more at its place, with some taken away, and with a name in order.
-use Rattle.std.proofs.Common.{◌≡◌, ◌∙◌, ℕ, Bool, true, false, ◌||◌, cond}
+use Rattle.std.proofs.Common.{◌≡◌, ◌∙◌, ℕ, ◌+◌, ◌==◌, Bool, true, false, ◌||◌, cond}
 use Rattle.std.proofs.Common.{◌&&◌, List, [], ◌∷◌, filter, fold, map, refl, ap, ap₂, sym}
-use Rattle.std.proofs.lemmas.Bool.{and_from, and_parts}
+use Rattle.std.proofs.Common.{arith}
+use Rattle.std.proofs.lemmas.Bool.{and_from, and_parts, eqb-true, lt-ltb, ltb-true}
+use Rattle.std.specs.Bool.{nat_lt}
 use Rattle.std.specs.BTreeSet.{insert_key}
 use Rattle.std.specs.Cmp.{IsTotalOrder}
 use Rattle.std.specs.Cmp.Lexicographic.{nat_list_cmp_total, texts_ties}
@@ -12,7 +14,7 @@ use Rattle.std.specs.declared.cmp.Ordering.{Ordering}
 use Rattle.std.specs.declared.cmp.Ordering.TheVariants.{Less, Equal, Greater}
 use Rattle.desk_model.specs.Change.{without_name}
 use Rattle.desk_model.specs.Desk.{placed}
-use Rattle.desk_model.specs.IsDesk.{comes_first, is_rising, names_rise}
+use Rattle.desk_model.specs.IsDesk.{are_numbered, comes_first, is_rising, names_rise}
 use Rattle.desk_model.specs.Names.{text_order, with_name}
 
 -- one that comes after y is placed in a list before which y comes
@@ -136,8 +138,8 @@ first_keyed cmp y (z ∷ zs) x above first =
 pub keyed_rises : {K : Type 0} (cmp : K → K → Ordering) → IsTotalOrder cmp → (keys : List K)
     (key : K) → keys_rise cmp keys ≡ true → keys_rise cmp (insert_key cmp keys key) ≡ true
 keyed_rises cmp total [] x rises = refl
-keyed_rises cmp total (y ∷ ys) x rises =
-    let lower = λ a b. is_lt (cmp a b) in
+keyed_rises {K} cmp total (y ∷ ys) x rises =
+    let lower : K → K → Bool = λ a b. is_lt (cmp a b) in
     let parts = and_parts (comes_first lower y ys) (keys_rise cmp ys) rises in
     elim (cmp x y) as (λ o. cmp x y ≡ o → cmp y x ≡ ordering_reverse o
     → keys_rise cmp (match_ordering o (x ∷ y ∷ ys) (y ∷ ys) (y ∷ insert_key cmp ys x)) ≡ true) [
@@ -202,3 +204,32 @@ climbs lower [] goes_on rises = tt
 climbs lower (x ∷ xs) goes_on rises =
     let parts = and_parts (comes_first lower x xs) (is_rising lower xs) rises in
     (below_all lower x xs goes_on parts.0 parts.1, climbs lower xs goes_on parts.1)
+
+-- by a number of each
+abbrev pub by : {X : Type 0} → (X → ℕ) → X → X → Bool
+by number a b = nat_lt (number a) (number b)
+
+pub numbers_go_on : {X : Type 0} (number : X → ℕ) → IsTransitive (by number)
+numbers_go_on number x y z one two =
+    lt-ltb (number x) (number z)
+    (let a = ltb-true (number x) (number y) one in
+    let b = ltb-true (number y) (number z) two in omega arith)
+
+next_higher : {X : Type 0} (number : X → ℕ) (e : X) (n : ℕ) (es : List X) → number e ≡ n
+    → are_numbered (n + 1) (map number es) ≡ true
+    → comes_first (by number) e es ≡ true
+next_higher number e n [] is numbered = refl
+next_higher number e n (f ∷ fs) is numbered =
+    let parts = and_parts (number f == n + 1)
+    (are_numbered (n + 1 + 1) (map number fs)) numbered in
+    let next : number f ≡ n + 1 = eqb-true (number f) (n + 1) parts.0 in
+    lt-ltb (number e) (number f) (omega (arith, is, next))
+
+pub numbered_rise : {X : Type 0} (number : X → ℕ) (n : ℕ) (es : List X)
+    → are_numbered n (map number es) ≡ true → is_rising (by number) es ≡ true
+numbered_rise number n [] numbered = refl
+numbered_rise number n (e ∷ es) numbered =
+    let parts = and_parts (number e == n) (are_numbered (n + 1) (map number es)) numbered in
+    and_from (comes_first (by number) e es) (is_rising (by number) es)
+    (next_higher number e n es (eqb-true (number e) n parts.0) parts.1)
+    (numbered_rise number (n + 1) es parts.1)

@@ -1,6 +1,5 @@
 -- The texts of answers and refusals, as lists of bytes.
-use Rattle.std.specs.Prelude.{ℕ, List, [], ◌∷◌, ◌++◌, Option, Ok, Err, unwrap_or, codes, decimal}
-use Rattle.std.specs.Option.{option_map}
+use Rattle.std.specs.Prelude.{ℕ, List, [], ◌∷◌, ◌++◌, Option, Ok, Err, codes, decimal}
 use Rattle.std.specs.List.{flat_map}
 use Rattle.hours_core.specs.Date.{text_of_minute}
 use Rattle.desk_model.specs.Refusals.{number_of, name_of}
@@ -13,10 +12,16 @@ use Rattle.desk_model.specs.declared.refusal.Refusal.{Refusal}
 use Rattle.desk_model.specs.declared.refusal.Refusal.TheVariants.{Denied}
 use Rattle.desk_model.specs.declared.rows.RequestRow.{RequestRow}
 use Rattle.desk_texts.specs.Texts.History.{history_text}
+use Rattle.desk_texts.specs.Texts.Listed.{list_text}
+use Rattle.desk_texts.specs.Texts.Overdue.{overdue_text}
 use Rattle.desk_texts.specs.Texts.Queues.{queues_text}
-use Rattle.desk_texts.specs.Words.{or_dash}
+use Rattle.desk_texts.specs.Texts.Workload.{workload_text}
+use Rattle.desk_texts.specs.Words.{minute_or_dash, or_dash, or_nobody}
 pub mod History
+pub mod Listed
+pub mod Overdue
 pub mod Queues
+pub mod Workload
 
 -- a label, its value and a line feed
 unfoldable pub line : List ℕ → List ℕ → List ℕ
@@ -37,13 +42,6 @@ after_number n = after_space (decimal n)
 abbrev pub numbers : List ℕ → List ℕ
 numbers [] = codes "-"
 numbers (first ∷ rest) = decimal first ++ flat_map after_number rest
-
--- the owner, or `Nobody`
-abbrev pub or_nobody : Option (List ℕ) → List ℕ
-or_nobody owner = unwrap_or owner (codes "Nobody")
-
-abbrev pub minute_or_dash : Option ℕ → List ℕ
-minute_or_dash minute = or_dash (option_map text_of_minute minute)
 
 abbrev pub row_lines : RequestRow → List ℕ
 row_lines row =
@@ -93,7 +91,10 @@ answer_text answer.Done = done_text
 answer_text (answer.Created id) = created_text id
 answer_text (answer.Queues queues) = queues_text queues
 answer_text (answer.Shown shown) = show_text shown
+answer_text (answer.Listed requests) = list_text requests
 answer_text (answer.History entries) = history_text entries
+answer_text (answer.Late requests) = overdue_text requests
+answer_text (answer.Workload loads) = workload_text loads
 
 -- a refusal's number and name, and what comes after them
 abbrev pub refused_text : Refusal → List ℕ → List ℕ

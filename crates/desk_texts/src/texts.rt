@@ -5,15 +5,22 @@ use desk_model::{Answer, Refusal};
 use std::alloc::{AllocError, Global};
 
 pub mod history;
+pub mod listed;
+mod minute;
+pub mod overdue;
 pub mod queues;
 pub mod shown;
+pub mod workload;
 
 use history::history_text;
+use listed::list_text;
+use overdue::overdue_text;
 use queues::queues_text;
 use shown::show_text;
+use workload::workload_text;
 
-/// The text of an answer: `ok`, `request N`, a line for each queue, the lines of a request, or one
-/// for each entry.
+/// The text of an answer: `ok`, `request N`, the lines of a request, or one for each queue, request,
+/// entry or owner that it tells of.
 pub fn answer_text(alloc: Global, answer: &Answer) -> Result<String, AllocError>
     ensures { IfOk result (λ t. string_bytes t ≡ text.answer_text answer.now) }
 {
@@ -22,7 +29,10 @@ pub fn answer_text(alloc: Global, answer: &Answer) -> Result<String, AllocError>
         Answer::Created(id) => created_text(alloc, *id),
         Answer::Queues(queues) => queues_text(alloc, queues.as_slice()),
         Answer::Shown(shown) => show_text(alloc, shown),
+        Answer::Listed(requests) => list_text(alloc, requests.as_slice()),
         Answer::History(entries) => history_text(alloc, entries.as_slice()),
+        Answer::Late(requests) => overdue_text(alloc, requests.as_slice()),
+        Answer::Workload(loads) => workload_text(alloc, loads.as_slice()),
     }
 }
 

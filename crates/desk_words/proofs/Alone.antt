@@ -14,7 +14,7 @@ use Rattle.desk_words.specs.Subcommands.{on_queues, on_requests, on_statuses, on
 use Rattle.desk_words.specs.Subcommands.{on_texts_and_links, subcommands}
 use Rattle.desk_words.specs.Subcommands.{queue, create, status, resolve, level, take, steal, untake}
 use Rattle.desk_words.specs.Subcommands.{give, watch, unwatch, correspond, comment, link}
-use Rattle.desk_words.specs.Subcommands.{queues, show, history}
+use Rattle.desk_words.specs.Subcommands.{queues, show, ls, history, overdue, workload}
 use Rattle.desk_words.proofs.Free.{whole_is_free, whole_is_simple}
 use Rattle.desk_words.proofs.Meets.{faults_met, level_of, rows_met, stopped_at, turn_by}
 
@@ -134,8 +134,17 @@ readings_alone = (
   (
     is_alone show refl refl refl refl (λ r. refl) (λ r. refl),
     (
-      is_alone history refl refl refl refl (λ r. refl) (λ r. refl),
-      tt,
+      is_alone ls refl refl refl refl (λ r. refl) (λ r. refl),
+      (
+        is_alone history refl refl refl refl (λ r. refl) (λ r. refl),
+        (
+          is_alone overdue refl refl refl refl (λ r. refl) (λ r. refl),
+          (
+            is_alone workload refl refl refl refl (λ r. refl) (λ r. refl),
+            tt,
+          ),
+        ),
+      ),
     ),
   ),
 )

@@ -215,6 +215,21 @@ show = with_all (bare (codes "show")) (codes "id" ∷ [])
 abbrev pub history : App
 history = with_all (bare (codes "history")) (codes "id" ∷ [])
 
+-- ls QUEUE
+abbrev pub ls : App
+ls = with_all (bare (codes "ls")) (codes "queue" ∷ [])
+
+abbrev pub ls_of : List Row → Option Command
+ls_of rows = option_map command.List (first_of (codes "queue") rows)
+
+-- overdue
+abbrev pub overdue : App
+overdue = bare (codes "overdue")
+
+-- workload
+abbrev pub workload : App
+workload = bare (codes "workload")
+
 -- the subcommands on queues
 unfoldable pub on_queues : List App
 on_queues = queue ∷ create ∷ []
@@ -237,7 +252,7 @@ on_requests = on_statuses ++ (on_people ++ on_texts_and_links)
 
 -- those that read
 unfoldable pub readings : List App
-readings = queues ∷ show ∷ history ∷ []
+readings = queues ∷ show ∷ ls ∷ history ∷ overdue ∷ workload ∷ []
 
 -- the subcommands
 unfoldable pub subcommands : List App
@@ -288,7 +303,10 @@ unfoldable pub reading_command : Text → List Row → Option Command
 reading_command name given =
     if bytes_eq name (codes "queues") then Some command.Queues
     else if bytes_eq name (codes "show") then on_request command.Show given
+    else if bytes_eq name (codes "ls") then ls_of given
     else if bytes_eq name (codes "history") then on_request command.History given
+    else if bytes_eq name (codes "overdue") then Some command.Overdue
+    else if bytes_eq name (codes "workload") then Some command.Workload
     else None
 
 -- that of a subcommand

@@ -19,7 +19,7 @@ mod readings;
 mod requests;
 
 /// The names of the subcommands.
-pub(crate) const NAMES: [&str; 17] = [
+pub(crate) const NAMES: [&str; 20] = [
     "queue",
     "create",
     "status",
@@ -36,7 +36,10 @@ pub(crate) const NAMES: [&str; 17] = [
     "link",
     "queues",
     "show",
+    "ls",
     "history",
+    "overdue",
+    "workload",
 ];
 
 /// The subcommand of this name, if there is one.
@@ -73,5 +76,5 @@ pub(crate) fn command_in(
     if let Some(command) = command_on_requests(alloc, name, given)? {
         return Ok(Some(command));
     }
-    Ok(reading_command(name, given))
+    reading_command(alloc, name, given)
 }

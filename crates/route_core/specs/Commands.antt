@@ -2,6 +2,7 @@
 -- and its body.
 use Rattle.std.specs.Prelude.{ℕ, Bool, true, false, ◌&&◌, if◌then◌else◌, List, codes}
 use Rattle.std.specs.Prelude.{Option, Some, None, option_and_then, Result, Ok, Err}
+use Rattle.std.specs.Option.{option_map}
 use Rattle.std.specs.Str.{bytes_eq}
 use Rattle.serde_json.specs.Data.{Members}
 use Rattle.settings_core.specs.Settings.{person_of_token}
@@ -48,23 +49,30 @@ caller_of settings token = option_and_then (person_of_token settings) token
 
 -- ---- the command
 
--- what a GET asks for
-abbrev pub got : Place → Option Command
-got place.Queues = Some command.Queues
-got place.Requests = None
-got (place.Request id) = Some (command.Show id)
-got (place.History id) = Some (command.History id)
-got (place.Act id act) = None
+-- the queue of a path; it is named by a text, as in each path that is one
+abbrev pub queue_of : List ℕ → Option (List ℕ)
+queue_of path = text_in (queue_in path)
 
--- what is asked for by these members, posted to the place of that path; a queue is named by a text,
--- as in each path that is one
+-- what a GET asks for at the place of that path
+abbrev pub got : Place → List ℕ → Option Command
+got place.Queues path = Some command.Queues
+got place.Requests path = option_map command.List (queue_of path)
+got (place.Request id) path = Some (command.Show id)
+got (place.History id) path = Some (command.History id)
+got (place.Act id act) path = None
+got place.Overdue path = Some command.Overdue
+got place.Workload path = Some command.Workload
+
+-- what is asked for by these members, posted to the place of that path
 abbrev pub posted_by : Place → List ℕ → Members → Option Command
 posted_by place.Queues path members = opening members
 posted_by place.Requests path members =
-    option_and_then (λ queue. filing queue members) (text_in (queue_in path))
+    option_and_then (λ queue. filing queue members) (queue_of path)
 posted_by (place.Request id) path _ = None
 posted_by (place.History id) path _ = None
 posted_by (place.Act id act) path members = acting id act members
+posted_by place.Overdue path _ = None
+posted_by place.Workload path _ = None
 
 -- what a POST asks for
 abbrev pub posted : Place → Message → Option Command
@@ -80,7 +88,8 @@ asked_by (Some caller) (Some asked) = Ok (caller, asked)
 -- the caller and the command that a message asks for at a place, or its fault
 abbrev pub command_at : Settings → Place → Message → Result (List ℕ × Command) CommandFault
 command_at settings place message =
-    if is_get place message.method then asked_by (caller_of settings message.token) (got place)
+    if is_get place message.method
+    then asked_by (caller_of settings message.token) (got place (path_of message.target))
     else if is_post place message.method
     then asked_by (caller_of settings message.token) (posted place message)
     else Err BadMethod

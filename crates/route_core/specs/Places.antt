@@ -75,10 +75,12 @@ is_free text routes = is_scan_free (parse_route text) routes
 
 unfoldable pub routes : Routes
 routes =
-    with_route (codes "/requests/{id}/{act}") route.Act
+    with_route (codes "/workload") route.Workload
+    (with_route (codes "/overdue") route.Overdue
+    (with_route (codes "/requests/{id}/{act}") route.Act
     (with_route (codes "/requests/{id}") route.Request
     (with_route (codes "/queues/{queue}/requests") route.Requests
-    (with_route (codes "/queues") route.Queues [])))
+    (with_route (codes "/queues") route.Queues [])))))
 
 -- the route of a path, if it has one
 abbrev pub route_of : List ℕ → Option Route
@@ -120,6 +122,8 @@ place_on path route.Queues = Some place.Queues
 place_on path route.Requests = Some place.Requests
 place_on path route.Request = option_map place.Request (number_of (id_in path))
 place_on path route.Act = option_and_then (place_named (act_in path)) (number_of (id_in path))
+place_on path route.Overdue = Some place.Overdue
+place_on path route.Workload = Some place.Workload
 
 -- the place of a text, if it has one
 abbrev pub place_at : List ℕ → Option Place
@@ -132,7 +136,9 @@ place_of target = option_and_then place_at (text_in (path_of target))
 -- the methods of a place
 abbrev pub methods_of : Place → Allow
 methods_of place.Queues = allow.GetPost
-methods_of place.Requests = allow.Post
+methods_of place.Requests = allow.GetPost
 methods_of (place.Request id) = allow.Get
 methods_of (place.History id) = allow.Get
 methods_of (place.Act id act) = allow.Post
+methods_of place.Overdue = allow.Get
+methods_of place.Workload = allow.Get

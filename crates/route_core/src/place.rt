@@ -37,6 +37,10 @@ pub enum Place {
     History(u32),
     /// `/requests/{id}/{act}`, for each other act
     Act(u32, Act),
+    /// `/overdue`
+    Overdue,
+    /// `/workload`
+    Workload,
 }
 
 impl Place {
@@ -46,10 +50,12 @@ impl Place {
     {
         match self {
             Place::Queues => Allow::GetPost,
-            Place::Requests => Allow::Post,
+            Place::Requests => Allow::GetPost,
             Place::Request(_) => Allow::Get,
             Place::History(_) => Allow::Get,
             Place::Act(_, _) => Allow::Post,
+            Place::Overdue => Allow::Get,
+            Place::Workload => Allow::Get,
         }
     }
 }
@@ -91,6 +97,8 @@ fn place_on(path: &[u8], route: Route) -> Option<Place>
             Some(id) => place_of_act(path, id),
             None => None,
         },
+        Route::Overdue => Some(Place::Overdue),
+        Route::Workload => Some(Place::Workload),
     }
 }
 

@@ -16,6 +16,10 @@ pub(crate) enum Route {
     Request,
     /// `/requests/{id}/{act}`
     Act,
+    /// `/overdue`
+    Overdue,
+    /// `/workload`
+    Workload,
 }
 
 /// The route of a path, if it has one.
@@ -47,6 +51,8 @@ fn add_all(router: &mut Router<Route>) -> Result<(), AllocError>
     add(router, "/queues/{queue}/requests", Route::Requests)?;
     add(router, "/requests/{id}", Route::Request)?;
     add(router, "/requests/{id}/{act}", Route::Act)?;
+    add(router, "/overdue", Route::Overdue)?;
+    add(router, "/workload", Route::Workload)?;
     Ok(())
 }
 

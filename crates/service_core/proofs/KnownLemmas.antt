@@ -1,26 +1,23 @@
 -- A desk's names are those of its rows and of the histories.
-use Rattle.std.proofs.Common.{◌≡◌, ◌∙◌, ◌==◌, ◌≤◌, ◌+◌, ℕ, Bool, true, false, List, [], ◌∷◌, ◌++◌}
-use Rattle.std.proofs.Common.{flat_map, map, Some, refl, sym, ap, ap₂, arith}
-use Rattle.std.proofs.lemmas.Bool.{and_parts, eqb-true, eq-eqb}
-use Rattle.std.proofs.lemmas.Bool.Decides.{nat_tests}
+use Rattle.std.proofs.Common.{◌≡◌, ◌∙◌, ℕ, Bool, true, false, List, [], ◌∷◌, ◌++◌}
+use Rattle.std.proofs.Common.{flat_map, map, refl, sym, ap, ap₂, IsPermutation}
 use Rattle.std.proofs.lemmas.List.Folds.{list_all-append, list_all-map}
-use Rattle.std.specs.List.{AllByRecursion, list_all}
-use Rattle.std.specs.Option.{option_map_or}
-use Rattle.std.specs.Prelude.{find, ◌&&◌}
+use Rattle.std.specs.List.{list_all}
+use Rattle.std.specs.Prelude.{◌&&◌}
 use Rattle.settings_core.specs.Settings.{knows}
 use Rattle.settings_core.specs.declared.settings.Settings.{Settings}
-use Rattle.desk_model.specs.declared.rows.Entry.{Entry}
 use Rattle.desk_model.specs.declared.rows.QueueRow.{QueueRow}
 use Rattle.desk_model.specs.declared.rows.RequestRow.{RequestRow}
 use Rattle.desk_model.specs.declared.rows.Watcher.{Watcher}
 use Rattle.desk_model.specs.declared.rows.WatchRole.{WatchRole}
 use Rattle.desk_model.specs.declared.rows.WatchRole.TheVariants.{Requestor, Cc, AdminCc}
 use Rattle.desk_model.specs.Desk.{Desk, Request}
-use Rattle.desk_model.specs.IsDesk.{IsDesk, are_numbered}
 use Rattle.desk_model.specs.Known.{is_known, knows_actors, knows_persons, knows_queue, knows_row}
 use Rattle.desk_model.specs.Watchers.{watcher, watchers_of}
-use Rattle.service_core.specs.Attaching.{knows_history, knows_rows, of_queues}
-use Rattle.store_tables.specs.Contents.{request_rows, watchers}
+use Rattle.service_core.specs.Attaching.{knows_histories, knows_rows, of_queues}
+use Rattle.store_tables.specs.Contents.{actors, entries, request_rows, watchers}
+use Rattle.store_tables.specs.Selection.{actor_of}
+use Rattle.store_tables.proofs.KeptLemmas.{all_alike}
 
 -- ---- persons
 
@@ -48,40 +45,32 @@ module _ (settings : Settings) where
       list_all-append is_person (watchers_of r) (flat_map watchers_of rs)
       ∙ ap₂ ◌&&◌ (persons_of_one r) (persons_of_all rs)
 
--- ---- requests by their numbers
+-- ---- those who made entries
 
--- the request is found by its number, which is at least this
-pub record Found (least : ℕ) (rs : List Request) (r : Request) : Type 0 where
-  pub low : least ≤ r.row.id
-  pub found : find (λ x. x.row.id == r.row.id) rs ≡ Some r
+made_by : (settings : Settings) (rs : List Request)
+    → list_all (λ e. knows settings (actor_of e)) (flat_map (λ (r : Request). r.entries) rs)
+    ≡ list_all (knows_actors settings) rs
+made_by settings [] = refl
+made_by settings (r ∷ rs) =
+    list_all-append (λ e. knows settings (actor_of e)) r.entries
+    (flat_map (λ (r : Request). r.entries) rs)
+    ∙ ap (λ b. knows_actors settings r && b) (made_by settings rs)
 
-later : (next : ℕ) (one : Request) (rs : List Request) (r : Request) → one.row.id ≡ next
-    → Found (next + 1) rs r → Found next (one ∷ rs) r
-later next one rs r first f =
-    let low = f.low in
-    let other : (one.row.id == r.row.id) ≡ false = grind (arith, nat_tests) in
-    record { low = omega arith; found = rw other f.found }
+histories : (settings : Settings) (desk : Desk)
+    → knows_histories settings desk ≡ list_all (knows_actors settings) desk.requests
+unfolding knows_histories
+histories settings desk =
+    list_all-map (knows settings) actor_of (entries desk) ∙ made_by settings desk.requests
 
-all_later : (next : ℕ) (one : Request) (rs these : List Request) → one.row.id ≡ next
-    → AllByRecursion (Found (next + 1) rs) these → AllByRecursion (Found next (one ∷ rs)) these
-all_later next one rs [] first each = tt
-all_later next one rs (r ∷ these) first each =
-    (later next one rs r first each.0, all_later next one rs these first each.1)
+-- what is found of those who were read, in whatever order
+pub known_of_actors : (settings : Settings) (desk : Desk) (read : List (List ℕ))
+    → IsPermutation (actors desk) read
+    → list_all (knows settings) read ≡ knows_histories settings desk
+unfolding knows_histories
+known_of_actors settings desk read same =
+    sym (all_alike (knows settings) (actors desk) read same)
 
-each_found : (next : ℕ) (rs : List Request)
-    → are_numbered next (map (λ (r : Request). r.row.id) rs) ≡ true
-    → AllByRecursion (Found next rs) rs
-each_found next [] numbered = tt
-each_found next (r ∷ rs) numbered =
-    let parts = and_parts (r.row.id == next)
-    (are_numbered (next + 1) (map (λ (r : Request). r.row.id) rs)) numbered in
-    let first : r.row.id ≡ next = eqb-true r.row.id next parts.0 in
-    let itself : (r.row.id == r.row.id) ≡ true = eq-eqb r.row.id r.row.id refl in (
-      record { low = omega arith; found = rw itself refl },
-      all_later next r rs rs first (each_found (next + 1) rs parts.1),
-    )
-
--- ---- histories
+-- ---- all names
 
 in_two : (a b c d : Bool) → (a && (b && (c && d))) ≡ ((a && (b && c)) && d)
 in_two true true c d = refl
@@ -93,29 +82,16 @@ regroup : (a : Bool) {b c d x y z : Bool} → b ≡ x → c ≡ y → d ≡ z
 regroup a {b} {c} {d} {x} {y} {z} p q r =
     ap (λ v. a && v) (ap₂ ◌&&◌ p (ap₂ ◌&&◌ q r)) ∙ in_two a x y z
 
-module _ (settings : Settings) (desk : Desk) where
-  histories : (rs : List Request) → AllByRecursion (Found 1 desk.requests) rs
-      → list_all (λ (r : Request). knows_history settings desk r.row.id) rs
-      ≡ list_all (knows_actors settings) rs
-  unfolding knows_history
-  histories [] each = refl
-  histories (r ∷ rs) each =
-      ap₂ ◌&&◌ (ap (λ o. list_all (λ (e : Entry). knows settings e.actor)
-      (option_map_or (λ (r : Request). r.entries) o [])) each.0.found)
-      (histories rs each.1)
-
-  known_by_rows : IsDesk desk → is_known settings desk
-      ≡ (knows_rows settings desk.queues (request_rows desk) (watchers desk)
-      && list_all (λ (r : RequestRow). knows_history settings desk r.id) (request_rows desk))
-  unfolding knows_rows is_known
-  known_by_rows is =
-      let rows = list_all-map (knows_row settings (of_queues desk.queues))
-      (λ (r : Request). r.row) desk.requests in
-      let persons = persons_of_all settings desk.requests in
-      let actors = list_all-map (λ (r : RequestRow). knows_history settings desk r.id)
-      (λ (r : Request). r.row) desk.requests
-      ∙ histories desk.requests (each_found 1 desk.requests is.requests) in
-      regroup (list_all (knows_queue settings) desk.queues) (sym rows) (sym persons) (sym actors)
+known_by_rows : (settings : Settings) (desk : Desk) → is_known settings desk
+    ≡ (knows_rows settings desk.queues (request_rows desk) (watchers desk)
+    && knows_histories settings desk)
+unfolding knows_rows is_known
+known_by_rows settings desk =
+    let rows = list_all-map (knows_row settings (of_queues desk.queues))
+    (λ (r : Request). r.row) desk.requests in
+    let persons = persons_of_all settings desk.requests in
+    regroup (list_all (knows_queue settings) desk.queues) (sym rows) (sym persons)
+    (sym (histories settings desk))
 
 -- ---- what is found in rows that were read
 
@@ -129,11 +105,10 @@ same_rows settings {qs} {q} {rs} {r} {ws} {w} queues requests watchers =
 
 -- what is known of a desk whose rows are these
 pub known_of_rows : (settings : Settings) (desk : Desk) (qs : List QueueRow)
-    (rs : List RequestRow) (ws : List Watcher) (known : Bool) → IsDesk desk → qs ≡ desk.queues
+    (rs : List RequestRow) (ws : List Watcher) (known : Bool) → qs ≡ desk.queues
     → rs ≡ request_rows desk → ws ≡ watchers desk → known ≡ knows_rows settings qs rs ws
-    → is_known settings desk
-    ≡ (known && list_all (λ (r : RequestRow). knows_history settings desk r.id) rs)
-known_of_rows settings desk qs rs ws known is queues requests those found =
-    known_by_rows settings desk is
-    ∙ ap₂ ◌&&◌ (same_rows settings queues requests those ∙ sym found)
-    (ap (list_all (λ (r : RequestRow). knows_history settings desk r.id)) (sym requests))
+    → is_known settings desk ≡ (known && knows_histories settings desk)
+known_of_rows settings desk qs rs ws known queues requests those found =
+    known_by_rows settings desk
+    ∙ ap (λ b. b && knows_histories settings desk)
+    (same_rows settings queues requests those ∙ sym found)

@@ -1,5 +1,5 @@
 -- What it is that settings are attached to tables.
-use Rattle.std.specs.Prelude.{◌≡◌, ◌⊎◌, ℕ, Bool, ◌&&◌, List}
+use Rattle.std.specs.Prelude.{◌≡◌, ◌⊎◌, Bool, ◌&&◌, List}
 use Rattle.std.specs.List.{list_all}
 use Rattle.sqlite.specs.State.{State, HasCleanDisk}
 use Rattle.settings_core.specs.Settings.{knows}
@@ -11,7 +11,7 @@ use Rattle.desk_model.specs.Desk.{Desk, empty_desk}
 use Rattle.desk_model.specs.IsDesk.{IsDesk}
 use Rattle.desk_model.specs.Known.{is_known, knows_queue, knows_row}
 use Rattle.store_tables.specs.declared.fault.StoreFault.TheVariants.{Refused}
-use Rattle.store_tables.specs.Contents.{Contents, history_at}
+use Rattle.store_tables.specs.Contents.{Contents, actors}
 use Rattle.store_tables.specs.Stands.{Stand, StandsFor}
 use Rattle.service_core.specs.declared.fault.AttachFault.{AttachFault}
 use Rattle.service_core.specs.declared.fault.AttachFault.TheVariants.{Store, UnknownName}
@@ -41,6 +41,6 @@ knows_rows settings queues requests watchers =
     && (list_all (knows_row settings (of_queues queues)) requests
     && list_all (λ w. knows settings w.person) watchers)
 
--- the settings know those who made the entries of the request with that number
-unfoldable pub knows_history : Settings → Desk → ℕ → Bool
-knows_history settings desk id = list_all (λ e. knows settings e.actor) (history_at desk id)
+-- the settings know each who made an entry
+unfoldable pub knows_histories : Settings → Desk → Bool
+knows_histories settings desk = list_all (knows settings) (actors desk)

@@ -1,6 +1,5 @@
 //! Settings are attached to tables.
 ghost use Rattle.std.specs.Prelude.{◌≡◌, ◌&&◌, false, true, IfErr, IfOk};
-ghost use Rattle.std.specs.List.{list_all};
 ghost use Rattle.desk_model.specs.Known as known;
 ghost use Rattle.store_tables.specs.Calls.{OnlyRefuses, Spares, Tells};
 ghost use Rattle.store_tables.specs.Contents.{watchers};
@@ -20,7 +19,8 @@ use store_core::{Backend, Store, StoreFault};
 impl<S: Backend> Desk<S> {
     /// The desk over these tables, with these settings. Answers `Store` where a row is no value of
     /// its type, or the store or memory refuses it, and otherwise `UnknownName` where the settings
-    /// lack a name of the tables; the store is given back with either. The tables stay as they are.
+    /// lack a name of the tables; the store is given back with either. Of an entry only the one who
+    /// made it is looked at. The tables stay as they are.
     pub fn attach(
         alloc: Global,
         store: Store<S>,
@@ -67,7 +67,7 @@ fn is_known<S: Backend>(
         (state_of S.Store store.old) (state_of S.Store store.new) result }
 {
     let requests = store.requests(alloc)?;
-    let histories = knows_histories(alloc, store, settings, requests.as_slice())?;
+    let histories = knows_histories(alloc, store, settings)?;
     let lists = knows_lists(alloc, store, settings, requests.as_slice())?;
     Ok(both(lists, histories))
 }
@@ -106,45 +106,20 @@ fn read_links<S: Backend>(alloc: Global, store: &mut Store<S>) -> Result<(), Sto
     }
 }
 
-/// Whether the settings know those who made the entries of these requests. The tables stay as they
-/// are.
+/// Whether the settings know each who made an entry. The tables stay as they are.
 fn knows_histories<S: Backend>(
     alloc: Global,
     store: &mut Store<S>,
     settings: &Settings,
-    requests: &[RequestRow],
 ) -> Result<bool, StoreFault>
-    ensures told { Tells (λ desk found. found
-        ≡ list_all (λ r. attaching.knows_history settings.now desk r.id) requests.now)
+    ensures told { Tells (λ desk found. found ≡ attaching.knows_histories settings.now desk)
         (state_of S.Store store.old) (state_of S.Store store.new) result }
     ensures kept { Spares (state_of S.Store store.old) (state_of S.Store store.new) }
     ensures fault { OnlyRefuses
         (state_of S.Store store.old) (state_of S.Store store.new) result }
 {
-    let mut known = true;
-    for request in requests {
-        let of_request = knows_history(alloc, store, settings, request.id)?;
-        known = both(known, of_request);
-    }
-    Ok(known)
-}
-
-/// Whether the settings know those who made the entries of the request with that number. The
-/// tables stay as they are.
-fn knows_history<S: Backend>(
-    alloc: Global,
-    store: &mut Store<S>,
-    settings: &Settings,
-    id: u32,
-) -> Result<bool, StoreFault>
-    ensures told { Tells (λ desk found. found ≡ attaching.knows_history settings.now desk id)
-        (state_of S.Store store.old) (state_of S.Store store.new) result }
-    ensures kept { Spares (state_of S.Store store.old) (state_of S.Store store.new) }
-    ensures fault { OnlyRefuses
-        (state_of S.Store store.old) (state_of S.Store store.new) result }
-{
-    let entries = store.entries_of(alloc, id)?;
-    Ok(knows_actors(settings, entries.as_slice()))
+    let actors = store.actors(alloc)?;
+    Ok(knows_actors(settings, actors.as_slice()))
 }
 
 fn both(one: bool, other: bool) -> bool

@@ -8,7 +8,7 @@ ghost use Rattle.desk_model.specs.Known as known;
 ghost use Rattle.desk_model.specs.Lifecycles as lifecycles;
 ghost use Rattle.service_core.specs.Attaching as attaching;
 
-use desk_core::{Entry, QueueRow, RequestRow, Watcher};
+use desk_core::{QueueRow, RequestRow, Watcher};
 use settings_core::Settings;
 use text_core::Text;
 
@@ -27,13 +27,13 @@ pub(crate) fn knows_rows(
         && knows_watchers(settings, watchers)
 }
 
-/// Whether each who made an entry is a person of the settings.
-pub(crate) fn knows_actors(settings: &Settings, entries: &[Entry]) -> bool
-    ensures { result ≡ list_all (λ e. knows settings.now e.actor) entries.now }
+/// Whether each of these who made entries is a person of the settings.
+pub(crate) fn knows_actors(settings: &Settings, actors: &[Text]) -> bool
+    ensures { result ≡ list_all (knows settings.now) actors.now }
 {
-    entries
+    actors
         .iter()
-        .all(|entry| settings.people().knows(entry.actor.as_str()))
+        .all(|actor| settings.people().knows(actor.as_str()))
 }
 
 fn knows_watchers(settings: &Settings, watchers: &[Watcher]) -> bool

@@ -15,7 +15,7 @@ use Rattle.desk_model.specs.Desk.{has_lower_name}
 use Rattle.desk_model.specs.IsDesk.{is_rising}
 use Rattle.store_tables.specs.Kept.{itself}
 use Rattle.store_tables.specs.Picked.{AreOrdered}
-use Rattle.store_tables.specs.Orders.{by_id, by_entry, by_link, by_name, by_watcher}
+use Rattle.store_tables.specs.Orders.{by_id, by_entry, by_link, by_name, by_standing, by_watcher}
 use Rattle.store_tables.specs.Spelling.{role_number}
 use Rattle.desk_model.specs.Links.{kind_number}
 use Rattle.store_core.proofs.SortedLemmas.{Rises, sorted_same}
@@ -65,6 +65,10 @@ watcher_total = then_total (on_total (λ (w : Watcher). w.id) nat_cmp_total)
     (then_total (on_total (λ (w : Watcher). role_number w.role) nat_cmp_total)
     (on_total (λ (w : Watcher). w.person) nat_list_cmp_total))
 
+pub standing_total : IsTotalOrder by_standing
+standing_total = then_total (on_total (λ (w : Watcher). w.id) nat_cmp_total)
+    (on_total (λ (w : Watcher). role_number w.role) nat_cmp_total)
+
 pub the_requests : (xs ys : List RequestRow) → Rises itself by_id id_total xs
     → AreOrdered by_id xs ys → ys ≡ xs
 the_requests xs ys rises h = sorted_same itself by_id id_total xs ys rises h.same h.sorted
@@ -80,3 +84,8 @@ the_links xs ys rises h = sorted_same itself by_link link_total xs ys rises h.sa
 pub the_watchers : (xs ys : List Watcher) → Rises itself by_watcher watcher_total xs
     → AreOrdered by_watcher xs ys → ys ≡ xs
 the_watchers xs ys rises h = sorted_same itself by_watcher watcher_total xs ys rises h.same h.sorted
+
+pub the_watches : (xs ys : List Watcher) → Rises itself by_standing standing_total xs
+    → AreOrdered by_standing xs ys → ys ≡ xs
+the_watches xs ys rises h =
+    sorted_same itself by_standing standing_total xs ys rises h.same h.sorted

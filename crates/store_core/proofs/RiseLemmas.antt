@@ -1,18 +1,18 @@
 -- The lists of a well-formed desk rise by their keys.
 use Rattle.std.proofs.Common.{◌≡◌, ◌∙◌, ◌+◌, ◌<◌, ◌==◌, ℕ, Bool, true, false, cond, List, [], ◌∷◌}
-use Rattle.std.proofs.Common.{◌++◌, map, flat_map, arith, refl, ap, Ordering, Less}
+use Rattle.std.proofs.Common.{◌++◌, map, filter, flat_map, arith, refl, ap, sym, Ordering, Less}
 use Rattle.std.proofs.Common.{Equal, Greater}
 use Rattle.std.proofs.lemmas.Bool.{and_parts, eqb-true}
 use Rattle.std.proofs.lemmas.Bool.Decides.{nat_tests}
 use Rattle.std.proofs.lemmas.Cmp.{nat_cmp_total, nat_list_cmp_total, tied_itself}
 use Rattle.std.specs.Prelude.{◌&&◌, ◌||◌}
 use Rattle.std.specs.Bool.{nat_lt}
-use Rattle.std.specs.Cmp.Lexicographic.{slice_cmp}
+use Rattle.std.specs.Cmp.Lexicographic.{same_text, slice_cmp}
 use Rattle.std.specs.List.{AllByRecursion, list_all}
 use Rattle.std.specs.Ordering.{is_lt, nat_cmp, ordering_then}
 use Rattle.sqlite_trees.specs.Tree.{IsAscending}
 use Rattle.sqlite_trees.proofs.ListLemmas.{all_both, all_of, all_weaker, all-append, all-map}
-use Rattle.sqlite_trees.proofs.ListLemmas.{ascending-append, ascending-map}
+use Rattle.sqlite_trees.proofs.ListLemmas.{ascending-append, ascending-filter, ascending-map}
 use Rattle.sqlite_trees.proofs.ListLemmas.{ascending_weaker}
 use Rattle.desk_model.specs.declared.rows.Entry.{Entry}
 use Rattle.desk_model.specs.declared.rows.LinkRow.{LinkRow}
@@ -28,10 +28,11 @@ use Rattle.desk_model.specs.Names.{text_order}
 use Rattle.desk_model.specs.Watchers.{watcher, watchers_of}
 use Rattle.store_tables.specs.Contents.{entries, request_rows, watchers}
 use Rattle.store_tables.specs.Kept.{itself}
-use Rattle.store_tables.specs.Orders.{by_entry, by_id, by_link, by_watcher}
+use Rattle.store_tables.specs.Orders.{by_entry, by_id, by_link, by_standing, by_watcher}
+use Rattle.store_tables.specs.Selection.{is_of_person}
 use Rattle.store_tables.specs.Spelling.{role_number}
 use Rattle.store_core.proofs.OrderLemmas.{all_rise, entry_total, id_total, link_total}
-use Rattle.store_core.proofs.OrderLemmas.{watcher_total}
+use Rattle.store_core.proofs.OrderLemmas.{standing_total, watcher_total}
 use Rattle.store_core.proofs.SortedLemmas.{Rises}
 
 -- ---- numbers from 1 on
@@ -219,6 +220,52 @@ watchers_rise desk is =
     (all_of (λ r. AllByRecursion (λ w. w.id ≡ r.row.id) (watchers_of r)) their_own desk.requests)
     (all_tested persons_rise (λ r. IsAscending (λ a b. by_watcher a b ≡ Less) (watchers_of r))
     of_request desk.requests is.persons)
+
+then_tied : (o : Ordering) → ordering_then o Equal ≡ o
+then_tied Less = refl
+then_tied Equal = refl
+then_tied Greater = refl
+
+-- among those of one person the request and the role tell them apart
+same_person : (a b : Watcher) → a.person ≡ b.person → by_watcher a b ≡ by_standing a b
+same_person a b same =
+    let ids = nat_cmp a.id b.id in
+    let roles = nat_cmp (role_number a.role) (role_number b.role) in
+    let tie : slice_cmp nat_cmp a.person b.person ≡ Equal =
+    ap (slice_cmp nat_cmp a.person) (sym same) ∙ tied_itself nat_list_cmp_total a.person in
+    ap (λ o. ordering_then ids (ordering_then roles o)) tie
+    ∙ ap (ordering_then ids) (then_tied roles)
+
+one_person : (person : List ℕ) (ws : List Watcher) → AllByRecursion (λ w. w.person ≡ person) ws
+    → IsAscending (λ a b. by_watcher a b ≡ Less) ws
+    → IsAscending (λ a b. by_standing a b ≡ Less) ws
+one_person person [] own up = tt
+one_person person (w ∷ ws) own up = (
+  all_both (λ (b : Watcher). b.person ≡ person) (λ b. by_watcher w b ≡ Less)
+      (λ b. by_standing w b ≡ Less)
+      (λ b is low. sym (same_person w b (own.0 ∙ sym is)) ∙ low) ws own.1 up.0,
+  one_person person ws own.1 up.1,
+)
+
+their_watches : (person : List ℕ) (ws : List Watcher)
+    → AllByRecursion (λ w. w.person ≡ person) (filter (is_of_person person) ws)
+their_watches person [] = tt
+their_watches person (w ∷ ws) =
+    let P : Watcher → Type 0 = λ w. w.person ≡ person in
+    let others = filter (is_of_person person) ws in
+    elim (is_of_person person w) as (λ b. is_of_person person w ≡ b
+    → AllByRecursion P (cond b (w ∷ others) others)) [
+      | true ↦ λ is. (same_text w.person person (sym is), their_watches person ws)
+      | false ↦ λ is. their_watches person ws
+    ] refl
+
+pub watches_rise : (desk : Desk) → IsDesk desk → (person : List ℕ)
+    → Rises itself by_standing standing_total (filter (is_of_person person) (watchers desk))
+watches_rise desk is person =
+    one_person person (filter (is_of_person person) (watchers desk))
+    (their_watches person (watchers desk))
+    (ascending-filter (λ a b. by_watcher a b ≡ Less) (is_of_person person) (watchers desk)
+    (watchers_rise desk is))
 
 -- ---- entries
 

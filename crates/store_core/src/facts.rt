@@ -56,6 +56,7 @@ fn facts_in<S: Alter>(
 {
     match scope {
         Scope::Nothing => Ok(no_facts(alloc)),
+        Scope::QueueAlone(name) => facts_of_queue(alloc, conn, name),
         Scope::Queue(name) => facts_on_queue(alloc, conn, name),
         Scope::Request(id) => facts_on(alloc, conn, id),
         Scope::Dependencies(id) => facts_of_move(alloc, conn, id),
@@ -63,7 +64,26 @@ fn facts_in<S: Alter>(
     }
 }
 
-/// Of a command that names a queue: the queue and both counts.
+/// Of a reading of a queue: the queue alone.
+fn facts_of_queue<S: Alter>(
+    alloc: Global,
+    conn: &mut Connection<S>,
+    name: &Text,
+) -> Result<Facts, StoreFault>
+    requires { conn.old.in_transaction ≡ false }
+    ensures idle { conn.new.in_transaction ≡ false }
+    ensures told { Tells (λ desk seen. seen ≡ facts.facts_of_queue desk name.now)
+        (state S.Store conn.old) (state S.Store conn.new) result }
+    ensures kept { Spares (state S.Store conn.old) (state S.Store conn.new) }
+    ensures refuses { OnlyRefuses
+        (state S.Store conn.old) (state S.Store conn.new) result }
+    ensures fault { IfErr result (λ e. e ≢ StoreFault.WrongVersion) }
+{
+    let queue = queue_at(conn, name)?;
+    Ok(counted(alloc, queue, 0, 0))
+}
+
+/// Of a command that changes a queue: the queue and both counts.
 #[tactic(auto, using(store_tables::proofs::Spared::joined, store_tables::proofs::Spared::stands))]
 fn facts_on_queue<S: Alter>(
     alloc: Global,

@@ -1,11 +1,12 @@
 //! The lists of a store, each in the order of its key.
-ghost use Rattle.std.specs.Prelude.{◌≡◌, filter};
+ghost use Rattle.std.specs.Prelude.{◌≡◌, filter, IsPermutation};
 ghost use Rattle.store_tables.specs.Calls.{Spares, Tells};
-ghost use Rattle.store_tables.specs.Contents.{history_at, request_rows, watchers};
-ghost use Rattle.store_tables.specs.Mismatches.{MismatchesInEntries, MismatchesInLinks};
+ghost use Rattle.store_tables.specs.Contents.{actors, history_at, request_rows, watchers};
+ghost use Rattle.store_tables.specs.Mismatches.{MismatchesInActors, MismatchesInEntries};
+ghost use Rattle.store_tables.specs.Mismatches.{MismatchesInLinks};
 ghost use Rattle.store_tables.specs.Mismatches.{MismatchesInQueues, MismatchesInRequests};
 ghost use Rattle.store_tables.specs.Mismatches.{MismatchesInWatchers};
-ghost use Rattle.store_tables.specs.Selection.{ends_at, is_filed_in, starts_at};
+ghost use Rattle.store_tables.specs.Selection.{ends_at, is_filed_in, is_of_person, starts_at};
 ghost use Rattle.store_core.specs.Seen.{state_of};
 
 use crate::Backend;
@@ -107,6 +108,19 @@ impl<S: Backend> Store<S> {
         reads::lists_watchers::watchers(alloc, &mut self.conn)
     }
 
+    /// The watchers who are that person, in the order of request and role. `Mismatch` where a row
+    /// is no watcher, `Refused` where the store or memory refuses it. The tables stay as they are.
+    pub fn watches_of(&mut self, alloc: Global, person: &str) -> Result<Vec<Watcher>, StoreFault>
+        ensures listed { Tells (λ desk xs.
+            xs.items ≡ filter (is_of_person person.now) (watchers desk))
+            (state_of S.Store self.old) (state_of S.Store self.new) result }
+        ensures mismatch { MismatchesInWatchers
+            (state_of S.Store self.old) (state_of S.Store self.new) result }
+        ensures kept { Spares (state_of S.Store self.old) (state_of S.Store self.new) }
+    {
+        reads::watches_by_person::watches_of(alloc, &mut self.conn, person)
+    }
+
     /// The entries of a request, from the first, none where there is no such request. `Mismatch`
     /// where a row is no entry, `Refused` where the store or memory refuses it. The tables stay as
     /// they are.
@@ -118,5 +132,17 @@ impl<S: Backend> Store<S> {
         ensures kept { Spares (state_of S.Store self.old) (state_of S.Store self.new) }
     {
         reads::lists_entries::entries_of(alloc, &mut self.conn, id)
+    }
+
+    /// Who made each entry, one name an entry, in no order that matters. `Mismatch` where one is no
+    /// text, `Refused` where the store or memory refuses it. The tables stay as they are.
+    pub fn actors(&mut self, alloc: Global) -> Result<Vec<Text>, StoreFault>
+        ensures listed { Tells (λ desk xs. IsPermutation (actors desk) xs.items)
+            (state_of S.Store self.old) (state_of S.Store self.new) result }
+        ensures mismatch { MismatchesInActors
+            (state_of S.Store self.old) (state_of S.Store self.new) result }
+        ensures kept { Spares (state_of S.Store self.old) (state_of S.Store self.new) }
+    {
+        reads::actors::actors(alloc, &mut self.conn)
     }
 }

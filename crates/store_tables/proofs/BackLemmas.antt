@@ -17,10 +17,10 @@ use Rattle.desk_model.specs.declared.rows.LinkKind.{LinkKind}
 use Rattle.desk_model.specs.declared.rows.LinkKind.TheVariants as kind
 use Rattle.store_tables.specs.Spelling.{count_value, turn_number, role_number, entry_kind_number}
 use Rattle.store_tables.specs.Spelling.{queue_columns, request_shown, watcher_columns, link_columns}
-use Rattle.store_tables.specs.Spelling.{entry_columns}
+use Rattle.store_tables.specs.Spelling.{entry_columns, text_shown}
 use Rattle.desk_model.specs.Links.{kind_number}
 use Rattle.store_tables.specs.Reading.{ReadsQueue, ReadsRequest, ReadsWatcher}
-use Rattle.store_tables.specs.Reading.{ReadsLink, ReadsEntry}
+use Rattle.store_tables.specs.Reading.{ReadsLink, ReadsEntry, ReadsText}
 
 same_option : (a b : Option (List ℕ)) → or_null Words a ≡ or_null Words b → a ≡ b
 same_option None None e = refl
@@ -85,6 +85,9 @@ same_link a b e = sym (link_kind_back a) ∙ ap link_kind_of e ∙ link_kind_bac
 
 same_kind : (a b : EntryKind) → entry_kind_number a ≡ entry_kind_number b → a ≡ b
 same_kind a b e = sym (entry_kind_back a) ∙ ap entry_kind_of e ∙ entry_kind_back b
+
+pub text_back : (a b : List ℕ) → ReadsText (text_shown a) b → b ≡ a
+text_back a b h = let e = h.text in cc
 
 abbrev make_queue : List ℕ → List ℕ → Option (List ℕ) → QueueRow
 make_queue x0 x1 x2 = record { name = x0; lifecycle = x1; level = x2 }

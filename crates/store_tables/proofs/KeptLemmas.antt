@@ -2,7 +2,9 @@
 use Rattle.std.proofs.Common.{◌≡◌, ◌⊎◌, inl, inr, ℤ, Bool, ◌<◌, ◌≤◌, length, get_or, arith, true}
 use Rattle.std.proofs.Common.{false, not, List, [], ◌∷◌, map, filter, refl, sym, ap, subst, ◌∙◌}
 use Rattle.std.proofs.Common.{IsPermutation, Ordering, Less, Equal, Greater}
+use Rattle.std.specs.List.{list_all}
 use Rattle.std.specs.Ordering.{is_eq}
+use Rattle.std.specs.Prelude.{◌&&◌}
 use Rattle.std.proofs.lemmas.Bool.{cases_Bool}
 use Rattle.std.proofs.lemmas.List.Sorted.{IsPermutation-refl, IsPermutation-cons}
 use Rattle.std.proofs.lemmas.List.Sorted.{IsPermutation-middle, IsPermutation-trans}
@@ -12,7 +14,7 @@ use Rattle.sqlite.specs.Order.{Row}
 use Rattle.sqlite_value.specs.Order.{value_cmp}
 use Rattle.sqlite_trees.specs.Tree.{IsTable, rowid, has_rowid, put_row, without_rowid}
 use Rattle.sqlite_trees.proofs.ListLemmas.{filter-map, IsPermutation-filter, ascending-filter}
-use Rattle.sqlite_trees.proofs.ListLemmas.{filter_same, all_of}
+use Rattle.sqlite_trees.proofs.ListLemmas.{along_permutation, filter_same, all_of}
 use Rattle.sqlite_trees.proofs.TreeLemmas.{IsTable-put_row}
 use Rattle.sqlite_rules.specs.Edit.{is_taken}
 use Rattle.std.proofs.lemmas.Cmp.{tied_itself}
@@ -31,6 +33,20 @@ cases_ordering : (o : Ordering) → (o ≡ Less) ⊎ ((o ≡ Equal) ⊎ (o ≡ G
 cases_ordering Less = inl refl
 cases_ordering Equal = inr (inl refl)
 cases_ordering Greater = inr (inr refl)
+
+turned : (a b c : Bool) → (a && (b && c)) ≡ (b && (a && c))
+turned true b c = refl
+turned false true c = refl
+turned false false c = refl
+
+-- what all of some values pass, they pass in another order
+pub all_alike : {X : Type 0} (test : X → Bool) (xs ys : List X) → IsPermutation xs ys
+    → list_all test xs ≡ list_all test ys
+all_alike test =
+    along_permutation (λ xs ys. list_all test xs ≡ list_all test ys) (λ xs. refl)
+    (λ x xs ys same. ap (λ b. test x && b) same)
+    (λ x y xs. turned (test x) (test y) (list_all test xs))
+    (λ xs ys zs one two. one ∙ two)
 
 module _ {K X : Type 0} (row : K → Row) (value : K → X) where
   -- a row with a new rowid goes in somewhere

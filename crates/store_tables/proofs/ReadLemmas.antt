@@ -125,6 +125,11 @@ module _ {X : Type 0} (view : X → Row) (Reads : Row → X → Type 0)
   all_read cmp xs rows vs h zip = subst (AreOrdered cmp xs)
       (read_same h.values vs (subst (λ rs. AllZip Reads rs vs) h.are zip)) h.ordered
 
+  pub all_shown : (xs : List X) (rows : List Row) (vs : List X) → Shows view xs rows
+      → AllZip Reads rows vs → IsPermutation xs vs
+  all_shown xs rows vs h zip = subst (IsPermutation xs)
+      (read_same h.values vs (subst (λ rs. AllZip Reads rs vs) h.are zip)) h.same
+
   -- the one value that was read, or none, is what is shown
   pub one_read : (xs : List X) (rows : List Row) (v : Option X) → Shows view xs rows
       → AllZip Reads rows (option_to_list v) → option_to_list v ≡ xs

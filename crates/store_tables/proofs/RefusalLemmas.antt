@@ -10,16 +10,19 @@ use Rattle.desk_model.specs.declared.rows.RequestRow.{RequestRow}
 use Rattle.store_tables.specs.Calls.{FailsIn, OnlyRefuses, WasClean}
 use Rattle.store_tables.specs.Contents.{Contents}
 use Rattle.store_tables.specs.Kept.{Holds, filed, itself, numbered_as, value_of}
-use Rattle.store_tables.specs.Mismatches.{MismatchesInEntries, MismatchesInLinks}
+use Rattle.store_tables.specs.Mismatches.{MismatchesInActors, MismatchesInEntries}
+use Rattle.store_tables.specs.Mismatches.{MismatchesInLinks}
 use Rattle.store_tables.specs.Mismatches.{MismatchesInQueues, MismatchesInRequests}
 use Rattle.store_tables.specs.Mismatches.{MismatchesInWatchers}
 use Rattle.store_tables.specs.Picked.{shows}
-use Rattle.store_tables.specs.Queries.{entry_shown_terms, last_id_terms, last_number_terms}
+use Rattle.store_tables.specs.Queries.{actor_shown, entry_shown_terms, last_id_terms}
+use Rattle.store_tables.specs.Queries.{last_number_terms}
 use Rattle.store_tables.specs.Queries.{queue_shown, request_shown_terms, three_shown}
 use Rattle.store_tables.specs.Reading.{IsEntryRow, IsLinkRow, IsNumberRow, IsQueueRow}
-use Rattle.store_tables.specs.Reading.{IsRequestRow, IsWatcherRow}
+use Rattle.store_tables.specs.Reading.{IsRequestRow, IsTextRow, IsWatcherRow}
 use Rattle.store_tables.specs.Spelling.{count_value, entry_columns, link_columns, queue_columns}
-use Rattle.store_tables.specs.Spelling.{request_columns, request_shown, watcher_columns}
+use Rattle.store_tables.specs.Spelling.{request_columns, request_shown, text_shown}
+use Rattle.store_tables.specs.Spelling.{watcher_columns}
 use Rattle.store_tables.specs.Stands.{Tables}
 use Rattle.store_tables.specs.declared.fault.StoreFault.{StoreFault}
 use Rattle.store_tables.specs.declared.fault.StoreFault.TheVariants.{Mismatch, Refused}
@@ -84,6 +87,15 @@ module _ (old new : State) (clean : WasClean old new) {X : Type 0} (result : Res
         (λ c db t. shows_value (filed entry_columns) value_of entry_columns entry_shown_terms
         IsEntryRow c.entries (db.trees 8) (λ k. refl) (values_of c t.values).entries
         t.entries) result
+
+    pub actors_refuse : MismatchesInActors old new result → OnlyRefuses old new result
+    actors_refuse = only_refuses 8 actor_shown IsTextRow
+        (λ c db t. shows_value (filed entry_columns) value_of (λ e. text_shown e.actor) actor_shown
+        IsTextRow c.entries (db.trees 8) (λ k. refl)
+        (λ e has. record {
+          wide = omega arith;
+          text = ((values_of c t.values).entries e has).actor;
+        }) t.entries) result
 
     pub last_id_refuses : FailsIn 3 last_id_terms IsNumberRow old new result
         → OnlyRefuses old new result

@@ -4,6 +4,7 @@ use Rattle.sqlite_tied.specs.Compute.{everything}
 use Rattle.sqlite.specs.Term.{col}
 use Rattle.sqlite.specs.Source.TheVariants.{Values}
 use Rattle.sqlite.specs.Command.TheVariants.{Insert, Update, Delete}
+use Rattle.store_tables.specs.Queries.{actor_shown, actors_text}
 use Rattle.store_tables.specs.Queries.{add_version_text, add_version_terms}
 use Rattle.store_tables.specs.Queries.{add_entry_terms, add_entry_text, add_link_text}
 use Rattle.store_tables.specs.Queries.{add_queue_terms, add_queue_text, add_request_terms}
@@ -23,6 +24,7 @@ use Rattle.store_tables.specs.Queries.{requests_text, role_order, source_test, t
 use Rattle.store_tables.specs.Queries.{target_test}
 use Rattle.store_tables.specs.Queries.{three_order, three_test, three_shown}
 use Rattle.store_tables.specs.Queries.{filed_test, requests_of_text}
+use Rattle.store_tables.specs.Queries.{person_test, standing_order, watches_of_text}
 use Rattle.store_tables.specs.Queries.{version_query, version_text, watchers_of_text, watchers_text}
 use Rattle.sqlite.specs.Listing.{understood}
 use Rattle.store_tables.proofs.Meaning.{Changes, Selects}
@@ -44,6 +46,11 @@ pub watchers_of_is : Selects watchers_of_text (reads 4 request_test three_shown 
     (codes "request" ∷ codes "role" ∷ codes "person" ∷ [])
 unfolding understood everything
 watchers_of_is = record { is = refl; plain = (refl, refl); unlisted = refl }
+
+pub watches_of_is : Selects watches_of_text (reads 4 person_test three_shown standing_order)
+    (codes "request" ∷ codes "role" ∷ codes "person" ∷ [])
+unfolding understood everything
+watches_of_is = record { is = refl; plain = (refl, refl); unlisted = refl }
 
 pub watchers_is : Selects watchers_text (reads 4 [] three_shown three_order)
     (codes "request" ∷ codes "role" ∷ codes "person" ∷ [])
@@ -155,3 +162,7 @@ pub requests_of_is : Selects requests_of_text (reads 3 filed_test request_shown_
     ∷ codes "created" ∷ codes "opened" ∷ codes "turn" ∷ codes "since" ∷ [])
 unfolding understood everything
 requests_of_is = record { is = refl; plain = (refl, refl); unlisted = refl }
+
+pub actors_is : Selects actors_text (reads 8 [] actor_shown []) (codes "actor" ∷ [])
+unfolding understood everything
+actors_is = record { is = refl; plain = (refl, refl); unlisted = refl }

@@ -5,6 +5,7 @@ use Rattle.std.specs.Prelude.{◌&&◌, ◌==◌}
 use Rattle.std.specs.Ordering.{is_eq, nat_cmp, int_cmp, ordering_then}
 use Rattle.std.specs.Cmp.Lexicographic.{slice_cmp}
 use Rattle.std.proofs.lemmas.Bool.Decides.{nat_tests}
+use Rattle.std.proofs.lemmas.Map.Text.{is_eq-slice_cmp}
 use Rattle.sqlite.specs.declared.types.Value.TheVariants.{Int, Text as Words}
 use Rattle.sqlite.specs.Collation.TheVariants.{Binary}
 use Rattle.sqlite.specs.Ops.{binary, is_true}
@@ -25,9 +26,10 @@ use Rattle.desk_model.specs.declared.rows.LinkKind.{LinkKind}
 use Rattle.store_tables.specs.Kept.{filed, numbered_as}
 use Rattle.store_tables.specs.Picked.{passes}
 use Rattle.store_tables.specs.Selection.{is_numbered, watches, is_watcher, is_link, links_from}
-use Rattle.store_tables.specs.Selection.{ends_at, is_filed_in, is_named, starts_at, tells_of}
+use Rattle.store_tables.specs.Selection.{ends_at, is_filed_in, is_named, is_of_person, starts_at}
+use Rattle.store_tables.specs.Selection.{tells_of}
 use Rattle.store_tables.specs.Orders.{by_id, by_entry, by_number, by_link, by_watcher, by_role}
-use Rattle.store_tables.specs.Orders.{by_target, by_name}
+use Rattle.store_tables.specs.Orders.{by_target, by_name, by_standing}
 use Rattle.store_tables.specs.Spelling.{role_number, request_columns, watcher_columns, link_columns}
 use Rattle.store_tables.specs.Spelling.{entry_columns, count_value, queue_columns}
 use Rattle.desk_model.specs.Links.{kind_number}
@@ -36,6 +38,7 @@ use Rattle.store_tables.specs.Queries.{filed_test, request_test, three_test, lin
 use Rattle.store_tables.specs.Queries.{request_shown_terms, id_order, source_test, target_test}
 use Rattle.store_tables.specs.Queries.{three_shown, role_order, three_order, target_order}
 use Rattle.store_tables.specs.Queries.{entry_shown_terms, number_order, entry_order}
+use Rattle.store_tables.specs.Queries.{person_test, standing_order}
 
 true_again : (b : Bool) → is_true (from_truth (Some b)) ≡ b
 true_again true = refl
@@ -79,6 +82,11 @@ watched id k = and_true _ ∙ equal_numbers k.1.id id
 pub told : (id : ℕ) (k : ℤ × Entry) → passes request_test (count_value id ∷ [])
     (filed entry_columns k) ≡ tells_of id k.1
 told id k = and_true _ ∙ equal_numbers k.1.id id
+
+pub of_person : (person : List ℕ) (k : ℤ × Watcher)
+    → passes person_test (Words person ∷ []) (filed watcher_columns k) ≡ is_of_person person k.1
+of_person person k =
+    and_true _ ∙ equal_texts k.1.person person ∙ is_eq-slice_cmp k.1.person person
 
 pub the_watcher : (w : Watcher) (k : ℤ × Watcher)
     → passes three_test (watcher_columns w) (filed watcher_columns k) ≡ is_watcher w k.1
@@ -174,6 +182,18 @@ watcher_order_is a b =
     (ap₂ ordering_then (order_numbers (role_number a.1.role) (role_number b.1.role))
     (then-Equal (value_cmp (Words a.1.person) (Words b.1.person))
     ∙ value_cmp-Text a.1.person b.1.person))
+
+pub standing_order_is : (person : List ℕ) (a b : ℤ × Watcher)
+    → output_cmp (reads 4 person_test three_shown standing_order)
+    (output (reads 4 person_test three_shown standing_order)
+    ((Words person ∷ []) ∷ filed watcher_columns a ∷ []))
+    (output (reads 4 person_test three_shown standing_order)
+    ((Words person ∷ []) ∷ filed watcher_columns b ∷ [])) ≡ by_standing a.1 b.1
+standing_order_is person a b =
+    ap₂ ordering_then (order_numbers a.1.id b.1.id)
+    (then-Equal (value_cmp (count_value (role_number a.1.role))
+    (count_value (role_number b.1.role)))
+    ∙ order_numbers (role_number a.1.role) (role_number b.1.role))
 
 pub role_order_is : (id : ℕ) (a b : ℤ × Watcher)
     → output_cmp (reads 4 request_test three_shown role_order)

@@ -8,7 +8,7 @@ use Rattle.desk_model.specs.declared.rows.LinkRow.{LinkRow}
 use Rattle.desk_model.specs.declared.rows.QueueRow.{QueueRow}
 use Rattle.desk_model.specs.declared.rows.RequestRow.{RequestRow}
 use Rattle.desk_model.specs.declared.rows.Watcher.{Watcher}
-use Rattle.store_tables.specs.Selection.{is_link, is_numbered, is_watcher}
+use Rattle.store_tables.specs.Selection.{actor_of, is_link, is_numbered, is_watcher}
 
 pub record Contents : Type 0 where
   pub version : ℕ
@@ -27,6 +27,10 @@ watchers desk = flat_map watchers_of desk.requests
 
 abbrev pub entries : Desk → List Entry
 entries desk = flat_map (λ r. r.entries) desk.requests
+
+-- who made each entry
+abbrev pub actors : Desk → List (List ℕ)
+actors desk = map actor_of (entries desk)
 
 -- the history of the request with that number, empty where there is none
 abbrev pub history_at : Desk → ℕ → List Entry

@@ -3,10 +3,11 @@
 use Rattle.std.specs.Prelude.{Result}
 use Rattle.sqlite.specs.State.{State}
 use Rattle.store_tables.specs.Calls.{FailsIn, MismatchesIn}
-use Rattle.store_tables.specs.Queries.{entry_shown_terms, queue_shown, request_shown_terms}
+use Rattle.store_tables.specs.Queries.{actor_shown, entry_shown_terms, queue_shown}
+use Rattle.store_tables.specs.Queries.{request_shown_terms}
 use Rattle.store_tables.specs.Queries.{three_shown, version_shown}
 use Rattle.store_tables.specs.Reading.{IsEntryRow, IsLinkRow, IsNumberRow, IsQueueRow}
-use Rattle.store_tables.specs.Reading.{IsRequestRow, IsWatcherRow}
+use Rattle.store_tables.specs.Reading.{IsRequestRow, IsTextRow, IsWatcherRow}
 use Rattle.store_tables.specs.declared.fault.StoreFault.{StoreFault}
 
 abbrev pub MismatchesInMeta : {X : Type 0} → State → State → Result X StoreFault → Type 0
@@ -26,3 +27,7 @@ MismatchesInLinks old new result = FailsIn 6 three_shown IsLinkRow old new resul
 
 abbrev pub MismatchesInEntries : {X : Type 0} → State → State → Result X StoreFault → Type 0
 MismatchesInEntries old new result = FailsIn 8 entry_shown_terms IsEntryRow old new result
+
+-- of those who made entries: only of one who is no text
+abbrev pub MismatchesInActors : {X : Type 0} → State → State → Result X StoreFault → Type 0
+MismatchesInActors old new result = FailsIn 8 actor_shown IsTextRow old new result

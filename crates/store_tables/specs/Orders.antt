@@ -20,6 +20,10 @@ by_id a b = nat_cmp a.id b.id
 abbrev pub by_role : Watcher → Watcher → Ordering
 by_role = then_cmp (on (λ w. role_number w.role) nat_cmp) (on (λ w. w.person) (slice_cmp nat_cmp))
 
+-- of one person: by request and role
+abbrev pub by_standing : Watcher → Watcher → Ordering
+by_standing = then_cmp (on (λ w. w.id) nat_cmp) (on (λ w. role_number w.role) nat_cmp)
+
 -- by request, role and person
 abbrev pub by_watcher : Watcher → Watcher → Ordering
 by_watcher =

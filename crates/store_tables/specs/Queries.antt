@@ -174,6 +174,16 @@ watchers_text = codes "SELECT request, role, person FROM watcher ORDER BY reques
 abbrev pub three_order : List Term
 three_order = col 1 1 ∷ col 1 2 ∷ col 1 3 ∷ []
 
+abbrev pub watches_of_text : List ℕ
+watches_of_text =
+    codes "SELECT request, role, person FROM watcher WHERE person = ?1 ORDER BY request, role"
+
+abbrev pub person_test : List Term
+person_test = eq (col 1 3) (col 0 0) ∷ []
+
+abbrev pub standing_order : List Term
+standing_order = col 1 1 ∷ col 1 2 ∷ []
+
 abbrev pub add_watcher_text : List ℕ
 add_watcher_text = codes "INSERT INTO watcher (request, role, person) VALUES (?1, ?2, ?3)"
 
@@ -229,6 +239,12 @@ entry_shown_terms = col 1 1 ∷ col 1 2 ∷ col 1 3 ∷ col 1 4 ∷ col 1 5 ∷ 
 
 abbrev pub number_order : List Term
 number_order = col 1 2 ∷ []
+
+abbrev pub actors_text : List ℕ
+actors_text = codes "SELECT actor FROM entry"
+
+abbrev pub actor_shown : List Term
+actor_shown = col 1 4 ∷ []
 
 abbrev pub entries_text : List ℕ
 entries_text =

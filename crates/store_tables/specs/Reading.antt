@@ -134,6 +134,14 @@ pub record IsEntryRow (row : Row) : Type 0 where
   pub head : IsText (column row 5)
   pub body : IsText (column row 6)
 
+-- a row of one text: who made an entry
+pub record ReadsText (row : Row) (x : List ℕ) : Type 0 where
+  pub text : column row 0 ≡ Words x
+
+pub record IsTextRow (row : Row) : Type 0 where
+  pub wide : 0 < length row
+  pub text : IsText (column row 0)
+
 -- a row of one number: a version, or the last number
 pub record IsNumberRow (row : Row) : Type 0 where
   pub wide : 0 < length row

@@ -2,6 +2,7 @@
 use Rattle.std.specs.Prelude.{ℕ, Bool, List, ◌&&◌, ◌==◌}
 use Rattle.std.specs.Ordering.{is_eq, nat_cmp}
 use Rattle.std.specs.Cmp.Lexicographic.{slice_cmp}
+use Rattle.std.specs.Str.{bytes_eq}
 use Rattle.desk_model.specs.Links.{kind_number}
 use Rattle.desk_model.specs.declared.rows.Entry.{Entry}
 use Rattle.desk_model.specs.declared.rows.LinkKind.{LinkKind}
@@ -30,6 +31,10 @@ is_filed_in name r = same_text r.queue name
 abbrev pub watches : ℕ → Watcher → Bool
 watches id w = w.id == id
 
+-- a watcher who is that person
+abbrev pub is_of_person : List ℕ → Watcher → Bool
+is_of_person person w = bytes_eq w.person person
+
 abbrev pub is_watcher : Watcher → Watcher → Bool
 is_watcher v w =
     (w.id == v.id) && ((role_number w.role == role_number v.role) && same_text w.person v.person)
@@ -45,6 +50,10 @@ is_link k l =
 -- an entry of that request
 abbrev pub tells_of : ℕ → Entry → Bool
 tells_of id e = e.id == id
+
+-- who made the entry
+abbrev pub actor_of : Entry → List ℕ
+actor_of e = e.actor
 
 -- the link leads from the request with that number
 abbrev pub starts_at : ℕ → LinkRow → Bool

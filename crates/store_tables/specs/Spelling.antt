@@ -1,5 +1,5 @@
 -- How each value of the desk is spelt in a row.
-use Rattle.std.specs.Prelude.{ℕ, pos, [], ◌∷◌}
+use Rattle.std.specs.Prelude.{ℕ, pos, List, [], ◌∷◌}
 use Rattle.sqlite.specs.Order.{Row}
 use Rattle.sqlite.specs.Values.{or_null}
 use Rattle.sqlite.specs.declared.types.Value.{Value}
@@ -40,6 +40,10 @@ entry_kind_number what.Level = 10
 
 abbrev pub count_value : ℕ → Value
 count_value n = Int (pos n)
+
+-- a row that shows one text
+abbrev pub text_shown : List ℕ → Row
+text_shown t = Words t ∷ []
 
 -- the one row of meta, with its number
 abbrev pub version_row : ℕ → Row

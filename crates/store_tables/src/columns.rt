@@ -27,6 +27,13 @@ pub(crate) fn words(text: &Text) -> ValueRef<'_>
     text.as_str().to_sql()
 }
 
+/// A name, to be bound.
+pub(crate) fn name(text: &str) -> ValueRef<'_>
+    ensures bound { bound_value (owned result) ≡ Words text.now }
+{
+    text.to_sql()
+}
+
 /// A text that may be absent, to be bound.
 pub(crate) fn nullable(text: &Option<Text>) -> ValueRef<'_>
     ensures bound { bound_value (owned result) ≡ or_null Words text.now }

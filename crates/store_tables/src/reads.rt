@@ -1,6 +1,7 @@
 //! Reading: one query each, on a connection without an open transaction. `Refused` where the store
 //! or memory refuses it. The tables stay as they are.
 
+pub mod actors;
 pub mod entries_by_key;
 pub mod links_by_key;
 pub mod lists_entries;
@@ -12,3 +13,4 @@ pub mod queues;
 pub mod requests_by_key;
 pub mod version;
 pub mod watchers_by_key;
+pub mod watches_by_person;

@@ -5,7 +5,7 @@ ghost use Rattle.sqlite.specs.Order.{Row as Columns};
 ghost use Rattle.store_tables.specs.declared.fault.StoreFault.{StoreFault};
 ghost use Rattle.store_tables.specs.Reading.{ReadsQueue, ReadsRequest, ReadsWatcher, ReadsLink};
 ghost use Rattle.store_tables.specs.Reading.{ReadsEntry, IsQueueRow, IsRequestRow, IsWatcherRow};
-ghost use Rattle.store_tables.specs.Reading.{IsLinkRow, IsEntryRow};
+ghost use Rattle.store_tables.specs.Reading.{IsLinkRow, IsEntryRow, IsTextRow, ReadsText};
 
 use crate::columns::{
     entry_kind_at, link_kind_at, minute_at, nullable_at, number_at, role_at, text_at, turn_at,
@@ -13,6 +13,7 @@ use crate::columns::{
 use crate::fault::StoreFault;
 use desk_model::{Entry, LinkRow, QueueRow, RequestRow, Watcher};
 use sqlite::Row;
+use text_core::Text;
 
 /// A value that a row of a query shows.
 pub(crate) trait Stored: Sized {
@@ -108,5 +109,15 @@ impl Stored for Entry {
             head: text_at(row, 5)?,
             body: text_at(row, 6)?,
         })
+    }
+}
+
+impl Stored for Text {
+    ghost reads = { ReadsText };
+
+    ghost is_value = { IsTextRow };
+
+    fn read(row: &Row) -> Result<Text, StoreFault> {
+        text_at(row, 0)
     }
 }

@@ -33,7 +33,10 @@ code_of_answer answer.Done = 200
 code_of_answer (answer.Created id) = 201
 code_of_answer (answer.Queues queues) = 200
 code_of_answer (answer.Shown shown) = 200
+code_of_answer (answer.Listed requests) = 200
 code_of_answer (answer.History entries) = 200
+code_of_answer (answer.Late requests) = 200
+code_of_answer (answer.Workload loads) = 200
 
 abbrev pub code_of_refusal : Refusal → ℕ
 code_of_refusal refusal.UnknownCaller = 403

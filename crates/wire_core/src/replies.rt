@@ -49,7 +49,13 @@ fn code_of_answer(answer: &Answer) -> u16
 {
     match answer {
         Answer::Created(_) => 201,
-        Answer::Done | Answer::Queues(_) | Answer::Shown(_) | Answer::History(_) => 200,
+        Answer::Done
+        | Answer::Queues(_)
+        | Answer::Shown(_)
+        | Answer::Listed(_)
+        | Answer::History(_)
+        | Answer::Late(_)
+        | Answer::Workload(_) => 200,
     }
 }
 

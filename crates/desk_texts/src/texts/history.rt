@@ -4,10 +4,10 @@ ghost use Rattle.hours_core.specs.Date.{text_of_minute};
 ghost use Rattle.desk_texts.specs.Columns as columns;
 ghost use Rattle.desk_texts.specs.Texts.History as history;
 
+use crate::texts::minute::as_text;
 use desk_model::{Entry, EntryKind};
 use hours_core::minute_text;
 use std::alloc::{AllocError, Global};
-use std::str;
 
 /// The text of a history: a line for each entry with its number, its moment, who did it and what.
 pub fn history_text(alloc: Global, entries: &[Entry]) -> Result<String, AllocError>
@@ -35,10 +35,8 @@ fn put_moment(out: &mut String, entry: &Entry) -> Result<(), AllocError>
     ensures { OnOk result (string_bytes out.new ≡ string_bytes out.old
         ++ history.columns entry.now.number (text_of_minute entry.now.moment) entry.now.actor) }
 {
-    match str::from_utf8(&minute_text(entry.moment)) {
-        Ok(moment) => put_columns(out, entry.number, moment, entry.actor.as_str()),
-        Err(_) => unreachable!(),
-    }
+    let moment = minute_text(entry.moment);
+    put_columns(out, entry.number, as_text(&moment), entry.actor.as_str())
 }
 
 /// A number, a moment and a person, each with a space after it.

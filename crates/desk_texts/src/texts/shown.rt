@@ -1,11 +1,12 @@
 ghost use Rattle.std.specs.Prelude.{◌≡◌, ◌++◌, IfOk, OnOk, codes, unwrap_or, string_bytes};
 ghost use Rattle.std.specs.List.{flat_map};
 ghost use Rattle.desk_texts.specs.Texts as text;
+ghost use Rattle.desk_texts.specs.Words.{minute_or_dash};
 
+use crate::texts::minute::as_text;
 use desk_model::{Links, RequestRow, Shown};
 use hours_core::{Minute, minute_text};
 use std::alloc::{AllocError, Global};
-use std::str;
 use text_core::{Sequence, Text};
 
 /// The text of a request: a line for each of its parts, persons in the order of their bytes and
@@ -117,14 +118,11 @@ fn put_line(out: &mut String, label: &str, value: &str) -> Result<(), AllocError
 
 fn put_minute(out: &mut String, label: &str, minute: Option<Minute>) -> Result<(), AllocError>
     ensures { OnOk result (string_bytes out.new
-        ≡ string_bytes out.old ++ text.line label.now (text.minute_or_dash minute)) }
+        ≡ string_bytes out.old ++ text.line label.now (minute_or_dash minute)) }
 {
-    let Some(minute) = minute else {
-        return put_line(out, label, "-");
-    };
-    match str::from_utf8(&minute_text(minute)) {
-        Ok(shown) => put_line(out, label, shown),
-        Err(_) => unreachable!(),
+    match minute {
+        Some(minute) => put_line(out, label, as_text(&minute_text(minute))),
+        None => put_line(out, label, "-"),
     }
 }
 

@@ -5,7 +5,7 @@ ghost use Rattle.desk_words.specs.Subcommands as subcommands;
 ghost use Rattle.desk_words.specs.Subcommands.{given_to};
 
 use crate::command_line::{bare_command, leaf};
-use crate::matches::id;
+use crate::matches::{first_text, id};
 use crate::subcommands::there;
 use clap::{ArgMatches, Command as App};
 use desk_model::Command;
@@ -19,20 +19,38 @@ pub(crate) fn reading<'a>(alloc: Global, name: &str) -> Result<Option<App<'a>>, 
     match name {
         "queues" => Ok(Some(bare_command(alloc, "queues"))),
         "show" => there(leaf(alloc, "show", &["id"])),
+        "ls" => there(leaf(alloc, "ls", &["queue"])),
         "history" => there(leaf(alloc, "history", &["id"])),
+        "overdue" => Ok(Some(bare_command(alloc, "overdue"))),
+        "workload" => Ok(Some(bare_command(alloc, "workload"))),
         _ => Ok(None),
     }
 }
 
 /// The command of a subcommand that reads and of what it was given, where its words spell one.
 #[tactic(auto, unfolding(crate::specs::Subcommands::reading_command))]
-pub(crate) fn reading_command(name: &str, given: &ArgMatches<'_>) -> Option<Command>
-    ensures { result ≡ subcommands.reading_command name.now (given_to given.now) }
+pub(crate) fn reading_command(
+    alloc: Global,
+    name: &str,
+    given: &ArgMatches<'_>,
+) -> Result<Option<Command>, AllocError>
+    ensures { IfOk result (λ c. c ≡ subcommands.reading_command name.now (given_to given.now)) }
 {
     match name {
-        "queues" => Some(Command::Queues),
-        "show" => id(given).map(|id| Command::Show { id }),
-        "history" => id(given).map(|id| Command::History { id }),
-        _ => None,
+        "queues" => Ok(Some(Command::Queues)),
+        "show" => Ok(id(given).map(|id| Command::Show { id })),
+        "ls" => ls(alloc, given),
+        "history" => Ok(id(given).map(|id| Command::History { id })),
+        "overdue" => Ok(Some(Command::Overdue)),
+        "workload" => Ok(Some(Command::Workload)),
+        _ => Ok(None),
     }
+}
+
+/// ls QUEUE
+fn ls(alloc: Global, given: &ArgMatches<'_>) -> Result<Option<Command>, AllocError>
+    ensures { IfOk result (λ c. c ≡ subcommands.ls_of (given_to given.now)) }
+{
+    let queue = first_text(alloc, given, "queue")?;
+    Ok(queue.map(|queue| Command::List { queue }))
 }

@@ -68,5 +68,7 @@ fn posted_by(
         Place::Request(_) => Ok(None),
         Place::History(_) => Ok(None),
         Place::Act(id, act) => acting(alloc, id, act, members),
+        Place::Overdue => Ok(None),
+        Place::Workload => Ok(None),
     }
 }

@@ -27,10 +27,35 @@ add-requires-4 c =
       c.requires,
     ) refl
 
+pub add-requires-5 : goal.add-requires-5
+unfolding matchit_on_literals
+add-requires-5 c =
+    rw (
+      c.in_ok-add-4.ensures,
+      c.in_ok-add-3.ensures,
+      c.in_ok-add-2.ensures,
+      c.in_ok-add.ensures,
+      c.requires,
+    ) refl
+
+pub add-requires-6 : goal.add-requires-6
+unfolding matchit_on_literals
+add-requires-6 c =
+    rw (
+      c.in_ok-add-5.ensures,
+      c.in_ok-add-4.ensures,
+      c.in_ok-add-3.ensures,
+      c.in_ok-add-2.ensures,
+      c.in_ok-add.ensures,
+      c.requires,
+    ) refl
+
 pub returns : goal.returns
 unfolding routes
 returns c =
     rw (
+      c.in_ok-add-6.ensures,
+      c.in_ok-add-5.ensures,
       c.in_ok-add-4.ensures,
       c.in_ok-add-3.ensures,
       c.in_ok-add-2.ensures,

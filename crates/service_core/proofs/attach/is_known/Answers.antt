@@ -1,10 +1,9 @@
 use Rattle.std.proofs.Common.{◌∙◌, ◌&&◌, ap, refl, sym, ◌≡◌, Err, rules}
 use Rattle.std.specs.Prelude.{⊤}
 use Rattle.store_tables.proofs.RefusalLemmas.{requests_refuse}
-use Rattle.service_core.specs.Attaching.{knows_rows}
 use Rattle.service_core.proofs.KnownLemmas.{known_of_rows}
 use Rattle.store_tables.proofs.Spared.{stands}
-use Rattle.store_tables.specs.Contents.{contents_of, watchers}
+use Rattle.store_tables.specs.Contents.{contents_of}
 use Rattle.store_core.specs.Seen.{state_of}
 use Rattle.service_core.proofs.attach.is_known.Goals as goal
 
@@ -16,11 +15,9 @@ returns-clause-told g c desk is stand clean =
     let after_requests = stands c.requests.ensures.kept d stand in
     let after_histories = stands c.knows_histories.ensures.kept d after_requests in
     let listed = c.in_ok-requests.ensures.listed desk is stand rows_clean in
-    known_of_rows c.args.settings.now desk _ _ _ _ is refl
+    known_of_rows c.args.settings.now desk _ _ _ _ refl
     (c.as_slice.ensures.value ∙ listed) refl
-    (c.in_ok-lists.ensures.told desk is after_histories clean
-    ∙ ap (λ rows. knows_rows c.args.settings.now desk.queues rows (watchers desk))
-    (c.as_slice-2.ensures.value ∙ sym c.as_slice.ensures.value))
+    (c.in_ok-lists.ensures.told desk is after_histories clean)
     ∙ ap (λ b. c.in_ok-lists.lists && b)
     (sym (c.in_ok-histories.ensures.told desk is after_requests lists_clean))
     ∙ sym c.both.ensures

@@ -1,0 +1,3 @@
+mod Halves
+mod LateLemmas
+mod LoadLemmas

@@ -1,0 +1,10 @@
+use Rattle.std.proofs.Common.{◌∙◌, rules}
+use Rattle.std.proofs.lemmas.Fn.{filter_same}
+use Rattle.desk_model.specs.Watchers.{may_show_by}
+use Rattle.desk_reports.proofs.showing.shown.Goals as goal
+
+pub returns : goal.returns
+returns c rise =
+    filter_same _
+    (λ row. may_show_by c.args.settings.now c.args.person.now row c.args.watches.now) _
+    (λ x b f' k. search rules) _ _ c.retain.ensures.filtered

@@ -1,0 +1,102 @@
+-- What the reports tell of rows.
+use Rattle.std.specs.Prelude.{◌≡◌, ℕ, ◌+◌, ◌-◌, ◌^◌, min, Bool, true, nat_lt, if◌then◌else◌}
+use Rattle.std.specs.Prelude.{List, filter, filter_map, find, map, Option, Some, None}
+use Rattle.std.specs.Prelude.{option_and_then}
+use Rattle.std.specs.List.Sorted.{IsNonDecreasingBy}
+use Rattle.std.specs.Str.{bytes_eq}
+use Rattle.settings_core.specs.declared.settings.Settings.{Settings}
+use Rattle.desk_model.specs.Desk.{has_lower_name}
+use Rattle.desk_model.specs.IsDesk.{is_rising}
+use Rattle.desk_model.specs.Readings.Listing.{line_of}
+use Rattle.desk_model.specs.Readings.Overdue.{late_line}
+use Rattle.desk_model.specs.Readings.Workload.{load_of, loads, owners}
+use Rattle.desk_model.specs.Told.{Told, told_in}
+use Rattle.desk_model.specs.Watchers.{may_show_by}
+use Rattle.desk_model.specs.declared.answer.LateLine.{LateLine}
+use Rattle.desk_model.specs.declared.answer.Line.{Line}
+use Rattle.desk_model.specs.declared.answer.Load.{Load}
+use Rattle.desk_model.specs.declared.rows.QueueRow.{QueueRow}
+use Rattle.desk_model.specs.declared.rows.RequestRow.{RequestRow}
+use Rattle.desk_model.specs.declared.rows.Watcher.{Watcher}
+use Rattle.desk_reports.specs.declared.load.Counts.{Counts}
+
+-- the queues stand in the order of their names
+abbrev pub QueuesRise : List QueueRow → Type 0
+QueuesRise queues = is_rising has_lower_name queues ≡ true
+
+-- the watches stand in the order of their requests
+abbrev pub WatchesRise : List Watcher → Type 0
+WatchesRise watches = IsNonDecreasingBy (λ w. w.id) watches
+
+-- the queue of that name, if it is among these
+abbrev pub queue_among : List QueueRow → List ℕ → Option QueueRow
+queue_among queues name = find (λ q. bytes_eq q.name name) queues
+
+-- the queue, if it has that name
+abbrev pub named_only : List ℕ → Option QueueRow → Option QueueRow
+named_only name queue =
+    option_and_then (λ q. if bytes_eq q.name name then Some q else None) queue
+
+-- a row as the reports tell of it, where these are the queues
+abbrev pub told_among : Settings → List QueueRow → RequestRow → Told
+told_among settings queues row = told_in settings (queue_among queues row.queue) row
+
+-- those of the rows that the person may show by these watches
+abbrev pub shown_by : Settings → List ℕ → List Watcher → List RequestRow → List RequestRow
+shown_by settings person watches rows =
+    filter (λ row. may_show_by settings person row watches) rows
+
+-- a line for each row of that queue, if the queue is there
+abbrev pub lines_by : Settings → Option QueueRow → List RequestRow → List Line
+lines_by settings queue rows = map (λ row. line_of (told_in settings queue row)) rows
+
+-- a line for each row that is late, in the order of the rows
+abbrev pub late_lines_by : ℕ → Settings → List QueueRow → List RequestRow → List LateLine
+late_lines_by at settings queues rows =
+    filter_map (λ row. late_line at (told_among settings queues row)) rows
+
+-- the rows stand in the order of their numbers
+abbrev pub NumbersRise : List RequestRow → Type 0
+NumbersRise rows = is_rising (λ a b. nat_lt a.id b.id) rows ≡ true
+
+-- the line of a row that has been late for so many minutes
+abbrev pub late_by : ℕ → RequestRow → ℕ → LateLine
+late_by late row due =
+    record { id = row.id; queue = row.queue; owner = row.owner; due = due; late = late }
+
+-- what each owner has of the rows whose status isn't inactive
+abbrev pub live_among : Settings → List QueueRow → List RequestRow → List Told
+live_among settings queues rows =
+    filter (λ r. r.is_live) (map (told_among settings queues) rows)
+
+abbrev pub loads_by : ℕ → Settings → List QueueRow → List RequestRow → List Load
+loads_by at settings queues rows = loads at (live_among settings queues rows)
+
+-- how many of the requests are the owner's, and how many of those are late
+abbrev pub counts_of : ℕ → List Told → Option (List ℕ) → Counts
+counts_of at requests owner =
+    record {
+      live = (load_of at requests owner).live;
+      overdue = (load_of at requests owner).overdue;
+    }
+
+abbrev pub with_counts : ℕ → List Told → Option (List ℕ) → Option (List ℕ) × Counts
+with_counts at requests owner = (owner, counts_of at requests owner)
+
+-- each owner with the counts
+abbrev pub entries_of : ℕ → List Told → List (Option (List ℕ) × Counts)
+entries_of at requests = map (with_counts at requests) (owners requests)
+
+abbrev pub load_in : Option (List ℕ) × Counts → Load
+load_in entry = record { owner = entry.0; live = entry.1.live; overdue = entry.1.overdue }
+
+-- one request more, late or not; a count stays at the greatest number that it can hold
+abbrev pub counted : Bool → Counts → Counts
+counted is_late counts =
+    record {
+      live = min (counts.live + 1) (2 ^ 32 - 1);
+      overdue = if is_late then min (counts.overdue + 1) (2 ^ 32 - 1) else counts.overdue;
+    }
+
+abbrev pub no_counts : Counts
+no_counts = record { live = 0; overdue = 0 }

@@ -1,0 +1,143 @@
+//! What each owner has to do.
+ghost use Rattle.std.specs.Prelude.{◌≡◌, ◌<◌, ◌^◌, length, map, IfOk, OnOk, unwrap_or};
+ghost use Rattle.std.specs.BTreeMap.{get, insert_entry};
+ghost use Rattle.std.specs.Option.{option_map};
+ghost use Rattle.desk_model.specs.Readings.Workload.{owner_order};
+ghost use Rattle.desk_model.specs.Told as told;
+ghost use Rattle.desk_reports.specs.Rows.{QueuesRise, counted, entries_of, live_among, loads_by};
+ghost use Rattle.desk_reports.specs.Rows.{load_in, no_counts};
+
+use crate::queues::{due_in, queue_named};
+use desk_model::lifecycles::is_inactive;
+use desk_model::{Load, QueueRow, RequestRow};
+use settings_core::Settings;
+use std::alloc::{AllocError, Global};
+use std::collections::BTreeMap;
+use text_core::Text;
+
+/// How many requests of an owner aren't inactive, and how many of those are late.
+#[derive(Clone, Copy)]
+struct Counts {
+    live: u32,
+    overdue: u32,
+}
+
+/// The counts of each owner.
+type Owners = BTreeMap<Option<Text>, Counts>;
+
+/// What each owner has of the rows that aren't inactive, and how much of it was due before the
+/// moment: nobody first, then in the order of the names. The queues stand in the order of their
+/// names. `AllocError` where memory is refused.
+pub(crate) fn loads(
+    alloc: Global,
+    at: u32,
+    settings: &Settings,
+    queues: &[QueueRow],
+    rows: &[RequestRow],
+) -> Result<Vec<Load>, AllocError>
+    ensures { QueuesRise queues.now → length rows.now < 2 ^ 32
+        → IfOk result (λ loads. loads.items ≡ loads_by at settings.now queues.now rows.now) }
+{
+    let owners = owners_of(alloc, at, settings, queues, rows)?;
+    told(alloc, owners)
+}
+
+/// What each owner has, as it is told.
+fn told(alloc: Global, owners: Owners) -> Result<Vec<Load>, AllocError>
+    ensures { IfOk result (λ loads. loads.items ≡ map load_in owners.entries) }
+{
+    owners
+        .into_iter()
+        .map(|(owner, counts)| load(owner, counts))
+        .collect(alloc)
+}
+
+/// An owner's counts as they are told.
+fn load(owner: Option<Text>, counts: Counts) -> Load
+    ensures { result ≡ load_in (owner, counts) }
+{
+    Load {
+        owner,
+        live: counts.live,
+        overdue: counts.overdue,
+    }
+}
+
+/// The counts of each owner of these rows.
+fn owners_of(
+    alloc: Global,
+    at: u32,
+    settings: &Settings,
+    queues: &[QueueRow],
+    rows: &[RequestRow],
+) -> Result<Owners, AllocError>
+    ensures { QueuesRise queues.now → length rows.now < 2 ^ 32
+        → IfOk result (λ owners. owners.entries
+        ≡ entries_of at (live_among settings.now queues.now rows.now)) }
+{
+    let mut owners = BTreeMap::new(alloc);
+    for row in rows {
+        let queue = queue_named(queues, &row.queue);
+        if is_live(settings, queue, row) {
+            count(&mut owners, &row.owner, is_late(at, settings, queue, row))?;
+        }
+    }
+    Ok(owners)
+}
+
+/// Counts one request more of an owner.
+fn count(owners: &mut Owners, owner: &Option<Text>, is_late: bool) -> Result<(), AllocError>
+    ensures { OnOk result (owners.new.entries
+        ≡ insert_entry owner_order owners.old.entries owner.now
+        (counted is_late (unwrap_or (get owner_order owners.old owner.now) no_counts))) }
+{
+    let before = match owners.get(owner) {
+        Some(counts) => *counts,
+        None => Counts {
+            live: 0,
+            overdue: 0,
+        },
+    };
+    owners.insert(owner.clone()?, before.with(is_late))?;
+    Ok(())
+}
+
+impl Counts {
+    /// With one request more, late or not.
+    fn with(self, is_late: bool) -> Counts
+        ensures { result ≡ counted is_late self }
+    {
+        Counts {
+            live: self.live.saturating_add(1),
+            overdue: if is_late {
+                self.overdue.saturating_add(1)
+            } else {
+                self.overdue
+            },
+        }
+    }
+}
+
+/// Whether the status of a request of this queue isn't inactive.
+fn is_live(settings: &Settings, queue: Option<&QueueRow>, row: &RequestRow) -> bool
+    ensures { result ≡ (told.told_in settings.now (option_map (λ q. q.now) queue.entry) row.now).is_live }
+{
+    match queue {
+        Some(queue) => !is_inactive(
+            settings.lifecycle(queue.lifecycle.as_str()),
+            row.status.as_str(),
+        ),
+        None => true,
+    }
+}
+
+/// Whether a request of this queue was due before the moment.
+fn is_late(at: u32, settings: &Settings, queue: Option<&QueueRow>, row: &RequestRow) -> bool
+    ensures { result
+        ≡ told.is_late at (told.told_in settings.now (option_map (λ q. q.now) queue.entry) row.now) }
+{
+    match due_in(settings, queue, row) {
+        Some(due) => due.get() < at,
+        None => false,
+    }
+}

@@ -1,0 +1,46 @@
+//! The queues of requests.
+ghost use Rattle.std.specs.Prelude.{◌≡◌, option_and_then};
+ghost use Rattle.std.specs.Option.{option_map};
+ghost use Rattle.desk_model.specs.Due as due;
+ghost use Rattle.desk_reports.specs.Rows.{QueuesRise, named_only, queue_among};
+
+use desk_model::{QueueRow, RequestRow, due_of};
+use hours_core::Minute;
+use settings_core::Settings;
+use text_core::Text;
+
+/// The queue of that name, of queues in the order of their names.
+pub(crate) fn queue_named<'q>(queues: &'q [QueueRow], name: &Text) -> Option<&'q QueueRow>
+    ensures { QueuesRise queues.now
+        → option_map (λ q. q.now) result ≡ queue_among queues.now name.now }
+{
+    let index = queues.partition_point(|queue| queue.name.as_str() < name.as_str());
+    let rest = &queues[index..];
+    named_only(rest.first(), name)
+}
+
+/// The queue, if it has that name.
+fn named_only<'q>(queue: Option<&'q QueueRow>, name: &Text) -> Option<&'q QueueRow>
+    ensures { option_map (λ q. q.now) result
+        ≡ named_only name.now (option_map (λ q. q.now) queue.entry) }
+{
+    match queue {
+        Some(queue) if queue.name.as_str() == name.as_str() => Some(queue),
+        _ => None,
+    }
+}
+
+/// When a request of this queue is due, if the queue is there.
+pub(crate) fn due_in(
+    settings: &Settings,
+    queue: Option<&QueueRow>,
+    row: &RequestRow,
+) -> Option<Minute>
+    ensures { result ≡ option_and_then (λ q. due.due_of settings.now q row.now)
+        (option_map (λ q. q.now) queue.entry) }
+{
+    match queue {
+        Some(queue) => due_of(settings, queue, row),
+        None => None,
+    }
+}

@@ -1,0 +1,89 @@
+//! The three reports: a queue's list, the requests that are late, and the workload.
+//!
+//! Each is told of rows to a person, whose watches are handed in, in the order of their requests.
+//! Queues stand in the order of their names, and the rows of requests in that of their numbers.
+ghost use Rattle.std.specs.Prelude.{◌≡◌, IfOk};
+ghost use Rattle.std.specs.Option.{option_map};
+ghost use Rattle.desk_model.specs.Readings.Overdue.{in_due_order};
+ghost use Rattle.desk_reports.specs.Rows.{NumbersRise, QueuesRise, WatchesRise};
+ghost use Rattle.desk_reports.specs.Rows.{late_lines_by, lines_by, loads_by, shown_by};
+
+use crate::late::late_lines;
+use crate::lines::lines_of;
+use crate::load::loads;
+use crate::showing::shown;
+use desk_model::{LateLine, Line, Load, QueueRow, RequestRow, Watcher};
+use settings_core::Settings;
+use std::alloc::{AllocError, Global};
+use text_core::Sequence;
+
+/// The list of that queue, of the rows of its requests: a line for each that the person may show,
+/// in the order of the rows. `AllocError` where memory is refused.
+pub fn list(
+    alloc: Global,
+    settings: &Settings,
+    person: &str,
+    watches: &[Watcher],
+    queue: Option<&QueueRow>,
+    rows: Vec<RequestRow>,
+) -> Result<Sequence<Line>, AllocError>
+    ensures { WatchesRise watches.now
+        → IfOk result (λ lines. lines
+        ≡ lines_by settings.now (option_map (λ q. q.now) queue.entry)
+        (shown_by settings.now person.now watches.now rows.items)) }
+{
+    let lines = lines_of(
+        alloc,
+        settings,
+        queue,
+        shown(settings, person, watches, rows),
+    )?;
+    Ok(Sequence::from(lines))
+}
+
+/// A line for each request that the person may show and that was due before the moment, in the
+/// order of the due moments, and of the numbers where those are the same. `AllocError` where memory
+/// is refused.
+pub fn overdue(
+    alloc: Global,
+    at: u32,
+    settings: &Settings,
+    person: &str,
+    watches: &[Watcher],
+    queues: &[QueueRow],
+    rows: Vec<RequestRow>,
+) -> Result<Sequence<LateLine>, AllocError>
+    ensures { WatchesRise watches.now → QueuesRise queues.now
+        → NumbersRise (shown_by settings.now person.now watches.now rows.items)
+        → IfOk result (λ lines. lines ≡ in_due_order (late_lines_by at settings.now queues.now
+        (shown_by settings.now person.now watches.now rows.items))) }
+{
+    let shown = shown(settings, person, watches, rows);
+    Ok(Sequence::from(late_lines(alloc, at, settings, queues, shown)?))
+}
+
+/// What each owner has of the requests that the person may show and that aren't inactive, and how
+/// much of it was due before the moment: nobody first, then in the order of the names. `AllocError`
+/// where memory is refused, or where there are more rows than there are numbers for requests.
+pub fn workload(
+    alloc: Global,
+    at: u32,
+    settings: &Settings,
+    person: &str,
+    watches: &[Watcher],
+    queues: &[QueueRow],
+    rows: Vec<RequestRow>,
+) -> Result<Sequence<Load>, AllocError>
+    ensures { WatchesRise watches.now → QueuesRise queues.now
+        → IfOk result (λ told. told ≡ loads_by at settings.now queues.now
+        (shown_by settings.now person.now watches.now rows.items)) }
+{
+    let shown = shown(settings, person, watches, rows);
+    if shown.len() > MOST_REQUESTS {
+        return Err(AllocError);
+    }
+    Ok(Sequence::from(loads(alloc, at, settings, queues, shown.as_slice())?))
+}
+
+/// The greatest number that a request can have.
+const MOST_REQUESTS: usize = 4_294_967_295;

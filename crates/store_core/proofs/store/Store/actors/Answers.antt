@@ -1,0 +1,6 @@
+use Rattle.store_tables.specs.Contents.{contents_of}
+use Rattle.store_core.proofs.store.Store.actors.Goals as goal
+
+pub returns-clause-listed : goal.returns-clause-listed
+returns-clause-listed g c desk is stand clean =
+    c.actors.ensures.listed (contents_of desk) stand clean
