@@ -19,8 +19,8 @@ use queues::queues_text;
 use shown::show_text;
 use workload::workload_text;
 
-/// The text of an answer: `ok`, `request N`, the lines of a request, or one for each queue, request,
-/// entry or owner that it tells of.
+/// The text of an answer: `ok`, `request N`, the lines of a request, or a line for each queue,
+/// request, entry or owner that it tells of.
 pub fn answer_text(alloc: Global, answer: &Answer) -> Result<String, AllocError>
     ensures { IfOk result (λ t. string_bytes t ≡ text.answer_text answer.now) }
 {

@@ -1,5 +1,5 @@
 //! One command on the desk.
-ghost use Rattle.std.specs.Prelude.{◌≡◌, ℕ, true, IfErr, IfOk, OnErr, OnOk};
+ghost use Rattle.std.specs.Prelude.{◌≡◌, true, IfErr, IfOk, OnErr, OnOk};
 ghost use Rattle.desk_model.specs.Plan.{told_of};
 ghost use Rattle.desk_model.specs.Refusals.{names_its_right};
 ghost use Rattle.store_tables.specs.Calls.{Leaves, WasClean};
@@ -88,7 +88,7 @@ fn decided<S: Backend>(
 {
     match decide(alloc, settings, at, caller, facts, command) {
         Ok(change) => {
-            let answer = carry_out(alloc, store, settings, caller, command, facts, &change);
+            let answer = carry_out(alloc, store, settings, at, caller, command, facts, &change);
             drop(change);
             answer
         }
@@ -102,12 +102,13 @@ fn carry_out<S: Backend>(
     alloc: Global,
     store: &mut Store<S>,
     settings: &Settings,
+    at: u32,
     caller: &str,
     command: &Command,
     facts: &Facts,
     change: &Change,
 ) -> Result<Answer, Refusal>
-    ensures done { (at : ℕ) → CarriesOut facts.now change.now settings.now
+    ensures done { CarriesOut facts.now change.now settings.now
         (ask_by at caller.now command.now) result
         (state_of S.Store store.old) (state_of S.Store store.new) }
     ensures refused { OnErr result
@@ -116,7 +117,7 @@ fn carry_out<S: Backend>(
     ensures honest { WasClean (state_of S.Store store.old) (state_of S.Store store.new) }
 {
     if command.is_reading() {
-        reading::read(alloc, store, settings, caller, command, facts)
+        reading::read(alloc, store, settings, at, caller, command, facts)
     } else {
         write(store, change)
     }

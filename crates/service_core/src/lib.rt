@@ -9,6 +9,7 @@ pub mod fault;
 mod known;
 mod links;
 mod reading;
+mod reports;
 mod run;
 
 pub use desk::Desk;

@@ -10,6 +10,7 @@ ghost use Rattle.service_core.specs.TableSteps.{ask_by};
 
 use crate::fault::or_unavailable;
 use crate::links::links_of;
+use crate::reports::{list, overdue, workload};
 use desk_core::{
     Answer, Command, Entry, Facts, Links, QueueRow, Refusal, SeenRequest, Shown, due_of, sees_queue,
 };
@@ -25,11 +26,12 @@ pub(crate) fn read<S: Backend>(
     alloc: Global,
     store: &mut Store<S>,
     settings: &Settings,
+    at: u32,
     caller: &str,
     command: &Command,
     facts: &Facts,
 ) -> Result<Answer, Refusal>
-    ensures told { (at : ℕ) → Answers settings.now (ask_by at caller.now command.now) facts.now
+    ensures told { Answers settings.now (ask_by at caller.now command.now) facts.now
         (state_of S.Store store.old) (state_of S.Store store.new) result }
     ensures kept { Spares (state_of S.Store store.old) (state_of S.Store store.new) }
     ensures fault { IfErr result (λ refusal. refusal ≡ Refusal.Unavailable) }
@@ -37,7 +39,10 @@ pub(crate) fn read<S: Backend>(
     match command {
         Command::Queues => queues(alloc, store, settings, caller),
         Command::Show { .. } => show(alloc, store, settings, caller, facts),
+        Command::List { queue } => list(alloc, store, settings, caller, queue, facts),
         Command::History { .. } => history(alloc, store, settings, caller, facts),
+        Command::Overdue => overdue(alloc, store, settings, at, caller),
+        Command::Workload => workload(alloc, store, settings, at, caller),
         _ => Err(Refusal::Unavailable),
     }
 }

@@ -35,7 +35,7 @@ use Rattle.store_tables.specs.Selection as chosen
 use Rattle.store_tables.specs.Spelling.{role_number}
 use Rattle.store_core.specs.Found.{persons_in}
 use Rattle.store_core.proofs.OrderLemmas.{all_rise, link_total}
-use Rattle.store_core.proofs.SortedLemmas.{sorted_same}
+use Rattle.sorted_lists.proofs.SortedLemmas.{sorted_same}
 
 -- ---- the watchers of a request
 

@@ -22,7 +22,7 @@ use Rattle.store_tables.specs.Orders.{by_number}
 use Rattle.store_tables.specs.Picked.{AreOrdered}
 use Rattle.store_tables.specs.Selection.{tells_of}
 use Rattle.store_core.proofs.RiseLemmas.{all_later, all_tested, numbers_rise, own_entries}
-use Rattle.store_core.proofs.SortedLemmas.{Rises, sorted_same}
+use Rattle.sorted_lists.proofs.SortedLemmas.{Rises, sorted_same}
 
 -- the entries of the request with that number among these
 abbrev among : ℕ → List Request → List Entry

@@ -9,7 +9,6 @@ pub mod OrderLemmas
 pub mod Revised
 pub mod RoleRows
 pub mod RiseLemmas
-pub mod SortedLemmas
 pub mod StandsAlike
 pub mod Writable
 pub mod WritableByKind

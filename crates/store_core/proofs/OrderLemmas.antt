@@ -18,7 +18,7 @@ use Rattle.store_tables.specs.Picked.{AreOrdered}
 use Rattle.store_tables.specs.Orders.{by_id, by_entry, by_link, by_name, by_standing, by_watcher}
 use Rattle.store_tables.specs.Spelling.{role_number}
 use Rattle.desk_model.specs.Links.{kind_number}
-use Rattle.store_core.proofs.SortedLemmas.{Rises, sorted_same}
+use Rattle.sorted_lists.proofs.SortedLemmas.{Rises, sorted_same}
 
 lt_is : (o : Ordering) → is_lt o ≡ true → o ≡ Less
 lt_is Less h = refl

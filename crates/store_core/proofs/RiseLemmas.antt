@@ -33,7 +33,7 @@ use Rattle.store_tables.specs.Selection.{is_of_person}
 use Rattle.store_tables.specs.Spelling.{role_number}
 use Rattle.store_core.proofs.OrderLemmas.{all_rise, entry_total, id_total, link_total}
 use Rattle.store_core.proofs.OrderLemmas.{standing_total, watcher_total}
-use Rattle.store_core.proofs.SortedLemmas.{Rises}
+use Rattle.sorted_lists.proofs.SortedLemmas.{Rises}
 
 -- ---- numbers from 1 on
 
@@ -201,7 +201,7 @@ of_request r rise =
     (both_follow R requestors cc admin_cc (lower_role id Requestor Cc refl r.requestors r.cc)
     (lower_role id Requestor AdminCc refl r.requestors r.admin_cc))
 
-their_own : (r : Request) → AllByRecursion (λ w. w.id ≡ r.row.id) (watchers_of r)
+pub their_own : (r : Request) → AllByRecursion (λ w. w.id ≡ r.row.id) (watchers_of r)
 their_own r =
     let id = r.row.id in
     let P : Watcher → Type 0 = λ w. w.id ≡ id in

@@ -67,5 +67,8 @@ fn put_columns(
     ensures { OnOk result (string_bytes out.new ≡ string_bytes out.old
         ++ text.columns id.now status.now owner.now due.now subject.now) }
 {
-    write!(out, "{id:>7} {status:<20} {owner:<20} {due:<16} {subject}\n")
+    write!(
+        out,
+        "{id:>7} {status:<20} {owner:<20} {due:<16} {subject}\n"
+    )
 }

@@ -69,12 +69,7 @@ fn put_line(out: &mut String, owner: &str, live: u128, overdue: u128) -> Result<
 
 /// A line of these columns, of the header, of an owner or of the sums.
 #[tactic(auto, unfolding(crate::specs::Texts::Workload::columns))]
-fn put_columns(
-    out: &mut String,
-    owner: &str,
-    live: &str,
-    overdue: &str,
-) -> Result<(), AllocError>
+fn put_columns(out: &mut String, owner: &str, live: &str, overdue: &str) -> Result<(), AllocError>
     ensures { OnOk result (string_bytes out.new
         ≡ string_bytes out.old ++ text.columns owner.now live.now overdue.now) }
 {

@@ -9,7 +9,7 @@ returns-in-Ok-clause-step g c =
     decided_seeing c.args.facts.now c.in-Ok.change c.args.settings.now
     (ask_by c.args.at c.args.caller.now c.args.command.now) c.carry_out-answer.result
     (state_of g.S.Store c.args.store.now) (state_of g.S.Store c.carry_out-answer.new.store)
-    c.in-Ok.ensures.accepts c.in-Ok.ensures.planned.0.1 (c.carry_out-answer.ensures.done c.args.at)
+    c.in-Ok.ensures.accepts c.in-Ok.ensures.planned.0.1 c.carry_out-answer.ensures.done
 
 pub returns-in-Err-clause-step : goal.returns-in-Err-clause-step
 returns-in-Err-clause-step g c =
