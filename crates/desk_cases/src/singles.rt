@@ -47,7 +47,7 @@ fn write_that_fails(streams: &str) -> Result<u32, Failure> {
 }
 
 /// Runs the command of a line `MOMENT CALLER WORDS ..`, and gives the store back.
-fn run_line<S: Backend>(
+fn run_line<S: Backend + Drop>(
     rt: &HostRuntime,
     settings: &str,
     store: Store<S>,
