@@ -1,11 +1,14 @@
-//! The program `desk`: a script from the standard input over a desk in memory, or a server over a
-//! file of tables.
+//! The program `desk`: a script from the standard input over a desk in memory, or one command or a
+//! server over a file of tables.
 #![tactic(auto)]
 
+mod files;
 mod server;
+mod single;
 
-use desk_program::{run_script_counted, serving_of};
+use desk_program::{one_command_of, run_script_counted, serving_of};
 use server::serve;
+use single::run_single;
 use std::process::ExitCode;
 use std::{env, io};
 
@@ -16,8 +19,9 @@ const BAD_WORDS: u8 = 2;
 const FAILED_WRITE: u8 = 4;
 
 /// `desk script`, or `desk` alone, runs the script that stands in the standard input, and ends with
-/// its status. `desk --db FILE --settings FILE serve --port N --count K` is a server. All else is
-/// `bad words`.
+/// its status. `desk --db FILE --settings FILE serve --port N --count K` is a server, and
+/// `desk --db FILE --settings FILE --caller PERSON --at MOMENT COMMAND ..` is one command. All else
+/// is `bad words`.
 fn main(rt: HostRuntime) -> ExitCode {
     match words_of(&rt) {
         Ok(words) => ExitCode::from(run(&rt, words.as_slice())),
@@ -38,10 +42,18 @@ fn run(rt: &HostRuntime, words: &[String]) -> u8 {
     if asks_for_script(words) {
         run_script_counted(rt.alloc(), &mut rt.reader(), &mut io::writer(rt)).status
     } else {
-        match serving_of(words) {
-            Some(serving) => serve(rt, &serving),
-            None => refuse(rt),
-        }
+        run_on_tables(rt, words)
+    }
+}
+
+/// Runs what has a file of tables: a server or one command. No words are both.
+fn run_on_tables(rt: &HostRuntime, words: &[String]) -> u8 {
+    if let Some(serving) = serving_of(words) {
+        return serve(rt, &serving);
+    }
+    match one_command_of(words) {
+        Some(asked) => run_single(rt, &asked),
+        None => refuse(rt),
     }
 }
 

@@ -1,10 +1,8 @@
 //! A server over a file of tables, on the loopback.
-use desk_program::{
-    InputFault, Serving, open_desk, serve_on, take_settings, tell_input_fault, tell_store_fault,
-};
+use crate::files::read_settings;
+use desk_program::{Serving, open_desk, serve_on, tell_input_fault, tell_store_fault};
 use service_core::Desk;
 use sqlite::Connection;
-use std::fs::File;
 use std::io;
 use std::net::TcpListener;
 use store_core::{Backend, Store, StoreFault};
@@ -20,21 +18,20 @@ pub fn serve(rt: &HostRuntime, serving: &Serving<'_>) -> u8 {
     }
 }
 
-/// The bytes of a settings file.
-fn read_settings(rt: &HostRuntime, path: &str) -> Result<Vec<u8>, InputFault> {
-    match File::open(rt, path) {
-        Ok(mut file) => take_settings(rt.alloc(), &mut file),
-        Err(_) => Err(InputFault::Read),
-    }
-}
-
+/// Opens the tables, serves the desk on them, and closes them. Each change is committed by then:
+/// closing only copies it from the log into the file, so its fault is passed over.
 fn serve_tables(rt: &HostRuntime, serving: &Serving<'_>, settings: &[u8]) -> u8 {
     let mut output = io::writer(rt);
     let Ok(tables) = Connection::open(rt, serving.tables) else {
         return tell_store_fault(StoreFault::Refused, &mut output);
     };
     match open_desk(rt.alloc(), Store::adopt(tables), settings, &mut output) {
-        Ok(mut desk) => listen(rt, serving, &mut desk),
+        Ok(mut desk) => {
+            let status = listen(rt, serving, &mut desk);
+            let (store, _) = desk.detach();
+            let _closed = store.release().close();
+            status
+        }
         Err(status) => status,
     }
 }

@@ -11,6 +11,9 @@
 //!   The whole list is asked at once, and each outcome is written as its text. Where the settings
 //!   can't be attached, it is written why, and what the store holds that is given back.
 //!
+//! After a line `$$` in place of `%%` the commands are run one at a time, each as the program's form
+//! for one command does it (`singles.rt`).
+//!
 //! Where lines that begin with `> ` stand after the commands, each begins a message, which is bytes
 //! that come in: the line has its moment, and the message goes up to the line feed before the next
 //! such line, the next case or a line `+++`. In it a backslash and `r` stand for a carriage return.
@@ -40,6 +43,7 @@ mod made;
 mod messages;
 mod scripts;
 mod served;
+mod singles;
 mod stores;
 mod streams;
 mod telling;
@@ -99,6 +103,9 @@ fn answer(rt: &HostRuntime, named: &[Named<'_>], name: &str, text: &str) -> Resu
     let (text, streams) = text.split_once(STREAMS).unwrap_or((text, ""));
     if text.contains(messages::BEGIN) {
         return messages::run_case(rt, named, text, streams);
+    }
+    if text.contains(singles::SINGLES) {
+        return singles::run_case(rt, named, text, streams);
     }
     let case = expanded(rt.alloc(), named, text)?;
     if !streams.is_empty() {

@@ -17,7 +17,7 @@ pub(crate) fn run_case(rt: &HostRuntime, statements: &str, calls: &str) -> Resul
 }
 
 /// A store without tables, or with those that the statements make.
-fn opened(alloc: Global, statements: &str) -> Result<Store<MemStore>, Failure> {
+pub(crate) fn opened(alloc: Global, statements: &str) -> Result<Store<MemStore>, Failure> {
     if statements.is_empty() {
         return Store::open_in_memory(alloc).map_err(|_| Failure::Statement);
     }

@@ -94,7 +94,7 @@ empty_is_desk =
     }
 
 -- an empty desk has no name that settings could lack
-knows_empty : (s : Settings) → is_known s empty_desk ≡ true
+pub knows_empty : (s : Settings) → is_known s empty_desk ≡ true
 unfolding is_known
 knows_empty s = refl
 

@@ -7,3 +7,4 @@ pub mod Opened
 pub mod PrintedLines
 pub mod ReadSettings
 pub mod Served
+pub mod Stepped

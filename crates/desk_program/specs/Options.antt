@@ -1,8 +1,10 @@
--- The words of a server.
-use Rattle.std.specs.Prelude.{ℕ, Bool, false, ◌&&◌, ◌==◌, nat_le, if◌then◌else◌, List, [], ◌∷◌}
-use Rattle.std.specs.Prelude.{Option, Some, None, codes, length, take, drop}
+-- The words of a server, and those of one command.
+use Rattle.std.specs.Prelude.{ℕ, Bool, false, ◌&&◌, ◌==◌, nat_le, nat_lt, if◌then◌else◌, List, []}
+use Rattle.std.specs.Prelude.{◌∷◌, Option, Some, None, option_and_then, codes, length, take, drop}
 use Rattle.std.specs.Str.{bytes_eq}
 use Rattle.desk_words.specs.Number.{number_of}
+
+-- ---- a server
 
 -- the values of two options, in either order, and nothing else
 unfoldable pub both_values : List ℕ → List ℕ → List (List ℕ) → Option (List ℕ × List ℕ)
@@ -44,3 +46,38 @@ serving_of words =
     then served_with (both_values (codes "--db") (codes "--settings") (take 4 words))
     (both_values (codes "--port") (codes "--count") (take 4 (drop 5 words)))
     else None
+
+-- ---- one command
+
+-- the value that follows a key, in four pairs of a key and a value
+unfoldable pub value_of : List ℕ → List (List ℕ) → Option (List ℕ)
+value_of key (a ∷ x ∷ b ∷ y ∷ c ∷ z ∷ d ∷ u ∷ []) =
+    if bytes_eq a key then Some x
+    else if bytes_eq b key then Some y
+    else if bytes_eq c key then Some z
+    else if bytes_eq d key then Some u
+    else None
+value_of key words = None
+
+-- a file of tables and one of settings, a caller and a moment, and the words of a command
+abbrev pub OneCommand : Type 0
+OneCommand = List ℕ × List ℕ × List ℕ × ℕ × List (List ℕ)
+
+unfoldable pub one_with : Option (List ℕ) → Option (List ℕ) → Option (List ℕ) → Option ℕ
+    → List (List ℕ) → Option OneCommand
+one_with (Some tables) (Some settings) (Some caller) (Some at) words =
+    Some (tables, settings, caller, at, words)
+one_with tables settings caller at words = None
+
+-- the four options, and the words of a command: each of four keys stands in four pairs, so each
+-- stands there once, and no other
+abbrev pub after_options : List (List ℕ) → List (List ℕ) → Option OneCommand
+after_options front words =
+    one_with (value_of (codes "--db") front) (value_of (codes "--settings") front)
+    (value_of (codes "--caller") front)
+    (option_and_then number_of (value_of (codes "--at") front)) words
+
+-- `--db FILE --settings FILE --caller PERSON --at MOMENT` in any order, and one word at least
+abbrev pub one_command_of : List (List ℕ) → Option OneCommand
+one_command_of words =
+    if nat_lt 8 (length words) then after_options (take 8 words) (drop 8 words) else None

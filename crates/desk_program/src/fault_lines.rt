@@ -4,6 +4,7 @@ ghost use Rattle.stream_core.specs.Written.{Prints};
 ghost use Rattle.desk_program.specs.FaultLines.{attach_fault_text, input_fault_text, inner_text};
 ghost use Rattle.desk_program.specs.FaultLines.{numbered, numbered_line, settings_fault_text};
 ghost use Rattle.desk_program.specs.FaultLines.{store_fault_text, unavailable_text};
+ghost use Rattle.desk_program.specs.Script.{bad_words_text};
 
 use crate::fault::InputFault;
 use desk_core::Refusal;
@@ -75,6 +76,14 @@ fn put_numbered_line<W: Write>(
     output.put(word);
     put_numbered(output, number, name);
     output.put(b"\n");
+}
+
+/// Prints that words spell no command.
+pub(crate) fn put_bad_words<W: Write>(output: &mut CountedWriter<'_, W>)
+    ensures same_writer { HaveOneWriter output.new output.old }
+    ensures printed { Prints W.contents output.old output.new bad_words_text }
+{
+    output.put(b"bad words\n");
 }
 
 /// Prints that a line was left out, since there was no memory for it.

@@ -1,17 +1,21 @@
 //! A desk is opened over the tables of a store, with the settings of a text.
 ghost use Rattle.std.specs.Prelude.{◌≡◌, ◌≢◌, ◌≤◌, ℕ, List, Ok, Err, length, IfErr, IfOk, IfSome};
-ghost use Rattle.std.specs.Prelude.{OnOk, Result, if◌then◌else◌};
-ghost use Rattle.store_core.specs.Seen.{state_of};
+ghost use Rattle.std.specs.Prelude.{OnOk, Result, true, if◌then◌else◌};
+ghost use Rattle.store_core.specs.Seen.{connection_of, state_of};
+ghost use Rattle.service_core.specs.Attaching.{TellsKnown};
 ghost use Rattle.service_core.specs.Seen.{settings_of, tables_of};
+ghost use Rattle.service_core.specs.declared.fault.AttachFault.{AttachFault};
 ghost use Rattle.store_tables.specs.Calls.{Leaves};
 ghost use Rattle.store_tables.specs.Making.{IsBlank};
 ghost use Rattle.store_tables.specs.Stands.{StandsFor};
 ghost use Rattle.desk_model.specs.Desk.{empty_desk};
 ghost use Rattle.stream_core.specs.Seen.{HaveOneWriter, has_write_failed, held_in};
 ghost use Rattle.stream_core.specs.Written.{Prints};
-ghost use Rattle.desk_program.specs.FaultLines.{input_fault_text, store_fault_text};
+ghost use Rattle.desk_program.specs.FaultLines.{attach_fault_text, input_fault_text};
+ghost use Rattle.desk_program.specs.FaultLines.{store_fault_text};
 ghost use Rattle.desk_program.specs.Input as form;
 ghost use Rattle.desk_program.specs.Opening.{EndsWith, IsNotOpened, IsOpened, IsOpeningFault};
+ghost use Rattle.desk_program.specs.Opening.{FailsToAttach};
 
 use crate::fault::InputFault;
 use crate::fault_lines::{put_attach_fault, put_input_fault, put_settings_fault, put_store_fault};
@@ -63,7 +67,7 @@ pub fn tell_store_fault<W: Write>(fault: StoreFault, writer: &mut W) -> u8
 }
 
 /// The status, or 4 where a write failed.
-fn ended<W: Write>(status: u8, output: &CountedWriter<'_, W>) -> u8
+pub(crate) fn ended<W: Write>(status: u8, output: &CountedWriter<'_, W>) -> u8
     ensures { result ≡ (if has_write_failed output.now then 4 else status) }
 {
     if output.failed() { NO_DESK } else { status }
@@ -83,55 +87,64 @@ pub fn open_desk<S: Backend + Drop, W: Write>(
     ensures opened { IfOk result (λ desk. IsOpened settings.now (state_of S.Store store)
         (settings_of S.Store desk) (tables_of S.Store desk)) }
     ensures quiet { OnOk result (W.contents writer.new ≡ W.contents writer.old) }
-    ensures told { IfErr result (λ status. IsNotOpened settings.now
+    ensures told { IfErr result (λ status. IsNotOpened S.Store settings.now (connection_of S.Store store)
         (W.contents writer.old) (W.contents writer.new) status) }
 {
     let mut output = CountedWriter::new(writer);
     match open(alloc, store, settings, &mut output) {
         Ok(desk) => Ok(desk),
-        Err(status) => Err(ended(status, &output)),
+        Err((status, store)) => {
+            drop(store);
+            Err(ended(status, &output))
+        }
     }
 }
 
-fn open<S: Backend + Drop, W: Write>(
+/// The desk over the tables of a store, or the status of the fault that a line tells; the store is
+/// given back with it.
+pub(crate) fn open<S: Backend, W: Write>(
     alloc: Global,
     store: Store<S>,
     settings: &[u8],
     output: &mut CountedWriter<'_, W>,
-) -> Result<Desk<S>, u8>
+) -> Result<Desk<S>, (u8, Store<S>)>
     ensures same_writer { HaveOneWriter output.new output.old }
     ensures opened { IfOk result (λ desk. IsOpened settings.now (state_of S.Store store)
         (settings_of S.Store desk) (tables_of S.Store desk)) }
     ensures quiet { OnOk result (output.new ≡ output.old) }
-    ensures told { IfErr result (λ status. (given : Result Settings SettingsFault)
+    ensures told { IfErr result (λ back. (given : Result Settings SettingsFault)
         × (line : List ℕ) × form.GivesSettings settings.now given
-        × IsOpeningFault given line status × Prints W.contents output.old output.new line) }
+        × IsOpeningFault S.Store given (connection_of S.Store store)
+        (connection_of S.Store back.1) line back.0
+        × Prints W.contents output.old output.new line) }
 {
     match read_settings(alloc, settings) {
         Ok(settings) => open_tables(alloc, store, settings, output),
         Err(fault) => {
-            drop(store);
             put_settings_fault(output, fault);
-            Err(BAD_SETTINGS)
+            Err((BAD_SETTINGS, store))
         }
     }
 }
 
 /// Makes the tables that are missing, and attaches the settings.
-fn open_tables<S: Backend + Drop, W: Write>(
+fn open_tables<S: Backend, W: Write>(
     alloc: Global,
     store: Store<S>,
     settings: Settings,
     output: &mut CountedWriter<'_, W>,
-) -> Result<Desk<S>, u8>
+) -> Result<Desk<S>, (u8, Store<S>)>
     ensures same_writer { HaveOneWriter output.new output.old }
     ensures settings { IfOk result (λ desk. settings_of S.Store desk ≡ settings) }
     ensures kept { IfOk result (λ desk. Leaves (state_of S.Store store) (tables_of S.Store desk)) }
     ensures made { IfOk result (λ desk. IsBlank (state_of S.Store store)
         → StandsFor empty_desk (tables_of S.Store desk)) }
+    ensures known { IfOk result (λ desk.
+        TellsKnown settings (state_of S.Store store) (tables_of S.Store desk) true) }
     ensures quiet { OnOk result (output.new ≡ output.old) }
-    ensures told { IfErr result (λ status. (line : List ℕ)
-        × IsOpeningFault (Ok settings) line status
+    ensures told { IfErr result (λ back. (line : List ℕ)
+        × IsOpeningFault S.Store (Ok settings) (connection_of S.Store store)
+        (connection_of S.Store back.1) line back.0
         × Prints W.contents output.old output.new line) }
 {
     let mut store = store;
@@ -139,34 +152,34 @@ fn open_tables<S: Backend + Drop, W: Write>(
         Ok(()) => attach(alloc, store, settings, output),
         Err(fault) => {
             drop(settings);
-            drop(store);
             put_store_fault(output, fault);
-            Err(NO_DESK)
+            Err((NO_DESK, store))
         }
     }
 }
 
 /// Attaches the settings to the tables.
-fn attach<S: Backend + Drop, W: Write>(
+fn attach<S: Backend, W: Write>(
     alloc: Global,
     store: Store<S>,
     settings: Settings,
     output: &mut CountedWriter<'_, W>,
-) -> Result<Desk<S>, u8>
+) -> Result<Desk<S>, (u8, Store<S>)>
     ensures same_writer { HaveOneWriter output.new output.old }
     ensures settings { IfOk result (λ desk. settings_of S.Store desk ≡ settings) }
     ensures kept { IfOk result (λ desk. Leaves (state_of S.Store store) (tables_of S.Store desk)) }
+    ensures known { IfOk result (λ desk.
+        TellsKnown settings (state_of S.Store store) (tables_of S.Store desk) true) }
     ensures quiet { OnOk result (output.new ≡ output.old) }
-    ensures told { IfErr result (λ status. (line : List ℕ)
-        × IsOpeningFault (Ok settings) line status
-        × Prints W.contents output.old output.new line) }
+    ensures told { IfErr result (λ back. (fault : AttachFault)
+        × FailsToAttach settings (state_of S.Store store) (state_of S.Store back.1) fault
+        × (back.0 ≡ 4) × Prints W.contents output.old output.new (attach_fault_text fault)) }
 {
     match Desk::attach(alloc, store, settings) {
         Ok(desk) => Ok(desk),
         Err((fault, store)) => {
-            drop(store);
             put_attach_fault(output, fault);
-            Err(NO_DESK)
+            Err((NO_DESK, store))
         }
     }
 }

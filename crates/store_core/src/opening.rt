@@ -37,6 +37,14 @@ impl<S: Alter> Store<S> {
         Store { conn }
     }
 
+    /// The connection under the store, with its tables as they are. Takes no memory.
+    pub fn release(self) -> Connection<S>
+        ensures same { result ≡ connection_of S.Store self }
+        ensures idle { result.in_transaction ≡ false }
+    {
+        self.conn
+    }
+
     /// Makes the tables that are missing and, where there is no version, writes version 1, in one
     /// transaction. `WrongVersion` where the tables are of another version, `Mismatch` where their
     /// version is no number, `Refused` where the store or memory refuses it. A fault leaves what

@@ -1,7 +1,11 @@
 -- what was held before the tables were made is held after it, and so when it is attached
-use Rattle.std.proofs.lemmas.Result.{IfOk-weaker}
+use Rattle.std.proofs.Common.{inl, inr, refl}
+use Rattle.std.proofs.lemmas.Result.{IfErr-weaker, IfOk-weaker}
 use Rattle.desk_model.specs.Desk.{empty_desk}
+use Rattle.store_core.specs.Seen.{state_of}
 use Rattle.store_tables.specs.Contents.{contents_of}
+use Rattle.desk_program.specs.FaultLines.{attach_fault_text, store_fault_text}
+use Rattle.desk_program.proofs.Opened.{made_not_attached}
 use Rattle.desk_program.proofs.opening.open_tables.Goals as goal
 
 pub returns-in-Ok-clause-kept : goal.returns-in-Ok-clause-kept
@@ -15,3 +19,51 @@ returns-in-Ok-clause-made g c =
     IfOk-weaker c.attach.result _ _
     (λ desk keeps blank. keeps (contents_of empty_desk) (c.in-Ok.ensures.made blank).0)
     c.attach.ensures.kept
+
+pub returns-in-Ok-clause-known : goal.returns-in-Ok-clause-known
+returns-in-Ok-clause-known g c =
+    IfOk-weaker c.attach.result _ _
+    (λ attached knows desk formed stand clean.
+    knows desk formed (c.in-Ok.ensures.kept (contents_of desk) stand) clean)
+    c.attach.ensures.known
+
+pub returns-in-Ok-clause-told : goal.returns-in-Ok-clause-told
+returns-in-Ok-clause-told g c =
+    IfErr-weaker c.attach.result _ _
+    (λ back told. (
+      attach_fault_text told.0,
+      (
+        inr (
+            told.0,
+            refl,
+            made_not_attached c.args.settings (state_of g.S.Store c.args.store)
+                (state_of g.S.Store c.create_schema.new.self) (state_of g.S.Store back.1) told.0
+                c.in-Ok.ensures.kept c.in-Ok.ensures.honest
+                (λ blank. (c.in-Ok.ensures.made blank).0)
+                (λ contents stand clean.
+                (c.in-Ok.ensures.version.0 contents stand clean).0)
+                told.1,
+          ),
+        told.2,
+      ),
+      told.3,
+    ))
+    c.attach.ensures.told
+
+pub returns-in-Err-clause-told : goal.returns-in-Err-clause-told
+returns-in-Err-clause-told g c = (
+  store_fault_text c.in-Err.fault,
+  (
+    inl (
+        c.in-Err.fault,
+        refl,
+        record {
+          kept = c.in-Err.ensures.kept;
+          blank = λ blank. let made = c.in-Err.ensures.made blank in (made.1, made.2);
+          version = λ contents stand clean. (c.in-Err.ensures.version.0 contents stand clean).1;
+        },
+      ),
+    refl,
+  ),
+  c.put_store_fault.ensures.printed,
+)

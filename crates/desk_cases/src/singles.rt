@@ -1,0 +1,85 @@
+//! Cases of commands that are run one at a time.
+
+use crate::changes::number;
+use crate::expansion::{Named, expanded};
+use crate::failure::Failure;
+use crate::stores::opened;
+use crate::streams::Faltering;
+use crate::ASKED;
+use desk_program::{OneEnded, run_one_whole};
+use std::str;
+use store_core::{Backend, Store};
+use wire_core::words_of;
+
+/// What stands between settings and commands that are run one at a time.
+pub(crate) const SINGLES: &str = "$$\n";
+
+/// Runs each command by itself with the settings, on the tables that the one before left; the first
+/// one on those that the statements make. Each is written with its status and whether a write
+/// failed, and then its text and a line feed. A line `writer_fails N` states that the first one's
+/// writer takes a byte at a time, and fails after N writes.
+pub(crate) fn run_case(
+    rt: &HostRuntime,
+    named: &[Named<'_>],
+    text: &str,
+    streams: &str,
+) -> Result<(), Failure> {
+    let case = expanded(rt.alloc(), named, text)?;
+    let case = str::from_utf8(case.as_slice()).unwrap_or("");
+    let (before, commands) = case.split_once(SINGLES).ok_or(Failure::BadLine)?;
+    let (statements, settings) = before.split_once(ASKED).ok_or(Failure::BadLine)?;
+    let mut store = opened(rt.alloc(), statements)?;
+    let mut fails_at = write_that_fails(streams)?;
+    for line in commands.lines() {
+        store = run_line(rt, settings, store, line, fails_at)?;
+        fails_at = u32::MAX;
+    }
+    Ok(())
+}
+
+/// How many writes go well before one fails, as a line states it; no line states one.
+fn write_that_fails(streams: &str) -> Result<u32, Failure> {
+    if streams.is_empty() {
+        return Ok(u32::MAX);
+    }
+    let count = streams.trim_end().strip_prefix("writer_fails ");
+    number(count.ok_or(Failure::BadLine)?)
+}
+
+/// Runs the command of a line `MOMENT CALLER WORDS ..`, and gives the store back.
+fn run_line<S: Backend + Drop>(
+    rt: &HostRuntime,
+    settings: &str,
+    store: Store<S>,
+    line: &str,
+    fails_at: u32,
+) -> Result<Store<S>, Failure> {
+    let words = words_of(rt.alloc(), line).map_err(|_| Failure::BadLine)?;
+    let [at, caller, command @ ..] = words.as_slice() else {
+        return Err(Failure::BadLine);
+    };
+    let at = number(at.as_str())?;
+    let mut writer = Faltering {
+        taken: Vec::new(rt.alloc()),
+        falters_at: fails_at,
+        fails: true,
+        writes: 0,
+    };
+    let ended = run_one_whole(
+        rt.alloc(),
+        settings.as_bytes(),
+        store,
+        caller.as_str(),
+        at,
+        command,
+        &mut writer,
+    );
+    let OneEnded {
+        status,
+        failed,
+        store,
+    } = ended;
+    println!(rt; "{line}: status {status}, failed {failed}")?;
+    println!(rt; "{}", str::from_utf8(writer.taken.as_slice()).unwrap_or(""))?;
+    Ok(store)
+}

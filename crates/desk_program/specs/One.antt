@@ -1,0 +1,104 @@
+-- One command on the tables of a store.
+use Rattle.std.specs.Prelude.{◌≡◌, ◌⊎◌, ℕ, Bool, true, List, Option, Some, None, Result, Ok, Err}
+use Rattle.std.specs.Prelude.{if◌then◌else◌}
+use Rattle.sqlite.specs.Held.{Held, state}
+use Rattle.sqlite.specs.State.{State, HasCleanDisk}
+use Rattle.sqlite.specs.Store.{Ghosts}
+use Rattle.settings_core.specs.declared.fault.SettingsFault.{SettingsFault}
+use Rattle.settings_core.specs.declared.settings.Settings.{Settings}
+use Rattle.desk_model.specs.declared.command.Command.{Command}
+use Rattle.desk_model.specs.Desk.{Desk, empty_desk}
+use Rattle.desk_model.specs.IsDesk.{IsDesk}
+use Rattle.desk_model.specs.Known.{is_known}
+use Rattle.desk_model.specs.Step.{Ask, Outcome, Steps}
+use Rattle.desk_texts.specs.Texts.{outcome_text}
+use Rattle.desk_words.specs.Spelling.{command_of}
+use Rattle.service_core.specs.TableSteps.{ask_by}
+use Rattle.store_tables.specs.Making.{IsBlank}
+use Rattle.store_tables.specs.Stands.{StandsFor}
+use Rattle.stream_core.specs.Written.{IsWritten}
+use Rattle.desk_program.specs.FaultLines.{unavailable_text}
+use Rattle.desk_program.specs.Input.{GivesSettings}
+use Rattle.desk_program.specs.Opening.{IsOpeningFault}
+use Rattle.desk_program.specs.Script.{bad_words_text}
+
+-- what is asked: the text of the settings, a moment, a caller, and the words of a command
+pub record Asked : Type 0 where
+  pub settings : List ℕ
+  pub at : ℕ
+  pub caller : List ℕ
+  pub words : List (List ℕ)
+
+abbrev pub asked_by : List ℕ → ℕ → List ℕ → List (List ℕ) → Asked
+asked_by settings at caller words =
+    record { settings = settings; at = at; caller = caller; words = words }
+
+-- ---- the step
+
+-- the status of what came of a command: 0 for an answer, 1 for a refusal
+abbrev pub status_of : Outcome → ℕ
+status_of (Ok answer) = 0
+status_of (Err refusal) = 1
+
+-- one step to a well-formed desk, the text of its outcome and the status
+abbrev pub TakesStep : Settings → Ask → List ℕ → ℕ → Desk → Desk → Type 0
+TakesStep settings ask line status old new =
+    (outcome : Outcome) × Steps settings ask.at ask.caller ask.command old outcome new
+    × (line ≡ outcome_text outcome) × (status ≡ status_of outcome) × IsDesk new
+
+-- the desk with which the tables begin: the one that they stand for, or the empty one where there
+-- is no table at all
+abbrev pub BeginsWith : Desk → State → Type 0
+BeginsWith desk tables = StandsFor desk tables ⊎ (IsBlank tables × (desk ≡ empty_desk))
+
+-- The command was done: whatever desk the tables begin with, the settings know its names, and the
+-- tables stand afterwards for the desk to which one step leads.
+abbrev pub IsDone : Settings → Ask → State → State → List ℕ → ℕ → Type 0
+IsDone settings ask old new line status =
+    (desk : Desk) → IsDesk desk → BeginsWith desk old → HasCleanDisk new
+    → (after : Desk) × (is_known settings desk ≡ true)
+    × TakesStep settings ask line status desk after × StandsFor after new
+
+-- ---- what is printed, and the status
+
+-- the settings were read and the desk was opened, or the first fault of that is told
+abbrev pub IsGivenOutput : {S : Type 0} → Ghosts S → Result Settings SettingsFault → Ask → Held S
+    → Held S → List ℕ → ℕ → Type 0
+IsGivenOutput g (Err fault) ask old new line status =
+    IsOpeningFault g (Err fault) old new line status
+IsGivenOutput g (Ok settings) ask old new line status =
+    IsOpeningFault g (Ok settings) old new line status
+    ⊎ IsDone settings ask (state g old) (state g new) line status
+
+-- no command, and the tables stay; or that command with the settings of a text
+abbrev pub IsCommandOutput : {S : Type 0} → Ghosts S → List ℕ → ℕ → List ℕ → Option Command → Held S
+    → Held S → List ℕ → ℕ → Type 0
+IsCommandOutput g settings at caller None old new line status =
+    (line ≡ bad_words_text) × (status ≡ 2) × (new ≡ old)
+IsCommandOutput g settings at caller (Some command) old new line status =
+    (given : Result Settings SettingsFault) × GivesSettings settings given
+    × IsGivenOutput g given (ask_by at caller command) old new line status
+
+-- there was no memory to read the words, and the tables stay
+abbrev pub IsUnread : {S : Type 0} → Held S → Held S → List ℕ → ℕ → Type 0
+IsUnread old new line status = (line ≡ unavailable_text) × (status ≡ 1) × (new ≡ old)
+
+abbrev pub IsOneOutput : {S : Type 0} → Ghosts S → Asked → Held S → Held S → List ℕ → ℕ → Type 0
+IsOneOutput g asked old new line status =
+    IsUnread old new line status
+    ⊎ IsCommandOutput g asked.settings asked.at asked.caller (command_of asked.words) old new line
+    status
+
+-- One command was run on the tables of a connection, and its text was written.
+pub record RunsOne {S : Type 0} (g : Ghosts S) (asked : Asked) (old new : Held S)
+    (before after : Option (List ℕ)) (ended : ℕ) (failed : Bool) : Type 0 where
+  -- the text of the answer, of the refusal or of the fault
+  pub text : List ℕ
+  -- the status that goes with it
+  pub status : ℕ
+  -- they are those of what is asked, and so are the tables afterwards
+  pub output : IsOneOutput g asked old new text status
+  -- the text was written whole, or where a write failed a part from its front
+  pub written : IsWritten failed before after text
+  -- it ends with that status, or with 4 after a failed write
+  pub told : ended ≡ (if failed then 4 else status)

@@ -1,0 +1,246 @@
+//! One command on the tables of a store.
+ghost use Rattle.std.specs.Prelude.{◌≡◌, ◌+◌, ◌≤◌, [], ℕ, Bool, List, Some, map, string_bytes};
+ghost use Rattle.std.specs.Vec.{vec_capacity, vec_len};
+ghost use Rattle.sqlite.specs.Held.{Held};
+ghost use Rattle.store_core.specs.Seen.{connection_of, state_of};
+ghost use Rattle.store_tables.specs.Calls.{WasClean};
+ghost use Rattle.service_core.specs.Seen.{settings_of, tables_of};
+ghost use Rattle.service_core.specs.TableSteps.{LeadsOn, ask_by};
+ghost use Rattle.stream_core.specs.Seen.{HaveOneWriter};
+ghost use Rattle.stream_core.specs.Written.{Prints};
+ghost use Rattle.desk_program.specs.One as one;
+ghost use Rattle.desk_program.specs.One.{RunsOne, TakesStep, asked_by};
+
+use crate::fault_lines::{put_bad_words, put_unavailable};
+use crate::opening::{ended, open};
+use desk_core::{Answer, Command, Refusal};
+use service_core::{Desk, SHORT_TEXT, text_in_room};
+use std::alloc::Global;
+use std::io::Write;
+use store_core::{Backend, Store};
+use stream_core::CountedWriter;
+use wire_core::{WordsFault, command_of_words};
+
+/// The exit status of a command that was answered.
+const ANSWERED: u8 = 0;
+
+/// The exit status of a command that was refused.
+const REFUSED: u8 = 1;
+
+/// The exit status of words that spell no command.
+const BAD_WORDS: u8 = 2;
+
+/// How one command ended, and the store that it was run on.
+#[derive(Drop)]
+pub struct OneEnded<S: Backend> {
+    /// The exit status.
+    pub status: u8,
+    /// Whether a write failed: it answered an error, or took no byte.
+    pub failed: bool,
+    /// The store, with what the command made of its tables.
+    pub store: Store<S>,
+}
+
+/// Runs one command by a caller, at a moment in minutes since 1970-01-01 00:00 UTC, on the tables of
+/// a store, with the settings of a text, and answers the exit status.
+///
+/// The first fault is told by a line. Words that spell no command are `bad words`, with 2, before a
+/// fault of the settings, with 3, one of the store when missing tables were to be made, and one of
+/// attaching the settings, each with 4. Else the command's answer is written, with 0, or its refusal,
+/// with 1; tables that were missing stay made after a refusal too. Out of memory for the words it is
+/// `refused 16 Unavailable`, with 1, and nothing is done.
+///
+/// A failed write, or one that takes no byte, ends it with status 4: what was written is then a
+/// part from the front of the text, and the change of the command stays.
+pub fn run_one<S: Backend + Drop, W: Write>(
+    alloc: Global,
+    settings: &[u8],
+    store: Store<S>,
+    caller: &str,
+    at: u32,
+    words: &[String],
+    writer: &mut W,
+) -> u8
+    ensures { (left : Held S) × (failed : Bool) × RunsOne S.Store
+        (asked_by settings.now at caller.now (map string_bytes words.now))
+        (connection_of S.Store store) left (W.contents writer.old) (W.contents writer.new)
+        result failed }
+{
+    let ended = run_one_whole(alloc, settings, store, caller, at, words, writer);
+    let status = ended.status;
+    drop(ended);
+    status
+}
+
+/// Runs one command as `run_one` does, and gives the store back.
+pub fn run_one_whole<S: Backend, W: Write>(
+    alloc: Global,
+    settings: &[u8],
+    store: Store<S>,
+    caller: &str,
+    at: u32,
+    words: &[String],
+    writer: &mut W,
+) -> OneEnded<S>
+    ensures { RunsOne S.Store (asked_by settings.now at caller.now (map string_bytes words.now))
+        (connection_of S.Store store) (connection_of S.Store result.store)
+        (W.contents writer.old) (W.contents writer.new) result.status result.failed }
+{
+    let mut output = CountedWriter::new(writer);
+    let (status, store) = run_words(alloc, settings, store, caller, at, words, &mut output);
+    OneEnded {
+        status: ended(status, &output),
+        failed: output.failed(),
+        store,
+    }
+}
+
+/// Runs the command that the words spell: its status, if no write fails.
+fn run_words<S: Backend, W: Write>(
+    alloc: Global,
+    settings: &[u8],
+    store: Store<S>,
+    caller: &str,
+    at: u32,
+    words: &[String],
+    output: &mut CountedWriter<'_, W>,
+) -> (u8, Store<S>)
+    ensures same_writer { HaveOneWriter output.new output.old }
+    ensures printed { (line : List ℕ)
+        × one.IsOneOutput S.Store
+        (asked_by settings.now at caller.now (map string_bytes words.now))
+        (connection_of S.Store store) (connection_of S.Store result.1) line result.0
+        × Prints W.contents output.old output.new line }
+{
+    match command_of_words(alloc, words) {
+        Ok(command) => {
+            let ended = run_command(alloc, settings, store, caller, at, &command, output);
+            drop(command);
+            ended
+        }
+        Err(WordsFault::NoMemory) => {
+            put_unavailable(output);
+            (REFUSED, store)
+        }
+        Err(_) => {
+            put_bad_words(output);
+            (BAD_WORDS, store)
+        }
+    }
+}
+
+/// Opens the desk and runs the command.
+fn run_command<S: Backend, W: Write>(
+    alloc: Global,
+    settings: &[u8],
+    store: Store<S>,
+    caller: &str,
+    at: u32,
+    command: &Command,
+    output: &mut CountedWriter<'_, W>,
+) -> (u8, Store<S>)
+    ensures same_writer { HaveOneWriter output.new output.old }
+    ensures printed { (line : List ℕ)
+        × one.IsCommandOutput S.Store settings.now at caller.now (Some command.now)
+        (connection_of S.Store store) (connection_of S.Store result.1) line result.0
+        × Prints W.contents output.old output.new line }
+{
+    match open(alloc, store, settings, output) {
+        Ok(desk) => run_on_desk(alloc, desk, caller, at, command, output),
+        Err(told) => told,
+    }
+}
+
+/// Runs the command on an opened desk, and gives its store back.
+fn run_on_desk<S: Backend, W: Write>(
+    alloc: Global,
+    desk: Desk<S>,
+    caller: &str,
+    at: u32,
+    command: &Command,
+    output: &mut CountedWriter<'_, W>,
+) -> (u8, Store<S>)
+    ensures same_writer { HaveOneWriter output.new output.old }
+    ensures printed { (line : List ℕ)
+        × LeadsOn (TakesStep (settings_of S.Store desk) (ask_by at caller.now command.now)
+        line result.0) (tables_of S.Store desk) (state_of S.Store result.1)
+        × Prints W.contents output.old output.new line }
+    ensures honest { WasClean (tables_of S.Store desk) (state_of S.Store result.1) }
+{
+    let mut desk = desk;
+    let status = run_step(alloc, &mut desk, caller, at, command, output);
+    let (store, settings) = desk.detach();
+    drop(settings);
+    (status, store)
+}
+
+/// Does the command and prints its text. It is done only once there is room for the answer of a
+/// command that changes the desk.
+fn run_step<S: Backend, W: Write>(
+    alloc: Global,
+    desk: &mut Desk<S>,
+    caller: &str,
+    at: u32,
+    command: &Command,
+    output: &mut CountedWriter<'_, W>,
+) -> u8
+    ensures same_writer { HaveOneWriter output.new output.old }
+    ensures printed { (line : List ℕ)
+        × LeadsOn (TakesStep (settings_of S.Store desk.old) (ask_by at caller.now command.now)
+        line result) (tables_of S.Store desk.old) (tables_of S.Store desk.new)
+        × Prints W.contents output.old output.new line }
+    ensures honest { WasClean (tables_of S.Store desk.old) (tables_of S.Store desk.new) }
+{
+    match Vec::with_capacity(alloc, SHORT_TEXT) {
+        Ok(room) => run_in_room(alloc, desk, caller, at, command, room, output),
+        Err(_) => {
+            put_unavailable(output);
+            REFUSED
+        }
+    }
+}
+
+/// Does the command and prints its text, which stands in the room if it is short.
+fn run_in_room<S: Backend, W: Write>(
+    alloc: Global,
+    desk: &mut Desk<S>,
+    caller: &str,
+    at: u32,
+    command: &Command,
+    room: Vec<u8>,
+    output: &mut CountedWriter<'_, W>,
+) -> u8
+    requires empty { room.items ≡ [] }
+    requires room { vec_len room + 64 ≤ vec_capacity room }
+    ensures same_writer { HaveOneWriter output.new output.old }
+    ensures printed { (line : List ℕ)
+        × LeadsOn (TakesStep (settings_of S.Store desk.old) (ask_by at caller.now command.now)
+        line result) (tables_of S.Store desk.old) (tables_of S.Store desk.new)
+        × Prints W.contents output.old output.new line }
+    ensures honest { WasClean (tables_of S.Store desk.old) (tables_of S.Store desk.new) }
+{
+    let outcome = desk.execute(alloc, at, caller, command);
+    let status = status_of(&outcome);
+    let text = text_in_room(alloc, &outcome, room);
+    drop(outcome);
+    match text {
+        Ok(text) => {
+            output.put(text.as_slice());
+            status
+        }
+        Err(_) => {
+            put_unavailable(output);
+            REFUSED
+        }
+    }
+}
+
+/// The status of what came of a command.
+fn status_of(outcome: &Result<Answer, Refusal>) -> u8
+    ensures { result ≡ one.status_of outcome.now }
+{
+    match outcome {
+        Ok(_) => ANSWERED,
+        Err(_) => REFUSED,
+    }
+}
