@@ -1,11 +1,11 @@
 //! Cases of commands that are run one at a time.
 
+use crate::ASKED;
 use crate::changes::number;
 use crate::expansion::{Named, expanded};
 use crate::failure::Failure;
 use crate::stores::opened;
 use crate::streams::Faltering;
-use crate::ASKED;
 use desk_program::{OneEnded, run_one_whole};
 use std::str;
 use store_core::{Backend, Store};

@@ -47,24 +47,24 @@ pub record IsNotMade (old new : State) (fault : StoreFault) : Type 0 where
 
 -- a fault of attaching settings to tables
 pub record FailsToAttach (settings : Settings) (old new : State) (fault : AttachFault) : Type 0
-    where
-  -- what the tables held they hold still
-  pub kept : Leaves old new
-  -- a disk that is clean afterwards was clean before
-  pub honest : WasClean old new
-  -- a name is told to be unknown only where the settings lack one of the desk
-  pub unknown : fault ≡ UnknownName → TellsKnown settings old new false
-  -- over tables that hold values nothing else can be wrong, but that the store or memory refused
-  pub fails : FailsOver old new fault
+  where
+    -- what the tables held they hold still
+    pub kept : Leaves old new
+    -- a disk that is clean afterwards was clean before
+    pub honest : WasClean old new
+    -- a name is told to be unknown only where the settings lack one of the desk
+    pub unknown : fault ≡ UnknownName → TellsKnown settings old new false
+    -- over tables that hold values nothing else can be wrong, but that the store or memory refused
+    pub fails : FailsOver old new fault
 
 -- the same of tables that were made first, where any were missing
 pub record IsNotAttached (settings : Settings) (old new : State) (fault : AttachFault) : Type 0
-    where
-  pub attaching : FailsToAttach settings old new fault
-  -- where there was no table at all, they stand for the empty desk
-  pub made : IsBlank old → StandsFor empty_desk new
-  -- the tables were of the present version
-  pub version : (c : Contents) → Stand c old → HasCleanDisk new → c.version ≡ 1
+  where
+    pub attaching : FailsToAttach settings old new fault
+    -- where there was no table at all, they stand for the empty desk
+    pub made : IsBlank old → StandsFor empty_desk new
+    -- the tables were of the present version
+    pub version : (c : Contents) → Stand c old → HasCleanDisk new → c.version ≡ 1
 
 -- The line that is printed and the status, and what is left of the tables: a fault of the settings
 -- comes before one of the store, and that before one of attaching.

@@ -126,8 +126,13 @@ pub struct OneCommand<'w> {
 /// option stands there twice, there is no word of a command, or the moment isn't 1 to 10 digits or
 /// is more than 4,294,967,295.
 pub fn one_command_of(words: &[String]) -> Option<OneCommand<'_>>
-    ensures { option_map (λ c. (c.tables.now, c.settings.now, c.caller.now, c.at,
-        map string_bytes c.words.now)) result
+    ensures { option_map (λ c. (
+      c.tables.now,
+      c.settings.now,
+      c.caller.now,
+      c.at,
+      map string_bytes c.words.now,
+    )) result
         ≡ options.one_command_of (map string_bytes words.now) }
 {
     if words.len() <= OPTIONS {
@@ -138,8 +143,13 @@ pub fn one_command_of(words: &[String]) -> Option<OneCommand<'_>>
 
 /// The one command of four options and its words.
 fn after_options<'w>(front: &'w [String], words: &'w [String]) -> Option<OneCommand<'w>>
-    ensures { option_map (λ c. (c.tables.now, c.settings.now, c.caller.now, c.at,
-        map string_bytes c.words.now)) result
+    ensures { option_map (λ c. (
+      c.tables.now,
+      c.settings.now,
+      c.caller.now,
+      c.at,
+      map string_bytes c.words.now,
+    )) result
         ≡ options.after_options (map string_bytes front.now) (map string_bytes words.now) }
 {
     let tables = value_of("--db", front);
@@ -180,8 +190,13 @@ fn one_with<'w>(
     at: Option<&'w str>,
     words: &'w [String],
 ) -> Option<OneCommand<'w>>
-    ensures { option_map (λ c. (c.tables.now, c.settings.now, c.caller.now, c.at,
-        map string_bytes c.words.now)) result
+    ensures { option_map (λ c. (
+      c.tables.now,
+      c.settings.now,
+      c.caller.now,
+      c.at,
+      map string_bytes c.words.now,
+    )) result
         ≡ options.one_with (option_map (λ v. v.now) tables.entry)
         (option_map (λ v. v.now) settings.entry) (option_map (λ v. v.now) caller.entry)
         (option_and_then number_of (option_map (λ v. v.now) at.entry))

@@ -16,11 +16,11 @@ returns-in-Ok-clause-printed g c =
         c.in-Ok.ensures.opened.stated,
         inr (
             done_once_opened settings c.args.settings.now
-                (ask_by c.args.at c.args.caller.now c.args.command.now)
-                (state_of g.S.Store c.args.store) (tables_of g.S.Store c.in-Ok.desk)
-                (state_of g.S.Store c.run_on_desk.result.1) run.0 c.run_on_desk.result.0
-                c.in-Ok.ensures.opened c.run_on_desk.ensures.honest run.1
-          ),
+            (ask_by c.args.at c.args.caller.now c.args.command.now)
+            (state_of g.S.Store c.args.store) (tables_of g.S.Store c.in-Ok.desk)
+            (state_of g.S.Store c.run_on_desk.result.1) run.0 c.run_on_desk.result.0
+            c.in-Ok.ensures.opened c.run_on_desk.ensures.honest run.1
+            ),
       ),
       rw c.in-Ok.ensures.quiet at run.2,
     )

@@ -10,11 +10,11 @@ returns-in-Ok-clause-printed g c =
     let run = c.run_command-ended.ensures.printed in (
       run.0,
       inr (
-        subst (λ (o : Option Command). IsCommandOutput g.S.Store c.args.settings.now c.args.at
-            c.args.caller.now o (connection_of g.S.Store c.args.store)
-            (connection_of g.S.Store c.run_command-ended.result.1) run.0
-            c.run_command-ended.result.0)
-            (sym c.in-Ok.ensures.ok) run.1
-      ),
+          subst (λ (o : Option Command). IsCommandOutput g.S.Store c.args.settings.now c.args.at
+          c.args.caller.now o (connection_of g.S.Store c.args.store)
+          (connection_of g.S.Store c.run_command-ended.result.1) run.0
+          c.run_command-ended.result.0)
+          (sym c.in-Ok.ensures.ok) run.1
+          ),
       run.2,
     )

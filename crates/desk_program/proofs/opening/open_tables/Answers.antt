@@ -34,16 +34,16 @@ returns-in-Ok-clause-told g c =
       attach_fault_text told.0,
       (
         inr (
-            told.0,
-            refl,
-            made_not_attached c.args.settings (state_of g.S.Store c.args.store)
-                (state_of g.S.Store c.create_schema.new.self) (state_of g.S.Store back.1) told.0
-                c.in-Ok.ensures.kept c.in-Ok.ensures.honest
-                (λ blank. (c.in-Ok.ensures.made blank).0)
-                (λ contents stand clean.
-                (c.in-Ok.ensures.version.0 contents stand clean).0)
-                told.1,
-          ),
+          told.0,
+          refl,
+          made_not_attached c.args.settings (state_of g.S.Store c.args.store)
+              (state_of g.S.Store c.create_schema.new.self) (state_of g.S.Store back.1) told.0
+              c.in-Ok.ensures.kept c.in-Ok.ensures.honest
+              (λ blank. (c.in-Ok.ensures.made blank).0)
+              (λ contents stand clean.
+              (c.in-Ok.ensures.version.0 contents stand clean).0)
+              told.1,
+        ),
         told.2,
       ),
       told.3,
@@ -55,14 +55,14 @@ returns-in-Err-clause-told g c = (
   store_fault_text c.in-Err.fault,
   (
     inl (
-        c.in-Err.fault,
-        refl,
-        record {
-          kept = c.in-Err.ensures.kept;
-          blank = λ blank. let made = c.in-Err.ensures.made blank in (made.1, made.2);
-          version = λ contents stand clean. (c.in-Err.ensures.version.0 contents stand clean).1;
-        },
-      ),
+      c.in-Err.fault,
+      refl,
+      record {
+        kept = c.in-Err.ensures.kept;
+        blank = λ blank. let made = c.in-Err.ensures.made blank in (made.1, made.2);
+        version = λ contents stand clean. (c.in-Err.ensures.version.0 contents stand clean).1;
+      },
+    ),
     refl,
   ),
   c.put_store_fault.ensures.printed,
