@@ -11,8 +11,8 @@
 //!   The whole list is asked at once, and each outcome is written as its text. Where the settings
 //!   can't be attached, it is written why, and what the store holds that is given back.
 //!
-//! After a line `$$` in place of `%%` the commands are run one at a time, each as the program's form
-//! for one command does it (`singles.rt`).
+//! After a line `$$` in place of `%%` the commands are run one at a time, each as the program's
+//! form for one command does it (`singles.rt`).
 //!
 //! Where lines that begin with `> ` stand after the commands, each begins a message, which is bytes
 //! that come in: the line has its moment, and the message goes up to the line feed before the next

@@ -68,8 +68,8 @@ pub record IsNotAttached (settings : Settings) (old new : State) (fault : Attach
 
 -- The line that is printed and the status, and what is left of the tables: a fault of the settings
 -- comes before one of the store, and that before one of attaching.
-abbrev pub IsOpeningFault : {S : Type 0} → Ghosts S → Result Settings SettingsFault → Held S → Held S
-    → List ℕ → ℕ → Type 0
+abbrev pub IsOpeningFault : {S : Type 0} → Ghosts S → Result Settings SettingsFault → Held S
+    → Held S → List ℕ → ℕ → Type 0
 IsOpeningFault g (Err fault) old new line status =
     (line ≡ settings_fault_text fault) × (status ≡ 3) × (new ≡ old)
 IsOpeningFault g (Ok settings) old new line status =

@@ -41,14 +41,14 @@ pub struct OneEnded<S: Backend> {
     pub store: Store<S>,
 }
 
-/// Runs one command by a caller, at a moment in minutes since 1970-01-01 00:00 UTC, on the tables of
-/// a store, with the settings of a text, and answers the exit status.
+/// Runs one command by a caller, at a moment in minutes since 1970-01-01 00:00 UTC, on the tables
+/// of a store, with the settings of a text, and answers the exit status.
 ///
 /// The first fault is told by a line. Words that spell no command are `bad words`, with 2, before a
 /// fault of the settings, with 3, one of the store when missing tables were to be made, and one of
-/// attaching the settings, each with 4. Else the command's answer is written, with 0, or its refusal,
-/// with 1; tables that were missing stay made after a refusal too. Out of memory for the words it is
-/// `refused 16 Unavailable`, with 1, and nothing is done.
+/// attaching the settings, each with 4. Else the command's answer is written, with 0, or its
+/// refusal, with 1; tables that were missing stay made after a refusal too. Out of memory for the
+/// words it is `refused 16 Unavailable`, with 1, and nothing is done.
 ///
 /// A failed write, or one that takes no byte, ends it with status 4: what was written is then a
 /// part from the front of the text, and the change of the command stays.

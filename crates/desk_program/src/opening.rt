@@ -87,7 +87,8 @@ pub fn open_desk<S: Backend + Drop, W: Write>(
     ensures opened { IfOk result (λ desk. IsOpened settings.now (state_of S.Store store)
         (settings_of S.Store desk) (tables_of S.Store desk)) }
     ensures quiet { OnOk result (W.contents writer.new ≡ W.contents writer.old) }
-    ensures told { IfErr result (λ status. IsNotOpened S.Store settings.now (connection_of S.Store store)
+    ensures told { IfErr result (λ status. IsNotOpened S.Store settings.now
+        (connection_of S.Store store)
         (W.contents writer.old) (W.contents writer.new) status) }
 {
     let mut output = CountedWriter::new(writer);
