@@ -1,5 +1,5 @@
 -- What is opened, and what is left where it can't be, from what its parts are.
-use Rattle.std.proofs.Common.{◌≡◌, ◌≢◌, List, ℕ, true, Result, Ok, Err, IfOk, subst, sym}
+use Rattle.std.proofs.Common.{◌≡◌, List, ℕ, true, Result, Ok, Err, IfOk, subst, sym}
 use Rattle.sqlite.specs.State.{State, HasCleanDisk}
 use Rattle.desk_model.specs.Desk.{empty_desk}
 use Rattle.settings_core.specs.Reading.{IsSettingsOf}

@@ -20,7 +20,7 @@ use Rattle.store_tables.specs.Calls.{WasClean}
 use Rattle.store_tables.specs.Contents.{contents_of}
 use Rattle.store_tables.specs.Stands.{StandsFor}
 use Rattle.desk_program.specs.FaultLines.{unavailable_text}
-use Rattle.desk_program.specs.One.{BeginsWith, IsDone, IsGivenOutput, TakesStep, status_of}
+use Rattle.desk_program.specs.One.{IsDone, IsGivenOutput, TakesStep, status_of}
 use Rattle.desk_program.specs.Opening.{IsOpened, IsOpeningFault}
 use Rattle.desk_program.proofs.LedLines.{knows_empty}
 
