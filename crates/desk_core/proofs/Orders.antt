@@ -308,10 +308,12 @@ lines_all_part at (t ∷ ts) climbs =
         → AllPart (filter_map (late_line at) ts)
         → AllPart (cons_option o (filter_map (late_line at) ts))
     made None number rest = rest
-    made (Some l) number rest =
-        (parts_from_later at l ts
-        (subst (λ n. AllByRecursion (λ (t : Told). nat_lt n t.row.id ≡ true) ts) (sym number)
-        climbs.0), rest)
+    made (Some l) number rest = (
+      parts_from_later at l ts
+          (subst (λ n. AllByRecursion (λ (t : Told). nat_lt n t.row.id ≡ true) ts) (sym number)
+          climbs.0),
+      rest,
+    )
 
 -- a line that parts from each has a place among them
 apart_from : (x : LateLine) (acc : List LateLine) → AllByRecursion (λ y. Part y x) acc

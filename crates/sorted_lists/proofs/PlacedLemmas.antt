@@ -69,12 +69,19 @@ module _ {K X : Type 0} (key : X → K) (cmp : K → K → Ordering) (total : Is
       by : Rises key cmp total (placed before ys x) → (b : Bool) → before x y ≡ b
           → Rises key cmp total (cond b (x ∷ y ∷ ys) (y ∷ placed before ys x))
       by rest true e =
-          let first = less_if x y e in
-          ((first, all_weaker (Below y) (Below x)
-          (λ z low. total.trans (key x) (key y) (key z) first low) ys rises.0), rises)
-      by rest false e =
-          (all-permutation (Below y) (x ∷ ys) (placed before ys x) (placed_same ys x)
-          (less_unless x y e differ.0, rises.0), rest)
+          let first = less_if x y e in (
+            (
+              first,
+              all_weaker (Below y) (Below x)
+                  (λ z low. total.trans (key x) (key y) (key z) first low) ys rises.0,
+            ),
+            rises,
+          )
+      by rest false e = (
+        all-permutation (Below y) (x ∷ ys) (placed before ys x) (placed_same ys x)
+            (less_unless x y e differ.0, rises.0),
+        rest,
+      )
 
   front_of : (P : X → Type 0) (acc xs : List X) → AllByRecursion P (acc ++ xs)
       → AllByRecursion P acc
