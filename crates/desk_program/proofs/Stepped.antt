@@ -2,14 +2,13 @@
 use Rattle.std.proofs.Common.{◌≡◌, inl, inr, ℕ, true, false, List, Result, Ok, Err, refl, subst}
 use Rattle.std.proofs.Common.{sym}
 use Rattle.sqlite.specs.Held.{Held}
-use Rattle.sqlite.specs.State.{State, HasCleanDisk}
+use Rattle.sqlite.specs.State.{State}
 use Rattle.sqlite.specs.Store.{Ghosts}
 use Rattle.settings_core.specs.declared.fault.SettingsFault.{SettingsFault}
 use Rattle.settings_core.specs.declared.settings.Settings.{Settings}
 use Rattle.desk_model.specs.declared.command.Command.{Command}
 use Rattle.desk_model.specs.declared.refusal.Refusal.TheVariants.{Unavailable}
-use Rattle.desk_model.specs.Desk.{Desk, empty_desk}
-use Rattle.desk_model.specs.IsDesk.{IsDesk}
+use Rattle.desk_model.specs.Desk.{Desk}
 use Rattle.desk_model.specs.Known.{is_known}
 use Rattle.desk_model.specs.Step.{Ask, Outcome}
 use Rattle.desk_texts.proofs.DeskUnchanged.{unchanged_if_long}

@@ -1,6 +1,6 @@
 -- What is looked up by halving is what looking through all of a list would find.
 use Rattle.std.proofs.Common.{◌≡◌, ◌∙◌, ℕ, ◌≤◌, zero, suc, Bool, true, false, ◌||◌, cond}
-use Rattle.std.proofs.Common.{List, [], ◌∷◌, find, length, take, drop, Option, Some, None}
+use Rattle.std.proofs.Common.{List, [], ◌∷◌, find, length, take, drop, Some, None}
 use Rattle.std.proofs.Common.{refl, ap, sym, arith, slice_index_or, Ordering, Less, Equal, Greater}
 use Rattle.std.specs.List.{AllByRecursion, AllWithin, list_any, slice_get}
 use Rattle.std.specs.List.Sorted.{IsPartitionedBy}

@@ -1,12 +1,12 @@
 -- Lines of rows in the order of their numbers have numbers that differ.
-use Rattle.std.proofs.Common.{◌≡◌, ℕ, ◌-◌, ◌==◌, Bool, true, false, cond, List, [], ◌∷◌, Option, Some}
+use Rattle.std.proofs.Common.{◌≡◌, ℕ, ◌-◌, ◌==◌, true, false, cond, List, [], ◌∷◌, Option, Some}
 use Rattle.std.proofs.Common.{None, refl, ap, sym, subst, ◌∙◌, Ordering, Less, Equal, Greater}
 use Rattle.std.specs.Prelude.{IfSome, filter_map, nat_lt, option_and_then}
 use Rattle.std.specs.List.{AllByRecursion, cons_option}
 use Rattle.std.specs.Cmp.{IsTotalOrder, nat_cmp_total, on_total, then_total}
 use Rattle.std.specs.Ordering.{nat_cmp, on, ordering_then, then_cmp}
 use Rattle.settings_core.specs.declared.settings.Settings.{Settings}
-use Rattle.desk_model.specs.Readings.Overdue.{late_line, late_order, line_if_late}
+use Rattle.desk_model.specs.Readings.Overdue.{late_line, line_if_late}
 use Rattle.desk_model.specs.declared.answer.LateLine.{LateLine}
 use Rattle.desk_model.specs.declared.rows.QueueRow.{QueueRow}
 use Rattle.desk_model.specs.declared.rows.RequestRow.{RequestRow}

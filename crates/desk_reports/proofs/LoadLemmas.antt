@@ -13,7 +13,7 @@ use Rattle.std.specs.Ordering.{is_eq, is_lt, match_ordering, ordering_reverse}
 use Rattle.std.proofs.lemmas.List.Elements.{filter-append, filter_agree}
 use Rattle.std.proofs.lemmas.List.{length-append, length-map, length-take-le, map-append, take_more}
 use Rattle.settings_core.specs.declared.settings.Settings.{Settings}
-use Rattle.desk_model.specs.Readings.Workload.{is_owned_by, load_of, owner_order, owners}
+use Rattle.desk_model.specs.Readings.Workload.{is_owned_by, owner_order, owners}
 use Rattle.desk_model.specs.Told.{Told, is_late}
 use Rattle.desk_model.specs.declared.rows.QueueRow.{QueueRow}
 use Rattle.desk_model.specs.declared.rows.RequestRow.{RequestRow}

@@ -1,17 +1,16 @@
 -- What is reported of the rows of a desk is what is told of the desk.
 use Rattle.std.proofs.Common.{◌≡◌, ◌∙◌, ℕ, ◌+◌, ◌≤◌, ◌<◌, ◌==◌, zero, suc, Bool, true, false, ◌&&◌}
-use Rattle.std.proofs.Common.{◌||◌, cond, List, [], ◌∷◌, ◌++◌, filter, find, flat_map, length, map}
-use Rattle.std.proofs.Common.{Option, Some, None, inl, inr, refl, ap, ap₂, sym, subst, arith}
-use Rattle.std.proofs.Common.{slice_index_or, rules, ◌⊎◌}
-use Rattle.std.specs.Prelude.{filter_map, nat_lt}
+use Rattle.std.proofs.Common.{◌||◌, cond, List, [], ◌∷◌, filter, find, flat_map, map}
+use Rattle.std.proofs.Common.{Option, Some, inl, inr, refl, ap, ap₂, sym, subst, arith}
+use Rattle.std.proofs.Common.{rules, ◌⊎◌}
+use Rattle.std.specs.Prelude.{filter_map}
 use Rattle.std.specs.List.{AllByRecursion, cons_option, list_any}
 use Rattle.std.specs.List.Sorted.{IsNonDecreasingBy}
 use Rattle.std.specs.Ordering.{nat_cmp, ordering_then}
 use Rattle.std.specs.Cmp.{nat_cmp_is}
 use Rattle.std.specs.Cmp.Lexicographic.{slice_cmp, texts_ties}
 use Rattle.std.specs.Str.{bytes_eq}
-use Rattle.std.specs.declared.cmp.Ordering.{Ordering}
-use Rattle.std.specs.declared.cmp.Ordering.TheVariants.{Less, Equal, Greater}
+use Rattle.std.specs.declared.cmp.Ordering.TheVariants.{Less, Greater}
 use Rattle.std.proofs.Math.Bool.{or-false}
 use Rattle.std.proofs.lemmas.Bool.{and_parts, eqb-true}
 use Rattle.std.proofs.lemmas.Bool.Decides.{eqb_tells}
@@ -19,20 +18,18 @@ use Rattle.std.proofs.lemmas.List.Elements.{All-from_recursion, recursion_from_A
 use Rattle.std.proofs.lemmas.List.Folds.{list_any-append}
 use Rattle.std.proofs.lemmas.Slice.Eq.{bytes_eq-Decides}
 use Rattle.sqlite_trees.specs.Tree.{IsAscending}
-use Rattle.sqlite_trees.proofs.ListLemmas.{all_of, all_weaker, all-append, all-map}
+use Rattle.sqlite_trees.proofs.ListLemmas.{all_weaker}
 use Rattle.sqlite_trees.proofs.ListLemmas.{ascending-filter, ascending_weaker}
 use Rattle.settings_core.specs.declared.settings.Settings.{Settings}
-use Rattle.text_core.specs.Texts.{is_among}
-use Rattle.desk_model.specs.Commands.Watch.{persons_in}
 use Rattle.desk_model.specs.Desk.{Desk, Request, queue_at}
 use Rattle.desk_model.specs.Facts.{seen_request}
-use Rattle.desk_model.specs.IsDesk.{IsDesk, are_numbered, is_rising}
+use Rattle.desk_model.specs.IsDesk.{IsDesk, are_numbered}
 use Rattle.desk_model.specs.Readings.Listing as listing
 use Rattle.desk_model.specs.Readings.Overdue.{in_due_order, late_line}
 use Rattle.desk_model.specs.Readings.Workload.{loads}
 use Rattle.desk_model.specs.Rights.{may_show}
 use Rattle.desk_model.specs.Told.{Told, told, told_in, told_on}
-use Rattle.desk_model.specs.Watchers.{is_role, is_watching, may_show_by, watcher, watchers_of}
+use Rattle.desk_model.specs.Watchers.{is_role, may_show_by, watchers_of}
 use Rattle.desk_model.specs.declared.answer.LateLine.{LateLine}
 use Rattle.desk_model.specs.declared.answer.Line.{Line}
 use Rattle.desk_model.specs.declared.answer.Load.{Load}
@@ -47,7 +44,7 @@ use Rattle.desk_reports.specs.Rows.{NumbersRise, QueuesRise, WatchesRise, late_l
 use Rattle.desk_reports.specs.Rows.{loads_by, shown_by, told_among}
 use Rattle.store_tables.specs.Contents.{request_rows, watchers}
 use Rattle.store_tables.specs.Orders.{by_watcher}
-use Rattle.store_tables.specs.Selection.{is_filed_in, is_of_person, same_text}
+use Rattle.store_tables.specs.Selection.{is_filed_in, is_of_person}
 use Rattle.store_tables.specs.Spelling.{role_number}
 use Rattle.store_core.proofs.RiseLemmas.{their_own, watchers_rise}
 

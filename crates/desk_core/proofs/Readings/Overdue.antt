@@ -1,15 +1,15 @@
 -- Late requests are told alike of the desk and of the caller's view.
-use Rattle.std.proofs.Common.{◌≡◌, ℕ, Bool, true, false, cond, List, [], ◌∷◌, fold, Option}
-use Rattle.std.proofs.Common.{Some, None, ◌-◌, refl, ap, sym}
+use Rattle.std.proofs.Common.{ℕ, Bool, true, false, cond, List, [], ◌∷◌, fold, Option}
+use Rattle.std.proofs.Common.{Some, None, ◌-◌, ap, sym}
 use Rattle.std.specs.Prelude.{filter_map, nat_lt, IfSome, option_and_then}
-use Rattle.std.specs.List.{All, AllByRecursion, cons_option}
+use Rattle.std.specs.List.{AllByRecursion, cons_option}
 use Rattle.std.proofs.lemmas.List.Elements.{All-map, All-weaker, All-from_recursion}
 use Rattle.std.proofs.lemmas.List.Elements.{recursion_from_All}
 use Rattle.settings_core.specs.declared.settings.Settings.{Settings}
 use Rattle.desk_model.specs.Desk.{Desk, placed}
 use Rattle.desk_model.specs.Plan.{WholeDesk}
 use Rattle.desk_model.specs.Readings.Overdue as overdue
-use Rattle.desk_model.specs.Readings.Overdue.{in_due_order, is_sooner, late_line, line_if_late}
+use Rattle.desk_model.specs.Readings.Overdue.{is_sooner, late_line, line_if_late}
 use Rattle.desk_model.specs.Told.{Told}
 use Rattle.desk_model.specs.Told as reports
 use Rattle.desk_model.specs.declared.answer.Answer.TheVariants as answer

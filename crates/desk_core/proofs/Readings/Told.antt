@@ -9,7 +9,7 @@ use Rattle.std.proofs.lemmas.List.Elements.{All-filter, All-map, All-weaker}
 use Rattle.std.proofs.lemmas.List.Elements.{All-from_recursion, recursion_from_All}
 use Rattle.std.proofs.lemmas.Slice.Eq.{bytes_eq-Decides}
 use Rattle.settings_core.specs.declared.settings.Settings.{Settings}
-use Rattle.desk_model.specs.Desk.{Desk, Request, queue_at}
+use Rattle.desk_model.specs.Desk.{Desk, Request}
 use Rattle.desk_model.specs.Due.{due_on}
 use Rattle.desk_model.specs.Facts.{seen_request}
 use Rattle.desk_model.specs.IsDesk.{IsDesk}

@@ -1,5 +1,5 @@
 -- the command of the words was run, or there is none
-use Rattle.std.proofs.Common.{inl, inr, Option, subst, sym}
+use Rattle.std.proofs.Common.{inr, Option, subst, sym}
 use Rattle.desk_model.specs.declared.command.Command.{Command}
 use Rattle.store_core.specs.Seen.{connection_of}
 use Rattle.desk_program.specs.One.{IsCommandOutput}

@@ -1,5 +1,5 @@
 -- the sort puts each line at its place, since the numbers of the rows differ
-use Rattle.std.proofs.Common.{◌≡◌, ◌∙◌, ap, rules, subst, sym}
+use Rattle.std.proofs.Common.{◌∙◌, ap, rules, subst, sym}
 use Rattle.std.specs.Prelude.{nat_lt}
 use Rattle.std.proofs.lemmas.Fn.{always_returns_same}
 use Rattle.desk_model.specs.Readings.Overdue.{in_due_order}

@@ -1,6 +1,6 @@
 -- one row more is counted, where its status isn't inactive
-use Rattle.std.proofs.Common.{◌≡◌, ◌∙◌, ◌+◌, ◌<◌, ◌^◌, ◌++◌, [], ◌∷◌, ap, append-nil, arith, cond}
-use Rattle.std.proofs.Common.{length, sym, take}
+use Rattle.std.proofs.Common.{◌≡◌, ◌∙◌, ◌+◌, ◌++◌, [], ◌∷◌, ap, append-nil, arith, cond}
+use Rattle.std.proofs.Common.{sym, take}
 use Rattle.std.specs.Prelude.{unwrap_or}
 use Rattle.std.specs.BTreeMap.{insert_entry, is_at}
 use Rattle.std.specs.Map.{lookup}

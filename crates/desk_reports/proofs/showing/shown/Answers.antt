@@ -1,4 +1,4 @@
-use Rattle.std.proofs.Common.{◌∙◌, rules}
+use Rattle.std.proofs.Common.{rules}
 use Rattle.std.proofs.lemmas.Fn.{filter_same}
 use Rattle.desk_model.specs.Watchers.{may_show_by}
 use Rattle.desk_reports.proofs.showing.shown.Goals as goal
