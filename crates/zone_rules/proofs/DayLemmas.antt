@@ -16,6 +16,11 @@ use Rattle.std.proofs.Common.{to_z, of_z}
 use Rattle.std.specs.Int.{w16}
 use Rattle.std.proofs.lemmas.Int.{ints}
 use Rattle.zone_rules.proofs.RuleLemmas.{year_is}
+use Rattle.zone_rules.specs.Rule.{first_day_of}
+use Rattle.std.proofs.lemmas.Int.{by_lt_z}
+use Rattle.jiff_core.specs.Calendar.{IsCivilDate}
+use Rattle.jiff_core.proofs.CalendarLemmas.{day_count-lt_year, days_in_month_bounds}
+use Rattle.std.proofs.Common.{◌<◌}
 
 -- day 0
 pub epoch_day-first : (d : Date) → IsYmd (pos 1970) (pos 1) (pos 1) d → epoch_day d ≡ pos 0
@@ -108,3 +113,58 @@ pub left_in_year : (total place : ℤ) (n k : ℕ) → total ≡ pos n → place
     → n ≤ 366
     → to_z w16 (of_z w16 (to_z w16 (of_z w16 total) -ℤ to_z w16 (of_z w16 place))) ≡ pos (n - k)
 left_in_year total place n k e f first last most = omega (arith, ints)
+
+first_of_year : (year : ℤ) → pos 1970 ≤ℤ year → year ≤ℤ pos 9999 → IsCivilDate year 1 1
+first_of_year year low high =
+    let long = (days_in_month_bounds year 1).1 in (
+      (omega (arith, signed_arith), omega (arith, signed_arith)),
+      (omega arith, omega arith),
+      (omega arith, omega arith),
+    )
+
+day_zero : days_from_civil (pos 1970) 1 1 ≡ pos 0
+unfolding jiff_on_literals
+day_zero = refl
+
+first_day_number : (year : ℤ) → pos 2000 ≤ℤ year → year ≤ℤ pos 9999
+    → first_day_of year + 4_371_953 ≡ day_count year 1 1
+unfolding first_day_of
+first_day_number year low high =
+    let start = days_from_civil-day_count (pos 1970) 1 1 in
+    let zero = day_zero in
+    let first = first_of_year (pos 1970) (omega (arith, signed_arith)) (omega (arith, signed_arith)) in
+    let less = day_count-lt_year (pos 1970) 1 1 year 1 1 first (omega arith)
+    (omega (arith, signed_arith)) in
+    let count = days_from_civil-day_count year 1 1 in
+    let positive = nonneg_abs (days_from_civil year 1 1) (omega (arith, signed_arith)) in
+    omega (arith, signed_arith)
+
+-- a later year begins later
+pub first_days_rise : (a b : ℤ) → pos 2000 ≤ℤ a → a <ℤ b → b ≤ℤ pos 9999
+    → first_day_of a < first_day_of b
+first_days_rise a b low less high =
+    let one = first_of_year a (omega (arith, signed_arith)) (omega (arith, signed_arith)) in
+    let e = first_day_number a low (omega (arith, signed_arith)) in
+    let f = first_day_number b (omega (arith, signed_arith)) high in
+    let k = day_count-lt_year a 1 1 b 1 1 one (omega arith) less in
+    omega arith
+
+first_day-2000 : first_day_of (pos 2000) ≡ 10957
+unfolding first_day_of jiff_on_literals
+first_day-2000 = refl
+
+first_day-2100 : first_day_of (pos 2100) ≡ 47482
+unfolding first_day_of jiff_on_literals
+first_day-2100 = refl
+
+-- the years in which moments lie begin on these days
+pub first_day_range : (year : ℤ) → pos 2000 ≤ℤ year → year ≤ℤ pos 2100
+    → (10957 ≤ first_day_of year) × (first_day_of year ≤ 47482)
+first_day_range year low high = (
+  by_lt_z (pos 2000) year
+      (λ after. let k = first_days_rise (pos 2000) year (omega (arith, signed_arith)) after (omega (arith, signed_arith)) in omega (arith, first_day-2000))
+      (λ not. let same : year ≡ pos 2000 = omega (arith, ints) in rw same (omega (arith, first_day-2000))),
+  by_lt_z year (pos 2100)
+      (λ before. let k = first_days_rise year (pos 2100) (omega (arith, signed_arith)) before (omega (arith, signed_arith)) in omega (arith, first_day-2100))
+      (λ not. let same : year ≡ pos 2100 = omega (arith, ints) in rw same (omega (arith, first_day-2100))),
+)

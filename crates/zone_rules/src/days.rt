@@ -1,15 +1,16 @@
 ghost use Rattle.std.specs.Prelude.{◌≡◌, ◌<◌, ◌≤◌, ◌*◌, ◌≤ℤ◌, ℕ, pos, unsigned_abs};
 ghost use Rattle.jiff.specs.Words.{epoch_day, IsBetween};
-ghost use Rattle.jiff_core.specs.Calendar.{days_from_civil};
 ghost use Rattle.jiff_tz.specs.Year.{year_of_day};
+ghost use Rattle.zone_rules.specs.Rule.{first_day_of};
 
 use jiff::ToSpan;
 use jiff::civil::{Date, date};
 
 /// The number of days from 1970-01-01 to the year's 1 January.
+#[tactic(auto, unfolding(crate::specs::Rule::first_day_of))]
 pub fn first_day(year: i64) -> u32
     requires { (pos 2000 ≤ℤ year) × (year ≤ℤ pos 2100) }
-    ensures { result ≡ unsigned_abs (days_from_civil year 1 1) }
+    ensures { result ≡ first_day_of year }
 {
     (hours_since_first(date(year as i16, 1, 1)) as u64 / 24) as u32
 }
