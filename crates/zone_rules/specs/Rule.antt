@@ -7,11 +7,12 @@ use Rattle.jiff_core.specs.Timestamp.{nanos_of_seconds}
 use Rattle.jiff_tz.specs.PosixRule.{match_some, rule_day, clamp_to, first_nanosecond}
 use Rattle.jiff_tz.specs.PosixRule.{last_nanosecond, nanos_per_day, saturating_add, int_same}
 use Rattle.jiff_tz.specs.PosixRule.{in_window}
-use Rattle.jiff_tz.specs.PosixText.{TzText, DstText, tz_view}
+pub use Rattle.jiff_tz.specs.PosixText.{TzText}
+use Rattle.jiff_tz.specs.PosixText.{DstText, tz_view}
 use Rattle.jiff_tz.specs.Year.{year_of_nanos}
 use Rattle.jiff_tz.specs.declared.info.OffsetInfo.{OffsetInfo}
 use Rattle.jiff_tz.specs.declared.posix.Day.{Day}
-use Rattle.jiff_tz.specs.declared.timezone.TimeZone.{TimeZone}
+pub use Rattle.jiff_tz.specs.declared.timezone.TimeZone.{TimeZone}
 use Rattle.jiff_tz.specs.declared.timezone.TimeZone.TheVariants.{Posix}
 
 -- the last minute that is asked for: 2100-01-01 00:00

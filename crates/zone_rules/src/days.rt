@@ -7,12 +7,19 @@ use jiff::ToSpan;
 use jiff::civil::{Date, date};
 
 /// The number of days from 1970-01-01 to the year's 1 January.
-#[tactic(auto, unfolding(crate::specs::Rule::first_day_of))]
 pub fn first_day(year: i64) -> u32
     requires { (pos 2000 ≤ℤ year) × (year ≤ℤ pos 2100) }
-    ensures { result ≡ first_day_of year }
+    ensures number { result ≡ first_day_of year }
+    ensures range { (10957 ≤ result) × (result ≤ 47482) }
 {
-    (hours_since_first(date(year as i16, 1, 1)) as u64 / 24) as u32
+    days_since_first(date(year as i16, 1, 1))
+}
+
+fn days_since_first(day: Date) -> u32
+    requires { pos 2000 ≤ℤ day.year }
+    ensures { result ≡ unsigned_abs (epoch_day day) }
+{
+    (hours_since_first(day) as u64 / 24) as u32
 }
 
 fn hours_since_first(day: Date) -> i64
