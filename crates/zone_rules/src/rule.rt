@@ -61,15 +61,23 @@ impl Rule {
     }
 }
 
+/// The minute's first second, as an instant.
+fn first_second(minute: u32) -> Timestamp
+    requires { minute ≤ end_of_rules }
+    ensures { result.nanosecond ≡ nanos minute }
+{
+    match Timestamp::from_second(minute as i64 * 60) {
+        Ok(instant) => instant,
+        Err(_) => unreachable!(),
+    }
+}
+
 /// The offset of the zone at the minute's first second, in seconds.
 fn offset_of(zone: &TimeZone<'static>, minute: u32) -> i32
     requires { minute ≤ end_of_rules }
     ensures { result ≡ zone_offset (plain_zone zone.now) (nanos minute) }
 {
-    match Timestamp::from_second(minute as i64 * 60) {
-        Ok(instant) => zone.to_offset(instant).seconds(),
-        Err(_) => unreachable!(),
-    }
+    zone.to_offset(first_second(minute)).seconds()
 }
 
 /// A minute up to which no transition comes after this one's first second.
@@ -80,12 +88,9 @@ fn quiet_until(zone: &TimeZone<'static>, minute: u32) -> u32
     ensures quiet { (m : ℕ) → minute < m → m < result
         → IsBefore (nanos m) (next_at (plain_zone zone.now) (nanos minute)) }
 {
-    match Timestamp::from_second(minute as i64 * 60) {
-        Ok(instant) => match zone.following(instant).next() {
-            Some(found) => minute_from(found.timestamp().as_second(), minute),
-            None => LAST + 1,
-        },
-        Err(_) => unreachable!(),
+    match zone.following(first_second(minute)).next() {
+        Some(found) => minute_from(found.timestamp().as_second(), minute),
+        None => LAST + 1,
     }
 }
 

@@ -1,4 +1,4 @@
-use Rattle.std.proofs.Common.{◌≡◌, Some, subst, arith, ap, ◌∙◌, pos}
+use Rattle.std.proofs.Common.{Some, subst, arith, ap, ◌∙◌, pos}
 use Rattle.std.specs.Int.RustNames.{int_div}
 use Rattle.jiff_core.specs.declared.timestamp.Timestamp.{Timestamp}
 use Rattle.std.proofs.lemmas.Int.{ints}
@@ -11,12 +11,11 @@ use Rattle.zone_rules.proofs.rule.quiet_until.Goals as goal
 
 pub returns-in-Some-clause-quiet : goal.returns-in-Some-clause-quiet
 returns-in-Some-clause-quiet c = λ m after before.
-    let e : c.in-Ok.instant.nanosecond ≡ nanos c.args.minute =
-    omega (arith, ints, c.in-Ok.ensures.value) in
     let second = c.as_second.ensures
     ∙ ap (λ (t : Timestamp). int_div t.nanosecond (pos 1_000_000_000)) c.timestamp.ensures in
-    subst (λ n. IsBefore (nanos m) (next_at (plain_zone c.args.zone.now) n)) e
-    (first_found (plain_zone c.args.zone.now) c.in-Ok.instant.nanosecond (nanos m)
+    subst (λ n. IsBefore (nanos m) (next_at (plain_zone c.args.zone.now) n))
+    c.first_second.ensures
+    (first_found (plain_zone c.args.zone.now) c.first_second.result.nanosecond (nanos m)
     (following_from c.following.result) (following_from c.next.new.self) (Some c.in-Some.found)
     c.following.ensures c.in-Some.ensures.steps
     (after_second m c.in-Some.found.inner.timestamp.nanosecond (rw (← second)
