@@ -1,7 +1,8 @@
 -- What calls over the tables answer, and what they leave.
 use Rattle.std.specs.Prelude.{◌≡◌, ◌≢◌, ◌⊎◌, ℕ, [], IfErr, IfOk, IsTrue, List, OnOk, Result}
+use Rattle.std.specs.List.{AllZip}
 use Rattle.sqlite.specs.Order.{Row}
-use Rattle.sqlite.specs.State.{State, HasCleanDisk}
+use Rattle.sqlite.specs.State.{State, HasCleanDisk, Shown}
 use Rattle.sqlite.specs.Term.{Term}
 use Rattle.sqlite_rules.specs.Lists.{Has}
 use Rattle.desk_model.specs.Desk.{Desk}
@@ -72,6 +73,18 @@ abbrev pub FailsIn : {X : Type 0} → ℕ → List Term → (Row → Type 0) →
 FailsIn tree terms IsValue old new result =
     IfErr result (λ e. (e ≢ WrongVersion) × (e ≡ Mismatch → HasTables old → HasCleanDisk new
     → IsTrue old.is_open × HasBadRow tree terms IsValue old))
+
+-- What a query reads: the values are those that its rows show, one for each; a mismatch comes only
+-- of a row that shows none, and no fault is of the version.
+pub record ReadsRows {X V : Type 0} (Reads : Row → V → Type 0) (IsValue : Row → Type 0)
+    (values : X → List V) (sql : List ℕ) (params : Row) (old new : State)
+    (result : Result X StoreFault) : Type 0 where
+  pub read : HasCleanDisk new → IfOk result (λ x.
+      (rows : List Row) × Shown sql params old new rows × AllZip Reads rows (values x))
+  pub mismatch : HasCleanDisk new → IfErr result (λ e. e ≡ Mismatch →
+      (rows : List Row) × Shown sql params old new rows
+      × (row : Row) × Has rows row × ¬ IsValue row)
+  pub known : IfErr result (λ e. e ≢ WrongVersion)
 
 -- where the tables hold values, the fault is that the store or memory refused it
 abbrev pub OnlyRefuses : {X : Type 0} → State → State → Result X StoreFault → Type 0
