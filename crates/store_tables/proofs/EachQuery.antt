@@ -27,7 +27,7 @@ use Rattle.store_tables.proofs.Statements.{watches_of_is}
 use Rattle.store_tables.proofs.TestLemmas.{ends, filed_in, from_source, named, numbered}
 use Rattle.store_tables.proofs.TestLemmas.{of_person, starts, the_link, told, watched}
 
-pub all_queues : QueryOn queue_table
+abbrev pub all_queues : QueryOn queue_table
 all_queues = record {
   text = queues_text;
   params = [];
@@ -39,7 +39,7 @@ all_queues = record {
   tests = λ k. refl;
 }
 
-pub queue_by_name : (name : List ℕ) → QueryOn queue_table
+abbrev pub queue_by_name : (name : List ℕ) → QueryOn queue_table
 queue_by_name name = record {
   text = queue_named_text;
   params = Words name ∷ [];
@@ -51,7 +51,7 @@ queue_by_name name = record {
   tests = named name [];
 }
 
-pub all_requests : QueryOn request_table
+abbrev pub all_requests : QueryOn request_table
 all_requests = record {
   text = requests_text;
   params = [];
@@ -63,7 +63,7 @@ all_requests = record {
   tests = λ k. refl;
 }
 
-pub requests_in : (name : List ℕ) → QueryOn request_table
+abbrev pub requests_in : (name : List ℕ) → QueryOn request_table
 requests_in name = record {
   text = requests_of_text;
   params = Words name ∷ [];
@@ -75,7 +75,7 @@ requests_in name = record {
   tests = filed_in name;
 }
 
-pub request_by_number : (id : ℕ) → QueryOn request_table
+abbrev pub request_by_number : (id : ℕ) → QueryOn request_table
 request_by_number id = record {
   text = request_numbered_text;
   params = count_value id ∷ [];
@@ -87,7 +87,7 @@ request_by_number id = record {
   tests = numbered id [];
 }
 
-pub all_watchers : QueryOn watcher_table
+abbrev pub all_watchers : QueryOn watcher_table
 all_watchers = record {
   text = watchers_text;
   params = [];
@@ -99,7 +99,7 @@ all_watchers = record {
   tests = λ k. refl;
 }
 
-pub watchers_on : (id : ℕ) → QueryOn watcher_table
+abbrev pub watchers_on : (id : ℕ) → QueryOn watcher_table
 watchers_on id = record {
   text = watchers_of_text;
   params = count_value id ∷ [];
@@ -111,7 +111,7 @@ watchers_on id = record {
   tests = watched id;
 }
 
-pub watches_by : (person : List ℕ) → QueryOn watcher_table
+abbrev pub watches_by : (person : List ℕ) → QueryOn watcher_table
 watches_by person = record {
   text = watches_of_text;
   params = Words person ∷ [];
@@ -123,7 +123,7 @@ watches_by person = record {
   tests = of_person person;
 }
 
-pub all_links : QueryOn link_table
+abbrev pub all_links : QueryOn link_table
 all_links = record {
   text = links_text;
   params = [];
@@ -135,7 +135,7 @@ all_links = record {
   tests = λ k. refl;
 }
 
-pub links_out : (id : ℕ) → QueryOn link_table
+abbrev pub links_out : (id : ℕ) → QueryOn link_table
 links_out id = record {
   text = all_from_text;
   params = count_value id ∷ [];
@@ -147,7 +147,7 @@ links_out id = record {
   tests = starts id;
 }
 
-pub links_in : (id : ℕ) → QueryOn link_table
+abbrev pub links_in : (id : ℕ) → QueryOn link_table
 links_in id = record {
   text = all_to_text;
   params = count_value id ∷ [];
@@ -159,7 +159,7 @@ links_in id = record {
   tests = ends id;
 }
 
-pub links_by_kind : (id : ℕ) (kind : LinkKind) → QueryOn link_table
+abbrev pub links_by_kind : (id : ℕ) (kind : LinkKind) → QueryOn link_table
 links_by_kind id kind = record {
   text = links_from_text;
   params = count_value id ∷ count_value (kind_number kind) ∷ [];
@@ -171,7 +171,7 @@ links_by_kind id kind = record {
   tests = from_source id kind;
 }
 
-pub link_by_ends : (link : LinkRow) → QueryOn link_table
+abbrev pub link_by_ends : (link : LinkRow) → QueryOn link_table
 link_by_ends link = record {
   text = link_like_text;
   params = link_columns link;
@@ -183,7 +183,7 @@ link_by_ends link = record {
   tests = the_link link;
 }
 
-pub entries_on : (id : ℕ) → QueryOn entry_table
+abbrev pub entries_on : (id : ℕ) → QueryOn entry_table
 entries_on id = record {
   text = entries_of_text;
   params = count_value id ∷ [];
@@ -195,7 +195,7 @@ entries_on id = record {
   tests = told id;
 }
 
-pub all_actors : QueryOn actor_table
+abbrev pub all_actors : QueryOn actor_table
 all_actors = record {
   text = actors_text;
   params = [];

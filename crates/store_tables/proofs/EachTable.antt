@@ -1,5 +1,5 @@
 -- The tables of a desk, each told once: where it lies, how it keeps its values, and what is read.
-use Rattle.std.proofs.Common.{◌≡◌, ◌∷◌, [], ℕ, ℤ, ◌×◌, List, IsPermutation, arith, map, refl, subst}
+use Rattle.std.proofs.Common.{◌≡◌, ◌∷◌, [], ℕ, ℤ, List, IsPermutation, arith, map, refl, subst}
 use Rattle.std.proofs.Common.{sym}
 use Rattle.std.proofs.lemmas.List.Sorted.{IsPermutation-map}
 use Rattle.sqlite.specs.Order.{Row, column}
@@ -30,7 +30,7 @@ use Rattle.store_tables.proofs.BackLemmas.{same_count, text_back, watcher_back}
 use Rattle.store_tables.proofs.RowLemmas.{TableOf}
 use Rattle.store_tables.proofs.ValueLemmas.{values_of}
 
-pub queue_table : TableOf (ℤ × QueueRow) QueueRow
+abbrev pub queue_table : TableOf (ℤ × QueueRow) QueueRow
 queue_table = record {
   tree = 1;
   terms = queue_shown;
@@ -47,7 +47,7 @@ queue_table = record {
   valid = λ c db t. (values_of c t.values).queues;
 }
 
-pub request_table : TableOf RequestRow RequestRow
+abbrev pub request_table : TableOf RequestRow RequestRow
 request_table = record {
   tree = 3;
   terms = request_shown_terms;
@@ -64,7 +64,7 @@ request_table = record {
   valid = λ c db t. (values_of c t.values).requests;
 }
 
-pub watcher_table : TableOf (ℤ × Watcher) Watcher
+abbrev pub watcher_table : TableOf (ℤ × Watcher) Watcher
 watcher_table = record {
   tree = 4;
   terms = three_shown;
@@ -81,7 +81,7 @@ watcher_table = record {
   valid = λ c db t. (values_of c t.values).watchers;
 }
 
-pub link_table : TableOf (ℤ × LinkRow) LinkRow
+abbrev pub link_table : TableOf (ℤ × LinkRow) LinkRow
 link_table = record {
   tree = 6;
   terms = three_shown;
@@ -98,7 +98,7 @@ link_table = record {
   valid = λ c db t. (values_of c t.values).links;
 }
 
-pub entry_table : TableOf (ℤ × Entry) Entry
+abbrev pub entry_table : TableOf (ℤ × Entry) Entry
 entry_table = record {
   tree = 8;
   terms = entry_shown_terms;
@@ -116,7 +116,7 @@ entry_table = record {
 }
 
 -- what one column shows of each value
-viewed : {K X Y : Type 0} (row : K → Row) (value : K → X) (view : X → Y) (xs : List X)
+pub viewed : {K X Y : Type 0} (row : K → Row) (value : K → X) (view : X → Y) (xs : List X)
     (rows : List Row) → Holds row value xs rows
     → Holds row (λ k. view (value k)) (map view xs) rows
 viewed row value view xs rows h = record {
@@ -128,7 +128,7 @@ viewed row value view xs rows h = record {
 }
 
 -- those who made the entries: one column of that table
-pub actor_table : TableOf (ℤ × Entry) (List ℕ)
+abbrev pub actor_table : TableOf (ℤ × Entry) (List ℕ)
 actor_table = record {
   tree = 8;
   terms = actor_shown;
@@ -151,7 +151,7 @@ actor_table = record {
 }
 
 -- the numbers of requests: one column of that table
-pub id_table : TableOf RequestRow ℕ
+abbrev pub id_table : TableOf RequestRow ℕ
 id_table = record {
   tree = 3;
   terms = last_id_terms;
@@ -175,7 +175,7 @@ id_table = record {
 }
 
 -- the numbers of entries: one column of theirs
-pub place_table : TableOf (ℤ × Entry) ℕ
+abbrev pub place_table : TableOf (ℤ × Entry) ℕ
 place_table = record {
   tree = 8;
   terms = last_number_terms;

@@ -110,7 +110,7 @@ pub if_ok : {T E : Type 0} {P Q : T → Type 0} (r : Result T E) → ((x : T) �
 if_ok (Ok x) f h = f x h
 if_ok (Err e) f h = h
 
-every : {X : Type 0} (xs : List X) → filter (λ (x : X). true) xs ≡ xs
+pub every : {X : Type 0} (xs : List X) → filter (λ (x : X). true) xs ≡ xs
 every xs = filter_all (λ x. true) xs (all_of (λ x. true ≡ true) (λ _. refl) xs)
 
 pub shows_last_id : (d : Contents) (old new : State) → (HasCleanDisk new → HasCleanDisk old)

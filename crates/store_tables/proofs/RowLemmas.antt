@@ -43,7 +43,8 @@ rows_read Reads IsValue values sql params old new rows shown (Ok x) read mismatc
 }
 rows_read Reads IsValue values sql params old new rows shown (Err e) read mismatch known = record {
   read = λ clean. tt;
-  mismatch = λ clean wrong. (rows, shown clean, mismatch wrong);
+  mismatch = λ clean wrong. let bad = mismatch wrong in
+      (rows, shown clean, bad.0, bad.1, bad.2);
   known = known;
 }
 

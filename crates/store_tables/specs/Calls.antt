@@ -9,7 +9,7 @@ use Rattle.desk_model.specs.Desk.{Desk}
 use Rattle.desk_model.specs.IsDesk.{IsDesk}
 use Rattle.store_tables.specs.Contents.{Contents}
 use Rattle.store_tables.specs.Picked.{shows}
-use Rattle.store_tables.specs.Stands.{HasTables, Rests, Stand, StandsFor, Within}
+use Rattle.store_tables.specs.Stands.{HasTables, KeepsBase, Rests, Stand, StandsFor, Within}
 use Rattle.store_tables.specs.Tables.{desk_schema}
 use Rattle.store_tables.specs.declared.fault.StoreFault.{StoreFault}
 use Rattle.store_tables.specs.declared.fault.StoreFault.TheVariants.{Mismatch, Refused}
@@ -102,3 +102,11 @@ Makes change old new result =
 -- the last commit stays
 abbrev pub RestsOn : State → State → Type 0
 RestsOn old new = (c : Contents) → Rests c old → Rests c new
+
+-- What a statement or a row of them does in a transaction: of whatever the tables hold it makes
+-- `change`, the last commit stays, and a disk that is clean after it was clean before.
+pub record Does {X : Type 0} (change : Contents → Contents) (old new : State)
+    (result : Result X StoreFault) : Type 0 where
+  pub makes : Makes change old new result
+  pub keeps : KeepsBase old new
+  pub clean : WasClean old new
