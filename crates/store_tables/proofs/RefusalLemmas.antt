@@ -14,25 +14,25 @@ use Rattle.store_tables.proofs.RowLemmas.{refuses}
 
 module _ (old new : State) (clean : WasClean old new) {X : Type 0} (result : Result X StoreFault)
   where
-  pub queues_refuse : MismatchesInQueues old new result → OnlyRefuses old new result
-  queues_refuse = refuses queue_table old new clean result
+    pub queues_refuse : MismatchesInQueues old new result → OnlyRefuses old new result
+    queues_refuse = refuses queue_table old new clean result
 
-  pub requests_refuse : MismatchesInRequests old new result → OnlyRefuses old new result
-  requests_refuse = refuses request_table old new clean result
+    pub requests_refuse : MismatchesInRequests old new result → OnlyRefuses old new result
+    requests_refuse = refuses request_table old new clean result
 
-  pub watchers_refuse : MismatchesInWatchers old new result → OnlyRefuses old new result
-  watchers_refuse = refuses watcher_table old new clean result
+    pub watchers_refuse : MismatchesInWatchers old new result → OnlyRefuses old new result
+    watchers_refuse = refuses watcher_table old new clean result
 
-  pub links_refuse : MismatchesInLinks old new result → OnlyRefuses old new result
-  links_refuse = refuses link_table old new clean result
+    pub links_refuse : MismatchesInLinks old new result → OnlyRefuses old new result
+    links_refuse = refuses link_table old new clean result
 
-  pub actors_refuse : MismatchesInActors old new result → OnlyRefuses old new result
-  actors_refuse = refuses actor_table old new clean result
+    pub actors_refuse : MismatchesInActors old new result → OnlyRefuses old new result
+    actors_refuse = refuses actor_table old new clean result
 
-  pub last_id_refuses : FailsIn 3 last_id_terms IsNumberRow old new result
-      → OnlyRefuses old new result
-  last_id_refuses = refuses id_table old new clean result
+    pub last_id_refuses : FailsIn 3 last_id_terms IsNumberRow old new result
+        → OnlyRefuses old new result
+    last_id_refuses = refuses id_table old new clean result
 
-  pub last_number_refuses : FailsIn 8 last_number_terms IsNumberRow old new result
-      → OnlyRefuses old new result
-  last_number_refuses = refuses place_table old new clean result
+    pub last_number_refuses : FailsIn 8 last_number_terms IsNumberRow old new result
+        → OnlyRefuses old new result
+    last_number_refuses = refuses place_table old new clean result

@@ -113,50 +113,56 @@ passing_shown t q old new clean c stand now rows h =
 module _ {K V X : Type 0} (t : TableOf K V) (q : QueryOn t) (values : X → List V) (old new : State)
     (clean : HasCleanDisk new → HasCleanDisk old)
   where
-  -- a mismatch comes of a row of the table
-  pub fails : (r : Result X StoreFault)
-      → ReadsRows t.Reads t.IsValue values q.text q.params old new r
-      → FailsIn t.tree t.terms t.IsValue old new r
-  fails (Ok x) h = tt
-  fails (Err e) h = (
-    h.known,
-    λ wrong has now.
-        let it = h.mismatch now wrong in
-        let at = table_rows q.text q.params t.tree q.test t.terms q.order q.means old new clean has
-        now it.0 it.1 it.2 it.3 in
-        (at.0, (at.1, at.2, λ value. it.4 (subst t.IsValue (sym (at.3 ∙ t.same q.params at.1))
-        value))),
-  )
+    -- a mismatch comes of a row of the table
+    pub fails : (r : Result X StoreFault)
+        → ReadsRows t.Reads t.IsValue values q.text q.params old new r
+        → FailsIn t.tree t.terms t.IsValue old new r
+    fails (Ok x) h = tt
+    fails (Err e) h = (
+      h.known,
+      λ wrong has now.
+          let it = h.mismatch now wrong in
+          let at = table_rows q.text q.params t.tree q.test t.terms q.order q.means old new clean has
+          now it.0 it.1 it.2 it.3 in (
+            at.0,
+            (
+              at.1,
+              at.2,
+              λ value. it.4 (subst t.IsValue (sym (at.3 ∙ t.same q.params at.1))
+                  value),
+            ),
+          ),
+    )
 
-  pub only_refuses : (r : Result X StoreFault)
-      → ReadsRows t.Reads t.IsValue values q.text q.params old new r → OnlyRefuses old new r
-  only_refuses r h = refuses t old new clean r (fails r h)
+    pub only_refuses : (r : Result X StoreFault)
+        → ReadsRows t.Reads t.IsValue values q.text q.params old new r → OnlyRefuses old new r
+    only_refuses r h = refuses t old new clean r (fails r h)
 
-  module _ (result : Result X StoreFault)
-      (read : ReadsRows t.Reads t.IsValue values q.text q.params old new result) (c : Contents)
-      (stand : Stand c old) (now : HasCleanDisk new)
-    where
-    -- a list in any order is what passes of the table
-    pub reads_passing : IfOk result (λ x. IsPermutation (filter q.passing (t.list c)) (values x))
-    reads_passing = if_ok result
-        (λ x it. all_shown t.view t.Reads t.back (filter q.passing (t.list c)) it.0 (values x)
-        (passing_shown t q old new clean c stand now it.0 it.1) it.2) (read.read now)
+    module _ (result : Result X StoreFault)
+        (read : ReadsRows t.Reads t.IsValue values q.text q.params old new result) (c : Contents)
+        (stand : Stand c old) (now : HasCleanDisk new)
+      where
+        -- a list in any order is what passes of the table
+        pub reads_passing : IfOk result (λ x. IsPermutation (filter q.passing (t.list c)) (values x))
+        reads_passing = if_ok result
+            (λ x it. all_shown t.view t.Reads t.back (filter q.passing (t.list c)) it.0 (values x)
+            (passing_shown t q old new clean c stand now it.0 it.1) it.2) (read.read now)
 
-    -- a list in an order is
-    pub reads_in_order : (cmp : V → V → Ordering) → ((a b : K)
-        → output_cmp (reads t.tree q.test t.terms q.order)
-        (output (reads t.tree q.test t.terms q.order) (q.params ∷ t.row a ∷ []))
-        (output (reads t.tree q.test t.terms q.order) (q.params ∷ t.row b ∷ []))
-        ≡ cmp (t.value a) (t.value b))
-        → IfOk result (λ x. AreOrdered cmp (filter q.passing (t.list c)) (values x))
-    reads_in_order cmp orders = if_ok result
-        (λ x it. all_read t.view t.Reads t.back cmp (filter q.passing (t.list c)) it.0 (values x)
-        (let tables = shown_tables c q.text q.params old new it.0 clean stand now it.1 in
-        lists_values t.row t.value t.view t.tree q.test t.terms q.order q.params (t.list c)
-        (old.now.trees t.tree) it.0 q.passing q.tests (t.shown q.params)
-        (t.kept c old.now tables)
-        (picked_by q.text q.params old new tables.schema t.tree q.test t.terms q.order q.means it.0
-        it.1) cmp orders) it.2) (read.read now)
+        -- a list in an order is
+        pub reads_in_order : (cmp : V → V → Ordering) → ((a b : K)
+            → output_cmp (reads t.tree q.test t.terms q.order)
+            (output (reads t.tree q.test t.terms q.order) (q.params ∷ t.row a ∷ []))
+            (output (reads t.tree q.test t.terms q.order) (q.params ∷ t.row b ∷ []))
+            ≡ cmp (t.value a) (t.value b))
+            → IfOk result (λ x. AreOrdered cmp (filter q.passing (t.list c)) (values x))
+        reads_in_order cmp orders = if_ok result
+            (λ x it. all_read t.view t.Reads t.back cmp (filter q.passing (t.list c)) it.0 (values x)
+            (let tables = shown_tables c q.text q.params old new it.0 clean stand now it.1 in
+            lists_values t.row t.value t.view t.tree q.test t.terms q.order q.params (t.list c)
+            (old.now.trees t.tree) it.0 q.passing q.tests (t.shown q.params)
+            (t.kept c old.now tables)
+            (picked_by q.text q.params old new tables.schema t.tree q.test t.terms q.order q.means it.0
+            it.1) cmp orders) it.2) (read.read now)
 
 -- the one value, or none, is
 pub reads_one : {K V : Type 0} (t : TableOf K V) (q : QueryOn t) (old new : State)

@@ -50,23 +50,23 @@ kept_on a b c first second clean live =
 module _ {X Y : Type 0} (first second : Contents → Contents) (a b c : State) (x : X)
     (did : Does first a b (Ok x))
   where
-  -- one after the other
-  pub does_both : (r : Result Y StoreFault) → Does second b c r
-      → Does (λ (d : Contents). second (first d)) a c r
-  does_both r next = record {
-    makes = λ now was within. next.makes (first now) was (did.makes now was within);
-    keeps = kept_on a b c did.keeps next.keeps;
-    clean = λ clean. did.clean (next.clean clean);
-  }
+    -- one after the other
+    pub does_both : (r : Result Y StoreFault) → Does second b c r
+        → Does (λ (d : Contents). second (first d)) a c r
+    does_both r next = record {
+      makes = λ now was within. next.makes (first now) was (did.makes now was within);
+      keeps = kept_on a b c did.keeps next.keeps;
+      clean = λ clean. did.clean (next.clean clean);
+    }
 
-  -- and the last one is refused
-  pub does_not : (e : StoreFault) → Does {X = Y} second b c (Err e) → (whole : Contents → Contents)
-      → {Z : Type 0} → Does {X = Z} whole a c (Err e)
-  does_not e next whole = record {
-    makes = λ now was within. tt;
-    keeps = kept_on a b c did.keeps next.keeps;
-    clean = λ clean. did.clean (next.clean clean);
-  }
+    -- and the last one is refused
+    pub does_not : (e : StoreFault) → Does {X = Y} second b c (Err e) → (whole : Contents → Contents)
+        → {Z : Type 0} → Does {X = Z} whole a c (Err e)
+    does_not e next whole = record {
+      makes = λ now was within. tt;
+      keeps = kept_on a b c did.keeps next.keeps;
+      clean = λ clean. did.clean (next.clean clean);
+    }
 
 -- a fault is one whatever was to be made
 pub does_fail : {X Y : Type 0} (first whole : Contents → Contents) (a b : State) (e : StoreFault)
@@ -79,23 +79,23 @@ does_fail first whole a b e did = record {
 
 module _ {X Y : Type 0} (done : Y) (f : Contents → X → Contents) (xs : List X) (i : ℕ) (a b : State)
   where
-  -- one more of a list is written
-  pub does_more : (c : State) (x : X) → i < length xs → x ≡ get_or xs i x
-      → Does (λ d. fold f d (take i xs)) a b (Ok done) → Does (λ d. f d x) b c (Ok done)
-      → Does (λ d. fold f d (take (i + 1) xs)) a c (Ok done)
-  does_more c x low is did next = record {
-    makes = λ now was within. subst (λ d. Within d was c) (sym (fold_more f now xs i x low is))
-        (next.makes (fold f now (take i xs)) was (did.makes now was within));
-    keeps = kept_on a b c did.keeps next.keeps;
-    clean = λ clean. did.clean (next.clean clean);
-  }
+    -- one more of a list is written
+    pub does_more : (c : State) (x : X) → i < length xs → x ≡ get_or xs i x
+        → Does (λ d. fold f d (take i xs)) a b (Ok done) → Does (λ d. f d x) b c (Ok done)
+        → Does (λ d. fold f d (take (i + 1) xs)) a c (Ok done)
+    does_more c x low is did next = record {
+      makes = λ now was within. subst (λ d. Within d was c) (sym (fold_more f now xs i x low is))
+          (next.makes (fold f now (take i xs)) was (did.makes now was within));
+      keeps = kept_on a b c did.keeps next.keeps;
+      clean = λ clean. did.clean (next.clean clean);
+    }
 
-  -- all of it is
-  pub does_all : length xs ≤ i → Does (λ d. fold f d (take i xs)) a b (Ok done)
-      → Does (λ d. fold f d xs) a b (Ok done)
-  does_all high did = record {
-    makes = λ now was within. subst (λ d. Within d was b) (ap (fold f now) (take_all i xs high))
-        (did.makes now was within);
-    keeps = did.keeps;
-    clean = did.clean;
-  }
+    -- all of it is
+    pub does_all : length xs ≤ i → Does (λ d. fold f d (take i xs)) a b (Ok done)
+        → Does (λ d. fold f d xs) a b (Ok done)
+    does_all high did = record {
+      makes = λ now was within. subst (λ d. Within d was b) (ap (fold f now) (take_all i xs high))
+          (did.makes now was within);
+      keeps = did.keeps;
+      clean = did.clean;
+    }

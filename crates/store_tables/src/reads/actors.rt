@@ -23,10 +23,5 @@ pub fn actors<S: Alter>(alloc: Global, conn: &mut Connection<S>) -> Result<Vec<T
         (state S.Store conn.old) (state S.Store conn.new) result }
     ensures kept { Spares (state S.Store conn.old) (state S.Store conn.new) }
 {
-    select_all(
-        alloc,
-        conn,
-        "SELECT actor FROM entry",
-        &[],
-    )
+    select_all(alloc, conn, "SELECT actor FROM entry", &[])
 }

@@ -59,9 +59,9 @@ pub fn link_like<S: Alter>(
         conn,
         "SELECT source, kind, target FROM link WHERE source = ?1 AND kind = ?2 AND target = ?3",
         &[
-        number(link.source),
-        link_kind(link.kind),
-        number(link.target),
+            number(link.source),
+            link_kind(link.kind),
+            number(link.target),
         ],
     )
 }

@@ -12,15 +12,21 @@ pub returns-clause-found : goal.returns-clause-found
 returns-clause-found g c d stand clean =
     reads_one link_table (link_by_ends c.args.link) (state g.S.Store c.args.conn.now) (state
     g.S.Store c.select_one.new.conn)
-    c.select_one.ensures.kept.clean c.select_one.result (rw (c.number.ensures.bound,
-    c.link_kind.ensures, c.number-2.ensures.bound) at c.select_one.ensures.read) d stand clean
+    c.select_one.ensures.kept.clean c.select_one.result (rw (
+      c.number.ensures.bound,
+      c.link_kind.ensures,
+      c.number-2.ensures.bound,
+    ) at c.select_one.ensures.read) d stand clean
 
 pub returns-clause-refuses : goal.returns-clause-refuses
 returns-clause-refuses g c =
     only_refuses link_table (link_by_ends c.args.link) option_to_list (state g.S.Store
     c.args.conn.now) (state g.S.Store c.select_one.new.conn)
-    c.select_one.ensures.kept.clean c.select_one.result (rw (c.number.ensures.bound,
-    c.link_kind.ensures, c.number-2.ensures.bound) at c.select_one.ensures.read)
+    c.select_one.ensures.kept.clean c.select_one.result (rw (
+      c.number.ensures.bound,
+      c.link_kind.ensures,
+      c.number-2.ensures.bound,
+    ) at c.select_one.ensures.read)
 
 pub returns-clause-fault : goal.returns-clause-fault
 returns-clause-fault g c = c.select_one.ensures.read.known

@@ -16,8 +16,10 @@ pub returns-clause-listed : goal.returns-clause-listed
 returns-clause-listed g c d stand clean =
     reads_in_order link_table (links_by_kind c.args.id c.args.kind) (λ xs. xs.items) (state
     g.S.Store c.args.conn.now) (state g.S.Store c.select_all.new.conn)
-    c.select_all.ensures.kept.clean c.select_all.result (rw (c.number.ensures.bound,
-    c.link_kind.ensures) at c.select_all.ensures.read) d stand clean
+    c.select_all.ensures.kept.clean c.select_all.result (rw (
+      c.number.ensures.bound,
+      c.link_kind.ensures,
+    ) at c.select_all.ensures.read) d stand clean
     by_target (target_order_is (count_value c.args.id ∷ count_value (kind_number c.args.kind) ∷
     []))
 
@@ -25,8 +27,10 @@ pub returns-clause-refuses : goal.returns-clause-refuses
 returns-clause-refuses g c =
     only_refuses link_table (links_by_kind c.args.id c.args.kind) (λ xs. xs.items) (state
     g.S.Store c.args.conn.now) (state g.S.Store c.select_all.new.conn)
-    c.select_all.ensures.kept.clean c.select_all.result (rw (c.number.ensures.bound,
-    c.link_kind.ensures) at c.select_all.ensures.read)
+    c.select_all.ensures.kept.clean c.select_all.result (rw (
+      c.number.ensures.bound,
+      c.link_kind.ensures,
+    ) at c.select_all.ensures.read)
 
 pub returns-clause-fault : goal.returns-clause-fault
 returns-clause-fault g c = c.select_all.ensures.read.known
