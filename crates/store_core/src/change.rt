@@ -1,7 +1,7 @@
 //! The statements of a change, in the order in which it is applied.
 ghost use Rattle.std.specs.Prelude.{◌≡◌, fold, IfErr};
 ghost use Rattle.sqlite.specs.Held.{state};
-ghost use Rattle.store_tables.specs.Calls.{Makes, RestsOn, WasClean};
+ghost use Rattle.store_tables.specs.Calls.{Does};
 ghost use Rattle.store_tables.specs.Contents.{add_watcher, drop_watcher as without_watcher};
 ghost use Rattle.store_tables.specs.declared.fault.StoreFault.{StoreFault};
 ghost use Rattle.store_core.specs.Written.{link_added, link_dropped, queue_added};
@@ -22,10 +22,8 @@ fn open_queue<S: Alter>(
     queue: &Option<QueueRow>,
 ) -> Result<(), StoreFault>
     ensures same_reference { tx.new.conn.ghost_name ≡ tx.old.conn.ghost_name }
-    ensures opened { Makes (queue_added queue.now)
+    ensures opened { Does (queue_added queue.now)
         (state S.Store tx.old.conn.now) (state S.Store tx.new.conn.now) result }
-    ensures base { RestsOn (state S.Store tx.old.conn.now) (state S.Store tx.new.conn.now) }
-    ensures honest { WasClean (state S.Store tx.old.conn.now) (state S.Store tx.new.conn.now) }
     ensures fault { IfErr result (λ e. e ≡ StoreFault.Refused) }
 {
     match queue {
@@ -40,10 +38,8 @@ fn file_request<S: Alter>(
     filed: &Option<RequestRow>,
 ) -> Result<(), StoreFault>
     ensures same_reference { tx.new.conn.ghost_name ≡ tx.old.conn.ghost_name }
-    ensures filed { Makes (request_added filed.now)
+    ensures filed { Does (request_added filed.now)
         (state S.Store tx.old.conn.now) (state S.Store tx.new.conn.now) result }
-    ensures base { RestsOn (state S.Store tx.old.conn.now) (state S.Store tx.new.conn.now) }
-    ensures honest { WasClean (state S.Store tx.old.conn.now) (state S.Store tx.new.conn.now) }
     ensures fault { IfErr result (λ e. e ≡ StoreFault.Refused) }
 {
     match filed {
@@ -58,10 +54,8 @@ fn revise_request<S: Alter>(
     row: &Option<RequestRow>,
 ) -> Result<(), StoreFault>
     ensures same_reference { tx.new.conn.ghost_name ≡ tx.old.conn.ghost_name }
-    ensures set { Makes (request_set row.now)
+    ensures set { Does (request_set row.now)
         (state S.Store tx.old.conn.now) (state S.Store tx.new.conn.now) result }
-    ensures base { RestsOn (state S.Store tx.old.conn.now) (state S.Store tx.new.conn.now) }
-    ensures honest { WasClean (state S.Store tx.old.conn.now) (state S.Store tx.new.conn.now) }
     ensures fault { IfErr result (λ e. e ≡ StoreFault.Refused) }
 {
     match row {
@@ -73,10 +67,8 @@ fn revise_request<S: Alter>(
 /// Adds the link, if there is one.
 fn link<S: Alter>(tx: &mut Transaction<'_, S>, linked: &Option<LinkRow>) -> Result<(), StoreFault>
     ensures same_reference { tx.new.conn.ghost_name ≡ tx.old.conn.ghost_name }
-    ensures linked { Makes (link_added linked.now)
+    ensures linked { Does (link_added linked.now)
         (state S.Store tx.old.conn.now) (state S.Store tx.new.conn.now) result }
-    ensures base { RestsOn (state S.Store tx.old.conn.now) (state S.Store tx.new.conn.now) }
-    ensures honest { WasClean (state S.Store tx.old.conn.now) (state S.Store tx.new.conn.now) }
     ensures fault { IfErr result (λ e. e ≡ StoreFault.Refused) }
 {
     match linked {
@@ -91,10 +83,8 @@ fn unlink<S: Alter>(
     unlinked: &Option<LinkRow>,
 ) -> Result<(), StoreFault>
     ensures same_reference { tx.new.conn.ghost_name ≡ tx.old.conn.ghost_name }
-    ensures unlinked { Makes (link_dropped unlinked.now)
+    ensures unlinked { Does (link_dropped unlinked.now)
         (state S.Store tx.old.conn.now) (state S.Store tx.new.conn.now) result }
-    ensures base { RestsOn (state S.Store tx.old.conn.now) (state S.Store tx.new.conn.now) }
-    ensures honest { WasClean (state S.Store tx.old.conn.now) (state S.Store tx.new.conn.now) }
     ensures fault { IfErr result (λ e. e ≡ StoreFault.Refused) }
 {
     match unlinked {
@@ -106,11 +96,9 @@ fn unlink<S: Alter>(
 /// Writes the queue and the rows of requests.
 fn write_rows<S: Alter>(tx: &mut Transaction<'_, S>, change: &Change) -> Result<(), StoreFault>
     ensures same_reference { tx.new.conn.ghost_name ≡ tx.old.conn.ghost_name }
-    ensures made { Makes (λ c. request_set change.now.row
+    ensures made { Does (λ c. request_set change.now.row
         (request_added change.now.filed (queue_added change.now.queue c)))
         (state S.Store tx.old.conn.now) (state S.Store tx.new.conn.now) result }
-    ensures base { RestsOn (state S.Store tx.old.conn.now) (state S.Store tx.new.conn.now) }
-    ensures honest { WasClean (state S.Store tx.old.conn.now) (state S.Store tx.new.conn.now) }
     ensures fault { IfErr result (λ e. e ≡ StoreFault.Refused) }
 {
     open_queue(tx, &change.queue)?;
@@ -121,11 +109,9 @@ fn write_rows<S: Alter>(tx: &mut Transaction<'_, S>, change: &Change) -> Result<
 /// Puts persons into roles, and takes persons out of roles.
 fn write_persons<S: Alter>(tx: &mut Transaction<'_, S>, change: &Change) -> Result<(), StoreFault>
     ensures same_reference { tx.new.conn.ghost_name ≡ tx.old.conn.ghost_name }
-    ensures made { Makes (λ c. fold without_watcher (fold add_watcher c change.now.put)
+    ensures made { Does (λ c. fold without_watcher (fold add_watcher c change.now.put)
         change.now.taken)
         (state S.Store tx.old.conn.now) (state S.Store tx.new.conn.now) result }
-    ensures base { RestsOn (state S.Store tx.old.conn.now) (state S.Store tx.new.conn.now) }
-    ensures honest { WasClean (state S.Store tx.old.conn.now) (state S.Store tx.new.conn.now) }
     ensures fault { IfErr result (λ e. e ≡ StoreFault.Refused) }
 {
     put_watchers(tx, change.put.as_slice())?;
@@ -135,10 +121,8 @@ fn write_persons<S: Alter>(tx: &mut Transaction<'_, S>, change: &Change) -> Resu
 /// Adds a link, and takes one out.
 fn write_links<S: Alter>(tx: &mut Transaction<'_, S>, change: &Change) -> Result<(), StoreFault>
     ensures same_reference { tx.new.conn.ghost_name ≡ tx.old.conn.ghost_name }
-    ensures made { Makes (λ c. link_dropped change.now.unlinked (link_added change.now.linked c))
+    ensures made { Does (λ c. link_dropped change.now.unlinked (link_added change.now.linked c))
         (state S.Store tx.old.conn.now) (state S.Store tx.new.conn.now) result }
-    ensures base { RestsOn (state S.Store tx.old.conn.now) (state S.Store tx.new.conn.now) }
-    ensures honest { WasClean (state S.Store tx.old.conn.now) (state S.Store tx.new.conn.now) }
     ensures fault { IfErr result (λ e. e ≡ StoreFault.Refused) }
 {
     link(tx, &change.linked)?;
@@ -151,10 +135,8 @@ pub(crate) fn write_change<S: Alter>(
     change: &Change,
 ) -> Result<(), StoreFault>
     ensures same_reference { tx.new.conn.ghost_name ≡ tx.old.conn.ghost_name }
-    ensures made { Makes (written change.now)
+    ensures made { Does (written change.now)
         (state S.Store tx.old.conn.now) (state S.Store tx.new.conn.now) result }
-    ensures base { RestsOn (state S.Store tx.old.conn.now) (state S.Store tx.new.conn.now) }
-    ensures honest { WasClean (state S.Store tx.old.conn.now) (state S.Store tx.new.conn.now) }
     ensures fault { IfErr result (λ e. e ≡ StoreFault.Refused) }
 {
     write_rows(tx, change)?;

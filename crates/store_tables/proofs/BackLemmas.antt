@@ -28,7 +28,7 @@ same_option None (Some y) e = cc
 same_option (Some x) None e = cc
 same_option (Some x) (Some y) e = let same : x ≡ y = cc in ap Some same
 
-same_count : {m n : ℕ} → count_value m ≡ count_value n → m ≡ n
+pub same_count : {m n : ℕ} → count_value m ≡ count_value n → m ≡ n
 same_count e = cc
 
 -- the value that has a number

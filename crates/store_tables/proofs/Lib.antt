@@ -2,6 +2,8 @@ pub mod BackLemmas
 pub mod BlankLemmas
 pub mod ChangeLemmas
 pub mod CountLemmas
+pub mod EachQuery
+pub mod EachTable
 pub mod FoundLemmas
 pub mod KeptLemmas
 pub mod LastLemmas
@@ -10,6 +12,7 @@ pub mod PickedLemmas
 pub mod ReadLemmas
 pub mod ReadingLemmas
 pub mod RefusalLemmas
+pub mod RowLemmas
 pub mod Spared
 pub mod StandLemmas
 pub mod Statements

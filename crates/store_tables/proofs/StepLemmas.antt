@@ -1,14 +1,16 @@
--- Statements in a row: one that changed one row, and those of a loop.
-use Rattle.std.proofs.Common.{◌≡◌, ◌+◌, ◌<◌, ◌≤◌, ℕ, List, Ok, Err, Result, IfOk, OnOk}
-use Rattle.std.proofs.Common.{ap, fold, get_or, length, subst, sym, take}
+-- Statements in a row: one that changed one row, one after the other, and those of a loop.
+use Rattle.std.proofs.Common.{◌≡◌, ◌+◌, ◌<◌, ◌≤◌, ◌∙◌, ℕ, List, [], Ok, Err, Result, IfOk, OnOk}
+use Rattle.std.proofs.Common.{ap, fold, get_or, length, refl, subst, sym, take}
 use Rattle.std.proofs.lemmas.List.{take_all}
 use Rattle.sqlite.specs.Order.{Row}
 use Rattle.sqlite.specs.State.{State, HasCleanDisk, Executes}
+use Rattle.store_tables.specs.Calls.{Does, WasClean}
 use Rattle.store_tables.specs.Contents.{Contents}
-use Rattle.store_tables.specs.Stands.{Ran, Tables, Within}
+use Rattle.store_tables.specs.Stands.{KeepsBase, Ran, Tables, Within}
+use Rattle.store_tables.specs.declared.fault.StoreFault.{StoreFault}
 use Rattle.store_tables.proofs.StandLemmas.{fold_more, steps}
 
-pub if_done : {X E : Type 0} (r : Result X E) (sql : List ℕ) (params : Row) (old new : State)
+if_done : {X E : Type 0} (r : Result X E) (sql : List ℕ) (params : Row) (old new : State)
     (now next was : Contents) → (HasCleanDisk new → IfOk r (λ done. Ran sql params old new 1))
     → (HasCleanDisk new → HasCleanDisk old)
     → (Tables now old.now → Executes sql params old new (Ok 1) → Tables next new.now)
@@ -17,14 +19,83 @@ if_done (Ok x) sql params old new now next was ran clean makes within =
     steps sql params old new 1 now next was ran clean makes within
 if_done (Err e) sql params old new now next was ran clean makes within = tt
 
-module _ {X : Type 0} (f : Contents → X → Contents) (xs : List X) (i : ℕ) (now was : Contents)
-    (s : State) where
-  -- one more of a list is written
-  pub one_more : (x : X) → i < length xs → x ≡ get_or xs i x
-      → Within (f (fold f now (take i xs)) x) was s → Within (fold f now (take (i + 1) xs)) was s
-  one_more x low is = subst (λ c. Within c was s) (sym (fold_more f now xs i x low is))
+-- a statement that changed one row
+pub does_one : {X : Type 0} (r : Result X StoreFault) (sql : List ℕ) (params : Row)
+    (old new : State) (change : Contents → Contents)
+    → (HasCleanDisk new → IfOk r (λ done. Ran sql params old new 1)) → WasClean old new
+    → KeepsBase old new
+    → ((now : Contents) → Tables now old.now → Executes sql params old new (Ok 1)
+    → Tables (change now) new.now)
+    → Does change old new r
+does_one r sql params old new change ran clean keeps makes = record {
+  makes = λ now was. if_done r sql params old new now (change now) was ran clean (makes now);
+  keeps = keeps;
+  clean = clean;
+}
 
-  -- all of it is
-  pub all_of_them : length xs ≤ i → Within (fold f now (take i xs)) was s
-      → Within (fold f now xs) was s
-  all_of_them high = subst (λ c. Within c was s) (ap (fold f now) (take_all i xs high))
+-- no statement
+pub does_none : {X : Type 0} (x : X) (s : State) → Does (λ c. c) s s (Ok x)
+does_none x s = record {
+  makes = λ now was within. within;
+  keeps = λ clean live. (clean, live, refl);
+  clean = λ clean. clean;
+}
+
+kept_on : (a b c : State) → KeepsBase a b → KeepsBase b c → KeepsBase a c
+kept_on a b c first second clean live =
+    let at = second clean live in
+    let was = first at.0 at.1 in
+    (was.0, was.1, at.2 ∙ was.2)
+
+module _ {X Y : Type 0} (first second : Contents → Contents) (a b c : State) (x : X)
+    (did : Does first a b (Ok x))
+  where
+    -- one after the other
+    pub does_both : (r : Result Y StoreFault) → Does second b c r
+        → Does (λ (d : Contents). second (first d)) a c r
+    does_both r next = record {
+      makes = λ now was within. next.makes (first now) was (did.makes now was within);
+      keeps = kept_on a b c did.keeps next.keeps;
+      clean = λ clean. did.clean (next.clean clean);
+    }
+
+    -- and the last one is refused
+    pub does_not : (e : StoreFault) → Does {X = Y} second b c (Err e) → (whole : Contents → Contents)
+        → {Z : Type 0} → Does {X = Z} whole a c (Err e)
+    does_not e next whole = record {
+      makes = λ now was within. tt;
+      keeps = kept_on a b c did.keeps next.keeps;
+      clean = λ clean. did.clean (next.clean clean);
+    }
+
+-- a fault is one whatever was to be made
+pub does_fail : {X Y : Type 0} (first whole : Contents → Contents) (a b : State) (e : StoreFault)
+    → Does {X = X} first a b (Err e) → Does {X = Y} whole a b (Err e)
+does_fail first whole a b e did = record {
+  makes = λ now was within. tt;
+  keeps = did.keeps;
+  clean = did.clean;
+}
+
+module _ {X Y : Type 0} (done : Y) (f : Contents → X → Contents) (xs : List X) (i : ℕ) (a b : State)
+  where
+    -- one more of a list is written
+    pub does_more : (c : State) (x : X) → i < length xs → x ≡ get_or xs i x
+        → Does (λ d. fold f d (take i xs)) a b (Ok done) → Does (λ d. f d x) b c (Ok done)
+        → Does (λ d. fold f d (take (i + 1) xs)) a c (Ok done)
+    does_more c x low is did next = record {
+      makes = λ now was within. subst (λ d. Within d was c) (sym (fold_more f now xs i x low is))
+          (next.makes (fold f now (take i xs)) was (did.makes now was within));
+      keeps = kept_on a b c did.keeps next.keeps;
+      clean = λ clean. did.clean (next.clean clean);
+    }
+
+    -- all of it is
+    pub does_all : length xs ≤ i → Does (λ d. fold f d (take i xs)) a b (Ok done)
+        → Does (λ d. fold f d xs) a b (Ok done)
+    does_all high did = record {
+      makes = λ now was within. subst (λ d. Within d was b) (ap (fold f now) (take_all i xs high))
+          (did.makes now was within);
+      keeps = did.keeps;
+      clean = did.clean;
+    }

@@ -1,14 +1,15 @@
 -- What calls over the tables answer, and what they leave.
 use Rattle.std.specs.Prelude.{◌≡◌, ◌≢◌, ◌⊎◌, ℕ, [], IfErr, IfOk, IsTrue, List, OnOk, Result}
+use Rattle.std.specs.List.{AllZip}
 use Rattle.sqlite.specs.Order.{Row}
-use Rattle.sqlite.specs.State.{State, HasCleanDisk}
+use Rattle.sqlite.specs.State.{State, HasCleanDisk, Shown}
 use Rattle.sqlite.specs.Term.{Term}
 use Rattle.sqlite_rules.specs.Lists.{Has}
 use Rattle.desk_model.specs.Desk.{Desk}
 use Rattle.desk_model.specs.IsDesk.{IsDesk}
 use Rattle.store_tables.specs.Contents.{Contents}
 use Rattle.store_tables.specs.Picked.{shows}
-use Rattle.store_tables.specs.Stands.{HasTables, Rests, Stand, StandsFor, Within}
+use Rattle.store_tables.specs.Stands.{HasTables, KeepsBase, Rests, Stand, StandsFor, Within}
 use Rattle.store_tables.specs.Tables.{desk_schema}
 use Rattle.store_tables.specs.declared.fault.StoreFault.{StoreFault}
 use Rattle.store_tables.specs.declared.fault.StoreFault.TheVariants.{Mismatch, Refused}
@@ -73,6 +74,18 @@ FailsIn tree terms IsValue old new result =
     IfErr result (λ e. (e ≢ WrongVersion) × (e ≡ Mismatch → HasTables old → HasCleanDisk new
     → IsTrue old.is_open × HasBadRow tree terms IsValue old))
 
+-- What a query reads: the values are those that its rows show, one for each; a mismatch comes only
+-- of a row that shows none, and no fault is of the version.
+pub record ReadsRows {X V : Type 0} (Reads : Row → V → Type 0) (IsValue : Row → Type 0)
+    (values : X → List V) (sql : List ℕ) (params : Row) (old new : State)
+    (result : Result X StoreFault) : Type 0 where
+  pub read : HasCleanDisk new → IfOk result (λ x.
+      (rows : List Row) × Shown sql params old new rows × AllZip Reads rows (values x))
+  pub mismatch : HasCleanDisk new → IfErr result (λ e. e ≡ Mismatch →
+      (rows : List Row) × Shown sql params old new rows
+      × (row : Row) × Has rows row × ¬ IsValue row)
+  pub known : IfErr result (λ e. e ≢ WrongVersion)
+
 -- where the tables hold values, the fault is that the store or memory refused it
 abbrev pub OnlyRefuses : {X : Type 0} → State → State → Result X StoreFault → Type 0
 OnlyRefuses old new result =
@@ -89,3 +102,11 @@ Makes change old new result =
 -- the last commit stays
 abbrev pub RestsOn : State → State → Type 0
 RestsOn old new = (c : Contents) → Rests c old → Rests c new
+
+-- What a statement or a row of them does in a transaction: of whatever the tables hold it makes
+-- `change`, the last commit stays, and a disk that is clean after it was clean before.
+pub record Does {X : Type 0} (change : Contents → Contents) (old new : State)
+    (result : Result X StoreFault) : Type 0 where
+  pub makes : Makes change old new result
+  pub keeps : KeepsBase old new
+  pub clean : WasClean old new

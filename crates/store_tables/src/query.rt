@@ -7,7 +7,7 @@ ghost use Rattle.sqlite.specs.Listing.{understood};
 ghost use Rattle.sqlite.specs.State.{HasCleanDisk, Shown};
 ghost use Rattle.sqlite.specs.Values.{bound};
 ghost use Rattle.sqlite_rules.specs.Lists.{Has};
-ghost use Rattle.store_tables.specs.Calls.{Spares};
+ghost use Rattle.store_tables.specs.Calls.{ReadsRows, Spares};
 ghost use Rattle.store_tables.specs.Reading.{IsNumberRow, ReadsNumber};
 ghost use Rattle.store_tables.specs.Tables.{desk_schema};
 ghost use Rattle.store_tables.specs.declared.fault.StoreFault.{StoreFault};
@@ -40,8 +40,45 @@ pub(crate) fn select<S: Alter>(
     }
 }
 
+/// The values that a query shows, one in each row. `Mismatch` where a row shows none, `Refused`
+/// where the store or memory refuses it.
+pub(crate) fn select_all<T: Stored + Drop, S: Alter>(
+    alloc: Global,
+    conn: &mut Connection<S>,
+    sql: &str,
+    params: &[ValueRef<'_>],
+) -> Result<Vec<T>, StoreFault>
+    requires plain { IsPlain (understood desk_schema sql.now) }
+    requires idle { conn.old.in_transaction ≡ false }
+    ensures idle { conn.new.in_transaction ≡ false }
+    ensures read { ReadsRows T.Stored.reads T.Stored.is_value (λ xs. xs.items)
+        sql.now (bound params.now) (state S.Store conn.old) (state S.Store conn.new) result }
+    ensures kept { Spares (state S.Store conn.old) (state S.Store conn.new) }
+{
+    let rows = select(conn, sql, params)?;
+    read_all(alloc, rows.as_slice())
+}
+
+/// The one value that a query shows, or none. `Mismatch` where its row shows none, `Refused` where
+/// the store or memory refuses it, or there are more rows.
+pub(crate) fn select_one<T: Stored + Drop, S: Alter>(
+    conn: &mut Connection<S>,
+    sql: &str,
+    params: &[ValueRef<'_>],
+) -> Result<Option<T>, StoreFault>
+    requires plain { IsPlain (understood desk_schema sql.now) }
+    requires idle { conn.old.in_transaction ≡ false }
+    ensures idle { conn.new.in_transaction ≡ false }
+    ensures read { ReadsRows T.Stored.reads T.Stored.is_value option_to_list
+        sql.now (bound params.now) (state S.Store conn.old) (state S.Store conn.new) result }
+    ensures kept { Spares (state S.Store conn.old) (state S.Store conn.new) }
+{
+    let rows = select(conn, sql, params)?;
+    read_one(rows.as_slice())
+}
+
 /// The values that the rows show. `Mismatch` where one shows none.
-pub(crate) fn read_all<T: Stored + Drop>(alloc: Global, rows: &[Row]) -> Result<Vec<T>, StoreFault>
+fn read_all<T: Stored + Drop>(alloc: Global, rows: &[Row]) -> Result<Vec<T>, StoreFault>
     ensures ok { IfOk result (λ xs. AllZip T.Stored.reads rows.now xs.items) }
     ensures mismatch { IfErr result (λ e. e ≡ StoreFault.Mismatch →
         (r : _) × Has rows.now r × ¬ T.Stored.is_value r) }
@@ -60,7 +97,7 @@ pub(crate) fn read_all<T: Stored + Drop>(alloc: Global, rows: &[Row]) -> Result<
 
 /// The one value that the rows show, or none. `Mismatch` where the row shows none, `Refused` where
 /// there are more rows.
-pub(crate) fn read_one<T: Stored + Drop>(rows: &[Row]) -> Result<Option<T>, StoreFault>
+fn read_one<T: Stored + Drop>(rows: &[Row]) -> Result<Option<T>, StoreFault>
     ensures ok { IfOk result (λ x. AllZip T.Stored.reads rows.now (option_to_list x)) }
     ensures mismatch { IfErr result (λ e. e ≡ StoreFault.Mismatch →
         (r : _) × Has rows.now r × ¬ T.Stored.is_value r) }

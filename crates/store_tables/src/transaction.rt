@@ -3,7 +3,7 @@ ghost use Rattle.std.specs.Prelude.{◌≡◌, false, IfOk, IfErr, OnOk, OnErr};
 ghost use Rattle.sqlite.specs.Held.{state};
 ghost use Rattle.sqlite.specs.State.{HasCleanDisk};
 ghost use Rattle.sqlite.specs.Values.{bound};
-ghost use Rattle.store_tables.specs.Calls.{RestsOn, WasClean};
+ghost use Rattle.store_tables.specs.Calls.{WasClean};
 ghost use Rattle.store_tables.specs.Contents.{Contents};
 ghost use Rattle.store_tables.specs.Stands.{KeepsBase, Ran, Stand, Within};
 ghost use Rattle.store_tables.specs.declared.fault.StoreFault.{StoreFault};
@@ -23,7 +23,6 @@ pub fn run<S: Alter>(
     ensures ran { HasCleanDisk (state S.Store tx.new.conn.now) → IfOk result (λ count.
         Ran sql.now (bound params.now)
         (state S.Store tx.old.conn.now) (state S.Store tx.new.conn.now) count) }
-    ensures base { RestsOn (state S.Store tx.old.conn.now) (state S.Store tx.new.conn.now) }
     ensures keeps { KeepsBase (state S.Store tx.old.conn.now) (state S.Store tx.new.conn.now) }
     ensures honest { WasClean (state S.Store tx.old.conn.now) (state S.Store tx.new.conn.now) }
     ensures fault { IfErr result (λ e. e ≡ StoreFault.Refused) }
@@ -44,7 +43,6 @@ pub(crate) fn run_on_one<S: Alter>(
     ensures ran { HasCleanDisk (state S.Store tx.new.conn.now) → IfOk result (λ done.
         Ran sql.now (bound params.now)
         (state S.Store tx.old.conn.now) (state S.Store tx.new.conn.now) 1) }
-    ensures base { RestsOn (state S.Store tx.old.conn.now) (state S.Store tx.new.conn.now) }
     ensures keeps { KeepsBase (state S.Store tx.old.conn.now) (state S.Store tx.new.conn.now) }
     ensures honest { WasClean (state S.Store tx.old.conn.now) (state S.Store tx.new.conn.now) }
     ensures fault { IfErr result (λ e. e ≡ StoreFault.Refused) }

@@ -2,42 +2,17 @@
 ghost use Rattle.std.specs.Prelude.{◌≡◌, ◌≢◌, IfErr, false, filter, option_to_list};
 ghost use Rattle.sqlite.specs.Held.{state};
 ghost use Rattle.store_tables.specs.declared.fault.StoreFault.{StoreFault};
-ghost use Rattle.store_tables.specs.Queries.{three_shown};
-ghost use Rattle.store_tables.specs.Calls.{Answers, OnlyRefuses, ShowsRowsOf, Spares};
+ghost use Rattle.store_tables.specs.Calls.{Answers, OnlyRefuses, Spares};
 ghost use Rattle.store_tables.specs.Orders.{by_target};
-ghost use Rattle.store_tables.specs.Picked.{AreOrdered, Lists, Shows};
+ghost use Rattle.store_tables.specs.Picked.{AreOrdered};
 ghost use Rattle.store_tables.specs.Selection as chosen;
-ghost use Rattle.store_tables.specs.Spelling.{link_columns};
 
 use crate::columns::{link_kind, number};
 use crate::fault::StoreFault;
-use crate::query::{read_all, read_one, select};
+use crate::query::{select_all, select_one};
 use desk_model::{LinkKind, LinkRow};
-use sqlite::{Alter, Connection, Row};
+use sqlite::{Alter, Connection};
 use std::alloc::Global;
-
-/// The rows of `links_of_kind`.
-fn rows_of_kind<S: Alter>(
-    conn: &mut Connection<S>,
-    id: u32,
-    kind: LinkKind,
-) -> Result<Vec<Row>, StoreFault>
-    requires { conn.old.in_transaction ≡ false }
-    ensures idle { conn.new.in_transaction ≡ false }
-    ensures shown { Answers (λ c rows.
-        Lists by_target link_columns (filter (chosen.links_from id kind) c.links) rows.items)
-        (state S.Store conn.old) (state S.Store conn.new) result }
-    ensures kept { Spares (state S.Store conn.old) (state S.Store conn.new) }
-    ensures of_table { ShowsRowsOf 6 three_shown (λ rows. rows.items)
-        (state S.Store conn.old) (state S.Store conn.new) result }
-    ensures fault { IfErr result (λ e. e ≡ StoreFault.Refused) }
-{
-    select(
-        conn,
-        "SELECT source, kind, target FROM link WHERE source = ?1 AND kind = ?2 ORDER BY target",
-        &[number(id), link_kind(kind)],
-    )
-}
 
 /// The links of a kind from a request, by target. `Mismatch` where a row is no link, `Refused`
 /// where the store or memory refuses it.
@@ -57,30 +32,11 @@ pub fn links_of_kind<S: Alter>(
         (state S.Store conn.old) (state S.Store conn.new) result }
     ensures fault { IfErr result (λ e. e ≢ StoreFault.WrongVersion) }
 {
-    let rows = rows_of_kind(conn, id, kind)?;
-    read_all(alloc, rows.as_slice())
-}
-
-/// The rows of `link_like`.
-fn rows_like<S: Alter>(conn: &mut Connection<S>, link: LinkRow) -> Result<Vec<Row>, StoreFault>
-    requires { conn.old.in_transaction ≡ false }
-    ensures idle { conn.new.in_transaction ≡ false }
-    ensures shown { Answers (λ c rows.
-        Shows link_columns (filter (chosen.is_link link) c.links) rows.items)
-        (state S.Store conn.old) (state S.Store conn.new) result }
-    ensures kept { Spares (state S.Store conn.old) (state S.Store conn.new) }
-    ensures of_table { ShowsRowsOf 6 three_shown (λ rows. rows.items)
-        (state S.Store conn.old) (state S.Store conn.new) result }
-    ensures fault { IfErr result (λ e. e ≡ StoreFault.Refused) }
-{
-    select(
+    select_all(
+        alloc,
         conn,
-        "SELECT source, kind, target FROM link WHERE source = ?1 AND kind = ?2 AND target = ?3",
-        &[
-            number(link.source),
-            link_kind(link.kind),
-            number(link.target),
-        ],
+        "SELECT source, kind, target FROM link WHERE source = ?1 AND kind = ?2 ORDER BY target",
+        &[number(id), link_kind(kind)],
     )
 }
 
@@ -99,6 +55,13 @@ pub fn link_like<S: Alter>(
         (state S.Store conn.old) (state S.Store conn.new) result }
     ensures fault { IfErr result (λ e. e ≢ StoreFault.WrongVersion) }
 {
-    let rows = rows_like(conn, link)?;
-    read_one(rows.as_slice())
+    select_one(
+        conn,
+        "SELECT source, kind, target FROM link WHERE source = ?1 AND kind = ?2 AND target = ?3",
+        &[
+            number(link.source),
+            link_kind(link.kind),
+            number(link.target),
+        ],
+    )
 }

@@ -1,40 +1,19 @@
 //! The links, those from a request and those to it.
-ghost use Rattle.std.specs.Prelude.{◌≡◌, false, filter, IfErr};
+ghost use Rattle.std.specs.Prelude.{◌≡◌, false, filter};
 ghost use Rattle.sqlite.specs.Held.{state};
-ghost use Rattle.store_tables.specs.Calls.{Answers, ShowsRowsOf, Spares};
+ghost use Rattle.store_tables.specs.Calls.{Answers, Spares};
 ghost use Rattle.store_tables.specs.Mismatches.{MismatchesInLinks};
 ghost use Rattle.store_tables.specs.Orders.{by_link};
-ghost use Rattle.store_tables.specs.Picked.{AreOrdered, Lists};
-ghost use Rattle.store_tables.specs.Queries.{three_shown};
+ghost use Rattle.store_tables.specs.Picked.{AreOrdered};
 ghost use Rattle.store_tables.specs.Selection.{ends_at, starts_at};
-ghost use Rattle.store_tables.specs.Spelling.{link_columns};
 ghost use Rattle.store_tables.specs.declared.fault.StoreFault.{StoreFault};
 
 use crate::columns::number;
 use crate::fault::StoreFault;
-use crate::query::{read_all, select};
+use crate::query::select_all;
 use desk_model::LinkRow;
-use sqlite::{Alter, Connection, Row};
+use sqlite::{Alter, Connection};
 use std::alloc::Global;
-
-/// The rows of `links`.
-fn rows_links<S: Alter>(conn: &mut Connection<S>) -> Result<Vec<Row>, StoreFault>
-    requires { conn.old.in_transaction ≡ false }
-    ensures idle { conn.new.in_transaction ≡ false }
-    ensures shown { Answers (λ c rows.
-        Lists by_link link_columns c.links rows.items)
-        (state S.Store conn.old) (state S.Store conn.new) result }
-    ensures kept { Spares (state S.Store conn.old) (state S.Store conn.new) }
-    ensures of_table { ShowsRowsOf 6 three_shown (λ rows. rows.items)
-        (state S.Store conn.old) (state S.Store conn.new) result }
-    ensures fault { IfErr result (λ e. e ≡ StoreFault.Refused) }
-{
-    select(
-        conn,
-        "SELECT source, kind, target FROM link ORDER BY source, kind, target",
-        &[],
-    )
-}
 
 /// The links, by source, kind and target. `Mismatch` where a row is no link, `Refused` where the
 /// store refuses it.
@@ -48,26 +27,11 @@ pub fn links<S: Alter>(alloc: Global, conn: &mut Connection<S>) -> Result<Vec<Li
         (state S.Store conn.old) (state S.Store conn.new) result }
     ensures kept { Spares (state S.Store conn.old) (state S.Store conn.new) }
 {
-    let rows = rows_links(conn)?;
-    read_all(alloc, rows.as_slice())
-}
-
-/// The rows of `links_from`.
-fn rows_links_from<S: Alter>(conn: &mut Connection<S>, source: u32) -> Result<Vec<Row>, StoreFault>
-    requires { conn.old.in_transaction ≡ false }
-    ensures idle { conn.new.in_transaction ≡ false }
-    ensures shown { Answers (λ c rows.
-        Lists by_link link_columns (filter (starts_at source) c.links) rows.items)
-        (state S.Store conn.old) (state S.Store conn.new) result }
-    ensures kept { Spares (state S.Store conn.old) (state S.Store conn.new) }
-    ensures of_table { ShowsRowsOf 6 three_shown (λ rows. rows.items)
-        (state S.Store conn.old) (state S.Store conn.new) result }
-    ensures fault { IfErr result (λ e. e ≡ StoreFault.Refused) }
-{
-    select(
+    select_all(
+        alloc,
         conn,
-        "SELECT source, kind, target FROM link WHERE source = ?1 ORDER BY source, kind, target",
-        &[number(source)],
+        "SELECT source, kind, target FROM link ORDER BY source, kind, target",
+        &[],
     )
 }
 
@@ -87,26 +51,11 @@ pub fn links_from<S: Alter>(
         (state S.Store conn.old) (state S.Store conn.new) result }
     ensures kept { Spares (state S.Store conn.old) (state S.Store conn.new) }
 {
-    let rows = rows_links_from(conn, source)?;
-    read_all(alloc, rows.as_slice())
-}
-
-/// The rows of `links_to`.
-fn rows_links_to<S: Alter>(conn: &mut Connection<S>, target: u32) -> Result<Vec<Row>, StoreFault>
-    requires { conn.old.in_transaction ≡ false }
-    ensures idle { conn.new.in_transaction ≡ false }
-    ensures shown { Answers (λ c rows.
-        Lists by_link link_columns (filter (ends_at target) c.links) rows.items)
-        (state S.Store conn.old) (state S.Store conn.new) result }
-    ensures kept { Spares (state S.Store conn.old) (state S.Store conn.new) }
-    ensures of_table { ShowsRowsOf 6 three_shown (λ rows. rows.items)
-        (state S.Store conn.old) (state S.Store conn.new) result }
-    ensures fault { IfErr result (λ e. e ≡ StoreFault.Refused) }
-{
-    select(
+    select_all(
+        alloc,
         conn,
-        "SELECT source, kind, target FROM link WHERE target = ?1 ORDER BY source, kind, target",
-        &[number(target)],
+        "SELECT source, kind, target FROM link WHERE source = ?1 ORDER BY source, kind, target",
+        &[number(source)],
     )
 }
 
@@ -126,6 +75,10 @@ pub fn links_to<S: Alter>(
         (state S.Store conn.old) (state S.Store conn.new) result }
     ensures kept { Spares (state S.Store conn.old) (state S.Store conn.new) }
 {
-    let rows = rows_links_to(conn, target)?;
-    read_all(alloc, rows.as_slice())
+    select_all(
+        alloc,
+        conn,
+        "SELECT source, kind, target FROM link WHERE target = ?1 ORDER BY source, kind, target",
+        &[number(target)],
+    )
 }

@@ -1,38 +1,17 @@
 //! The watchers of all requests.
-ghost use Rattle.std.specs.Prelude.{◌≡◌, false, IfErr};
+ghost use Rattle.std.specs.Prelude.{◌≡◌, false};
 ghost use Rattle.sqlite.specs.Held.{state};
-ghost use Rattle.store_tables.specs.Calls.{Answers, ShowsRowsOf, Spares};
+ghost use Rattle.store_tables.specs.Calls.{Answers, Spares};
 ghost use Rattle.store_tables.specs.Mismatches.{MismatchesInWatchers};
 ghost use Rattle.store_tables.specs.Orders.{by_watcher};
-ghost use Rattle.store_tables.specs.Picked.{AreOrdered, Lists};
-ghost use Rattle.store_tables.specs.Queries.{three_shown};
-ghost use Rattle.store_tables.specs.Spelling.{watcher_columns};
+ghost use Rattle.store_tables.specs.Picked.{AreOrdered};
 ghost use Rattle.store_tables.specs.declared.fault.StoreFault.{StoreFault};
 
 use crate::fault::StoreFault;
-use crate::query::{read_all, select};
+use crate::query::select_all;
 use desk_model::Watcher;
-use sqlite::{Alter, Connection, Row};
+use sqlite::{Alter, Connection};
 use std::alloc::Global;
-
-/// The rows of `watchers`.
-fn rows_watchers<S: Alter>(conn: &mut Connection<S>) -> Result<Vec<Row>, StoreFault>
-    requires { conn.old.in_transaction ≡ false }
-    ensures idle { conn.new.in_transaction ≡ false }
-    ensures shown { Answers (λ c rows.
-        Lists by_watcher watcher_columns c.watchers rows.items)
-        (state S.Store conn.old) (state S.Store conn.new) result }
-    ensures kept { Spares (state S.Store conn.old) (state S.Store conn.new) }
-    ensures of_table { ShowsRowsOf 4 three_shown (λ rows. rows.items)
-        (state S.Store conn.old) (state S.Store conn.new) result }
-    ensures fault { IfErr result (λ e. e ≡ StoreFault.Refused) }
-{
-    select(
-        conn,
-        "SELECT request, role, person FROM watcher ORDER BY request, role, person",
-        &[],
-    )
-}
 
 /// The watchers, by request, role and person. `Mismatch` where a row is no watcher,
 /// `Refused` where the store refuses it.
@@ -49,6 +28,10 @@ pub fn watchers<S: Alter>(
         (state S.Store conn.old) (state S.Store conn.new) result }
     ensures kept { Spares (state S.Store conn.old) (state S.Store conn.new) }
 {
-    let rows = rows_watchers(conn)?;
-    read_all(alloc, rows.as_slice())
+    select_all(
+        alloc,
+        conn,
+        "SELECT request, role, person FROM watcher ORDER BY request, role, person",
+        &[],
+    )
 }

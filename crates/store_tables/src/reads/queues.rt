@@ -1,40 +1,20 @@
 //! The queues, and the queue of a name.
 ghost use Rattle.std.specs.Prelude.{◌≡◌, ◌≢◌, IfErr, false, filter, option_to_list};
 ghost use Rattle.sqlite.specs.Held.{state};
-ghost use Rattle.store_tables.specs.Calls.{Answers, OnlyRefuses, ShowsRowsOf, Spares};
+ghost use Rattle.store_tables.specs.Calls.{Answers, OnlyRefuses, Spares};
 ghost use Rattle.store_tables.specs.Mismatches.{MismatchesInQueues};
 ghost use Rattle.store_tables.specs.Orders.{by_name};
-ghost use Rattle.store_tables.specs.Picked.{AreOrdered, Lists, Shows};
-ghost use Rattle.store_tables.specs.Queries.{queue_shown};
+ghost use Rattle.store_tables.specs.Picked.{AreOrdered};
 ghost use Rattle.store_tables.specs.Selection.{is_named};
-ghost use Rattle.store_tables.specs.Spelling.{queue_columns};
 ghost use Rattle.store_tables.specs.declared.fault.StoreFault.{StoreFault};
 
 use crate::columns::words;
 use crate::fault::StoreFault;
-use crate::query::{read_all, read_one, select};
+use crate::query::{select_all, select_one};
 use desk_model::QueueRow;
-use sqlite::{Alter, Connection, Row};
+use sqlite::{Alter, Connection};
 use std::alloc::Global;
 use text_core::Text;
-
-/// The rows of `queues`.
-fn rows_queues<S: Alter>(conn: &mut Connection<S>) -> Result<Vec<Row>, StoreFault>
-    requires { conn.old.in_transaction ≡ false }
-    ensures idle { conn.new.in_transaction ≡ false }
-    ensures shown { Answers (λ c rows. Lists by_name queue_columns c.queues rows.items)
-        (state S.Store conn.old) (state S.Store conn.new) result }
-    ensures kept { Spares (state S.Store conn.old) (state S.Store conn.new) }
-    ensures of_table { ShowsRowsOf 1 queue_shown (λ rows. rows.items)
-        (state S.Store conn.old) (state S.Store conn.new) result }
-    ensures fault { IfErr result (λ e. e ≡ StoreFault.Refused) }
-{
-    select(
-        conn,
-        "SELECT name, lifecycle, level FROM queue ORDER BY name",
-        &[],
-    )
-}
 
 /// The queues, by name. `Mismatch` where a row is no queue, `Refused` where the store refuses it.
 pub fn queues<S: Alter>(
@@ -49,26 +29,11 @@ pub fn queues<S: Alter>(
         (state S.Store conn.old) (state S.Store conn.new) result }
     ensures kept { Spares (state S.Store conn.old) (state S.Store conn.new) }
 {
-    let rows = rows_queues(conn)?;
-    read_all(alloc, rows.as_slice())
-}
-
-/// The rows of `queue_named`.
-fn rows_named<S: Alter>(conn: &mut Connection<S>, name: &Text) -> Result<Vec<Row>, StoreFault>
-    requires { conn.old.in_transaction ≡ false }
-    ensures idle { conn.new.in_transaction ≡ false }
-    ensures shown { Answers (λ c rows.
-        Shows queue_columns (filter (is_named name.now) c.queues) rows.items)
-        (state S.Store conn.old) (state S.Store conn.new) result }
-    ensures kept { Spares (state S.Store conn.old) (state S.Store conn.new) }
-    ensures of_table { ShowsRowsOf 1 queue_shown (λ rows. rows.items)
-        (state S.Store conn.old) (state S.Store conn.new) result }
-    ensures fault { IfErr result (λ e. e ≡ StoreFault.Refused) }
-{
-    select(
+    select_all(
+        alloc,
         conn,
-        "SELECT name, lifecycle, level FROM queue WHERE name = ?1",
-        &[words(name)],
+        "SELECT name, lifecycle, level FROM queue ORDER BY name",
+        &[],
     )
 }
 
@@ -89,6 +54,9 @@ pub fn queue_named<S: Alter>(
         (state S.Store conn.old) (state S.Store conn.new) result }
     ensures fault { IfErr result (λ e. e ≢ StoreFault.WrongVersion) }
 {
-    let rows = rows_named(conn, name)?;
-    read_one(rows.as_slice())
+    select_one(
+        conn,
+        "SELECT name, lifecycle, level FROM queue WHERE name = ?1",
+        &[words(name)],
+    )
 }

@@ -2,37 +2,16 @@
 ghost use Rattle.std.specs.Prelude.{◌≡◌, ◌≢◌, IfErr, false, filter, option_to_list};
 ghost use Rattle.sqlite.specs.Held.{state};
 ghost use Rattle.store_tables.specs.declared.fault.StoreFault.{StoreFault};
-ghost use Rattle.store_tables.specs.Queries.{last_id_terms, request_shown_terms};
+ghost use Rattle.store_tables.specs.Queries.{last_id_terms};
 ghost use Rattle.store_tables.specs.Calls.{Answers, OnlyRefuses, ShowsRowsOf, Spares};
-ghost use Rattle.store_tables.specs.Picked.{IsGreatest, Shows, ShowsGreatest};
+ghost use Rattle.store_tables.specs.Picked.{IsGreatest, ShowsGreatest};
 ghost use Rattle.store_tables.specs.Selection.{is_numbered, number_of};
-ghost use Rattle.store_tables.specs.Spelling.{request_shown};
 
 use crate::columns::number;
 use crate::fault::StoreFault;
-use crate::query::{read_number, read_one, select};
+use crate::query::{read_number, select, select_one};
 use desk_model::RequestRow;
 use sqlite::{Alter, Connection, Row};
-
-/// The rows of `request_numbered`.
-fn rows_numbered<S: Alter>(conn: &mut Connection<S>, id: u32) -> Result<Vec<Row>, StoreFault>
-    requires { conn.old.in_transaction ≡ false }
-    ensures idle { conn.new.in_transaction ≡ false }
-    ensures shown { Answers (λ c rows.
-        Shows request_shown (filter (is_numbered id) c.requests) rows.items)
-        (state S.Store conn.old) (state S.Store conn.new) result }
-    ensures kept { Spares (state S.Store conn.old) (state S.Store conn.new) }
-    ensures of_table { ShowsRowsOf 3 request_shown_terms (λ rows. rows.items)
-        (state S.Store conn.old) (state S.Store conn.new) result }
-    ensures fault { IfErr result (λ e. e ≡ StoreFault.Refused) }
-{
-    select(
-        conn,
-        "SELECT id, queue, subject, status, owner, level, created, opened, turn, since FROM \
-         request WHERE id = ?1",
-        &[number(id)],
-    )
-}
 
 /// The request with that number, or none. `Mismatch` where its row is no request, `Refused` where
 /// the store or memory refuses it, or there are two.
@@ -49,8 +28,12 @@ pub fn request_numbered<S: Alter>(
         (state S.Store conn.old) (state S.Store conn.new) result }
     ensures fault { IfErr result (λ e. e ≢ StoreFault.WrongVersion) }
 {
-    let rows = rows_numbered(conn, id)?;
-    read_one(rows.as_slice())
+    select_one(
+        conn,
+        "SELECT id, queue, subject, status, owner, level, created, opened, turn, since FROM \
+        request WHERE id = ?1",
+        &[number(id)],
+    )
 }
 
 /// The rows of `last_id`.

@@ -2,38 +2,17 @@
 ghost use Rattle.std.specs.Prelude.{◌≡◌, ◌≢◌, IfErr, false, filter};
 ghost use Rattle.sqlite.specs.Held.{state};
 ghost use Rattle.store_tables.specs.declared.fault.StoreFault.{StoreFault};
-ghost use Rattle.store_tables.specs.Queries.{three_shown};
-ghost use Rattle.store_tables.specs.Calls.{Answers, OnlyRefuses, ShowsRowsOf, Spares};
+ghost use Rattle.store_tables.specs.Calls.{Answers, OnlyRefuses, Spares};
 ghost use Rattle.store_tables.specs.Orders.{by_role};
-ghost use Rattle.store_tables.specs.Picked.{AreOrdered, Lists};
+ghost use Rattle.store_tables.specs.Picked.{AreOrdered};
 ghost use Rattle.store_tables.specs.Selection.{watches};
-ghost use Rattle.store_tables.specs.Spelling.{watcher_columns};
 
 use crate::columns::number;
 use crate::fault::StoreFault;
-use crate::query::{read_all, select};
+use crate::query::select_all;
 use desk_model::Watcher;
-use sqlite::{Alter, Connection, Row};
+use sqlite::{Alter, Connection};
 use std::alloc::Global;
-
-/// The rows of `watchers_of`.
-fn rows_watchers_of<S: Alter>(conn: &mut Connection<S>, id: u32) -> Result<Vec<Row>, StoreFault>
-    requires { conn.old.in_transaction ≡ false }
-    ensures idle { conn.new.in_transaction ≡ false }
-    ensures shown { Answers (λ c rows.
-        Lists by_role watcher_columns (filter (watches id) c.watchers) rows.items)
-        (state S.Store conn.old) (state S.Store conn.new) result }
-    ensures kept { Spares (state S.Store conn.old) (state S.Store conn.new) }
-    ensures of_table { ShowsRowsOf 4 three_shown (λ rows. rows.items)
-        (state S.Store conn.old) (state S.Store conn.new) result }
-    ensures fault { IfErr result (λ e. e ≡ StoreFault.Refused) }
-{
-    select(
-        conn,
-        "SELECT request, role, person FROM watcher WHERE request = ?1 ORDER BY role, person",
-        &[number(id)],
-    )
-}
 
 /// The watchers of a request, by role and person. `Mismatch` where a row is no watcher, `Refused`
 /// where the store or memory refuses it.
@@ -51,6 +30,10 @@ pub fn watchers_of<S: Alter>(
         (state S.Store conn.old) (state S.Store conn.new) result }
     ensures fault { IfErr result (λ e. e ≢ StoreFault.WrongVersion) }
 {
-    let rows = rows_watchers_of(conn, id)?;
-    read_all(alloc, rows.as_slice())
+    select_all(
+        alloc,
+        conn,
+        "SELECT request, role, person FROM watcher WHERE request = ?1 ORDER BY role, person",
+        &[number(id)],
+    )
 }

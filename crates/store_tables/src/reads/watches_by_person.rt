@@ -1,40 +1,19 @@
 //! The watchers who are one person.
-ghost use Rattle.std.specs.Prelude.{◌≡◌, false, filter, IfErr};
+ghost use Rattle.std.specs.Prelude.{◌≡◌, false, filter};
 ghost use Rattle.sqlite.specs.Held.{state};
-ghost use Rattle.store_tables.specs.Calls.{Answers, ShowsRowsOf, Spares};
+ghost use Rattle.store_tables.specs.Calls.{Answers, Spares};
 ghost use Rattle.store_tables.specs.Mismatches.{MismatchesInWatchers};
 ghost use Rattle.store_tables.specs.Orders.{by_standing};
-ghost use Rattle.store_tables.specs.Picked.{AreOrdered, Lists};
-ghost use Rattle.store_tables.specs.Queries.{three_shown};
+ghost use Rattle.store_tables.specs.Picked.{AreOrdered};
 ghost use Rattle.store_tables.specs.Selection.{is_of_person};
-ghost use Rattle.store_tables.specs.Spelling.{watcher_columns};
 ghost use Rattle.store_tables.specs.declared.fault.StoreFault.{StoreFault};
 
 use crate::columns::name;
 use crate::fault::StoreFault;
-use crate::query::{read_all, select};
+use crate::query::select_all;
 use desk_model::Watcher;
-use sqlite::{Alter, Connection, Row};
+use sqlite::{Alter, Connection};
 use std::alloc::Global;
-
-/// The rows of `watches_of`.
-fn rows_watches_of<S: Alter>(conn: &mut Connection<S>, person: &str) -> Result<Vec<Row>, StoreFault>
-    requires { conn.old.in_transaction ≡ false }
-    ensures idle { conn.new.in_transaction ≡ false }
-    ensures shown { Answers (λ c rows.
-        Lists by_standing watcher_columns (filter (is_of_person person.now) c.watchers) rows.items)
-        (state S.Store conn.old) (state S.Store conn.new) result }
-    ensures kept { Spares (state S.Store conn.old) (state S.Store conn.new) }
-    ensures of_table { ShowsRowsOf 4 three_shown (λ rows. rows.items)
-        (state S.Store conn.old) (state S.Store conn.new) result }
-    ensures fault { IfErr result (λ e. e ≡ StoreFault.Refused) }
-{
-    select(
-        conn,
-        "SELECT request, role, person FROM watcher WHERE person = ?1 ORDER BY request, role",
-        &[name(person)],
-    )
-}
 
 /// The watchers who are that person, by request and role. `Mismatch` where a row is no watcher,
 /// `Refused` where the store refuses it.
@@ -52,6 +31,10 @@ pub fn watches_of<S: Alter>(
         (state S.Store conn.old) (state S.Store conn.new) result }
     ensures kept { Spares (state S.Store conn.old) (state S.Store conn.new) }
 {
-    let rows = rows_watches_of(conn, person)?;
-    read_all(alloc, rows.as_slice())
+    select_all(
+        alloc,
+        conn,
+        "SELECT request, role, person FROM watcher WHERE person = ?1 ORDER BY request, role",
+        &[name(person)],
+    )
 }

@@ -1,14 +1,13 @@
 //! Entries that are added to a history.
 ghost use Rattle.std.specs.Prelude.{◌≡◌, fold, IfErr};
 ghost use Rattle.sqlite.specs.Held.{state};
-ghost use Rattle.store_tables.specs.Calls.{Makes, RestsOn, WasClean};
+ghost use Rattle.store_tables.specs.Calls.{Does};
 ghost use Rattle.store_tables.specs.Contents.{add_entry};
-ghost use Rattle.store_tables.specs.Stands.{KeepsBase};
 ghost use Rattle.store_tables.specs.declared.fault.StoreFault.{StoreFault};
 
 use crate::columns::{entry_kind, minute, number, words};
 use crate::fault::StoreFault;
-use crate::transaction::run;
+use crate::transaction::run_on_one;
 use desk_model::Entry;
 use sqlite::{Alter, Transaction};
 
@@ -18,14 +17,11 @@ pub(crate) fn put_entry<S: Alter>(
     row: &Entry,
 ) -> Result<(), StoreFault>
     ensures same_reference { tx.new.conn.ghost_name ≡ tx.old.conn.ghost_name }
-    ensures put { Makes (λ c. add_entry c row.now)
+    ensures put { Does (λ c. add_entry c row.now)
         (state S.Store tx.old.conn.now) (state S.Store tx.new.conn.now) result }
-    ensures base { RestsOn (state S.Store tx.old.conn.now) (state S.Store tx.new.conn.now) }
-    ensures keeps { KeepsBase (state S.Store tx.old.conn.now) (state S.Store tx.new.conn.now) }
-    ensures honest { WasClean (state S.Store tx.old.conn.now) (state S.Store tx.new.conn.now) }
     ensures fault { IfErr result (λ e. e ≡ StoreFault.Refused) }
 {
-    let _ = run(
+    run_on_one(
         tx,
         "INSERT INTO entry (request, number, moment, actor, kind, head, body) \
          VALUES (?1, ?2, ?3, ?4, ?5, ?6, ?7)",
@@ -38,17 +34,14 @@ pub(crate) fn put_entry<S: Alter>(
             words(&row.head),
             words(&row.body),
         ],
-    )?;
-    Ok(())
+    )
 }
 
 /// Adds entries. `Refused` where the store or memory refuses one.
 pub fn put_entries<S: Alter>(tx: &mut Transaction<'_, S>, rows: &[Entry]) -> Result<(), StoreFault>
     ensures same_reference { tx.new.conn.ghost_name ≡ tx.old.conn.ghost_name }
-    ensures put { Makes (λ c. fold add_entry c rows.now)
+    ensures put { Does (λ c. fold add_entry c rows.now)
         (state S.Store tx.old.conn.now) (state S.Store tx.new.conn.now) result }
-    ensures base { RestsOn (state S.Store tx.old.conn.now) (state S.Store tx.new.conn.now) }
-    ensures honest { WasClean (state S.Store tx.old.conn.now) (state S.Store tx.new.conn.now) }
     ensures fault { IfErr result (λ e. e ≡ StoreFault.Refused) }
 {
     for row in rows {

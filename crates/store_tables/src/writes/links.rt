@@ -1,43 +1,35 @@
 //! A link that is added, or taken out.
 ghost use Rattle.std.specs.Prelude.{◌≡◌, IfErr};
 ghost use Rattle.sqlite.specs.Held.{state};
-ghost use Rattle.store_tables.specs.Calls.{Makes, RestsOn, WasClean};
+ghost use Rattle.store_tables.specs.Calls.{Does};
 ghost use Rattle.store_tables.specs.Contents.{add_link, drop_link as without_link};
-ghost use Rattle.store_tables.specs.Stands.{KeepsBase};
 ghost use Rattle.store_tables.specs.declared.fault.StoreFault.{StoreFault};
 
 use crate::columns::{link_kind, number};
 use crate::fault::StoreFault;
-use crate::transaction::{run, run_on_one};
+use crate::transaction::run_on_one;
 use desk_model::LinkRow;
 use sqlite::{Alter, Transaction};
 
 /// Adds a link. `Refused` where the store or memory refuses it.
 pub fn put_link<S: Alter>(tx: &mut Transaction<'_, S>, row: &LinkRow) -> Result<(), StoreFault>
     ensures same_reference { tx.new.conn.ghost_name ≡ tx.old.conn.ghost_name }
-    ensures put { Makes (λ c. add_link c row.now)
+    ensures put { Does (λ c. add_link c row.now)
         (state S.Store tx.old.conn.now) (state S.Store tx.new.conn.now) result }
-    ensures base { RestsOn (state S.Store tx.old.conn.now) (state S.Store tx.new.conn.now) }
-    ensures keeps { KeepsBase (state S.Store tx.old.conn.now) (state S.Store tx.new.conn.now) }
-    ensures honest { WasClean (state S.Store tx.old.conn.now) (state S.Store tx.new.conn.now) }
     ensures fault { IfErr result (λ e. e ≡ StoreFault.Refused) }
 {
-    let _ = run(
+    run_on_one(
         tx,
         "INSERT INTO link (source, kind, target) VALUES (?1, ?2, ?3)",
         &[number(row.source), link_kind(row.kind), number(row.target)],
-    )?;
-    Ok(())
+    )
 }
 
 /// Takes a link out. `Refused` where there is none, or the store or memory refuses it.
 pub fn drop_link<S: Alter>(tx: &mut Transaction<'_, S>, row: &LinkRow) -> Result<(), StoreFault>
     ensures same_reference { tx.new.conn.ghost_name ≡ tx.old.conn.ghost_name }
-    ensures dropped { Makes (λ c. without_link c row.now)
+    ensures dropped { Does (λ c. without_link c row.now)
         (state S.Store tx.old.conn.now) (state S.Store tx.new.conn.now) result }
-    ensures base { RestsOn (state S.Store tx.old.conn.now) (state S.Store tx.new.conn.now) }
-    ensures keeps { KeepsBase (state S.Store tx.old.conn.now) (state S.Store tx.new.conn.now) }
-    ensures honest { WasClean (state S.Store tx.old.conn.now) (state S.Store tx.new.conn.now) }
     ensures fault { IfErr result (λ e. e ≡ StoreFault.Refused) }
 {
     run_on_one(

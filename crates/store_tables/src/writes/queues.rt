@@ -1,28 +1,24 @@
 //! A queue that is added.
 ghost use Rattle.std.specs.Prelude.{◌≡◌, IfErr};
 ghost use Rattle.sqlite.specs.Held.{state};
-ghost use Rattle.store_tables.specs.Calls.{Makes, RestsOn, WasClean};
+ghost use Rattle.store_tables.specs.Calls.{Does};
 ghost use Rattle.store_tables.specs.Contents.{add_queue};
-ghost use Rattle.store_tables.specs.Stands.{KeepsBase};
 ghost use Rattle.store_tables.specs.declared.fault.StoreFault.{StoreFault};
 
 use crate::columns::{nullable, words};
 use crate::fault::StoreFault;
-use crate::transaction::run;
+use crate::transaction::run_on_one;
 use desk_model::QueueRow;
 use sqlite::{Alter, Transaction};
 
 /// Adds a queue. `Refused` where the store or memory refuses it.
 pub fn put_queue<S: Alter>(tx: &mut Transaction<'_, S>, row: &QueueRow) -> Result<(), StoreFault>
     ensures same_reference { tx.new.conn.ghost_name ≡ tx.old.conn.ghost_name }
-    ensures put { Makes (λ c. add_queue c row.now)
+    ensures put { Does (λ c. add_queue c row.now)
         (state S.Store tx.old.conn.now) (state S.Store tx.new.conn.now) result }
-    ensures base { RestsOn (state S.Store tx.old.conn.now) (state S.Store tx.new.conn.now) }
-    ensures keeps { KeepsBase (state S.Store tx.old.conn.now) (state S.Store tx.new.conn.now) }
-    ensures honest { WasClean (state S.Store tx.old.conn.now) (state S.Store tx.new.conn.now) }
     ensures fault { IfErr result (λ e. e ≡ StoreFault.Refused) }
 {
-    let _ = run(
+    run_on_one(
         tx,
         "INSERT INTO queue (name, lifecycle, level) VALUES (?1, ?2, ?3)",
         &[
@@ -30,6 +26,5 @@ pub fn put_queue<S: Alter>(tx: &mut Transaction<'_, S>, row: &QueueRow) -> Resul
             words(&row.lifecycle),
             nullable(&row.level),
         ],
-    )?;
-    Ok(())
+    )
 }

@@ -2,16 +2,15 @@
 ghost use Rattle.std.specs.Prelude.{◌≡◌, IfErr};
 ghost use Rattle.sqlite.specs.Held.{state};
 ghost use Rattle.sqlite.specs.Values.{bound};
-ghost use Rattle.store_tables.specs.Calls.{Makes, RestsOn, WasClean};
+ghost use Rattle.store_tables.specs.Calls.{Does};
 ghost use Rattle.store_tables.specs.Contents.{add_request, set_request as with_row};
 ghost use Rattle.store_tables.specs.Reading.{IsRequestRow};
 ghost use Rattle.store_tables.specs.Spelling.{request_shown};
-ghost use Rattle.store_tables.specs.Stands.{KeepsBase};
 ghost use Rattle.store_tables.specs.declared.fault.StoreFault.{StoreFault};
 
 use crate::columns::{minute, nullable, number, turn, words};
 use crate::fault::StoreFault;
-use crate::transaction::{run, run_on_one};
+use crate::transaction::run_on_one;
 use desk_model::RequestRow;
 use sqlite::types::ValueRef;
 use sqlite::{Alter, Transaction};
@@ -41,20 +40,16 @@ pub fn put_request<S: Alter>(
     row: &RequestRow,
 ) -> Result<(), StoreFault>
     ensures same_reference { tx.new.conn.ghost_name ≡ tx.old.conn.ghost_name }
-    ensures put { Makes (λ c. add_request c row.now)
+    ensures put { Does (λ c. add_request c row.now)
         (state S.Store tx.old.conn.now) (state S.Store tx.new.conn.now) result }
-    ensures base { RestsOn (state S.Store tx.old.conn.now) (state S.Store tx.new.conn.now) }
-    ensures keeps { KeepsBase (state S.Store tx.old.conn.now) (state S.Store tx.new.conn.now) }
-    ensures honest { WasClean (state S.Store tx.old.conn.now) (state S.Store tx.new.conn.now) }
     ensures fault { IfErr result (λ e. e ≡ StoreFault.Refused) }
 {
-    let _ = run(
+    run_on_one(
         tx,
         "INSERT INTO request (id, queue, subject, status, owner, level, created, opened, turn, \
          since) VALUES (?1, ?2, ?3, ?4, ?5, ?6, ?7, ?8, ?9, ?10)",
         &shown(row),
-    )?;
-    Ok(())
+    )
 }
 
 /// Sets a request's row in the place of the one with its number. `Refused` where there is none, or
@@ -64,11 +59,8 @@ pub fn set_request<S: Alter>(
     row: &RequestRow,
 ) -> Result<(), StoreFault>
     ensures same_reference { tx.new.conn.ghost_name ≡ tx.old.conn.ghost_name }
-    ensures set { Makes (λ c. with_row c row.now)
+    ensures set { Does (λ c. with_row c row.now)
         (state S.Store tx.old.conn.now) (state S.Store tx.new.conn.now) result }
-    ensures base { RestsOn (state S.Store tx.old.conn.now) (state S.Store tx.new.conn.now) }
-    ensures keeps { KeepsBase (state S.Store tx.old.conn.now) (state S.Store tx.new.conn.now) }
-    ensures honest { WasClean (state S.Store tx.old.conn.now) (state S.Store tx.new.conn.now) }
     ensures fault { IfErr result (λ e. e ≡ StoreFault.Refused) }
 {
     run_on_one(

@@ -1,14 +1,13 @@
 //! A person that is put into a role on a request, or taken out of it.
 ghost use Rattle.std.specs.Prelude.{◌≡◌, fold, IfErr};
 ghost use Rattle.sqlite.specs.Held.{state};
-ghost use Rattle.store_tables.specs.Calls.{Makes, RestsOn, WasClean};
+ghost use Rattle.store_tables.specs.Calls.{Does};
 ghost use Rattle.store_tables.specs.Contents.{add_watcher, drop_watcher as without_watcher};
-ghost use Rattle.store_tables.specs.Stands.{KeepsBase};
 ghost use Rattle.store_tables.specs.declared.fault.StoreFault.{StoreFault};
 
 use crate::columns::{number, role, words};
 use crate::fault::StoreFault;
-use crate::transaction::{run, run_on_one};
+use crate::transaction::run_on_one;
 use desk_model::Watcher;
 use sqlite::{Alter, Transaction};
 
@@ -18,19 +17,15 @@ pub(crate) fn put_watcher<S: Alter>(
     row: &Watcher,
 ) -> Result<(), StoreFault>
     ensures same_reference { tx.new.conn.ghost_name ≡ tx.old.conn.ghost_name }
-    ensures put { Makes (λ c. add_watcher c row.now)
+    ensures put { Does (λ c. add_watcher c row.now)
         (state S.Store tx.old.conn.now) (state S.Store tx.new.conn.now) result }
-    ensures base { RestsOn (state S.Store tx.old.conn.now) (state S.Store tx.new.conn.now) }
-    ensures keeps { KeepsBase (state S.Store tx.old.conn.now) (state S.Store tx.new.conn.now) }
-    ensures honest { WasClean (state S.Store tx.old.conn.now) (state S.Store tx.new.conn.now) }
     ensures fault { IfErr result (λ e. e ≡ StoreFault.Refused) }
 {
-    let _ = run(
+    run_on_one(
         tx,
         "INSERT INTO watcher (request, role, person) VALUES (?1, ?2, ?3)",
         &[number(row.id), role(row.role), words(&row.person)],
-    )?;
-    Ok(())
+    )
 }
 
 /// Takes a watcher out. `Refused` where there is none.
@@ -39,11 +34,8 @@ pub(crate) fn drop_watcher<S: Alter>(
     row: &Watcher,
 ) -> Result<(), StoreFault>
     ensures same_reference { tx.new.conn.ghost_name ≡ tx.old.conn.ghost_name }
-    ensures dropped { Makes (λ c. without_watcher c row.now)
+    ensures dropped { Does (λ c. without_watcher c row.now)
         (state S.Store tx.old.conn.now) (state S.Store tx.new.conn.now) result }
-    ensures base { RestsOn (state S.Store tx.old.conn.now) (state S.Store tx.new.conn.now) }
-    ensures keeps { KeepsBase (state S.Store tx.old.conn.now) (state S.Store tx.new.conn.now) }
-    ensures honest { WasClean (state S.Store tx.old.conn.now) (state S.Store tx.new.conn.now) }
     ensures fault { IfErr result (λ e. e ≡ StoreFault.Refused) }
 {
     run_on_one(
@@ -59,10 +51,8 @@ pub fn put_watchers<S: Alter>(
     rows: &[Watcher],
 ) -> Result<(), StoreFault>
     ensures same_reference { tx.new.conn.ghost_name ≡ tx.old.conn.ghost_name }
-    ensures put { Makes (λ c. fold add_watcher c rows.now)
+    ensures put { Does (λ c. fold add_watcher c rows.now)
         (state S.Store tx.old.conn.now) (state S.Store tx.new.conn.now) result }
-    ensures base { RestsOn (state S.Store tx.old.conn.now) (state S.Store tx.new.conn.now) }
-    ensures honest { WasClean (state S.Store tx.old.conn.now) (state S.Store tx.new.conn.now) }
     ensures fault { IfErr result (λ e. e ≡ StoreFault.Refused) }
 {
     for row in rows {
@@ -77,10 +67,8 @@ pub fn drop_watchers<S: Alter>(
     rows: &[Watcher],
 ) -> Result<(), StoreFault>
     ensures same_reference { tx.new.conn.ghost_name ≡ tx.old.conn.ghost_name }
-    ensures dropped { Makes (λ c. fold without_watcher c rows.now)
+    ensures dropped { Does (λ c. fold without_watcher c rows.now)
         (state S.Store tx.old.conn.now) (state S.Store tx.new.conn.now) result }
-    ensures base { RestsOn (state S.Store tx.old.conn.now) (state S.Store tx.new.conn.now) }
-    ensures honest { WasClean (state S.Store tx.old.conn.now) (state S.Store tx.new.conn.now) }
     ensures fault { IfErr result (λ e. e ≡ StoreFault.Refused) }
 {
     for row in rows {

@@ -12,7 +12,7 @@ returns-clause-done g c d stand =
     let last = written c.args.change.now d in
     let same : c.finish.new.tx.0 ≡ c.conn-2-1.given.0 = search rules in
     subst (λ h. OnOk c.finish.result (Stand last (state g.S.Store h))) same
-    (c.finish.ensures.done last d (c.in_ok-write_change.ensures.made d d begun))
+    (c.finish.ensures.done last d (c.in_ok-write_change.ensures.made.makes d d begun))
 
 pub returns-clause-undone : goal.returns-clause-undone
 returns-clause-undone g c d stand =
@@ -21,4 +21,4 @@ returns-clause-undone g c d stand =
     let last = written c.args.change.now d in
     let same : c.finish.new.tx.0 ≡ c.conn-2-1.given.0 = search rules in
     subst (λ h. OnErr c.finish.result (Stand d (state g.S.Store h))) same
-    (c.finish.ensures.undone last d (c.in_ok-write_change.ensures.made d d begun))
+    (c.finish.ensures.undone last d (c.in_ok-write_change.ensures.made.makes d d begun))

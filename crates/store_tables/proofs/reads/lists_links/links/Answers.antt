@@ -1,24 +1,26 @@
+use Rattle.std.proofs.Common.{[]}
 use Rattle.sqlite.specs.Held.{state}
 use Rattle.store_tables.specs.Orders.{by_link}
-use Rattle.store_tables.specs.Queries.{three_shown}
-use Rattle.store_tables.specs.Reading.{IsLinkRow, ReadsLink}
-use Rattle.store_tables.specs.Spelling.{link_columns}
-use Rattle.store_tables.proofs.BackLemmas.{link_back}
-use Rattle.store_tables.proofs.ReadLemmas.{all_read}
-use Rattle.store_tables.proofs.ReadingLemmas.{fails_in, if_ok}
+use Rattle.store_tables.proofs.EachQuery.{all_links}
+use Rattle.store_tables.proofs.EachTable.{link_table}
+use Rattle.store_tables.proofs.ReadingLemmas.{every}
+use Rattle.store_tables.proofs.RowLemmas.{fails, reads_in_order}
+use Rattle.store_tables.proofs.TestLemmas.{link_order_is}
 use Rattle.store_tables.proofs.reads.lists_links.links.Goals as goal
+
+pub select_all-requires-clause-plain : goal.select_all-requires-clause-plain
+select_all-requires-clause-plain g c = all_links.means.plain
 
 pub returns-clause-listed : goal.returns-clause-listed
 returns-clause-listed g c d stand clean =
-    if_ok c.read_all.result (λ xs. all_read link_columns ReadsLink link_back by_link
-    d.links c.in_ok-rows.rows.items xs.items
-    (c.in_ok-rows.ensures.shown d stand clean))
-    (rw c.as_slice.ensures.value at c.read_all.ensures.ok)
+    rw (every d.links) at
+    (reads_in_order link_table all_links (λ xs. xs.items) (state g.S.Store c.args.conn.now) (state
+    g.S.Store c.select_all.new.conn)
+    c.select_all.ensures.kept.clean c.select_all.result c.select_all.ensures.read d stand clean
+    by_link (link_order_is [] []))
 
 pub returns-clause-mismatch : goal.returns-clause-mismatch
 returns-clause-mismatch g c =
-    let old = state g.S.Store c.args.conn.now in
-    let new = state g.S.Store c.rows_links.new.conn in
-    fails_in 6 three_shown IsLinkRow old new c.in_ok-rows.rows.items c.read_all.result
-    c.in_ok-rows.ensures.of_table (rw c.as_slice.ensures.value at c.read_all.ensures.mismatch)
-    c.read_all.ensures.fault
+    fails link_table all_links (λ xs. xs.items) (state g.S.Store c.args.conn.now) (state g.S.Store
+    c.select_all.new.conn)
+    c.select_all.ensures.kept.clean c.select_all.result c.select_all.ensures.read

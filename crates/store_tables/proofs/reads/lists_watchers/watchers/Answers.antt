@@ -1,24 +1,25 @@
 use Rattle.sqlite.specs.Held.{state}
 use Rattle.store_tables.specs.Orders.{by_watcher}
-use Rattle.store_tables.specs.Queries.{three_shown}
-use Rattle.store_tables.specs.Reading.{IsWatcherRow, ReadsWatcher}
-use Rattle.store_tables.specs.Spelling.{watcher_columns}
-use Rattle.store_tables.proofs.BackLemmas.{watcher_back}
-use Rattle.store_tables.proofs.ReadLemmas.{all_read}
-use Rattle.store_tables.proofs.ReadingLemmas.{fails_in, if_ok}
+use Rattle.store_tables.proofs.EachQuery.{all_watchers}
+use Rattle.store_tables.proofs.EachTable.{watcher_table}
+use Rattle.store_tables.proofs.ReadingLemmas.{every}
+use Rattle.store_tables.proofs.RowLemmas.{fails, reads_in_order}
+use Rattle.store_tables.proofs.TestLemmas.{watcher_order_is}
 use Rattle.store_tables.proofs.reads.lists_watchers.watchers.Goals as goal
+
+pub select_all-requires-clause-plain : goal.select_all-requires-clause-plain
+select_all-requires-clause-plain g c = all_watchers.means.plain
 
 pub returns-clause-listed : goal.returns-clause-listed
 returns-clause-listed g c d stand clean =
-    if_ok c.read_all.result (λ xs. all_read watcher_columns ReadsWatcher watcher_back by_watcher
-    d.watchers c.in_ok-rows.rows.items xs.items
-    (c.in_ok-rows.ensures.shown d stand clean))
-    (rw c.as_slice.ensures.value at c.read_all.ensures.ok)
+    rw (every d.watchers) at
+    (reads_in_order watcher_table all_watchers (λ xs. xs.items) (state g.S.Store c.args.conn.now)
+    (state g.S.Store c.select_all.new.conn)
+    c.select_all.ensures.kept.clean c.select_all.result c.select_all.ensures.read d stand clean
+    by_watcher watcher_order_is)
 
 pub returns-clause-mismatch : goal.returns-clause-mismatch
 returns-clause-mismatch g c =
-    let old = state g.S.Store c.args.conn.now in
-    let new = state g.S.Store c.rows_watchers.new.conn in
-    fails_in 4 three_shown IsWatcherRow old new c.in_ok-rows.rows.items c.read_all.result
-    c.in_ok-rows.ensures.of_table (rw c.as_slice.ensures.value at c.read_all.ensures.mismatch)
-    c.read_all.ensures.fault
+    fails watcher_table all_watchers (λ xs. xs.items) (state g.S.Store c.args.conn.now) (state
+    g.S.Store c.select_all.new.conn)
+    c.select_all.ensures.kept.clean c.select_all.result c.select_all.ensures.read

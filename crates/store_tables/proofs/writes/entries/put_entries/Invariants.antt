@@ -1,18 +1,13 @@
-use Rattle.std.proofs.Common.{◌≡◌, take, fold}
+use Rattle.std.proofs.Common.{◌≡◌, Ok, fold, take}
+use Rattle.std.specs.Prelude.{⊤}
 use Rattle.sqlite.specs.Held.{state}
-use Rattle.store_tables.specs.Calls.{RestsOn, WasClean}
-use Rattle.store_tables.specs.Contents.{Contents, add_entry}
-use Rattle.store_tables.specs.Stands.{Within}
+use Rattle.store_tables.specs.Calls.{Does}
+use Rattle.store_tables.specs.Contents.{add_entry}
 use Rattle.store_tables.proofs.writes.entries.put_entries.Given as goal
 
 abbrev pub invariant-loop-row : goal.invariant-loop-row
-invariant-loop-row g l =
-    let old = state g.S.Store l.fn.tx.conn.now in
-    let new = state g.S.Store l.tx.conn.now in
-    record {
-      same : l.tx.conn.ghost_name ≡ l.fn.tx.conn.ghost_name;
-      made : (now was : Contents) → Within now was old
-          → Within (fold add_entry now (take l.row-index l.rows)) was new;
-      base : RestsOn old new;
-      honest : WasClean old new;
-    }
+invariant-loop-row g l = record {
+  same : l.tx.conn.ghost_name ≡ l.fn.tx.conn.ghost_name;
+  done : Does {X = ⊤} (λ c. fold add_entry c (take l.row-index l.rows)) (state g.S.Store l.fn.tx.conn.now)
+      (state g.S.Store l.tx.conn.now) (Ok tt);
+}

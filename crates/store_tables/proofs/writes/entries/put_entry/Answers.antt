@@ -3,17 +3,16 @@ use Rattle.sqlite.specs.Held.{state}
 use Rattle.store_tables.specs.Contents.{add_entry}
 use Rattle.store_tables.specs.Queries.{add_entry_text}
 use Rattle.store_tables.specs.Spelling.{entry_columns}
-use Rattle.store_tables.proofs.StandLemmas.{steps}
+use Rattle.store_tables.proofs.StepLemmas.{does_one}
 use Rattle.store_tables.proofs.TableLemmas.{adds_entry}
 use Rattle.store_tables.proofs.writes.entries.put_entry.Goals as goal
 
 pub returns-clause-put : goal.returns-clause-put
-returns-clause-put g c now was =
+returns-clause-put g c =
     let row = c.args.row.now in
-    let count = c.in_ok-run.field-0 in
     let old = state g.S.Store c.args.tx.now.conn.now in
-    let new = state g.S.Store c.run.new.tx.conn.now in
-    steps add_entry_text (entry_columns row) old new count now (add_entry now row) was
+    let new = state g.S.Store c.run_on_one.new.tx.conn.now in
+    does_one c.run_on_one.result add_entry_text (entry_columns row) old new (λ now. add_entry now row)
     (rw (
       c.number.ensures.bound,
       c.number-2.ensures.bound,
@@ -22,8 +21,9 @@ returns-clause-put g c now was =
       c.entry_kind.ensures,
       c.words-2.ensures.bound,
       c.words-3.ensures.bound,
-    ) at c.in_ok-run.ensures.ran)
-    c.run.ensures.honest (adds_entry now row old new count (record {
+    ) at c.run_on_one.ensures.ran)
+    c.run_on_one.ensures.honest c.run_on_one.ensures.keeps
+    (λ now. adds_entry now row old new 1 (record {
       wide = omega arith;
       id = c.number.ensures.value;
       number = c.number-2.ensures.value;

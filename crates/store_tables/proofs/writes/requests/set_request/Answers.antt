@@ -2,16 +2,16 @@ use Rattle.sqlite.specs.Held.{state}
 use Rattle.store_tables.specs.Contents.{set_request}
 use Rattle.store_tables.specs.Queries.{set_request_text}
 use Rattle.store_tables.specs.Spelling.{request_shown}
-use Rattle.store_tables.proofs.StepLemmas.{if_done}
+use Rattle.store_tables.proofs.StepLemmas.{does_one}
 use Rattle.store_tables.proofs.TableLemmas.{sets_request}
 use Rattle.store_tables.proofs.writes.requests.set_request.Goals as goal
 
 pub returns-clause-set : goal.returns-clause-set
-returns-clause-set g c now was =
+returns-clause-set g c =
     let row = c.args.row.now in
     let old = state g.S.Store c.args.tx.now.conn.now in
     let new = state g.S.Store c.run_on_one.new.tx.conn.now in
-    if_done c.run_on_one.result set_request_text (request_shown row) old new now
-    (set_request now row) was
+    does_one c.run_on_one.result set_request_text (request_shown row) old new (λ now. set_request now row)
     (rw c.shown.ensures.bound at c.run_on_one.ensures.ran)
-    c.run_on_one.ensures.honest (sets_request now row old new c.shown.ensures.value)
+    c.run_on_one.ensures.honest c.run_on_one.ensures.keeps
+    (λ now. sets_request now row old new c.shown.ensures.value)

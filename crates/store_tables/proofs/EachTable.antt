@@ -1,0 +1,198 @@
+-- The tables of a desk, each told once: where it lies, how it keeps its values, and what is read.
+use Rattle.std.proofs.Common.{◌≡◌, ◌∷◌, [], ℕ, ℤ, List, IsPermutation, arith, map, refl, subst}
+use Rattle.std.proofs.Common.{sym}
+use Rattle.std.proofs.lemmas.List.Sorted.{IsPermutation-map}
+use Rattle.sqlite.specs.Order.{Row, column}
+use Rattle.sqlite_rules.specs.Lists.{Has}
+use Rattle.sqlite_rules.proofs.ProbeLemmas.{has_mapped}
+use Rattle.sqlite_trees.proofs.ListLemmas.{map-map}
+use Rattle.desk_model.specs.declared.rows.Entry.{Entry}
+use Rattle.desk_model.specs.declared.rows.LinkRow.{LinkRow}
+use Rattle.desk_model.specs.declared.rows.QueueRow.{QueueRow}
+use Rattle.desk_model.specs.declared.rows.RequestRow.{RequestRow}
+use Rattle.desk_model.specs.declared.rows.Watcher.{Watcher}
+use Rattle.store_tables.specs.Contents.{Contents}
+use Rattle.store_tables.specs.Kept.{Holds, filed, itself, numbered_as, value_of}
+use Rattle.store_tables.specs.Queries.{actor_shown, entry_shown_terms, queue_shown}
+use Rattle.store_tables.specs.Queries.{last_id_terms, last_number_terms, request_shown_terms}
+use Rattle.store_tables.specs.Queries.{three_shown}
+use Rattle.store_tables.specs.Reading.{IsEntryRow, IsLinkRow, IsNumberRow, IsQueueRow}
+use Rattle.store_tables.specs.Reading.{IsRequestRow}
+use Rattle.store_tables.specs.Reading.{IsTextRow, IsWatcherRow, ReadsEntry, ReadsLink, ReadsQueue}
+use Rattle.store_tables.specs.Reading.{ReadsRequest, ReadsText, ReadsWatcher}
+use Rattle.store_tables.specs.Selection.{actor_of, number_of, place_of}
+use Rattle.store_tables.specs.Spelling.{count_value, entry_columns, link_columns}
+use Rattle.store_tables.specs.Spelling.{queue_columns}
+use Rattle.store_tables.specs.Spelling.{request_columns, request_shown, text_shown}
+use Rattle.store_tables.specs.Spelling.{watcher_columns}
+use Rattle.store_tables.proofs.BackLemmas.{entry_back, link_back, queue_back, request_back}
+use Rattle.store_tables.proofs.BackLemmas.{same_count, text_back, watcher_back}
+use Rattle.store_tables.proofs.RowLemmas.{TableOf}
+use Rattle.store_tables.proofs.ValueLemmas.{values_of}
+
+abbrev pub queue_table : TableOf (ℤ × QueueRow) QueueRow
+queue_table = record {
+  tree = 1;
+  terms = queue_shown;
+  row = filed queue_columns;
+  value = value_of;
+  view = queue_columns;
+  list = λ c. c.queues;
+  Reads = ReadsQueue;
+  IsValue = IsQueueRow;
+  back = queue_back;
+  shown = λ params k. refl;
+  same = λ params r. refl;
+  kept = λ c db t. t.queues;
+  valid = λ c db t. (values_of c t.values).queues;
+}
+
+abbrev pub request_table : TableOf RequestRow RequestRow
+request_table = record {
+  tree = 3;
+  terms = request_shown_terms;
+  row = numbered_as (λ (x : RequestRow). x.id) request_columns;
+  value = itself;
+  view = request_shown;
+  list = λ c. c.requests;
+  Reads = ReadsRequest;
+  IsValue = IsRequestRow;
+  back = request_back;
+  shown = λ params k. refl;
+  same = λ params r. refl;
+  kept = λ c db t. t.requests;
+  valid = λ c db t. (values_of c t.values).requests;
+}
+
+abbrev pub watcher_table : TableOf (ℤ × Watcher) Watcher
+watcher_table = record {
+  tree = 4;
+  terms = three_shown;
+  row = filed watcher_columns;
+  value = value_of;
+  view = watcher_columns;
+  list = λ c. c.watchers;
+  Reads = ReadsWatcher;
+  IsValue = IsWatcherRow;
+  back = watcher_back;
+  shown = λ params k. refl;
+  same = λ params r. refl;
+  kept = λ c db t. t.watchers;
+  valid = λ c db t. (values_of c t.values).watchers;
+}
+
+abbrev pub link_table : TableOf (ℤ × LinkRow) LinkRow
+link_table = record {
+  tree = 6;
+  terms = three_shown;
+  row = filed link_columns;
+  value = value_of;
+  view = link_columns;
+  list = λ c. c.links;
+  Reads = ReadsLink;
+  IsValue = IsLinkRow;
+  back = link_back;
+  shown = λ params k. refl;
+  same = λ params r. refl;
+  kept = λ c db t. t.links;
+  valid = λ c db t. (values_of c t.values).links;
+}
+
+abbrev pub entry_table : TableOf (ℤ × Entry) Entry
+entry_table = record {
+  tree = 8;
+  terms = entry_shown_terms;
+  row = filed entry_columns;
+  value = value_of;
+  view = entry_columns;
+  list = λ c. c.entries;
+  Reads = ReadsEntry;
+  IsValue = IsEntryRow;
+  back = entry_back;
+  shown = λ params k. refl;
+  same = λ params r. refl;
+  kept = λ c db t. t.entries;
+  valid = λ c db t. (values_of c t.values).entries;
+}
+
+-- what one column shows of each value
+pub viewed : {K X Y : Type 0} (row : K → Row) (value : K → X) (view : X → Y) (xs : List X)
+    (rows : List Row) → Holds row value xs rows
+    → Holds row (λ k. view (value k)) (map view xs) rows
+viewed row value view xs rows h = record {
+  kept = h.kept;
+  spelt = h.spelt;
+  table = h.table;
+  same = subst (λ l. IsPermutation l (map view xs)) (map-map view value h.kept)
+      (IsPermutation-map view _ _ h.same);
+}
+
+-- those who made the entries: one column of that table
+abbrev pub actor_table : TableOf (ℤ × Entry) (List ℕ)
+actor_table = record {
+  tree = 8;
+  terms = actor_shown;
+  row = filed entry_columns;
+  value = λ k. actor_of (value_of k);
+  view = text_shown;
+  list = λ c. map actor_of c.entries;
+  Reads = ReadsText;
+  IsValue = IsTextRow;
+  back = text_back;
+  shown = λ params k. refl;
+  same = λ params r. refl;
+  kept = λ c db t. viewed (filed entry_columns) value_of actor_of c.entries (db.trees 8) t.entries;
+  valid = λ c db t x has.
+      let e = has_mapped actor_of c.entries x has in
+      subst (λ y. IsTextRow (text_shown y)) (sym e.2) (record {
+        wide = omega arith;
+        text = ((values_of c t.values).entries e.0 e.1).actor;
+      });
+}
+
+-- the numbers of requests: one column of that table
+abbrev pub id_table : TableOf RequestRow ℕ
+id_table = record {
+  tree = 3;
+  terms = last_id_terms;
+  row = numbered_as (λ (x : RequestRow). x.id) request_columns;
+  value = λ k. number_of (itself k);
+  view = λ n. count_value n ∷ [];
+  list = λ c. map number_of c.requests;
+  Reads = λ row n. column row 0 ≡ count_value n;
+  IsValue = IsNumberRow;
+  back = λ a b h. sym (same_count h);
+  shown = λ params k. refl;
+  same = λ params r. refl;
+  kept = λ c db t. viewed (numbered_as (λ (x : RequestRow). x.id) request_columns) itself number_of
+      c.requests (db.trees 3) t.requests;
+  valid = λ c db t n has.
+      let r = has_mapped number_of c.requests n has in
+      subst (λ m. IsNumberRow (count_value m ∷ [])) (sym r.2) (record {
+        wide = omega arith;
+        number = ((values_of c t.values).requests r.0 r.1).id;
+      });
+}
+
+-- the numbers of entries: one column of theirs
+abbrev pub place_table : TableOf (ℤ × Entry) ℕ
+place_table = record {
+  tree = 8;
+  terms = last_number_terms;
+  row = filed entry_columns;
+  value = λ k. place_of (value_of k);
+  view = λ n. count_value n ∷ [];
+  list = λ c. map place_of c.entries;
+  Reads = λ row n. column row 0 ≡ count_value n;
+  IsValue = IsNumberRow;
+  back = λ a b h. sym (same_count h);
+  shown = λ params k. refl;
+  same = λ params r. refl;
+  kept = λ c db t. viewed (filed entry_columns) value_of place_of c.entries (db.trees 8) t.entries;
+  valid = λ c db t n has.
+      let e = has_mapped place_of c.entries n has in
+      subst (λ m. IsNumberRow (count_value m ∷ [])) (sym e.2) (record {
+        wide = omega arith;
+        number = ((values_of c t.values).entries e.0 e.1).number;
+      });
+}

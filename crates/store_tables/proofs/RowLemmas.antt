@@ -1,0 +1,175 @@
+-- What a query reads, of the table that it reads. A table is told once, by `TableOf`, and what is
+-- shown here is so of each.
+use Rattle.std.proofs.Common.{◌≡◌, ◌≢◌, ℕ, Bool, List, [], ◌∷◌, filter, map, IsPermutation}
+use Rattle.std.proofs.Common.{Option, Ok, Err, Result, IfOk, IfErr, Ordering}
+use Rattle.std.proofs.Common.{ap, refl, subst, sym, ◌∙◌}
+use Rattle.std.specs.List.{AllZip}
+use Rattle.std.specs.Option.{option_to_list}
+use Rattle.sqlite.specs.Effect.{Database}
+use Rattle.sqlite.specs.Order.{Row}
+use Rattle.sqlite.specs.Query.{output, output_cmp}
+use Rattle.sqlite.specs.State.{State, HasCleanDisk, Shown}
+use Rattle.sqlite.specs.Term.{Term}
+use Rattle.sqlite_rules.specs.Lists.{Has}
+use Rattle.sqlite_rules.proofs.ProbeLemmas.{has_mapped, mapped_has}
+use Rattle.store_tables.specs.Calls.{FailsIn, OnlyRefuses, ReadsRows, WasClean}
+use Rattle.store_tables.specs.Contents.{Contents}
+use Rattle.store_tables.specs.Kept.{Holds}
+use Rattle.store_tables.specs.Picked.{AreOrdered, passes, shows, Shows}
+use Rattle.store_tables.specs.Queries.{reads}
+use Rattle.store_tables.specs.Stands.{Stand, Tables}
+use Rattle.store_tables.specs.declared.fault.StoreFault.{StoreFault}
+use Rattle.store_tables.specs.declared.fault.StoreFault.TheVariants.{Mismatch, Refused}
+use Rattle.store_tables.specs.declared.fault.StoreFault.TheVariants.{WrongVersion}
+use Rattle.store_tables.proofs.LastLemmas.{has_permuted}
+use Rattle.store_tables.proofs.Meaning.{Selects}
+use Rattle.store_tables.proofs.PickedLemmas.{picked_by}
+use Rattle.store_tables.proofs.ReadLemmas.{all_read, all_shown, lists_values, one_read, shows_values}
+use Rattle.store_tables.proofs.ReadingLemmas.{if_ok, table_rows}
+use Rattle.store_tables.proofs.StandLemmas.{shown_tables}
+
+-- What was read of the rows of a query.
+pub rows_read : {X V : Type 0} (Reads : Row → V → Type 0) (IsValue : Row → Type 0)
+    (values : X → List V) (sql : List ℕ) (params : Row) (old new : State) (rows : List Row)
+    → (HasCleanDisk new → Shown sql params old new rows) → (result : Result X StoreFault)
+    → IfOk result (λ x. AllZip Reads rows (values x))
+    → IfErr result (λ e. e ≡ Mismatch → (row : Row) × Has rows row × ¬ IsValue row)
+    → IfErr result (λ e. e ≢ WrongVersion)
+    → ReadsRows Reads IsValue values sql params old new result
+rows_read Reads IsValue values sql params old new rows shown (Ok x) read mismatch known = record {
+  read = λ clean. (rows, shown clean, read);
+  mismatch = λ clean. tt;
+  known = tt;
+}
+rows_read Reads IsValue values sql params old new rows shown (Err e) read mismatch known = record {
+  read = λ clean. tt;
+  mismatch = λ clean wrong. let bad = mismatch wrong in
+      (rows, shown clean, bad.0, bad.1, bad.2);
+  known = known;
+}
+
+-- A table: how it keeps its values in rows, which columns show one, and what is read of them.
+pub record TableOf (K V : Type 0) : Type 1 where
+  pub tree : ℕ
+  pub terms : List Term
+  pub row : K → Row
+  pub value : K → V
+  pub view : V → Row
+  pub list : Contents → List V
+  pub Reads : Row → V → Type 0
+  pub IsValue : Row → Type 0
+  pub back : (a b : V) → Reads (view a) b → b ≡ a
+  pub shown : (params : Row) (k : K) → shows terms params (row k) ≡ view (value k)
+  pub same : (params r : Row) → shows terms params r ≡ shows terms [] r
+  pub kept : (c : Contents) (db : Database) → Tables c db → Holds row value (list c) (db.trees tree)
+  pub valid : (c : Contents) (db : Database) → Tables c db → (x : V) → Has (list c) x
+      → IsValue (view x)
+
+-- A query on a table: its text, what is bound, which rows pass, and their order.
+pub record QueryOn {K V : Type 0} (t : TableOf K V) : Type 0 where
+  pub text : List ℕ
+  pub params : Row
+  pub test : List Term
+  pub order : List Term
+  pub names : List (List ℕ)
+  pub means : Selects text (reads t.tree test t.terms order) names
+  pub passing : V → Bool
+  pub tests : (k : K) → passes test params (t.row k) ≡ passing (t.value k)
+
+refused : (e : StoreFault) → e ≢ WrongVersion → e ≢ Mismatch → e ≡ Refused
+refused WrongVersion version mismatch = absurd (version refl)
+refused Mismatch version mismatch = absurd (mismatch refl)
+refused Refused version mismatch = refl
+
+-- over tables that hold values there is no bad row, so a read is refused or answered
+pub refuses : {K V X : Type 0} (t : TableOf K V) (old new : State) → WasClean old new
+    → (r : Result X StoreFault) → FailsIn t.tree t.terms t.IsValue old new r → OnlyRefuses old new r
+refuses t old new clean (Ok x) fails c stand now = tt
+refuses t old new clean (Err e) fails c stand now =
+    refused e fails.0 (λ wrong.
+    let bad = fails.1 wrong (λ d o. (stand d o).0.schema) now in
+    bad.1.2 (each (stand (clean now) bad.0).0 bad.1.0 bad.1.1))
+  where
+    each : Tables c old.now → (r : Row) → Has (old.now.trees t.tree) r
+        → t.IsValue (shows t.terms [] r)
+    each tables r has =
+        let held = t.kept c old.now tables in
+        let k = has_mapped t.row held.kept r (subst (λ rs. Has rs r) held.spelt has) in
+        subst t.IsValue (sym (ap (shows t.terms []) k.2 ∙ t.shown [] k.0))
+        (t.valid c old.now tables (t.value k.0) (has_permuted (map t.value held.kept) (t.list c)
+        (t.value k.0) held.same (mapped_has t.value held.kept k.0 k.1)))
+
+-- what the rows show is what passes of the table
+passing_shown : {K V : Type 0} (t : TableOf K V) (q : QueryOn t) (old new : State)
+    → (HasCleanDisk new → HasCleanDisk old) → (c : Contents) → Stand c old → HasCleanDisk new
+    → (rows : List Row) → Shown q.text q.params old new rows
+    → Shows t.view (filter q.passing (t.list c)) rows
+passing_shown t q old new clean c stand now rows h =
+    let tables = shown_tables c q.text q.params old new rows clean stand now h in
+    shows_values t.row t.value t.view t.tree q.test t.terms q.order q.params (t.list c)
+    (old.now.trees t.tree) rows q.passing q.tests (t.shown q.params) (t.kept c old.now tables)
+    (picked_by q.text q.params old new tables.schema t.tree q.test t.terms q.order q.means rows h)
+
+module _ {K V X : Type 0} (t : TableOf K V) (q : QueryOn t) (values : X → List V) (old new : State)
+    (clean : HasCleanDisk new → HasCleanDisk old)
+  where
+    -- a mismatch comes of a row of the table
+    pub fails : (r : Result X StoreFault)
+        → ReadsRows t.Reads t.IsValue values q.text q.params old new r
+        → FailsIn t.tree t.terms t.IsValue old new r
+    fails (Ok x) h = tt
+    fails (Err e) h = (
+      h.known,
+      λ wrong has now.
+          let it = h.mismatch now wrong in
+          let at = table_rows q.text q.params t.tree q.test t.terms q.order q.means old new clean has
+          now it.0 it.1 it.2 it.3 in (
+            at.0,
+            (
+              at.1,
+              at.2,
+              λ value. it.4 (subst t.IsValue (sym (at.3 ∙ t.same q.params at.1))
+                  value),
+            ),
+          ),
+    )
+
+    pub only_refuses : (r : Result X StoreFault)
+        → ReadsRows t.Reads t.IsValue values q.text q.params old new r → OnlyRefuses old new r
+    only_refuses r h = refuses t old new clean r (fails r h)
+
+    module _ (result : Result X StoreFault)
+        (read : ReadsRows t.Reads t.IsValue values q.text q.params old new result) (c : Contents)
+        (stand : Stand c old) (now : HasCleanDisk new)
+      where
+        -- a list in any order is what passes of the table
+        pub reads_passing : IfOk result (λ x. IsPermutation (filter q.passing (t.list c)) (values x))
+        reads_passing = if_ok result
+            (λ x it. all_shown t.view t.Reads t.back (filter q.passing (t.list c)) it.0 (values x)
+            (passing_shown t q old new clean c stand now it.0 it.1) it.2) (read.read now)
+
+        -- a list in an order is
+        pub reads_in_order : (cmp : V → V → Ordering) → ((a b : K)
+            → output_cmp (reads t.tree q.test t.terms q.order)
+            (output (reads t.tree q.test t.terms q.order) (q.params ∷ t.row a ∷ []))
+            (output (reads t.tree q.test t.terms q.order) (q.params ∷ t.row b ∷ []))
+            ≡ cmp (t.value a) (t.value b))
+            → IfOk result (λ x. AreOrdered cmp (filter q.passing (t.list c)) (values x))
+        reads_in_order cmp orders = if_ok result
+            (λ x it. all_read t.view t.Reads t.back cmp (filter q.passing (t.list c)) it.0 (values x)
+            (let tables = shown_tables c q.text q.params old new it.0 clean stand now it.1 in
+            lists_values t.row t.value t.view t.tree q.test t.terms q.order q.params (t.list c)
+            (old.now.trees t.tree) it.0 q.passing q.tests (t.shown q.params)
+            (t.kept c old.now tables)
+            (picked_by q.text q.params old new tables.schema t.tree q.test t.terms q.order q.means it.0
+            it.1) cmp orders) it.2) (read.read now)
+
+-- the one value, or none, is
+pub reads_one : {K V : Type 0} (t : TableOf K V) (q : QueryOn t) (old new : State)
+    → (HasCleanDisk new → HasCleanDisk old) → (result : Result (Option V) StoreFault)
+    → ReadsRows t.Reads t.IsValue option_to_list q.text q.params old new result → (c : Contents)
+    → Stand c old → HasCleanDisk new
+    → IfOk result (λ x. option_to_list x ≡ filter q.passing (t.list c))
+reads_one t q old new clean result read c stand now = if_ok result
+    (λ x it. one_read t.view t.Reads t.back (filter q.passing (t.list c)) it.0 x
+    (passing_shown t q old new clean c stand now it.0 it.1) it.2) (read.read now)
