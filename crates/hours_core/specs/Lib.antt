@@ -7,6 +7,7 @@ pub mod Least
 pub mod Limit
 pub mod Moment
 pub mod Probes
+pub mod Rules
 pub mod Runs
 pub mod Schedule
 pub mod Spans

@@ -57,7 +57,7 @@ fn is_year(year: i64) -> bool
     2000 <= year && year <= 2099
 }
 
-fn are_years(years: (i64, i64)) -> bool
+pub(crate) fn are_years(years: (i64, i64)) -> bool
     ensures { result ≡ spec.are_years years }
 {
     is_year(years.0) && is_year(years.1) && years.0 <= years.1

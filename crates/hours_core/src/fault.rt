@@ -27,6 +27,9 @@ pub enum HoursFault {
     /// Memory was refused.
     #[error("out of memory")]
     NoMemory = 6,
+    /// A text is no rule of local time.
+    #[error("a rule of local time can't be read; it is written like CET-1CEST,M3.5.0,M10.5.0/3")]
+    BadRule = 7,
 }
 
 impl HoursFault {
@@ -48,6 +51,7 @@ impl HoursFault {
             HoursFault::BadYears => "BadYears",
             HoursFault::TooManyChanges => "TooManyChanges",
             HoursFault::NoMemory => "NoMemory",
+            HoursFault::BadRule => "BadRule",
         }
     }
 }

@@ -11,6 +11,7 @@ mod fault;
 mod holidays;
 mod level;
 mod moment;
+mod rules;
 mod schedule;
 mod search;
 mod spans;

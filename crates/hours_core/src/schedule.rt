@@ -88,7 +88,7 @@ impl Schedule {
         requires before { HoldBefore self.now from spans.old }
         ensures { OnOk result (HoldBefore self.now to spans.new) }
     {
-        let offset = self.zone.offset_at(from);
+        let offset = self.zone.ahead_at(from);
         let mut point = from;
         while point < to {
             let local = shifted(point, offset);

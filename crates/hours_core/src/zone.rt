@@ -5,12 +5,12 @@ ghost use Rattle.hours_core.specs.Moment.{end_minute};
 ghost use Rattle.hours_core.specs.Zone as spec;
 
 use crate::fault::HoursFault;
-use crate::moment::END;
+use crate::moment::{END, Minute};
 use std::alloc::Global;
 use std::marker::Model;
 
 /// The most changes of a zone.
-const MAX_CHANGES: usize = 400;
+pub(crate) const MAX_CHANGES: usize = 400;
 
 /// The offset of local time, which contracts see as its first value and its changes.
 #[derive(Debug, Drop)]
@@ -62,8 +62,26 @@ impl Zone {
         Ok(Zone { first, changes })
     }
 
-    /// The minutes by which local time is before or after UTC at the minute.
-    pub(crate) fn offset_at(&self, m: u32) -> i64
+    /// The zone of these parts, where they are known to be a zone's.
+    pub(crate) fn of_parts(first: i64, changes: Vec<(i64, i64)>) -> Zone
+        requires { (spec.is_offset first
+            && list_all (λ change. spec.is_offset change.1) changes.items) ≡ true }
+        ensures first { result.first ≡ first }
+        ensures changes { result.changes ≡ changes.items }
+    {
+        Zone { first, changes }
+    }
+
+    /// The minutes by which local time is ahead of UTC at the minute, or behind where they are
+    /// negative. It takes no memory.
+    pub fn offset_at(&self, minute: Minute) -> i32
+        ensures { result ≡ spec.offset_at self.now.first self.now.changes minute }
+    {
+        self.ahead_at(minute.get()) as i32
+    }
+
+    /// The minutes by which local time is ahead of UTC at the minute.
+    pub(crate) fn ahead_at(&self, m: u32) -> i64
         ensures offset { result ≡ spec.offset_at self.now.first self.now.changes m }
         ensures range { (neg_ℤ (pos 1439) ≤ℤ result) × (result ≤ℤ pos 1439) }
     {
@@ -135,7 +153,7 @@ fn offset_after(offset: i64, change: (i64, i64), m: u32) -> i64
 }
 
 /// Whether the offset is less than a day.
-fn is_offset(minutes: i64) -> bool
+pub(crate) fn is_offset(minutes: i64) -> bool
     ensures { result ≡ spec.is_offset minutes }
 {
     -1439 <= minutes && minutes <= 1439

@@ -1,7 +1,7 @@
 //! Opening hours: each line is a call, and is written again with its answer.
 //!
-//! The lines `zone`, `week`, `holidays` and `years` give the parts of a calendar, and `build` makes
-//! it, which the calls after it are asked of. An empty line and one that begins with `#` are no
+//! The lines `zone`, `rule`, `week`, `holidays` and `years` give the parts of a calendar, where a
+//! rule stands in place of a zone, and `build` makes it, which the calls after it are asked of. An empty line and one that begins with `#` are no
 //! calls. A line that isn't understood ends all.
 
 mod asked;

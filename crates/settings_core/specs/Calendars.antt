@@ -1,28 +1,39 @@
 -- The calendars of a settings text.
 use Rattle.std.specs.Prelude.{◌≡◌, ℕ, List, [], ◌∷◌, ◌++◌, Option, Some}
+use Rattle.std.specs.Prelude.{Result, Ok, Err}
 use Rattle.std.specs.Prelude.{None, is_some, pos, codes, if◌then◌else◌}
 use Rattle.std.specs.Option.{option_or}
 use Rattle.std.specs.Result.{result_err}
 use Rattle.toml.specs.Data.{Members, no_members, member, get_member}
 use Rattle.hours_core.specs.Calendar.{HasHours}
-use Rattle.hours_core.specs.Hours.{Hours, calendar_fault}
-use Rattle.hours_core.specs.Zone.{zone_of}
+use Rattle.hours_core.specs.Hours.{Hours, calendar_fault, hours_of as hours_of_parts}
+use Rattle.hours_core.specs.Zone.{Offsets}
 use Rattle.hours_core.specs.declared.calendar.Calendar.{Calendar}
 use Rattle.hours_core.specs.declared.fault.HoursFault.{HoursFault}
-use Rattle.settings_parts.specs.CalendarParts.{hours_of}
+use Rattle.settings_parts.specs.CalendarParts.{StatedHours, hours_of}
 use Rattle.settings_parts.specs.Values.{members_of, table_at}
 use Rattle.settings_core.specs.declared.named.Named.{Named}
+
+-- the zone, or UTC where there is none
+abbrev pub offsets_of : Result Offsets HoursFault → Offsets
+offsets_of (Ok zone) = zone
+offsets_of (Err fault) = record { first = pos 0; changes = [] }
+
+-- the opening hours that were stated, where they have no fault
+abbrev pub hours_by : StatedHours → Hours
+hours_by stated =
+    hours_of_parts (offsets_of stated.zone) stated.week stated.holidays stated.years
 
 -- the opening hours of a table
 abbrev pub hours_in : Members → List (Named Hours)
 hours_in no_members = []
-hours_in (member k d ms) = record { name = k; value = hours_of (members_of d) } ∷ hours_in ms
+hours_in (member k d ms) =
+    record { name = k; value = hours_by (hours_of (members_of d)) } ∷ hours_in ms
 
 -- the least fault of opening hours, that of the zone before that of the calendar
-abbrev pub hours_fault : Hours → Option HoursFault
-hours_fault hours =
-    option_or (result_err (zone_of hours.zone.first hours.zone.changes))
-    (calendar_fault hours.week hours.years)
+abbrev pub hours_fault : StatedHours → Option HoursFault
+hours_fault stated =
+    option_or (result_err stated.zone) (calendar_fault stated.week stated.years)
 
 -- the fault of the first calendar, by byte order of names, that has one
 abbrev pub fault_in : Members → Option HoursFault
@@ -34,14 +45,17 @@ abbrev pub working_day : List (ℕ × ℕ)
 working_day = (540, 1080) ∷ []
 
 -- Monday to Friday in UTC, from 2000 to 2099
-abbrev pub standard_hours : Hours
-standard_hours =
+abbrev pub standard_stated : StatedHours
+standard_stated =
     record {
-      zone = record { first = pos 0; changes = [] };
+      zone = Ok (record { first = pos 0; changes = [] });
       week = [] ∷ working_day ∷ working_day ∷ working_day ∷ working_day ∷ working_day ∷ [] ∷ [];
       holidays = [];
       years = (pos 2000, pos 2099);
     }
+
+abbrev pub standard_hours : Hours
+standard_hours = hours_by standard_stated
 
 abbrev pub standard_calendar : Named Hours
 standard_calendar = record { name = codes "default"; value = standard_hours }
@@ -75,9 +89,9 @@ HaveHours [] [] = Unit {0}
 HaveHours (c ∷ cs) (h ∷ hs) = (c.name ≡ h.name) × HasHours c.value h.value × HaveHours cs hs
 HaveHours _ _ = ⊥
 
--- a calendar of these opening hours, which have no fault
-abbrev pub IsCalendarOf : Hours → Calendar → Type 0
-IsCalendarOf hours calendar = (hours_fault hours ≡ None) × HasHours calendar hours
+-- a calendar of the opening hours that were stated, which have no fault
+abbrev pub IsCalendarOf : StatedHours → Calendar → Type 0
+IsCalendarOf stated calendar = (hours_fault stated ≡ None) × HasHours calendar (hours_by stated)
 
 -- the calendars of a text, none of which has a fault
 abbrev pub AreCalendarsOf : Members → List (Named Calendar) → Type 0

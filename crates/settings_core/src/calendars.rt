@@ -1,6 +1,6 @@
 //! The calendars of a settings text.
 
-ghost use Rattle.std.specs.Prelude.{◌≡◌, ◌≢◌, None, Some, IfOk, IfErr};
+ghost use Rattle.std.specs.Prelude.{◌≡◌, ◌≢◌, None, Some, IfOk, IfErr, Ok, Err};
 ghost use Rattle.toml.specs.View.{view, table_view};
 ghost use Rattle.hours_core.specs.Calendar.{HasHours};
 ghost use Rattle.hours_core.specs.declared.fault.HoursFault.TheVariants.{NoMemory};
@@ -87,9 +87,20 @@ fn calendar_from(alloc: Global, parts: &CalendarParts) -> Result<Calendar, Hours
     ensures err { IfErr result (λ e. e ≢ NoMemory
         → spec.hours_fault (hours_stated parts.now) ≡ Some e) }
 {
-    let zone = Zone::build(alloc, parts.offset, parts.changes.as_slice())?;
+    let zone = zone_of(alloc, parts)?;
     let holidays = parts.holidays.as_slice();
     Calendar::build(alloc, zone, &parts.week, holidays, parts.years)
+}
+
+/// The zone of the rule, or of the offset and the changes where there is no rule.
+fn zone_of(alloc: Global, parts: &CalendarParts) -> Result<Zone, HoursFault>
+    ensures ok { IfOk result (λ z. (hours_stated parts.now).zone ≡ Ok z) }
+    ensures err { IfErr result (λ e. e ≢ NoMemory → (hours_stated parts.now).zone ≡ Err e) }
+{
+    match &parts.rule {
+        Some(rule) => Zone::by_rule(alloc, rule.as_str(), parts.years),
+        None => Zone::build(alloc, parts.offset, parts.changes.as_slice()),
+    }
 }
 
 /// Monday to Friday from 09:00 to 18:00 UTC, from 2000 to 2099. The only fault is `NoMemory`.
@@ -101,11 +112,12 @@ fn standard_calendar(alloc: Global) -> Result<Calendar, HoursFault>
 }
 
 fn standard_parts(alloc: Global) -> Result<CalendarParts, AllocError>
-    ensures { IfOk result (λ p. hours_stated p ≡ spec.standard_hours) }
+    ensures { IfOk result (λ p. hours_stated p ≡ spec.standard_stated) }
 {
     Ok(CalendarParts {
         offset: 0,
         changes: Vec::new(alloc),
+        rule: None,
         week: [
             Intervals::from(Vec::new(alloc)),
             working_day(alloc)?,

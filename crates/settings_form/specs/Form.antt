@@ -76,6 +76,7 @@ keys Calendar =
     may (codes "years") (One Pair) ∷
     may (codes "offset") (One Integer) ∷
     may (codes "changes") (Many Pair) ∷
+    may (codes "rule") (One (Text Any)) ∷
     may (codes "holidays") (Many (Text Day)) ∷
     may (codes "sun") (Many (Text Interval)) ∷
     may (codes "mon") (Many (Text Interval)) ∷

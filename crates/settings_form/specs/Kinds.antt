@@ -1,9 +1,11 @@
 -- Whether a value is of a kind, no table inside it looked into.
 use Rattle.std.specs.Prelude.{ℕ, Bool, true, false, not, ◌&&◌, ◌||◌}
 use Rattle.std.specs.Prelude.{List, [], ◌∷◌, Option, Some, None, is_none}
+use Rattle.std.specs.Prelude.{codes, is_some}
 use Rattle.toml.specs.Data.{Data, string, integer, boolean, array, table, Items}
 use Rattle.toml.specs.Data.{no_items, item, Members, no_members, member, get_member}
 use Rattle.settings_form.specs.declared.form.Place.{Place}
+use Rattle.settings_form.specs.declared.form.Place.TheVariants.{Calendar}
 use Rattle.settings_form.specs.declared.form.TextForm.{TextForm}
 use Rattle.settings_form.specs.declared.form.Item.{Item}
 use Rattle.settings_form.specs.declared.form.Item.TheVariants.{Integer, Boolean, Text, Pair, Table}
@@ -110,3 +112,14 @@ lacks_key p ms = lacks_of (keys p) ms
 abbrev pub has_wrong_kind : Place → Members → Bool
 has_wrong_kind p no_members = false
 has_wrong_kind p (member k d ms) = not (is_right_at p k d) || has_wrong_kind p ms
+
+abbrev pub has_at_key : List ℕ → Members → Bool
+has_at_key k ms = is_some (get_member k ms)
+
+-- it has a key beside one that it doesn't stand beside: a calendar states its zone by a rule, or by
+-- an offset and changes
+abbrev pub has_clash : Place → Members → Bool
+has_clash Calendar ms =
+    has_at_key (codes "rule") ms
+    && (has_at_key (codes "offset") ms || has_at_key (codes "changes") ms)
+has_clash _ ms = false

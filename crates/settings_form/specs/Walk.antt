@@ -9,13 +9,13 @@ use Rattle.settings_form.specs.declared.form.Kind.TheVariants.{One, Many}
 use Rattle.settings_form.specs.declared.fault.FormFault.{FormFault}
 use Rattle.settings_form.specs.declared.fault.FormFault.TheVariants.{UnknownKey, Missing, WrongKind}
 use Rattle.settings_form.specs.Form.{kind_of}
-use Rattle.settings_form.specs.Kinds.{has_unknown_key, lacks_key, has_wrong_kind}
+use Rattle.settings_form.specs.Kinds.{has_unknown_key, lacks_key, has_wrong_kind, has_clash}
 
 -- a table of the place has the fault itself
 abbrev pub has_itself : FormFault → Place → Members → Bool
 has_itself UnknownKey p ms = has_unknown_key p ms
 has_itself Missing p ms = lacks_key p ms
-has_itself WrongKind p ms = has_wrong_kind p ms
+has_itself WrongKind p ms = has_wrong_kind p ms || has_clash p ms
 
 abbrev mutual
   -- a table inside it has the fault

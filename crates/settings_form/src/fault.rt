@@ -14,8 +14,9 @@ pub enum FormFault {
     /// A required key is absent, or a limit has neither unit.
     #[error("a table lacks a key that it must have, or a limit lacks both units")]
     Missing = 3,
-    /// A value, or a key that is free, is of another kind or form.
-    #[error("a value, or a key of one's own, is of another kind or form than is allowed there")]
+    /// A value, or a key that is free, is of another kind or form, or a calendar has a rule beside
+    /// an offset or changes.
+    #[error("a value or a key is of another kind than is allowed there, or stands beside a rule")]
     WrongKind = 4,
 }
 

@@ -98,10 +98,11 @@ static LIFECYCLE: [Row; 7] = [
     Row("rights", MAY, One(Table(Place::RightNames))),
 ];
 
-static CALENDAR: [Row; 11] = [
+static CALENDAR: [Row; 12] = [
     Row("years", MAY, One(Pair)),
     Row("offset", MAY, One(Integer)),
     Row("changes", MAY, Many(Pair)),
+    Row("rule", MAY, One(Text(TextForm::Any))),
     Row("holidays", MAY, Many(Text(TextForm::Day))),
     Row("sun", MAY, Many(Text(TextForm::Interval))),
     Row("mon", MAY, Many(Text(TextForm::Interval))),

@@ -198,3 +198,22 @@ pub fn has_wrong_kind(place: Place, table: &Table) -> bool
     }
     false
 }
+
+fn has_at_key(table: &Table, key: &str) -> bool
+    ensures { result ≡ kinds.has_at_key key.now (table_view table.now) }
+{
+    value_at(table, key).is_some()
+}
+
+/// Whether a table of the place has a key beside one that it doesn't stand beside.
+pub fn has_clash(place: Place, table: &Table) -> bool
+    ensures { result ≡ kinds.has_clash place (table_view table.now) }
+{
+    match place {
+        Place::Calendar => {
+            has_at_key(table, "rule")
+                && (has_at_key(table, "offset") || has_at_key(table, "changes"))
+        }
+        _ => false,
+    }
+}

@@ -4,7 +4,7 @@ ghost use Rattle.settings_form.specs.Walk as walk;
 
 use crate::fault::FormFault;
 use crate::form::{Item, Kind, Place, kind_of};
-use crate::kinds::{has_unknown_key, has_wrong_kind, lacks_key};
+use crate::kinds::{has_clash, has_unknown_key, has_wrong_kind, lacks_key};
 use toml::value::Array;
 use toml::{Table, Value};
 
@@ -15,7 +15,7 @@ fn has_itself(fault: FormFault, place: Place, table: &Table) -> bool
     match fault {
         FormFault::UnknownKey => has_unknown_key(place, table),
         FormFault::Missing => lacks_key(place, table),
-        FormFault::WrongKind => has_wrong_kind(place, table),
+        FormFault::WrongKind => has_wrong_kind(place, table) || has_clash(place, table),
     }
 }
 

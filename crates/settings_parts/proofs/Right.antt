@@ -5,7 +5,7 @@ use Rattle.std.proofs.lemmas.Bool.{and_parts, or_parts}
 use Rattle.toml.specs.Data.{Data, array}
 use Rattle.toml.specs.Data.{table, Items, no_items, item, Members, no_members, member}
 use Rattle.settings_form.specs.Form.{keys, kind_of}
-use Rattle.settings_form.specs.Kinds.{has_kind_if_known, has_unknown_key}
+use Rattle.settings_form.specs.Kinds.{has_kind_if_known, has_unknown_key, has_clash}
 use Rattle.settings_form.specs.Kinds.{has_wrong_kind, is_key, is_right_at}
 use Rattle.settings_form.specs.Walk.{has_at, has_fault, has_in_items}
 use Rattle.settings_form.specs.Walk.{has_inside, has_itself, form_fault}
@@ -53,7 +53,11 @@ mutual
       → ((f : FormFault) → has_at f (Some kind) d ≡ false) → IsRightInside kind d
   at (One (Table p)) (table ms) calm =
       let parts = λ (f : FormFault). or_parts (has_itself f p ms) (has_inside f p ms) (calm f) in
-      ((parts Missing).0, inside p ms (parts UnknownKey).0 (parts WrongKind).0 (λ f. (parts f).1))
+      let wrong = or_parts (has_wrong_kind p ms) (has_clash p ms) (parts WrongKind).0 in (
+        (parts Missing).0,
+        wrong.1,
+        inside p ms (parts UnknownKey).0 wrong.0 (λ f. (parts f).1),
+      )
   at (Many (Table p)) (array ds) calm = items p ds calm
   at _ _ calm = tt
 
@@ -91,4 +95,5 @@ pub right : (ms : Members) → form_fault ms ≡ None → IsRight ms
 right ms h =
     let parts =
     λ (f : FormFault). or_parts (has_itself f Top ms) (has_inside f Top ms) (calm_of ms h f) in
-    ((parts Missing).0, inside Top ms (parts UnknownKey).0 (parts WrongKind).0 (λ f. (parts f).1))
+    let wrong = or_parts (has_wrong_kind Top ms) (has_clash Top ms) (parts WrongKind).0 in
+    ((parts Missing).0, inside Top ms (parts UnknownKey).0 wrong.0 (λ f. (parts f).1))

@@ -5,7 +5,7 @@ use Rattle.std.specs.Option.{option_map_or}
 use Rattle.toml.specs.Data.{Data, string, integer, boolean, array, table, Items, no_items}
 use Rattle.toml.specs.Data.{item, Members, no_members, member, as_str, as_integer, as_bool}
 use Rattle.settings_form.specs.Form.{keys, kind_of}
-use Rattle.settings_form.specs.Kinds.{has_kind, is_key, lacks_key}
+use Rattle.settings_form.specs.Kinds.{has_kind, is_key, lacks_key, has_clash}
 use Rattle.settings_form.specs.declared.form.Place.{Place}
 use Rattle.settings_form.specs.declared.form.Place.TheVariants.{Top}
 use Rattle.settings_form.specs.declared.form.Item.TheVariants.{Integer, Boolean, Text, Pair, Table}
@@ -20,14 +20,16 @@ pub record IsRightAt (p : Place) (k : List ℕ) (d : Data) (kind : Kind) : Type 
   pub value : has_kind kind d ≡ true
 
 abbrev mutual
-  -- each member of the table is right, and so are the tables inside
+  -- each member of the table is right, and so are the tables inside, in which no key stands beside
+  -- one that it doesn't stand beside
   pub AreRight : Place → Members → Type 0
   AreRight p no_members = Unit {0}
   AreRight p (member k d ms) =
       ((kind : Kind) × IsRightAt p k d kind × IsRightInside kind d) × AreRight p ms
 
   pub IsRightInside : Kind → Data → Type 0
-  IsRightInside (One (Table p)) (table ms) = (lacks_key p ms ≡ false) × AreRight p ms
+  IsRightInside (One (Table p)) (table ms) =
+      (lacks_key p ms ≡ false) × (has_clash p ms ≡ false) × AreRight p ms
   IsRightInside (Many (Table p)) (array ds) = AreRightItems p ds
   IsRightInside _ _ = Unit {0}
 

@@ -2,11 +2,10 @@
 
 ghost use Rattle.std.specs.Prelude.{◌≡◌, IfOk, map};
 ghost use Rattle.toml.specs.View.{table_view};
-ghost use Rattle.hours_core.specs.Hours.{Hours};
 ghost use Rattle.settings_form.specs.TextForms.{day_of as day_in, interval_of as interval_in};
 ghost use Rattle.settings_parts.specs.CalendarParts as spec;
 
-use crate::values::{integer_at, pair_at, pairs_at, texts_at};
+use crate::values::{integer_at, pair_at, pairs_at, text_at, texts_at};
 use hours_core::Intervals;
 use settings_form::text_forms::{day_of, interval_of};
 use std::alloc::{AllocError, Global};
@@ -20,6 +19,8 @@ pub struct CalendarParts {
     pub offset: i64,
     /// The minute of each change, and the offset from there on.
     pub changes: Vec<(i64, i64)>,
+    /// The rule of the zone, which then stands in place of the offset and the changes.
+    pub rule: Option<Text>,
     /// The intervals of each day of the week, from Sunday on.
     pub week: [Intervals; 7],
     /// The days that are holidays, counted from 1970-01-01.
@@ -86,6 +87,7 @@ pub fn calendar_of(alloc: Global, table: &Table) -> Result<CalendarParts, AllocE
     Ok(CalendarParts {
         offset: integer_at(table, "offset").unwrap_or(0),
         changes: pairs_at(alloc, table, "changes")?,
+        rule: text_at(alloc, table, "rule")?,
         week: week_of(alloc, table)?,
         holidays: holidays_at(alloc, table)?,
         years: pair_at(table, "years").unwrap_or(YEARS),

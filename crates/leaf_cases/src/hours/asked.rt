@@ -1,5 +1,5 @@
-use crate::failure::{Failure, count, halves, moment};
-use hours_core::{Calendar, Level, Limit, Minute, Probes, date_of, minute_text};
+use crate::failure::{Failure, count, halves, moment, number};
+use hours_core::{Calendar, Level, Limit, Minute, Probes, Zone, date_of, minute_text};
 use text_core::Text;
 
 /// Writes the line and the answer of the call that it spells.
@@ -14,6 +14,7 @@ pub fn answer(
         "in_order" => in_order(rt, line, words),
         "date" => show_date(rt, line, moment(words)?),
         "text" => show_text(rt, line, moment(words)?),
+        "by_rule" => by_rule(rt, line, words),
         _ => match calendar {
             Some(calendar) => asked(rt, calendar, line, call, words),
             None => Err(Failure::BadLine),
@@ -76,6 +77,33 @@ fn show_text(rt: &impl Print, line: &str, minute: Minute) -> Result<(), Failure>
         "{line}: {}",
         str::from_utf8(text.as_slice()).unwrap_or("?")
     )?;
+    Ok(())
+}
+
+/// Writes the offsets of a rule's zone at minutes, or its fault.
+fn by_rule(rt: &(impl AllocGlobal + Print), line: &str, words: &str) -> Result<(), Failure> {
+    let (first, rest) = halves(words, ' ')?;
+    let (last, rest) = halves(rest, ' ')?;
+    let (rule, minutes) = rest.split_once(' ').unwrap_or((rest, ""));
+    let years = (number(first)?, number(last)?);
+    match Zone::by_rule(rt.alloc(), rule, years) {
+        Ok(zone) => show_offsets(rt, line, &zone, minutes),
+        Err(fault) => {
+            println!(rt; "{line}: {} {}", fault.number(), fault.name())?;
+            Ok(())
+        }
+    }
+}
+
+/// Writes the zone's offset at each minute.
+fn show_offsets(rt: &impl Print, line: &str, zone: &Zone, minutes: &str) -> Result<(), Failure> {
+    print!(rt; "{line}:")?;
+    for minute in minutes.split(' ') {
+        if !minute.is_empty() {
+            print!(rt; " {}", zone.offset_at(moment(minute)?))?;
+        }
+    }
+    println!(rt)?;
     Ok(())
 }
 

@@ -1,12 +1,14 @@
 use crate::failure::{Failure, halves, minute_of_day, number};
 use hours_core::{Calendar, HoursFault, Intervals, Zone};
 use std::alloc::{AllocError, Global};
+use text_core::Text;
 
 /// The parts of a calendar.
 #[derive(Drop)]
 pub struct Parts {
     first: i64,
     changes: Vec<(i64, i64)>,
+    rule: Option<Text>,
     week: [Intervals; 7],
     holidays: Vec<u32>,
     years: (i64, i64),
@@ -31,6 +33,7 @@ impl Parts {
         Ok(Parts {
             first: 0,
             changes: Vec::new(alloc),
+            rule: None,
             week: closed(alloc)?,
             holidays: Vec::new(alloc),
             years: (2000, 2099),
@@ -42,6 +45,7 @@ impl Parts {
         let (word, rest) = line.split_once(' ').unwrap_or((line, ""));
         match word {
             "zone" => self.take_zone(alloc, rest)?,
+            "rule" => self.rule = Some(Text::new(alloc, rest)?),
             "week" => self.week = week(alloc, rest)?,
             "holidays" => self.holidays = days(alloc, rest)?,
             "years" => {
@@ -57,6 +61,7 @@ impl Parts {
     /// each minute.
     fn take_zone(&mut self, alloc: Global, rest: &str) -> Result<(), Failure> {
         let (first, changes) = rest.split_once(' ').unwrap_or((rest, ""));
+        self.rule = None;
         self.first = number(first)?;
         self.changes = Vec::new(alloc);
         for change in changes.split(' ') {
@@ -86,7 +91,10 @@ impl Parts {
     }
 
     fn calendar(&self, alloc: Global) -> Result<Calendar, HoursFault> {
-        let zone = Zone::build(alloc, self.first, self.changes.as_slice())?;
+        let zone = match &self.rule {
+            Some(rule) => Zone::by_rule(alloc, rule.as_str(), self.years)?,
+            None => Zone::build(alloc, self.first, self.changes.as_slice())?,
+        };
         Calendar::build(
             alloc,
             zone,

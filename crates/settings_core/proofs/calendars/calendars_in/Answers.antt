@@ -5,7 +5,7 @@ use Rattle.hours_core.specs.Hours.{Hours}
 use Rattle.hours_core.specs.declared.calendar.Calendar.{Calendar}
 use Rattle.settings_parts.specs.CalendarParts.{hours_of}
 use Rattle.settings_parts.specs.Values.{members_of}
-use Rattle.settings_core.specs.Calendars.{HaveHours}
+use Rattle.settings_core.specs.Calendars.{HaveHours, hours_by}
 use Rattle.settings_core.specs.declared.named.Named.{Named}
 use Rattle.settings_core.proofs.Found.{one_more}
 use Rattle.settings_core.proofs.calendars.calendars_in.Goals as goal
@@ -16,7 +16,7 @@ loop-name-preserved c =
     let next : Named Hours =
     record {
       name = string_bytes c.in-Some.name.now;
-      value = hours_of (members_of (view c.in-Some.value.now));
+      value = hours_by (hours_of (members_of (view c.in-Some.value.now)));
     } in
     let named : Named Calendar =
     record { name = c.in_ok-name.name; value = c.in_ok-value.value } in

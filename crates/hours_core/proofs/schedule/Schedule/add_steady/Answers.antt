@@ -15,12 +15,12 @@ clock c m from before =
     let zone = c.args.self.now.zone in
     let i = c.loop-point.invariant in
     let same = c.requires.steady m (omega (arith, i.from)) before in
-    let first = c.offset_at-offset.ensures.offset
+    let first = c.ahead_at-offset.ensures.offset
     ∙ ap (λ (h : Hours). offset_at h.zone.first h.zone.changes c.args.from) c.self.view_is in
-    let shown : pos c.shifted-local.result ≡ pos c.loop-point.point +ℤ c.offset_at-offset.result =
-    omega (arith, ints, c.shifted-local.ensures, c.offset_at-offset.ensures.range) in
+    let shown : pos c.shifted-local.result ≡ pos c.loop-point.point +ℤ c.ahead_at-offset.result =
+    omega (arith, ints, c.shifted-local.ensures, c.ahead_at-offset.ensures.range) in
     rw (same ∙ sym first)
-    (clock_at c.loop-point.point c.shifted-local.result m c.offset_at-offset.result shown from
+    (clock_at c.loop-point.point c.shifted-local.result m c.ahead_at-offset.result shown from
     (omega (arith, i.from, c.requires.moments)))
 
 pub loop-point-preserved : goal.loop-point-preserved
