@@ -2,6 +2,7 @@ pub mod Added
 pub mod Applied
 pub mod Asked
 pub mod AsMissing
+pub mod Beforehand
 pub mod Bounds
 pub mod Changed
 pub mod Depends

@@ -6,9 +6,11 @@
 //! passed on.
 #![tactic(auto)]
 
+pub mod beforehand;
 pub mod decision;
 pub mod laws;
 
+pub use beforehand::refused_beforehand;
 pub use decision::decide;
 pub use desk_model::{
     Answer, Change, Command, Dependency, Entry, EntryKind, Facts, LateLine, Line, LinkKind,

@@ -134,6 +134,11 @@ change_by call facts (OnQueue name conditions change) = change call facts
 change_by call facts (OnRequest id besides text conditions change) =
     change_of_request facts.request (change call facts)
 
+-- the text that a command on a request comes with
+abbrev pub text_of : Plan → Option (List ℕ)
+text_of (OnRequest id besides text conditions change) = text
+text_of other = None
+
 -- a command that changes the desk tells the number of a request that it files, or that it is done
 abbrev pub filed_or_done : Option RequestRow → Answer
 filed_or_done None = answer.Done

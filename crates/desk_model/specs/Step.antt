@@ -8,13 +8,14 @@ use Rattle.desk_model.specs.Change.{applied}
 use Rattle.desk_model.specs.Commands.{plan_of}
 use Rattle.desk_model.specs.Condition.{Condition, first_holding}
 use Rattle.desk_model.specs.Desk.{Desk}
-use Rattle.desk_model.specs.Plan.{Call, answer_by, change_by, conditions_by, seen_by}
+use Rattle.desk_model.specs.Plan.{Call, answer_by, change_by, conditions_by, is_bad_text, seen_by}
+use Rattle.desk_model.specs.Plan.{text_of}
 use Rattle.desk_model.specs.declared.answer.Answer.{Answer}
 use Rattle.desk_model.specs.declared.command.Command.{Command}
 use Rattle.desk_model.specs.declared.facts.Facts.{Facts}
 use Rattle.desk_model.specs.declared.refusal.Refusal.{Refusal}
 use Rattle.desk_model.specs.declared.refusal.Refusal.TheVariants.{UnknownCaller}
-use Rattle.desk_model.specs.declared.refusal.Refusal.TheVariants.{BadMoment, Unavailable}
+use Rattle.desk_model.specs.declared.refusal.Refusal.TheVariants.{BadMoment, BadText, Unavailable}
 
 abbrev pub call : Settings → ℕ → List ℕ → Call
 call settings at caller = record { settings = settings; at = at; caller = caller }
@@ -29,6 +30,14 @@ conditions_on call facts command =
     (UnknownCaller, not (knows call.settings call.caller))
     ∷ (BadMoment, not (is_moment call.at))
     ∷ conditions_by call facts (plan_of command)
+
+-- of these conditions, those that are the same on every desk
+abbrev pub conditions_beforehand : Call → Command → List Condition
+conditions_beforehand call command =
+    (UnknownCaller, not (knows call.settings call.caller))
+    ∷ (BadMoment, not (is_moment call.at))
+    ∷ (BadText, is_bad_text (text_of (plan_of command)))
+    ∷ []
 
 -- the refusal of a command by a caller at a moment, if there is one
 abbrev pub guard : Settings → ℕ → List ℕ → Command → Desk → Option Refusal

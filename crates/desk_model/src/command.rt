@@ -1,13 +1,13 @@
 ghost use Rattle.std.specs.Prelude.{◌≡◌};
 ghost use Rattle.desk_model.specs.Commands.{plan_of};
 ghost use Rattle.desk_model.specs.Desk.{Desk};
-ghost use Rattle.desk_model.specs.Plan.{is_reading};
+ghost use Rattle.desk_model.specs.Plan.{is_bad_text, is_reading, text_of};
 ghost use Rattle.desk_model.specs.Scope.{seen_in};
 ghost use Rattle.desk_model.specs.Step.{facts_of};
 
 use crate::rows::{LinkKind, LinkRow, WatchRole};
 use crate::scope::Scope;
-use text_core::{Text, Texts};
+use text_core::{Text, Texts, is_text};
 
 /// What a caller asks of the desk. Names and texts are as they were given: a command may be refused
 /// for each.
@@ -134,6 +134,16 @@ impl Command {
             Command::History { .. } => true,
             Command::Overdue => true,
             Command::Workload => true,
+        }
+    }
+
+    /// Whether the command comes with a text that isn't of its form.
+    pub fn has_bad_text(&self) -> bool
+        ensures { result ≡ is_bad_text (text_of (plan_of self.now)) }
+    {
+        match self {
+            Command::Reply { text, .. } | Command::Comment { text, .. } => !is_text(text.as_str()),
+            _ => false,
         }
     }
 

@@ -129,6 +129,16 @@ refused_seeing facts s ask refusal tables refuses desk is seen stand clean = (
   stand,
 )
 
+-- what every desk refuses
+pub refused_on : (s : Settings) (ask : Ask) (refusal : Refusal) (tables : State)
+    → ((desk : Desk) → guard s ask.at ask.caller ask.command desk ≡ Some refusal)
+    → StepsOn s ask (Err refusal) tables tables
+refused_on s ask refusal tables always desk is stand clean = (
+  desk,
+  lawful s ask desk (Err refusal) desk is (refused s ask desk refusal (λ known. always desk)),
+  stand,
+)
+
 pub read_where : (facts : Facts) (change : Change) (s : Settings) (ask : Ask) (outcome : Outcome)
     (old new : State) → IsReading ask.command → Answers s ask facts old new outcome
     → IfErr outcome (λ refusal. refusal ≡ Unavailable) → Leaves old new

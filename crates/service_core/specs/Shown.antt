@@ -1,7 +1,6 @@
 -- What is read of the tables, as it is answered.
-use Rattle.std.specs.Prelude.{ℕ, Bool, false, not, ◌||◌, List, Option, filter, map}
+use Rattle.std.specs.Prelude.{ℕ, Bool, not, ◌||◌, List, Option, filter, map}
 use Rattle.std.specs.Prelude.{option_and_then}
-use Rattle.std.specs.Option.{option_map_or}
 use Rattle.settings_core.specs.declared.settings.Settings.{Settings}
 use Rattle.desk_model.specs.declared.answer.Links.{Links}
 use Rattle.desk_model.specs.declared.answer.Shown.{Shown}
@@ -16,7 +15,7 @@ use Rattle.desk_model.specs.Links.{is_kind}
 use Rattle.desk_model.specs.Readings.History.{is_comment}
 use Rattle.desk_model.specs.Readings.Show.{links_of}
 use Rattle.desk_model.specs.Rights.{is_shown}
-use Rattle.desk_model.specs.Rights.{may_show, may_show_comments}
+use Rattle.desk_model.specs.Rights.{may_show_comments}
 use Rattle.store_tables.specs.Contents.{history_at}
 use Rattle.service_core.specs.declared.links.End.{End}
 use Rattle.service_core.specs.declared.links.End.TheVariants.{Source, Target}
@@ -29,10 +28,6 @@ number_at Target link = link.target
 -- the request at that end of the link is there, and the caller may show it
 abbrev pub is_shown_at : Settings → List ℕ → Desk → End → LinkRow → Bool
 is_shown_at settings caller desk end link = is_shown settings caller desk (number_at end link)
-
--- the request that a command sees is there, and the caller may show it
-abbrev pub may_show_in : Settings → List ℕ → Facts → Bool
-may_show_in settings caller facts = option_map_or (may_show settings caller) facts.request false
 
 -- the numbers at that end of the links of a kind
 abbrev pub numbers_at : End → LinkKind → List LinkRow → List ℕ

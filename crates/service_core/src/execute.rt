@@ -11,7 +11,7 @@ ghost use Rattle.service_core.specs.Seen.{settings_of, tables_of};
 use crate::desk::Desk;
 use crate::fault::unavailable;
 use crate::reading;
-use desk_core::{Answer, Change, Command, Facts, Refusal, decide};
+use desk_core::{Answer, Change, Command, Facts, Refusal, decide, refused_beforehand};
 use settings_core::Settings;
 use std::alloc::Global;
 use store_core::{Backend, Store};
@@ -42,9 +42,31 @@ impl<S: Backend> Desk<S> {
     }
 }
 
-/// One command on the desk of these tables.
-#[tactic(auto, using(store_tables::proofs::Spared::stands))]
+/// One command on the desk of these tables. What every desk refuses costs no look at them.
 fn step<S: Backend>(
+    alloc: Global,
+    store: &mut Store<S>,
+    settings: &Settings,
+    at: u32,
+    caller: &str,
+    command: &Command,
+) -> Result<Answer, Refusal>
+    ensures step { StepsOn settings.now (ask_by at caller.now command.now) result
+        (state_of S.Store store.old) (state_of S.Store store.new) }
+    ensures refused { OnErr result
+        (Leaves (state_of S.Store store.old) (state_of S.Store store.new)) }
+    ensures named { IfErr result (λ refusal. names_its_right refusal ≡ true) }
+    ensures honest { WasClean (state_of S.Store store.old) (state_of S.Store store.new) }
+{
+    match refused_beforehand(settings, at, caller, command) {
+        Some(refusal) => Err(refusal),
+        None => look_and_step(alloc, store, settings, at, caller, command),
+    }
+}
+
+/// One command, by what it sees of the desk of these tables.
+#[tactic(auto, using(store_tables::proofs::Spared::stands))]
+fn look_and_step<S: Backend>(
     alloc: Global,
     store: &mut Store<S>,
     settings: &Settings,

@@ -1,17 +1,15 @@
 //! The links of a request, as far as the caller may show what is at their other ends.
 ghost use Rattle.std.specs.Prelude.{◌≡◌, IfErr, IfOk, filter};
-ghost use Rattle.desk_model.specs.Facts.{facts_on_request};
 ghost use Rattle.desk_model.specs.Readings.Show as showing;
-ghost use Rattle.desk_model.specs.Rights as rights;
 ghost use Rattle.store_tables.specs.Calls.{Spares, Tells};
 ghost use Rattle.store_core.specs.Seen.{state_of};
 ghost use Rattle.service_core.specs.Shown as shown;
 
-use crate::fault::{or_unavailable, unavailable};
-use desk_core::{Command, Facts, LinkKind, LinkRow, Links, Refusal, is_kind};
+use crate::fault::or_unavailable;
+use desk_core::{LinkKind, LinkRow, Links, Refusal, is_kind};
 use settings_core::Settings;
 use std::alloc::{AllocError, Global};
-use store_core::{Backend, Store, StoreFault};
+use store_core::{Backend, Store};
 use text_core::Sequence;
 
 /// An end of a link.
@@ -74,57 +72,12 @@ fn shown_at<S: Backend>(
 {
     let mut found = Vec::new(alloc);
     for link in links {
-        let shown = is_shown(alloc, store, settings, caller, end.number(link))?;
+        let shown = or_unavailable(store.is_shown(alloc, settings, caller, end.number(link)))?;
         if shown {
             found.push(*link)?;
         }
     }
     Ok(found)
-}
-
-/// Whether the request with this number is there and the caller may show it.
-fn is_shown<S: Backend>(
-    alloc: Global,
-    store: &mut Store<S>,
-    settings: &Settings,
-    caller: &str,
-    id: u32,
-) -> Result<bool, Refusal>
-    ensures told { Tells (λ desk shown. shown ≡ rights.is_shown settings.now caller.now desk id)
-        (state_of S.Store store.old) (state_of S.Store store.new) result }
-    ensures kept { Spares (state_of S.Store store.old) (state_of S.Store store.new) }
-    ensures fault { IfErr result (λ refusal. refusal ≡ Refusal.Unavailable) }
-{
-    match facts_on(alloc, store, id) {
-        Ok(facts) => {
-            let shown = is_shown_in(settings, caller, &facts);
-            drop(facts);
-            Ok(shown)
-        }
-        Err(fault) => Err(unavailable(fault)),
-    }
-}
-
-/// What is seen of the request with this number, and of its queue.
-fn facts_on<S: Backend>(alloc: Global, store: &mut Store<S>, id: u32) -> Result<Facts, StoreFault>
-    ensures told { Tells (λ desk facts. facts ≡ facts_on_request desk id)
-        (state_of S.Store store.old) (state_of S.Store store.new) result }
-    ensures kept { Spares (state_of S.Store store.old) (state_of S.Store store.new) }
-{
-    let command = Command::Show { id };
-    let facts = store.facts_for(alloc, &command);
-    drop(command);
-    facts
-}
-
-/// Whether the request of these facts is there and the caller may show it.
-fn is_shown_in(settings: &Settings, caller: &str, facts: &Facts) -> bool
-    ensures { result ≡ shown.may_show_in settings.now caller.now facts.now }
-{
-    match &facts.request {
-        Some(request) => request.is_shown_to(settings, caller),
-        None => false,
-    }
 }
 
 /// The six lists of numbers, of the links that lead from a request and of those that lead to it.

@@ -1,13 +1,17 @@
 -- What is read by key is what the desk has there.
 use Rattle.std.proofs.Common.{◌≡◌, ◌∙◌, ℕ, Bool, List, [], ◌∷◌, ◌++◌, filter, length}
 use Rattle.std.proofs.Common.{Option, Some, None, Result, Ok, Err, OnOk, IfOk, is_some}
-use Rattle.std.proofs.Common.{refl, sym, ap}
+use Rattle.std.proofs.Common.{false, true, refl, sym, ap, ap₂}
 use Rattle.std.proofs.Common.{subst, ◌+◌, ◌<◌, ◌≤◌, arith, get_or, take, zero, suc}
 use Rattle.std.specs.List.{flat_map}
-use Rattle.std.specs.Option.{option_map, option_to_list}
+use Rattle.std.specs.Prelude.{◌==◌, ◌&&◌}
+use Rattle.std.proofs.lemmas.Bool.{and_parts}
+use Rattle.std.proofs.lemmas.Bool.Decides.{nat_tests}
+use Rattle.sqlite_trees.proofs.ListLemmas.{filter_none}
+use Rattle.std.specs.Option.{option_map, option_map_or, option_to_list}
 use Rattle.std.specs.Prelude.{option_and_then}
 use Rattle.std.proofs.lemmas.List.{append_assoc, append-nil, length-map, take_more}
-use Rattle.sqlite_rules.proofs.ListLemmas.{test_has}
+use Rattle.sqlite_rules.proofs.ListLemmas.{all_from, test_has}
 use Rattle.sqlite_trees.proofs.ListLemmas.{map-map}
 use Rattle.desk_model.specs.declared.facts.Dependency.{Dependency}
 use Rattle.desk_model.specs.declared.facts.Facts.{Facts}
@@ -24,8 +28,12 @@ use Rattle.desk_model.specs.Facts.{facts_on_request, queue_of, seen_request, see
 use Rattle.desk_model.specs.Links as links
 use Rattle.desk_model.specs.Links.{has_link}
 use Rattle.desk_model.specs.Plan.{Another, Dependencies, besides_on}
-use Rattle.desk_model.specs.IsDesk.{IsDesk, are_numbered, has_its_entries, persons_rise}
-use Rattle.desk_model.specs.Watchers.{watchers_of}
+use Rattle.desk_model.specs.IsDesk.{IsDesk, are_numbered, has_both_ends, has_its_entries}
+use Rattle.desk_model.specs.IsDesk.{persons_rise}
+use Rattle.desk_model.specs.Rights.{is_shown, may_show}
+use Rattle.desk_model.specs.Watchers.{may_show_by, watchers_of}
+use Rattle.desk_core.proofs.Roles.{own_roles_law}
+use Rattle.settings_core.specs.declared.settings.Settings.{Settings}
 use Rattle.store_tables.specs.Contents.{entries, request_rows, watchers}
 use Rattle.store_tables.specs.Orders.{by_role, by_target}
 use Rattle.store_tables.specs.Picked.{AreOrdered, IsGreatest}
@@ -36,7 +44,7 @@ use Rattle.store_core.specs.Found.{dependency_at, dependency_by, dependency_of}
 use Rattle.store_core.specs.Found.{counted, filed, queue_by, seen_request_of}
 use Rattle.store_core.specs.Found.{with_dependencies, with_link}
 use Rattle.store_core.proofs.FactsLemmas.{entries_of_one, found_row, greatest_counts}
-use Rattle.store_core.proofs.FactsLemmas.{numbers_of, only_request, some_found, watchers_of_one}
+use Rattle.store_core.proofs.FactsLemmas.{IsOnly, numbers_of, only_request, some_found, watchers_of_one}
 use Rattle.store_core.proofs.FactsLemmasInOrder.{the_admin_cc, the_cc, the_dependency_links}
 use Rattle.store_core.proofs.FactsLemmasInOrder.{same_link_is}
 use Rattle.store_core.proofs.FactsLemmasInOrder.{the_links_from, the_requestors, the_watchers_of}
@@ -77,6 +85,15 @@ seen_is r row ws n row_is ws_are n_is =
     ∙ ap (λ v. made r r.requestors v (seen_request_of r.row (watchers_of r) 0).admin_cc) (the_cc r)
     ∙ ap (λ v. made r r.requestors r.cc v) (the_admin_cc r)
 
+-- the watchers of the one request with a number are its persons
+watchers_are : (desk : Desk) (id : ℕ) (row : RequestRow) (ws : List Watcher) (is : IsDesk desk)
+    (it : IsOnly id desk.requests row)
+    → AreOrdered by_role (filter (watches id) (watchers desk)) ws
+    → ws ≡ watchers_of it.request
+watchers_are desk id row ws is it listed =
+    the_watchers_of it.request ws (test_has persons_rise desk.requests it.request is.persons it.there)
+    (subst (λ xs. AreOrdered by_role xs ws) (watchers_of_one id desk.requests row it) listed)
+
 pub some_seen : (desk : Desk) (id : ℕ) (row : RequestRow) (ws : List Watcher) (n : ℕ)
     → IsDesk desk → row ∷ [] ≡ filter (is_numbered id) (request_rows desk)
     → AreOrdered by_role (filter (watches id) (watchers desk)) ws
@@ -85,15 +102,31 @@ pub some_seen : (desk : Desk) (id : ℕ) (row : RequestRow) (ws : List Watcher) 
 some_seen desk id row ws n is found listed greatest =
     let it = only_request id desk.requests row found in
     let r = it.request in
-    let rises = test_has persons_rise desk.requests r is.persons it.there in
     let own = test_has has_its_entries desk.requests r is.entries it.there in
-    let ws_are = the_watchers_of r ws rises
-    (subst (λ xs. AreOrdered by_role xs ws) (watchers_of_one id desk.requests row it) listed) in
+    let ws_are = watchers_are desk id row ws is it listed in
     let n_is = greatest_counts place_of r.entries n (numbers_of r own)
     (subst (λ xs. IsGreatest place_of xs n) (entries_of_one id desk.requests row it is.entries)
     greatest) in
     ap Some (seen_is r row ws n it.row_is ws_are n_is)
     ∙ sym (ap (option_map seen_request) it.found)
+
+pub none_shown : (s : Settings) (person : List ℕ) (desk : Desk) (id : ℕ)
+    → [] ≡ filter (is_numbered id) (request_rows desk) → false ≡ is_shown s person desk id
+none_shown s person desk id h =
+    ap (λ (o : Option SeenRequest). option_map_or (may_show s person) o false)
+    (none_seen desk id h)
+
+pub some_shown : (s : Settings) (person : List ℕ) (desk : Desk) (id : ℕ) (row : RequestRow)
+    (ws : List Watcher)
+    → IsDesk desk → row ∷ [] ≡ filter (is_numbered id) (request_rows desk)
+    → AreOrdered by_role (filter (watches id) (watchers desk)) ws
+    → may_show_by s person row ws ≡ is_shown s person desk id
+some_shown s person desk id row ws is found listed =
+    let it = only_request id desk.requests row found in
+    ap₂ (may_show_by s person) (sym it.row_is) (watchers_are desk id row ws is it listed)
+    ∙ own_roles_law s person it.request
+    ∙ sym (ap (λ (o : Option Request). option_map_or (may_show s person)
+    (option_map seen_request o) false) it.found)
 
 pub queue_by_is : (desk : Desk) (id : ℕ)
     → queue_by desk (seen_request_at desk id) ≡ queue_of desk (request_at desk id)
@@ -197,6 +230,42 @@ pub move_facts : (desk : Desk) (id : ℕ) (facts : Facts) (ds : List Dependency)
 move_facts desk id facts ds facts_are ds_are =
     ap (λ f. with_dependencies f ds) facts_are
     ∙ ap (with_dependencies (facts_on_request desk id)) ds_are
+
+-- a link leads from a request that is there
+never_from : (desk : Desk) (id : ℕ) (l : LinkRow) → has_both_ends desk l ≡ true
+    → seen_request_at desk id ≡ None
+    → (l.source == id && links.is_kind DependsOn l.kind) ≡ false
+never_from desk id l both absent = by (l.source == id) refl
+  where
+    gone : request_at desk id ≡ None
+    gone = unmapped_none seen_request (request_at desk id) (sym absent)
+
+    by : (b : Bool) → (l.source == id) ≡ b → (b && links.is_kind DependsOn l.kind) ≡ false
+    by false differs = refl
+    by true is =
+        let same : l.source ≡ id = grind (arith, nat_tests, is) in
+        let there = (and_parts (is_some (request_at desk l.source))
+        (is_some (request_at desk l.target)) both).0 in
+        let one : is_some (request_at desk id) ≡ true =
+        subst (λ n. is_some (request_at desk n) ≡ true) same there in
+        let none : is_some (request_at desk id) ≡ false = ap is_some gone in
+        cc
+
+-- a request that isn't there depends on nothing
+pub absent_facts : (desk : Desk) (id : ℕ) (facts : Facts) → IsDesk desk
+    → facts ≡ facts_on_request desk id → facts.request ≡ None
+    → facts ≡ besides_on Dependencies id desk
+absent_facts desk id facts is facts_are absent =
+    let absent_there = sym (ap (λ (f : Facts). f.request) facts_are) ∙ absent in
+    let none = filter_none (λ (l : LinkRow). l.source == id && links.is_kind DependsOn l.kind)
+    desk.links (all_from
+    (λ (l : LinkRow). (l.source == id && links.is_kind DependsOn l.kind) ≡ false) desk.links
+    (λ l has. never_from desk id l (test_has (has_both_ends desk) desk.links l is.ends has)
+    absent_there)) in
+    facts_are
+    ∙ ap (λ (ls : List LinkRow). with_dependencies (facts_on_request desk id)
+    (flat_map (λ l. option_to_list (option_and_then (as_dependency desk)
+    (request_at desk l.target))) ls)) (sym none)
 
 pub link_facts : (desk : Desk) (l : LinkRow) (facts : Facts) (other : Option SeenRequest) (b : Bool)
     → facts ≡ facts_on_request desk l.source → other ≡ seen_request_at desk l.target

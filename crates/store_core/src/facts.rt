@@ -148,7 +148,7 @@ fn facts_on<S: Alter>(alloc: Global, conn: &mut Connection<S>, id: u32) -> Resul
     Ok(filed(alloc, queue, request))
 }
 
-/// Of a move: what the request depends on too.
+/// Of a move: what the request depends on too, which is nothing where it isn't there.
 #[tactic(auto, using(store_tables::proofs::Spared::joined, store_tables::proofs::Spared::stands))]
 fn facts_of_move<S: Alter>(
     alloc: Global,
@@ -164,9 +164,17 @@ fn facts_of_move<S: Alter>(
         (state S.Store conn.old) (state S.Store conn.new) result }
     ensures fault { IfErr result (λ e. e ≢ StoreFault.WrongVersion) }
 {
-    let dependencies = dependencies_of(alloc, conn, id)?;
     let facts = facts_on(alloc, conn, id)?;
-    Ok(with_dependencies(facts, dependencies))
+    if facts.request.is_none() {
+        return Ok(facts);
+    }
+    match dependencies_of(alloc, conn, id) {
+        Ok(dependencies) => Ok(with_dependencies(facts, dependencies)),
+        Err(fault) => {
+            drop(facts);
+            Err(fault)
+        }
+    }
 }
 
 /// Of a link: the request at its other end too, and whether it is there.

@@ -12,6 +12,7 @@ mod lists;
 mod making;
 mod opening;
 mod seen_request;
+mod shown;
 pub mod store;
 
 /// What keeps the tables of a store: memory, or a file.

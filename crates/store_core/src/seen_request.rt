@@ -70,11 +70,11 @@ pub(crate) fn seen_request_at<S: Alter>(
         (state S.Store conn.old) (state S.Store conn.new) result }
     ensures fault { IfErr result (λ e. e ≢ StoreFault.WrongVersion) }
 {
-    let entry_count = last_number(conn, id)?;
-    let watchers = watchers_of(alloc, conn, id)?;
     match request_numbered(conn, id)? {
         None => Ok(None),
         Some(row) => {
+            let entry_count = last_number(conn, id)?;
+            let watchers = watchers_of(alloc, conn, id)?;
             let seen_request = seen_request_of(alloc, row, watchers.as_slice(), entry_count)?;
             Ok(Some(seen_request))
         }

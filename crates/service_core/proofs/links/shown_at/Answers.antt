@@ -1,6 +1,7 @@
 use Rattle.std.proofs.Common.{◌≡◌, ◌∙◌, ◌<◌, ◌++◌, [], ◌∷◌, ap, cond, filter, get_or, length}
 use Rattle.std.proofs.Common.{rules, sym}
 use Rattle.std.proofs.lemmas.List.{append-nil, take_all}
+use Rattle.std.proofs.lemmas.Result.{IfOk-at_ok}
 use Rattle.desk_model.specs.declared.rows.LinkKind.TheVariants.{DependsOn}
 use Rattle.desk_model.specs.declared.rows.LinkRow.{LinkRow}
 use Rattle.desk_model.specs.Rights.{is_shown}
@@ -33,7 +34,8 @@ loop-link-preserved g c =
           λ desk is stand clean.
           filtered_more (is_shown_at c.args.settings.now c.args.caller.now desk c.args.end)
           c.args.links.now c.loop-link.link-index first _ _ _ low
-          (c.in_ok-shown.ensures.told desk is (stands so_far.kept (contents_of desk) stand) clean
+          (IfOk-at_ok _ c.in_ok-shown.ensures.ok
+          (shows.told desk is (stands so_far.kept (contents_of desk) stand) clean)
           ∙ ap (is_shown c.args.settings.now c.args.caller.now desk) c.number.ensures)
           put (so_far.told desk is stand (shows.kept.clean clean));
       kept = joined so_far.kept shows.kept;

@@ -1,12 +1,18 @@
 use Rattle.std.proofs.Common.{◌∙◌}
 use Rattle.store_tables.specs.Contents.{contents_of}
 use Rattle.store_tables.proofs.Spared.{stands}
-use Rattle.store_core.proofs.FactsLemmasOfDesk.{move_facts}
+use Rattle.store_core.proofs.FactsLemmasOfDesk.{absent_facts, move_facts}
 use Rattle.store_core.proofs.facts.facts_of_move.Goals as goal
 
-pub returns-clause-told : goal.returns-clause-told
-returns-clause-told g c desk is stand clean =
-    let first = stands c.dependencies_of.ensures.kept (contents_of desk) stand in
+pub returns-then-is_none-clause-told : goal.returns-then-is_none-clause-told
+returns-then-is_none-clause-told g c desk is stand clean =
+    absent_facts desk c.args.id c.in_ok-facts.facts is
+    (c.in_ok-facts.ensures.told desk is stand clean) (search rules)
+
+pub returns-in-Ok-clause-told : goal.returns-in-Ok-clause-told
+returns-in-Ok-clause-told g c desk is stand clean =
+    let first = stands c.facts_on.ensures.kept (contents_of desk) stand in
     c.with_dependencies.ensures
-    ∙ move_facts desk c.args.id _ _ (c.in_ok-facts.ensures.told desk is first clean)
-    (c.in_ok-dependencies.ensures.told desk is stand (c.facts_on.ensures.kept.clean clean))
+    ∙ move_facts desk c.args.id _ _
+    (c.in_ok-facts.ensures.told desk is stand (c.dependencies_of.ensures.kept.clean clean))
+    (c.in-Ok.ensures.told desk is first clean)

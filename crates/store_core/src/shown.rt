@@ -1,0 +1,66 @@
+//! Whether a request may be shown, by its row and its watchers alone.
+ghost use Rattle.std.specs.Prelude.{◌≡◌, ◌≢◌, IfErr, false};
+ghost use Rattle.sqlite.specs.Held.{state};
+ghost use Rattle.desk_model.specs.Rights as rights;
+ghost use Rattle.store_tables.specs.declared.fault.StoreFault.{StoreFault};
+ghost use Rattle.store_tables.specs.Calls.{OnlyRefuses, Spares, Tells};
+ghost use Rattle.store_core.specs.Seen.{state_of};
+
+use crate::store::Store;
+use desk_core::may_show;
+use settings_core::Settings;
+use sqlite::{Alter, Connection};
+use std::alloc::Global;
+use store_tables::StoreFault;
+use store_tables::reads::requests_by_key::request_numbered;
+use store_tables::reads::watchers_by_key::watchers_of;
+
+impl<S: Alter> Store<S> {
+    /// Whether the request with that number is there and the person may show it, by two reads.
+    /// `Mismatch` where a row is no value of its type, `Refused` where the store or memory refuses
+    /// it, or a key has two rows. The tables stay as they are.
+    pub fn is_shown(
+        &mut self,
+        alloc: Global,
+        settings: &Settings,
+        person: &str,
+        id: u32,
+    ) -> Result<bool, StoreFault>
+        ensures told { Tells (λ desk shown. shown
+            ≡ rights.is_shown settings.now person.now desk id)
+            (state_of S.Store self.old) (state_of S.Store self.new) result }
+        ensures kept { Spares (state_of S.Store self.old) (state_of S.Store self.new) }
+        ensures refuses { OnlyRefuses
+            (state_of S.Store self.old) (state_of S.Store self.new) result }
+        ensures fault { IfErr result (λ e. e ≢ StoreFault.WrongVersion) }
+    {
+        is_shown_to(alloc, &mut self.conn, settings, person, id)
+    }
+}
+
+#[tactic(auto, using(store_tables::proofs::Spared::joined, store_tables::proofs::Spared::stands))]
+fn is_shown_to<S: Alter>(
+    alloc: Global,
+    conn: &mut Connection<S>,
+    settings: &Settings,
+    person: &str,
+    id: u32,
+) -> Result<bool, StoreFault>
+    requires { conn.old.in_transaction ≡ false }
+    ensures idle { conn.new.in_transaction ≡ false }
+    ensures told { Tells (λ desk shown. shown
+        ≡ rights.is_shown settings.now person.now desk id)
+        (state S.Store conn.old) (state S.Store conn.new) result }
+    ensures kept { Spares (state S.Store conn.old) (state S.Store conn.new) }
+    ensures refuses { OnlyRefuses
+        (state S.Store conn.old) (state S.Store conn.new) result }
+    ensures fault { IfErr result (λ e. e ≢ StoreFault.WrongVersion) }
+{
+    match request_numbered(conn, id)? {
+        None => Ok(false),
+        Some(row) => {
+            let watchers = watchers_of(alloc, conn, id)?;
+            Ok(may_show(settings, person, &row, watchers.as_slice()))
+        }
+    }
+}
