@@ -2,7 +2,6 @@ pub mod Added
 pub mod Applied
 pub mod Asked
 pub mod AsMissing
-pub mod Beforehand
 pub mod Bounds
 pub mod Changed
 pub mod Depends
@@ -11,6 +10,7 @@ pub mod DueLaw
 pub mod EachRequest
 pub mod Ends
 pub mod Every
+pub mod EveryDesk
 pub mod Goes
 pub mod Identity
 pub mod InView

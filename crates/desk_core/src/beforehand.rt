@@ -11,7 +11,7 @@ use settings_core::Settings;
 
 /// The refusal that a command meets on every desk, if there is one: `UnknownCaller`, `BadMoment`
 /// or `BadText`, in this order. It takes no memory, and no look at the desk.
-#[tactic(auto, using(crate::proofs::Beforehand::on_every_desk))]
+#[tactic(auto, using(crate::proofs::EveryDesk::on_every_desk))]
 pub fn refused_beforehand(
     settings: &Settings,
     at: u32,
