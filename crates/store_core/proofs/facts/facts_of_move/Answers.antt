@@ -1,4 +1,4 @@
-use Rattle.std.proofs.Common.{◌∙◌}
+use Rattle.std.proofs.Common.{◌∙◌, rules}
 use Rattle.store_tables.specs.Contents.{contents_of}
 use Rattle.store_tables.proofs.Spared.{stands}
 use Rattle.store_core.proofs.FactsLemmasOfDesk.{absent_facts, move_facts}
