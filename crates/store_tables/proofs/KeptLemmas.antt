@@ -187,3 +187,13 @@ viewed row value view xs rows h = record {
   same = subst (λ l. IsPermutation l (map view xs)) (map-map view value h.kept)
       (IsPermutation-map view _ _ h.same);
 }
+
+-- the same values in another order
+pub reordered : {K X : Type 0} (row : K → Row) (value : K → X) (xs ys : List X) (rows : List Row)
+    → Holds row value xs rows → IsPermutation xs ys → Holds row value ys rows
+reordered row value xs ys rows h same = record {
+  kept = h.kept;
+  spelt = h.spelt;
+  table = h.table;
+  same = IsPermutation-trans _ _ _ h.same same;
+}

@@ -3,6 +3,7 @@ pub mod BlankLemmas
 pub mod ChangeLemmas
 pub mod CountLemmas
 pub mod DatedLemmas
+pub mod DueLemmas
 pub mod EachQuery
 pub mod EachTable
 pub mod FoundLemmas
