@@ -122,15 +122,14 @@ fails_of : {V X : Type 0} {names : List (List ℕ)} (text : List ℕ) (params : 
     → ReadsRows Reads IsValue values text params old new r → FailsIn tree terms IsValue old new r
 fails_of text params tree test terms order means same Reads IsValue values old new clean (Ok x) h =
     tt
-fails_of text params tree test terms order means same Reads IsValue values old new clean (Err e) h =
-    (
-      h.known,
-      λ wrong has now.
-          let it = h.mismatch now wrong in
-          let at = table_rows text params tree test terms order means old new clean has now it.0 it.1
-          it.2 it.3 in
-          (at.0, (at.1, at.2, λ value. it.4 (subst IsValue (sym (at.3 ∙ same at.1)) value))),
-    )
+fails_of text params tree test terms order means same Reads IsValue values old new clean (Err e) h = (
+  h.known,
+  λ wrong has now.
+      let it = h.mismatch now wrong in
+      let at = table_rows text params tree test terms order means old new clean has now it.0 it.1
+      it.2 it.3 in
+      (at.0, (at.1, at.2, λ value. it.4 (subst IsValue (sym (at.3 ∙ same at.1)) value))),
+)
 
 module _ {K V X : Type 0} (t : TableOf K V) (q : QueryOn t) (values : X → List V) (old new : State)
     (clean : HasCleanDisk new → HasCleanDisk old)
