@@ -79,6 +79,10 @@ abbrev pub set_due : Contents → ℕ → Option ℕ → Contents
 set_due c id due =
     record c { dated = map (λ p. (p.0, if is_numbered id p.0 then due else p.1)) c.dated }
 
+-- the same of one of several
+abbrev pub set_each_due : Contents → ℕ × Option ℕ → Contents
+set_each_due c p = set_due c p.0 p.1
+
 abbrev pub add_watcher : Contents → Watcher → Contents
 add_watcher c w = record c { watchers = w ∷ c.watchers }
 

@@ -1,5 +1,6 @@
 -- A request's row with its due moment, if it has one: how both are spelt in a row of the table.
-use Rattle.std.specs.Prelude.{ℕ, Option, [], ◌∷◌, ◌++◌, ◌==◌, if◌then◌else◌}
+use Rattle.std.specs.Prelude.{ℕ, Option, [], ◌∷◌, ◌++◌, ◌==◌, fold, if◌then◌else◌}
+use Rattle.std.specs.Prelude.{List}
 use Rattle.sqlite.specs.Order.{Row}
 use Rattle.sqlite.specs.Values.{or_null}
 use Rattle.desk_model.specs.declared.rows.RequestRow.{RequestRow}
@@ -22,6 +23,10 @@ dated_by due row = (row, due row)
 -- the due moments, but for the request with that number, which has this one
 abbrev pub due_but : ℕ → Option ℕ → (RequestRow → Option ℕ) → RequestRow → Option ℕ
 due_but id moment due row = if row.id == id then moment else due row
+
+-- and but for several, of which the last with that number counts
+abbrev pub dues_but : List (ℕ × Option ℕ) → (RequestRow → Option ℕ) → RequestRow → Option ℕ
+dues_but dues due = fold (λ d p. due_but p.0 p.1 d) due dues
 
 -- the columns of a request, after its number, which is the rowid
 abbrev pub dated_columns : Dated → Row

@@ -1,11 +1,11 @@
 //! A request's row that is added, or set in the place of another, with its due moment; the due
 //! moment alone.
-ghost use Rattle.std.specs.Prelude.{◌≡◌, IfErr};
+ghost use Rattle.std.specs.Prelude.{◌≡◌, fold, IfErr};
 ghost use Rattle.sqlite.specs.Held.{state};
 ghost use Rattle.sqlite.specs.Values.{bound};
 ghost use Rattle.store_tables.specs.Calls.{Does};
 ghost use Rattle.store_tables.specs.Contents.{add_request, set_due as with_due};
-ghost use Rattle.store_tables.specs.Contents.{set_request as with_row};
+ghost use Rattle.store_tables.specs.Contents.{set_each_due, set_request as with_row};
 ghost use Rattle.store_tables.specs.Dated.{dated_shown};
 ghost use Rattle.store_tables.specs.Reading.{IsDatedRow};
 ghost use Rattle.store_tables.specs.declared.fault.StoreFault.{StoreFault};
@@ -94,4 +94,21 @@ pub fn set_due<S: Alter>(
         "UPDATE request SET due = ?2 WHERE id = ?1",
         &[number(id), nullable_minute(due)],
     )
+}
+
+/// Sets the due moments of requests, in order, each by its number; a number that no request has is
+/// passed over. `Refused` where the store or memory refuses one.
+pub fn set_dues<S: Alter>(
+    tx: &mut Transaction<'_, S>,
+    dues: &[(u32, Option<Minute>)],
+) -> Result<(), StoreFault>
+    ensures same_reference { tx.new.conn.ghost_name ≡ tx.old.conn.ghost_name }
+    ensures set { Does (λ c. fold set_each_due c dues.now)
+        (state S.Store tx.old.conn.now) (state S.Store tx.new.conn.now) result }
+    ensures fault { IfErr result (λ e. e ≡ StoreFault.Refused) }
+{
+    for due in dues {
+        set_due(tx, due.0, due.1)?;
+    }
+    Ok(())
 }
