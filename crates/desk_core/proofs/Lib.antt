@@ -10,7 +10,6 @@ pub mod DueLaw
 pub mod EachRequest
 pub mod Ends
 pub mod Every
-pub mod EveryDesk
 pub mod Goes
 pub mod Identity
 pub mod InView

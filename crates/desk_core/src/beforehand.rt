@@ -5,13 +5,12 @@ ghost use Rattle.desk_model.specs.Desk.{Desk};
 ghost use Rattle.desk_model.specs.Refusals.{names_its_right};
 ghost use Rattle.desk_model.specs.Step.{call, conditions_beforehand, guard};
 
+use crate::decision::moment_of;
 use desk_model::{Command, Refusal};
-use hours_core::END;
 use settings_core::Settings;
 
 /// The refusal that a command meets on every desk, if there is one: `UnknownCaller`, `BadMoment`
 /// or `BadText`, in this order. It takes no memory, and no look at the desk.
-#[tactic(auto, using(crate::proofs::EveryDesk::on_every_desk))]
 pub fn refused_beforehand(
     settings: &Settings,
     at: u32,
@@ -25,10 +24,12 @@ pub fn refused_beforehand(
     ensures named { IfSome result (λ refusal. names_its_right refusal ≡ true) }
 {
     if !settings.people().knows(caller) {
-        Some(Refusal::UnknownCaller)
-    } else if at >= END {
-        Some(Refusal::BadMoment)
-    } else if command.has_bad_text() {
+        return Some(Refusal::UnknownCaller);
+    }
+    if moment_of(at).is_none() {
+        return Some(Refusal::BadMoment);
+    }
+    if command.has_bad_text() {
         Some(Refusal::BadText)
     } else {
         None

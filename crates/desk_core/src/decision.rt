@@ -87,7 +87,7 @@ fn decide_on_facts(
 }
 
 /// The moment of this number, if a command may happen then.
-fn moment_of(at: u32) -> Option<Minute>
+pub(crate) fn moment_of(at: u32) -> Option<Minute>
     ensures { result ≡ (if is_moment at then Some at else None) }
 {
     if at < END { Minute::new(at) } else { None }

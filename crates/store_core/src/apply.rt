@@ -5,9 +5,8 @@ ghost use Rattle.store_tables.specs.Calls.{Leaves, WasClean};
 ghost use Rattle.store_tables.specs.Contents.{Contents};
 ghost use Rattle.store_tables.specs.Stands.{Stand};
 ghost use Rattle.store_tables.specs.declared.fault.StoreFault.{StoreFault};
-ghost use Rattle.store_core.specs.Applying.{Applies};
+ghost use Rattle.store_core.specs.Applying.{Applies, Writes};
 ghost use Rattle.store_core.specs.Seen.{state_of};
-ghost use Rattle.store_core.specs.Written.{written};
 
 use crate::change::write_change;
 use crate::store::Store;
@@ -20,8 +19,7 @@ use store_tables::transaction::finish;
 fn apply_change<S: Alter>(conn: &mut Connection<S>, change: &Change) -> Result<(), StoreFault>
     requires { conn.old.in_transaction ≡ false }
     ensures idle { conn.new.in_transaction ≡ false }
-    ensures done { (c : Contents) → Stand c (state S.Store conn.old) →
-        OnOk result (Stand (written change.now c) (state S.Store conn.new)) }
+    ensures done { Writes change.now (state S.Store conn.old) (state S.Store conn.new) result }
     ensures undone { (c : Contents) → Stand c (state S.Store conn.old) →
         OnErr result (Stand c (state S.Store conn.new)) }
     ensures honest { WasClean (state S.Store conn.old) (state S.Store conn.new) }
@@ -35,10 +33,12 @@ fn apply_change<S: Alter>(conn: &mut Connection<S>, change: &Change) -> Result<(
 impl<S: Alter> Store<S> {
     /// Writes a change, in one transaction. `Refused` where the store refuses a statement: where a
     /// row of the change is there already, where one that it sets or takes out isn't there, or
-    /// where the disk or memory fails. On a fault tables whose rows are
-    /// values of their types stay as they are.
+    /// where the disk or memory fails. On a fault tables whose rows are values of their types stay
+    /// as they are.
     pub fn apply(&mut self, change: &Change) -> Result<(), StoreFault>
         ensures done { Applies change.now
+            (state_of S.Store self.old) (state_of S.Store self.new) result }
+        ensures rows { Writes change.now
             (state_of S.Store self.old) (state_of S.Store self.new) result }
         ensures undone { OnErr result
             (Leaves (state_of S.Store self.old) (state_of S.Store self.new)) }

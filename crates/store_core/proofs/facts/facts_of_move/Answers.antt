@@ -1,4 +1,4 @@
-use Rattle.std.proofs.Common.{◌∙◌}
+use Rattle.std.proofs.Common.{◌∙◌, rules}
 use Rattle.store_tables.proofs.Spared.{stands_for}
 use Rattle.store_core.proofs.FactsLemmasOfDesk.{absent_facts, move_facts}
 use Rattle.store_core.proofs.facts.facts_of_move.Goals as goal

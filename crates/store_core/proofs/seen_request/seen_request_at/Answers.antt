@@ -11,8 +11,9 @@ returns-in-None-clause-told g c desk is stand clean =
     (rw (c.in-None.is, rows_dated stand.0 desk) at
     (c.in_ok-request_numbered.ensures.found (contents_of stand.0 desk) stand.1 clean))
 
-pub returns-clause-told : goal.returns-clause-told
-returns-clause-told g c desk is stand clean =
+pub returns-in_ok-seen_request-in-Some-clause-told :
+    goal.returns-in_ok-seen_request-in-Some-clause-told
+returns-in_ok-seen_request-in-Some-clause-told g c desk is stand clean =
     let d = contents_of stand.0 desk in
     let first = stands c.request_numbered.ensures.kept d stand.1 in
     let second = stands c.last_number.ensures.kept d first in

@@ -11,8 +11,8 @@ returns-in-None-clause-told g c desk is stand clean =
     (rw (c.in-None.is, rows_dated stand.0 desk) at
     (c.in_ok-request_numbered.ensures.found (contents_of stand.0 desk) stand.1 clean))
 
-pub returns-in-Some-clause-told : goal.returns-in-Some-clause-told
-returns-in-Some-clause-told g c desk is stand clean =
+pub returns-in_ok-watchers-in-Some-clause-told : goal.returns-in_ok-watchers-in-Some-clause-told
+returns-in_ok-watchers-in-Some-clause-told g c desk is stand clean =
     let d = contents_of stand.0 desk in
     let first = stands c.request_numbered.ensures.kept d stand.1 in
     let clean-first = c.watchers_of.ensures.kept.clean clean in
