@@ -1,4 +1,5 @@
 pub mod Alike
+pub mod DuesWritten
 pub mod FactsLemmas
 pub mod FactsLemmasInOrder
 pub mod FactsLemmasOfDesk

@@ -28,7 +28,7 @@ use Rattle.desk_model.specs.IsDesk.{IsDesk, are_numbered}
 use Rattle.desk_model.specs.Names.{in_order}
 use Rattle.desk_model.specs.Plan.{Call, change_by}
 use Rattle.desk_model.specs.Step.{call, facts_of, guard}
-use Rattle.store_core.proofs.Revised.{id_of}
+use Rattle.store_core.proofs.Revised.{id_of, none_past}
 use Rattle.store_core.proofs.Writable.{IsLast, are_new, last_there, nobody, requestors_anew}
 use Rattle.store_core.proofs.Writable.{rising_apart, watching_is}
 use Rattle.store_core.specs.Written.{FilesNext, IsWritable, PutsAnew, SetsThere, is_there}
@@ -60,16 +60,6 @@ sets : (desk : Desk) (command : Command) → Meets SetsOne desk (plan_of command
 sets desk (OpenQueue name lifecycle level) = λ call none. (0, refl, λ e. cc)
 sets desk (Create queue subject status requestors) = λ call none. (0, refl, λ e. cc)
 sets desk other = λ call r there same none. (r.row.id, refl, λ e. found_there desk _ r there same)
-
--- numbers up to here don't have one that comes later
-none_past : (rs : List Request) (next id : ℕ) → are_numbered next (map id_of rs) ≡ true
-    → next + length rs ≤ id → list_any (λ n. n == id) (map id_of rs) ≡ false
-none_past [] next id numbered past = refl
-none_past (r ∷ rs) next id numbered past =
-    let parts = and_parts (r.row.id == next) (are_numbered (next + 1) (map id_of rs)) numbered in
-    let first = eqb-true r.row.id next parts.0 in
-    rw (ne_eqb r.row.id id (λ same. omega (arith, first, same, past)))
-    (none_past rs (next + 1) id parts.1 (omega (arith, past)))
 
 all_new : (names : List (List ℕ)) → are_new [] names ≡ true
 all_new [] = refl

@@ -6,6 +6,7 @@
 mod apply;
 mod change;
 mod dependencies;
+mod dues;
 mod facts;
 pub mod laws;
 mod lists;
