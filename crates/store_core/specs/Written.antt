@@ -36,10 +36,6 @@ abbrev pub request_set : Option RequestRow → Option ℕ → Contents → Conte
 request_set None due c = c
 request_set (Some row) due c = set_request c row due
 
--- the due moment of the row that a change files or sets: none yet
-abbrev pub change_due : Change → Option ℕ
-change_due change = None
-
 abbrev pub link_added : Option LinkRow → Contents → Contents
 link_added None c = c
 link_added (Some link) c = add_link c link
@@ -50,7 +46,7 @@ link_dropped (Some link) c = drop_link c link
 
 abbrev pub written : Change → Contents → Contents
 written change c =
-    let due = change_due change in
+    let due = change.due in
     let opened = queue_added change.queue c in
     let rows = request_set change.row due (request_added change.filed due opened) in
     let persons = fold drop_watcher (fold add_watcher rows change.put) change.taken in
@@ -65,7 +61,7 @@ due_with (Some row) moment due = due_but row.id moment due
 -- the due moments after a change: of the request that it files or sets its own
 abbrev pub dues_after : Change → (RequestRow → Option ℕ) → RequestRow → Option ℕ
 dues_after change due =
-    due_with change.row (change_due change) (due_with change.filed (change_due change) due)
+    due_with change.row (change.due) (due_with change.filed (change.due) due)
 
 -- the same version and the same rows, in any order
 pub record AreAlike (a b : Contents) : Type 0 where
