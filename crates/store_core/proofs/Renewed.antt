@@ -2,12 +2,12 @@
 -- sets has the moment that comes with it, and of all others neither the row nor the queue changes.
 use Rattle.std.proofs.Common.{◌≡◌, ◌⊎◌, ◌∙◌, ℕ, ◌+◌, ◌<◌, ◌≤◌, ◌==◌, Bool, true, false, cond, not}
 use Rattle.std.proofs.Common.{List, [], ◌∷◌, find, length, map, Option, Some, None, inl, inr}
-use Rattle.std.proofs.Common.{refl, absurd, ap, arith, sym, subst}
+use Rattle.std.proofs.Common.{refl, absurd, ap, ap₂, arith, sym, subst}
 use Rattle.std.specs.List.{All, list_all}
 use Rattle.std.specs.Option.{is_some}
 use Rattle.std.specs.Prelude.{⊤, option_and_then}
 use Rattle.std.specs.Str.{bytes_eq}
-use Rattle.std.proofs.lemmas.Bool.{and_parts, eqb-true, ne_eqb}
+use Rattle.std.proofs.lemmas.Bool.{and_parts, eq-eqb, eqb-true, ne_eqb}
 use Rattle.std.proofs.lemmas.Slice.Eq.{bytes_eq-Decides}
 use Rattle.std.proofs.lemmas.List.Elements.{All-nil, All-cons, All-head, All-tail}
 use Rattle.hours_core.specs.Moment.{is_moment}
@@ -15,6 +15,8 @@ use Rattle.settings_core.specs.Settings.{knows}
 use Rattle.settings_core.specs.declared.settings.Settings.{Settings}
 use Rattle.desk_model.specs.Change.{applied, filed, queue_put, request_filed}
 use Rattle.desk_model.specs.Commands.{plan_of}
+use Rattle.desk_model.specs.Condition.{Condition}
+use Rattle.desk_model.specs.Dated.{either_row}
 use Rattle.desk_model.specs.Desk.{Desk, Request, has_lower_name, placed, queue_at, request_at}
 use Rattle.desk_model.specs.Due.{due_of}
 use Rattle.desk_model.specs.IsDesk.{IsDesk}
@@ -30,7 +32,7 @@ use Rattle.desk_core.specs.Decision.{change_of}
 use Rattle.desk_core.proofs.Applied.{row_after}
 use Rattle.desk_core.proofs.Changed.{changed, requests_after, row_changed}
 use Rattle.desk_core.proofs.DeskLaw.ByKind.{Meets, by_plan, change_fits}
-use Rattle.desk_core.proofs.DeskLaw.Fitting.{FilesNext, OpensNew}
+use Rattle.desk_core.proofs.DeskLaw.Fitting.{FilesNext, Fits, OpensNew}
 use Rattle.desk_core.proofs.DeskLaw.Stages.{queues_after}
 use Rattle.desk_core.proofs.EachRequest.{each_both, each_mapped, each_more, each_so, found_each}
 use Rattle.desk_core.proofs.EachRequest.{numbers_lie}
@@ -163,6 +165,13 @@ files_in (Create queue subject status requestors) s at caller desk row is files 
     queue_or name (Some r) = r.queue
 files_in other s at caller desk row is files = absurd is
 
+each_true : {X : Type 0} (test : X → Bool) (xs : List X) → list_all test xs ≡ true
+    → All (λ x. test x ≡ true) xs
+each_true test [] all = All-nil (λ x. test x ≡ true)
+each_true test (x ∷ xs) all =
+    let parts = and_parts (test x) (list_all test xs) all in
+    All-cons (λ x. test x ≡ true) x xs parts.0 (each_true test xs parts.1)
+
 -- ---- the desk after a command
 
 module _ (s : Settings) (at : ℕ) (caller : List ℕ) (command : Command) (desk : Desk)
@@ -174,8 +183,10 @@ module _ (s : Settings) (at : ℕ) (caller : List ℕ) (command : Command) (desk
     abbrev after : Desk
     after = applied change desk
 
+    fits : Fits desk (change_by (call s at caller) (facts_of command desk) (plan_of command))
     fits = change_fits s at caller command desk is free
 
+    front : List Condition
     front = (UnknownCaller, not (knows s caller)) ∷ (BadMoment, not (is_moment at)) ∷ []
 
     either : (change.row ≡ None) ⊎ (change.filed ≡ None)
@@ -234,3 +245,88 @@ module _ (s : Settings) (at : ℕ) (caller : List ℕ) (command : Command) (desk
         (sym (row_changed change r))
         (due_row change.row change.filed change.due (due_of_row s desk) (due_of_row s after) r.row
         other (set_due r found there change.row refl) (due_stays r.row there))
+
+    -- a request that was there isn't the one that is filed
+    not_filed : (r : Request) → r.row.id < 1 + length desk.requests → (o : Option RequestRow)
+        → FilesNext desk o → NotFiled o r.row
+    not_filed r low None next = tt
+    not_filed r low (Some new) next =
+        ne_eqb r.row.id new.id (λ e. omega (arith, low, e, next.0))
+
+    abbrev IsRenewed : Request → Type 0
+    IsRenewed r = dues_after change (due_of_row s desk) r.row ≡ due_of_row s after r.row
+
+    olds : All (λ r. IsRenewed (changed change r)) desk.requests
+    olds =
+        each_so
+        (λ r. ((request_at desk r.row.id ≡ Some r) × (is_some (queue_at desk r.row.queue) ≡ true))
+        × ((1 ≤ r.row.id) × (r.row.id < 1 + length desk.requests)))
+        (λ r. IsRenewed (changed change r)) desk.requests
+        (λ r h. due_each r h.0.0 h.0.1 (not_filed r h.1.1 change.filed fits.files))
+        (each_both
+        (λ r. (request_at desk r.row.id ≡ Some r) × (is_some (queue_at desk r.row.queue) ≡ true))
+        (λ r. (1 ≤ r.row.id) × (r.row.id < 1 + length desk.requests)) desk.requests
+        (each_both (λ r. request_at desk r.row.id ≡ Some r)
+        (λ r. is_some (queue_at desk r.row.queue) ≡ true) desk.requests
+        (found_each 1 desk.requests is.requests)
+        (each_true (λ r. is_some (queue_at desk r.row.queue)) desk.requests is.filed_in))
+        (numbers_lie 1 (1 + length desk.requests) 1 desk.requests (omega arith) (omega arith)
+        is.requests))
+
+    -- what is filed is due when the change says
+    filed_due : (row : RequestRow) → change.filed ≡ Some row → change.due ≡ due_of_row s after row
+    filed_due row files =
+        let created : IsCreate command =
+        elim filing [
+          | inl none ↦ (let no : None ≡ Some row = sym none ∙ files in cc)
+          | inr created ↦ created
+        ] in
+        let next : FilesNext desk (Some row) =
+        subst (λ (o : Option RequestRow). FilesNext desk o) files fits.files in
+        ap (λ (o : Option RequestRow). option_and_then
+        (λ q. option_and_then (due_of s q) (either_row o change.row)) (facts_of command desk).queue)
+        files
+        ∙ ap (λ (o : Option QueueRow). option_and_then (λ q. due_of s q row) o)
+        (files_in command s at caller desk row created files)
+        ∙ due_stays row next.1
+
+    filed_renewed : (row : RequestRow) → change.filed ≡ Some row
+        → IsRenewed (changed change (filed row))
+    filed_renewed row files =
+        let none : change.row ≡ None =
+        elim either [
+          | inl none ↦ none
+          | inr no_filed ↦ (let no : None ≡ Some row = sym no_filed ∙ files in cc)
+        ] in
+        subst (λ r. dues_after change (due_of_row s desk) r ≡ due_of_row s after r)
+        (sym (row_changed change (filed row)))
+        (subst (λ (o : Option RequestRow). due_with change.row change.due
+        (due_with o change.due (due_of_row s desk)) (row_after change.row row)
+        ≡ due_of_row s after (row_after change.row row)) (sym files)
+        (filed_row change.row change.due (due_of_row s desk) (due_of_row s after) row none
+        (filed_due row files)))
+
+    all_renewed : (o : Option RequestRow) → change.filed ≡ o
+        → All (λ r. IsRenewed (changed change r)) (request_filed o desk).requests
+    all_renewed None files = olds
+    all_renewed (Some row) files =
+        each_more (λ r. IsRenewed (changed change r)) desk.requests (filed row) olds
+        (filed_renewed row files)
+
+    same_dues : (rs : List Request) → All IsRenewed rs
+        → map (dated_by (dues_after change (due_of_row s desk))) (map (λ r. r.row) rs)
+        ≡ map (dated_by (due_of_row s after)) (map (λ r. r.row) rs)
+    same_dues [] all = refl
+    same_dues (r ∷ rs) all =
+        ap₂ (λ (d : Option ℕ) (ds : List Dated). (r.row, d) ∷ ds) (All-head IsRenewed r rs all)
+        (same_dues rs (All-tail IsRenewed r rs all))
+
+    -- of whatever desk the change is decided on, the due moments after it are the desk's
+    pub renewed : contents_of (dues_after change (due_of_row s desk)) after
+        ≡ contents_of (due_of_row s after) after
+    renewed =
+        ap (λ (ds : List Dated). record (contents_of (due_of_row s after) after) { dated = ds })
+        (same_dues after.requests
+        (subst (λ (rs : List Request). All IsRenewed rs) (sym (requests_after change desk))
+        (each_mapped (λ r. IsRenewed (changed change r)) IsRenewed (changed change)
+        (request_filed change.filed desk).requests (λ r p. p) (all_renewed change.filed refl))))
