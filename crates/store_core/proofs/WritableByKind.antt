@@ -14,6 +14,7 @@ use Rattle.desk_model.specs.declared.facts.SeenRequest.{SeenRequest}
 use Rattle.desk_model.specs.declared.refusal.Refusal.TheVariants.{UnknownCaller, BadMoment}
 use Rattle.desk_model.specs.declared.rows.Entry.{Entry}
 use Rattle.desk_model.specs.declared.rows.RequestRow.{RequestRow}
+use Rattle.desk_core.specs.Decision.{change_of}
 use Rattle.desk_core.proofs.DeskLaw.ByKind.{IsNext, Meets, by_plan, change_fits}
 use Rattle.desk_core.proofs.DeskLaw.Fitting as fitting
 use Rattle.desk_core.proofs.NamesLaw.{names_in_order_rise}
@@ -138,7 +139,7 @@ files_next desk (Some row) next = next.0
 -- the change of a command that isn't refused can be written
 pub change_writable : (s : Settings) (at : ℕ) (caller : List ℕ) (command : Command) (desk : Desk)
     → IsDesk desk → guard s at caller command desk ≡ None
-    → IsWritable desk (change_by (call s at caller) (facts_of command desk) (plan_of command))
+    → IsWritable desk (change_of (call s at caller) (facts_of command desk) command)
 change_writable s at caller command desk is free =
     let asks = call s at caller in
     let plan = plan_of command in

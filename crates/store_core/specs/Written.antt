@@ -12,10 +12,9 @@ use Rattle.desk_model.specs.declared.rows.QueueRow.{QueueRow}
 use Rattle.desk_model.specs.declared.rows.RequestRow.{RequestRow}
 use Rattle.desk_model.specs.declared.rows.Watcher.{Watcher}
 use Rattle.desk_model.specs.Change.{person_put, queue_put, request_filed, row_set}
-use Rattle.desk_model.specs.Commands.{plan_of}
 use Rattle.desk_model.specs.Desk.{Desk, request_at}
 use Rattle.desk_model.specs.IsDesk.{IsDesk}
-use Rattle.desk_model.specs.Plan.{change_by}
+use Rattle.desk_core.specs.Decision.{change_of}
 use Rattle.desk_model.specs.Step.{call, facts_of, guard}
 use Rattle.desk_model.specs.Watchers.{is_watching}
 use Rattle.store_tables.specs.Contents.{Contents, watchers}
@@ -114,5 +113,4 @@ abbrev pub CanBeWritten : Type 0
 CanBeWritten =
     (settings : Settings) (at : ℕ) (caller : List ℕ) (command : Command) (desk : Desk)
     → IsDesk desk → guard settings at caller command desk ≡ None
-    → IsWritable desk
-    (change_by (call settings at caller) (facts_of command desk) (plan_of command))
+    → IsWritable desk (change_of (call settings at caller) (facts_of command desk) command)
