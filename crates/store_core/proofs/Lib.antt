@@ -7,6 +7,7 @@ pub mod HistoryLemmas
 pub mod MakeLemmas
 pub mod MakeStatements
 pub mod OrderLemmas
+pub mod Renewed
 pub mod Revised
 pub mod RoleRows
 pub mod RiseLemmas

@@ -1,4 +1,5 @@
 pub mod Applying
+pub mod Due
 pub mod Found
 pub mod Seen
 pub mod Written
