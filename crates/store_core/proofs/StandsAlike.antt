@@ -1,13 +1,13 @@
 -- Tables that hold some rows hold them in any order.
 use Rattle.std.proofs.Common.{◌<◌, List, [], ◌∷◌, Ok, Err, OnOk, OnErr, Result, ap, subst, ◌∙◌}
 use Rattle.std.specs.Prelude.{◌^◌}
-use Rattle.std.proofs.Common.{IsPermutation}
+use Rattle.std.proofs.Common.{IsPermutation, None}
 use Rattle.std.proofs.lemmas.List.Sorted.{IsPermutation-sym, IsPermutation-trans}
 use Rattle.sqlite.specs.Effect.{Database}
 use Rattle.sqlite.specs.Order.{Row}
 use Rattle.sqlite.specs.State.{State}
 use Rattle.store_tables.specs.Calls.{Leaves}
-use Rattle.store_tables.specs.Contents.{Contents}
+use Rattle.store_tables.specs.Contents.{Contents, no_contents}
 use Rattle.store_tables.specs.Kept.{Holds}
 use Rattle.store_tables.specs.Spelling.{version_row}
 use Rattle.store_tables.specs.Stands.{Stand, StandsFor, Tables}
@@ -16,7 +16,7 @@ use Rattle.store_tables.proofs.LastLemmas.{has_permuted}
 use Rattle.store_tables.proofs.ValueLemmas.{are_values, values_of}
 use Rattle.store_tables.specs.declared.fault.StoreFault.{StoreFault}
 use Rattle.desk_model.specs.Change.{applied}
-use Rattle.desk_model.specs.Desk.{Desk}
+use Rattle.desk_model.specs.Desk.{Desk, empty_desk}
 use Rattle.desk_model.specs.IsDesk.{IsDesk}
 use Rattle.desk_model.specs.declared.change.Change.{Change}
 use Rattle.store_core.specs.Applying.{Applies}
@@ -72,6 +72,12 @@ pub applied_for : {X : Type 0} (r : Result X StoreFault) (change : Change) (old 
 applied_for (Ok x) change old new applies desk is fits stand =
     (dues_after change stand.0, applies desk is fits stand.0 stand.1)
 applied_for (Err e) change old new applies desk is fits stand = tt
+
+-- tables without rows stand for the empty desk
+pub empty_stands : {X E : Type 0} (r : Result X E) (s : State) → OnOk r (Stand no_contents s)
+    → OnOk r (StandsFor empty_desk s)
+empty_stands (Ok x) s stand = (λ row. None, stand)
+empty_stands (Err e) s stand = tt
 
 -- what stays of each contents at a fault stays of all
 pub left_at_fault : {X E : Type 0} (r : Result X E) (old new : State)

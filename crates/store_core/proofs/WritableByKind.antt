@@ -1,8 +1,8 @@
 -- The change of a command that isn't refused can be written, by the kind of the command.
-use Rattle.std.proofs.Common.{◌≡◌, ◌∙◌, ℕ, ◌+◌, ◌==◌, true, false, not, List, [], ◌∷◌, length}
-use Rattle.std.proofs.Common.{Option, Some, None, refl, ap, sym, subst, arith, map, ◌≤◌}
-use Rattle.std.proofs.lemmas.Bool.{and_from, and_parts, eqb-true, ne_eqb}
-use Rattle.std.specs.List.{list_all, list_any}
+use Rattle.std.proofs.Common.{◌≡◌, ◌∙◌, ℕ, ◌+◌, true, not, List, [], ◌∷◌, length}
+use Rattle.std.proofs.Common.{Option, Some, None, refl, ap, sym, subst, arith}
+use Rattle.std.proofs.lemmas.Bool.{and_from}
+use Rattle.std.specs.List.{list_all}
 use Rattle.std.specs.Option.{is_some}
 use Rattle.hours_core.specs.Moment.{is_moment}
 use Rattle.settings_core.specs.Settings.{knows}
@@ -25,11 +25,11 @@ use Rattle.desk_model.specs.Commands.Reply as reply
 use Rattle.desk_model.specs.Condition.{Condition}
 use Rattle.desk_model.specs.Desk.{Desk, Request, request_at}
 use Rattle.desk_model.specs.Facts.{seen_request}
-use Rattle.desk_model.specs.IsDesk.{IsDesk, are_numbered}
+use Rattle.desk_model.specs.IsDesk.{IsDesk}
 use Rattle.desk_model.specs.Names.{in_order}
 use Rattle.desk_model.specs.Plan.{Call, change_by}
 use Rattle.desk_model.specs.Step.{call, facts_of, guard}
-use Rattle.store_core.proofs.Revised.{id_of, none_past}
+use Rattle.store_core.proofs.Revised.{none_past}
 use Rattle.store_core.proofs.Writable.{IsLast, are_new, last_there, nobody, requestors_anew}
 use Rattle.store_core.proofs.Writable.{rising_apart, watching_is}
 use Rattle.store_core.specs.Written.{FilesNext, IsWritable, PutsAnew, SetsThere, is_there}
