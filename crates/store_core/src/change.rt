@@ -105,8 +105,8 @@ fn write_rows<S: Alter>(tx: &mut Transaction<'_, S>, change: &Change) -> Result<
     ensures fault { IfErr result (λ e. e ≡ StoreFault.Refused) }
 {
     open_queue(tx, &change.queue)?;
-    file_request(tx, &change.filed, None)?;
-    revise_request(tx, &change.row, None)
+    file_request(tx, &change.filed, change.due)?;
+    revise_request(tx, &change.row, change.due)
 }
 
 /// Puts persons into roles, and takes persons out of roles.
