@@ -8,8 +8,8 @@ use crate::answer::Answer;
 use crate::due::due_of;
 use crate::rows::{Entry, LinkRow, QueueRow, RequestRow, Watcher};
 use hours_core::Minute;
-use std::alloc::Global;
 use settings_core::Settings;
+use std::alloc::Global;
 use text_core::Sequence;
 
 /// What an accepted command does to the desk, in this order. A reading command does nothing.

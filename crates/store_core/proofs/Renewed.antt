@@ -221,7 +221,7 @@ module _ (s : Settings) (at : ℕ) (caller : List ℕ) (command : Command) (desk
         record { free = free; row = sets_is; same = eqb-true r.row.id new.id same } in
         let goes = row_goes IdentityGoes s at caller command desk r.row.id r (filed new) found
         (ids_kept command) (identities_go command) sets in
-        let open : is_some (queue_at desk new.queue) ≡ true =
+        let there_still : is_some (queue_at desk new.queue) ≡ true =
         subst (λ n. is_some (queue_at desk n) ≡ true) (sym goes.0.queue) there in
         ap (λ (o : Option RequestRow). option_and_then
         (λ q. option_and_then (due_of s q) (either_row o change.row)) (facts_of command desk).queue)
@@ -230,7 +230,7 @@ module _ (s : Settings) (at : ℕ) (caller : List ℕ) (command : Command) (desk
         (λ q. option_and_then (due_of s q) o) (facts_of command desk).queue) sets_is
         ∙ ap (λ (o : Option QueueRow). option_and_then (λ q. due_of s q new) o)
         (goes.1 ∙ ap (queue_at desk) (sym goes.0.queue))
-        ∙ due_stays new open
+        ∙ due_stays new there_still
       where
         absurd_row : {X : Type 0} → change.row ≡ None → X
         absurd_row no_row = cc

@@ -45,7 +45,7 @@ use Rattle.store_core.proofs.DuesWritten.{Dues, more_dated, one_dated}
 use Rattle.store_core.proofs.RoleRows.{filter_alike, is_row_of, put_row_alike, taken_each}
 use Rattle.store_core.specs.Written.{AreAlike, FilesNext, IsWritable, PutsAnew, SetsThere, is_there}
 use Rattle.store_core.specs.Written.{link_added, link_dropped, queue_added, request_added}
-use Rattle.store_core.specs.Written.{change_due, due_with, dues_after, request_set, with_rows}
+use Rattle.store_core.specs.Written.{due_with, dues_after, request_set, with_rows}
 use Rattle.store_core.specs.Written.{written}
 
 -- the requests of a desk are numbered from 1
@@ -406,7 +406,7 @@ pub written_alike : (due : Dues) (desk : Desk) (change : Change) → IsDesk desk
     → AreAlike (written change (contents_of due desk))
     (contents_of (dues_after change due) (applied change desk))
 written_alike due desk change is fits =
-    let moment = change_due change in
+    let moment = change.due in
     let one_more = due_with change.filed moment due in
     let after = dues_after change due in
     let opened = queue_put change.queue desk in

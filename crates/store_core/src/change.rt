@@ -4,7 +4,7 @@ ghost use Rattle.sqlite.specs.Held.{state};
 ghost use Rattle.store_tables.specs.Calls.{Does};
 ghost use Rattle.store_tables.specs.Contents.{add_watcher, drop_watcher as without_watcher};
 ghost use Rattle.store_tables.specs.declared.fault.StoreFault.{StoreFault};
-ghost use Rattle.store_core.specs.Written.{change_due, link_added, link_dropped, queue_added};
+ghost use Rattle.store_core.specs.Written.{link_added, link_dropped, queue_added};
 ghost use Rattle.store_core.specs.Written.{request_added, request_set, written};
 
 use desk_core::{Change, LinkRow, QueueRow, RequestRow};
@@ -99,8 +99,8 @@ fn unlink<S: Alter>(
 /// Writes the queue and the rows of requests.
 fn write_rows<S: Alter>(tx: &mut Transaction<'_, S>, change: &Change) -> Result<(), StoreFault>
     ensures same_reference { tx.new.conn.ghost_name ≡ tx.old.conn.ghost_name }
-    ensures made { Does (λ c. request_set change.now.row (change_due change.now)
-        (request_added change.now.filed (change_due change.now) (queue_added change.now.queue c)))
+    ensures made { Does (λ c. request_set change.now.row (change.now.due)
+        (request_added change.now.filed (change.now.due) (queue_added change.now.queue c)))
         (state S.Store tx.old.conn.now) (state S.Store tx.new.conn.now) result }
     ensures fault { IfErr result (λ e. e ≡ StoreFault.Refused) }
 {

@@ -60,7 +60,7 @@ fn reply_to<S: Backend>(
         (tables_of S.Store desk.old) (tables_of S.Store desk.new)) }
     ensures err { OnErr result ((room.new ≡ room.old)
         × StaysOn (settings_of S.Store desk.old)
-            (tables_of S.Store desk.old) (tables_of S.Store desk.new)) }
+        (tables_of S.Store desk.old) (tables_of S.Store desk.new)) }
     ensures honest { WasClean (tables_of S.Store desk.old) (tables_of S.Store desk.new) }
     ensures same { settings_of S.Store desk.new ≡ settings_of S.Store desk.old }
 {
@@ -88,7 +88,7 @@ fn reply_at<S: Backend>(
         (tables_of S.Store desk.old) (tables_of S.Store desk.new)) }
     ensures err { OnErr result ((room.new ≡ room.old)
         × StaysOn (settings_of S.Store desk.old)
-            (tables_of S.Store desk.old) (tables_of S.Store desk.new)) }
+        (tables_of S.Store desk.old) (tables_of S.Store desk.new)) }
     ensures honest { WasClean (tables_of S.Store desk.old) (tables_of S.Store desk.new) }
     ensures same { settings_of S.Store desk.new ≡ settings_of S.Store desk.old }
 {
@@ -121,7 +121,7 @@ fn do_command<S: Backend>(
         (tables_of S.Store desk.old) (tables_of S.Store desk.new)) }
     ensures err { OnErr result ((room.new ≡ room.old)
         × StaysOn (settings_of S.Store desk.old)
-            (tables_of S.Store desk.old) (tables_of S.Store desk.new)) }
+        (tables_of S.Store desk.old) (tables_of S.Store desk.new)) }
     ensures honest { WasClean (tables_of S.Store desk.old) (tables_of S.Store desk.new) }
     ensures same { settings_of S.Store desk.new ≡ settings_of S.Store desk.old }
 {
