@@ -2,7 +2,7 @@
 -- sets has the moment that comes with it, and of all others neither the row nor the queue changes.
 use Rattle.std.proofs.Common.{◌≡◌, ◌⊎◌, ◌∙◌, ℕ, ◌+◌, ◌<◌, ◌≤◌, ◌==◌, Bool, true, false, cond, not}
 use Rattle.std.proofs.Common.{List, [], ◌∷◌, find, length, map, Option, Some, None, inl, inr}
-use Rattle.std.proofs.Common.{refl, absurd, ap, ap₂, arith, sym, subst}
+use Rattle.std.proofs.Common.{refl, ap, ap₂, arith, sym, subst}
 use Rattle.std.specs.List.{All, list_all}
 use Rattle.std.specs.Option.{is_some}
 use Rattle.std.specs.Prelude.{⊤, option_and_then}
@@ -91,7 +91,7 @@ queue_stays change desk name new there =
 -- ---- what is due of one row
 
 -- a row that is filed has another number
-NotFiled : Option RequestRow → RequestRow → Type 0
+abbrev NotFiled : Option RequestRow → RequestRow → Type 0
 NotFiled None row = ⊤
 NotFiled (Some new) row = (row.id == new.id) ≡ false
 
@@ -101,7 +101,7 @@ past_filed None moment due row other = refl
 past_filed (Some new) moment due row other = ap (λ b. cond b moment (due row)) other
 
 -- the row that a change sets, where the request has its number, is due when the change says
-SetsDue : Option RequestRow → Option ℕ → (RequestRow → Option ℕ) → RequestRow → Type 0
+abbrev SetsDue : Option RequestRow → Option ℕ → (RequestRow → Option ℕ) → RequestRow → Type 0
 SetsDue None moment after row = ⊤
 SetsDue (Some new) moment after row = (row.id == new.id) ≡ true → moment ≡ after new
 
@@ -141,7 +141,7 @@ sets_or_files desk (OpenQueue name lifecycle level) = λ call none. inl refl
 sets_or_files desk (Create queue subject status requestors) = λ call none. inl refl
 sets_or_files desk other = λ call r there same none. inr refl
 
-IsCreate : Command → Type 0
+abbrev IsCreate : Command → Type 0
 IsCreate (Create queue subject status requestors) = ⊤
 IsCreate other = ⊥
 
@@ -186,7 +186,7 @@ module _ (s : Settings) (at : ℕ) (caller : List ℕ) (command : Command) (desk
     fits : Fits desk (change_by (call s at caller) (facts_of command desk) (plan_of command))
     fits = change_fits s at caller command desk is free
 
-    front : List Condition
+    abbrev front : List Condition
     front = (UnknownCaller, not (knows s caller)) ∷ (BadMoment, not (is_moment at)) ∷ []
 
     either : (change.row ≡ None) ⊎ (change.filed ≡ None)

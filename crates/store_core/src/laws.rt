@@ -11,7 +11,6 @@ pub fn writing_law()
 
 /// On a well-formed desk whose tables keep when each request is due, the change of a command that
 /// isn't refused makes them keep when each is due on the desk after it.
-#[tactic(auto, using(crate::proofs::Renewed::renewed))]
 pub fn renewing_law()
     ensures { RenewsDues }
 {}
