@@ -25,7 +25,7 @@ returns-in_err-queues-clause-fault g c d stand =
     rw is (queues_refuse (state_of g.S.Store c.read_links.new.store)
     (state_of g.S.Store c.queues.new.self) c.queues.ensures.kept.clean
     {X = ⊤} (Err c.in_err-queues.field-0.0) c.in_err-queues.ensures.mismatch d
-    (stands_for c.read_links.ensures.kept desk stand))
+    (stands c.read_links.ensures.kept d stand))
 
 pub returns-in_err-watchers-clause-fault : goal.returns-in_err-watchers-clause-fault
 returns-in_err-watchers-clause-fault g c d stand =
@@ -34,4 +34,4 @@ returns-in_err-watchers-clause-fault g c d stand =
     rw is (watchers_refuse (state_of g.S.Store c.queues.new.self)
     (state_of g.S.Store c.watchers.new.self) c.watchers.ensures.kept.clean
     {X = ⊤} (Err c.in_err-watchers.field-0.0) c.in_err-watchers.ensures.mismatch d
-    (stands c.queues.ensures.kept d (stands_for c.read_links.ensures.kept desk stand)))
+    (stands c.queues.ensures.kept d (stands c.read_links.ensures.kept d stand)))
