@@ -47,10 +47,10 @@ fn renewals(
         dues.items ≡ renewing.renewals settings.now queues.now dated.now) }
 {
     let mut dues = Vec::new(alloc);
-    for pair in dated {
-        let due = due_by(settings, queues, &pair.0);
-        if !is_same_moment(due, pair.1) {
-            dues.push((pair.0.id, due))?;
+    for (row, kept) in dated {
+        let due = due_by(settings, queues, row);
+        if !is_same_moment(&due, kept) {
+            dues.push((row.id, due))?;
         }
     }
     Ok(dues)
@@ -67,8 +67,8 @@ fn due_by(settings: &Settings, queues: &[QueueRow], row: &RequestRow) -> Option<
     }
 }
 
-fn is_same_moment(one: Option<Minute>, other: Option<Minute>) -> bool
-    ensures { result ≡ renewing.is_same_moment one other }
+fn is_same_moment(one: &Option<Minute>, other: &Option<Minute>) -> bool
+    ensures { result ≡ renewing.is_same_moment one.now other.now }
 {
     match (one, other) {
         (None, None) => true,
