@@ -2,7 +2,9 @@
 -- differ, so each is written for one request alone.
 use Rattle.std.proofs.Common.{◌≡◌, ◌∙◌, ℕ, ◌+◌, ◌<◌, ◌≤◌, ◌==◌, Bool, true, false, cond, not}
 use Rattle.std.proofs.Common.{List, [], ◌∷◌, filter, length, map, Option, Some, None, refl}
-use Rattle.std.proofs.Common.{ap, ap₂, arith, sym}
+use Rattle.std.proofs.Common.{◌++◌, ap, ap₂, arith, get_or, sym, take}
+use Rattle.std.proofs.lemmas.List.{append-nil, map-append}
+use Rattle.std.proofs.lemmas.List.Elements.{filter_more}
 use Rattle.std.specs.List.{All}
 use Rattle.std.proofs.lemmas.Bool.{and_parts, eq-eqb, eqb-true, ne_eqb}
 use Rattle.std.proofs.lemmas.List.Elements.{All-nil, All-cons, All-head, All-tail}
@@ -116,3 +118,35 @@ renewed_dues s desk due is =
     (same_pairs _ (due_of_row s desk) desk.requests
     (each s desk.queues due 1 desk.requests due is.requests
     (as_itself s desk.queues due desk.requests)))
+
+-- ---- a loop's step
+
+mapped : {X Y : Type 0} (f : X → Y) (b : Bool) (x : X)
+    → cond b (f x ∷ []) [] ≡ map f (cond b (x ∷ []) [])
+mapped f true x = refl
+mapped f false x = refl
+
+pub renewals_more : (s : Settings) (queues : List QueueRow) (xs : List Dated) (i : ℕ) (d : Dated)
+    (b : Bool) (was now : List (ℕ × Option ℕ)) → i < length xs
+    → b ≡ is_stale s queues (get_or xs i d)
+    → now ≡ was ++ cond b (renewal s queues (get_or xs i d) ∷ []) []
+    → was ≡ renewals s queues (take i xs) → now ≡ renewals s queues (take (i + 1) xs)
+renewals_more s queues xs i d b was now low b_is now_is was_is =
+    let f : Dated → ℕ × Option ℕ = renewal s queues in
+    let x = get_or xs i d in
+    let so_far = filter (is_stale s queues) (take i xs) in
+    now_is
+    ∙ ap (λ ys. ys ++ cond b (f x ∷ []) []) was_is
+    ∙ ap (λ c. map f so_far ++ cond c (f x ∷ []) []) b_is
+    ∙ ap (λ ys. map f so_far ++ ys) (mapped f (is_stale s queues x) x)
+    ∙ sym (map-append f so_far (cond (is_stale s queues x) (x ∷ []) []))
+    ∙ ap (map f) (sym (filter_more (is_stale s queues) xs i d low))
+
+pub one_put : {X : Type 0} (b : Bool) (x : X) (was now : List X) → b ≡ true → now ≡ was ++ x ∷ []
+    → now ≡ was ++ cond b (x ∷ []) []
+one_put b x was now is put = put ∙ ap (λ (t : Bool). was ++ cond t (x ∷ []) []) (sym is)
+
+pub none_put : {X : Type 0} (b : Bool) (x : X) (was now : List X) → b ≡ false → now ≡ was
+    → now ≡ was ++ cond b (x ∷ []) []
+none_put b x was now is same =
+    same ∙ sym (append-nil was) ∙ ap (λ (t : Bool). was ++ cond t (x ∷ []) []) (sym is)
