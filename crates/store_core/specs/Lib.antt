@@ -1,5 +1,6 @@
 pub mod Applying
 pub mod Due
 pub mod Found
+pub mod Rows
 pub mod Seen
 pub mod Written
