@@ -1,3 +1,4 @@
+pub mod AheadLemmas
 pub mod Alike
 pub mod DuesWritten
 pub mod FactsLemmas
