@@ -1,6 +1,6 @@
 -- Rows of requests that a store gives one at a time, by numbers that were read before.
-use Rattle.std.specs.Prelude.{◌≡◌, ◌++◌, ◌∷◌, ℕ, [], Err, List, None, Ok, Option, Result, Some, drop}
-use Rattle.std.specs.Prelude.{unwrap_or}
+use Rattle.std.specs.Prelude.{◌≡◌, ◌++◌, ◌∷◌, ℕ, [], Err, List, None, Ok, Option, Result, Some}
+use Rattle.std.specs.Prelude.{drop, unwrap_or}
 use Rattle.sqlite.specs.State.{HasCleanDisk}
 use Rattle.sqlite.specs.Store.{Ghosts}
 use Rattle.desk_model.specs.Desk.{Desk}

@@ -163,9 +163,9 @@ impl<'s, S: Alter> RequestRows<'s, S> {
     }
 
     /// The next row, or none after the last, and then none again. `Mismatch` where it is no request
-    /// or its due moment is neither a minute nor absent, `Refused` where the store or memory refuses
-    /// it, or its number has no row or two; after a fault it is spent, and always `Refused`. The
-    /// tables stay as they are.
+    /// or its due moment is neither a minute nor absent, `Refused` where the store or memory
+    /// refuses it, or its number has no row or two; after a fault it is spent, and always `Refused`.
+    /// The tables stay as they are.
     pub fn next(&mut self) -> Result<Option<(RequestRow, Option<Minute>)>, StoreFault>
         ensures same_reference { self.new.store.ghost_name ≡ self.old.store.ghost_name }
         ensures given { self.old.progress ≡ Progress.Reading →
