@@ -86,7 +86,7 @@ one_numbered (y ∷ ys) rise x (inl same) =
     (λ z low. ap (λ n. id_of z == n) is ∙ higher (id_of y) (id_of z) low) ys rise.0) in
     let others = filter (has_number (id_of x)) ys in
     ap (λ b. cond b (y ∷ others) others) (same_number (id_of x) (id_of y) is)
-    ∙ ap₂ (λ a as. a ∷ as) (sym same) rest
+    ∙ ap₂ (λ z zs. z ∷ zs) (sym same) rest
 one_numbered (y ∷ ys) rise x (inr later) =
     let others = filter (has_number (id_of x)) ys in
     let low : by_dated_id y x ≡ Less = all_has (λ z. by_dated_id y z ≡ Less) ys x rise.0 later in
@@ -97,7 +97,7 @@ their_rows : (ds : List Dated) → AllRise ds → (xs : List Dated)
     → ((x : Dated) → Has xs x → Has ds x) → rows_numbered ds (map id_of xs) ≡ xs
 their_rows ds rise [] there = refl
 their_rows ds rise (x ∷ xs) there =
-    ap₂ (λ a as. a ++ as) (one_numbered ds rise x (there x (inl refl)))
+    ap₂ (λ z zs. z ++ zs) (one_numbered ds rise x (there x (inl refl)))
     (their_rows ds rise xs (λ y has. there y (inr has)))
 
 pub queue_ahead : (due : RequestRow → Option ℕ) (desk : Desk) → IsDesk desk → (name : List ℕ)
