@@ -18,7 +18,7 @@ mod shown;
 pub mod store;
 
 /// What keeps the tables of a store: memory, or a file.
-pub use sqlite::Alter as Backend;
 pub use rows::RequestRows;
+pub use sqlite::Alter as Backend;
 pub use store::Store;
 pub use store_tables::StoreFault;
