@@ -1,4 +1,6 @@
+pub mod AheadLemmas
 pub mod Alike
+pub mod BeginLemmas
 pub mod DuesWritten
 pub mod FactsLemmas
 pub mod FactsLemmasInOrder

@@ -1,3 +1,4 @@
+pub mod Ahead
 pub mod Applying
 pub mod Due
 pub mod Found
