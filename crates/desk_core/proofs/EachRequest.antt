@@ -14,28 +14,28 @@ use Rattle.desk_model.specs.declared.change.Change.{Change}
 use Rattle.desk_model.specs.declared.rows.RequestRow.{RequestRow}
 use Rattle.desk_core.proofs.Changed.{OnlyOf, changed, requests_after, spared}
 
-each_mapped : {X : Type 0} (P Q : X → Type 0) (f : X → X) (xs : List X)
+pub each_mapped : {X : Type 0} (P Q : X → Type 0) (f : X → X) (xs : List X)
     → ((x : X) → P x → Q (f x)) → All P xs → All Q (map f xs)
 each_mapped P Q f [] follows all = All-nil Q
 each_mapped P Q f (x ∷ xs) follows all =
     All-cons Q (f x) (map f xs) (follows x (All-head P x xs all))
     (each_mapped P Q f xs follows (All-tail P x xs all))
 
-each_so : {X : Type 0} (P Q : X → Type 0) (xs : List X)
+pub each_so : {X : Type 0} (P Q : X → Type 0) (xs : List X)
     → ((x : X) → P x → Q x) → All P xs → All Q xs
 each_so P Q [] follows all = All-nil Q
 each_so P Q (x ∷ xs) follows all =
     All-cons Q x xs (follows x (All-head P x xs all))
     (each_so P Q xs follows (All-tail P x xs all))
 
-each_both : {X : Type 0} (P Q : X → Type 0) (xs : List X) → All P xs → All Q xs
+pub each_both : {X : Type 0} (P Q : X → Type 0) (xs : List X) → All P xs → All Q xs
     → All (λ x. P x × Q x) xs
 each_both P Q [] one two = All-nil (λ x. P x × Q x)
 each_both P Q (x ∷ xs) one two =
     All-cons (λ x. P x × Q x) x xs (All-head P x xs one, All-head Q x xs two)
     (each_both P Q xs (All-tail P x xs one) (All-tail Q x xs two))
 
-each_more : {X : Type 0} (P : X → Type 0) (xs : List X) (x : X) → All P xs → P x
+pub each_more : {X : Type 0} (P : X → Type 0) (xs : List X) (x : X) → All P xs → P x
     → All P (xs ++ x ∷ [])
 each_more P [] x all one = All-cons P x [] one (All-nil P)
 each_more P (y ∷ ys) x all one =
@@ -43,7 +43,7 @@ each_more P (y ∷ ys) x all one =
     (each_more P ys x (All-tail P y ys all) one)
 
 -- the numbers of numbered requests lie between the first and the number after the last
-numbers_lie : (low high n : ℕ) (xs : List Request) → low ≤ n → n + length xs ≤ high
+pub numbers_lie : (low high n : ℕ) (xs : List Request) → low ≤ n → n + length xs ≤ high
     → are_numbered n (map (λ r. r.row.id) xs) ≡ true
     → All (λ r. (low ≤ r.row.id) × (r.row.id < high)) xs
 numbers_lie low high n [] from to numbered =

@@ -18,10 +18,10 @@ abbrev pub row_in : Option RequestRow → RequestRow → RequestRow
 row_in None row = row
 row_in (Some new) row = new
 
-abbrev IdentityGoes : Call → Facts → SeenRequest → RequestRow → Type 0
+abbrev pub IdentityGoes : Call → Facts → SeenRequest → RequestRow → Type 0
 IdentityGoes call facts request new = IsSameRequest request.row new
 
-identities_go : (command : Command) → Goes IdentityGoes (plan_of command)
+pub identities_go : (command : Command) → Goes IdentityGoes (plan_of command)
 identities_go (OpenQueue name lifecycle level) = tt
 identities_go (Create queue subject status requestors) = tt
 identities_go other = λ call facts request new same free sets.

@@ -12,6 +12,9 @@ use Rattle.desk_model.specs.declared.change.Change.{Change}
 use Rattle.desk_model.specs.declared.command.Command.{Command}
 use Rattle.desk_model.specs.declared.facts.Facts.{Facts}
 use Rattle.desk_model.specs.declared.refusal.Refusal.{Refusal}
+use Rattle.desk_model.specs.declared.rows.QueueRow.{QueueRow}
+use Rattle.desk_model.specs.Dated.{dated}
+use Rattle.desk_core.specs.Decision.{change_of}
 use Rattle.desk_core.specs.Laws.{LeavesTheDesk}
 
 unchanged_by_plan : (plan : Plan) (call : Call) (facts : Facts) → is_reading plan ≡ true
@@ -24,13 +27,19 @@ pub reads_nothing : (command : Command) (call : Call) (facts : Facts) → IsRead
     → change_by call facts (plan_of command) ≡ no_change
 reads_nothing command call facts reads = unchanged_by_plan (plan_of command) call facts reads
 
+-- what puts no row has no due moment
+undated : (settings : Settings) (queue : Option QueueRow) → dated settings queue no_change ≡ no_change
+undated settings None = refl
+undated settings (Some queue) = refl
+
 -- what is decided of a reading command changes nothing
 pub reads_on : (command : Command) (call : Call) (facts : Facts) (conditions : List Condition)
     (result : Result Change Refusal)
-    → Decides result conditions (change_by call facts (plan_of command)) → IsReading command
+    → Decides result conditions (change_of call facts command) → IsReading command
     → IfOk result (λ change. change ≡ no_change)
 reads_on command call facts conditions (Ok change) decides reads =
-    decides.0.1 ∙ reads_nothing command call facts reads
+    decides.0.1 ∙ ap (dated call.settings facts.queue) (reads_nothing command call facts reads)
+    ∙ undated call.settings facts.queue
 reads_on command call facts conditions (Err refusal) decides reads = tt
 
 same_desk : (o : Option Refusal) (desk : Desk) → desk_unless o desk desk ≡ desk

@@ -5,7 +5,8 @@ use Rattle.desk_model.specs.Change.{applied}
 use Rattle.desk_model.specs.Commands.{plan_of}
 use Rattle.desk_model.specs.Condition.{Decides}
 use Rattle.desk_model.specs.Desk.{Desk}
-use Rattle.desk_model.specs.Plan.{change_by}
+use Rattle.desk_model.specs.Dated.{dated}
+use Rattle.desk_model.specs.Plan.{Call, change_by}
 use Rattle.desk_model.specs.Step.{call, conditions_on, effect, facts_of, guard}
 use Rattle.desk_model.specs.declared.change.Change.{Change}
 use Rattle.desk_model.specs.declared.command.Command.{Command}
@@ -27,8 +28,13 @@ Refuses settings at caller facts command result =
     → IfErr result (λ refusal. refusal ≢ Unavailable
     → guard settings at caller command desk ≡ Some refusal)
 
--- the result is that of the command's plan: its first condition that holds, or its change
+-- the change of the command's plan, with the moment at which the row that it puts is due
+abbrev pub change_of : Call → Facts → Command → Change
+change_of asked facts command =
+    dated asked.settings facts.queue (change_by asked facts (plan_of command))
+
+-- the result is that of the command's plan: its first condition that holds, or its change, dated
 abbrev pub FollowsPlan : Settings → ℕ → List ℕ → Facts → Command → Result Change Refusal → Type 0
 FollowsPlan settings at caller facts command result =
     Decides result (conditions_on (call settings at caller) facts command)
-    (change_by (call settings at caller) facts (plan_of command))
+    (change_of (call settings at caller) facts command)

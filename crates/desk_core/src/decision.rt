@@ -83,7 +83,10 @@ fn decide_on_facts(
         caller,
         facts,
     };
-    context.decide(command)
+    match context.decide(command) {
+        Ok(change) => Ok(change.dated(settings, &facts.queue)),
+        Err(refusal) => Err(refusal),
+    }
 }
 
 /// The moment of this number, if a command may happen then.

@@ -20,6 +20,7 @@ no_change =
       queue = None;
       filed = None;
       row = None;
+      due = None;
       put = [];
       taken = [];
       linked = None;

@@ -1,6 +1,7 @@
 pub mod Change
 pub mod Commands
 pub mod Condition
+pub mod Dated
 pub mod Desk
 pub mod Due
 pub mod Entries

@@ -1,9 +1,14 @@
-ghost use Rattle.std.specs.Prelude.{◌≡◌};
+ghost use Rattle.std.specs.Prelude.{◌≡◌, option_and_then};
 ghost use Rattle.desk_model.specs.Change as change;
+ghost use Rattle.desk_model.specs.Due as due;
+ghost use Rattle.desk_model.specs.Dated.{dated, due_in_queue, either_row};
 ghost use Rattle.desk_model.specs.Plan.{told_of};
 
 use crate::answer::Answer;
+use crate::due::due_of;
 use crate::rows::{Entry, LinkRow, QueueRow, RequestRow, Watcher};
+use hours_core::Minute;
+use settings_core::Settings;
 use std::alloc::Global;
 use text_core::Sequence;
 
@@ -16,6 +21,8 @@ pub struct Change {
     pub filed: Option<RequestRow>,
     /// The row that a request gets in place of its own.
     pub row: Option<RequestRow>,
+    /// When the request that is filed, or that gets another row, is due.
+    pub due: Option<Minute>,
     /// The persons that are put into a role.
     pub put: Sequence<Watcher>,
     /// The persons that are taken out of a role.
@@ -40,6 +47,40 @@ impl Change {
         }
     }
 
+    /// The change with the moment at which the request that it files, or that gets another row, is
+    /// due in this queue. Nothing else of it changes.
+    pub fn dated(self, settings: &Settings, queue: &Option<QueueRow>) -> Change
+        ensures { result ≡ dated settings.now queue.now self }
+    {
+        let due = self.due_in(settings, queue);
+        Change { due, ..self }
+    }
+
+    /// When the request that is filed, or that gets another row, is due in this queue, in minutes
+    /// since 1970-01-01 00:00 UTC; none where the change puts no row.
+    fn due_in(&self, settings: &Settings, queue: &Option<QueueRow>) -> Option<Minute>
+        ensures { result
+            ≡ due_in_queue settings.now queue.now (either_row self.now.filed self.now.row) }
+    {
+        match queue {
+            Some(queue) => match &self.filed {
+                Some(row) => due_of(settings, queue, row),
+                None => self.due_of_row(settings, queue),
+            },
+            None => None,
+        }
+    }
+
+    /// When the request that gets another row is due in this queue.
+    fn due_of_row(&self, settings: &Settings, queue: &QueueRow) -> Option<Minute>
+        ensures { result ≡ option_and_then (due.due_of settings.now queue.now) self.now.row }
+    {
+        match &self.row {
+            Some(row) => due_of(settings, queue, row),
+            None => None,
+        }
+    }
+
     /// Nothing.
     pub fn no_change(alloc: Global) -> Change
         ensures { result ≡ change.no_change }
@@ -48,6 +89,7 @@ impl Change {
             queue: None,
             filed: None,
             row: None,
+            due: None,
             put: Sequence::from(Vec::new(alloc)),
             taken: Sequence::from(Vec::new(alloc)),
             linked: None,

@@ -27,7 +27,7 @@ use Rattle.desk_program.proofs.LedLines.{knows_empty}
 pub stepped : (s : Settings) (at : ℕ) (caller : List ℕ) (command : Command) (outcome : Outcome)
     (old new : State) (text : List ℕ) (status : ℕ) → text ≡ outcome_text outcome
     → status ≡ status_of outcome → StepsOn s (ask_by at caller command) outcome old new
-    → LeadsOn (TakesStep s (ask_by at caller command) text status) old new
+    → LeadsOn s (TakesStep s (ask_by at caller command) text status) old new
 stepped s at caller command outcome old new text status told ends steps desk formed stands clean =
     let done = steps desk formed stands clean in
     (done.0, (outcome, done.1.step, told, ends, done.1.formed), done.2)
@@ -36,7 +36,7 @@ stepped s at caller command outcome old new text status told ends steps desk for
 pub unavailable_if_long : (s : Settings) (at : ℕ) (caller : List ℕ) (command : Command)
     (outcome : Outcome) (old new : State) → is_short outcome ≡ false
     → StepsOn s (ask_by at caller command) outcome old new
-    → LeadsOn (TakesStep s (ask_by at caller command) unavailable_text 1) old new
+    → LeadsOn s (TakesStep s (ask_by at caller command) unavailable_text 1) old new
 unavailable_if_long s at caller command outcome old new long steps desk formed stands clean =
     let done = steps desk formed stands clean in
     let same = unchanged_if_long s at caller command desk done.0 outcome long done.1.step in
@@ -44,14 +44,14 @@ unavailable_if_long s at caller command outcome old new long steps desk formed s
 
 -- a command for which there was no room
 pub not_stepped : (s : Settings) (ask : Ask) (tables : State)
-    → LeadsOn (TakesStep s ask unavailable_text 1) tables tables
+    → LeadsOn s (TakesStep s ask unavailable_text 1) tables tables
 not_stepped s ask tables desk formed stands clean =
     (desk, (Err Unavailable, inl (refl, refl), refl, refl, formed), stands)
 
 -- the tables were opened, and the command was done
 pub done_once_opened : (s : Settings) (text : List ℕ) (ask : Ask) (old mid new : State)
     (line : List ℕ) (status : ℕ) → IsOpened text old s mid → WasClean mid new
-    → LeadsOn (TakesStep s ask line status) mid new → IsDone s ask old new line status
+    → LeadsOn s (TakesStep s ask line status) mid new → IsDone s ask old new line status
 done_once_opened s text ask old mid new line status is honest leads desk formed (inl stand) clean =
     let led = leads desk formed (is.kept (contents_of desk) stand) clean in
     (led.0, is.known desk formed stand (honest clean), led.1, led.2)

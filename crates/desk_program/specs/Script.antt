@@ -79,7 +79,7 @@ LinePrints settings (Asked at caller command) old text new =
 -- one, which the line leaves
 abbrev pub LineLeads : Settings → Line → List ℕ → State → State → Type 0
 LineLeads settings line text =
-    LeadsOn (λ desk after. LinePrints settings line desk text after × IsDesk after)
+    LeadsOn settings (λ desk after. LinePrints settings line desk text after × IsDesk after)
 
 -- whatever a connection shows, its disk is clean
 abbrev pub HasCleanDisks : {S : Type 0} → Ghosts S → Type 0

@@ -22,10 +22,10 @@ AnswersConnections settings (suc n) old new =
 -- ---- over tables
 
 abbrev pub AnswersOne : Settings → State → State → Type 0
-AnswersOne settings = LeadsOn (λ desk after. AnswersConnection settings desk after)
+AnswersOne settings = LeadsOn settings (λ desk after. AnswersConnection settings desk after)
 
 abbrev pub AnswersMany : Settings → ℕ → State → State → Type 0
-AnswersMany settings n = LeadsOn (λ desk after. AnswersConnections settings n desk after)
+AnswersMany settings n = LeadsOn settings (λ desk after. AnswersConnections settings n desk after)
 
 -- all connections were answered, or those before an accept that failed
 abbrev pub IsEnded : Settings → ℕ → ℕ → State → State → Type 0

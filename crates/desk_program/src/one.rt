@@ -162,7 +162,8 @@ fn run_on_desk<S: Backend, W: Write>(
 ) -> (u8, Store<S>)
     ensures same_writer { HaveOneWriter output.new output.old }
     ensures printed { (line : List ℕ)
-        × LeadsOn (TakesStep (settings_of S.Store desk) (ask_by at caller.now command.now)
+        × LeadsOn (settings_of S.Store desk)
+        (TakesStep (settings_of S.Store desk) (ask_by at caller.now command.now)
         line result.0) (tables_of S.Store desk) (state_of S.Store result.1)
         × Prints W.contents output.old output.new line }
     ensures honest { WasClean (tables_of S.Store desk) (state_of S.Store result.1) }
@@ -186,7 +187,8 @@ fn run_step<S: Backend, W: Write>(
 ) -> u8
     ensures same_writer { HaveOneWriter output.new output.old }
     ensures printed { (line : List ℕ)
-        × LeadsOn (TakesStep (settings_of S.Store desk.old) (ask_by at caller.now command.now)
+        × LeadsOn (settings_of S.Store desk.old)
+        (TakesStep (settings_of S.Store desk.old) (ask_by at caller.now command.now)
         line result) (tables_of S.Store desk.old) (tables_of S.Store desk.new)
         × Prints W.contents output.old output.new line }
     ensures honest { WasClean (tables_of S.Store desk.old) (tables_of S.Store desk.new) }
@@ -214,7 +216,8 @@ fn run_in_room<S: Backend, W: Write>(
     requires room { vec_len room + 64 ≤ vec_capacity room }
     ensures same_writer { HaveOneWriter output.new output.old }
     ensures printed { (line : List ℕ)
-        × LeadsOn (TakesStep (settings_of S.Store desk.old) (ask_by at caller.now command.now)
+        × LeadsOn (settings_of S.Store desk.old)
+        (TakesStep (settings_of S.Store desk.old) (ask_by at caller.now command.now)
         line result) (tables_of S.Store desk.old) (tables_of S.Store desk.new)
         × Prints W.contents output.old output.new line }
     ensures honest { WasClean (tables_of S.Store desk.old) (tables_of S.Store desk.new) }

@@ -1,5 +1,6 @@
 pub mod KnownLemmas
 pub mod Laws
+pub mod RenewedDues
 pub mod Reported
 pub mod Stepping
 pub mod Running

@@ -30,7 +30,7 @@ run_more Does old (a ∷ asks) [] mid ask outcome new run does = absurd run
 -- a run on tables, and that the desk which it leaves is well formed
 abbrev pub RunsSoFar : Settings → List Ask → List Outcome → State → State → Type 0
 RunsSoFar settings asks outcomes =
-    LeadsOn (λ desk after. RunsBy (IsStep settings) desk asks outcomes after × IsDesk after)
+    LeadsOn settings (λ desk after. RunsBy (IsStep settings) desk asks outcomes after × IsDesk after)
 
 pub run_begins : (s : Settings) (tables : State) → RunsSoFar s [] [] tables tables
 run_begins s tables desk is stand clean = (desk, (refl, is), stand)

@@ -9,6 +9,7 @@ use Rattle.desk_model.specs.declared.command.Command.{Command}
 use Rattle.desk_model.specs.declared.facts.Facts.{Facts}
 use Rattle.desk_model.specs.declared.refusal.Refusal.{Refusal}
 use Rattle.desk_model.specs.declared.refusal.Refusal.TheVariants.{Unavailable}
+use Rattle.desk_core.specs.Decision.{change_of}
 use Rattle.desk_core.proofs.Unchanged.{reads_nothing}
 use Rattle.desk_model.specs.Change.{applied}
 use Rattle.desk_model.specs.Commands.{IsReading, plan_of}
@@ -20,9 +21,11 @@ use Rattle.desk_model.specs.Step.{Ask, Outcome, Steps, call, desk_unless, effect
 use Rattle.desk_model.specs.Step.{outcome_unless}
 use Rattle.store_core.proofs.WritableByKind.{change_writable}
 use Rattle.store_tables.specs.Calls.{Leaves}
-use Rattle.store_tables.specs.Contents.{contents_of}
-use Rattle.store_tables.specs.Stands.{StandsFor}
-use Rattle.store_core.specs.Written.{IsWritable}
+use Rattle.store_tables.specs.Contents.{Contents, contents_of}
+use Rattle.store_tables.specs.Stands.{Stand}
+use Rattle.store_core.specs.Due.{due_of_row}
+use Rattle.store_core.specs.Written.{IsWritable, dues_after}
+use Rattle.store_core.proofs.Renewed.{renewed}
 use Rattle.service_core.specs.Decided.{Answers, CarriesOut, IsDecided, StepsSeeing, Writes}
 use Rattle.service_core.specs.TableSteps.{StepsOn, ask_by}
 use Rattle.service_core.proofs.Laws.{lawful}
@@ -81,8 +84,7 @@ answered_by_plan other c desk writes = refl
 -- what a command that changes the desk answers is told of its change
 answered_so : (s : Settings) (ask : Ask) (desk : Desk) (change : Change)
     → is_reading (plan_of ask.command) ≡ false
-    → change
-    ≡ change_by (call s ask.at ask.caller) (facts_of ask.command desk) (plan_of ask.command)
+    → change ≡ change_of (call s ask.at ask.caller) (facts_of ask.command desk) ask.command
     → told_of change ≡ answer_of s ask.at ask.caller ask.command desk
 answered_so s ask desk change writes made =
     ap told_of made ∙ answered_by_plan (plan_of ask.command) (call s ask.at ask.caller) desk writes
@@ -91,21 +93,20 @@ parts : (facts : Facts) (change : Change) (s : Settings) (ask : Ask) (desk : Des
     → IsDecided facts change s ask desk
     → (facts ≡ facts_of ask.command desk)
     × (guard s ask.at ask.caller ask.command desk ≡ None)
-    × (change
-    ≡ change_by (call s ask.at ask.caller) (facts_of ask.command desk) (plan_of ask.command))
+    × (change ≡ change_of (call s ask.at ask.caller) (facts_of ask.command desk) ask.command)
 unfolding IsDecided
 parts facts change s ask desk decided = decided
 
 decide_so : (facts : Facts) (change : Change) (s : Settings) (ask : Ask) (desk : Desk)
     → facts ≡ facts_of ask.command desk
     → guard s ask.at ask.caller ask.command desk ≡ None
-    → change ≡ change_by (call s ask.at ask.caller) facts (plan_of ask.command)
+    → change ≡ change_of (call s ask.at ask.caller) facts ask.command
     → IsDecided facts change s ask desk
 unfolding IsDecided
 decide_so facts change s ask desk seen free made = (
   seen,
   free,
-  made ∙ ap (λ (f : Facts). change_by (call s ask.at ask.caller) f (plan_of ask.command)) seen,
+  made ∙ ap (λ (f : Facts). change_of (call s ask.at ask.caller) f ask.command) seen,
 )
 
 -- ---- on tables
@@ -115,7 +116,7 @@ pub unavailable_on : (s : Settings) (ask : Ask) (refusal : Refusal) (old new : S
 unavailable_on s ask refusal old new same kept desk is stand clean = (
   desk,
   lawful s ask desk (Err refusal) desk is (inl (ap Err same, refl)),
-  kept (contents_of desk) stand,
+  kept (contents_of (due_of_row s desk) desk) stand,
 )
 
 pub refused_seeing : (facts : Facts) (s : Settings) (ask : Ask) (refusal : Refusal)
@@ -145,17 +146,17 @@ pub read_where : (facts : Facts) (change : Change) (s : Settings) (ask : Ask) (o
     → CarriesOut facts change s ask outcome old new
 read_where facts change s ask (Ok answer) old new so told fault kept desk is holds stand clean =
     let decided = parts facts change s ask desk holds in
-    let step = done s ask desk answer decided.1 (told desk is stand clean decided.0) in (
+    let step = done s ask desk answer decided.1 (told desk is (due_of_row s desk, stand) clean decided.0) in (
       desk,
       lawful s ask desk (Ok answer) desk is
           (subst (λ (d : Desk). Steps s ask.at ask.caller ask.command desk (Ok answer) d)
           (unchanged s ask desk so) step),
-      kept (contents_of desk) stand,
+      kept (contents_of (due_of_row s desk) desk) stand,
     )
 read_where facts change s ask (Err refusal) old new so told fault kept desk is holds stand clean = (
   desk,
   lawful s ask desk (Err refusal) desk is (inl (ap Err fault, refl)),
-  kept (contents_of desk) stand,
+  kept (contents_of (due_of_row s desk) desk) stand,
 )
 
 -- as it is told of the command that is asked
@@ -184,14 +185,17 @@ written_where facts change s ask (Ok answer) old new so told writes fault kept d
     (told ∙ answered_so s ask desk change so decided.2) in (
       after,
       lawful s ask desk (Ok answer) after is step,
-      subst (λ (c : Change). StandsFor (applied c desk) new) decided.2
-          (writes desk is fits stand),
+      subst (λ (c : Contents). Stand c new)
+          (renewed s ask.at ask.caller ask.command desk is decided.1)
+          (subst (λ (c : Change). Stand (contents_of (dues_after c (due_of_row s desk))
+          (applied c desk)) new) decided.2
+          (writes desk is fits (due_of_row s desk) stand)),
     )
 written_where facts change s ask (Err refusal) old new so told writes fault kept desk is holds
     stand clean = (
       desk,
       lawful s ask desk (Err refusal) desk is (inl (ap Err fault, refl)),
-      kept (contents_of desk) stand,
+      kept (contents_of (due_of_row s desk) desk) stand,
     )
 
 pub decided_seeing : (facts : Facts) (change : Change) (s : Settings) (ask : Ask)
@@ -199,7 +203,7 @@ pub decided_seeing : (facts : Facts) (change : Change) (s : Settings) (ask : Ask
     → ((desk : Desk) → facts ≡ facts_of ask.command desk
     → (guard s ask.at ask.caller ask.command desk ≡ None)
     × (applied change desk ≡ effect s ask.at ask.caller ask.command desk))
-    → change ≡ change_by (call s ask.at ask.caller) facts (plan_of ask.command)
+    → change ≡ change_of (call s ask.at ask.caller) facts ask.command
     → CarriesOut facts change s ask outcome old new
     → StepsSeeing facts s ask outcome old new
 decided_seeing facts change s ask outcome old new accepts made carries desk is seen =

@@ -10,7 +10,7 @@ use Rattle.desk_model.specs.IsDesk.{IsDesk}
 use Rattle.desk_model.specs.Step.{Ask, Outcome}
 use Rattle.desk_model.specs.View.{view}
 use Rattle.desk_model.specs.declared.refusal.Refusal.TheVariants.{Unavailable}
-use Rattle.store_tables.specs.Stands.{StandsFor}
+use Rattle.store_core.specs.Due.{StandsDue}
 use Rattle.service_core.specs.TableSteps.{RunsOn}
 
 -- the commands are that caller's, and only read
@@ -28,8 +28,9 @@ abbrev pub AnswersAlike : {S T : Type 0} → Ghosts S → Ghosts T → Settings 
 AnswersAlike {S} {T} g h settings caller asks =
     (one other : Desk) (old new : Held S) (old_other new_other : Held T)
     (outcomes others : List Outcome)
-    → IsDesk one → StandsFor one (state g old) → HasCleanDisk (state g new)
-    → IsDesk other → StandsFor other (state h old_other) → HasCleanDisk (state h new_other)
+    → IsDesk one → StandsDue settings one (state g old) → HasCleanDisk (state g new)
+    → IsDesk other → StandsDue settings other (state h old_other)
+    → HasCleanDisk (state h new_other)
     → view settings caller one ≡ view settings caller other
     → AreReadingsOf caller asks → AreAnswered outcomes → AreAnswered others
     → RunsOn settings asks outcomes (state g old) (state g new)

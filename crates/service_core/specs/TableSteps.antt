@@ -10,7 +10,7 @@ use Rattle.desk_model.specs.IsDesk.{IsDesk}
 use Rattle.desk_core.specs.Laws.{DependencyLaw, DueLaw, HiddenLaw, HistoryLaw, OwnerLaw}
 use Rattle.desk_core.specs.Laws.{StatusLaw, ViewLaw}
 use Rattle.desk_model.specs.Step.{Ask, Outcome, RunsBy, Steps}
-use Rattle.store_tables.specs.Stands.{StandsFor}
+use Rattle.store_core.specs.Due.{StandsDue}
 
 -- One command: what comes of it, and the desk after it. All laws of a step hold; those of reading
 -- and of hidden requests where the answer isn't `Unavailable`.
@@ -28,22 +28,22 @@ pub record IsStep (settings : Settings) (ask : Ask) (old : Desk) (outcome : Outc
   pub hidden : outcome ≢ Err Unavailable
       → HiddenLaw settings ask.at ask.caller ask.command old outcome
 
--- whatever desk the tables stand for before a call, afterwards they stand for one to which `Leads`
--- leads from it
-abbrev pub LeadsOn : (Desk → Desk → Type 0) → State → State → Type 0
-LeadsOn Leads old new =
-    (desk : Desk) → IsDesk desk → StandsFor desk old → HasCleanDisk new
-    → (after : Desk) × Leads desk after × StandsFor after new
+-- whatever desk the tables stand for before a call, with its due moments, afterwards they stand for
+-- one to which `Leads` leads from it, with its own
+abbrev pub LeadsOn : Settings → (Desk → Desk → Type 0) → State → State → Type 0
+LeadsOn settings Leads old new =
+    (desk : Desk) → IsDesk desk → StandsDue settings desk old → HasCleanDisk new
+    → (after : Desk) × Leads desk after × StandsDue settings after new
 
 -- one step
 abbrev pub StepsOn : Settings → Ask → Outcome → State → State → Type 0
 StepsOn settings ask outcome =
-    LeadsOn (λ desk after. IsStep settings ask desk outcome after)
+    LeadsOn settings (λ desk after. IsStep settings ask desk outcome after)
 
 -- a run of steps, each from the desk that the one before left
 abbrev pub RunsOn : Settings → List Ask → List Outcome → State → State → Type 0
 RunsOn settings asks outcomes =
-    LeadsOn (λ desk after. RunsBy (IsStep settings) desk asks outcomes after)
+    LeadsOn settings (λ desk after. RunsBy (IsStep settings) desk asks outcomes after)
 
 abbrev pub ask_by : ℕ → List ℕ → Command → Ask
 ask_by at caller command = record { at = at; caller = caller; command = command }

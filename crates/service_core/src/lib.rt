@@ -10,6 +10,7 @@ pub mod fault;
 mod known;
 mod links;
 mod reading;
+mod renewal;
 mod reports;
 mod run;
 

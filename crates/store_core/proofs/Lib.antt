@@ -1,4 +1,7 @@
+pub mod AheadLemmas
 pub mod Alike
+pub mod BeginLemmas
+pub mod DuesWritten
 pub mod FactsLemmas
 pub mod FactsLemmasInOrder
 pub mod FactsLemmasOfDesk
@@ -6,6 +9,7 @@ pub mod HistoryLemmas
 pub mod MakeLemmas
 pub mod MakeStatements
 pub mod OrderLemmas
+pub mod Renewed
 pub mod Revised
 pub mod RoleRows
 pub mod RiseLemmas

@@ -13,9 +13,11 @@ use Rattle.desk_model.specs.declared.rows.Entry.{Entry}
 use Rattle.desk_model.specs.declared.rows.LinkRow.{LinkRow}
 use Rattle.desk_model.specs.Desk.{has_lower_name}
 use Rattle.desk_model.specs.IsDesk.{is_rising}
+use Rattle.store_tables.specs.Dated.{Dated}
 use Rattle.store_tables.specs.Kept.{itself}
 use Rattle.store_tables.specs.Picked.{AreOrdered}
-use Rattle.store_tables.specs.Orders.{by_id, by_entry, by_link, by_name, by_standing, by_watcher}
+use Rattle.store_tables.specs.Orders.{by_dated_id, by_id, by_entry, by_link, by_name, by_standing}
+use Rattle.store_tables.specs.Orders.{by_watcher}
 use Rattle.store_tables.specs.Spelling.{role_number}
 use Rattle.desk_model.specs.Links.{kind_number}
 use Rattle.sorted_lists.proofs.SortedLemmas.{Rises, sorted_same}
@@ -51,6 +53,9 @@ the_queues xs ys rises h =
 pub id_total : IsTotalOrder by_id
 id_total = on_total (λ (r : RequestRow). r.id) nat_cmp_total
 
+pub dated_total : IsTotalOrder by_dated_id
+dated_total = on_total (λ (p : Dated). p.0.id) nat_cmp_total
+
 pub entry_total : IsTotalOrder by_entry
 entry_total = then_total (on_total (λ (e : Entry). e.id) nat_cmp_total)
     (on_total (λ (e : Entry). e.number) nat_cmp_total)
@@ -72,6 +77,10 @@ standing_total = then_total (on_total (λ (w : Watcher). w.id) nat_cmp_total)
 pub the_requests : (xs ys : List RequestRow) → Rises itself by_id id_total xs
     → AreOrdered by_id xs ys → ys ≡ xs
 the_requests xs ys rises h = sorted_same itself by_id id_total xs ys rises h.same h.sorted
+
+pub the_dated : (xs ys : List Dated) → Rises itself by_dated_id dated_total xs
+    → AreOrdered by_dated_id xs ys → ys ≡ xs
+the_dated xs ys rises h = sorted_same itself by_dated_id dated_total xs ys rises h.same h.sorted
 
 pub the_entries : (xs ys : List Entry) → Rises itself by_entry entry_total xs
     → AreOrdered by_entry xs ys → ys ≡ xs

@@ -1,7 +1,7 @@
 -- One of a desk's requests is revised: what becomes of lists that are read off the requests.
 use Rattle.std.proofs.Common.{◌≡◌, ◌∙◌, ℕ, ◌+◌, ◌==◌, Bool, true, false, not, ◌||◌, cond}
 use Rattle.std.proofs.Common.{List, [], ◌∷◌, ◌++◌, map, filter, flat_map, refl, ap, ap₂, sym}
-use Rattle.std.proofs.Common.{IsPermutation, ◌<◌, arith, find, Some}
+use Rattle.std.proofs.Common.{IsPermutation, ◌<◌, ◌≤◌, arith, find, length, Some}
 use Rattle.std.proofs.lemmas.Bool.{and_from, and_parts, eqb-true, ne_eqb, not_from_false, or_parts}
 use Rattle.std.proofs.lemmas.List.Folds.{list_any-append}
 use Rattle.std.proofs.lemmas.List.Sorted.{IsPermutation-refl}
@@ -26,6 +26,16 @@ none_before next n (m ∷ ms) below numbered =
     let same = eqb-true m next parts.0 in
     let differ : (m == n) ≡ false = ne_eqb m n (omega (arith, same, below)) in
     rw differ (none_before (next + 1) n ms (omega (arith, below)) parts.1)
+
+-- numbers up to here don't have one that comes later
+pub none_past : (rs : List Request) (next id : ℕ) → are_numbered next (map id_of rs) ≡ true
+    → next + length rs ≤ id → list_any (λ n. n == id) (map id_of rs) ≡ false
+none_past [] next id numbered past = refl
+none_past (r ∷ rs) next id numbered past =
+    let parts = and_parts (r.row.id == next) (are_numbered (next + 1) (map id_of rs)) numbered in
+    let first = eqb-true r.row.id next parts.0 in
+    rw (ne_eqb r.row.id id (λ same. omega (arith, first, same, past)))
+    (none_past rs (next + 1) id parts.1 (omega (arith, past)))
 
 -- where no request has the number, none is revised
 pub none_revised : (id : ℕ) (f : Request → Request) (rs : List Request)

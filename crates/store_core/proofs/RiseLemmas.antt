@@ -1,7 +1,7 @@
 -- The lists of a well-formed desk rise by their keys.
 use Rattle.std.proofs.Common.{◌≡◌, ◌∙◌, ◌+◌, ◌<◌, ◌==◌, ℕ, Bool, true, false, cond, List, [], ◌∷◌}
 use Rattle.std.proofs.Common.{◌++◌, map, filter, flat_map, arith, refl, ap, sym, Ordering, Less}
-use Rattle.std.proofs.Common.{Equal, Greater}
+use Rattle.std.proofs.Common.{Equal, Greater, Option}
 use Rattle.std.proofs.lemmas.Bool.{and_parts, eqb-true}
 use Rattle.std.proofs.lemmas.Bool.Decides.{nat_tests}
 use Rattle.std.proofs.lemmas.Cmp.{nat_cmp_total, nat_list_cmp_total, tied_itself}
@@ -27,11 +27,14 @@ use Rattle.desk_model.specs.Links.{is_lower_link, kind_number}
 use Rattle.desk_model.specs.Names.{text_order}
 use Rattle.desk_model.specs.Watchers.{watcher, watchers_of}
 use Rattle.store_tables.specs.Contents.{entries, request_rows, watchers}
+use Rattle.store_tables.specs.Dated.{Dated, dated_by}
 use Rattle.store_tables.specs.Kept.{itself}
-use Rattle.store_tables.specs.Orders.{by_entry, by_id, by_link, by_standing, by_watcher}
+use Rattle.store_tables.specs.Orders.{by_dated_id, by_entry, by_id, by_link, by_standing}
+use Rattle.store_tables.specs.Orders.{by_watcher}
 use Rattle.store_tables.specs.Selection.{is_of_person}
 use Rattle.store_tables.specs.Spelling.{role_number}
-use Rattle.store_core.proofs.OrderLemmas.{all_rise, entry_total, id_total, link_total}
+use Rattle.store_core.specs.Rows.{dated_rows}
+use Rattle.store_core.proofs.OrderLemmas.{all_rise, dated_total, entry_total, id_total, link_total}
 use Rattle.store_core.proofs.OrderLemmas.{standing_total, watcher_total}
 use Rattle.sorted_lists.proofs.SortedLemmas.{Rises}
 
@@ -65,6 +68,11 @@ pub requests_rise : (desk : Desk) → IsDesk desk → Rises itself by_id id_tota
 requests_rise desk is = ascending-map (λ (a b : RequestRow). by_id a b ≡ Less)
     (λ (r : Request). r.row) desk.requests
     (numbers_rise (λ (r : Request). r.row.id) 1 desk.requests is.requests)
+
+pub dated_rise : (due : RequestRow → Option ℕ) (desk : Desk) → IsDesk desk
+    → Rises itself by_dated_id dated_total (dated_rows due desk)
+dated_rise due desk is = ascending-map (λ (a b : Dated). by_dated_id a b ≡ Less) (dated_by due)
+    (request_rows desk) (requests_rise desk is)
 
 -- ---- links
 

@@ -1,8 +1,8 @@
 -- The change of a command that isn't refused can be written, by the kind of the command.
-use Rattle.std.proofs.Common.{◌≡◌, ◌∙◌, ℕ, ◌+◌, ◌==◌, true, false, not, List, [], ◌∷◌, length}
-use Rattle.std.proofs.Common.{Option, Some, None, refl, ap, sym, subst, arith, map, ◌≤◌}
-use Rattle.std.proofs.lemmas.Bool.{and_from, and_parts, eqb-true, ne_eqb}
-use Rattle.std.specs.List.{list_all, list_any}
+use Rattle.std.proofs.Common.{◌≡◌, ◌∙◌, ℕ, ◌+◌, true, not, List, [], ◌∷◌, length}
+use Rattle.std.proofs.Common.{Option, Some, None, refl, ap, sym, subst, arith}
+use Rattle.std.proofs.lemmas.Bool.{and_from}
+use Rattle.std.specs.List.{list_all}
 use Rattle.std.specs.Option.{is_some}
 use Rattle.hours_core.specs.Moment.{is_moment}
 use Rattle.settings_core.specs.Settings.{knows}
@@ -14,6 +14,7 @@ use Rattle.desk_model.specs.declared.facts.SeenRequest.{SeenRequest}
 use Rattle.desk_model.specs.declared.refusal.Refusal.TheVariants.{UnknownCaller, BadMoment}
 use Rattle.desk_model.specs.declared.rows.Entry.{Entry}
 use Rattle.desk_model.specs.declared.rows.RequestRow.{RequestRow}
+use Rattle.desk_core.specs.Decision.{change_of}
 use Rattle.desk_core.proofs.DeskLaw.ByKind.{IsNext, Meets, by_plan, change_fits}
 use Rattle.desk_core.proofs.DeskLaw.Fitting as fitting
 use Rattle.desk_core.proofs.NamesLaw.{names_in_order_rise}
@@ -24,11 +25,11 @@ use Rattle.desk_model.specs.Commands.Reply as reply
 use Rattle.desk_model.specs.Condition.{Condition}
 use Rattle.desk_model.specs.Desk.{Desk, Request, request_at}
 use Rattle.desk_model.specs.Facts.{seen_request}
-use Rattle.desk_model.specs.IsDesk.{IsDesk, are_numbered}
+use Rattle.desk_model.specs.IsDesk.{IsDesk}
 use Rattle.desk_model.specs.Names.{in_order}
 use Rattle.desk_model.specs.Plan.{Call, change_by}
 use Rattle.desk_model.specs.Step.{call, facts_of, guard}
-use Rattle.store_core.proofs.Revised.{id_of}
+use Rattle.store_core.proofs.Revised.{none_past}
 use Rattle.store_core.proofs.Writable.{IsLast, are_new, last_there, nobody, requestors_anew}
 use Rattle.store_core.proofs.Writable.{rising_apart, watching_is}
 use Rattle.store_core.specs.Written.{FilesNext, IsWritable, PutsAnew, SetsThere, is_there}
@@ -60,16 +61,6 @@ sets : (desk : Desk) (command : Command) → Meets SetsOne desk (plan_of command
 sets desk (OpenQueue name lifecycle level) = λ call none. (0, refl, λ e. cc)
 sets desk (Create queue subject status requestors) = λ call none. (0, refl, λ e. cc)
 sets desk other = λ call r there same none. (r.row.id, refl, λ e. found_there desk _ r there same)
-
--- numbers up to here don't have one that comes later
-none_past : (rs : List Request) (next id : ℕ) → are_numbered next (map id_of rs) ≡ true
-    → next + length rs ≤ id → list_any (λ n. n == id) (map id_of rs) ≡ false
-none_past [] next id numbered past = refl
-none_past (r ∷ rs) next id numbered past =
-    let parts = and_parts (r.row.id == next) (are_numbered (next + 1) (map id_of rs)) numbered in
-    let first = eqb-true r.row.id next parts.0 in
-    rw (ne_eqb r.row.id id (λ same. omega (arith, first, same, past)))
-    (none_past rs (next + 1) id parts.1 (omega (arith, past)))
 
 all_new : (names : List (List ℕ)) → are_new [] names ≡ true
 all_new [] = refl
@@ -148,7 +139,7 @@ files_next desk (Some row) next = next.0
 -- the change of a command that isn't refused can be written
 pub change_writable : (s : Settings) (at : ℕ) (caller : List ℕ) (command : Command) (desk : Desk)
     → IsDesk desk → guard s at caller command desk ≡ None
-    → IsWritable desk (change_by (call s at caller) (facts_of command desk) (plan_of command))
+    → IsWritable desk (change_of (call s at caller) (facts_of command desk) command)
 change_writable s at caller command desk is free =
     let asks = call s at caller in
     let plan = plan_of command in

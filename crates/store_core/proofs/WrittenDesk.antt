@@ -8,7 +8,7 @@ use Rattle.std.proofs.lemmas.Bool.{and_from, and_parts, eq-eqb, eqb-false, eqb-t
 use Rattle.std.proofs.lemmas.Grind.{flat_map-append}
 use Rattle.std.proofs.lemmas.List.Sorted.{IsPermutation-refl, IsPermutation-cons}
 use Rattle.std.proofs.lemmas.List.Sorted.{IsPermutation-sym, IsPermutation-trans}
-use Rattle.std.proofs.lemmas.List.Sorted.{IsPermutation-to_front}
+use Rattle.std.proofs.lemmas.List.Sorted.{IsPermutation-map, IsPermutation-to_front}
 use Rattle.sqlite_trees.proofs.ListLemmas.{IsPermutation-filter}
 use Rattle.std.specs.List.{list_all, list_any}
 use Rattle.desk_model.specs.declared.change.Change.{Change}
@@ -36,14 +36,17 @@ use Rattle.desk_model.specs.Watchers.{is_watching, watcher, watchers_of}
 use Rattle.store_tables.specs.Contents.{Contents, contents_of, entries, request_rows, watchers}
 use Rattle.store_tables.specs.Contents.{add_entry, add_watcher, drop_watcher}
 use Rattle.store_tables.specs.Selection as selection
-use Rattle.store_tables.specs.Selection.{is_watcher}
+use Rattle.store_tables.specs.Selection.{has_number, is_watcher}
+use Rattle.store_tables.specs.Dated.{dated_by, due_but}
 use Rattle.store_core.proofs.Alike.{placed_alike}
 use Rattle.store_core.proofs.Revised.{kept_all, kept_each, none_each, one_more, one_set}
-use Rattle.store_core.proofs.Revised.{there_by_number}
+use Rattle.store_core.proofs.Revised.{none_past, there_by_number}
+use Rattle.store_core.proofs.DuesWritten.{Dues, more_dated, one_dated}
 use Rattle.store_core.proofs.RoleRows.{filter_alike, is_row_of, put_row_alike, taken_each}
 use Rattle.store_core.specs.Written.{AreAlike, FilesNext, IsWritable, PutsAnew, SetsThere, is_there}
 use Rattle.store_core.specs.Written.{link_added, link_dropped, queue_added, request_added}
-use Rattle.store_core.specs.Written.{request_set, with_rows, written}
+use Rattle.store_core.specs.Written.{due_with, dues_after, request_set, with_rows}
+use Rattle.store_core.specs.Written.{written}
 
 -- the requests of a desk are numbered from 1
 abbrev pub IsNumbered : Desk → Type 0
@@ -149,10 +152,10 @@ rows_moved row r here =
     ap (λ id. map (watcher id Requestor) r.requestors
     ++ (map (watcher id Cc) r.cc ++ map (watcher id AdminCc) r.admin_cc)) (sym here)
 
-alike_put : (c : Contents) (desk : Desk) (w : Watcher) → IsNumbered desk → is_there desk w.id ≡ true
-    → is_watching w.person w.id w.role (watchers desk) ≡ false → AreAlike c (contents_of desk)
-    → AreAlike (add_watcher c w) (contents_of (person_put desk w))
-alike_put c desk w numbered there none h =
+alike_put : (c : Contents) (due : Dues) (desk : Desk) (w : Watcher) → IsNumbered desk → is_there desk w.id ≡ true
+    → is_watching w.person w.id w.role (watchers desk) ≡ false → AreAlike c (contents_of due desk)
+    → AreAlike (add_watcher c w) (contents_of due (person_put desk w))
+alike_put c due desk w numbered there none h =
     let f = in_role w.role (λ names. with_name names w.person) in
     let is = is_row_of w.id w.role w.person in
     let rs = desk.requests in
@@ -162,8 +165,8 @@ alike_put c desk w numbered there none h =
     record {
       version = h.version;
       queues = h.queues;
-      requests = subst (IsPermutation c.requests)
-          (sym (kept_each f w.id (λ r. r.row) (λ r here. in_role_row w.role _ r) rs)) h.requests;
+      dated = subst (IsPermutation c.dated) (ap (map (dated_by due))
+          (sym (kept_each f w.id (λ r. r.row) (λ r here. in_role_row w.role _ r) rs))) h.dated;
       watchers = IsPermutation-trans _ _ _ (IsPermutation-cons w _ _ h.watchers)
           (one_more watchers_of f w.id (λ r. not (list_any is (watchers_of r))) w 1 rs grows
           numbered (among desk w.id there) (none_each is watchers_of rs none));
@@ -173,16 +176,17 @@ alike_put c desk w numbered there none h =
           h.entries;
     }
 
-alike_taken : (c : Contents) (desk : Desk) (w : Watcher) → AreAlike c (contents_of desk)
-    → AreAlike (drop_watcher c w) (contents_of (person_taken desk w))
-alike_taken c desk w h =
+alike_taken : (c : Contents) (due : Dues) (desk : Desk) (w : Watcher)
+    → AreAlike c (contents_of due desk)
+    → AreAlike (drop_watcher c w) (contents_of due (person_taken desk w))
+alike_taken c due desk w h =
     let f = in_role w.role (λ names. without_name names w.person) in
     let rs = desk.requests in
     record {
       version = h.version;
       queues = h.queues;
-      requests = subst (IsPermutation c.requests)
-          (sym (kept_each f w.id (λ r. r.row) (λ r here. in_role_row w.role _ r) rs)) h.requests;
+      dated = subst (IsPermutation c.dated) (ap (map (dated_by due))
+          (sym (kept_each f w.id (λ r. r.row) (λ r here. in_role_row w.role _ r) rs))) h.dated;
       watchers = subst (IsPermutation (filter (λ x. not (is_watcher w x)) c.watchers))
           (taken_each w.id w.role w.person rs)
           (IsPermutation-filter (λ x. not (is_watcher w x)) c.watchers (watchers desk) h.watchers);
@@ -192,16 +196,17 @@ alike_taken c desk w h =
           h.entries;
     }
 
-alike_noted : (c : Contents) (desk : Desk) (e : Entry) → IsNumbered desk → is_there desk e.id ≡ true
-    → AreAlike c (contents_of desk) → AreAlike (add_entry c e) (contents_of (entry_put desk e))
-alike_noted c desk e numbered there h =
+alike_noted : (c : Contents) (due : Dues) (desk : Desk) (e : Entry) → IsNumbered desk
+    → is_there desk e.id ≡ true → AreAlike c (contents_of due desk)
+    → AreAlike (add_entry c e) (contents_of due (entry_put desk e))
+alike_noted c due desk e numbered there h =
     let f = with_entry e in
     let rs = desk.requests in
     record {
       version = h.version;
       queues = h.queues;
-      requests = subst (IsPermutation c.requests)
-          (sym (kept_each f e.id (λ r. r.row) (λ r here. refl) rs)) h.requests;
+      dated = subst (IsPermutation c.dated) (ap (map (dated_by due))
+          (sym (kept_each f e.id (λ r. r.row) (λ r here. refl) rs))) h.dated;
       watchers = subst (IsPermutation c.watchers)
           (sym (kept_all f e.id watchers_of (λ r here. refl) rs)) h.watchers;
       links = h.links;
@@ -211,20 +216,22 @@ alike_noted c desk e numbered there h =
           numbered (among desk e.id there) (all_true rs));
     }
 
-alike_set : (c : Contents) (desk : Desk) (row : RequestRow) → IsNumbered desk
-    → is_there desk row.id ≡ true
-    → AreAlike c (contents_of desk)
-    → AreAlike (request_set (Some row) c) (contents_of (row_set (Some row) desk))
-alike_set c desk row numbered there h =
+alike_set : (c : Contents) (due : Dues) (desk : Desk) (row : RequestRow) (moment : Option ℕ)
+    → IsNumbered desk → is_there desk row.id ≡ true → AreAlike c (contents_of due desk)
+    → AreAlike (request_set (Some row) moment c)
+    (contents_of (due_but row.id moment due) (row_set (Some row) desk))
+alike_set c due desk row moment numbered there h =
     let f = with_row row in
     let rs = desk.requests in
     record {
       version = h.version;
       queues = h.queues;
-      requests = IsPermutation-trans _ _ _
-          (IsPermutation-cons row _ _
-          (IsPermutation-filter _ c.requests (request_rows desk) h.requests))
-          (one_set row 1 rs numbered (among desk row.id there));
+      dated = IsPermutation-trans _ _ _
+          (subst (IsPermutation ((row, moment) ∷ filter (λ p. not (has_number row.id p)) c.dated))
+          (sym (one_dated row moment due (request_rows desk)))
+          (IsPermutation-cons (row, moment) _ _ (IsPermutation-filter _ c.dated _ h.dated)))
+          (IsPermutation-map (dated_by (due_but row.id moment due)) _ _
+          (one_set row 1 rs numbered (among desk row.id there)));
       watchers = subst (IsPermutation c.watchers)
           (sym (kept_all f row.id watchers_of (λ r here. rows_moved row r here) rs)) h.watchers;
       links = h.links;
@@ -254,7 +261,7 @@ alike_itself c =
     record {
       version = refl;
       queues = IsPermutation-refl _;
-      requests = IsPermutation-refl _;
+      dated = IsPermutation-refl _;
       watchers = IsPermutation-refl _;
       links = IsPermutation-refl _;
       entries = IsPermutation-refl _;
@@ -267,32 +274,41 @@ turned a b =
       | false ↦ λ other. sym (ne_eqb b a (λ same. eqb-false a b other (sym same)))
     ] refl
 
-alike_queued : (o : Option QueueRow) (c : Contents) (desk : Desk) → AreAlike c (contents_of desk)
-    → AreAlike (queue_added o c) (contents_of (queue_put o desk))
-alike_queued None c desk h = h
-alike_queued (Some q) c desk h =
+alike_queued : (o : Option QueueRow) (c : Contents) (due : Dues) (desk : Desk)
+    → AreAlike c (contents_of due desk)
+    → AreAlike (queue_added o c) (contents_of due (queue_put o desk))
+alike_queued None c due desk h = h
+alike_queued (Some q) c due desk h =
     record {
       version = h.version;
       queues = IsPermutation-trans _ _ _ (IsPermutation-cons q _ _ h.queues)
           (placed_alike has_lower_name desk.queues q);
-      requests = h.requests;
+      dated = h.dated;
       watchers = h.watchers;
       links = h.links;
       entries = h.entries;
     }
 
-alike_filed : (o : Option RequestRow) (c : Contents) (desk : Desk) → AreAlike c (contents_of desk)
-    → AreAlike (request_added o c) (contents_of (request_filed o desk))
-alike_filed None c desk h = h
-alike_filed (Some row) c desk h =
+alike_filed : (o : Option RequestRow) (moment : Option ℕ) (c : Contents) (due : Dues) (desk : Desk)
+    → IsNumbered desk → FilesNext desk o → AreAlike c (contents_of due desk)
+    → AreAlike (request_added o moment c)
+    (contents_of (due_with o moment due) (request_filed o desk))
+alike_filed None moment c due desk numbered next h = h
+alike_filed (Some row) moment c due desk numbered next h =
     let rs = desk.requests in
+    let none = none_past rs 1 row.id numbered (omega (arith, next)) in
     let last = filed row ∷ [] in
     record {
       version = h.version;
       queues = h.queues;
-      requests = subst (IsPermutation (row ∷ c.requests)) (sym (map-append (λ r. r.row) rs last))
-          (IsPermutation-trans _ _ _ (IsPermutation-cons row _ _ h.requests)
-          (IsPermutation-sym _ _ (IsPermutation-to_front (request_rows desk) row)));
+      dated = subst (IsPermutation ((row, moment) ∷ c.dated))
+          (ap (map (dated_by (due_but row.id moment due))) (sym (map-append (λ r. r.row) rs last)))
+          (IsPermutation-trans _ _ _
+          (subst (IsPermutation ((row, moment) ∷ c.dated))
+          (sym (more_dated row moment due rs none))
+          (IsPermutation-cons (row, moment) _ _ h.dated))
+          (IsPermutation-map (dated_by (due_but row.id moment due)) _ _
+          (IsPermutation-sym _ _ (IsPermutation-to_front (request_rows desk) row))));
       watchers = subst (IsPermutation c.watchers)
           (sym (flat_map-append watchers_of rs last ∙ append-nil (watchers desk))) h.watchers;
       links = h.links;
@@ -300,20 +316,22 @@ alike_filed (Some row) c desk h =
           (sym (flat_map-append (λ r. r.entries) rs last ∙ append-nil (entries desk))) h.entries;
     }
 
-alike_row : (o : Option RequestRow) (c : Contents) (desk : Desk) → IsNumbered desk
-    → SetsThere desk o
-    → AreAlike c (contents_of desk) → AreAlike (request_set o c) (contents_of (row_set o desk))
-alike_row None c desk numbered there h = h
-alike_row (Some row) c desk numbered there h = alike_set c desk row numbered there h
+alike_row : (o : Option RequestRow) (moment : Option ℕ) (c : Contents) (due : Dues) (desk : Desk)
+    → IsNumbered desk → SetsThere desk o → AreAlike c (contents_of due desk)
+    → AreAlike (request_set o moment c) (contents_of (due_with o moment due) (row_set o desk))
+alike_row None moment c due desk numbered there h = h
+alike_row (Some row) moment c due desk numbered there h =
+    alike_set c due desk row moment numbered there h
 
-alike_linked : (o : Option LinkRow) (c : Contents) (desk : Desk) → AreAlike c (contents_of desk)
-    → AreAlike (link_added o c) (contents_of (link_put o desk))
-alike_linked None c desk h = h
-alike_linked (Some link) c desk h =
+alike_linked : (o : Option LinkRow) (c : Contents) (due : Dues) (desk : Desk)
+    → AreAlike c (contents_of due desk)
+    → AreAlike (link_added o c) (contents_of due (link_put o desk))
+alike_linked None c due desk h = h
+alike_linked (Some link) c due desk h =
     record {
       version = h.version;
       queues = h.queues;
-      requests = h.requests;
+      dated = h.dated;
       watchers = h.watchers;
       links = IsPermutation-trans _ _ _ (IsPermutation-cons link _ _ h.links)
           (placed_alike is_lower_link desk.links link);
@@ -337,14 +355,15 @@ links_alike a b =
     ap₂ (λ x y. x && y) (turned b.source a.source)
     (ap₂ (λ x y. x && y) (kinds_alike b.kind a.kind) (turned b.target a.target))
 
-alike_unlinked : (o : Option LinkRow) (c : Contents) (desk : Desk) → AreAlike c (contents_of desk)
-    → AreAlike (link_dropped o c) (contents_of (link_taken o desk))
-alike_unlinked None c desk h = h
-alike_unlinked (Some link) c desk h =
+alike_unlinked : (o : Option LinkRow) (c : Contents) (due : Dues) (desk : Desk)
+    → AreAlike c (contents_of due desk)
+    → AreAlike (link_dropped o c) (contents_of due (link_taken o desk))
+alike_unlinked None c due desk h = h
+alike_unlinked (Some link) c due desk h =
     record {
       version = h.version;
       queues = h.queues;
-      requests = h.requests;
+      dated = h.dated;
       watchers = h.watchers;
       links = subst (IsPermutation (filter (λ x. not (selection.is_link link x)) c.links))
           (filter_alike _ _ (λ x. ap not (links_alike link x)) desk.links)
@@ -354,37 +373,42 @@ alike_unlinked (Some link) c desk h =
 
 -- ---- the lists of a change
 
-alike_puts : (ws : List Watcher) (c : Contents) (desk : Desk) → IsNumbered desk → PutsAnew desk ws
-    → AreAlike c (contents_of desk)
-    → AreAlike (fold add_watcher c ws) (contents_of (fold person_put desk ws))
-alike_puts [] c desk numbered new h = h
-alike_puts (w ∷ ws) c desk numbered new h =
-    alike_puts ws (add_watcher c w) (person_put desk w)
+alike_puts : (ws : List Watcher) (c : Contents) (due : Dues) (desk : Desk) → IsNumbered desk → PutsAnew desk ws
+    → AreAlike c (contents_of due desk)
+    → AreAlike (fold add_watcher c ws) (contents_of due (fold person_put desk ws))
+alike_puts [] c due desk numbered new h = h
+alike_puts (w ∷ ws) c due desk numbered new h =
+    alike_puts ws (add_watcher c w) due (person_put desk w)
     (numbered_by (person_put desk w) desk (ids_put desk w) numbered) new.2
-    (alike_put c desk w numbered new.0 new.1 h)
+    (alike_put c due desk w numbered new.0 new.1 h)
 
-alike_takens : (ws : List Watcher) (c : Contents) (desk : Desk) → AreAlike c (contents_of desk)
-    → AreAlike (fold drop_watcher c ws) (contents_of (fold person_taken desk ws))
-alike_takens [] c desk h = h
-alike_takens (w ∷ ws) c desk h =
-    alike_takens ws (drop_watcher c w) (person_taken desk w) (alike_taken c desk w h)
+alike_takens : (ws : List Watcher) (c : Contents) (due : Dues) (desk : Desk) → AreAlike c (contents_of due desk)
+    → AreAlike (fold drop_watcher c ws) (contents_of due (fold person_taken desk ws))
+alike_takens [] c due desk h = h
+alike_takens (w ∷ ws) c due desk h =
+    alike_takens ws (drop_watcher c w) due (person_taken desk w) (alike_taken c due desk w h)
 
-alike_notes : (es : List Entry) (c : Contents) (desk : Desk) → IsNumbered desk
-    → list_all (λ e. is_there desk e.id) es ≡ true → AreAlike c (contents_of desk)
-    → AreAlike (fold add_entry c es) (contents_of (fold entry_put desk es))
-alike_notes [] c desk numbered there h = h
-alike_notes (e ∷ es) c desk numbered there h =
+alike_notes : (es : List Entry) (c : Contents) (due : Dues) (desk : Desk) → IsNumbered desk
+    → list_all (λ e. is_there desk e.id) es ≡ true → AreAlike c (contents_of due desk)
+    → AreAlike (fold add_entry c es) (contents_of due (fold entry_put desk es))
+alike_notes [] c due desk numbered there h = h
+alike_notes (e ∷ es) c due desk numbered there h =
     let parts = and_parts (is_there desk e.id) (list_all (λ x. is_there desk x.id) es) there in
     let next = entry_put desk e in
-    alike_notes es (add_entry c e) next (numbered_by next desk (ids_noted desk e) numbered)
+    alike_notes es (add_entry c e) due next (numbered_by next desk (ids_noted desk e) numbered)
     (every_there next desk (ids_noted desk e) es parts.1)
-    (alike_noted c desk e numbered parts.0 h)
+    (alike_noted c due desk e numbered parts.0 h)
 
 -- ---- the whole change
 
-pub written_alike : (desk : Desk) (change : Change) → IsDesk desk → IsWritable desk change
-    → AreAlike (written change (contents_of desk)) (contents_of (applied change desk))
-written_alike desk change is fits =
+pub written_alike : (due : Dues) (desk : Desk) (change : Change) → IsDesk desk
+    → IsWritable desk change
+    → AreAlike (written change (contents_of due desk))
+    (contents_of (dues_after change due) (applied change desk))
+written_alike due desk change is fits =
+    let moment = change.due in
+    let one_more = due_with change.filed moment due in
+    let after = dues_after change due in
     let opened = queue_put change.queue desk in
     let wider = request_filed change.filed opened in
     let rows = with_rows change desk in
@@ -394,21 +418,21 @@ written_alike desk change is fits =
     let noted = link_taken change.unlinked linked in
     let opened_ids = ap (map (λ r. r.row.id)) (requests_queued change.queue desk) in
     let from_one = numbered_by opened desk opened_ids is.requests in
-    let grown = numbered_filed change.filed opened
-    (next_queued change.filed change.queue desk fits.files) from_one in
+    let next = next_queued change.filed change.queue desk fits.files in
+    let grown = numbered_filed change.filed opened next from_one in
     let in_rows = numbered_by rows wider (ids_set change.row wider) grown in
     let same : ids noted ≡ ids rows =
     ap (map (λ r. r.row.id))
     (requests_unlinked change.unlinked linked ∙ requests_linked change.linked taken)
     ∙ ids_folded person_taken ids_taken change.taken put
     ∙ ids_folded person_put ids_put change.put rows in
-    let start : AreAlike (contents_of desk) (contents_of desk) = alike_itself (contents_of desk) in
-    alike_notes change.entries _ noted (numbered_by noted rows same in_rows)
+    let start = alike_itself (contents_of due desk) in
+    alike_notes change.entries _ after noted (numbered_by noted rows same in_rows)
     (every_there noted wider (same ∙ ids_set change.row wider) change.entries fits.notes)
-    (alike_unlinked change.unlinked _ linked
-    (alike_linked change.linked _ taken
-    (alike_takens change.taken _ put
-    (alike_puts change.put _ rows in_rows fits.puts
-    (alike_row change.row _ wider grown fits.sets
-    (alike_filed change.filed _ opened
-    (alike_queued change.queue (contents_of desk) desk start)))))))
+    (alike_unlinked change.unlinked _ after linked
+    (alike_linked change.linked _ after taken
+    (alike_takens change.taken _ after put
+    (alike_puts change.put _ after rows in_rows fits.puts
+    (alike_row change.row moment _ one_more wider grown fits.sets
+    (alike_filed change.filed moment _ due opened from_one next
+    (alike_queued change.queue (contents_of due desk) due desk start)))))))

@@ -1,4 +1,7 @@
+pub mod Ahead
 pub mod Applying
+pub mod Due
 pub mod Found
+pub mod Rows
 pub mod Seen
 pub mod Written

@@ -12,27 +12,28 @@ use Rattle.desk_model.specs.declared.rows.QueueRow.{QueueRow}
 use Rattle.desk_model.specs.declared.rows.RequestRow.{RequestRow}
 use Rattle.desk_model.specs.declared.rows.Watcher.{Watcher}
 use Rattle.desk_model.specs.Change.{person_put, queue_put, request_filed, row_set}
-use Rattle.desk_model.specs.Commands.{plan_of}
 use Rattle.desk_model.specs.Desk.{Desk, request_at}
 use Rattle.desk_model.specs.IsDesk.{IsDesk}
-use Rattle.desk_model.specs.Plan.{change_by}
+use Rattle.desk_core.specs.Decision.{change_of}
 use Rattle.desk_model.specs.Step.{call, facts_of, guard}
 use Rattle.desk_model.specs.Watchers.{is_watching}
 use Rattle.store_tables.specs.Contents.{Contents, watchers}
 use Rattle.store_tables.specs.Contents.{add_queue, add_request, set_request, add_watcher}
+use Rattle.store_tables.specs.Dated.{due_but}
 use Rattle.store_tables.specs.Contents.{drop_watcher, add_link, drop_link, add_entry}
 
 abbrev pub queue_added : Option QueueRow → Contents → Contents
 queue_added None c = c
 queue_added (Some queue) c = add_queue c queue
 
-abbrev pub request_added : Option RequestRow → Contents → Contents
-request_added None c = c
-request_added (Some row) c = add_request c row
+-- a request's row with its due moment
+abbrev pub request_added : Option RequestRow → Option ℕ → Contents → Contents
+request_added None due c = c
+request_added (Some row) due c = add_request c row due
 
-abbrev pub request_set : Option RequestRow → Contents → Contents
-request_set None c = c
-request_set (Some row) c = set_request c row
+abbrev pub request_set : Option RequestRow → Option ℕ → Contents → Contents
+request_set None due c = c
+request_set (Some row) due c = set_request c row due
 
 abbrev pub link_added : Option LinkRow → Contents → Contents
 link_added None c = c
@@ -44,16 +45,28 @@ link_dropped (Some link) c = drop_link c link
 
 abbrev pub written : Change → Contents → Contents
 written change c =
-    let rows = request_set change.row (request_added change.filed (queue_added change.queue c)) in
+    let due = change.due in
+    let opened = queue_added change.queue c in
+    let rows = request_set change.row due (request_added change.filed due opened) in
     let persons = fold drop_watcher (fold add_watcher rows change.put) change.taken in
     let links = link_dropped change.unlinked (link_added change.linked persons) in
     fold add_entry links change.entries
+
+-- the due moments, but for that of the row
+abbrev pub due_with : Option RequestRow → Option ℕ → (RequestRow → Option ℕ) → RequestRow → Option ℕ
+due_with None moment due = due
+due_with (Some row) moment due = due_but row.id moment due
+
+-- the due moments after a change: of the request that it files or sets its own
+abbrev pub dues_after : Change → (RequestRow → Option ℕ) → RequestRow → Option ℕ
+dues_after change due =
+    due_with change.row (change.due) (due_with change.filed (change.due) due)
 
 -- the same version and the same rows, in any order
 pub record AreAlike (a b : Contents) : Type 0 where
   pub version : a.version ≡ b.version
   pub queues : IsPermutation a.queues b.queues
-  pub requests : IsPermutation a.requests b.requests
+  pub dated : IsPermutation a.dated b.dated
   pub watchers : IsPermutation a.watchers b.watchers
   pub links : IsPermutation a.links b.links
   pub entries : IsPermutation a.entries b.entries
@@ -100,5 +113,4 @@ abbrev pub CanBeWritten : Type 0
 CanBeWritten =
     (settings : Settings) (at : ℕ) (caller : List ℕ) (command : Command) (desk : Desk)
     → IsDesk desk → guard settings at caller command desk ≡ None
-    → IsWritable desk
-    (change_by (call settings at caller) (facts_of command desk) (plan_of command))
+    → IsWritable desk (change_of (call settings at caller) (facts_of command desk) command)

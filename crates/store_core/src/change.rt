@@ -8,6 +8,7 @@ ghost use Rattle.store_core.specs.Written.{link_added, link_dropped, queue_added
 ghost use Rattle.store_core.specs.Written.{request_added, request_set, written};
 
 use desk_core::{Change, LinkRow, QueueRow, RequestRow};
+use hours_core::Minute;
 use sqlite::{Alter, Transaction};
 use store_tables::StoreFault;
 use store_tables::writes::entries::put_entries;
@@ -32,34 +33,36 @@ fn open_queue<S: Alter>(
     }
 }
 
-/// Adds the request, if there is one.
+/// Adds the request with its due moment, if there is one.
 fn file_request<S: Alter>(
     tx: &mut Transaction<'_, S>,
     filed: &Option<RequestRow>,
+    due: Option<Minute>,
 ) -> Result<(), StoreFault>
     ensures same_reference { tx.new.conn.ghost_name ≡ tx.old.conn.ghost_name }
-    ensures filed { Does (request_added filed.now)
+    ensures filed { Does (request_added filed.now due)
         (state S.Store tx.old.conn.now) (state S.Store tx.new.conn.now) result }
     ensures fault { IfErr result (λ e. e ≡ StoreFault.Refused) }
 {
     match filed {
-        Some(row) => put_request(tx, row),
+        Some(row) => put_request(tx, row, due),
         None => Ok(()),
     }
 }
 
-/// Sets the row of a request, if there is one.
+/// Sets the row of a request and its due moment, if there is one.
 fn revise_request<S: Alter>(
     tx: &mut Transaction<'_, S>,
     row: &Option<RequestRow>,
+    due: Option<Minute>,
 ) -> Result<(), StoreFault>
     ensures same_reference { tx.new.conn.ghost_name ≡ tx.old.conn.ghost_name }
-    ensures set { Does (request_set row.now)
+    ensures set { Does (request_set row.now due)
         (state S.Store tx.old.conn.now) (state S.Store tx.new.conn.now) result }
     ensures fault { IfErr result (λ e. e ≡ StoreFault.Refused) }
 {
     match row {
-        Some(row) => set_request(tx, row),
+        Some(row) => set_request(tx, row, due),
         None => Ok(()),
     }
 }
@@ -96,14 +99,14 @@ fn unlink<S: Alter>(
 /// Writes the queue and the rows of requests.
 fn write_rows<S: Alter>(tx: &mut Transaction<'_, S>, change: &Change) -> Result<(), StoreFault>
     ensures same_reference { tx.new.conn.ghost_name ≡ tx.old.conn.ghost_name }
-    ensures made { Does (λ c. request_set change.now.row
-        (request_added change.now.filed (queue_added change.now.queue c)))
+    ensures made { Does (λ c. request_set change.now.row (change.now.due)
+        (request_added change.now.filed (change.now.due) (queue_added change.now.queue c)))
         (state S.Store tx.old.conn.now) (state S.Store tx.new.conn.now) result }
     ensures fault { IfErr result (λ e. e ≡ StoreFault.Refused) }
 {
     open_queue(tx, &change.queue)?;
-    file_request(tx, &change.filed)?;
-    revise_request(tx, &change.row)
+    file_request(tx, &change.filed, change.due)?;
+    revise_request(tx, &change.row, change.due)
 }
 
 /// Puts persons into roles, and takes persons out of roles.

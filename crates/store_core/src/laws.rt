@@ -1,4 +1,5 @@
 //! What leads from a decision to the tables.
+ghost use Rattle.store_core.specs.Due.{RenewsDues};
 ghost use Rattle.store_core.specs.Written.{CanBeWritten};
 
 /// On a well-formed desk, the change of a command that isn't refused can be written: what it names
@@ -6,4 +7,10 @@ ghost use Rattle.store_core.specs.Written.{CanBeWritten};
 #[tactic(auto, using(crate::proofs::WritableByKind::change_writable))]
 pub fn writing_law()
     ensures { CanBeWritten }
+{}
+
+/// On a well-formed desk whose tables keep when each request is due, the change of a command that
+/// isn't refused makes them keep when each is due on the desk after it.
+pub fn renewing_law()
+    ensures { RenewsDues }
 {}

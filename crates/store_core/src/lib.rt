@@ -6,16 +6,19 @@
 mod apply;
 mod change;
 mod dependencies;
+mod dues;
 mod facts;
 pub mod laws;
 mod lists;
 mod making;
 mod opening;
+pub mod rows;
 mod seen_request;
 mod shown;
 pub mod store;
 
 /// What keeps the tables of a store: memory, or a file.
+pub use rows::RequestRows;
 pub use sqlite::Alter as Backend;
 pub use store::Store;
 pub use store_tables::StoreFault;

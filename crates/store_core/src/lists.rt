@@ -2,16 +2,19 @@
 ghost use Rattle.std.specs.Prelude.{◌≡◌, filter, IsPermutation};
 ghost use Rattle.store_tables.specs.Calls.{Spares, Tells};
 ghost use Rattle.store_tables.specs.Contents.{actors, history_at, request_rows, watchers};
-ghost use Rattle.store_tables.specs.Mismatches.{MismatchesInActors, MismatchesInEntries};
+ghost use Rattle.store_tables.specs.Mismatches.{MismatchesInActors, MismatchesInDated};
+ghost use Rattle.store_tables.specs.Mismatches.{MismatchesInEntries};
 ghost use Rattle.store_tables.specs.Mismatches.{MismatchesInLinks};
 ghost use Rattle.store_tables.specs.Mismatches.{MismatchesInQueues, MismatchesInRequests};
 ghost use Rattle.store_tables.specs.Mismatches.{MismatchesInWatchers};
 ghost use Rattle.store_tables.specs.Selection.{ends_at, is_filed_in, is_of_person, starts_at};
+ghost use Rattle.store_core.specs.Rows.{TellsDated, dated_rows};
 ghost use Rattle.store_core.specs.Seen.{state_of};
 
 use crate::Backend;
 use crate::store::Store;
 use desk_core::{Entry, LinkRow, QueueRow, RequestRow, Watcher};
+use hours_core::Minute;
 use std::alloc::Global;
 use store_tables::{StoreFault, reads};
 use text_core::Text;
@@ -56,6 +59,22 @@ impl<S: Backend> Store<S> {
         ensures kept { Spares (state_of S.Store self.old) (state_of S.Store self.new) }
     {
         reads::lists_requests::requests_of(alloc, &mut self.conn, queue)
+    }
+
+    /// The requests, in the order of their numbers, each with the due moment that the tables keep.
+    /// `Mismatch` where a row is no request or its due moment is neither a minute nor absent,
+    /// `Refused` where the store or memory refuses it. The tables stay as they are.
+    pub fn dated_requests(
+        &mut self,
+        alloc: Global,
+    ) -> Result<Vec<(RequestRow, Option<Minute>)>, StoreFault>
+        ensures listed { TellsDated (λ due desk xs. xs.items ≡ dated_rows due desk)
+            (state_of S.Store self.old) (state_of S.Store self.new) result }
+        ensures mismatch { MismatchesInDated
+            (state_of S.Store self.old) (state_of S.Store self.new) result }
+        ensures kept { Spares (state_of S.Store self.old) (state_of S.Store self.new) }
+    {
+        reads::dated_requests::dated_requests(alloc, &mut self.conn)
     }
 
     /// The links, in the order of source, kind and target. `Mismatch` where a row is no link,

@@ -21,7 +21,7 @@ impl Store<MemStore> {
         ensures fault { IfErr result (λ e. e ≡ StoreFault.Refused) }
     {
         match Connection::open_in_memory(alloc) {
-            Ok(conn) => Ok(Store { conn }),
+            Ok(conn) => Ok(Store { conn, ahead: None }),
             Err(_) => Err(StoreFault::Refused),
         }
     }
@@ -34,7 +34,7 @@ impl<S: Alter> Store<S> {
         requires { conn.in_transaction ≡ false }
         ensures { connection_of S.Store result ≡ conn }
     {
-        Store { conn }
+        Store { conn, ahead: None }
     }
 
     /// The connection under the store, with its tables as they are. Takes no memory.

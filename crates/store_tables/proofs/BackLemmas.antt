@@ -19,8 +19,9 @@ use Rattle.store_tables.specs.Spelling.{count_value, turn_number, role_number, e
 use Rattle.store_tables.specs.Spelling.{queue_columns, request_shown, watcher_columns, link_columns}
 use Rattle.store_tables.specs.Spelling.{entry_columns, text_shown}
 use Rattle.desk_model.specs.Links.{kind_number}
-use Rattle.store_tables.specs.Reading.{ReadsQueue, ReadsRequest, ReadsWatcher}
-use Rattle.store_tables.specs.Reading.{ReadsLink, ReadsEntry, ReadsText}
+use Rattle.store_tables.specs.Dated.{Dated, dated_shown}
+use Rattle.store_tables.specs.Reading.{ReadsDated, ReadsQueue, ReadsRequest, ReadsWatcher}
+use Rattle.store_tables.specs.Reading.{ReadsCount, ReadsLink, ReadsEntry, ReadsText}
 
 same_option : (a b : Option (List ℕ)) → or_null Words a ≡ or_null Words b → a ≡ b
 same_option None None e = refl
@@ -150,6 +151,36 @@ request_back a b h =
     ∙ ap (λ v. make_request a.id a.queue a.subject a.status a.owner a.level a.created a.opened
     a.turn v) since
 
+-- a row that shows a request with its due moment shows the request
+request_of : (p : Dated) (b : RequestRow) → ReadsRequest (dated_shown p) b
+    → ReadsRequest (request_shown p.0) b
+request_of p b h = record {
+  id = h.id;
+  queue = h.queue;
+  subject = h.subject;
+  status = h.status;
+  owner = h.owner;
+  level = h.level;
+  created = h.created;
+  opened = h.opened;
+  turn = h.turn;
+  since = h.since;
+}
+
+same_moment : (a b : Option ℕ) → or_null count_value a ≡ or_null count_value b → a ≡ b
+same_moment None None e = refl
+same_moment None (Some y) e = cc
+same_moment (Some x) None e = cc
+same_moment (Some x) (Some y) e = ap Some (same_count e)
+
+abbrev make_dated : RequestRow → Option ℕ → Dated
+make_dated row due = (row, due)
+
+pub dated_back : (a b : Dated) → ReadsDated (dated_shown a) b → b ≡ a
+dated_back a b h =
+    ap (λ r. make_dated r b.1) (request_back a.0 b.0 (request_of a b.0 h.request))
+    ∙ ap (make_dated a.0) (same_moment b.1 a.1 (sym h.due))
+
 abbrev make_watcher : ℕ → WatchRole → List ℕ → Watcher
 make_watcher x0 x1 x2 = record { id = x0; role = x1; person = x2 }
 
@@ -202,3 +233,7 @@ entry_back a b h =
     ∙ ap (λ v. make_entry a.id a.number a.moment a.actor v b.head b.body) kind
     ∙ ap (λ v. make_entry a.id a.number a.moment a.actor a.kind v b.body) head
     ∙ ap (λ v. make_entry a.id a.number a.moment a.actor a.kind a.head v) body
+
+-- of a number alone
+pub count_back : (a b : ℕ) → ReadsCount (count_value a ∷ []) b → b ≡ a
+count_back a b h = same_count (sym h.number)

@@ -38,6 +38,7 @@ use Rattle.store_tables.specs.Tables.{desk_schema}
 use Rattle.store_tables.specs.Queries.{reads}
 use Rattle.store_tables.specs.Picked.{passes, shows, Picks}
 use Rattle.store_tables.proofs.KeptLemmas.{one_of}
+use Rattle.store_tables.proofs.LastLemmas.{no_permutation}
 use Rattle.store_tables.proofs.Meaning.{Changes}
 use Rattle.store_tables.proofs.PickedLemmas.{picks}
 use Rattle.store_tables.proofs.WriteLemmas.{inserts, inserting, updates, deletes}
@@ -193,6 +194,57 @@ sets sql params at test project table old new is there bare quiet has h =
                 ∙ ap (λ rs. put_row row rs) left;
             others = it.tables;
           };
+    }
+
+-- no row passes, and all stay
+pub record Misses (tree : ℕ) (test : List Term) (params : Row) (old new : Database) : Type 0 where
+  pub none : filter (passes test params) (old.trees tree) ≡ []
+  pub schema : new.schema ≡ desk_schema
+  pub rows : new.trees tree ≡ old.trees tree
+  pub others : Moves tree old.trees new.trees
+
+no_rows : {X : Type 0} (xs : List X) → length xs ≡ 0 → xs ≡ []
+no_rows [] e = refl
+no_rows (x ∷ xs) e = absurd (omega (arith, e))
+
+none_picked : (tree : ℕ) (test project : List Term) (params : Row) (old rows : List Row)
+    → Picks tree test project [] params old rows → rows ≡ [] → filter (passes test params) old ≡ []
+none_picked tree test project params old rows it none =
+    let picked = no_rows it.picked (sym (length-map it.picked (shows project params))
+    ∙ ap length (sym it.shown ∙ none)) in
+    no_permutation (filter (passes test params) old)
+    (subst (IsPermutation (filter (passes test params) old)) picked it.same)
+
+pub misses : (sql : List ℕ) (params : Row) (at : ℕ) (test project : List Term) (table : Table)
+    (old new : State)
+    → Changes sql (Update at (record { lets = []; body = reads table.tree test project [] }))
+    → slice_get desk_schema.tables at ≡ Some table
+    → overlay old.now.trees [] table.tree ≡ old.now.trees table.tree
+    → works desk_schema Enforced 0 table.tree [] [] ≡ []
+    → old.now.schema ≡ desk_schema
+    → Executes sql params old new (Ok 0) → Misses table.tree test params old.now new.now
+misses sql params at test project table old new is there bare quiet has h =
+    let db = old.now.trees in
+    let program : Program = record { lets = []; body = reads table.tree test project [] } in
+    let w = runs_as sql params old new desk_schema has (Update at program) is.is is.plain 0 h in
+    let text = statement_of sql (understood desk_schema sql) in
+    let does = subst (λ s. Does old.step_limit (mode_of old) params (record old.now { schema = s })
+    text None (Update at program) (Ok (w.tally, new.now))) has w.changed in
+    let u = updates old.step_limit desk_schema db params text at program table w.tally new.now there
+    does in
+    let none = no_rows u.rows (sym (news_counted db table (ids_of u.rows) u.rows)
+    ∙ sym (ap (λ o. unwrap_or o 0) u.counted) ∙ sym w.counted) in
+    let it = one_step desk_schema Enforced db new.now.trees (edit_of db table [] Given 1 []) quiet
+    (subst (λ rows. Goes desk_schema Enforced db (edit_of db table (ids_of rows) Given 1 rows)
+    (Ok new.now.trees)) none u.goes) in
+    record {
+      none = none_picked table.tree test project params (db table.tree) u.rows
+          (subst (λ from. Picks table.tree test project [] params from u.rows) bare
+          (picks table.tree test project [] params (overlay db []) u.rows (u.answers.answer Null)))
+          none;
+      schema = u.schema_is;
+      rows = it.rows;
+      others = it.tables;
     }
 
 pub record Drops (tree : ℕ) (test project : List Term) (params : Row) (old new : Database) : Type 0

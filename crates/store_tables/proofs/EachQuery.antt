@@ -4,6 +4,9 @@ use Rattle.sqlite.specs.declared.types.Value.TheVariants.{Text as Words}
 use Rattle.desk_model.specs.Links.{kind_number}
 use Rattle.desk_model.specs.declared.rows.LinkKind.{LinkKind}
 use Rattle.desk_model.specs.declared.rows.LinkRow.{LinkRow}
+use Rattle.store_tables.specs.Dated.{id_of}
+use Rattle.store_tables.specs.Queries.{before_test, dated_numbered_text, dated_text, due_order}
+use Rattle.store_tables.specs.Queries.{numbers_before_text, numbers_in_text}
 use Rattle.store_tables.specs.Queries.{actors_text, all_from_text, all_to_text, entries_of_text}
 use Rattle.store_tables.specs.Queries.{filed_test, id_order, link_like_text, links_from_test}
 use Rattle.store_tables.specs.Queries.{links_from_text, links_text, named_test, number_order}
@@ -13,18 +16,21 @@ use Rattle.store_tables.specs.Queries.{requests_of_text, requests_text, role_ord
 use Rattle.store_tables.specs.Queries.{standing_order, target_order, target_test, three_order}
 use Rattle.store_tables.specs.Queries.{three_test, watchers_of_text, watchers_text}
 use Rattle.store_tables.specs.Queries.{watches_of_text}
+use Rattle.store_tables.specs.Selection.{has_number, is_due_before, number_of}
 use Rattle.store_tables.specs.Selection.{ends_at, is_filed_in, is_link, is_named, is_numbered}
 use Rattle.store_tables.specs.Selection.{is_of_person, links_from, starts_at, tells_of, watches}
 use Rattle.store_tables.specs.Spelling.{count_value, link_columns}
-use Rattle.store_tables.proofs.EachTable.{actor_table, entry_table, link_table, queue_table}
+use Rattle.store_tables.proofs.EachTable.{actor_table, dated_table, entry_table, link_table, queue_table}
 use Rattle.store_tables.proofs.EachTable.{request_table, watcher_table}
-use Rattle.store_tables.proofs.RowLemmas.{QueryOn}
+use Rattle.store_tables.proofs.RowLemmas.{NumbersOn, QueryOn}
+use Rattle.store_tables.proofs.Statements.{dated_is, dated_numbered_is, numbers_before_is}
+use Rattle.store_tables.proofs.Statements.{numbers_in_is}
 use Rattle.store_tables.proofs.Statements.{actors_is, all_from_is, all_to_is, entries_of_is}
 use Rattle.store_tables.proofs.Statements.{link_like_is, links_from_is, links_is, queue_named_is}
 use Rattle.store_tables.proofs.Statements.{queues_is, request_numbered_is, requests_is}
 use Rattle.store_tables.proofs.Statements.{requests_of_is, watchers_is, watchers_of_is}
 use Rattle.store_tables.proofs.Statements.{watches_of_is}
-use Rattle.store_tables.proofs.TestLemmas.{ends, filed_in, from_source, named, numbered}
+use Rattle.store_tables.proofs.TestLemmas.{before, ends, filed_in, from_source, named, numbered}
 use Rattle.store_tables.proofs.TestLemmas.{of_person, starts, the_link, told, watched}
 
 abbrev pub all_queues : QueryOn queue_table
@@ -85,6 +91,58 @@ request_by_number id = record {
   means = request_numbered_is;
   passing = is_numbered id;
   tests = numbered id [];
+}
+
+abbrev pub all_dated : QueryOn dated_table
+all_dated = record {
+  text = dated_text;
+  params = [];
+  test = [];
+  order = id_order;
+  names = _;
+  means = dated_is;
+  passing = λ _. true;
+  tests = λ k. refl;
+}
+
+abbrev pub dated_by_number : (id : ℕ) → QueryOn dated_table
+dated_by_number id = record {
+  text = dated_numbered_text;
+  params = count_value id ∷ [];
+  test = numbered_test;
+  order = [];
+  names = _;
+  means = dated_numbered_is;
+  passing = has_number id;
+  tests = numbered id [];
+}
+
+abbrev pub numbers_of_queue : (name : List ℕ) → NumbersOn request_table
+numbers_of_queue name = record {
+  text = numbers_in_text;
+  params = Words name ∷ [];
+  test = filed_test;
+  order = id_order;
+  names = _;
+  means = numbers_in_is;
+  number = number_of;
+  shown = λ k. refl;
+  passing = is_filed_in name;
+  tests = filed_in name;
+}
+
+abbrev pub numbers_before : (at : ℕ) → NumbersOn dated_table
+numbers_before at = record {
+  text = numbers_before_text;
+  params = count_value at ∷ [];
+  test = before_test;
+  order = due_order;
+  names = _;
+  means = numbers_before_is;
+  number = id_of;
+  shown = λ k. refl;
+  passing = is_due_before at;
+  tests = before at;
 }
 
 abbrev pub all_watchers : QueryOn watcher_table

@@ -1,32 +1,34 @@
 -- The tables of a desk, each told once: where it lies, how it keeps its values, and what is read.
-use Rattle.std.proofs.Common.{◌≡◌, ◌∷◌, [], ℕ, ℤ, List, IsPermutation, arith, map, refl, subst}
+use Rattle.std.proofs.Common.{◌≡◌, ◌∷◌, [], ℕ, ℤ, List, arith, map, refl, subst}
 use Rattle.std.proofs.Common.{sym}
-use Rattle.std.proofs.lemmas.List.Sorted.{IsPermutation-map}
-use Rattle.sqlite.specs.Order.{Row, column}
-use Rattle.sqlite_rules.specs.Lists.{Has}
+use Rattle.sqlite.specs.Order.{column}
 use Rattle.sqlite_rules.proofs.ProbeLemmas.{has_mapped}
-use Rattle.sqlite_trees.proofs.ListLemmas.{map-map}
 use Rattle.desk_model.specs.declared.rows.Entry.{Entry}
 use Rattle.desk_model.specs.declared.rows.LinkRow.{LinkRow}
 use Rattle.desk_model.specs.declared.rows.QueueRow.{QueueRow}
 use Rattle.desk_model.specs.declared.rows.RequestRow.{RequestRow}
 use Rattle.desk_model.specs.declared.rows.Watcher.{Watcher}
-use Rattle.store_tables.specs.Contents.{Contents}
-use Rattle.store_tables.specs.Kept.{Holds, filed, itself, numbered_as, value_of}
-use Rattle.store_tables.specs.Queries.{actor_shown, entry_shown_terms, queue_shown}
+use Rattle.store_tables.specs.Contents.{requests}
+use Rattle.store_tables.specs.Dated.{Dated, dated_row, dated_shown, row_of}
+use Rattle.store_tables.specs.Kept.{filed, itself, value_of}
+use Rattle.store_tables.specs.Queries.{actor_shown, dated_shown_terms, entry_shown_terms}
+use Rattle.store_tables.specs.Queries.{queue_shown}
 use Rattle.store_tables.specs.Queries.{last_id_terms, last_number_terms, request_shown_terms}
 use Rattle.store_tables.specs.Queries.{three_shown}
-use Rattle.store_tables.specs.Reading.{IsEntryRow, IsLinkRow, IsNumberRow, IsQueueRow}
+use Rattle.store_tables.specs.Reading.{IsDatedRow, IsEntryRow, IsLinkRow, IsNumberRow}
+use Rattle.store_tables.specs.Reading.{IsQueueRow, ReadsDated}
 use Rattle.store_tables.specs.Reading.{IsRequestRow}
 use Rattle.store_tables.specs.Reading.{IsTextRow, IsWatcherRow, ReadsEntry, ReadsLink, ReadsQueue}
 use Rattle.store_tables.specs.Reading.{ReadsRequest, ReadsText, ReadsWatcher}
 use Rattle.store_tables.specs.Selection.{actor_of, number_of, place_of}
 use Rattle.store_tables.specs.Spelling.{count_value, entry_columns, link_columns}
 use Rattle.store_tables.specs.Spelling.{queue_columns}
-use Rattle.store_tables.specs.Spelling.{request_columns, request_shown, text_shown}
+use Rattle.store_tables.specs.Spelling.{request_shown, text_shown}
 use Rattle.store_tables.specs.Spelling.{watcher_columns}
-use Rattle.store_tables.proofs.BackLemmas.{entry_back, link_back, queue_back, request_back}
+use Rattle.store_tables.proofs.BackLemmas.{dated_back, entry_back, link_back, queue_back, request_back}
 use Rattle.store_tables.proofs.BackLemmas.{same_count, text_back, watcher_back}
+use Rattle.store_tables.proofs.DatedLemmas.{rows_valid, undated}
+use Rattle.store_tables.proofs.KeptLemmas.{viewed}
 use Rattle.store_tables.proofs.RowLemmas.{TableOf}
 use Rattle.store_tables.proofs.ValueLemmas.{values_of}
 
@@ -47,21 +49,39 @@ queue_table = record {
   valid = λ c db t. (values_of c t.values).queues;
 }
 
-abbrev pub request_table : TableOf RequestRow RequestRow
+abbrev pub request_table : TableOf Dated RequestRow
 request_table = record {
   tree = 3;
   terms = request_shown_terms;
-  row = numbered_as (λ (x : RequestRow). x.id) request_columns;
-  value = itself;
+  row = dated_row;
+  value = row_of;
   view = request_shown;
-  list = λ c. c.requests;
+  list = requests;
   Reads = ReadsRequest;
   IsValue = IsRequestRow;
   back = request_back;
   shown = λ params k. refl;
   same = λ params r. refl;
+  kept = undated;
+  valid = λ c db t. rows_valid c (values_of c t.values);
+}
+
+-- the same table, with the due moments
+abbrev pub dated_table : TableOf Dated Dated
+dated_table = record {
+  tree = 3;
+  terms = dated_shown_terms;
+  row = dated_row;
+  value = itself;
+  view = dated_shown;
+  list = λ c. c.dated;
+  Reads = ReadsDated;
+  IsValue = IsDatedRow;
+  back = dated_back;
+  shown = λ params k. refl;
+  same = λ params r. refl;
   kept = λ c db t. t.requests;
-  valid = λ c db t. (values_of c t.values).requests;
+  valid = λ c db t. (values_of c t.values).dated;
 }
 
 abbrev pub watcher_table : TableOf (ℤ × Watcher) Watcher
@@ -115,18 +135,6 @@ entry_table = record {
   valid = λ c db t. (values_of c t.values).entries;
 }
 
--- what one column shows of each value
-pub viewed : {K X Y : Type 0} (row : K → Row) (value : K → X) (view : X → Y) (xs : List X)
-    (rows : List Row) → Holds row value xs rows
-    → Holds row (λ k. view (value k)) (map view xs) rows
-viewed row value view xs rows h = record {
-  kept = h.kept;
-  spelt = h.spelt;
-  table = h.table;
-  same = subst (λ l. IsPermutation l (map view xs)) (map-map view value h.kept)
-      (IsPermutation-map view _ _ h.same);
-}
-
 -- those who made the entries: one column of that table
 abbrev pub actor_table : TableOf (ℤ × Entry) (List ℕ)
 actor_table = record {
@@ -151,26 +159,25 @@ actor_table = record {
 }
 
 -- the numbers of requests: one column of that table
-abbrev pub id_table : TableOf RequestRow ℕ
+abbrev pub id_table : TableOf Dated ℕ
 id_table = record {
   tree = 3;
   terms = last_id_terms;
-  row = numbered_as (λ (x : RequestRow). x.id) request_columns;
-  value = λ k. number_of (itself k);
+  row = dated_row;
+  value = λ k. number_of (row_of k);
   view = λ n. count_value n ∷ [];
-  list = λ c. map number_of c.requests;
+  list = λ c. map number_of (requests c);
   Reads = λ row n. column row 0 ≡ count_value n;
   IsValue = IsNumberRow;
   back = λ a b h. sym (same_count h);
   shown = λ params k. refl;
   same = λ params r. refl;
-  kept = λ c db t. viewed (numbered_as (λ (x : RequestRow). x.id) request_columns) itself number_of
-      c.requests (db.trees 3) t.requests;
+  kept = λ c db t. viewed dated_row row_of number_of (requests c) (db.trees 3) (undated c db t);
   valid = λ c db t n has.
-      let r = has_mapped number_of c.requests n has in
+      let r = has_mapped number_of (requests c) n has in
       subst (λ m. IsNumberRow (count_value m ∷ [])) (sym r.2) (record {
         wide = omega arith;
-        number = ((values_of c t.values).requests r.0 r.1).id;
+        number = (rows_valid c (values_of c t.values) r.0 r.1).id;
       });
 }
 

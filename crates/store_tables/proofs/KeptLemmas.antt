@@ -13,7 +13,7 @@ use Rattle.sqlite.specs.declared.types.Value.TheVariants.{Int}
 use Rattle.sqlite.specs.Order.{Row}
 use Rattle.sqlite_value.specs.Order.{value_cmp}
 use Rattle.sqlite_trees.specs.Tree.{IsTable, rowid, has_rowid, put_row, without_rowid}
-use Rattle.sqlite_trees.proofs.ListLemmas.{filter-map, IsPermutation-filter, ascending-filter}
+use Rattle.sqlite_trees.proofs.ListLemmas.{map-map, filter-map, IsPermutation-filter, ascending-filter}
 use Rattle.sqlite_trees.proofs.ListLemmas.{along_permutation, filter_same, all_of}
 use Rattle.sqlite_trees.proofs.TreeLemmas.{IsTable-put_row}
 use Rattle.sqlite_rules.specs.Edit.{is_taken}
@@ -175,3 +175,25 @@ one_kept row value xs rows h test p is it one =
     let left = found row value xs rows h test p is in
     let k = unmapped_one row left.kept it (sym left.spelt ∙ one) in
     (k.0, sym k.2)
+
+-- what one column shows of each value
+pub viewed : {K X Y : Type 0} (row : K → Row) (value : K → X) (view : X → Y) (xs : List X)
+    (rows : List Row) → Holds row value xs rows
+    → Holds row (λ k. view (value k)) (map view xs) rows
+viewed row value view xs rows h = record {
+  kept = h.kept;
+  spelt = h.spelt;
+  table = h.table;
+  same = subst (λ l. IsPermutation l (map view xs)) (map-map view value h.kept)
+      (IsPermutation-map view _ _ h.same);
+}
+
+-- the same values in another order
+pub reordered : {K X : Type 0} (row : K → Row) (value : K → X) (xs ys : List X) (rows : List Row)
+    → Holds row value xs rows → IsPermutation xs ys → Holds row value ys rows
+reordered row value xs ys rows h same = record {
+  kept = h.kept;
+  spelt = h.spelt;
+  table = h.table;
+  same = IsPermutation-trans _ _ _ h.same same;
+}

@@ -19,7 +19,8 @@ use Rattle.store_tables.specs.Kept.{Holds}
 use Rattle.store_tables.specs.Queries.{last_of}
 use Rattle.store_tables.specs.Spelling.{count_value}
 use Rattle.store_tables.specs.Picked.{passes, shows, PicksLast, ShowsGreatest, IsGreatest}
-use Rattle.store_tables.proofs.KeptLemmas.{found}
+use Rattle.sqlite.proofs.Callers.{one_permutation}
+use Rattle.store_tables.proofs.KeptLemmas.{found, unmapped_one}
 use Rattle.store_tables.proofs.ReadLemmas.{sorted_from, sorted_to}
 
 pub has_permuted : {X : Type 0} (xs ys : List X) (x : X) → IsPermutation xs ys → Has xs x → Has ys x
@@ -39,7 +40,7 @@ head_greatest key x ys sorted y (inr later) =
     (omega arith)) in
     not_less (key x) (key y) (all_has (λ b. is_lt (nat_cmp (key x) (key b)) ≡ false) ys y all later)
 
-no_permutation : {X : Type 0} (xs : List X) → IsPermutation xs [] → xs ≡ []
+pub no_permutation : {X : Type 0} (xs : List X) → IsPermutation xs [] → xs ≡ []
 no_permutation [] h = refl
 no_permutation (x ∷ xs) h = absurd (omega (arith, length_permutation (x ∷ xs) [] h))
 
@@ -106,3 +107,30 @@ pub mapped_has : {X Y : Type 0} (f : X → Y) (xs : List X) (y : Y) → Has (map
 mapped_has f [] y h = absurd h
 mapped_has f (x ∷ xs) y (inl same) = (x, inl refl, sym same)
 mapped_has f (x ∷ xs) y (inr later) = let it = mapped_has f xs y later in (it.0, inr it.1, it.2)
+
+-- ---- what passes of a table, by the rows that pass
+
+module _ {K X : Type 0} (row : K → Row) (value : K → X) (xs : List X) (rows : List Row)
+    (holds : Holds row value xs rows) (test : Row → Bool) (p : X → Bool)
+    (is : (k : K) → test (row k) ≡ p (value k)) where
+  left : Holds row value (filter p xs) (filter test rows)
+  left = found row value xs rows holds test p is
+
+  -- where one row passes, it is that of the one value that does
+  pub one_held : (it : Row) → filter test rows ≡ it ∷ []
+      → (k : K) × (it ≡ row k) × (filter p xs ≡ value k ∷ [])
+  one_held it one =
+      let k = unmapped_one row left.kept it (sym left.spelt ∙ one) in
+      let same : IsPermutation (value k.0 ∷ []) (filter p xs) =
+      subst (λ ks. IsPermutation (map value ks) (filter p xs)) k.1 left.same in
+      (k.0, sym k.2, one_permutation (value k.0) (filter p xs) same)
+
+  -- where none passes, no value does
+  pub none_held : filter test rows ≡ [] → filter p xs ≡ []
+  none_held none = no_permutation (filter p xs) (IsPermutation-sym _ _
+      (subst (λ ks. IsPermutation (map value ks) (filter p xs))
+      (unmapped_none left.kept (sym left.spelt ∙ none)) left.same))
+    where
+      unmapped_none : (ks : List K) → map row ks ≡ [] → ks ≡ []
+      unmapped_none [] e = refl
+      unmapped_none (k ∷ ks) e = absurd (cc)

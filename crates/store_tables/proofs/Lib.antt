@@ -2,6 +2,8 @@ pub mod BackLemmas
 pub mod BlankLemmas
 pub mod ChangeLemmas
 pub mod CountLemmas
+pub mod DatedLemmas
+pub mod DueLemmas
 pub mod EachQuery
 pub mod EachTable
 pub mod FoundLemmas

@@ -11,22 +11,22 @@ use Rattle.sqlite.specs.State.{State, HasCleanDisk, Shown}
 use Rattle.sqlite_value.specs.Order.{value_cmp}
 use Rattle.sqlite_value.proofs.OrderLemmas.{then-Equal}
 use Rattle.sqlite_trees.proofs.ListLemmas.{filter_all, all_of}
-use Rattle.desk_model.specs.declared.rows.RequestRow.{RequestRow}
 use Rattle.desk_model.specs.declared.rows.Entry.{Entry}
-use Rattle.store_tables.specs.Kept.{filed, numbered_as, value_of, itself}
+use Rattle.store_tables.specs.Dated.{dated_row, row_of}
+use Rattle.store_tables.specs.Kept.{filed, value_of}
 use Rattle.store_tables.specs.Queries.{last_of, reads}
 use Rattle.store_tables.specs.Queries.{last_id_text}
 use Rattle.store_tables.specs.Queries.{last_number_text}
 use Rattle.store_tables.specs.Queries.{request_test}
 use Rattle.store_tables.specs.Picked.{passes, shows, Picks, ShowsGreatest}
-use Rattle.store_tables.specs.Contents.{Contents}
+use Rattle.store_tables.specs.Contents.{Contents, requests}
 use Rattle.store_tables.specs.Calls.{FailsIn}
 use Rattle.store_tables.specs.Stands.{Stand, HasTables}
 use Rattle.store_tables.specs.declared.fault.StoreFault.{StoreFault}
 use Rattle.store_tables.specs.declared.fault.StoreFault.TheVariants.{Mismatch, WrongVersion}
-use Rattle.store_tables.specs.Spelling.{request_columns}
 use Rattle.store_tables.specs.Spelling.{entry_columns, count_value}
-use Rattle.store_tables.specs.Selection.{tells_of}
+use Rattle.store_tables.specs.Selection.{number_of, tells_of}
+use Rattle.store_tables.proofs.DatedLemmas.{undated}
 use Rattle.store_tables.proofs.TestLemmas.{told}
 use Rattle.store_tables.proofs.TestLemmas.{order_numbers}
 use Rattle.store_tables.proofs.PickedLemmas.{picked_by, last_by}
@@ -115,16 +115,15 @@ every xs = filter_all (λ x. true) xs (all_of (λ x. true ≡ true) (λ _. refl)
 
 pub shows_last_id : (d : Contents) (old new : State) → (HasCleanDisk new → HasCleanDisk old)
     → Stand d old → HasCleanDisk new → (rows : List Row) → Shown last_id_text [] old new rows
-    → ShowsGreatest (λ (x : RequestRow). x.id) d.requests rows
+    → ShowsGreatest number_of (requests d) rows
 shows_last_id d old new clean stand c rows h =
     let t = shown_tables d last_id_text [] old new rows clean stand c h in
     let p = last_by last_id_text [] old new t.schema 3 [] (col 1 0) last_id_is rows h in
-    subst (λ xs. ShowsGreatest (λ (x : RequestRow). x.id) xs rows) (every d.requests)
-    (shows_greatest (numbered_as (λ (x : RequestRow). x.id) request_columns) itself
-    (λ (x : RequestRow). x.id) 3 [] (col 1 0) [] d.requests (old.now.trees 3) rows (λ _. true)
-    (λ k. refl) (λ k. refl)
-    (λ a b. then-Equal (value_cmp (count_value b.id) (count_value a.id)) ∙ order_numbers b.id a.id)
-    t.requests p)
+    subst (λ xs. ShowsGreatest number_of xs rows) (every (requests d))
+    (shows_greatest dated_row row_of number_of 3 [] (col 1 0) [] (requests d) (old.now.trees 3) rows
+    (λ _. true) (λ k. refl) (λ k. refl)
+    (λ a b. then-Equal (value_cmp (count_value b.0.id) (count_value a.0.id))
+    ∙ order_numbers b.0.id a.0.id) (undated d old.now t) p)
 
 pub shows_last_number : (d : Contents) (id : ℕ) (old new : State)
     → (HasCleanDisk new → HasCleanDisk old) → Stand d old → HasCleanDisk new → (rows : List Row)

@@ -2,13 +2,14 @@
 use Rattle.std.proofs.Common.{Result}
 use Rattle.sqlite.specs.State.{State}
 use Rattle.store_tables.specs.Calls.{FailsIn, OnlyRefuses, WasClean}
-use Rattle.store_tables.specs.Mismatches.{MismatchesInActors, MismatchesInLinks}
+use Rattle.store_tables.specs.Mismatches.{MismatchesInActors, MismatchesInDated}
+use Rattle.store_tables.specs.Mismatches.{MismatchesInLinks, MismatchesInNumbers}
 use Rattle.store_tables.specs.Mismatches.{MismatchesInQueues, MismatchesInRequests}
 use Rattle.store_tables.specs.Mismatches.{MismatchesInWatchers}
 use Rattle.store_tables.specs.Queries.{last_id_terms, last_number_terms}
 use Rattle.store_tables.specs.Reading.{IsNumberRow}
 use Rattle.store_tables.specs.declared.fault.StoreFault.{StoreFault}
-use Rattle.store_tables.proofs.EachTable.{actor_table, id_table, link_table, place_table}
+use Rattle.store_tables.proofs.EachTable.{actor_table, dated_table, id_table, link_table, place_table}
 use Rattle.store_tables.proofs.EachTable.{queue_table, request_table, watcher_table}
 use Rattle.store_tables.proofs.RowLemmas.{refuses}
 
@@ -19,6 +20,12 @@ module _ (old new : State) (clean : WasClean old new) {X : Type 0} (result : Res
 
     pub requests_refuse : MismatchesInRequests old new result → OnlyRefuses old new result
     requests_refuse = refuses request_table old new clean result
+
+    pub dated_refuse : MismatchesInDated old new result → OnlyRefuses old new result
+    dated_refuse = refuses dated_table old new clean result
+
+    pub numbers_refuse : MismatchesInNumbers old new result → OnlyRefuses old new result
+    numbers_refuse = refuses id_table old new clean result
 
     pub watchers_refuse : MismatchesInWatchers old new result → OnlyRefuses old new result
     watchers_refuse = refuses watcher_table old new clean result

@@ -2,7 +2,7 @@
 -- shown here is so of each.
 use Rattle.std.proofs.Common.{◌≡◌, ◌≢◌, ℕ, Bool, List, [], ◌∷◌, filter, map, IsPermutation}
 use Rattle.std.proofs.Common.{Option, Ok, Err, Result, IfOk, IfErr, Ordering}
-use Rattle.std.proofs.Common.{ap, refl, subst, sym, ◌∙◌}
+use Rattle.std.proofs.Common.{ap, ap₂, refl, subst, sym, ◌∙◌}
 use Rattle.std.specs.List.{AllZip}
 use Rattle.std.specs.Option.{option_to_list}
 use Rattle.sqlite.specs.Effect.{Database}
@@ -15,12 +15,15 @@ use Rattle.sqlite_rules.proofs.ProbeLemmas.{has_mapped, mapped_has}
 use Rattle.store_tables.specs.Calls.{FailsIn, OnlyRefuses, ReadsRows, WasClean}
 use Rattle.store_tables.specs.Contents.{Contents}
 use Rattle.store_tables.specs.Kept.{Holds}
-use Rattle.store_tables.specs.Picked.{AreOrdered, passes, shows, Shows}
-use Rattle.store_tables.specs.Queries.{reads}
+use Rattle.store_tables.specs.Picked.{AreNumbersOf, AreOrdered, passes, shows, Shows}
+use Rattle.store_tables.specs.Queries.{last_id_terms, reads}
+use Rattle.store_tables.specs.Reading.{IsNumberRow, ReadsCount}
+use Rattle.store_tables.specs.Spelling.{count_value}
 use Rattle.store_tables.specs.Stands.{Stand, Tables}
 use Rattle.store_tables.specs.declared.fault.StoreFault.{StoreFault}
 use Rattle.store_tables.specs.declared.fault.StoreFault.TheVariants.{Mismatch, Refused}
 use Rattle.store_tables.specs.declared.fault.StoreFault.TheVariants.{WrongVersion}
+use Rattle.store_tables.proofs.BackLemmas.{count_back}
 use Rattle.store_tables.proofs.LastLemmas.{has_permuted}
 use Rattle.store_tables.proofs.Meaning.{Selects}
 use Rattle.store_tables.proofs.PickedLemmas.{picked_by}
@@ -110,6 +113,24 @@ passing_shown t q old new clean c stand now rows h =
     (old.now.trees t.tree) rows q.passing q.tests (t.shown q.params) (t.kept c old.now tables)
     (picked_by q.text q.params old new tables.schema t.tree q.test t.terms q.order q.means rows h)
 
+-- a mismatch of a query comes of a row of its table
+fails_of : {V X : Type 0} {names : List (List ℕ)} (text : List ℕ) (params : Row) (tree : ℕ)
+    (test terms order : List Term) → Selects text (reads tree test terms order) names
+    → ((r : Row) → shows terms params r ≡ shows terms [] r)
+    → (Reads : Row → V → Type 0) (IsValue : Row → Type 0) (values : X → List V) (old new : State)
+    → (HasCleanDisk new → HasCleanDisk old) → (r : Result X StoreFault)
+    → ReadsRows Reads IsValue values text params old new r → FailsIn tree terms IsValue old new r
+fails_of text params tree test terms order means same Reads IsValue values old new clean (Ok x) h =
+    tt
+fails_of text params tree test terms order means same Reads IsValue values old new clean (Err e) h = (
+  h.known,
+  λ wrong has now.
+      let it = h.mismatch now wrong in
+      let at = table_rows text params tree test terms order means old new clean has now it.0 it.1
+      it.2 it.3 in
+      (at.0, (at.1, at.2, λ value. it.4 (subst IsValue (sym (at.3 ∙ same at.1)) value))),
+)
+
 module _ {K V X : Type 0} (t : TableOf K V) (q : QueryOn t) (values : X → List V) (old new : State)
     (clean : HasCleanDisk new → HasCleanDisk old)
   where
@@ -117,22 +138,8 @@ module _ {K V X : Type 0} (t : TableOf K V) (q : QueryOn t) (values : X → List
     pub fails : (r : Result X StoreFault)
         → ReadsRows t.Reads t.IsValue values q.text q.params old new r
         → FailsIn t.tree t.terms t.IsValue old new r
-    fails (Ok x) h = tt
-    fails (Err e) h = (
-      h.known,
-      λ wrong has now.
-          let it = h.mismatch now wrong in
-          let at = table_rows q.text q.params t.tree q.test t.terms q.order q.means old new clean has
-          now it.0 it.1 it.2 it.3 in (
-            at.0,
-            (
-              at.1,
-              at.2,
-              λ value. it.4 (subst t.IsValue (sym (at.3 ∙ t.same q.params at.1))
-                  value),
-            ),
-          ),
-    )
+    fails = fails_of q.text q.params t.tree q.test t.terms q.order q.means (t.same q.params) t.Reads
+        t.IsValue values old new clean
 
     pub only_refuses : (r : Result X StoreFault)
         → ReadsRows t.Reads t.IsValue values q.text q.params old new r → OnlyRefuses old new r
@@ -173,3 +180,58 @@ pub reads_one : {K V : Type 0} (t : TableOf K V) (q : QueryOn t) (old new : Stat
 reads_one t q old new clean result read c stand now = if_ok result
     (λ x it. one_read t.view t.Reads t.back (filter q.passing (t.list c)) it.0 x
     (passing_shown t q old new clean c stand now it.0 it.1) it.2) (read.read now)
+
+-- A query on the table of requests that shows their numbers alone.
+pub record NumbersOn {K V : Type 0} (t : TableOf K V) : Type 0 where
+  pub text : List ℕ
+  pub params : Row
+  pub test : List Term
+  pub order : List Term
+  pub names : List (List ℕ)
+  pub means : Selects text (reads t.tree test last_id_terms order) names
+  pub number : V → ℕ
+  pub shown : (k : K) → shows last_id_terms params (t.row k) ≡ count_value (number (t.value k)) ∷ []
+  pub passing : V → Bool
+  pub tests : (k : K) → passes test params (t.row k) ≡ passing (t.value k)
+
+-- what was read of such rows is the numbers of what they show
+numbers_are : {V : Type 0} (number : V → ℕ) (vs : List V) (ns : List ℕ)
+    → AllZip ReadsCount (map (λ v. count_value (number v) ∷ []) vs) ns → ns ≡ map number vs
+numbers_are number [] [] zip = refl
+numbers_are number [] (n ∷ ns) zip = absurd zip
+numbers_are number (v ∷ vs) [] zip = absurd zip
+numbers_are number (v ∷ vs) (n ∷ ns) zip =
+    ap₂ (λ m ms. m ∷ ms) (count_back (number v) n zip.0) (numbers_are number vs ns zip.1)
+
+module _ {K V X : Type 0} (t : TableOf K V) (q : NumbersOn t) (values : X → List ℕ)
+    (old new : State) (clean : HasCleanDisk new → HasCleanDisk old)
+  where
+    pub numbers_fail : (r : Result X StoreFault)
+        → ReadsRows ReadsCount IsNumberRow values q.text q.params old new r
+        → FailsIn t.tree last_id_terms IsNumberRow old new r
+    numbers_fail = fails_of q.text q.params t.tree q.test last_id_terms q.order q.means
+        (λ r. refl) ReadsCount IsNumberRow values old new clean
+
+    -- the numbers of what passes of the table, in an order
+    pub numbers_in_order : (r : Result X StoreFault)
+        → ReadsRows ReadsCount IsNumberRow values q.text q.params old new r
+        → (c : Contents) → Stand c old → HasCleanDisk new → (cmp : V → V → Ordering) → ((a b : K)
+        → output_cmp (reads t.tree q.test last_id_terms q.order)
+        (output (reads t.tree q.test last_id_terms q.order) (q.params ∷ t.row a ∷ []))
+        (output (reads t.tree q.test last_id_terms q.order) (q.params ∷ t.row b ∷ []))
+        ≡ cmp (t.value a) (t.value b))
+        → IfOk r (λ x. AreNumbersOf q.number cmp (filter q.passing (t.list c)) (values x))
+    numbers_in_order r read c stand now cmp orders = if_ok r
+        (λ x it.
+        let tables = shown_tables c q.text q.params old new it.0 clean stand now it.1 in
+        let lists = lists_values t.row t.value (λ v. count_value (q.number v) ∷ []) t.tree q.test
+        last_id_terms q.order q.params (t.list c) (old.now.trees t.tree) it.0 q.passing q.tests
+        q.shown (t.kept c old.now tables)
+        (picked_by q.text q.params old new tables.schema t.tree q.test last_id_terms q.order q.means
+        it.0 it.1) cmp orders in
+        record {
+          values = lists.values;
+          ordered = lists.ordered;
+          are = numbers_are q.number lists.values (values x)
+              (subst (λ rs. AllZip ReadsCount rs (values x)) lists.are it.2);
+        }) (read.read now)

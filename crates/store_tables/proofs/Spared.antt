@@ -9,8 +9,9 @@ use Rattle.sqlite.specs.State.{State, HasCleanDisk, IsUnchanged, IsRolledBack, S
 use Rattle.sqlite.specs.State.{FailsToQuery, FailsToShow, IsNotRun}
 use Rattle.sqlite.specs.declared.error.Error.{Error}
 use Rattle.store_tables.specs.Calls.{AreThere, Spares}
-use Rattle.store_tables.specs.Contents.{Contents}
-use Rattle.store_tables.specs.Stands.{Stand, Tables}
+use Rattle.desk_model.specs.Desk.{Desk}
+use Rattle.store_tables.specs.Contents.{Contents, contents_of}
+use Rattle.store_tables.specs.Stands.{Stand, StandsFor, Tables}
 use Rattle.store_tables.specs.Tables.{desk_schema}
 use Rattle.store_tables.proofs.StandLemmas.{failed_was_open, never_both, shown_open, shown_same}
 
@@ -55,6 +56,11 @@ stands {old} {new} kept c stand clean live =
       ],
       subst (Tables c) (sym it.1) was.1,
     )
+
+-- and what stands for a desk stands for it
+pub stands_for : {old new : State} → Spares old new → (desk : Desk) → StandsFor desk old
+    → StandsFor desk new
+stands_for kept desk stand = (stand.0, stands kept (contents_of stand.0 desk) stand.1)
 
 abbrev Left : State → State → Type 0
 Left old new =

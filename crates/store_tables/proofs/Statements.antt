@@ -1,5 +1,5 @@
 -- What the texts of the statements mean, as the check computes it.
-use Rattle.std.proofs.Common.{[], ◌∷◌, codes, refl}
+use Rattle.std.proofs.Common.{[], ◌∷◌, codes, List, ℕ, refl}
 use Rattle.sqlite_tied.specs.Compute.{everything}
 use Rattle.sqlite.specs.Term.{col}
 use Rattle.sqlite.specs.Source.TheVariants.{Values}
@@ -26,6 +26,9 @@ use Rattle.store_tables.specs.Queries.{three_order, three_test, three_shown}
 use Rattle.store_tables.specs.Queries.{filed_test, requests_of_text}
 use Rattle.store_tables.specs.Queries.{person_test, standing_order, watches_of_text}
 use Rattle.store_tables.specs.Queries.{version_query, version_text, watchers_of_text, watchers_text}
+use Rattle.store_tables.specs.Queries.{before_test, dated_numbered_text, dated_shown_terms}
+use Rattle.store_tables.specs.Queries.{dated_text, due_order, last_id_terms, numbers_before_text}
+use Rattle.store_tables.specs.Queries.{numbers_in_text, set_due_terms, set_due_text}
 use Rattle.sqlite.specs.Listing.{understood}
 use Rattle.store_tables.proofs.Meaning.{Changes, Selects}
 
@@ -166,3 +169,32 @@ requests_of_is = record { is = refl; plain = (refl, refl); unlisted = refl }
 pub actors_is : Selects actors_text (reads 8 [] actor_shown []) (codes "actor" ∷ [])
 unfolding understood everything
 actors_is = record { is = refl; plain = (refl, refl); unlisted = refl }
+
+abbrev dated_names : List (List ℕ)
+dated_names =
+    codes "id" ∷ codes "queue" ∷ codes "subject" ∷ codes "status" ∷ codes "owner" ∷ codes "level"
+    ∷ codes "created" ∷ codes "opened" ∷ codes "turn" ∷ codes "since" ∷ codes "due" ∷ []
+
+pub dated_is : Selects dated_text (reads 3 [] dated_shown_terms id_order) dated_names
+unfolding understood everything
+dated_is = record { is = refl; plain = (refl, refl); unlisted = refl }
+
+pub dated_numbered_is : Selects dated_numbered_text (reads 3 numbered_test dated_shown_terms [])
+    dated_names
+unfolding understood everything
+dated_numbered_is = record { is = refl; plain = (refl, refl); unlisted = refl }
+
+pub numbers_in_is : Selects numbers_in_text (reads 3 filed_test last_id_terms id_order)
+    (codes "id" ∷ [])
+unfolding understood everything
+numbers_in_is = record { is = refl; plain = (refl, refl); unlisted = refl }
+
+pub numbers_before_is : Selects numbers_before_text (reads 3 before_test last_id_terms due_order)
+    (codes "id" ∷ [])
+unfolding understood everything
+numbers_before_is = record { is = refl; plain = (refl, refl); unlisted = refl }
+
+pub set_due_is : Changes set_due_text (Update 2
+    (record { lets = []; body = reads 3 numbered_test set_due_terms [] }))
+unfolding understood everything
+set_due_is = record { is = refl; plain = (refl, refl) }

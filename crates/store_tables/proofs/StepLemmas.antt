@@ -1,12 +1,12 @@
 -- Statements in a row: one that changed one row, one after the other, and those of a loop.
-use Rattle.std.proofs.Common.{◌≡◌, ◌+◌, ◌<◌, ◌≤◌, ◌∙◌, ℕ, List, [], Ok, Err, Result, IfOk, OnOk}
+use Rattle.std.proofs.Common.{◌≡◌, ◌+◌, ◌<◌, ◌≤◌, ◌∙◌, ℕ, List, Ok, Err, Result, IfOk, OnOk}
 use Rattle.std.proofs.Common.{ap, fold, get_or, length, refl, subst, sym, take}
 use Rattle.std.proofs.lemmas.List.{take_all}
 use Rattle.sqlite.specs.Order.{Row}
 use Rattle.sqlite.specs.State.{State, HasCleanDisk, Executes}
 use Rattle.store_tables.specs.Calls.{Does, WasClean}
 use Rattle.store_tables.specs.Contents.{Contents}
-use Rattle.store_tables.specs.Stands.{KeepsBase, Ran, Tables, Within}
+use Rattle.store_tables.specs.Stands.{KeepsBase, Ran, RanOnAny, Tables, Within}
 use Rattle.store_tables.specs.declared.fault.StoreFault.{StoreFault}
 use Rattle.store_tables.proofs.StandLemmas.{fold_more, steps}
 
@@ -29,6 +29,31 @@ pub does_one : {X : Type 0} (r : Result X StoreFault) (sql : List ℕ) (params :
     → Does change old new r
 does_one r sql params old new change ran clean keeps makes = record {
   makes = λ now was. if_done r sql params old new now (change now) was ran clean (makes now);
+  keeps = keeps;
+  clean = clean;
+}
+
+-- a statement that changed one row or none
+pub does_any : {X : Type 0} (r : Result X StoreFault) (sql : List ℕ) (params : Row)
+    (old new : State) (change : Contents → Contents)
+    → (HasCleanDisk new → IfOk r (λ done. RanOnAny sql params old new)) → WasClean old new
+    → KeepsBase old new
+    → ((now : Contents) (count : ℕ) → count < 2 → Tables now old.now
+    → Executes sql params old new (Ok count) → Tables (change now) new.now)
+    → Does change old new r
+does_any (Ok x) sql params old new change ran clean keeps makes = record {
+  makes = λ now was within c o.
+      let it = ran c in
+      let before = within (clean c) it.2.shown.was_open in (
+        makes now it.0 it.1 before.0 it.2.runs,
+        subst (Tables was) (sym it.2.shown.committed_is) before.1,
+        it.2.shown.mode,
+      );
+  keeps = keeps;
+  clean = clean;
+}
+does_any (Err e) sql params old new change ran clean keeps makes = record {
+  makes = λ now was within. tt;
   keeps = keeps;
   clean = clean;
 }

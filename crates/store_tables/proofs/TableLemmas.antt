@@ -1,6 +1,6 @@
 -- What each INSERT, UPDATE and DELETE makes of the desk that the tables stand for.
 use Rattle.std.proofs.Common.{◌≡◌, inl, inr, Bool, filter, true, arith, drop, ℕ, pos, List, [], ◌∷◌}
-use Rattle.std.proofs.Common.{Ok, refl, sym}
+use Rattle.std.proofs.Common.{Ok, refl, sym, map, None, Option, Some, zero, suc, ◌<◌}
 use Rattle.std.proofs.Common.{ap, subst, ◌∙◌}
 use Rattle.std.specs.Prelude.{◌==◌}
 use Rattle.std.proofs.lemmas.Bool.Decides.{nat_tests}
@@ -12,7 +12,8 @@ use Rattle.sqlite.specs.Values.{or_null}
 use Rattle.sqlite.specs.Tree.{Trees, rowid, put_row, without_rowid}
 use Rattle.sqlite.specs.Edit.{next_rowid, is_taken, id_in}
 use Rattle.sqlite.specs.Term.{col}
-use Rattle.sqlite.specs.Cast.{cast_row}
+use Rattle.sqlite.specs.Cast.{cast, cast_row}
+use Rattle.sqlite.specs.Kind.TheVariants.{Integer}
 use Rattle.sqlite.specs.Effect.{Database}
 use Rattle.sqlite.specs.State.{State, Executes}
 use Rattle.desk_model.specs.declared.rows.QueueRow.{QueueRow}
@@ -20,37 +21,37 @@ use Rattle.desk_model.specs.declared.rows.RequestRow.{RequestRow}
 use Rattle.desk_model.specs.declared.rows.Watcher.{Watcher}
 use Rattle.desk_model.specs.declared.rows.Entry.{Entry}
 use Rattle.desk_model.specs.declared.rows.LinkRow.{LinkRow}
-use Rattle.store_tables.specs.Kept.{Keeps, Numbers, filed, numbered_as, value_of, itself}
+use Rattle.store_tables.specs.Dated.{Dated, dated_columns, dated_row, dated_shown, id_of}
+use Rattle.store_tables.specs.Kept.{Keeps, Numbers, filed, value_of, itself}
 use Rattle.store_tables.specs.Reading.{IsEntryRow, IsLinkRow, IsQueueRow}
-use Rattle.store_tables.specs.Reading.{IsRequestRow, IsWatcherRow}
+use Rattle.store_tables.specs.Reading.{IsDatedRow, IsMinuteOrNull, IsWatcherRow}
 use Rattle.store_tables.specs.Tables.{desk_schema, queue, request, watcher, link, entry}
 use Rattle.store_tables.specs.Queries.{add_entry_terms, add_entry_text, add_link_text}
 use Rattle.store_tables.specs.Queries.{add_queue_terms, add_queue_text, add_request_terms}
 use Rattle.store_tables.specs.Queries.{add_request_text, add_three_terms, add_watcher_text}
 use Rattle.store_tables.specs.Queries.{set_request_terms, set_request_text, drop_link_text}
+use Rattle.store_tables.specs.Queries.{set_due_terms, set_due_text}
 use Rattle.store_tables.specs.Queries.{drop_watcher_text, numbered_test, three_test}
 use Rattle.store_tables.specs.Picked.{passes, shows}
-use Rattle.store_tables.specs.Selection.{is_numbered, is_watcher, is_link}
+use Rattle.store_tables.specs.Selection.{has_number, is_watcher, is_link}
 use Rattle.store_tables.specs.Contents.{Contents, add_queue, add_request, set_request, add_watcher}
-use Rattle.store_tables.specs.Contents.{drop_watcher, add_link, drop_link, add_entry}
+use Rattle.store_tables.specs.Contents.{drop_watcher, add_link, drop_link, add_entry, set_due}
 use Rattle.store_tables.specs.Stands.{Tables}
-use Rattle.store_tables.specs.Spelling.{queue_columns, request_columns, request_shown}
+use Rattle.store_tables.specs.Spelling.{queue_columns}
 use Rattle.store_tables.specs.Spelling.{watcher_columns, link_columns, entry_columns, count_value}
 use Rattle.store_tables.specs.Spelling.{turn_number, role_number, entry_kind_number}
 use Rattle.desk_model.specs.Links.{kind_number}
 use Rattle.store_tables.proofs.Statements.{add_entry_is, add_link_is, add_queue_is, add_request_is}
 use Rattle.store_tables.proofs.Statements.{add_watcher_is, drop_link_is, drop_watcher_is}
-use Rattle.store_tables.proofs.Statements.{set_request_is}
-use Rattle.store_tables.proofs.KeptLemmas.{inserted, removed, replaced, one_kept}
+use Rattle.store_tables.proofs.Statements.{set_due_is, set_request_is}
+use Rattle.store_tables.proofs.DueLemmas.{AreEach, each_moved, moved, none_moved, one_moved}
+use Rattle.store_tables.proofs.KeptLemmas.{inserted, removed, replaced, one_kept, reordered}
 use Rattle.store_tables.proofs.TestLemmas.{numbered, the_watcher, the_link}
+use Rattle.store_tables.proofs.LastLemmas.{none_held, one_held}
 use Rattle.store_tables.proofs.ChangeLemmas.{Moves, apart, adds, sets, drops, cast_null, cast_int}
-use Rattle.store_tables.proofs.ChangeLemmas.{cast_text}
+use Rattle.store_tables.proofs.ChangeLemmas.{cast_text, misses}
 use Rattle.store_tables.proofs.ValueLemmas.{are_values, values_of}
 use Rattle.store_tables.proofs.WriteLemmas.{inserting}
-
--- each element is so
-abbrev AreEach : {X : Type 0} → (X → Type 0) → List X → Type 0
-AreEach {X} P xs = (x : X) → Has xs x → P x
 
 also : {X : Type 0} (P : X → Type 0) (x : X) (xs : List X) → P x → AreEach P xs
     → AreEach P (x ∷ xs)
@@ -68,7 +69,7 @@ queues_now d xs old new t schema m now each = record {
   schema = schema;
   meta = m.0 (apart 0 1 refl) ∙ t.meta;
   queues = now;
-  requests = subst (Numbers (λ r. r.id) request_columns d.requests) (sym (m.1.1.0 (apart 3 1 refl)))
+  requests = subst (Numbers id_of dated_columns d.dated) (sym (m.1.1.0 (apart 3 1 refl)))
       t.requests;
   watchers = subst (Keeps watcher_columns d.watchers) (sym (m.1.1.1.0 (apart 4 1 refl))) t.watchers;
   links = subst (Keeps link_columns d.links) (sym (m.1.1.1.1.0 (apart 6 1 refl))) t.links;
@@ -76,17 +77,17 @@ queues_now d xs old new t schema m now each = record {
   values = are_values _ (record {
     version = (values_of d t.values).version;
     queues = each;
-    requests = (values_of d t.values).requests;
+    dated = (values_of d t.values).dated;
     watchers = (values_of d t.values).watchers;
     links = (values_of d t.values).links;
     entries = (values_of d t.values).entries;
   });
 }
 
-pub requests_now : (d : Contents) (xs : List RequestRow) (old new : Database) → Tables d old
+pub requests_now : (d : Contents) (xs : List Dated) (old new : Database) → Tables d old
     → new.schema ≡ desk_schema → Moves 3 old.trees new.trees
-    → Numbers (λ r. r.id) request_columns xs (new.trees 3)
-    → AreEach (λ x. IsRequestRow (request_shown x)) xs → Tables (record d { requests = xs }) new
+    → Numbers id_of dated_columns xs (new.trees 3)
+    → AreEach (λ p. IsDatedRow (dated_shown p)) xs → Tables (record d { dated = xs }) new
 requests_now d xs old new t schema m now each = record {
   schema = schema;
   meta = m.0 (apart 0 3 refl) ∙ t.meta;
@@ -98,7 +99,7 @@ requests_now d xs old new t schema m now each = record {
   values = are_values _ (record {
     version = (values_of d t.values).version;
     queues = (values_of d t.values).queues;
-    requests = each;
+    dated = each;
     watchers = (values_of d t.values).watchers;
     links = (values_of d t.values).links;
     entries = (values_of d t.values).entries;
@@ -113,7 +114,7 @@ watchers_now d xs old new t schema m now each = record {
   schema = schema;
   meta = m.0 (apart 0 4 refl) ∙ t.meta;
   queues = subst (Keeps queue_columns d.queues) (sym (m.1.0 (apart 1 4 refl))) t.queues;
-  requests = subst (Numbers (λ r. r.id) request_columns d.requests) (sym (m.1.1.0 (apart 3 4 refl)))
+  requests = subst (Numbers id_of dated_columns d.dated) (sym (m.1.1.0 (apart 3 4 refl)))
       t.requests;
   watchers = now;
   links = subst (Keeps link_columns d.links) (sym (m.1.1.1.1.0 (apart 6 4 refl))) t.links;
@@ -121,7 +122,7 @@ watchers_now d xs old new t schema m now each = record {
   values = are_values _ (record {
     version = (values_of d t.values).version;
     queues = (values_of d t.values).queues;
-    requests = (values_of d t.values).requests;
+    dated = (values_of d t.values).dated;
     watchers = each;
     links = (values_of d t.values).links;
     entries = (values_of d t.values).entries;
@@ -135,7 +136,7 @@ links_now d xs old new t schema m now each = record {
   schema = schema;
   meta = m.0 (apart 0 6 refl) ∙ t.meta;
   queues = subst (Keeps queue_columns d.queues) (sym (m.1.0 (apart 1 6 refl))) t.queues;
-  requests = subst (Numbers (λ r. r.id) request_columns d.requests) (sym (m.1.1.0 (apart 3 6 refl)))
+  requests = subst (Numbers id_of dated_columns d.dated) (sym (m.1.1.0 (apart 3 6 refl)))
       t.requests;
   watchers = subst (Keeps watcher_columns d.watchers) (sym (m.1.1.1.0 (apart 4 6 refl))) t.watchers;
   links = now;
@@ -143,7 +144,7 @@ links_now d xs old new t schema m now each = record {
   values = are_values _ (record {
     version = (values_of d t.values).version;
     queues = (values_of d t.values).queues;
-    requests = (values_of d t.values).requests;
+    dated = (values_of d t.values).dated;
     watchers = (values_of d t.values).watchers;
     links = each;
     entries = (values_of d t.values).entries;
@@ -157,7 +158,7 @@ entries_now d xs old new t schema m now each = record {
   schema = schema;
   meta = m.0 (apart 0 8 refl) ∙ t.meta;
   queues = subst (Keeps queue_columns d.queues) (sym (m.1.0 (apart 1 8 refl))) t.queues;
-  requests = subst (Numbers (λ r. r.id) request_columns d.requests) (sym (m.1.1.0 (apart 3 8 refl)))
+  requests = subst (Numbers id_of dated_columns d.dated) (sym (m.1.1.0 (apart 3 8 refl)))
       t.requests;
   watchers = subst (Keeps watcher_columns d.watchers) (sym (m.1.1.1.0 (apart 4 8 refl))) t.watchers;
   links = subst (Keeps link_columns d.links) (sym (m.1.1.1.1.0 (apart 6 8 refl))) t.links;
@@ -165,7 +166,7 @@ entries_now d xs old new t schema m now each = record {
   values = are_values _ (record {
     version = (values_of d t.values).version;
     queues = (values_of d t.values).queues;
-    requests = (values_of d t.values).requests;
+    dated = (values_of d t.values).dated;
     watchers = (values_of d t.values).watchers;
     links = (values_of d t.values).links;
     entries = each;
@@ -190,34 +191,37 @@ adds_queue d q old new count row t h =
     it.free))
     (also (λ x. IsQueueRow (queue_columns x)) q d.queues row (values_of d t.values).queues)
 
-new_request : (db : Trees) (r : RequestRow) → (inserting request db (request_shown r)
-    add_request_terms 12).news ≡ (numbered_as (λ (x : RequestRow). x.id) request_columns r) ∷ []
-new_request db r = rw (
-  cast_int (pos r.id),
+cast_moment : (m : Option ℕ) → cast Integer (or_null count_value m) ≡ or_null count_value m
+cast_moment None = cast_null
+cast_moment (Some n) = cast_int (pos n)
+
+new_request : (db : Trees) (p : Dated) → (inserting request db (dated_shown p)
+    add_request_terms 12).news ≡ dated_row p ∷ []
+new_request db p = rw (
+  cast_int (pos p.0.id),
   cast_null,
-  cast_text r.owner,
-  cast_text r.level,
-  cast_int (pos r.created),
-  cast_int (pos r.opened),
-  cast_int (pos (turn_number r.turn)),
-  cast_int
-      (pos r.since),
+  cast_text p.0.owner,
+  cast_text p.0.level,
+  cast_int (pos p.0.created),
+  cast_int (pos p.0.opened),
+  cast_int (pos (turn_number p.0.turn)),
+  cast_int (pos p.0.since),
+  cast_moment p.1,
 )
 
-pub adds_request : (d : Contents) (r : RequestRow) (old new : State) (count : ℕ)
-    → IsRequestRow (request_shown r) → Tables d old.now
-    → Executes add_request_text (request_shown r) old new (Ok count)
-    → Tables (add_request d r) new.now
-adds_request d r old new count row t h =
+pub adds_request : (d : Contents) (r : RequestRow) (due : Option ℕ) (old new : State) (count : ℕ)
+    → IsDatedRow (dated_shown (r, due)) → Tables d old.now
+    → Executes add_request_text (dated_shown (r, due)) old new (Ok count)
+    → Tables (add_request d r due) new.now
+adds_request d r due old new count row t h =
     let db = old.now.trees in
-    let it = adds add_request_text (request_shown r) 2 12 add_request_terms request
-    ((numbered_as (λ (x : RequestRow). x.id) request_columns r)) old new count add_request_is
-    refl refl (new_request db r) t.schema h in
-    requests_now d (r ∷ d.requests) old.now new.now t it.schema it.others
-    (subst (Numbers (λ x. x.id) request_columns (r ∷ d.requests)) (sym it.rows)
-    (inserted (numbered_as (λ (x : RequestRow). x.id) request_columns) itself d.requests (db 3)
-    r t.requests it.free))
-    (also (λ x. IsRequestRow (request_shown x)) r d.requests row (values_of d t.values).requests)
+    let p : Dated = (r, due) in
+    let it = adds add_request_text (dated_shown p) 2 12 add_request_terms request (dated_row p) old
+    new count add_request_is refl refl (new_request db p) t.schema h in
+    requests_now d (p ∷ d.dated) old.now new.now t it.schema it.others
+    (subst (Numbers id_of dated_columns (p ∷ d.dated)) (sym it.rows)
+    (inserted dated_row itself d.dated (db 3) p t.requests it.free))
+    (also (λ x. IsDatedRow (dated_shown x)) p d.dated row (values_of d t.values).dated)
 
 new_watcher : (db : Trees) (w : Watcher) → (inserting watcher db (watcher_columns w) add_three_terms
     4).news ≡ (Int (next_rowid (db 4)) ∷ watcher_columns w) ∷ []
@@ -287,60 +291,115 @@ adds_entry d e old new count row t h =
     (also (λ x. IsEntryRow (entry_columns x)) e d.entries row (values_of d t.values).entries)
 
 -- the new row keeps the number of the old one
-changed_row : (r x : RequestRow) → cast_row request
-    (Int (pos x.id) ∷ Null ∷ Words r.queue ∷ Words r.subject ∷ Words r.status
-    ∷ or_null Words r.owner ∷ or_null Words r.level ∷ count_value r.created ∷ count_value r.opened
-    ∷ count_value (turn_number r.turn) ∷ count_value r.since ∷ Null ∷ []) ≡ Int (pos x.id)
-    ∷ request_columns r
-changed_row r x = rw (
-  cast_int (pos x.id),
+changed_row : (p : Dated) (id : ℕ) → cast_row request
+    (Int (pos id) ∷ Null ∷ Words p.0.queue ∷ Words p.0.subject ∷ Words p.0.status
+    ∷ or_null Words p.0.owner ∷ or_null Words p.0.level ∷ count_value p.0.created
+    ∷ count_value p.0.opened ∷ count_value (turn_number p.0.turn) ∷ count_value p.0.since
+    ∷ or_null count_value p.1 ∷ []) ≡ Int (pos id) ∷ dated_columns p
+changed_row p id = rw (
+  cast_int (pos id),
   cast_null,
-  cast_text r.owner,
-  cast_text r.level,
-  cast_int
-      (pos r.created),
-  cast_int (pos r.opened),
-  cast_int (pos (turn_number r.turn)),
-  cast_int
-      (pos r.since),
+  cast_text p.0.owner,
+  cast_text p.0.level,
+  cast_int (pos p.0.created),
+  cast_int (pos p.0.opened),
+  cast_int (pos (turn_number p.0.turn)),
+  cast_int (pos p.0.since),
+  cast_moment p.1,
 )
 
 same_number : {m n : ℕ} → (m == n) ≡ true → m ≡ n
 same_number h = grind (arith, nat_tests)
 
-the_id : (x r : RequestRow) {it : Row} → passes numbered_test (request_shown r) it ≡ true
-    → it ≡ numbered_as (λ (y : RequestRow). y.id) request_columns x → x.id ≡ r.id
-the_id x r passed is = same_number (sym (numbered r.id (drop 1 (request_shown r)) x)
-    ∙ sym (ap (passes numbered_test (request_shown r)) is) ∙ passed)
+-- the row that passes is that of the request with the number
+the_id : (x : Dated) (id : ℕ) (more : Row) {it : Row}
+    → passes numbered_test (count_value id ∷ more) it ≡ true → it ≡ dated_row x → x.0.id ≡ id
+the_id x id more passed is = same_number (sym (numbered id more x)
+    ∙ sym (ap (passes numbered_test (count_value id ∷ more)) is) ∙ passed)
 
-pub sets_request : (d : Contents) (r : RequestRow) (old new : State)
-    → IsRequestRow (request_shown r) → Tables d old.now
-    → Executes set_request_text (request_shown r) old new (Ok 1)
-    → Tables (set_request d r) new.now
-sets_request d r old new is t h =
-    let spelt = numbered_as (λ (x : RequestRow). x.id) request_columns in
-    let params = request_shown r in
+pub sets_request : (d : Contents) (r : RequestRow) (due : Option ℕ) (old new : State)
+    → IsDatedRow (dated_shown (r, due)) → Tables d old.now
+    → Executes set_request_text (dated_shown (r, due)) old new (Ok 1)
+    → Tables (set_request d r due) new.now
+sets_request d r due old new is t h =
+    let p : Dated = (r, due) in
+    let params = dated_shown p in
+    let more = drop 1 params in
     let db = old.now.trees in
     let s = sets set_request_text params 2 numbered_test set_request_terms request old new
     set_request_is refl refl (λ a b. refl) t.schema h in
-    let k = one_kept spelt itself d.requests (db 3) t.requests (passes numbered_test params)
-    (is_numbered r.id) (λ x. numbered r.id (drop 1 params) x) s.it s.one in
-    let same : k.0.id ≡ r.id = the_id k.0 r (has_filtered (passes numbered_test params) (db 3) s.it
-    (subst (λ rs. Has rs s.it) (sym s.one) (inl refl))).1 k.1 in
-    let to = s.goes (pos k.0.id) (Int (pos k.0.id) ∷ request_columns r)
+    let k = one_kept dated_row itself d.dated (db 3) t.requests (passes numbered_test params)
+    (has_number r.id) (numbered r.id more) s.it s.one in
+    let same : k.0.0.id ≡ r.id = the_id k.0 r.id more (has_filtered (passes numbered_test params)
+    (db 3) s.it (subst (λ rs. Has rs s.it) (sym s.one) (inl refl))).1 k.1 in
+    let to = s.goes (pos k.0.0.id) (Int (pos k.0.0.id) ∷ dated_columns p)
     (ap (λ row. id_in (rowid (shows set_request_terms params row))) k.1)
     (ap (λ row. cast_row request (drop 1 (shows set_request_terms params row))) k.1
-    ∙ changed_row r k.0) in
-    let row : Int (pos k.0.id) ∷ request_columns r ≡ spelt r =
-    ap (λ n. Int (pos n) ∷ request_columns r) same in
+    ∙ changed_row p k.0.0.id) in
+    let row : Int (pos k.0.0.id) ∷ dated_columns p ≡ dated_row p =
+    ap (λ n. Int (pos n) ∷ dated_columns p) same in
     requests_now d _ old.now new.now t s.schema to.others
-    (subst (Numbers (λ x. x.id) request_columns _)
-    (sym (to.rows ∙ ap (λ x. put_row x (without_rowid (pos k.0.id) (db 3))) row))
-    (replaced spelt itself d.requests (db 3) t.requests (passes numbered_test params)
-    (is_numbered r.id) (λ x. numbered r.id (drop 1 params) x) (pos k.0.id) s.it (ap rowid k.1)
-    s.one r (sym (ap (is_taken (without_rowid (pos k.0.id) (db 3))) row) ∙ to.free)))
-    (also (λ x. IsRequestRow (request_shown x)) r _ is
-    (still (λ x. IsRequestRow (request_shown x)) _ d.requests (values_of d t.values).requests))
+    (subst (Numbers id_of dated_columns _)
+    (sym (to.rows ∙ ap (λ x. put_row x (without_rowid (pos k.0.0.id) (db 3))) row))
+    (replaced dated_row itself d.dated (db 3) t.requests (passes numbered_test params)
+    (has_number r.id) (numbered r.id more) (pos k.0.0.id) s.it (ap rowid k.1)
+    s.one p (sym (ap (is_taken (without_rowid (pos k.0.0.id) (db 3))) row) ∙ to.free)))
+    (also (λ x. IsDatedRow (dated_shown x)) p _ is
+    (still (λ x. IsDatedRow (dated_shown x)) _ d.dated (values_of d t.values).dated))
+
+-- ---- the due moment alone
+
+-- the request with the number is there, and its due moment gives way
+sets_due : (d : Contents) (id : ℕ) (due : Option ℕ) (old new : State)
+    → IsMinuteOrNull (or_null count_value due) → Tables d old.now
+    → Executes set_due_text (count_value id ∷ or_null count_value due ∷ []) old new (Ok 1)
+    → Tables (set_due d id due) new.now
+sets_due d id due old new is t h =
+    let more = or_null count_value due ∷ [] in
+    let params = count_value id ∷ more in
+    let db = old.now.trees in
+    let s = sets set_due_text params 2 numbered_test set_due_terms request old new set_due_is refl
+    refl (λ a b. refl) t.schema h in
+    let k = one_held dated_row itself d.dated (db 3) t.requests (passes numbered_test params)
+    (has_number id) (numbered id more) s.it s.one in
+    let p : Dated = (k.0.0, due) in
+    let to = s.goes (pos k.0.0.id) (dated_row p)
+    (ap (λ row. id_in (rowid (shows set_due_terms params row))) k.1)
+    (ap (λ row. cast_row request (drop 1 (shows set_due_terms params row))) k.1
+    ∙ changed_row p k.0.0.id) in
+    requests_now d _ old.now new.now t s.schema to.others
+    (subst (Numbers id_of dated_columns _) (sym to.rows)
+    (reordered dated_row itself _ (map (moved id due) d.dated) _ (replaced dated_row itself d.dated
+    (db 3) t.requests (passes numbered_test params) (has_number id) (numbered id more)
+    (pos k.0.0.id) s.it (ap rowid k.1) s.one p to.free) (one_moved id due d.dated k.0 k.2)))
+    (each_moved id due d.dated (values_of d t.values).dated is)
+
+-- no request has the number, and all stay
+misses_due : (d : Contents) (id : ℕ) (due : Option ℕ) (old new : State)
+    → IsMinuteOrNull (or_null count_value due) → Tables d old.now
+    → Executes set_due_text (count_value id ∷ or_null count_value due ∷ []) old new (Ok 0)
+    → Tables (set_due d id due) new.now
+misses_due d id due old new is t h =
+    let more = or_null count_value due ∷ [] in
+    let params = count_value id ∷ more in
+    let db = old.now.trees in
+    let m = misses set_due_text params 2 numbered_test set_due_terms request old new set_due_is refl
+    refl refl t.schema h in
+    let none = none_held dated_row itself d.dated (db 3) t.requests (passes numbered_test params)
+    (has_number id) (numbered id more) m.none in
+    requests_now d _ old.now new.now t m.schema m.others
+    (subst (λ xs. Numbers id_of dated_columns xs (new.now.trees 3))
+    (sym (none_moved id due d.dated none))
+    (subst (Numbers id_of dated_columns d.dated) (sym m.rows) t.requests))
+    (each_moved id due d.dated (values_of d t.values).dated is)
+
+pub sets_due_of_any : (d : Contents) (id : ℕ) (due : Option ℕ) (old new : State) (count : ℕ)
+    → IsMinuteOrNull (or_null count_value due) → count < 2 → Tables d old.now
+    → Executes set_due_text (count_value id ∷ or_null count_value due ∷ []) old new (Ok count)
+    → Tables (set_due d id due) new.now
+sets_due_of_any d id due old new zero is low t h = misses_due d id due old new is t h
+sets_due_of_any d id due old new (suc zero) is low t h = sets_due d id due old new is t h
+sets_due_of_any d id due old new (suc (suc n)) is low t h = absurd (omega (arith, low))
 
 pub drops_watcher : (d : Contents) (w : Watcher) (old new : State) → Tables d old.now
     → Executes drop_watcher_text (watcher_columns w) old new (Ok 1)

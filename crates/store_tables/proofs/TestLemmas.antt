@@ -1,41 +1,46 @@
 -- What the tests and orders of the statements are on values.
-use Rattle.std.proofs.Common.{◌≡◌, ℕ, ℤ, pos, Bool, true, false, List, [], ◌∷◌, Some, refl, ap, ap₂}
+use Rattle.std.proofs.Common.{◌≡◌, ℕ, ℤ, pos, Bool, true, false, List, [], ◌∷◌, refl, ap, ap₂}
+use Rattle.std.proofs.Common.{Greater, None, Option, Some}
 use Rattle.std.proofs.Common.{◌∙◌, arith}
-use Rattle.std.specs.Prelude.{◌&&◌, ◌==◌}
-use Rattle.std.specs.Ordering.{is_eq, nat_cmp, int_cmp, ordering_then}
+use Rattle.std.specs.Prelude.{◌&&◌, ◌==◌, nat_lt}
+use Rattle.std.specs.Option.{option_cmp, option_map_or}
+use Rattle.std.specs.Ordering.{is_eq, is_lt, nat_cmp, int_cmp, ordering_then}
 use Rattle.std.specs.Cmp.Lexicographic.{slice_cmp}
 use Rattle.std.proofs.lemmas.Bool.Decides.{nat_tests}
 use Rattle.std.proofs.lemmas.Map.Text.{is_eq-slice_cmp}
-use Rattle.sqlite.specs.declared.types.Value.TheVariants.{Int, Text as Words}
+use Rattle.sqlite.specs.declared.types.Value.TheVariants.{Int, Null, Text as Words}
+use Rattle.sqlite.specs.declared.types.Value.{Value}
+use Rattle.sqlite.specs.Values.{or_null}
 use Rattle.sqlite.specs.Collation.TheVariants.{Binary}
 use Rattle.sqlite.specs.Ops.{binary, is_true}
 use Rattle.sqlite_sql.specs.Ops.{from_truth}
 use Rattle.sqlite_sql.specs.declared.ops.BinaryOp.TheVariants.{Compare}
-use Rattle.sqlite_sql.specs.declared.ops.CompareOp.TheVariants.{Eq}
+use Rattle.sqlite_sql.specs.declared.ops.CompareOp.TheVariants.{Eq, Lt}
 use Rattle.sqlite_value.specs.Order.{value_cmp}
 use Rattle.sqlite_value.proofs.OrderLemmas.{value_cmp-Text, value_cmp-Int, then-Equal}
+use Rattle.sqlite_value.proofs.OrderLemmas.{value_cmp-Null, value_cmp-apart}
 use Rattle.sqlite.specs.Order.{Row}
 use Rattle.sqlite.specs.Term.{Term}
 use Rattle.desk_model.specs.declared.rows.QueueRow.{QueueRow}
 use Rattle.sqlite.specs.Query.{output, output_cmp}
-use Rattle.desk_model.specs.declared.rows.RequestRow.{RequestRow}
 use Rattle.desk_model.specs.declared.rows.Watcher.{Watcher}
 use Rattle.desk_model.specs.declared.rows.Entry.{Entry}
 use Rattle.desk_model.specs.declared.rows.LinkRow.{LinkRow}
 use Rattle.desk_model.specs.declared.rows.LinkKind.{LinkKind}
-use Rattle.store_tables.specs.Kept.{filed, numbered_as}
+use Rattle.store_tables.specs.Dated.{Dated, dated_row}
+use Rattle.store_tables.specs.Kept.{filed}
 use Rattle.store_tables.specs.Picked.{passes}
 use Rattle.store_tables.specs.Selection.{is_numbered, watches, is_watcher, is_link, links_from}
 use Rattle.store_tables.specs.Selection.{ends_at, is_filed_in, is_named, is_of_person, starts_at}
-use Rattle.store_tables.specs.Selection.{tells_of}
-use Rattle.store_tables.specs.Orders.{by_id, by_entry, by_number, by_link, by_watcher, by_role}
+use Rattle.store_tables.specs.Selection.{is_due_before, tells_of}
+use Rattle.store_tables.specs.Orders.{by_due, by_id, by_entry, by_number, by_link, by_watcher, by_role}
 use Rattle.store_tables.specs.Orders.{by_target, by_name, by_standing}
-use Rattle.store_tables.specs.Spelling.{role_number, request_columns, watcher_columns, link_columns}
+use Rattle.store_tables.specs.Spelling.{role_number, watcher_columns, link_columns}
 use Rattle.store_tables.specs.Spelling.{entry_columns, count_value, queue_columns}
 use Rattle.desk_model.specs.Links.{kind_number}
 use Rattle.store_tables.specs.Queries.{reads, queue_shown, queue_order, named_test, numbered_test}
 use Rattle.store_tables.specs.Queries.{filed_test, request_test, three_test, links_from_test}
-use Rattle.store_tables.specs.Queries.{request_shown_terms, id_order, source_test, target_test}
+use Rattle.store_tables.specs.Queries.{before_test, due_order, id_order, source_test, target_test}
 use Rattle.store_tables.specs.Queries.{three_shown, role_order, three_order, target_order}
 use Rattle.store_tables.specs.Queries.{entry_shown_terms, number_order, entry_order}
 use Rattle.store_tables.specs.Queries.{person_test, standing_order}
@@ -70,10 +75,9 @@ order_numbers a b = value_cmp-Int (pos a) (pos b) ∙ cmp_numbers a b
 
 -- ---- the tests
 
-pub numbered : (id : ℕ) (more : Row) (r : RequestRow)
-    → passes numbered_test (count_value id ∷ more)
-    (numbered_as (λ (x : RequestRow). x.id) request_columns r) ≡ is_numbered id r
-numbered id more r = and_true _ ∙ equal_numbers r.id id
+pub numbered : (id : ℕ) (more : Row) (p : Dated)
+    → passes numbered_test (count_value id ∷ more) (dated_row p) ≡ is_numbered id p.0
+numbered id more p = and_true _ ∙ equal_numbers p.0.id id
 
 pub watched : (id : ℕ) (k : ℤ × Watcher) → passes request_test (count_value id ∷ [])
     (filed watcher_columns k) ≡ watches id k.1
@@ -118,30 +122,66 @@ pub named : (name : List ℕ) (more : Row) (k : ℤ × QueueRow)
     → passes named_test (Words name ∷ more) (filed queue_columns k) ≡ is_named name k.1
 named name more k = and_true _ ∙ equal_texts k.1.name name
 
-pub filed_in : (name : List ℕ) (r : RequestRow) → passes filed_test (Words name ∷ [])
-    (numbered_as (λ (x : RequestRow). x.id) request_columns r) ≡ is_filed_in name r
-filed_in name r = and_true _ ∙ equal_texts r.queue name
+pub filed_in : (name : List ℕ) (p : Dated) → passes filed_test (Words name ∷ []) (dated_row p)
+    ≡ is_filed_in name p.0
+filed_in name p = and_true _ ∙ equal_texts p.0.queue name
+
+lt_numbers : (a b : ℕ) → is_lt (nat_cmp a b) ≡ nat_lt a b
+lt_numbers a b = grind (arith, nat_tests)
+
+less_numbers : (a b : ℕ) → is_true (binary (Compare Lt Binary) (Int (pos a)) (Int (pos b)))
+    ≡ nat_lt a b
+unfolding binary
+less_numbers a b = true_again _ ∙ ap is_lt (value_cmp-Int (pos a) (pos b) ∙ cmp_numbers a b)
+    ∙ lt_numbers a b
+
+-- what isn't there is before nothing
+null_before : (b : Value) → is_true (binary (Compare Lt Binary) Null b) ≡ false
+unfolding binary
+null_before b = refl
+
+-- whether a moment, or none, is before another
+moment_before : (at : ℕ) (due : Option ℕ)
+    → is_true (binary (Compare Lt Binary) (or_null count_value due) (count_value at))
+    ≡ option_map_or (λ (d : ℕ). nat_lt d at) due false
+moment_before at None = null_before (count_value at)
+moment_before at (Some due) = less_numbers due at
+
+pub before : (at : ℕ) (p : Dated) → passes before_test (count_value at ∷ []) (dated_row p)
+    ≡ is_due_before at p
+before at p = and_true _ ∙ moment_before at p.1
 
 -- ---- the orders
 
-pub filed_order_is : (name : List ℕ) (a b : RequestRow)
-    → output_cmp (reads 3 filed_test request_shown_terms id_order)
-    (output (reads 3 filed_test request_shown_terms id_order)
-    ((Words name ∷ []) ∷ numbered_as (λ (x : RequestRow). x.id) request_columns a ∷ []))
-    (output (reads 3 filed_test request_shown_terms id_order)
-    ((Words name ∷ []) ∷ numbered_as (λ (x : RequestRow). x.id) request_columns b ∷ []))
-    ≡ by_id a b
-filed_order_is name a b = then-Equal (value_cmp (count_value a.id) (count_value b.id))
-    ∙ order_numbers a.id b.id
+-- whichever requests are shown, and whichever of their columns
+pub id_order_is : (test shown : List Term) (params : Row) (a b : Dated)
+    → output_cmp (reads 3 test shown id_order)
+    (output (reads 3 test shown id_order) (params ∷ dated_row a ∷ []))
+    (output (reads 3 test shown id_order) (params ∷ dated_row b ∷ [])) ≡ by_id a.0 b.0
+id_order_is test shown params a b =
+    then-Equal (value_cmp (count_value a.0.id) (count_value b.0.id)) ∙ order_numbers a.0.id b.0.id
 
-pub id_order_is : (a b : RequestRow)
-    → output_cmp (reads 3 [] request_shown_terms id_order)
-    (output (reads 3 [] request_shown_terms id_order)
-    ([] ∷ numbered_as (λ (x : RequestRow). x.id) request_columns a ∷ []))
-    (output (reads 3 [] request_shown_terms id_order)
-    ([] ∷ numbered_as (λ (x : RequestRow). x.id) request_columns b ∷ [])) ≡ by_id a b
-id_order_is a b = then-Equal (value_cmp (count_value a.id) (count_value b.id))
-    ∙ order_numbers a.id b.id
+null_first : (b : Option ℕ) → value_cmp Null (or_null count_value b) ≡ option_cmp nat_cmp None b
+null_first None = value_cmp-Null Null
+null_first (Some n) = value_cmp-Null (count_value n)
+
+null_last : (n : ℕ) → value_cmp (count_value n) Null ≡ Greater
+null_last n = value_cmp-apart (count_value n) Null (λ same. omega (arith, same))
+
+order_moments : (a b : Option ℕ) → value_cmp (or_null count_value a) (or_null count_value b)
+    ≡ option_cmp nat_cmp a b
+order_moments None b = null_first b
+order_moments (Some m) None = null_last m
+order_moments (Some m) (Some n) = order_numbers m n
+
+pub due_order_is : (test shown : List Term) (params : Row) (a b : Dated)
+    → output_cmp (reads 3 test shown due_order)
+    (output (reads 3 test shown due_order) (params ∷ dated_row a ∷ []))
+    (output (reads 3 test shown due_order) (params ∷ dated_row b ∷ [])) ≡ by_due a b
+due_order_is test shown params a b =
+    ap₂ ordering_then (order_moments a.1 b.1)
+    (then-Equal (value_cmp (count_value a.0.id) (count_value b.0.id))
+    ∙ order_numbers a.0.id b.0.id)
 
 pub number_order_is : (id : ℕ) (a b : ℤ × Entry)
     → output_cmp (reads 8 request_test entry_shown_terms number_order)

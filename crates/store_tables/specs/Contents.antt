@@ -1,5 +1,5 @@
 -- What the tables of a desk hold: a version, and the rows of five lists, in no order that matters.
-use Rattle.std.specs.Prelude.{ℕ, List, [], ◌∷◌, filter, flat_map, map, not}
+use Rattle.std.specs.Prelude.{ℕ, List, Option, [], ◌∷◌, filter, flat_map, if◌then◌else◌, map, not}
 use Rattle.std.specs.Option.{option_map_or}
 use Rattle.desk_model.specs.Desk.{Desk, request_at}
 use Rattle.desk_model.specs.Watchers.{watchers_of}
@@ -8,15 +8,20 @@ use Rattle.desk_model.specs.declared.rows.LinkRow.{LinkRow}
 use Rattle.desk_model.specs.declared.rows.QueueRow.{QueueRow}
 use Rattle.desk_model.specs.declared.rows.RequestRow.{RequestRow}
 use Rattle.desk_model.specs.declared.rows.Watcher.{Watcher}
+use Rattle.store_tables.specs.Dated.{Dated, dated_by, row_of}
 use Rattle.store_tables.specs.Selection.{actor_of, is_link, is_numbered, is_watcher}
 
 pub record Contents : Type 0 where
   pub version : ℕ
   pub queues : List QueueRow
-  pub requests : List RequestRow
+  pub dated : List Dated
   pub watchers : List Watcher
   pub links : List LinkRow
   pub entries : List Entry
+
+-- the rows of requests, without their due moments
+abbrev pub requests : Contents → List RequestRow
+requests c = map row_of c.dated
 
 -- the rows of a desk's requests, the persons in their roles, and the entries of all histories
 abbrev pub request_rows : Desk → List RequestRow
@@ -36,13 +41,13 @@ actors desk = map actor_of (entries desk)
 abbrev pub history_at : Desk → ℕ → List Entry
 history_at desk id = option_map_or (λ r. r.entries) (request_at desk id) []
 
--- what tables of the present version hold of a desk
-abbrev pub contents_of : Desk → Contents
-contents_of desk =
+-- what tables of the present version hold of a desk, with these due moments
+abbrev pub contents_of : (RequestRow → Option ℕ) → Desk → Contents
+contents_of due desk =
     record {
       version = 1;
       queues = desk.queues;
-      requests = request_rows desk;
+      dated = map (dated_by due) (request_rows desk);
       watchers = watchers desk;
       links = desk.links;
       entries = entries desk;
@@ -50,7 +55,7 @@ contents_of desk =
 
 abbrev pub no_contents : Contents
 no_contents =
-    record { version = 1; queues = []; requests = []; watchers = []; links = []; entries = [] }
+    record { version = 1; queues = []; dated = []; watchers = []; links = []; entries = [] }
 
 -- ---- what one statement makes of them
 
@@ -60,12 +65,23 @@ set_version c n = record c { version = n }
 abbrev pub add_queue : Contents → QueueRow → Contents
 add_queue c q = record c { queues = q ∷ c.queues }
 
-abbrev pub add_request : Contents → RequestRow → Contents
-add_request c r = record c { requests = r ∷ c.requests }
+-- a request's row with its due moment
+abbrev pub add_request : Contents → RequestRow → Option ℕ → Contents
+add_request c r due = record c { dated = (r, due) ∷ c.dated }
 
--- the row in the place of the one with its number
-abbrev pub set_request : Contents → RequestRow → Contents
-set_request c r = record c { requests = r ∷ filter (λ x. not (is_numbered r.id x)) c.requests }
+-- both in the place of those with its number
+abbrev pub set_request : Contents → RequestRow → Option ℕ → Contents
+set_request c r due =
+    record c { dated = (r, due) ∷ filter (λ p. not (is_numbered r.id p.0)) c.dated }
+
+-- the due moment alone of the request with that number, if there is one
+abbrev pub set_due : Contents → ℕ → Option ℕ → Contents
+set_due c id due =
+    record c { dated = map (λ p. (p.0, if is_numbered id p.0 then due else p.1)) c.dated }
+
+-- the same of one of several
+abbrev pub set_each_due : Contents → ℕ × Option ℕ → Contents
+set_each_due c p = set_due c p.0 p.1
 
 abbrev pub add_watcher : Contents → Watcher → Contents
 add_watcher c w = record c { watchers = w ∷ c.watchers }

@@ -3,10 +3,10 @@
 use Rattle.std.specs.Prelude.{Result}
 use Rattle.sqlite.specs.State.{State}
 use Rattle.store_tables.specs.Calls.{FailsIn, MismatchesIn}
-use Rattle.store_tables.specs.Queries.{actor_shown, entry_shown_terms, queue_shown}
-use Rattle.store_tables.specs.Queries.{request_shown_terms}
+use Rattle.store_tables.specs.Queries.{actor_shown, dated_shown_terms, entry_shown_terms}
+use Rattle.store_tables.specs.Queries.{last_id_terms, queue_shown, request_shown_terms}
 use Rattle.store_tables.specs.Queries.{three_shown, version_shown}
-use Rattle.store_tables.specs.Reading.{IsEntryRow, IsLinkRow, IsNumberRow, IsQueueRow}
+use Rattle.store_tables.specs.Reading.{IsDatedRow, IsEntryRow, IsLinkRow, IsNumberRow, IsQueueRow}
 use Rattle.store_tables.specs.Reading.{IsRequestRow, IsTextRow, IsWatcherRow}
 use Rattle.store_tables.specs.declared.fault.StoreFault.{StoreFault}
 
@@ -18,6 +18,14 @@ MismatchesInQueues old new result = FailsIn 1 queue_shown IsQueueRow old new res
 
 abbrev pub MismatchesInRequests : {X : Type 0} → State → State → Result X StoreFault → Type 0
 MismatchesInRequests old new result = FailsIn 3 request_shown_terms IsRequestRow old new result
+
+-- of requests with their due moments
+abbrev pub MismatchesInDated : {X : Type 0} → State → State → Result X StoreFault → Type 0
+MismatchesInDated old new result = FailsIn 3 dated_shown_terms IsDatedRow old new result
+
+-- of their numbers alone
+abbrev pub MismatchesInNumbers : {X : Type 0} → State → State → Result X StoreFault → Type 0
+MismatchesInNumbers old new result = FailsIn 3 last_id_terms IsNumberRow old new result
 
 abbrev pub MismatchesInWatchers : {X : Type 0} → State → State → Result X StoreFault → Type 0
 MismatchesInWatchers old new result = FailsIn 4 three_shown IsWatcherRow old new result

@@ -1,4 +1,5 @@
 -- The orders in which lists are read: each by its key.
+use Rattle.std.specs.Option.{option_cmp}
 use Rattle.std.specs.Ordering.{nat_cmp, on, then_cmp}
 use Rattle.std.specs.declared.cmp.Ordering.{Ordering}
 use Rattle.std.specs.Cmp.Lexicographic.{slice_cmp}
@@ -8,6 +9,7 @@ use Rattle.desk_model.specs.declared.rows.LinkRow.{LinkRow}
 use Rattle.desk_model.specs.declared.rows.QueueRow.{QueueRow}
 use Rattle.desk_model.specs.declared.rows.RequestRow.{RequestRow}
 use Rattle.desk_model.specs.declared.rows.Watcher.{Watcher}
+use Rattle.store_tables.specs.Dated.{Dated}
 use Rattle.store_tables.specs.Spelling.{role_number}
 
 abbrev pub by_name : QueueRow → QueueRow → Ordering
@@ -15,6 +17,14 @@ by_name a b = slice_cmp nat_cmp a.name b.name
 
 abbrev pub by_id : RequestRow → RequestRow → Ordering
 by_id a b = nat_cmp a.id b.id
+
+-- requests with their due moments: by number
+abbrev pub by_dated_id : Dated → Dated → Ordering
+by_dated_id a b = by_id a.0 b.0
+
+-- by due moment, those without one first, and by number
+abbrev pub by_due : Dated → Dated → Ordering
+by_due = then_cmp (on (λ p. p.1) (option_cmp nat_cmp)) (on (λ p. p.0.id) nat_cmp)
 
 -- within one request: by role and person
 abbrev pub by_role : Watcher → Watcher → Ordering

@@ -45,6 +45,13 @@ pub record AreOrdered {X : Type 0} (cmp : X → X → Ordering) (xs ys : List X)
   pub same : IsPermutation xs ys
   pub sorted : IsSorted cmp ys
 
+-- the numbers of these values, in this order
+pub record AreNumbersOf {X : Type 0} (number : X → ℕ) (cmp : X → X → Ordering) (xs : List X)
+    (ns : List ℕ) : Type 0 where
+  pub values : List X
+  pub ordered : AreOrdered cmp xs values
+  pub are : ns ≡ map number values
+
 -- what is shown is the view of these values, in this order
 pub record Lists {X : Type 0} (cmp : X → X → Ordering) (view : X → Row) (xs : List X)
     (rows : List Row) : Type 0 where

@@ -9,7 +9,7 @@ use Rattle.sqlite_value.specs.declared.keys.Key.{Key}
 use Rattle.sqlite_sql.specs.Group.{Grouping}
 use Rattle.sqlite_sql.specs.declared.aggregate.AggregateOp.TheVariants.{CountRows}
 use Rattle.sqlite_sql.specs.declared.ops.BinaryOp.TheVariants.{Compare}
-use Rattle.sqlite_sql.specs.declared.ops.CompareOp.TheVariants.{Eq}
+use Rattle.sqlite_sql.specs.declared.ops.CompareOp.TheVariants.{Eq, Lt}
 
 abbrev pub by : List Term → List (Term × Key)
 by [] = []
@@ -132,20 +132,27 @@ id_order = col 1 0 ∷ []
 abbrev pub add_request_text : List ℕ
 add_request_text =
     codes "INSERT INTO request (id, queue, subject, status, owner, level, created, opened, turn, "
-    ++ codes "since) VALUES (?1, ?2, ?3, ?4, ?5, ?6, ?7, ?8, ?9, ?10)"
+    ++ codes "since, due) VALUES (?1, ?2, ?3, ?4, ?5, ?6, ?7, ?8, ?9, ?10, ?11)"
 
 abbrev pub add_request_terms : List Term
 add_request_terms = col 0 0 ∷ lit Null ∷ col 0 1 ∷ col 0 2 ∷ col 0 3 ∷ col 0 4 ∷ col 0 5 ∷ col 0 6
-    ∷ col 0 7 ∷ col 0 8 ∷ col 0 9 ∷ lit Null ∷ []
+    ∷ col 0 7 ∷ col 0 8 ∷ col 0 9 ∷ col 0 10 ∷ []
 
 abbrev pub set_request_text : List ℕ
 set_request_text =
     codes "UPDATE request SET queue = ?2, subject = ?3, status = ?4, owner = ?5, level = ?6, "
-    ++ codes "created = ?7, opened = ?8, turn = ?9, since = ?10, due = NULL WHERE id = ?1"
+    ++ codes "created = ?7, opened = ?8, turn = ?9, since = ?10, due = ?11 WHERE id = ?1"
 
 abbrev pub set_request_terms : List Term
 set_request_terms = col 1 0 ∷ col 1 0 ∷ lit Null ∷ col 0 1 ∷ col 0 2 ∷ col 0 3 ∷ col 0 4 ∷ col 0 5
-    ∷ col 0 6 ∷ col 0 7 ∷ col 0 8 ∷ col 0 9 ∷ lit Null ∷ []
+    ∷ col 0 6 ∷ col 0 7 ∷ col 0 8 ∷ col 0 9 ∷ col 0 10 ∷ []
+
+abbrev pub set_due_text : List ℕ
+set_due_text = codes "UPDATE request SET due = ?2 WHERE id = ?1"
+
+abbrev pub set_due_terms : List Term
+set_due_terms = col 1 0 ∷ col 1 0 ∷ lit Null ∷ col 1 2 ∷ col 1 3 ∷ col 1 4 ∷ col 1 5 ∷ col 1 6
+    ∷ col 1 7 ∷ col 1 8 ∷ col 1 9 ∷ col 1 10 ∷ col 0 1 ∷ []
 
 abbrev pub last_id_text : List ℕ
 last_id_text = codes "SELECT id FROM request ORDER BY id DESC LIMIT 1"
@@ -292,3 +299,33 @@ requests_of_text =
 
 abbrev pub filed_test : List Term
 filed_test = eq (col 1 2) (col 0 0) ∷ []
+
+-- ---- requests with their due moments
+
+abbrev pub dated_shown_terms : List Term
+dated_shown_terms = col 1 0 ∷ col 1 2 ∷ col 1 3 ∷ col 1 4 ∷ col 1 5 ∷ col 1 6 ∷ col 1 7 ∷ col 1 8
+    ∷ col 1 9 ∷ col 1 10 ∷ col 1 11 ∷ []
+
+abbrev pub dated_text : List ℕ
+dated_text =
+    codes "SELECT id, queue, subject, status, owner, level, created, opened, turn, since, due "
+    ++ codes "FROM request ORDER BY id"
+
+abbrev pub dated_numbered_text : List ℕ
+dated_numbered_text =
+    codes "SELECT id, queue, subject, status, owner, level, created, opened, turn, since, due "
+    ++ codes "FROM request WHERE id = ?1"
+
+-- ---- the numbers of some requests
+
+abbrev pub numbers_in_text : List ℕ
+numbers_in_text = codes "SELECT id FROM request WHERE queue = ?1 ORDER BY id"
+
+abbrev pub numbers_before_text : List ℕ
+numbers_before_text = codes "SELECT id FROM request WHERE due < ?1 ORDER BY due, id"
+
+abbrev pub before_test : List Term
+before_test = op2 (Compare Lt Binary) (col 1 11) (col 0 0) ∷ []
+
+abbrev pub due_order : List Term
+due_order = col 1 11 ∷ col 1 0 ∷ []

@@ -16,6 +16,7 @@ use Rattle.desk_model.specs.declared.rows.RequestRow.{RequestRow}
 use Rattle.desk_model.specs.declared.rows.Turn.{Turn}
 use Rattle.desk_model.specs.declared.rows.Watcher.{Watcher}
 use Rattle.desk_model.specs.declared.rows.WatchRole.{WatchRole}
+use Rattle.store_tables.specs.Dated.{Dated}
 use Rattle.store_tables.specs.Spelling.{count_value, turn_number, role_number, entry_kind_number}
 use Rattle.store_tables.specs.declared.fault.StoreFault.{StoreFault}
 use Rattle.store_tables.specs.declared.fault.StoreFault.TheVariants.{Mismatch}
@@ -33,6 +34,9 @@ IsCount v = (n : ℕ) × (v ≡ count_value n) × (n < 2 ^ 32)
 
 abbrev pub IsMinute : Value → Type 0
 IsMinute v = (n : ℕ) × (v ≡ count_value n) × IsDueMoment n
+
+abbrev pub IsMinuteOrNull : Value → Type 0
+IsMinuteOrNull v = (v ≡ Null) ⊎ IsMinute v
 
 abbrev pub IsTurn : Value → Type 0
 IsTurn v = (t : Turn) × (v ≡ count_value (turn_number t))
@@ -93,6 +97,16 @@ pub record IsRequestRow (row : Row) : Type 0 where
   pub turn : IsTurn (column row 8)
   pub since : IsMinute (column row 9)
 
+-- a request's row and its due moment
+pub record ReadsDated (row : Row) (x : Dated) : Type 0 where
+  pub request : ReadsRequest row x.0
+  pub due : column row 10 ≡ or_null count_value x.1
+
+pub record IsDatedRow (row : Row) : Type 0 where
+  pub wide : 10 < length row
+  pub request : IsRequestRow row
+  pub due : IsMinuteOrNull (column row 10)
+
 pub record ReadsWatcher (row : Row) (x : Watcher) : Type 0 where
   pub id : column row 0 ≡ count_value x.id
   pub role : column row 1 ≡ count_value (role_number x.role)
@@ -142,7 +156,10 @@ pub record IsTextRow (row : Row) : Type 0 where
   pub wide : 0 < length row
   pub text : IsText (column row 0)
 
--- a row of one number: a version, or the last number
+-- a row of one number: a version, the last number, or that of a request
+pub record ReadsCount (row : Row) (n : ℕ) : Type 0 where
+  pub number : column row 0 ≡ count_value n
+
 pub record IsNumberRow (row : Row) : Type 0 where
   pub wide : 0 < length row
   pub number : IsCount (column row 0)

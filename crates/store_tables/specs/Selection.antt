@@ -1,5 +1,6 @@
 -- Which rows a statement selects.
-use Rattle.std.specs.Prelude.{ℕ, Bool, List, ◌&&◌, ◌==◌}
+use Rattle.std.specs.Prelude.{ℕ, Bool, false, List, nat_lt, ◌&&◌, ◌==◌}
+use Rattle.std.specs.Option.{option_map_or}
 use Rattle.std.specs.Ordering.{is_eq, nat_cmp}
 use Rattle.std.specs.Cmp.Lexicographic.{slice_cmp}
 use Rattle.std.specs.Str.{bytes_eq}
@@ -10,6 +11,7 @@ use Rattle.desk_model.specs.declared.rows.LinkRow.{LinkRow}
 use Rattle.desk_model.specs.declared.rows.QueueRow.{QueueRow}
 use Rattle.desk_model.specs.declared.rows.RequestRow.{RequestRow}
 use Rattle.desk_model.specs.declared.rows.Watcher.{Watcher}
+use Rattle.store_tables.specs.Dated.{Dated}
 use Rattle.store_tables.specs.Spelling.{role_number}
 
 abbrev pub same_text : List ℕ → List ℕ → Bool
@@ -22,6 +24,14 @@ is_named name q = same_text q.name name
 -- the request by that number
 abbrev pub is_numbered : ℕ → RequestRow → Bool
 is_numbered id r = r.id == id
+
+-- the same, of one with its due moment
+abbrev pub has_number : ℕ → Dated → Bool
+has_number id p = is_numbered id p.0
+
+-- a request that is due before that moment
+abbrev pub is_due_before : ℕ → Dated → Bool
+is_due_before at p = option_map_or (λ due. nat_lt due at) p.1 false
 
 -- a request of that queue
 abbrev pub is_filed_in : List ℕ → RequestRow → Bool

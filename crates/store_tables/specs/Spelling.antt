@@ -1,5 +1,5 @@
 -- How each value of the desk is spelt in a row.
-use Rattle.std.specs.Prelude.{ℕ, pos, List, [], ◌∷◌}
+use Rattle.std.specs.Prelude.{ℕ, pos, List, Option, [], ◌∷◌}
 use Rattle.sqlite.specs.Order.{Row}
 use Rattle.sqlite.specs.Values.{or_null}
 use Rattle.sqlite.specs.declared.types.Value.{Value}
@@ -53,15 +53,15 @@ version_row n = Int (pos 1) ∷ Null ∷ Int (pos n) ∷ []
 abbrev pub queue_columns : QueueRow → Row
 queue_columns q = Words q.name ∷ Words q.lifecycle ∷ or_null Words q.level ∷ []
 
--- the columns of a request, after its number, which is the rowid; it has no due moment yet
-abbrev pub request_columns : RequestRow → Row
-request_columns r =
+-- the columns of a request with its due moment, after its number, which is the rowid
+abbrev pub request_columns : RequestRow → Option ℕ → Row
+request_columns r due =
     Null ∷ Words r.queue ∷ Words r.subject ∷ Words r.status
     ∷ or_null Words r.owner ∷ or_null Words r.level
     ∷ count_value r.created ∷ count_value r.opened
-    ∷ count_value (turn_number r.turn) ∷ count_value r.since ∷ Null ∷ []
+    ∷ count_value (turn_number r.turn) ∷ count_value r.since ∷ or_null count_value due ∷ []
 
--- what is bound and shown of a request
+-- what is shown of a request, but for its due moment
 abbrev pub request_shown : RequestRow → Row
 request_shown r =
     count_value r.id ∷ Words r.queue ∷ Words r.subject ∷ Words r.status

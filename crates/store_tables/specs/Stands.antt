@@ -1,13 +1,14 @@
 -- What it is that tables stand for a desk.
-use Rattle.std.specs.Prelude.{◌≡◌, ℕ, [], ◌∷◌, IsTrue, List, Ok, true}
+use Rattle.std.specs.Prelude.{◌≡◌, ◌<◌, ℕ, [], ◌∷◌, IsTrue, List, Ok, Option, true}
 use Rattle.sqlite.specs.Order.{Row}
 use Rattle.sqlite.specs.Effect.{Database}
 use Rattle.sqlite.specs.State.{State, HasCleanDisk, Executes, Shows}
 use Rattle.desk_model.specs.Desk.{Desk}
 use Rattle.desk_model.specs.declared.rows.RequestRow.{RequestRow}
 use Rattle.store_tables.specs.Contents.{Contents, contents_of}
+use Rattle.store_tables.specs.Dated.{dated_columns, id_of}
 use Rattle.store_tables.specs.Kept.{Keeps, Numbers}
-use Rattle.store_tables.specs.Spelling.{version_row, queue_columns, request_columns}
+use Rattle.store_tables.specs.Spelling.{version_row, queue_columns}
 use Rattle.store_tables.specs.Spelling.{watcher_columns, link_columns, entry_columns}
 use Rattle.store_tables.specs.Tables.{desk_schema}
 use Rattle.store_tables.specs.Values.{AreValues}
@@ -17,7 +18,7 @@ pub record Tables (c : Contents) (db : Database) : Type 0 where
   pub schema : db.schema ≡ desk_schema
   pub meta : db.trees 0 ≡ version_row c.version ∷ []
   pub queues : Keeps queue_columns c.queues (db.trees 1)
-  pub requests : Numbers (λ (r : RequestRow). r.id) request_columns c.requests (db.trees 3)
+  pub requests : Numbers id_of dated_columns c.dated (db.trees 3)
   pub watchers : Keeps watcher_columns c.watchers (db.trees 4)
   pub links : Keeps link_columns c.links (db.trees 6)
   pub entries : Keeps entry_columns c.entries (db.trees 8)
@@ -28,9 +29,9 @@ pub record Tables (c : Contents) (db : Database) : Type 0 where
 abbrev pub Stand : Contents → State → Type 0
 Stand c s = HasCleanDisk s → IsTrue s.is_open → Tables c s.now × Tables c s.committed
 
--- the tables stand for the desk
+-- the tables stand for the desk, with any due moments
 abbrev pub StandsFor : Desk → State → Type 0
-StandsFor desk = Stand (contents_of desk)
+StandsFor desk s = (due : RequestRow → Option ℕ) × Stand (contents_of due desk) s
 
 -- in a transaction the tables hold the first, and those of the last commit the second
 abbrev pub Within : Contents → Contents → State → Type 0
@@ -56,3 +57,7 @@ KeepsBase old new =
 pub record Ran (sql : List ℕ) (params : Row) (old new : State) (count : ℕ) : Type 0 where
   pub runs : Executes sql params old new (Ok count)
   pub shown : Shows old new new.now old.committed true
+
+-- it did, and changed one row or none
+abbrev pub RanOnAny : List ℕ → Row → State → State → Type 0
+RanOnAny sql params old new = (count : ℕ) × (count < 2) × Ran sql params old new count

@@ -4,19 +4,19 @@ use Rattle.sqlite_rules.specs.Lists.{Has}
 use Rattle.desk_model.specs.declared.rows.Entry.{Entry}
 use Rattle.desk_model.specs.declared.rows.LinkRow.{LinkRow}
 use Rattle.desk_model.specs.declared.rows.QueueRow.{QueueRow}
-use Rattle.desk_model.specs.declared.rows.RequestRow.{RequestRow}
 use Rattle.desk_model.specs.declared.rows.Watcher.{Watcher}
 use Rattle.store_tables.specs.Contents.{Contents}
-use Rattle.store_tables.specs.Reading.{IsEntryRow, IsLinkRow, IsQueueRow}
-use Rattle.store_tables.specs.Reading.{IsRequestRow, IsWatcherRow}
-use Rattle.store_tables.specs.Spelling.{entry_columns, link_columns, queue_columns, request_shown}
+use Rattle.store_tables.specs.Dated.{Dated, dated_shown}
+use Rattle.store_tables.specs.Reading.{IsDatedRow, IsEntryRow, IsLinkRow, IsQueueRow}
+use Rattle.store_tables.specs.Reading.{IsWatcherRow}
+use Rattle.store_tables.specs.Spelling.{entry_columns, link_columns, queue_columns}
 use Rattle.store_tables.specs.Spelling.{watcher_columns}
 
 -- texts are in UTF-8, numbers below 2^32, and minutes within the range of due moments
 pub record ShowsValues (c : Contents) : Type 0 where
   pub version : c.version < 2 ^ 32
   pub queues : (q : QueueRow) → Has c.queues q → IsQueueRow (queue_columns q)
-  pub requests : (r : RequestRow) → Has c.requests r → IsRequestRow (request_shown r)
+  pub dated : (p : Dated) → Has c.dated p → IsDatedRow (dated_shown p)
   pub watchers : (w : Watcher) → Has c.watchers w → IsWatcherRow (watcher_columns w)
   pub links : (l : LinkRow) → Has c.links l → IsLinkRow (link_columns l)
   pub entries : (e : Entry) → Has c.entries e → IsEntryRow (entry_columns e)

@@ -6,7 +6,7 @@ ghost use Rattle.sqlite_value.specs.Value.{owned};
 ghost use Rattle.sqlite.specs.declared.types.Value.TheVariants.{Text as Words};
 ghost use Rattle.desk_model.specs.Links.{kind_number};
 ghost use Rattle.store_tables.specs.Reading.{IsText, IsTextOrNull, IsCount};
-ghost use Rattle.store_tables.specs.Reading.{IsMinute, IsTurn, IsRole};
+ghost use Rattle.store_tables.specs.Reading.{IsMinute, IsMinuteOrNull, IsTurn, IsRole};
 ghost use Rattle.store_tables.specs.Reading.{IsLinkKind, IsEntryKind, ReadsAt, MismatchesAt};
 ghost use Rattle.store_tables.specs.Spelling.{count_value, turn_number, role_number};
 ghost use Rattle.store_tables.specs.Spelling.{entry_kind_number};
@@ -59,6 +59,17 @@ pub(crate) fn minute<'a>(minute: Minute) -> ValueRef<'a>
     ensures value { IsMinute (count_value minute) }
 {
     minute.get().to_sql()
+}
+
+/// A minute that may be absent, to be bound.
+pub(crate) fn nullable_minute<'a>(minute: Option<Minute>) -> ValueRef<'a>
+    ensures bound { bound_value (owned result) ≡ or_null count_value minute }
+    ensures value { IsMinuteOrNull (or_null count_value minute) }
+{
+    match minute {
+        Some(minute) => minute.get().to_sql(),
+        None => ValueRef::Null,
+    }
 }
 
 /// Whose turn it is, to be bound.
@@ -166,6 +177,22 @@ pub(crate) fn minute_at(row: &Row, at: usize) -> Result<Minute, StoreFault>
     let n = number_at(row, at)?;
     match Minute::new(n) {
         Some(minute) => Ok(minute),
+        None => Err(StoreFault::Mismatch),
+    }
+}
+
+/// The minute in a column, or none.
+pub(crate) fn nullable_minute_at(row: &Row, at: usize) -> Result<Option<Minute>, StoreFault>
+    ensures ok { ReadsAt (or_null count_value) row.now at result }
+    ensures mismatch { MismatchesAt IsMinuteOrNull row.now at result }
+    ensures fault { IfErr result (λ e. e ≢ StoreFault.WrongVersion) }
+{
+    let number: Option<u32> = column(row, at)?;
+    let Some(n) = number else {
+        return Ok(None);
+    };
+    match Minute::new(n) {
+        Some(minute) => Ok(Some(minute)),
         None => Err(StoreFault::Mismatch),
     }
 }

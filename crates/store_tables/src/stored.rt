@@ -6,12 +6,15 @@ ghost use Rattle.store_tables.specs.declared.fault.StoreFault.{StoreFault};
 ghost use Rattle.store_tables.specs.Reading.{ReadsQueue, ReadsRequest, ReadsWatcher, ReadsLink};
 ghost use Rattle.store_tables.specs.Reading.{ReadsEntry, IsQueueRow, IsRequestRow, IsWatcherRow};
 ghost use Rattle.store_tables.specs.Reading.{IsLinkRow, IsEntryRow, IsTextRow, ReadsText};
+ghost use Rattle.store_tables.specs.Reading.{IsDatedRow, IsNumberRow, ReadsCount, ReadsDated};
 
 use crate::columns::{
-    entry_kind_at, link_kind_at, minute_at, nullable_at, number_at, role_at, text_at, turn_at,
+    entry_kind_at, link_kind_at, minute_at, nullable_at, nullable_minute_at, number_at, role_at,
+    text_at, turn_at,
 };
 use crate::fault::StoreFault;
 use desk_model::{Entry, LinkRow, QueueRow, RequestRow, Watcher};
+use hours_core::Minute;
 use sqlite::Row;
 use text_core::Text;
 
@@ -63,6 +66,28 @@ impl Stored for RequestRow {
             owner: nullable_at(row, 4)?,
             level: nullable_at(row, 5)?,
         })
+    }
+}
+
+impl Stored for (RequestRow, Option<Minute>) {
+    ghost reads = { ReadsDated };
+
+    ghost is_value = { IsDatedRow };
+
+    fn read(row: &Row) -> Result<(RequestRow, Option<Minute>), StoreFault> {
+        let due = nullable_minute_at(row, 10)?;
+        Ok((RequestRow::read(row)?, due))
+    }
+}
+
+/// The number of a request.
+impl Stored for u32 {
+    ghost reads = { ReadsCount };
+
+    ghost is_value = { IsNumberRow };
+
+    fn read(row: &Row) -> Result<u32, StoreFault> {
+        number_at(row, 0)
     }
 }
 

@@ -5,7 +5,7 @@ ghost use Rattle.sqlite.specs.State.{HasCleanDisk};
 ghost use Rattle.sqlite.specs.Values.{bound};
 ghost use Rattle.store_tables.specs.Calls.{WasClean};
 ghost use Rattle.store_tables.specs.Contents.{Contents};
-ghost use Rattle.store_tables.specs.Stands.{KeepsBase, Ran, Stand, Within};
+ghost use Rattle.store_tables.specs.Stands.{KeepsBase, Ran, RanOnAny, Stand, Within};
 ghost use Rattle.store_tables.specs.declared.fault.StoreFault.{StoreFault};
 
 use crate::fault::StoreFault;
@@ -48,6 +48,27 @@ pub(crate) fn run_on_one<S: Alter>(
     ensures fault { IfErr result (λ e. e ≡ StoreFault.Refused) }
 {
     if run(tx, sql, params)? == 1 {
+        Ok(())
+    } else {
+        Err(StoreFault::Refused)
+    }
+}
+
+/// Runs a statement that changes one row, or none. `Refused` where it changes several.
+pub(crate) fn run_on_any<S: Alter>(
+    tx: &mut Transaction<'_, S>,
+    sql: &str,
+    params: &[ValueRef<'_>],
+) -> Result<(), StoreFault>
+    ensures same_reference { tx.new.conn.ghost_name ≡ tx.old.conn.ghost_name }
+    ensures ran { HasCleanDisk (state S.Store tx.new.conn.now) → IfOk result (λ done.
+        RanOnAny sql.now (bound params.now)
+        (state S.Store tx.old.conn.now) (state S.Store tx.new.conn.now)) }
+    ensures keeps { KeepsBase (state S.Store tx.old.conn.now) (state S.Store tx.new.conn.now) }
+    ensures honest { WasClean (state S.Store tx.old.conn.now) (state S.Store tx.new.conn.now) }
+    ensures fault { IfErr result (λ e. e ≡ StoreFault.Refused) }
+{
+    if run(tx, sql, params)? < 2 {
         Ok(())
     } else {
         Err(StoreFault::Refused)

@@ -52,7 +52,7 @@ served_counted s at had left before after had1 left1 before1 after1 bytes sent r
 
 -- there is no room for a reply: nothing is read, and nothing is done
 pub left_out : (s : Settings) (at : ℕ) (had left : Option (List ℕ)) (bytes : List ℕ)
-    (old new : State) → bytes ≡ bytes_of (unavailable false) → StaysOn old new
+    (old new : State) → bytes ≡ bytes_of (unavailable false) → StaysOn s old new
     → StreamStepsOn s at had left bytes old new
 left_out s at had left bytes old new told stay =
     leads_wider _ _ old new (λ desk after same. inl (told, same)) stay
@@ -101,7 +101,7 @@ run_more s old (a ∷ sent) [] mid m r new run did = absurd run
 -- a run on tables, and that the desk which it leaves is well formed
 abbrev pub RunsSoFar : Settings → List Sent → List Replied → State → State → Type 0
 RunsSoFar s sent replies =
-    LeadsOn (λ desk after. RunsMessages s desk sent replies after × IsDesk after)
+    LeadsOn s (λ desk after. RunsMessages s desk sent replies after × IsDesk after)
 
 pub run_begins : (s : Settings) (tables : State) → RunsSoFar s [] [] tables tables
 run_begins s tables desk is stand clean = (desk, (refl, is), stand)

@@ -27,18 +27,19 @@ use Rattle.wire_core.specs.Steps.{StreamSteps, StreamStepsOn}
 use Rattle.wire_core.specs.Runs.{RepliesOn}
 
 -- what one relation leads to, a wider one does
-pub leads_wider : (P Q : Desk → Desk → Type 0) (old new : State)
-    → ((desk after : Desk) → P desk after → Q desk after) → LeadsOn P old new → LeadsOn Q old new
+pub leads_wider : {s : Settings} (P Q : Desk → Desk → Type 0) (old new : State)
+    → ((desk after : Desk) → P desk after → Q desk after) → LeadsOn s P old new
+    → LeadsOn s Q old new
 leads_wider P Q old new wider leads desk is stands clean =
     let led = leads desk is stands clean in (led.0, wider desk led.0 led.1, led.2)
 
 -- a relation that holds of each desk and itself leads from tables to themselves
-pub leads_nowhere : (P : Desk → Desk → Type 0) (tables : State)
-    → ((desk : Desk) → P desk desk) → LeadsOn P tables tables
+pub leads_nowhere : {s : Settings} (P : Desk → Desk → Type 0) (tables : State)
+    → ((desk : Desk) → P desk desk) → LeadsOn s P tables tables
 leads_nowhere P tables holds desk is stands clean = (desk, holds desk, stands)
 
-pub stays : (tables : State) → StaysOn tables tables
-stays tables = leads_nowhere (λ desk after. after ≡ desk) tables (λ desk. refl)
+pub stays : (s : Settings) (tables : State) → StaysOn s tables tables
+stays s tables = leads_nowhere (λ desk after. after ≡ desk) tables (λ desk. refl)
 
 -- ---- a command
 
@@ -51,7 +52,7 @@ done s ask h outcome bytes old new told steps desk is stands clean =
 
 -- a command was done for whose text there was no memory: it only read
 pub left_out_if_long : (s : Settings) (ask : Ask) (outcome : Outcome) (old new : State)
-    → is_short outcome ≡ false → StepsOn s ask outcome old new → StaysOn old new
+    → is_short outcome ≡ false → StepsOn s ask outcome old new → StaysOn s old new
 left_out_if_long s ask outcome old new long steps desk is stands clean =
     let step = steps desk is stands clean in
     let same =
@@ -116,7 +117,7 @@ message_done s at message bytes old new steps =
     leads_wider _ _ old new (λ desk after did. inr did) steps
 
 pub message_left_out : (s : Settings) (at : ℕ) (message : Message) (bytes : List ℕ)
-    (old new : State) → bytes ≡ bytes_of (unavailable (is_head message)) → StaysOn old new
+    (old new : State) → bytes ≡ bytes_of (unavailable (is_head message)) → StaysOn s old new
     → MessageStepsOn s at message bytes old new
 message_left_out s at message bytes old new told stay =
     leads_wider _ _ old new (λ desk after same. inl (told, same)) stay

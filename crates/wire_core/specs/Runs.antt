@@ -36,11 +36,11 @@ RunsMessages settings old (sent ∷ others) [] new = ⊥
 
 abbrev pub RepliesOn : Settings → Sent → Replied → State → State → Type 0
 RepliesOn settings sent reply =
-    LeadsOn (λ desk after. IsReplyTo settings sent desk reply after)
+    LeadsOn settings (λ desk after. IsReplyTo settings sent desk reply after)
 
 abbrev pub RunsMessagesOn : Settings → List Sent → List Replied → State → State → Type 0
 RunsMessagesOn settings sent replies =
-    LeadsOn (λ desk after. RunsMessages settings desk sent replies after)
+    LeadsOn settings (λ desk after. RunsMessages settings desk sent replies after)
 
 -- ---- as they are handed over
 

@@ -60,23 +60,23 @@ StreamSteps settings at had left old bytes new =
 -- ---- over tables: of whatever desk they stand for
 
 -- it stays
-abbrev pub StaysOn : State → State → Type 0
-StaysOn = LeadsOn (λ desk after. after ≡ desk)
+abbrev pub StaysOn : Settings → State → State → Type 0
+StaysOn settings = LeadsOn settings (λ desk after. after ≡ desk)
 
 abbrev pub IsDoneOn : Settings → Ask → Bool → List ℕ → State → State → Type 0
 IsDoneOn settings ask head_only bytes =
-    LeadsOn (λ desk after. IsDone settings ask head_only desk bytes after)
+    LeadsOn settings (λ desk after. IsDone settings ask head_only desk bytes after)
 
 abbrev pub CommandStepsOn : Settings → ℕ → Message → Result (List ℕ × Command) CommandFault
     → List ℕ → State → State → Type 0
 CommandStepsOn settings at message asked bytes =
-    LeadsOn (λ desk after. CommandSteps settings at message asked desk bytes after)
+    LeadsOn settings (λ desk after. CommandSteps settings at message asked desk bytes after)
 
 abbrev pub MessageStepsOn : Settings → ℕ → Message → List ℕ → State → State → Type 0
 MessageStepsOn settings at message bytes =
-    LeadsOn (λ desk after. MessageSteps settings at message desk bytes after)
+    LeadsOn settings (λ desk after. MessageSteps settings at message desk bytes after)
 
 abbrev pub StreamStepsOn : Settings → ℕ → Option (List ℕ) → Option (List ℕ) → List ℕ → State
     → State → Type 0
 StreamStepsOn settings at had left bytes =
-    LeadsOn (λ desk after. StreamSteps settings at had left desk bytes after)
+    LeadsOn settings (λ desk after. StreamSteps settings at had left desk bytes after)

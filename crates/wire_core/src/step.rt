@@ -59,7 +59,8 @@ fn reply_to<S: Backend>(
         (commands.command_of (settings_of S.Store desk.old) message.now) room.new.items
         (tables_of S.Store desk.old) (tables_of S.Store desk.new)) }
     ensures err { OnErr result ((room.new ≡ room.old)
-        × StaysOn (tables_of S.Store desk.old) (tables_of S.Store desk.new)) }
+        × StaysOn (settings_of S.Store desk.old)
+        (tables_of S.Store desk.old) (tables_of S.Store desk.new)) }
     ensures honest { WasClean (tables_of S.Store desk.old) (tables_of S.Store desk.new) }
     ensures same { settings_of S.Store desk.new ≡ settings_of S.Store desk.old }
 {
@@ -86,7 +87,8 @@ fn reply_at<S: Backend>(
         (commands.command_at (settings_of S.Store desk.old) place message.now) room.new.items
         (tables_of S.Store desk.old) (tables_of S.Store desk.new)) }
     ensures err { OnErr result ((room.new ≡ room.old)
-        × StaysOn (tables_of S.Store desk.old) (tables_of S.Store desk.new)) }
+        × StaysOn (settings_of S.Store desk.old)
+        (tables_of S.Store desk.old) (tables_of S.Store desk.new)) }
     ensures honest { WasClean (tables_of S.Store desk.old) (tables_of S.Store desk.new) }
     ensures same { settings_of S.Store desk.new ≡ settings_of S.Store desk.old }
 {
@@ -118,7 +120,8 @@ fn do_command<S: Backend>(
         (ask_by at caller.now command.now) head_only room.new.items
         (tables_of S.Store desk.old) (tables_of S.Store desk.new)) }
     ensures err { OnErr result ((room.new ≡ room.old)
-        × StaysOn (tables_of S.Store desk.old) (tables_of S.Store desk.new)) }
+        × StaysOn (settings_of S.Store desk.old)
+        (tables_of S.Store desk.old) (tables_of S.Store desk.new)) }
     ensures honest { WasClean (tables_of S.Store desk.old) (tables_of S.Store desk.new) }
     ensures same { settings_of S.Store desk.new ≡ settings_of S.Store desk.old }
 {

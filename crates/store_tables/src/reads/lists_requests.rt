@@ -2,6 +2,7 @@
 ghost use Rattle.std.specs.Prelude.{◌≡◌, false, filter};
 ghost use Rattle.sqlite.specs.Held.{state};
 ghost use Rattle.store_tables.specs.Calls.{Answers, Spares};
+ghost use Rattle.store_tables.specs.Contents.{requests as rows_of};
 ghost use Rattle.store_tables.specs.Mismatches.{MismatchesInRequests};
 ghost use Rattle.store_tables.specs.Orders.{by_id};
 ghost use Rattle.store_tables.specs.Picked.{AreOrdered};
@@ -25,7 +26,7 @@ pub fn requests<S: Alter>(
     requires { conn.old.in_transaction ≡ false }
     ensures idle { conn.new.in_transaction ≡ false }
     ensures listed { Answers (λ c xs.
-        AreOrdered by_id c.requests xs.items)
+        AreOrdered by_id (rows_of c) xs.items)
         (state S.Store conn.old) (state S.Store conn.new) result }
     ensures mismatch { MismatchesInRequests
         (state S.Store conn.old) (state S.Store conn.new) result }
@@ -50,7 +51,7 @@ pub fn requests_of<S: Alter>(
     requires { conn.old.in_transaction ≡ false }
     ensures idle { conn.new.in_transaction ≡ false }
     ensures listed { Answers (λ c xs.
-        AreOrdered by_id (filter (is_filed_in queue.now) c.requests) xs.items)
+        AreOrdered by_id (filter (is_filed_in queue.now) (rows_of c)) xs.items)
         (state S.Store conn.old) (state S.Store conn.new) result }
     ensures mismatch { MismatchesInRequests
         (state S.Store conn.old) (state S.Store conn.new) result }

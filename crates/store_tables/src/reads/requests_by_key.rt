@@ -4,6 +4,7 @@ ghost use Rattle.sqlite.specs.Held.{state};
 ghost use Rattle.store_tables.specs.declared.fault.StoreFault.{StoreFault};
 ghost use Rattle.store_tables.specs.Queries.{last_id_terms};
 ghost use Rattle.store_tables.specs.Calls.{Answers, OnlyRefuses, ShowsRowsOf, Spares};
+ghost use Rattle.store_tables.specs.Contents.{requests};
 ghost use Rattle.store_tables.specs.Picked.{IsGreatest, ShowsGreatest};
 ghost use Rattle.store_tables.specs.Selection.{is_numbered, number_of};
 
@@ -21,7 +22,8 @@ pub fn request_numbered<S: Alter>(
 ) -> Result<Option<RequestRow>, StoreFault>
     requires { conn.old.in_transaction ≡ false }
     ensures idle { conn.new.in_transaction ≡ false }
-    ensures found { Answers (λ c r. option_to_list r ≡ filter (is_numbered id) c.requests)
+    ensures found { Answers (λ c r. option_to_list r ≡
+        filter (is_numbered id) (requests c))
         (state S.Store conn.old) (state S.Store conn.new) result }
     ensures kept { Spares (state S.Store conn.old) (state S.Store conn.new) }
     ensures refuses { OnlyRefuses
@@ -40,7 +42,7 @@ pub fn request_numbered<S: Alter>(
 fn rows_last_id<S: Alter>(conn: &mut Connection<S>) -> Result<Vec<Row>, StoreFault>
     requires { conn.old.in_transaction ≡ false }
     ensures idle { conn.new.in_transaction ≡ false }
-    ensures shown { Answers (λ c rows. ShowsGreatest number_of c.requests rows.items)
+    ensures shown { Answers (λ c rows. ShowsGreatest number_of (requests c) rows.items)
         (state S.Store conn.old) (state S.Store conn.new) result }
     ensures kept { Spares (state S.Store conn.old) (state S.Store conn.new) }
     ensures of_table { ShowsRowsOf 3 last_id_terms (λ rows. rows.items)
@@ -55,7 +57,7 @@ fn rows_last_id<S: Alter>(conn: &mut Connection<S>) -> Result<Vec<Row>, StoreFau
 pub fn last_id<S: Alter>(conn: &mut Connection<S>) -> Result<u32, StoreFault>
     requires { conn.old.in_transaction ≡ false }
     ensures idle { conn.new.in_transaction ≡ false }
-    ensures greatest { Answers (λ c n. IsGreatest number_of c.requests n)
+    ensures greatest { Answers (λ c n. IsGreatest number_of (requests c) n)
         (state S.Store conn.old) (state S.Store conn.new) result }
     ensures kept { Spares (state S.Store conn.old) (state S.Store conn.new) }
     ensures refuses { OnlyRefuses

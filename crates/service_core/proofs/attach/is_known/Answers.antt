@@ -2,18 +2,16 @@ use Rattle.std.proofs.Common.{◌∙◌, ◌&&◌, ap, refl, sym, ◌≡◌, Err
 use Rattle.std.specs.Prelude.{⊤}
 use Rattle.store_tables.proofs.RefusalLemmas.{requests_refuse}
 use Rattle.service_core.proofs.KnownLemmas.{known_of_rows}
-use Rattle.store_tables.proofs.Spared.{stands}
-use Rattle.store_tables.specs.Contents.{contents_of}
+use Rattle.store_tables.proofs.Spared.{stands_for}
 use Rattle.store_core.specs.Seen.{state_of}
 use Rattle.service_core.proofs.attach.is_known.Goals as goal
 
 pub returns-clause-told : goal.returns-clause-told
 returns-clause-told g c desk is stand clean =
-    let d = contents_of desk in
     let lists_clean = c.knows_lists.ensures.kept.clean clean in
     let rows_clean = c.knows_histories.ensures.kept.clean lists_clean in
-    let after_requests = stands c.requests.ensures.kept d stand in
-    let after_histories = stands c.knows_histories.ensures.kept d after_requests in
+    let after_requests = stands_for c.requests.ensures.kept desk stand in
+    let after_histories = stands_for c.knows_histories.ensures.kept desk after_requests in
     let listed = c.in_ok-requests.ensures.listed desk is stand rows_clean in
     known_of_rows c.args.settings.now desk _ _ _ _ refl
     (c.as_slice.ensures.value ∙ listed) refl

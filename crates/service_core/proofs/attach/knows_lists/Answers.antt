@@ -3,17 +3,15 @@ use Rattle.std.specs.Prelude.{⊤}
 use Rattle.store_tables.proofs.RefusalLemmas.{queues_refuse, watchers_refuse}
 use Rattle.desk_reports.specs.Rows.{QueuesRise}
 use Rattle.service_core.proofs.KnownLemmas.{same_rows}
-use Rattle.store_tables.proofs.Spared.{stands}
-use Rattle.store_tables.specs.Contents.{contents_of}
+use Rattle.store_tables.proofs.Spared.{stands, stands_for}
 use Rattle.store_core.specs.Seen.{state_of}
 use Rattle.service_core.proofs.attach.knows_lists.Goals as goal
 
 pub returns-clause-told : goal.returns-clause-told
 returns-clause-told g c desk is stand clean =
-    let d = contents_of desk in
     let queues_clean = c.watchers.ensures.kept.clean clean in
-    let after_links = stands c.read_links.ensures.kept d stand in
-    let after_queues = stands c.queues.ensures.kept d after_links in
+    let after_links = stands_for c.read_links.ensures.kept desk stand in
+    let after_queues = stands_for c.queues.ensures.kept desk after_links in
     let these = c.as_slice.ensures.value
     ∙ c.in_ok-queues.ensures.listed desk is after_links queues_clean in
     c.knows_rows.ensures (subst QueuesRise (sym these) is.queues)

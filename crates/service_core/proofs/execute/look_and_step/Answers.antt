@@ -3,14 +3,16 @@ use Rattle.store_tables.proofs.Spared.{stands}
 use Rattle.store_tables.specs.Contents.{contents_of}
 use Rattle.service_core.specs.TableSteps.{ask_by}
 use Rattle.service_core.proofs.Stepping.{left_after, unavailable_on}
+use Rattle.store_core.specs.Due.{due_of_row}
 use Rattle.store_core.specs.Seen.{state_of}
 use Rattle.service_core.proofs.execute.look_and_step.Goals as goal
 
 pub returns-in-Ok-clause-step : goal.returns-in-Ok-clause-step
 returns-in-Ok-clause-step g c desk is stand clean =
+    let due = due_of_row c.args.settings.now desk in
     c.decided-answer.ensures.step desk is
-    (c.in-Ok.ensures.told desk is stand (c.decided-answer.ensures.honest clean))
-    (stands c.facts_for.ensures.kept (contents_of desk) stand) clean
+    (c.in-Ok.ensures.told desk is (due, stand) (c.decided-answer.ensures.honest clean))
+    (stands c.facts_for.ensures.kept (contents_of due desk) stand) clean
 
 pub returns-in-Ok-clause-refused : goal.returns-in-Ok-clause-refused
 returns-in-Ok-clause-refused g c =

@@ -1,19 +1,17 @@
 use Rattle.std.proofs.Common.{◌∙◌, ap, filter}
 use Rattle.std.proofs.lemmas.Result.{IfOk-at_ok}
-use Rattle.store_tables.proofs.Spared.{stands}
+use Rattle.store_tables.proofs.Spared.{stands_for}
 use Rattle.service_core.specs.Shown.{is_shown_at}
 use Rattle.service_core.specs.declared.links.End.TheVariants.{Source, Target}
 use Rattle.service_core.proofs.Linked.{links_are}
-use Rattle.store_tables.specs.Contents.{contents_of}
 use Rattle.service_core.proofs.links.links_of.Goals as goal
 
 pub returns-clause-told : goal.returns-clause-told
 returns-clause-told g c desk is stand clean =
-    let d = contents_of desk in
     let was_clean = c.shown_at-2.ensures.kept.clean clean in
     let first_clean = c.links_to.ensures.kept.clean was_clean in
-    let second = stands c.links_from.ensures.kept d stand in
-    let third = stands c.shown_at.ensures.kept d second in
+    let second = stands_for c.links_from.ensures.kept desk stand in
+    let third = stands_for c.shown_at.ensures.kept desk second in
     let shows = is_shown_at c.args.settings.now c.args.caller.now desk in
     let targets =
     c.in_ok-targets.ensures.told desk is second first_clean
@@ -21,7 +19,7 @@ returns-clause-told g c desk is stand clean =
     ∙ IfOk-at_ok _ c.in_ok-from.ensures.ok
     (c.links_from.ensures.listed desk is stand (c.shown_at.ensures.kept.clean first_clean))) in
     let sources =
-    c.in_ok-sources.ensures.told desk is (stands c.links_to.ensures.kept d third) clean
+    c.in_ok-sources.ensures.told desk is (stands_for c.links_to.ensures.kept desk third) clean
     ∙ ap (filter (shows Source)) (c.as_slice-2.ensures.value
     ∙ IfOk-at_ok _ c.in_ok-to.ensures.ok (c.links_to.ensures.listed desk is third was_clean)) in
     c.in_ok-links.ensures

@@ -5,11 +5,10 @@ use Rattle.std.proofs.lemmas.Result.{IfOk-at_ok}
 use Rattle.desk_model.specs.declared.rows.LinkKind.TheVariants.{DependsOn}
 use Rattle.desk_model.specs.declared.rows.LinkRow.{LinkRow}
 use Rattle.desk_model.specs.Rights.{is_shown}
-use Rattle.store_tables.proofs.Spared.{stands, joined}
+use Rattle.store_tables.proofs.Spared.{joined, stands_for}
 use Rattle.service_core.specs.Shown.{is_shown_at}
 use Rattle.service_core.proofs.Linked.{filtered_more}
 use Rattle.service_core.proofs.links.shown_at.Goals as goal
-use Rattle.store_tables.specs.Contents.{contents_of}
 use Rattle.service_core.proofs.links.shown_at.Goals.{then-shown+in_ok-push, else-shown}
 
 pub loop-link-preserved : goal.loop-link-preserved
@@ -35,7 +34,7 @@ loop-link-preserved g c =
           filtered_more (is_shown_at c.args.settings.now c.args.caller.now desk c.args.end)
           c.args.links.now c.loop-link.link-index first _ _ _ low
           (IfOk-at_ok _ c.in_ok-shown.ensures.ok
-          (shows.told desk is (stands so_far.kept (contents_of desk) stand) clean)
+          (shows.told desk is (stands_for so_far.kept desk stand) clean)
           ∙ ap (is_shown c.args.settings.now c.args.caller.now desk) c.number.ensures)
           put (so_far.told desk is stand (shows.kept.clean clean));
       kept = joined so_far.kept shows.kept;

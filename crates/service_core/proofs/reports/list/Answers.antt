@@ -2,14 +2,13 @@
 use Rattle.std.proofs.Common.{◌∙◌, ap}
 use Rattle.std.proofs.lemmas.Result.{IfOk-at_ok}
 use Rattle.desk_model.specs.declared.answer.Answer.TheVariants.{Listed}
-use Rattle.store_tables.specs.Contents.{contents_of}
-use Rattle.store_tables.proofs.Spared.{stands}
+use Rattle.store_tables.proofs.Spared.{stands_for}
 use Rattle.service_core.proofs.Reported.{list_of}
 use Rattle.service_core.proofs.reports.list.Goals as goal
 
 pub returns-clause-told : goal.returns-clause-told
 returns-clause-told g c at desk is stand clean seen =
-    let after = stands c.watches_of.ensures.kept (contents_of desk) stand in
+    let after = stands_for c.watches_of.ensures.kept desk stand in
     let clean-before = c.requests_of.ensures.kept.clean clean in
     ap Listed (list_of c.args.settings.now c.args.caller.now c.args.queue.now desk is
     c.as_slice.result.now _ c.in_ok-rows.rows.items c.in_ok-lines.lines

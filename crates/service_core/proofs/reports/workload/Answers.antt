@@ -2,15 +2,14 @@
 use Rattle.std.proofs.Common.{◌∙◌, ap}
 use Rattle.std.proofs.lemmas.Result.{IfOk-at_ok}
 use Rattle.desk_model.specs.declared.answer.Answer.TheVariants.{Workload}
-use Rattle.store_tables.specs.Contents.{contents_of}
-use Rattle.store_tables.proofs.Spared.{stands}
+use Rattle.store_tables.proofs.Spared.{stands_for}
 use Rattle.service_core.proofs.Reported.{loads_of}
 use Rattle.service_core.proofs.reports.workload.Goals as goal
 
 pub returns-clause-told : goal.returns-clause-told
 returns-clause-told g c facts desk is stand clean seen =
-    let first = stands c.watches_of.ensures.kept (contents_of desk) stand in
-    let second = stands c.queues.ensures.kept (contents_of desk) first in
+    let first = stands_for c.watches_of.ensures.kept desk stand in
+    let second = stands_for c.queues.ensures.kept desk first in
     let clean-second = c.requests.ensures.kept.clean clean in
     let clean-first = c.queues.ensures.kept.clean clean-second in
     ap Workload (loads_of c.args.at c.args.settings.now c.args.caller.now desk is

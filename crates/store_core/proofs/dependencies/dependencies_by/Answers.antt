@@ -1,7 +1,6 @@
 use Rattle.std.proofs.Common.{◌≡◌, ◌∙◌, ◌<◌, Err, ap, length, rules}
 use Rattle.std.specs.List.{flat_map}
-use Rattle.store_tables.specs.Contents.{contents_of}
-use Rattle.store_tables.proofs.Spared.{joined, stands}
+use Rattle.store_tables.proofs.Spared.{joined, stands, stands_for}
 use Rattle.store_core.specs.Found.{dependency_by}
 use Rattle.store_core.proofs.FactsLemmasOfDesk.{flat_map_more, take_all}
 use Rattle.store_core.proofs.dependencies.dependencies_by.Goals as goal
@@ -17,7 +16,7 @@ loop-link-preserved g c =
           λ desk is stand clean.
           flat_map_more (dependency_by desk) c.args.links.now c.loop-link.link-index _ _ _ low
           (c.in_ok-put_dependency.ensures.told desk is
-          (stands so_far.kept (contents_of desk) stand) clean)
+          (stands_for so_far.kept desk stand) clean)
           (so_far.told desk is stand (put.kept.clean clean));
       kept = joined so_far.kept put.kept;
     }

@@ -1,20 +1,21 @@
 use Rattle.std.proofs.Common.{◌∙◌}
 use Rattle.store_tables.specs.Contents.{contents_of}
-use Rattle.store_tables.proofs.Spared.{stands}
+use Rattle.store_tables.proofs.DatedLemmas.{rows_dated}
+use Rattle.store_tables.proofs.Spared.{stands_for}
 use Rattle.store_core.proofs.FactsLemmasOfDesk.{no_dependency, some_dependency}
 use Rattle.store_core.proofs.dependencies.dependency_at.Goals as goal
 
 pub returns-in-None-clause-told : goal.returns-in-None-clause-told
 returns-in-None-clause-told g c desk is stand clean =
     no_dependency desk c.args.id
-    (rw c.in-None.is at
-    (c.in_ok-request_numbered.ensures.found (contents_of desk) stand clean))
+    (rw (c.in-None.is, rows_dated stand.0 desk) at
+    (c.in_ok-request_numbered.ensures.found (contents_of stand.0 desk) stand.1 clean))
 
 pub returns-in_ok-queue-in-Some-clause-told : goal.returns-in_ok-queue-in-Some-clause-told
 returns-in_ok-queue-in-Some-clause-told g c desk is stand clean =
-    let first = stands c.request_numbered.ensures.kept (contents_of desk) stand in
+    let first = stands_for c.request_numbered.ensures.kept desk stand in
     c.dependency_of.ensures
     ∙ some_dependency desk c.args.id _ _
-    (rw c.in-Some.is at (c.in_ok-request_numbered.ensures.found (contents_of desk) stand
+    (rw (c.in-Some.is, rows_dated stand.0 desk) at (c.in_ok-request_numbered.ensures.found (contents_of stand.0 desk) stand.1
     (c.queue_at.ensures.kept.clean clean)))
     (c.in_ok-queue-in-Some.ensures.told desk is first clean)

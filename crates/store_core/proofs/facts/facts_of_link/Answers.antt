@@ -1,13 +1,12 @@
 use Rattle.std.proofs.Common.{◌∙◌}
-use Rattle.store_tables.specs.Contents.{contents_of}
-use Rattle.store_tables.proofs.Spared.{stands}
+use Rattle.store_tables.proofs.Spared.{stands_for}
 use Rattle.store_core.proofs.FactsLemmasOfDesk.{link_facts}
 use Rattle.store_core.proofs.facts.facts_of_link.Goals as goal
 
 pub returns-clause-told : goal.returns-clause-told
 returns-clause-told g c desk is stand clean =
-    let first = stands c.is_there.ensures.kept (contents_of desk) stand in
-    let second = stands c.seen_request_at.ensures.kept (contents_of desk) first in
+    let first = stands_for c.is_there.ensures.kept desk stand in
+    let second = stands_for c.seen_request_at.ensures.kept desk first in
     let clean-second = c.facts_on.ensures.kept.clean clean in
     let clean-first = c.seen_request_at.ensures.kept.clean clean-second in
     c.with_link.ensures

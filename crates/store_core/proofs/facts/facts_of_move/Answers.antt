@@ -1,6 +1,5 @@
 use Rattle.std.proofs.Common.{◌∙◌, rules}
-use Rattle.store_tables.specs.Contents.{contents_of}
-use Rattle.store_tables.proofs.Spared.{stands}
+use Rattle.store_tables.proofs.Spared.{stands_for}
 use Rattle.store_core.proofs.FactsLemmasOfDesk.{absent_facts, move_facts}
 use Rattle.store_core.proofs.facts.facts_of_move.Goals as goal
 
@@ -11,7 +10,7 @@ returns-then-is_none-clause-told g c desk is stand clean =
 
 pub returns-in-Ok-clause-told : goal.returns-in-Ok-clause-told
 returns-in-Ok-clause-told g c desk is stand clean =
-    let first = stands c.facts_on.ensures.kept (contents_of desk) stand in
+    let first = stands_for c.facts_on.ensures.kept desk stand in
     c.with_dependencies.ensures
     ∙ move_facts desk c.args.id _ _
     (c.in_ok-facts.ensures.told desk is stand (c.dependencies_of.ensures.kept.clean clean))

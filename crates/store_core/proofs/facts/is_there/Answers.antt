@@ -6,4 +6,4 @@ use Rattle.store_core.proofs.facts.is_there.Goals as goal
 pub returns-clause-told : goal.returns-clause-told
 returns-clause-told g c desk is stand clean =
     c.is_some.ensures
-    ∙ link_there desk c.args.link _ (c.in_ok-found.ensures.found (contents_of desk) stand clean)
+    ∙ link_there desk c.args.link _ (c.in_ok-found.ensures.found (contents_of stand.0 desk) stand.1 clean)

@@ -1,5 +1,4 @@
 use Rattle.std.proofs.Common.{refl}
-use Rattle.sqlite.specs.Held.{state}
 use Rattle.sqlite.specs.Values.{bound}
 use Rattle.store_tables.proofs.StandLemmas.{inside_keeps, was_clean}
 use Rattle.store_tables.proofs.transaction.run.Goals as goal

@@ -25,7 +25,8 @@ returns-in-Err-NoMemory-clause-served g c =
     let settings = settings_of g.S.Store c.args.desk.now in
     let old = tables_of g.S.Store c.args.desk.now in
     let new = tables_of g.S.Store c.answer.new.desk in
-    let stayed : StaysOn old new = rw c.in-Err-NoMemory.ensures.err (stays old) in
+    let stayed : StaysOn settings old new =
+    rw c.in-Err-NoMemory.ensures.err (stays settings old) in
     let bytes = c.unavailable_reply.result.now in
     served_counted settings c.args.moment
     (g.R.Read.remaining c.args.reader.now) _ (g.W.Write.contents c.args.writer.now) _

@@ -1,4 +1,5 @@
 use Rattle.store_tables.specs.Contents.{contents_of, request_rows}
+use Rattle.store_tables.proofs.DatedLemmas.{rows_dated}
 use Rattle.store_tables.proofs.ReadingLemmas.{if_ok}
 use Rattle.store_core.proofs.OrderLemmas.{the_requests}
 use Rattle.store_core.proofs.RiseLemmas.{requests_rise}
@@ -8,4 +9,5 @@ pub returns-clause-listed : goal.returns-clause-listed
 returns-clause-listed g c desk is stand clean =
     if_ok c.requests.result
     (λ xs. the_requests (request_rows desk) xs.items (requests_rise desk is))
-    (c.requests.ensures.listed (contents_of desk) stand clean)
+    (rw (rows_dated stand.0 desk) at
+    (c.requests.ensures.listed (contents_of stand.0 desk) stand.1 clean))

@@ -4,6 +4,7 @@ use Rattle.desk_model.specs.declared.rows.RequestRow.{RequestRow}
 use Rattle.store_tables.specs.Contents.{contents_of, request_rows}
 use Rattle.store_tables.specs.Orders.{by_id}
 use Rattle.store_tables.specs.Selection.{is_filed_in}
+use Rattle.store_tables.proofs.DatedLemmas.{rows_dated}
 use Rattle.store_tables.proofs.ReadingLemmas.{if_ok}
 use Rattle.store_core.proofs.OrderLemmas.{the_requests}
 use Rattle.store_core.proofs.RiseLemmas.{requests_rise}
@@ -16,4 +17,5 @@ returns-clause-listed g c desk is stand clean =
     (λ xs. the_requests (filter filed (request_rows desk)) xs.items
     (ascending-filter (λ (a b : RequestRow). by_id a b ≡ Less) filed (request_rows desk)
     (requests_rise desk is)))
-    (c.requests_of.ensures.listed (contents_of desk) stand clean)
+    (rw (rows_dated stand.0 desk) at
+    (c.requests_of.ensures.listed (contents_of stand.0 desk) stand.1 clean))

@@ -1,4 +1,7 @@
 use Rattle.sqlite.specs.Held.{state}
+use Rattle.std.proofs.Common.{[]}
+use Rattle.store_tables.specs.Contents.{requests}
+use Rattle.store_tables.specs.Queries.{request_shown_terms}
 use Rattle.store_tables.specs.Orders.{by_id}
 use Rattle.store_tables.proofs.EachQuery.{all_requests}
 use Rattle.store_tables.proofs.EachTable.{request_table}
@@ -12,11 +15,11 @@ select_all-requires-clause-plain g c = all_requests.means.plain
 
 pub returns-clause-listed : goal.returns-clause-listed
 returns-clause-listed g c d stand clean =
-    rw (every d.requests) at
+    rw (every (requests d)) at
     (reads_in_order request_table all_requests (λ xs. xs.items) (state g.S.Store c.args.conn.now)
     (state g.S.Store c.select_all.new.conn)
     c.select_all.ensures.kept.clean c.select_all.result c.select_all.ensures.read d stand clean
-    by_id id_order_is)
+    by_id (id_order_is [] request_shown_terms []))
 
 pub returns-clause-mismatch : goal.returns-clause-mismatch
 returns-clause-mismatch g c =

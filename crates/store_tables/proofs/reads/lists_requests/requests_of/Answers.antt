@@ -1,9 +1,12 @@
 use Rattle.sqlite.specs.Held.{state}
+use Rattle.std.proofs.Common.{[], ◌∷◌}
+use Rattle.sqlite.specs.declared.types.Value.TheVariants.{Text as Words}
+use Rattle.store_tables.specs.Queries.{filed_test, request_shown_terms}
 use Rattle.store_tables.specs.Orders.{by_id}
 use Rattle.store_tables.proofs.EachQuery.{requests_in}
 use Rattle.store_tables.proofs.EachTable.{request_table}
 use Rattle.store_tables.proofs.RowLemmas.{fails, reads_in_order}
-use Rattle.store_tables.proofs.TestLemmas.{filed_order_is}
+use Rattle.store_tables.proofs.TestLemmas.{id_order_is}
 use Rattle.store_tables.proofs.reads.lists_requests.requests_of.Goals as goal
 
 pub select_all-requires-clause-plain : goal.select_all-requires-clause-plain
@@ -15,7 +18,7 @@ returns-clause-listed g c d stand clean =
     c.args.conn.now) (state g.S.Store c.select_all.new.conn)
     c.select_all.ensures.kept.clean c.select_all.result (rw c.words.ensures.bound at
     c.select_all.ensures.read) d stand clean
-    by_id (filed_order_is c.args.queue.now)
+    by_id (id_order_is filed_test request_shown_terms (Words c.args.queue.now ∷ []))
 
 pub returns-clause-mismatch : goal.returns-clause-mismatch
 returns-clause-mismatch g c =

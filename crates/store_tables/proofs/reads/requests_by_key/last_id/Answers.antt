@@ -1,3 +1,4 @@
+use Rattle.store_tables.specs.Contents.{requests}
 use Rattle.store_tables.specs.Selection.{number_of}
 use Rattle.store_tables.proofs.FoundLemmas.{greatest_read}
 use Rattle.store_tables.proofs.ReadingLemmas.{if_ok, fails_in}
@@ -10,7 +11,7 @@ use Rattle.store_tables.proofs.reads.requests_by_key.last_id.Goals as goal
 pub returns-clause-greatest : goal.returns-clause-greatest
 returns-clause-greatest g c d stand clean =
     if_ok c.read_number.result
-    (λ n. greatest_read number_of d.requests c.in_ok-rows.rows.items n
+    (λ n. greatest_read number_of (requests d) c.in_ok-rows.rows.items n
     (c.in_ok-rows.ensures.shown d stand clean))
     (rw c.as_slice.ensures.value at c.read_number.ensures.ok)
 

@@ -1,0 +1,78 @@
+//! The due moments that tables keep are renewed by the settings that are attached.
+ghost use Rattle.std.specs.Prelude.{◌≡◌, IfErr, IfOk, OnErr};
+ghost use Rattle.store_tables.specs.Calls.{Leaves, OnlyRefuses, WasClean};
+ghost use Rattle.store_core.specs.Seen.{state_of};
+ghost use Rattle.desk_reports.specs.Rows.{QueuesRise};
+ghost use Rattle.service_core.specs.Renewing as renewing;
+ghost use Rattle.service_core.specs.Renewing.{Renews};
+
+use desk_core::{QueueRow, RequestRow, due_of};
+use desk_reports::queue_named;
+use hours_core::Minute;
+use settings_core::Settings;
+use std::alloc::{AllocError, Global};
+use store_core::{Backend, Store, StoreFault};
+
+/// Writes the due moment of each request for which the tables keep another one. On a fault tables
+/// whose rows are values of their types stay as they are.
+pub(crate) fn renew_dues<S: Backend>(
+    alloc: Global,
+    store: &mut Store<S>,
+    settings: &Settings,
+) -> Result<(), StoreFault>
+    ensures renewed { Renews settings.now
+        (state_of S.Store store.old) (state_of S.Store store.new) result }
+    ensures left { OnErr result
+        (Leaves (state_of S.Store store.old) (state_of S.Store store.new)) }
+    ensures honest { WasClean (state_of S.Store store.old) (state_of S.Store store.new) }
+    ensures fault { OnlyRefuses
+        (state_of S.Store store.old) (state_of S.Store store.new) result }
+{
+    let queues = store.queues(alloc)?;
+    let dated = store.dated_requests(alloc)?;
+    match renewals(alloc, settings, queues.as_slice(), dated.as_slice()) {
+        Ok(dues) => store.set_dues(dues.as_slice()),
+        Err(_) => Err(StoreFault::Refused),
+    }
+}
+
+/// The due moments of which these rows have others, by the number of the request.
+fn renewals(
+    alloc: Global,
+    settings: &Settings,
+    queues: &[QueueRow],
+    dated: &[(RequestRow, Option<Minute>)],
+) -> Result<Vec<(u32, Option<Minute>)>, AllocError>
+    ensures { QueuesRise queues.now → IfOk result (λ dues.
+        dues.items ≡ renewing.renewals settings.now queues.now dated.now) }
+{
+    let mut dues = Vec::new(alloc);
+    for (row, kept) in dated {
+        let due = due_by(settings, queues, row);
+        if !is_same_moment(&due, kept) {
+            dues.push((row.id, due))?;
+        }
+    }
+    Ok(dues)
+}
+
+/// When a request is due, of queues in the order of their names.
+fn due_by(settings: &Settings, queues: &[QueueRow], row: &RequestRow) -> Option<Minute>
+    ensures { QueuesRise queues.now
+        → result ≡ renewing.due_by settings.now queues.now row.now }
+{
+    match queue_named(queues, &row.queue) {
+        Some(queue) => due_of(settings, queue, row),
+        None => None,
+    }
+}
+
+fn is_same_moment(one: &Option<Minute>, other: &Option<Minute>) -> bool
+    ensures { result ≡ renewing.is_same_moment one.now other.now }
+{
+    match (one, other) {
+        (None, None) => true,
+        (Some(one), Some(other)) => one == other,
+        _ => false,
+    }
+}

@@ -1,0 +1,144 @@
+-- The rows with some numbers are those that had them, and come off one after another.
+use Rattle.std.proofs.Common.{◌≡◌, ◌∙◌, ◌+◌, ◌++◌, ◌∷◌, [], ℕ, List, None, Option, Some, ap, ap₂}
+use Rattle.std.proofs.Common.{append_assoc, arith, cond, drop, false, filter, inl, inr, map, refl}
+use Rattle.std.proofs.Common.{slice_get, subst, sym, true, Less}
+use Rattle.std.specs.Prelude.{◌==◌}
+use Rattle.std.specs.Ordering.{nat_cmp}
+use Rattle.std.proofs.lemmas.Bool.Decides.{nat_tests}
+use Rattle.std.proofs.lemmas.List.{append-nil, at_drop_all, at_drop_more}
+use Rattle.std.proofs.lemmas.List.Sorted.{IsPermutation-sym}
+use Rattle.std.proofs.lemmas.Option.{get_or_from_slice_get, slice_get_cases, slice_get_within}
+use Rattle.sqlite.specs.State.{State}
+use Rattle.sqlite_rules.specs.Lists.{Has}
+use Rattle.sqlite_rules.proofs.ListLemmas.{all_has, has_filtered}
+use Rattle.sqlite_rules.proofs.ProbeLemmas.{has_mapped, mapped_has}
+use Rattle.sqlite_trees.proofs.ListLemmas.{all_weaker, ascending-filter, filter_none, map-map}
+use Rattle.desk_model.specs.Desk.{Desk}
+use Rattle.desk_model.specs.IsDesk.{IsDesk}
+use Rattle.desk_model.specs.declared.rows.RequestRow.{RequestRow}
+use Rattle.store_tables.specs.Calls.{Spares}
+use Rattle.store_tables.specs.Contents.{request_rows}
+use Rattle.store_tables.specs.Dated.{Dated, dated_by, id_of}
+use Rattle.store_tables.specs.Kept.{itself}
+use Rattle.store_tables.specs.Orders.{by_dated_id, by_due, by_id}
+use Rattle.store_tables.specs.Picked.{AreNumbersOf}
+use Rattle.store_tables.specs.Selection.{has_number, is_due_before, is_filed_in, number_of}
+use Rattle.store_tables.proofs.LastLemmas.{has_permuted}
+use Rattle.store_core.specs.Rows.{AreDueBefore, dated_rows, rows_numbered}
+use Rattle.store_core.proofs.OrderLemmas.{dated_total, the_requests}
+use Rattle.store_core.proofs.RiseLemmas.{dated_rise, requests_rise}
+use Rattle.sorted_lists.proofs.SortedLemmas.{Rises}
+
+-- ---- what is left of the numbers
+
+drop_more : (ns : List ℕ) (at n : ℕ) → slice_get ns at ≡ Some n → drop at ns ≡ n ∷ drop (at + 1) ns
+drop_more ns at n is =
+    at_drop_more (λ (l : List ℕ). l) ns at n (slice_get_within ns at n is)
+    ∙ ap (λ k. k ∷ drop (at + 1) ns) (get_or_from_slice_get ns at n n is)
+
+drop_past : (ns : List ℕ) (at : ℕ) → slice_get ns at ≡ None → drop at ns ≡ []
+drop_past ns at none = elim (slice_get_cases ns at).1 [
+  | inl it ↦ absurd (let both : Some it.0 ≡ None = sym it.2 ∙ none in cc)
+  | inr it ↦ at_drop_all (λ (l : List ℕ). l) ns at it.0
+]
+
+-- one more row is given
+pub one_more : (dated : List Dated) (ns ms : List ℕ) (at n : ℕ) (row : Dated)
+    → slice_get ns at ≡ Some n → filter (has_number n) dated ≡ row ∷ [] → ms ≡ ns
+    → (all given : List Dated) → all ≡ given ++ rows_numbered dated (drop at ns)
+    → all ≡ (given ++ row ∷ []) ++ rows_numbered dated (drop (at + 1) ms)
+one_more dated ns ms at n row is one same all given h =
+    let rest = rows_numbered dated (drop (at + 1) ns) in
+    h ∙ ap (λ ks. given ++ rows_numbered dated ks) (drop_more ns at n is)
+    ∙ ap (λ rows. given ++ (rows ++ rest)) one
+    ∙ sym (append_assoc given (row ∷ []) rest)
+    ∙ ap (λ ks. (given ++ row ∷ []) ++ rows_numbered dated (drop (at + 1) ks)) (sym same)
+
+-- those so far were all
+pub no_more : (dated : List Dated) (ns : List ℕ) (at : ℕ) → slice_get ns at ≡ None
+    → (all given : List Dated) → all ≡ given ++ rows_numbered dated (drop at ns) → all ≡ given
+no_more dated ns at none all given h =
+    h ∙ ap (λ ks. given ++ rows_numbered dated ks) (drop_past ns at none) ∙ append-nil given
+
+-- ---- the rows with the numbers of some rows are those rows
+
+higher : (a b : ℕ) → nat_cmp a b ≡ Less → (b == a) ≡ false
+higher a b low = grind (arith, nat_tests)
+
+lower : (a b : ℕ) → nat_cmp a b ≡ Less → (a == b) ≡ false
+lower a b low = grind (arith, nat_tests)
+
+same_number : (a b : ℕ) → a ≡ b → (b == a) ≡ true
+same_number a b is = grind (arith, nat_tests)
+
+abbrev AllRise : List Dated → Type 0
+AllRise = Rises itself by_dated_id dated_total
+
+-- one row has the number of a row that is there
+one_numbered : (ds : List Dated) → AllRise ds → (x : Dated) → Has ds x
+    → filter (has_number (id_of x)) ds ≡ x ∷ []
+one_numbered [] rise x has = absurd has
+one_numbered (y ∷ ys) rise x (inl same) =
+    let is : id_of x ≡ id_of y = ap id_of same in
+    let rest : filter (has_number (id_of x)) ys ≡ [] =
+    filter_none (has_number (id_of x)) ys
+    (all_weaker (λ z. by_dated_id y z ≡ Less) (λ z. has_number (id_of x) z ≡ false)
+    (λ z low. ap (λ n. id_of z == n) is ∙ higher (id_of y) (id_of z) low) ys rise.0) in
+    let others = filter (has_number (id_of x)) ys in
+    ap (λ b. cond b (y ∷ others) others) (same_number (id_of x) (id_of y) is)
+    ∙ ap₂ (λ z zs. z ∷ zs) (sym same) rest
+one_numbered (y ∷ ys) rise x (inr later) =
+    let others = filter (has_number (id_of x)) ys in
+    let low : by_dated_id y x ≡ Less = all_has (λ z. by_dated_id y z ≡ Less) ys x rise.0 later in
+    ap (λ b. cond b (y ∷ others) others) (lower (id_of y) (id_of x) low)
+    ∙ one_numbered ys rise.1 x later
+
+their_rows : (ds : List Dated) → AllRise ds → (xs : List Dated)
+    → ((x : Dated) → Has xs x → Has ds x) → rows_numbered ds (map id_of xs) ≡ xs
+their_rows ds rise [] there = refl
+their_rows ds rise (x ∷ xs) there =
+    ap₂ (λ z zs. z ++ zs) (one_numbered ds rise x (there x (inl refl)))
+    (their_rows ds rise xs (λ y has. there y (inr has)))
+
+pub queue_ahead : (due : RequestRow → Option ℕ) (desk : Desk) → IsDesk desk → (name : List ℕ)
+    (ns : List ℕ) → AreNumbersOf number_of by_id (filter (is_filed_in name) (request_rows desk)) ns
+    → map (dated_by due) (filter (is_filed_in name) (request_rows desk))
+    ≡ rows_numbered (dated_rows due desk) ns
+queue_ahead due desk is name ns h =
+    let rows = request_rows desk in
+    let filed = filter (is_filed_in name) rows in
+    let ds = dated_rows due desk in
+    let values : h.values ≡ filed = the_requests filed h.values
+    (ascending-filter (λ (a b : RequestRow). by_id a b ≡ Less) (is_filed_in name) rows
+    (requests_rise desk is)) h.ordered in
+    let numbers : ns ≡ map id_of (map (dated_by due) filed) =
+    h.are ∙ ap (map number_of) values ∙ sym (map-map id_of (dated_by due) filed) in
+    sym (ap (rows_numbered ds) numbers
+    ∙ their_rows ds (dated_rise due desk is) (map (dated_by due) filed)
+    (λ x has. let it = has_mapped (dated_by due) filed x has in
+    subst (Has ds) (sym it.2) (mapped_has (dated_by due) rows it.0
+    (has_filtered (is_filed_in name) rows it.0 it.1).0)))
+
+pub overdue_ahead : (due : RequestRow → Option ℕ) (desk : Desk) → IsDesk desk → (at : ℕ)
+    (ns : List ℕ)
+    → AreNumbersOf id_of by_due (filter (is_due_before at) (dated_rows due desk)) ns
+    → (all : List Dated) × AreDueBefore at due desk all
+    × (all ≡ rows_numbered (dated_rows due desk) ns)
+overdue_ahead due desk is at ns h =
+    let ds = dated_rows due desk in
+    let late = filter (is_due_before at) ds in (
+      h.values,
+      h.ordered,
+      sym (ap (rows_numbered ds) h.are
+          ∙ their_rows ds (dated_rise due desk is) h.values
+          (λ x has. (has_filtered (is_due_before at) ds x
+          (has_permuted h.values late x (IsPermutation-sym _ _ h.ordered.same) has)).0)),
+    )
+
+-- ---- a read that does nothing
+
+pub unread : (s : State) → Spares s s
+unread s = record {
+  clean = λ clean. clean;
+  left = λ there clean live. (live, refl, inl refl);
+}

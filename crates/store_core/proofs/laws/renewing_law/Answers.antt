@@ -1,0 +1,5 @@
+use Rattle.store_core.proofs.Renewed.{renewed}
+use Rattle.store_core.proofs.laws.renewing_law.Goals as goal
+
+pub returns : goal.returns
+returns c s at caller command desk is free = renewed s at caller command desk is free

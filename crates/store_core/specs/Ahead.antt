@@ -1,0 +1,75 @@
+-- Rows of requests that a store gives one at a time, by numbers that were read before.
+use Rattle.std.specs.Prelude.{◌≡◌, ◌++◌, ◌∷◌, ℕ, [], Err, List, None, Ok, Option, Result, Some}
+use Rattle.std.specs.Prelude.{drop, unwrap_or}
+use Rattle.sqlite.specs.State.{HasCleanDisk}
+use Rattle.sqlite.specs.Store.{Ghosts}
+use Rattle.desk_model.specs.Desk.{Desk}
+use Rattle.desk_model.specs.IsDesk.{IsDesk}
+use Rattle.desk_model.specs.declared.rows.RequestRow.{RequestRow}
+use Rattle.store_tables.specs.Calls.{Spares}
+use Rattle.store_tables.specs.Contents.{contents_of}
+use Rattle.store_tables.specs.Dated.{Dated}
+use Rattle.store_tables.specs.Mismatches.{MismatchesInNumbers}
+use Rattle.store_tables.specs.Stands.{Stand}
+use Rattle.store_tables.specs.declared.fault.StoreFault.{StoreFault}
+use Rattle.store_core.specs.Rows.{dated_rows, rows_numbered}
+use Rattle.store_core.specs.Seen.{state_of}
+use Rattle.store_core.specs.declared.rows.Progress.{Progress}
+use Rattle.store_core.specs.declared.rows.Progress.TheVariants.{Over, Reading, Spent}
+use Rattle.store_core.specs.declared.rows.RequestRows.{RequestRows}
+use Rattle.store_core.specs.declared.store.Store.{Store}
+
+-- the numbers that a store keeps, by which rows are read
+abbrev pub numbers_ahead : {S : Type 0} (g : Ghosts S) → Store S g → List ℕ
+numbers_ahead g store = unwrap_or store.ahead []
+
+-- the rows of a desk with those numbers, from a place on
+abbrev pub rows_ahead : {S : Type 0} (g : Ghosts S) → Store S g → ℕ → (RequestRow → Option ℕ)
+    → Desk → List Dated
+rows_ahead g store at due desk =
+    rows_numbered (dated_rows due desk) (drop at (numbers_ahead g store))
+
+-- those rows, from the first, are an answer
+abbrev pub HasAhead : {S : Type 0} (g : Ghosts S)
+    → ((RequestRow → Option ℕ) → Desk → List Dated → Type 0)
+    → Store S g → (RequestRow → Option ℕ) → Desk → Type 0
+HasAhead g IsAnswer store due desk =
+    (all : List Dated) × IsAnswer due desk all × (all ≡ rows_ahead g store 0 due desk)
+
+-- of all the rows of an answer these were given, and the others are still to come
+abbrev pub HasGiven : {S : Type 0} (g : Ghosts S) → RequestRows S g → (RequestRow → Option ℕ) → Desk
+    → List Dated → List Dated → Type 0
+HasGiven g rows due desk all given = all ≡ given ++ rows_ahead g rows.store.now rows.at due desk
+
+-- one more row is given, or those so far were all
+abbrev pub GivesNext : {S : Type 0} (g : Ghosts S) → RequestRows S g → RequestRows S g
+    → (RequestRow → Option ℕ) → Desk → Option Dated → Type 0
+GivesNext g old new due desk (Some row) =
+    (all given : List Dated) → HasGiven g old due desk all given
+    → HasGiven g new due desk all (given ++ row ∷ [])
+GivesNext g old new due desk None =
+    (all given : List Dated) → HasGiven g old due desk all given → all ≡ given
+
+-- how far rows are read after a call
+abbrev pub progress_after : {E : Type 0} → Result (Option Dated) E → Progress
+progress_after (Ok (Some row)) = Reading
+progress_after (Ok None) = Over
+progress_after (Err e) = Spent
+
+-- What rows begin with: none is given, those still to come are an answer of whatever desk and due
+-- moments the tables stood for, and the tables are as they were.
+pub record Begins {S : Type 0} (g : Ghosts S)
+    (IsAnswer : (RequestRow → Option ℕ) → Desk → List Dated → Type 0) (old : Store S g)
+    (rows : RequestRows S g) : Type 0 where
+  pub reading : rows.progress ≡ Reading
+  pub kept : Spares (state_of g old) (state_of g rows.store.now)
+  pub none_yet : (desk : Desk) → IsDesk desk → (due : RequestRow → Option ℕ)
+      → Stand (contents_of due desk) (state_of g old) → HasCleanDisk (state_of g rows.store.now)
+      → (all : List Dated) × IsAnswer due desk all × HasGiven g rows due desk all []
+
+-- What a store is left as where no rows begin: the tables are as they were, no fault is of the
+-- version, and a mismatch comes only of a number that is none.
+pub record IsRefused {S X : Type 0} (g : Ghosts S) (old : Store S g) (result : Result X StoreFault)
+    (new : Store S g) : Type 0 where
+  pub kept : Spares (state_of g old) (state_of g new)
+  pub mismatch : MismatchesInNumbers (state_of g old) (state_of g new) result

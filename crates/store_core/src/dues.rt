@@ -1,0 +1,53 @@
+//! Due moments are written, all or none.
+ghost use Rattle.std.specs.Prelude.{◌≡◌, false, IfErr, OnErr};
+ghost use Rattle.sqlite.specs.Held.{state};
+ghost use Rattle.store_tables.specs.Calls.{Leaves, WasClean};
+ghost use Rattle.store_tables.specs.Contents.{Contents};
+ghost use Rattle.store_tables.specs.Stands.{Stand};
+ghost use Rattle.store_tables.specs.declared.fault.StoreFault.{StoreFault};
+ghost use Rattle.store_core.specs.Applying.{DatesDesk, WritesDues};
+ghost use Rattle.store_core.specs.Seen.{state_of};
+
+use crate::store::Store;
+use hours_core::Minute;
+use sqlite::{Alter, Connection};
+use store_tables::StoreFault;
+use store_tables::transaction::finish;
+use store_tables::writes::requests::set_dues;
+
+/// Writes due moments in one transaction: all of them, or none.
+fn write_dues<S: Alter>(
+    conn: &mut Connection<S>,
+    dues: &[(u32, Option<Minute>)],
+) -> Result<(), StoreFault>
+    requires { conn.old.in_transaction ≡ false }
+    ensures idle { conn.new.in_transaction ≡ false }
+    ensures done { WritesDues dues.now (state S.Store conn.old) (state S.Store conn.new) result }
+    ensures undone { (c : Contents) → Stand c (state S.Store conn.old) →
+        OnErr result (Stand c (state S.Store conn.new)) }
+    ensures honest { WasClean (state S.Store conn.old) (state S.Store conn.new) }
+    ensures fault { IfErr result (λ e. e ≡ StoreFault.Refused) }
+{
+    let mut tx = conn.transaction();
+    set_dues(&mut tx, dues)?;
+    finish(tx)
+}
+
+impl<S: Alter> Store<S> {
+    /// Writes the due moments of requests, each by its number, in order and in one transaction. A
+    /// number that no request has is passed over, of a repeated number the last stands, and the
+    /// empty list changes nothing. `Refused` where the store refuses a statement, or the disk or
+    /// memory fails. On a fault tables whose rows are values of their types stay as they are.
+    pub fn set_dues(&mut self, dues: &[(u32, Option<Minute>)]) -> Result<(), StoreFault>
+        ensures done { DatesDesk dues.now
+            (state_of S.Store self.old) (state_of S.Store self.new) result }
+        ensures rows { WritesDues dues.now
+            (state_of S.Store self.old) (state_of S.Store self.new) result }
+        ensures undone { OnErr result
+            (Leaves (state_of S.Store self.old) (state_of S.Store self.new)) }
+        ensures honest { WasClean (state_of S.Store self.old) (state_of S.Store self.new) }
+        ensures fault { IfErr result (λ e. e ≡ StoreFault.Refused) }
+    {
+        write_dues(&mut self.conn, dues)
+    }
+}

@@ -1,0 +1,64 @@
+//! The requests with their due moments, which no other read looks at.
+ghost use Rattle.std.specs.Prelude.{◌≡◌, ◌≢◌, IfErr, false, filter, option_to_list};
+ghost use Rattle.sqlite.specs.Held.{state};
+ghost use Rattle.store_tables.specs.Calls.{Answers, OnlyRefuses, Spares};
+ghost use Rattle.store_tables.specs.Mismatches.{MismatchesInDated};
+ghost use Rattle.store_tables.specs.Orders.{by_dated_id};
+ghost use Rattle.store_tables.specs.Picked.{AreOrdered};
+ghost use Rattle.store_tables.specs.Selection.{has_number};
+ghost use Rattle.store_tables.specs.declared.fault.StoreFault.{StoreFault};
+
+use crate::columns::number;
+use crate::fault::StoreFault;
+use crate::query::{select_all, select_one};
+use desk_model::RequestRow;
+use hours_core::Minute;
+use sqlite::{Alter, Connection};
+use std::alloc::Global;
+
+/// The requests, by number, each with its due moment. `Mismatch` where a row is no request or its
+/// due moment is neither a minute nor absent, `Refused` where the store or memory refuses it.
+pub fn dated_requests<S: Alter>(
+    alloc: Global,
+    conn: &mut Connection<S>,
+) -> Result<Vec<(RequestRow, Option<Minute>)>, StoreFault>
+    requires { conn.old.in_transaction ≡ false }
+    ensures idle { conn.new.in_transaction ≡ false }
+    ensures listed { Answers (λ c xs. AreOrdered by_dated_id c.dated xs.items)
+        (state S.Store conn.old) (state S.Store conn.new) result }
+    ensures mismatch { MismatchesInDated
+        (state S.Store conn.old) (state S.Store conn.new) result }
+    ensures kept { Spares (state S.Store conn.old) (state S.Store conn.new) }
+{
+    select_all(
+        alloc,
+        conn,
+        "SELECT id, queue, subject, status, owner, level, created, opened, turn, since, due FROM \
+        request ORDER BY id",
+        &[],
+    )
+}
+
+/// The request with that number and its due moment, or none. `Mismatch` where its row is no request
+/// or its due moment is neither a minute nor absent, `Refused` where the store or memory refuses
+/// it, or there are two.
+pub fn dated_numbered<S: Alter>(
+    conn: &mut Connection<S>,
+    id: u32,
+) -> Result<Option<(RequestRow, Option<Minute>)>, StoreFault>
+    requires { conn.old.in_transaction ≡ false }
+    ensures idle { conn.new.in_transaction ≡ false }
+    ensures found { Answers (λ c r. option_to_list r ≡ filter (has_number id) c.dated)
+        (state S.Store conn.old) (state S.Store conn.new) result }
+    ensures kept { Spares (state S.Store conn.old) (state S.Store conn.new) }
+    ensures refuses { OnlyRefuses
+        (state S.Store conn.old) (state S.Store conn.new) result }
+    ensures fault { IfErr result (λ e. e ≢ StoreFault.WrongVersion) }
+{
+    select_one(
+        conn,
+        "SELECT id, queue, subject, status, owner, level, created, opened, turn, since, due FROM \
+        request WHERE id = ?1",
+        &[number(id)],
+    )
+}

@@ -1,0 +1,68 @@
+//! The numbers of some requests: those of a queue, and those that are due before a moment.
+ghost use Rattle.std.specs.Prelude.{◌≡◌, false, filter};
+ghost use Rattle.sqlite.specs.Held.{state};
+ghost use Rattle.store_tables.specs.Calls.{Answers, Spares};
+ghost use Rattle.store_tables.specs.Contents.{requests};
+ghost use Rattle.store_tables.specs.Dated.{id_of};
+ghost use Rattle.store_tables.specs.Mismatches.{MismatchesInNumbers};
+ghost use Rattle.store_tables.specs.Orders.{by_due, by_id};
+ghost use Rattle.store_tables.specs.Picked.{AreNumbersOf};
+ghost use Rattle.store_tables.specs.Selection.{is_due_before, is_filed_in, number_of};
+ghost use Rattle.store_tables.specs.declared.fault.StoreFault.{StoreFault};
+
+use crate::columns::{minute, words};
+use crate::fault::StoreFault;
+use crate::query::select_all;
+use hours_core::Minute;
+use sqlite::{Alter, Connection};
+use std::alloc::Global;
+use text_core::Text;
+
+/// The numbers of the requests of a queue, in their order. `Mismatch` where one is no number,
+/// `Refused` where the store or memory refuses it.
+pub fn numbers_in<S: Alter>(
+    alloc: Global,
+    conn: &mut Connection<S>,
+    queue: &Text,
+) -> Result<Vec<u32>, StoreFault>
+    requires { conn.old.in_transaction ≡ false }
+    ensures idle { conn.new.in_transaction ≡ false }
+    ensures listed { Answers (λ c ns.
+        AreNumbersOf number_of by_id (filter (is_filed_in queue.now) (requests c)) ns.items)
+        (state S.Store conn.old) (state S.Store conn.new) result }
+    ensures mismatch { MismatchesInNumbers
+        (state S.Store conn.old) (state S.Store conn.new) result }
+    ensures kept { Spares (state S.Store conn.old) (state S.Store conn.new) }
+{
+    select_all(
+        alloc,
+        conn,
+        "SELECT id FROM request WHERE queue = ?1 ORDER BY id",
+        &[words(queue)],
+    )
+}
+
+/// The numbers of the requests that are due before that moment: by due moment, and by number where
+/// those are the same. `Mismatch` where one is no number, `Refused` where the store or memory
+/// refuses it.
+pub fn numbers_due_before<S: Alter>(
+    alloc: Global,
+    conn: &mut Connection<S>,
+    at: Minute,
+) -> Result<Vec<u32>, StoreFault>
+    requires { conn.old.in_transaction ≡ false }
+    ensures idle { conn.new.in_transaction ≡ false }
+    ensures listed { Answers (λ c ns.
+        AreNumbersOf id_of by_due (filter (is_due_before at) c.dated) ns.items)
+        (state S.Store conn.old) (state S.Store conn.new) result }
+    ensures mismatch { MismatchesInNumbers
+        (state S.Store conn.old) (state S.Store conn.new) result }
+    ensures kept { Spares (state S.Store conn.old) (state S.Store conn.new) }
+{
+    select_all(
+        alloc,
+        conn,
+        "SELECT id FROM request WHERE due < ?1 ORDER BY due, id",
+        &[minute(at)],
+    )
+}
