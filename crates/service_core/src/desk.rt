@@ -1,7 +1,9 @@
 //! The desk over its tables.
 ghost use Rattle.std.specs.Prelude.{◌≡◌};
+ghost use Rattle.store_tables.specs.Calls.{Spares};
+ghost use Rattle.store_core.specs.Limits.{limited};
 ghost use Rattle.store_core.specs.Seen.{connection_of};
-ghost use Rattle.service_core.specs.Seen.{settings_of};
+ghost use Rattle.service_core.specs.Seen.{settings_of, tables_of};
 
 use settings_core::Settings;
 use store_core::{Backend, Store};
@@ -28,5 +30,17 @@ impl<S: Backend> Desk<S> {
         ensures settings { result.1 ≡ settings_of S.Store self }
     {
         (self.store, self.settings)
+    }
+
+    /// Limits the steps of each later statement; a row that it visits is a step. A command that
+    /// would take more is `Unavailable`. None is no limit, and a limit of no step counts as one of
+    /// one step. Takes no memory.
+    pub fn set_step_limit(&mut self, limit: Option<u32>)
+        ensures limited { connection_of S.Store self.new.store
+            ≡ limited limit (connection_of S.Store self.old.store) }
+        ensures kept { Spares (tables_of S.Store self.old) (tables_of S.Store self.new) }
+        ensures same { settings_of S.Store self.new ≡ settings_of S.Store self.old }
+    {
+        self.store.set_step_limit(limit);
     }
 }

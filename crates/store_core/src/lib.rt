@@ -9,6 +9,7 @@ mod dependencies;
 mod dues;
 mod facts;
 pub mod laws;
+mod limits;
 mod lists;
 mod making;
 mod opening;
@@ -17,8 +18,8 @@ mod seen_request;
 mod shown;
 pub mod store;
 
-/// What keeps the tables of a store: memory, or a file.
 pub use rows::RequestRows;
+/// What keeps the tables of a store: memory, or a file.
 pub use sqlite::Alter as Backend;
 pub use store::Store;
 pub use store_tables::StoreFault;

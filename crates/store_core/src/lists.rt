@@ -8,7 +8,7 @@ ghost use Rattle.store_tables.specs.Mismatches.{MismatchesInLinks};
 ghost use Rattle.store_tables.specs.Mismatches.{MismatchesInQueues, MismatchesInRequests};
 ghost use Rattle.store_tables.specs.Mismatches.{MismatchesInWatchers};
 ghost use Rattle.store_tables.specs.Selection.{ends_at, is_filed_in, is_of_person, starts_at};
-ghost use Rattle.store_core.specs.Rows.{TellsDated, dated_rows};
+ghost use Rattle.store_core.specs.Rows.{AreDueBefore, TellsDated, dated_rows};
 ghost use Rattle.store_core.specs.Seen.{state_of};
 
 use crate::Backend;
@@ -75,6 +75,24 @@ impl<S: Backend> Store<S> {
         ensures kept { Spares (state_of S.Store self.old) (state_of S.Store self.new) }
     {
         reads::dated_requests::dated_requests(alloc, &mut self.conn)
+    }
+
+    /// The requests that are due before that moment, each with its due moment: by due moment, and
+    /// by number where those are the same. The due moments are those that the tables keep.
+    /// `Mismatch` where a row is no request, `Refused` where the store or memory refuses it. The
+    /// tables stay as they are.
+    pub fn requests_due_before(
+        &mut self,
+        alloc: Global,
+        at: u32,
+    ) -> Result<Vec<(RequestRow, Option<Minute>)>, StoreFault>
+        ensures listed { TellsDated (λ due desk xs. AreDueBefore at due desk xs.items)
+            (state_of S.Store self.old) (state_of S.Store self.new) result }
+        ensures mismatch { MismatchesInDated
+            (state_of S.Store self.old) (state_of S.Store self.new) result }
+        ensures kept { Spares (state_of S.Store self.old) (state_of S.Store self.new) }
+    {
+        reads::dated_requests::dated_before(alloc, &mut self.conn, at)
     }
 
     /// The links, in the order of source, kind and target. `Mismatch` where a row is no link,

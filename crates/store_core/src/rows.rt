@@ -66,7 +66,7 @@ impl<S: Alter> Store<S> {
     pub fn rows_overdue(
         &mut self,
         alloc: Global,
-        at: Minute,
+        at: u32,
     ) -> Result<RequestRows<'_, S>, StoreFault>
         ensures* refused { sem 𝓛 (RestsIfErr (the_row S.row S.Store) self.entry
             (λ rows. rows.store.ghost_name) result (IsRefused S.Store self.old result)) }
@@ -93,7 +93,7 @@ impl<S: Alter> Store<S> {
     }
 
     /// Reads and keeps the numbers of the requests that are due before that moment, by due moment.
-    fn keep_numbers_due_before(&mut self, alloc: Global, at: Minute) -> Result<(), StoreFault>
+    fn keep_numbers_due_before(&mut self, alloc: Global, at: u32) -> Result<(), StoreFault>
         ensures ahead { TellsDated
             (λ due desk done. HasAhead S.Store (AreDueBefore at) self.new due desk)
             (state_of S.Store self.old) (state_of S.Store self.new) result }

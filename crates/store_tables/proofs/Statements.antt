@@ -9,9 +9,8 @@ use Rattle.store_tables.specs.Queries.{add_version_text, add_version_terms}
 use Rattle.store_tables.specs.Queries.{add_entry_terms, add_entry_text, add_link_text}
 use Rattle.store_tables.specs.Queries.{add_queue_terms, add_queue_text, add_request_terms}
 use Rattle.store_tables.specs.Queries.{add_request_text, add_three_terms, add_watcher_text}
-use Rattle.store_tables.specs.Queries.{entries_text, set_request_terms, set_request_text}
+use Rattle.store_tables.specs.Queries.{set_request_terms, set_request_text}
 use Rattle.store_tables.specs.Queries.{drop_link_text, drop_watcher_text, entries_of_text}
-use Rattle.store_tables.specs.Queries.{entry_order}
 use Rattle.store_tables.specs.Queries.{entry_shown_terms, id_order, last_id_text, last_number_text}
 use Rattle.store_tables.specs.Queries.{last_of, links_from_test, links_from_text, links_text}
 use Rattle.store_tables.specs.Queries.{link_like_text}
@@ -26,8 +25,8 @@ use Rattle.store_tables.specs.Queries.{three_order, three_test, three_shown}
 use Rattle.store_tables.specs.Queries.{filed_test, requests_of_text}
 use Rattle.store_tables.specs.Queries.{person_test, standing_order, watches_of_text}
 use Rattle.store_tables.specs.Queries.{version_query, version_text, watchers_of_text, watchers_text}
-use Rattle.store_tables.specs.Queries.{before_test, dated_numbered_text, dated_shown_terms}
-use Rattle.store_tables.specs.Queries.{dated_text, due_order, last_id_terms, numbers_before_text}
+use Rattle.store_tables.specs.Queries.{before_test, dated_before_text, dated_numbered_text}
+use Rattle.store_tables.specs.Queries.{dated_shown_terms, dated_text, due_order, last_id_terms, numbers_before_text}
 use Rattle.store_tables.specs.Queries.{numbers_in_text, set_due_terms, set_due_text}
 use Rattle.sqlite.specs.Listing.{understood}
 use Rattle.store_tables.proofs.Meaning.{Changes, Selects}
@@ -90,12 +89,6 @@ pub entries_of_is : Selects entries_of_text (reads 8 request_test entry_shown_te
     ∷ codes "body" ∷ [])
 unfolding understood everything
 entries_of_is = record { is = refl; plain = (refl, refl); unlisted = refl }
-
-pub entries_is : Selects entries_text (reads 8 [] entry_shown_terms entry_order)
-    (codes "request" ∷ codes "number" ∷ codes "moment" ∷ codes "actor" ∷ codes "kind" ∷ codes "head"
-    ∷ codes "body" ∷ [])
-unfolding understood everything
-entries_is = record { is = refl; plain = (refl, refl); unlisted = refl }
 
 pub last_id_is : Selects last_id_text (last_of 3 [] (col 1 0))
     (codes "id" ∷ [])
@@ -183,6 +176,11 @@ pub dated_numbered_is : Selects dated_numbered_text (reads 3 numbered_test dated
     dated_names
 unfolding understood everything
 dated_numbered_is = record { is = refl; plain = (refl, refl); unlisted = refl }
+
+pub dated_before_is : Selects dated_before_text (reads 3 before_test dated_shown_terms due_order)
+    dated_names
+unfolding understood everything
+dated_before_is = record { is = refl; plain = (refl, refl); unlisted = refl }
 
 pub numbers_in_is : Selects numbers_in_text (reads 3 filed_test last_id_terms id_order)
     (codes "id" ∷ [])

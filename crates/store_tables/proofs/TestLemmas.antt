@@ -42,7 +42,7 @@ use Rattle.store_tables.specs.Queries.{reads, queue_shown, queue_order, named_te
 use Rattle.store_tables.specs.Queries.{filed_test, request_test, three_test, links_from_test}
 use Rattle.store_tables.specs.Queries.{before_test, due_order, id_order, source_test, target_test}
 use Rattle.store_tables.specs.Queries.{three_shown, role_order, three_order, target_order}
-use Rattle.store_tables.specs.Queries.{entry_shown_terms, number_order, entry_order}
+use Rattle.store_tables.specs.Queries.{entry_shown_terms, number_order}
 use Rattle.store_tables.specs.Queries.{person_test, standing_order}
 
 true_again : (b : Bool) → is_true (from_truth (Some b)) ≡ b
@@ -191,15 +191,6 @@ pub number_order_is : (id : ℕ) (a b : ℤ × Entry)
     ((count_value id ∷ []) ∷ filed entry_columns b ∷ [])) ≡ by_number a.1 b.1
 number_order_is id a b = then-Equal (value_cmp (count_value a.1.number) (count_value b.1.number))
     ∙ order_numbers a.1.number b.1.number
-
-pub entry_order_is : (a b : ℤ × Entry)
-    → output_cmp (reads 8 [] entry_shown_terms entry_order)
-    (output (reads 8 [] entry_shown_terms entry_order) ([] ∷ filed entry_columns a ∷ []))
-    (output (reads 8 [] entry_shown_terms entry_order) ([] ∷ filed entry_columns b ∷ [])) ≡ by_entry
-    a.1 b.1
-entry_order_is a b = ap₂ ordering_then (order_numbers a.1.id b.1.id)
-    (then-Equal (value_cmp (count_value a.1.number) (count_value b.1.number))
-    ∙ order_numbers a.1.number b.1.number)
 
 pub link_order_is : (test : List Term) (params : Row) (a b : ℤ × LinkRow)
     → output_cmp (reads 6 test three_shown three_order)

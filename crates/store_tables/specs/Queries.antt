@@ -253,14 +253,6 @@ actors_text = codes "SELECT actor FROM entry"
 abbrev pub actor_shown : List Term
 actor_shown = col 1 4 ∷ []
 
-abbrev pub entries_text : List ℕ
-entries_text =
-    codes "SELECT request, number, moment, actor, kind, head, body FROM entry ORDER BY request, "
-    ++ codes "number"
-
-abbrev pub entry_order : List Term
-entry_order = col 1 1 ∷ col 1 2 ∷ []
-
 abbrev pub add_entry_text : List ℕ
 add_entry_text =
     codes "INSERT INTO entry (request, number, moment, actor, kind, head, body) VALUES (?1, ?2, "
@@ -315,6 +307,11 @@ abbrev pub dated_numbered_text : List ℕ
 dated_numbered_text =
     codes "SELECT id, queue, subject, status, owner, level, created, opened, turn, since, due "
     ++ codes "FROM request WHERE id = ?1"
+
+abbrev pub dated_before_text : List ℕ
+dated_before_text =
+    codes "SELECT id, queue, subject, status, owner, level, created, opened, turn, since, due "
+    ++ codes "FROM request WHERE due < ?1 ORDER BY due, id"
 
 -- ---- the numbers of some requests
 

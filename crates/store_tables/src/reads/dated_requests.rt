@@ -3,9 +3,9 @@ ghost use Rattle.std.specs.Prelude.{◌≡◌, ◌≢◌, IfErr, false, filter, 
 ghost use Rattle.sqlite.specs.Held.{state};
 ghost use Rattle.store_tables.specs.Calls.{Answers, OnlyRefuses, Spares};
 ghost use Rattle.store_tables.specs.Mismatches.{MismatchesInDated};
-ghost use Rattle.store_tables.specs.Orders.{by_dated_id};
+ghost use Rattle.store_tables.specs.Orders.{by_dated_id, by_due};
 ghost use Rattle.store_tables.specs.Picked.{AreOrdered};
-ghost use Rattle.store_tables.specs.Selection.{has_number};
+ghost use Rattle.store_tables.specs.Selection.{has_number, is_due_before};
 ghost use Rattle.store_tables.specs.declared.fault.StoreFault.{StoreFault};
 
 use crate::columns::number;
@@ -36,6 +36,31 @@ pub fn dated_requests<S: Alter>(
         "SELECT id, queue, subject, status, owner, level, created, opened, turn, since, due FROM \
         request ORDER BY id",
         &[],
+    )
+}
+
+/// The requests that are due before that moment, each with its due moment: by due moment, and by
+/// number where those are the same. `Mismatch` where a row is no request, `Refused` where the store
+/// or memory refuses it.
+pub fn dated_before<S: Alter>(
+    alloc: Global,
+    conn: &mut Connection<S>,
+    at: u32,
+) -> Result<Vec<(RequestRow, Option<Minute>)>, StoreFault>
+    requires { conn.old.in_transaction ≡ false }
+    ensures idle { conn.new.in_transaction ≡ false }
+    ensures listed { Answers (λ c xs. AreOrdered by_due (filter (is_due_before at) c.dated) xs.items)
+        (state S.Store conn.old) (state S.Store conn.new) result }
+    ensures mismatch { MismatchesInDated
+        (state S.Store conn.old) (state S.Store conn.new) result }
+    ensures kept { Spares (state S.Store conn.old) (state S.Store conn.new) }
+{
+    select_all(
+        alloc,
+        conn,
+        "SELECT id, queue, subject, status, owner, level, created, opened, turn, since, due FROM \
+        request WHERE due < ?1 ORDER BY due, id",
+        &[number(at)],
     )
 }
 

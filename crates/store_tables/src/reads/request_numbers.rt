@@ -10,10 +10,9 @@ ghost use Rattle.store_tables.specs.Picked.{AreNumbersOf};
 ghost use Rattle.store_tables.specs.Selection.{is_due_before, is_filed_in, number_of};
 ghost use Rattle.store_tables.specs.declared.fault.StoreFault.{StoreFault};
 
-use crate::columns::{minute, words};
+use crate::columns::{number, words};
 use crate::fault::StoreFault;
 use crate::query::select_all;
-use hours_core::Minute;
 use sqlite::{Alter, Connection};
 use std::alloc::Global;
 use text_core::Text;
@@ -48,7 +47,7 @@ pub fn numbers_in<S: Alter>(
 pub fn numbers_due_before<S: Alter>(
     alloc: Global,
     conn: &mut Connection<S>,
-    at: Minute,
+    at: u32,
 ) -> Result<Vec<u32>, StoreFault>
     requires { conn.old.in_transaction ≡ false }
     ensures idle { conn.new.in_transaction ≡ false }
@@ -63,6 +62,6 @@ pub fn numbers_due_before<S: Alter>(
         alloc,
         conn,
         "SELECT id FROM request WHERE due < ?1 ORDER BY due, id",
-        &[minute(at)],
+        &[number(at)],
     )
 }

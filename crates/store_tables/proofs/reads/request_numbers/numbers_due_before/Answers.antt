@@ -16,7 +16,7 @@ pub returns-clause-listed : goal.returns-clause-listed
 returns-clause-listed g c d stand clean =
     numbers_in_order dated_table (numbers_before c.args.at) (λ ns. ns.items) (state g.S.Store
     c.args.conn.now) (state g.S.Store c.select_all.new.conn)
-    c.select_all.ensures.kept.clean c.select_all.result (rw c.minute.ensures.bound at
+    c.select_all.ensures.kept.clean c.select_all.result (rw c.number.ensures.bound at
     c.select_all.ensures.read) d stand clean
     by_due (due_order_is before_test last_id_terms (count_value c.args.at ∷ []))
 
@@ -24,5 +24,5 @@ pub returns-clause-mismatch : goal.returns-clause-mismatch
 returns-clause-mismatch g c =
     numbers_fail dated_table (numbers_before c.args.at) (λ ns. ns.items) (state g.S.Store
     c.args.conn.now) (state g.S.Store c.select_all.new.conn)
-    c.select_all.ensures.kept.clean c.select_all.result (rw c.minute.ensures.bound at
+    c.select_all.ensures.kept.clean c.select_all.result (rw c.number.ensures.bound at
     c.select_all.ensures.read)
