@@ -16,8 +16,7 @@ use Rattle.desk_texts.specs.Short.{is_short}
 use Rattle.desk_texts.specs.Texts.{outcome_text}
 use Rattle.service_core.specs.TableSteps.{LeadsOn, StepsOn, ask_by}
 use Rattle.store_tables.specs.Calls.{WasClean}
-use Rattle.store_tables.specs.Contents.{contents_of}
-use Rattle.store_tables.specs.Stands.{StandsFor}
+use Rattle.store_core.specs.Due.{StandsDue}
 use Rattle.desk_program.specs.FaultLines.{unavailable_text}
 use Rattle.desk_program.specs.One.{IsDone, IsGivenOutput, TakesStep, status_of}
 use Rattle.desk_program.specs.Opening.{IsOpened, IsOpeningFault}
@@ -30,7 +29,7 @@ pub stepped : (s : Settings) (at : ℕ) (caller : List ℕ) (command : Command) 
     → LeadsOn s (TakesStep s (ask_by at caller command) text status) old new
 stepped s at caller command outcome old new text status told ends steps desk formed stands clean =
     let done = steps desk formed stands clean in
-    (done.0, (outcome, done.1.step, told, ends, done.1.formed), done.2)
+    (done.0, (inl (outcome, done.1.step, told, ends), done.1.formed), done.2)
 
 -- a command that was done, and for whose text there was no memory
 pub unavailable_if_long : (s : Settings) (at : ℕ) (caller : List ℕ) (command : Command)
@@ -40,24 +39,24 @@ pub unavailable_if_long : (s : Settings) (at : ℕ) (caller : List ℕ) (command
 unavailable_if_long s at caller command outcome old new long steps desk formed stands clean =
     let done = steps desk formed stands clean in
     let same = unchanged_if_long s at caller command desk done.0 outcome long done.1.step in
-    (done.0, (Err Unavailable, inl (refl, same), refl, refl, done.1.formed), done.2)
+    (done.0, (inl (Err Unavailable, inl (refl, same), refl, refl), done.1.formed), done.2)
 
 -- a command for which there was no room
 pub not_stepped : (s : Settings) (ask : Ask) (tables : State)
     → LeadsOn s (TakesStep s ask unavailable_text 1) tables tables
 not_stepped s ask tables desk formed stands clean =
-    (desk, (Err Unavailable, inl (refl, refl), refl, refl, formed), stands)
+    (desk, (inl (Err Unavailable, inl (refl, refl), refl, refl), formed), stands)
 
 -- the tables were opened, and the command was done
 pub done_once_opened : (s : Settings) (text : List ℕ) (ask : Ask) (old mid new : State)
     (line : List ℕ) (status : ℕ) → IsOpened text old s mid → WasClean mid new
     → LeadsOn s (TakesStep s ask line status) mid new → IsDone s ask old new line status
 done_once_opened s text ask old mid new line status is honest leads desk formed (inl stand) clean =
-    let led = leads desk formed (is.kept (contents_of desk) stand) clean in
+    let led = leads desk formed (is.renewed desk formed stand) clean in
     (led.0, is.known desk formed stand (honest clean), led.1, led.2)
 done_once_opened s text ask old mid new line status is honest leads desk formed (inr none) clean =
-    let begins : StandsFor desk mid =
-    subst (λ (d : Desk). StandsFor d mid) (sym none.1) (is.made none.0) in
+    let begins : StandsDue s desk mid =
+    subst (λ (d : Desk). StandsDue s d mid) (sym none.1) (is.made none.0) in
     let led = leads desk formed begins clean in (
       led.0,
       subst (λ (d : Desk). is_known s d ≡ true) (sym none.1) (knows_empty s),

@@ -1,19 +1,22 @@
 -- One command on the tables of a store.
-use Rattle.std.specs.Prelude.{◌≡◌, ◌⊎◌, ℕ, Bool, true, List, Option, Some, None, Result, Ok, Err}
+use Rattle.std.specs.Prelude.{◌≡◌, ◌⊎◌, ◌++◌, ℕ, Bool, true, List, Option, Some, None, Result}
+use Rattle.std.specs.Prelude.{Ok, Err}
 use Rattle.std.specs.Prelude.{if◌then◌else◌}
 use Rattle.sqlite.specs.Held.{Held, state}
 use Rattle.sqlite.specs.State.{State, HasCleanDisk}
 use Rattle.sqlite.specs.Store.{Ghosts}
 use Rattle.settings_core.specs.declared.fault.SettingsFault.{SettingsFault}
 use Rattle.settings_core.specs.declared.settings.Settings.{Settings}
+use Rattle.desk_model.specs.declared.answer.Answer.{Answer}
 use Rattle.desk_model.specs.declared.command.Command.{Command}
 use Rattle.desk_model.specs.Desk.{Desk, empty_desk}
 use Rattle.desk_model.specs.IsDesk.{IsDesk}
 use Rattle.desk_model.specs.Known.{is_known}
 use Rattle.desk_model.specs.Step.{Ask, Outcome, Steps}
-use Rattle.desk_texts.specs.Texts.{outcome_text}
+use Rattle.desk_texts.specs.Texts.{answer_text, outcome_text}
 use Rattle.desk_words.specs.Spelling.{command_of}
 use Rattle.service_core.specs.TableSteps.{ask_by}
+use Rattle.store_core.specs.Due.{StandsDue}
 use Rattle.store_tables.specs.Making.{IsBlank}
 use Rattle.store_tables.specs.Stands.{StandsFor}
 use Rattle.stream_core.specs.Written.{IsWritten}
@@ -40,11 +43,25 @@ abbrev pub status_of : Outcome → ℕ
 status_of (Ok answer) = 0
 status_of (Err refusal) = 1
 
--- one step to a well-formed desk, the text of its outcome and the status
+-- what comes of a command, its text and the status
+abbrev pub TellsStep : Settings → Ask → List ℕ → ℕ → Desk → Desk → Type 0
+TellsStep settings ask line status old new =
+    (outcome : Outcome) × Steps settings ask.at ask.caller ask.command old outcome new
+    × (line ≡ outcome_text outcome) × (status ≡ status_of outcome)
+
+-- A list was cut where memory or the store refused: a part from the front of the answer's text, the
+-- line that says so, and the status of a refusal. The desk stays.
+abbrev pub IsCutShort : Settings → Ask → List ℕ → ℕ → Desk → Desk → Type 0
+IsCutShort settings ask line status old new =
+    (answer : Answer) × Steps settings ask.at ask.caller ask.command old (Ok answer) old
+    × (part : List ℕ) × (rest : List ℕ) × (answer_text answer ≡ part ++ rest)
+    × (line ≡ part ++ unavailable_text) × (status ≡ 1) × (new ≡ old)
+
+-- one step to a well-formed desk, and what is printed of it
 abbrev pub TakesStep : Settings → Ask → List ℕ → ℕ → Desk → Desk → Type 0
 TakesStep settings ask line status old new =
-    (outcome : Outcome) × Steps settings ask.at ask.caller ask.command old outcome new
-    × (line ≡ outcome_text outcome) × (status ≡ status_of outcome) × IsDesk new
+    (TellsStep settings ask line status old new ⊎ IsCutShort settings ask line status old new)
+    × IsDesk new
 
 -- the desk with which the tables begin: the one that they stand for, or the empty one where there
 -- is no table at all
@@ -52,12 +69,12 @@ abbrev pub BeginsWith : Desk → State → Type 0
 BeginsWith desk tables = StandsFor desk tables ⊎ (IsBlank tables × (desk ≡ empty_desk))
 
 -- The command was done: whatever desk the tables begin with, the settings know its names, and the
--- tables stand afterwards for the desk to which one step leads.
+-- tables stand afterwards for the desk to which one step leads, with its due moments.
 abbrev pub IsDone : Settings → Ask → State → State → List ℕ → ℕ → Type 0
 IsDone settings ask old new line status =
     (desk : Desk) → IsDesk desk → BeginsWith desk old → HasCleanDisk new
     → (after : Desk) × (is_known settings desk ≡ true)
-    × TakesStep settings ask line status desk after × StandsFor after new
+    × TakesStep settings ask line status desk after × StandsDue settings after new
 
 -- ---- what is printed, and the status
 
