@@ -8,7 +8,7 @@ use Rattle.desk_model.specs.IsDesk.{IsDesk}
 use Rattle.desk_model.specs.Step.{Ask, answer_of, guard}
 use Rattle.desk_model.specs.declared.refusal.Refusal.{Refusal}
 use Rattle.desk_model.specs.declared.refusal.Refusal.TheVariants.{Unavailable}
-use Rattle.desk_lists.specs.Streams.{IsCutBy, WritesText}
+use Rattle.desk_lists.specs.Streams.{IsCutBy, IsPrintedOf}
 use Rattle.desk_lists.specs.declared.fault.StreamFault.{StreamFault}
 use Rattle.desk_lists.specs.declared.fault.StreamFault.TheVariants.{Refused, Write}
 use Rattle.desk_texts.specs.Texts.{answer_text}
@@ -33,38 +33,40 @@ prints_none contents output = record {
   counted = omega arith;
 }
 
-module _ (s : Settings) (ask : Ask) (desk : Desk) (is : IsDesk desk) where
-  -- a command that is refused
-  pub refused_stream : {W : Type 0} (contents : W → Option (List ℕ)) (output : CountedWriter W)
-      (refusal : Refusal)
-      → (refusal ≢ Unavailable → guard s ask.at ask.caller ask.command desk ≡ Some refusal)
-      → IsStreamed s ask desk (Err (Refused refusal)) (Prints contents output output)
-  refused_stream contents output refusal refuses =
-      inl (refused_step s ask desk refusal is refuses, prints_none contents output)
+-- a list that is written
+pub listed_stream : (s : Settings) (ask : Ask) (desk : Desk) → IsDesk desk
+    → (failed : Bool) (printed : List ℕ) (result : Result ⊤ StreamFault) → IsReading ask.command
+    → guard s ask.at ask.caller ask.command desk ≡ None → IsCutBy result failed
+    → IsPrintedOf (answer_text (answer_of s ask.at ask.caller ask.command desk)) printed result
+    → IsStreamed s ask desk result printed
+listed_stream s ask desk is failed printed (Ok done) reads free cut is_text =
+    (_, reading_step s ask desk _ is reads free refl, is_text)
+listed_stream s ask desk is failed printed (Err Write) reads free cut is_text =
+    (_, reading_step s ask desk _ is reads free refl, is_text)
+listed_stream s ask desk is failed printed (Err (Refused refusal)) reads free cut is_text =
+    inr (cut.1, (_, reading_step s ask desk _ is reads free refl, is_text))
 
-  -- a list that is written
-  pub listed_stream : {W : Type 0} (contents : W → Option (List ℕ)) (old new : CountedWriter W)
-      (result : Result ⊤ StreamFault) → IsReading ask.command
-      → guard s ask.at ask.caller ask.command desk ≡ None
-      → IsCutBy result (has_write_failed new)
-      → WritesText contents old new
-      (answer_text (answer_of s ask.at ask.caller ask.command desk)) result
-      → IsStreamed s ask desk result (Prints contents old new)
-  listed_stream contents old new (Ok done) reads free cut wrote =
-      (_, reading_step s ask desk _ is reads free refl, wrote)
-  listed_stream contents old new (Err Write) reads free cut wrote =
-      (_, reading_step s ask desk _ is reads free refl, wrote)
-  listed_stream contents old new (Err (Refused refusal)) reads free cut wrote =
-      inr (cut.1, (_, reading_step s ask desk _ is reads free refl, wrote))
+-- a command that is refused
+pub refused_stream : (s : Settings) (ask : Ask) (desk : Desk) → IsDesk desk → (refusal : Refusal)
+    → (refusal ≢ Unavailable → guard s ask.at ask.caller ask.command desk ≡ Some refusal)
+    → IsStreamed s ask desk (Err (Refused refusal)) []
+refused_stream s ask desk is refusal refuses =
+    inl (refused_step s ask desk refusal is refuses, refl)
 
 -- ---- over a writer that counts from then on
 
-module _ {W : Type 0} (contents : W → Option (List ℕ)) (old new : CountedWriter W)
-    (fresh : has_write_failed old ≡ false) where
-  written_by : (failed : Bool) (text : List ℕ) → has_write_failed new ≡ failed
-      → Prints contents old new text
-      → IsWritten failed (held_in contents old) (held_in contents new) text
-  written_by failed text is printed =
-      subst (λ b. IsWritten b (held_in contents old) (held_in contents new) text) is
-      (subst (λ b. WritesOn b (has_write_failed new) (held_in contents old)
-      (held_in contents new) text) fresh printed.written)
+is_cut_by : (result : Result ⊤ StreamFault) (failed : Bool) → IsCutBy result failed
+    → failed ≡ is_write result
+is_cut_by (Ok done) failed cut = cut
+is_cut_by (Err Write) failed cut = cut
+is_cut_by (Err (Refused refusal)) failed cut = cut.0
+
+pub written_by : {W : Type 0} (contents : W → Option (List ℕ)) (old new : CountedWriter W)
+    (result : Result ⊤ StreamFault) (text : List ℕ) → has_write_failed old ≡ false
+    → IsCutBy result (has_write_failed new) → Prints contents old new text
+    → IsWritten (is_write result) (held_in contents old) (held_in contents new) text
+written_by contents old new result text fresh cut printed =
+    subst (λ b. IsWritten b (held_in contents old) (held_in contents new) text)
+    (is_cut_by result (has_write_failed new) cut)
+    (subst (λ b. WritesOn b (has_write_failed new) (held_in contents old)
+    (held_in contents new) text) fresh printed.written)

@@ -15,32 +15,33 @@ use Rattle.desk_texts.specs.Texts.{answer_text}
 use Rattle.store_core.specs.Due.{StandsDue}
 use Rattle.service_core.specs.TableSteps.{IsStep}
 
--- the command was answered, the desk stays, and the text of the answer was printed
+-- the command was answered, the desk stays, and the text of the answer is so
 abbrev pub IsAnswered : Settings → Ask → Desk → (List ℕ → Type 0) → Type 0
-IsAnswered settings ask desk Printed =
-    (answer : Answer) × IsStep settings ask desk (Ok answer) desk × Printed (answer_text answer)
+IsAnswered settings ask desk IsText =
+    (answer : Answer) × IsStep settings ask desk (Ok answer) desk × IsText (answer_text answer)
 
--- it was answered, and only a part from the front of the text was printed
-abbrev pub IsCut : Settings → Ask → Desk → (List ℕ → Type 0) → Type 0
-IsCut settings ask desk Printed =
-    (answer : Answer) × IsStep settings ask desk (Ok answer) desk
-    × (part : List ℕ) × (rest : List ℕ) × (answer_text answer ≡ part ++ rest) × Printed part
+-- a part from the front of a text
+abbrev pub IsBeginningOf : List ℕ → List ℕ → Type 0
+IsBeginningOf part text = (rest : List ℕ) × (text ≡ part ++ rest)
 
--- What came of a stream. Where a write failed, it failed in the answer's text. Where the command
--- was refused, nothing was printed, or a part of the answer before memory or the store refused.
-abbrev pub IsStreamed : Settings → Ask → Desk → Result ⊤ StreamFault → (List ℕ → Type 0) → Type 0
-IsStreamed settings ask desk (Ok done) Printed = IsAnswered settings ask desk Printed
-IsStreamed settings ask desk (Err Write) Printed = IsAnswered settings ask desk Printed
-IsStreamed settings ask desk (Err (Refused refusal)) Printed =
-    (IsStep settings ask desk (Err refusal) desk × Printed [])
-    ⊎ ((refusal ≡ Unavailable) × IsCut settings ask desk Printed)
+-- What came of a stream that printed this: the text of the answer; or a part from its front, where
+-- a write failed, or memory or the store refused; or nothing, where the command was refused.
+abbrev pub IsStreamed : Settings → Ask → Desk → Result ⊤ StreamFault → List ℕ → Type 0
+IsStreamed settings ask desk (Ok done) printed =
+    IsAnswered settings ask desk (λ text. printed ≡ text)
+IsStreamed settings ask desk (Err Write) printed =
+    IsAnswered settings ask desk (IsBeginningOf printed)
+IsStreamed settings ask desk (Err (Refused refusal)) printed =
+    (IsStep settings ask desk (Err refusal) desk × (printed ≡ []))
+    ⊎ ((refusal ≡ Unavailable) × IsAnswered settings ask desk (IsBeginningOf printed))
 
--- of whatever desk the tables stand for
+-- something was printed, and so it is of whatever desk the tables stand for
 abbrev pub StreamsOn : Settings → Ask → State → State → Result ⊤ StreamFault → (List ℕ → Type 0)
     → Type 0
 StreamsOn settings ask old new result Printed =
-    (desk : Desk) → IsDesk desk → StandsDue settings desk old → HasCleanDisk new
-    → IsStreamed settings ask desk result Printed
+    (printed : List ℕ) × Printed printed
+    × ((desk : Desk) → IsDesk desk → StandsDue settings desk old → HasCleanDisk new
+    → IsStreamed settings ask desk result printed)
 
 -- whether a write failed
 abbrev pub is_write : Result ⊤ StreamFault → Bool
@@ -64,10 +65,11 @@ Admits settings ask result old new =
     (desk : Desk) → IsDesk desk → StandsDue settings desk old → HasCleanDisk new
     → IsAdmitted settings ask desk result
 
--- what comes of a stream, of whatever desk the tables stand for on which the command isn't refused
+-- the same of whatever desk they stand for on which the command isn't refused
 abbrev pub StreamsAdmitted : Settings → Ask → State → State → Result ⊤ StreamFault
     → (List ℕ → Type 0) → Type 0
 StreamsAdmitted settings ask old new result Printed =
-    (desk : Desk) → IsDesk desk → guard settings ask.at ask.caller ask.command desk ≡ None
+    (printed : List ℕ) × Printed printed
+    × ((desk : Desk) → IsDesk desk → guard settings ask.at ask.caller ask.command desk ≡ None
     → StandsDue settings desk old → HasCleanDisk new
-    → IsStreamed settings ask desk result Printed
+    → IsStreamed settings ask desk result printed)
