@@ -67,7 +67,15 @@ impl<S: Backend> Desk<S> {
         ensures kept { Spares (tables_of S.Store self.old) (tables_of S.Store self.new) }
         ensures same { settings_of S.Store self.new ≡ settings_of S.Store self.old }
     {
-        stream_from(alloc, &mut self.store, &self.settings, at, caller, command, output)
+        stream_from(
+            alloc,
+            &mut self.store,
+            &self.settings,
+            at,
+            caller,
+            command,
+            output,
+        )
     }
 }
 
