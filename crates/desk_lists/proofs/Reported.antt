@@ -153,7 +153,7 @@ shows_alike s person desk is =
 
 -- ---- the rows
 
-abbrev Alike : Settings → List ℕ → List Watcher → List Request → Type 0
+abbrev pub Alike : Settings → List ℕ → List Watcher → List Request → Type 0
 Alike s person watches rs =
     AllByRecursion (λ r. may_show_by s person r.row watches ≡ may_show s person (seen_request r)) rs
 
@@ -189,30 +189,6 @@ rows_told s person desk is =
     ap (map (told_among s desk.queues))
     (kept_rows s person (watches_on desk person) desk.requests (shows_alike s person desk is))
     ∙ map_rows s desk (filter (λ r. may_show s person (seen_request r)) desk.requests)
-
-lines_made : (at : ℕ) (s : Settings) (queues : List QueueRow) (rows : List RequestRow)
-    → late_lines_by at s queues rows ≡ filter_map (late_line at) (map (told_among s queues) rows)
-lines_made at s queues [] = refl
-lines_made at s queues (row ∷ rows) =
-    ap (cons_option (late_line at (told_among s queues row))) (lines_made at s queues rows)
-
-pub late_told : (at : ℕ) (s : Settings) (person : List ℕ) (desk : Desk) → IsDesk desk
-    → late_lines_by at s desk.queues
-    (shown_by s person (watches_on desk person) (request_rows desk))
-    ≡ filter_map (late_line at) (told s person desk)
-late_told at s person desk is =
-    lines_made at s desk.queues (shown_by s person (watches_on desk person) (request_rows desk))
-    ∙ ap (filter_map (late_line at)) (rows_told s person desk is)
-
--- the rows that are shown are in the order of their numbers
-pub shown_rise : (s : Settings) (person : List ℕ) (desk : Desk) → IsDesk desk
-    → NumbersRise (shown_by s person (watches_on desk person) (request_rows desk))
-shown_rise s person desk is =
-    filtered_rises (by (λ (row : RequestRow). row.id))
-    (λ row. may_show_by s person row (watches_on desk person)) (request_rows desk)
-    (numbers_go_on (λ (row : RequestRow). row.id))
-    (mapped_rises (by (λ (row : RequestRow). row.id)) (λ (r : Request). r.row) desk.requests
-    ∙ numbered_rise (λ (r : Request). r.row.id) 1 desk.requests is.requests)
 
 -- ---- the list of a queue
 
@@ -335,34 +311,12 @@ list_of s person queue desk is watches at rows lines same_watches same_queue sam
     same_rows
     ∙ list_told s person queue desk is
 
--- the lists that the late requests and the workload are told of
+-- the lists that the workload is told of
 pub record AreOf (desk : Desk) (person : List ℕ) (watches : List Watcher) (queues : List QueueRow)
     (rows : List RequestRow) : Type 0 where
   pub own : watches ≡ watches_on desk person
   pub all_queues : queues ≡ desk.queues
   pub all_rows : rows ≡ request_rows desk
-
-pub late_of : (at : ℕ) (s : Settings) (person : List ℕ) (desk : Desk) → IsDesk desk
-    → (watches : List Watcher) (queues : List QueueRow) (rows : List RequestRow)
-    (lines : List LateLine) → AreOf desk person watches queues rows
-    → (WatchesRise watches → QueuesRise queues → NumbersRise (shown_by s person watches rows)
-    → lines ≡ in_due_order (late_lines_by at s queues (shown_by s person watches rows)))
-    → lines ≡ in_due_order (filter_map (late_line at) (told s person desk))
-late_of at s person desk is watches queues rows lines same made =
-    let W = watches_on desk person in
-    let one = subst (λ (ws : List Watcher). WatchesRise ws → QueuesRise queues
-    → NumbersRise (shown_by s person ws rows)
-    → lines ≡ in_due_order (late_lines_by at s queues (shown_by s person ws rows)))
-    same.own made in
-    let two = subst (λ (qs : List QueueRow). WatchesRise W → QueuesRise qs
-    → NumbersRise (shown_by s person W rows)
-    → lines ≡ in_due_order (late_lines_by at s qs (shown_by s person W rows))) same.all_queues one in
-    let three = subst (λ (rs : List RequestRow). WatchesRise W → QueuesRise desk.queues
-    → NumbersRise (shown_by s person W rs)
-    → lines ≡ in_due_order (late_lines_by at s desk.queues (shown_by s person W rs))) same.all_rows two
-    in
-    three (watches_in_order person desk is) is.queues (shown_rise s person desk is)
-    ∙ ap in_due_order (late_told at s person desk is)
 
 pub loads_of : (at : ℕ) (s : Settings) (person : List ℕ) (desk : Desk) → IsDesk desk
     → (watches : List Watcher) (queues : List QueueRow) (rows : List RequestRow)
