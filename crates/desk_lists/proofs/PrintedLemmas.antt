@@ -1,6 +1,7 @@
 -- What was printed of texts, one after another.
 use Rattle.std.proofs.Common.{◌≡◌, ◌∙◌, ℕ, Bool, true, false, List, [], ◌∷◌, ◌++◌, flat_map, Option}
-use Rattle.std.proofs.Common.{⊤, Err, Ok, Result, ap, ap₂, append_assoc, append-nil, arith, refl, sym}
+use Rattle.std.proofs.Common.{Err, Ok, Result, ap, ap₂, append_assoc, append-nil, arith, refl, sym}
+use Rattle.std.specs.Prelude.{⊤}
 use Rattle.std.proofs.lemmas.List.Concat.{flat_map-append}
 use Rattle.stream_core.specs.Seen.{has_write_failed, held_in}
 use Rattle.stream_core.specs.Written.{Prints, WritesOn}
@@ -30,6 +31,12 @@ pub printed_both : (x y p q : List ℕ) (result : Result ⊤ StreamFault) → p 
 printed_both x y p q (Ok done) first second = ap₂ (λ (a b : List ℕ). a ++ b) first second
 printed_both x y p q (Err fault) first (rest, is) =
     (rest, ap₂ (λ (a b : List ℕ). a ++ b) (sym first) is ∙ sym (append_assoc p q rest))
+
+-- a text that was written by one call
+pub printed_whole : (x p : List ℕ) (result : Result ⊤ StreamFault) → p ≡ x
+    → IsPrintedOf x p result
+printed_whole x p (Ok done) is = is
+printed_whole x p (Err fault) is = ([], sym is ∙ sym (append-nil p))
 
 -- the first was cut short
 pub printed_first : (x y p : List ℕ) (fault : StreamFault) → IsPrintedOf x p (Err fault)

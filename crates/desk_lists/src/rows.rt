@@ -9,7 +9,7 @@ ghost use Rattle.desk_lists.specs.Rows.{IsReading, PrintsNext, PrintsRows, Print
 ghost use Rattle.desk_lists.specs.Rows.{ReadOneStore, store_of};
 ghost use Rattle.desk_lists.specs.Streams.{IsCutBy, IsPrintedOf};
 
-use crate::fault::StreamFault;
+use crate::fault::{StreamFault, unavailable};
 use crate::lines::{ListKind, header, row_text};
 use desk_core::{Refusal, RequestRow, Watcher};
 use hours_core::Minute;
@@ -97,12 +97,13 @@ fn put_next<S: Backend, W: Write>(
     ensures kept { Spares (state_of S.Store (store_of S.Store rows.old))
         (state_of S.Store (store_of S.Store rows.new)) }
 {
-    match rows.next()? {
-        Some(dated) => {
+    match rows.next() {
+        Ok(Some(dated)) => {
             put_row(alloc, kind, settings, person, watches, dated, output)?;
             Ok(true)
         }
-        None => Ok(false),
+        Ok(None) => Ok(false),
+        Err(fault) => Err(StreamFault::Refused(unavailable(fault))),
     }
 }
 
