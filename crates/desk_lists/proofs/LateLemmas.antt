@@ -142,8 +142,9 @@ module _ (at : ℕ) (s : Settings) (person : List ℕ) (watches : List Watcher) 
 
   line_of : (dated : Dated) → IfSome (shown dated) (IsLineOf dated)
   line_of (row, None) =
+      let none : Option LateLine = None in
       elim (may_show_by s person row watches)
-      as (λ b. IfSome {T = LateLine} (cond b None None) (IsLineOf (row, None))) [
+      as (λ b. IfSome (cond b none none) (IsLineOf (row, None))) [
         | true ↦ tt
         | false ↦ tt
       ]
@@ -156,8 +157,8 @@ module _ (at : ℕ) (s : Settings) (person : List ℕ) (watches : List Watcher) 
 
   no_line : (dated : Dated) → is_due_before at dated ≡ false → shown dated ≡ None
   no_line (row, None) early =
-      elim (may_show_by s person row watches)
-      as (λ b. cond b None None ≡ None {T = LateLine}) [
+      let none : Option LateLine = None in
+      elim (may_show_by s person row watches) as (λ b. cond b none none ≡ none) [
         | true ↦ refl
         | false ↦ refl
       ]

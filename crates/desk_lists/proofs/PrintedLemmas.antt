@@ -73,6 +73,13 @@ module _ {X : Type 0} (text : X → List ℕ) where
   rows_cut all given later is =
       ap (flat_map text) is ∙ flat_map-append text given later
 
+  -- rows were printed, and of the others this
+  pub cut_after : (all given : List X) (p q rest : List ℕ) → p ≡ flat_map text given
+      → flat_map text all ≡ flat_map text given ++ (q ++ rest)
+      → flat_map text all ≡ (p ++ q) ++ rest
+  cut_after all given p q rest first is =
+      is ∙ ap (λ (t : List ℕ). t ++ (q ++ rest)) (sym first) ∙ sym (append_assoc p q rest)
+
   -- no row is left
   pub rows_whole : (all given : List X) (p q : List ℕ) → all ≡ given → p ≡ flat_map text given
       → q ≡ [] → p ++ q ≡ flat_map text all

@@ -3,8 +3,7 @@ use Rattle.std.proofs.Common.{◌≡◌, ◌∙◌, ℕ, ◌+◌, ◌≤◌, ◌
 use Rattle.std.proofs.Common.{◌||◌, cond, List, [], ◌∷◌, filter, find, flat_map, map}
 use Rattle.std.proofs.Common.{Option, Some, inl, inr, refl, ap, ap₂, sym, subst, arith}
 use Rattle.std.proofs.Common.{rules, ◌⊎◌}
-use Rattle.std.specs.Prelude.{filter_map}
-use Rattle.std.specs.List.{AllByRecursion, cons_option, list_any}
+use Rattle.std.specs.List.{AllByRecursion, list_any}
 use Rattle.std.specs.List.Sorted.{IsNonDecreasingBy}
 use Rattle.std.specs.Ordering.{nat_cmp, ordering_then}
 use Rattle.std.specs.Cmp.{nat_cmp_is}
@@ -25,12 +24,10 @@ use Rattle.desk_model.specs.Desk.{Desk, Request, queue_at}
 use Rattle.desk_model.specs.Facts.{seen_request}
 use Rattle.desk_model.specs.IsDesk.{IsDesk, are_numbered}
 use Rattle.desk_model.specs.Readings.Listing as listing
-use Rattle.desk_model.specs.Readings.Overdue.{in_due_order, late_line}
 use Rattle.desk_model.specs.Readings.Workload.{loads}
 use Rattle.desk_model.specs.Rights.{may_show}
 use Rattle.desk_model.specs.Told.{Told, told, told_in, told_on}
 use Rattle.desk_model.specs.Watchers.{is_role, may_show_by, watchers_of}
-use Rattle.desk_model.specs.declared.answer.LateLine.{LateLine}
 use Rattle.desk_model.specs.declared.answer.Line.{Line}
 use Rattle.desk_model.specs.declared.answer.Load.{Load}
 use Rattle.desk_model.specs.declared.rows.QueueRow.{QueueRow}
@@ -38,10 +35,9 @@ use Rattle.desk_model.specs.declared.rows.RequestRow.{RequestRow}
 use Rattle.desk_model.specs.declared.rows.Watcher.{Watcher}
 use Rattle.desk_model.specs.declared.rows.WatchRole.{WatchRole}
 use Rattle.desk_core.proofs.EachRequest.{found_each}
-use Rattle.desk_core.proofs.Rising.{by, filtered_rises, mapped_rises, numbered_rise, numbers_go_on}
 use Rattle.desk_core.proofs.Roles.{roles_law, watchers_tell}
-use Rattle.desk_reports.specs.Rows.{NumbersRise, QueuesRise, WatchesRise, late_lines_by, lines_by}
-use Rattle.desk_reports.specs.Rows.{loads_by, shown_by, told_among}
+use Rattle.desk_reports.specs.Rows.{QueuesRise, WatchesRise, lines_by, loads_by, shown_by}
+use Rattle.desk_reports.specs.Rows.{told_among}
 use Rattle.store_tables.specs.Contents.{request_rows, watchers}
 use Rattle.store_tables.specs.Orders.{by_watcher}
 use Rattle.store_tables.specs.Selection.{is_filed_in, is_of_person}

@@ -74,8 +74,14 @@ PrintsRows g watches text old new contents before after result =
     → IsPrintedOf (text all) printed result))
 
 -- something was printed, and it is so of this text
-abbrev pub PrintsText : {W : Type 0} → List Watcher → List ℕ → (W → Option (List ℕ))
+abbrev pub PrintsText : {W : Type 0} → List ℕ → (W → Option (List ℕ)) → CountedWriter W
+    → CountedWriter W → Result ⊤ StreamFault → Type 0
+PrintsText text contents before after result =
+    (printed : List ℕ) × Prints contents before after printed × IsPrintedOf text printed result
+
+-- the same, where the watches are in order
+abbrev pub PrintsRow : {W : Type 0} → List Watcher → List ℕ → (W → Option (List ℕ))
     → CountedWriter W → CountedWriter W → Result ⊤ StreamFault → Type 0
-PrintsText watches text contents before after result =
+PrintsRow watches text contents before after result =
     (printed : List ℕ) × Prints contents before after printed
     × (WatchesRise watches → IsPrintedOf text printed result)

@@ -12,7 +12,7 @@ use Rattle.desk_lists.specs.declared.fault.StreamFault.{StreamFault}
 use Rattle.desk_lists.specs.declared.fault.StreamFault.TheVariants.{Refused, Write}
 
 -- whether a write failed; no fault but that memory or the store refused
-abbrev pub IsCutBy : Result ⊤ StreamFault → Bool → Type 0
+abbrev pub IsCutBy : {X : Type 0} → Result X StreamFault → Bool → Type 0
 IsCutBy (Ok done) failed = failed ≡ false
 IsCutBy (Err Write) failed = failed ≡ true
 IsCutBy (Err (Refused refusal)) failed = (failed ≡ false) × (refusal ≡ Unavailable)

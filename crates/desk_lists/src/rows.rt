@@ -1,13 +1,13 @@
 //! Rows of requests that are written one at a time.
-ghost use Rattle.std.specs.Prelude.{◌≡◌, [], false, IfOk, true};
+ghost use Rattle.std.specs.Prelude.{◌≡◌, false, IfOk, true};
 ghost use Rattle.store_tables.specs.Calls.{Spares};
 ghost use Rattle.store_core.specs.Seen.{state_of};
 ghost use Rattle.stream_core.specs.Seen.{HaveOneWriter, has_write_failed};
 ghost use Rattle.stream_core.specs.Written.{Prints};
 ghost use Rattle.desk_lists.specs.Lines.{header_of, list_in, row_in, rows_in};
-ghost use Rattle.desk_lists.specs.Rows.{IsReading, PrintsNext, PrintsRows, PrintsText};
-ghost use Rattle.desk_lists.specs.Rows.{ReadOneStore, store_of};
-ghost use Rattle.desk_lists.specs.Streams.{IsCutBy, IsPrintedOf};
+ghost use Rattle.desk_lists.specs.Rows.{IsReading, PrintsNext, PrintsRow, PrintsRows};
+ghost use Rattle.desk_lists.specs.Rows.{PrintsText, ReadOneStore, store_of};
+ghost use Rattle.desk_lists.specs.Streams.{IsCutBy};
 
 use crate::fault::{StreamFault, unavailable};
 use crate::lines::{ListKind, header, row_text};
@@ -119,7 +119,7 @@ fn put_row<W: Write>(
 ) -> Result<(), StreamFault>
     requires ready { has_write_failed output.old ≡ false }
     ensures same_writer { HaveOneWriter output.new output.old }
-    ensures printed { PrintsText watches.now
+    ensures printed { PrintsRow watches.now
         (row_in kind settings.now person.now watches.now dated)
         W.contents output.old output.new result }
     ensures failed { IsCutBy result (has_write_failed output.new) }
@@ -136,7 +136,7 @@ fn put_header<W: Write>(
 ) -> Result<(), StreamFault>
     requires ready { has_write_failed output.old ≡ false }
     ensures same_writer { HaveOneWriter output.new output.old }
-    ensures printed { PrintsText [] (header_of kind) W.contents output.old output.new result }
+    ensures printed { PrintsText (header_of kind) W.contents output.old output.new result }
     ensures failed { IsCutBy result (has_write_failed output.new) }
 {
     let text = header(alloc, kind)?;
