@@ -73,6 +73,13 @@ module _ {X : Type 0} (text : X → List ℕ) where
   rows_cut all given later is =
       ap (flat_map text) is ∙ flat_map-append text given later
 
+  -- rows were printed, and nothing of those that are left
+  pub rows_left : (all given later : List X) (p : List ℕ) → p ≡ flat_map text given
+      → all ≡ given ++ later → flat_map text all ≡ p ++ flat_map text later
+  rows_left all given later p first is =
+      rows_cut all given later is
+      ∙ ap (λ (t : List ℕ). t ++ flat_map text later) (sym first)
+
   -- rows were printed, and of the others this
   pub cut_after : (all given : List X) (p q rest : List ℕ) → p ≡ flat_map text given
       → flat_map text all ≡ flat_map text given ++ (q ++ rest)

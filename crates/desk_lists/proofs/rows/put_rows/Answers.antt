@@ -1,10 +1,10 @@
 -- each row that was put comes after those before it
-use Rattle.std.proofs.Common.{◌≡◌, ◌∙◌, ◌∷◌, ◌++◌, [], List, ℕ, Err, ap, false, rules, sym, true}
+use Rattle.std.proofs.Common.{◌≡◌, ◌∙◌, ◌∷◌, ◌++◌, [], Err, false, rules, true}
 use Rattle.store_tables.specs.Contents.{contents_of}
 use Rattle.store_tables.proofs.Spared.{joined, stands}
 use Rattle.stream_core.proofs.WriterLemmas.{prints_both}
 use Rattle.desk_lists.specs.Lines.{row_in}
-use Rattle.desk_lists.proofs.PrintedLemmas.{cut_after, row_more, rows_cut, rows_whole}
+use Rattle.desk_lists.proofs.PrintedLemmas.{cut_after, row_more, rows_left, rows_whole}
 use Rattle.desk_lists.proofs.rows.put_rows.Goals as goal
 
 pub returns-in_err-put_next-clause-printed : goal.returns-in_err-put_next-clause-printed
@@ -71,5 +71,5 @@ returns-clause-printed g c =
       it.1,
       λ rise desk ok due stand clean all has.
           let now = it.2 rise desk ok due stand clean all has in
-          (_, rows_cut text all now.0 _ now.1 ∙ ap (λ (t : List ℕ). t ++ _) (sym now.2)),
+          (_, rows_left text all now.0 _ it.0 now.2 now.1),
     )
