@@ -2,7 +2,7 @@
 use Rattle.std.proofs.Common.{◌≡◌, ◌∙◌, ◌+◌, ◌-◌, ◌<◌, ◌≤◌, ℕ, Bool, true, false, cond, List, []}
 use Rattle.std.proofs.Common.{◌∷◌, ◌++◌, filter, flat_map, get_or, length, Option, Some, None, refl}
 use Rattle.std.proofs.Common.{ap, ap₂, sym, suc, arith, IsPermutation, Ordering, Less, Equal, Greater}
-use Rattle.std.specs.Prelude.{IfSome, IsSorted, filter_map, nat_lt, option_and_then}
+use Rattle.std.specs.Prelude.{IfSome, IsSorted, filter_map, nat_lt}
 use Rattle.std.specs.Cmp.{IsTotalOrder, nat_cmp_total, on_total, then_total}
 use Rattle.std.specs.Cmp.Lexicographic.{options_total}
 use Rattle.std.specs.List.{AllByRecursion, cons_option}

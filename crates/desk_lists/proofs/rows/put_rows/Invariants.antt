@@ -1,5 +1,5 @@
 -- the texts of the rows so far were printed
-use Rattle.std.proofs.Common.{◌≡◌, ℕ, List, [], false, flat_map}
+use Rattle.std.proofs.Common.{◌≡◌, ℕ, List, [], false}
 use Rattle.desk_reports.specs.Rows.{WatchesRise}
 use Rattle.store_tables.specs.Calls.{Spares}
 use Rattle.store_tables.specs.Dated.{Dated}
