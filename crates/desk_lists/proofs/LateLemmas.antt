@@ -1,7 +1,8 @@
 -- Late lines of rows in the order of their due moments are those lines in due order.
 use Rattle.std.proofs.Common.{◌≡◌, ◌∙◌, ◌+◌, ◌-◌, ◌<◌, ◌≤◌, ℕ, Bool, true, false, cond, List, []}
 use Rattle.std.proofs.Common.{◌∷◌, ◌++◌, filter, flat_map, get_or, length, Option, Some, None, refl}
-use Rattle.std.proofs.Common.{ap, ap₂, sym, suc, arith, IsPermutation, Ordering, Less, Equal, Greater}
+use Rattle.std.proofs.Common.{ap, ap₂, sym, suc, arith}
+use Rattle.std.proofs.Common.{IsPermutation, Ordering, Less, Equal, Greater}
 use Rattle.std.specs.Prelude.{IfSome, IsSorted, filter_map, nat_lt}
 use Rattle.std.specs.Cmp.{IsTotalOrder, nat_cmp_total, on_total, then_total}
 use Rattle.std.specs.Cmp.Lexicographic.{options_total}
@@ -127,7 +128,8 @@ module _ (at : ℕ) (s : Settings) (person : List ℕ) (watches : List Watcher) 
   abbrev shown : Dated → Option LateLine
   shown = late_line_shown at s person watches
 
-  line_of_row : (row : RequestRow) (due : ℕ) → IfSome (line_if_late at row due) (IsLineOf (row, Some due))
+  line_of_row : (row : RequestRow) (due : ℕ)
+      → IfSome (line_if_late at row due) (IsLineOf (row, Some due))
   line_of_row row due =
       elim (nat_lt due at) as (λ b. IfSome (cond b (Some (record {
         id = row.id;

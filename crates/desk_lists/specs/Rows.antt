@@ -42,8 +42,8 @@ OfEachDesk g old new P =
     → Stand (contents_of due desk) (state_of g (store_of g old))
     → HasCleanDisk (state_of g (store_of g new)) → P due desk
 
--- after the rows that were given, the text of the next was printed, or nothing, since they were all;
--- or, where it was cut short, a part from the front of the texts of the others
+-- after the rows that were given, the text of the next was printed, or nothing, since they were
+-- all; or, where it was cut short, a part from the front of the texts of the others
 abbrev pub IsNextOf : {S : Type 0} (g : Ghosts S) → (Dated → List ℕ) → RequestRows S g
     → (RequestRow → Option ℕ) → Desk → List Dated → List Dated → List ℕ → Result Bool StreamFault
     → Type 0

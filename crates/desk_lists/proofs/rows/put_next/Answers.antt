@@ -4,7 +4,8 @@ use Rattle.desk_lists.specs.Lines.{row_in}
 use Rattle.desk_lists.proofs.PrintedLemmas.{prints_none, row_cut, rows_cut}
 use Rattle.desk_lists.proofs.rows.put_next.Goals as goal
 
-pub returns-in_err-put_row-in-Ok-Some-clause-printed : goal.returns-in_err-put_row-in-Ok-Some-clause-printed
+pub returns-in_err-put_row-in-Ok-Some-clause-printed :
+    goal.returns-in_err-put_row-in-Ok-Some-clause-printed
 returns-in_err-put_row-in-Ok-Some-clause-printed g c =
     let text = row_in c.args.kind c.args.settings.now c.args.person.now c.args.watches.now in
     let it = c.in_err-put_row-in-Ok-Some.ensures.printed in
@@ -19,7 +20,8 @@ returns-in_err-put_row-in-Ok-Some-clause-printed g c =
           (it.2 rise)),
     )
 
-pub returns-in_ok-put_row-in-Ok-Some-clause-printed : goal.returns-in_ok-put_row-in-Ok-Some-clause-printed
+pub returns-in_ok-put_row-in-Ok-Some-clause-printed :
+    goal.returns-in_ok-put_row-in-Ok-Some-clause-printed
 returns-in_ok-put_row-in-Ok-Some-clause-printed g c =
     let it = c.in_ok-put_row-in-Ok-Some.ensures.printed in (
       it.0,

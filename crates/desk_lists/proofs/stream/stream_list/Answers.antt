@@ -30,7 +30,8 @@ returns-clause-written g c =
           ∙ c.in_ok-watches.ensures.listed desk is (due, stand) (begun.kept.clean clean-rows) in
           let rows = begun.none_yet desk is due first clean-rows in
           subst (λ text. IsPrintedOf text it.0 c.put_list.result)
-          (listed_text s person c.args.queue.now desk is c.as_slice-own.result.now rows.0 own rows.1)
+          (listed_text s person c.args.queue.now desk is c.as_slice-own.result.now rows.0 own
+          rows.1)
           (it.2 (subst WatchesRise (sym own) (watches_in_order person desk is)) desk is due next
           late rows.0 rows.2),
     )
