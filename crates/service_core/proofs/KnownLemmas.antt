@@ -1,6 +1,6 @@
 -- A desk's names are those of its rows and of the histories.
 use Rattle.std.proofs.Common.{◌≡◌, ◌∙◌, ℕ, Bool, true, false, List, [], ◌∷◌, ◌++◌}
-use Rattle.std.proofs.Common.{flat_map, map, refl, sym, ap, ap₂, IsPermutation}
+use Rattle.std.proofs.Common.{flat_map, map, refl, sym, ap, ap₂, IsPermutation, Option}
 use Rattle.std.proofs.lemmas.List.Folds.{list_all-append, list_all-map}
 use Rattle.std.specs.List.{list_all}
 use Rattle.std.specs.Prelude.{◌&&◌}
@@ -16,7 +16,9 @@ use Rattle.desk_model.specs.Known.{is_known, knows_actors, knows_persons, knows_
 use Rattle.desk_model.specs.Watchers.{watcher, watchers_of}
 use Rattle.service_core.specs.Attaching.{knows_histories, knows_rows, of_queues}
 use Rattle.store_tables.specs.Contents.{actors, entries, request_rows, watchers}
+use Rattle.store_tables.specs.Dated.{Dated, dated_by, row_of}
 use Rattle.store_tables.specs.Selection.{actor_of}
+use Rattle.store_core.specs.Rows.{dated_rows}
 use Rattle.store_tables.proofs.KeptLemmas.{all_alike}
 
 -- ---- persons
@@ -95,7 +97,7 @@ known_by_rows settings desk =
 
 -- ---- what is found in rows that were read
 
-pub same_rows : (settings : Settings) {qs q : List QueueRow} {rs r : List RequestRow}
+same_rows : (settings : Settings) {qs q : List QueueRow} {rs r : List RequestRow}
     {ws w : List Watcher} → qs ≡ q → rs ≡ r → ws ≡ w
     → knows_rows settings q r w ≡ knows_rows settings qs rs ws
 same_rows settings {qs} {q} {rs} {r} {ws} {w} queues requests watchers =
@@ -103,12 +105,22 @@ same_rows settings {qs} {q} {rs} {r} {ws} {w} queues requests watchers =
     ∙ ap (λ v. knows_rows settings q v ws) requests
     ∙ ap (knows_rows settings q r) watchers)
 
--- what is known of a desk whose rows are these
-pub known_of_rows : (settings : Settings) (desk : Desk) (qs : List QueueRow)
-    (rs : List RequestRow) (ws : List Watcher) (known : Bool) → qs ≡ desk.queues
-    → rs ≡ request_rows desk → ws ≡ watchers desk → known ≡ knows_rows settings qs rs ws
-    → is_known settings desk ≡ (known && knows_histories settings desk)
-known_of_rows settings desk qs rs ws known queues requests those found =
+-- ---- with their due moments
+
+rows_of : (due : RequestRow → Option ℕ) (rows : List RequestRow)
+    → map row_of (map (dated_by due) rows) ≡ rows
+rows_of due [] = refl
+rows_of due (row ∷ rows) = ap (λ (rs : List RequestRow). row ∷ rs) (rows_of due rows)
+
+-- what is known of a desk whose queues and dated rows are these
+pub known_of_dated : (settings : Settings) (desk : Desk) (due : RequestRow → Option ℕ)
+    (queues : List QueueRow) (dated : List Dated) (found : Bool) → queues ≡ desk.queues
+    → dated ≡ dated_rows due desk
+    → found ≡ (knows_rows settings queues (map row_of dated) (watchers desk)
+    && knows_histories settings desk)
+    → is_known settings desk ≡ found
+known_of_dated settings desk due queues dated found these those told =
     known_by_rows settings desk
     ∙ ap (λ b. b && knows_histories settings desk)
-    (same_rows settings queues requests those ∙ sym found)
+    (same_rows settings these (ap (map row_of) those ∙ rows_of due (request_rows desk)) refl)
+    ∙ sym told

@@ -164,7 +164,8 @@ pub renewed_from : {X : Type 0} (s : Settings) (queues : List QueueRow) (dated :
     → (QueuesRise queues → dues ≡ renewals s queues dated)
     → DatesDesk dues old new r → OnOk r (AreRenewedFrom s queues dated old new)
 renewed_from s queues dated dues old new (Err e) made dates = tt
-renewed_from s queues dated dues old new (Ok x) made dates desk is due these those stand =
+renewed_from s queues dated dues old new (Ok x) made dates =
+    λ desk is due these those stand.
     let rise : QueuesRise queues = subst QueuesRise (sym these) is.queues in
     let all : dues ≡ renewals s desk.queues (dated_rows due desk) =
     made rise ∙ ap₂ (renewals s) these those in

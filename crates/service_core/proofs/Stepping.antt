@@ -14,6 +14,7 @@ use Rattle.desk_core.proofs.Unchanged.{reads_nothing}
 use Rattle.desk_model.specs.Change.{applied}
 use Rattle.desk_model.specs.Commands.{IsReading, plan_of}
 use Rattle.desk_model.specs.Desk.{Desk}
+use Rattle.desk_model.specs.IsDesk.{IsDesk}
 use Rattle.desk_model.specs.Plan.{Call, Plan, Reads, answer_by, change_by, is_reading, seen_by}
 use Rattle.desk_model.specs.Plan.{told_of}
 use Rattle.desk_model.specs.Step.{answer_of}

@@ -1,5 +1,6 @@
 -- What is written of a list is what comes of its command.
-use Rattle.std.proofs.Common.{◌≡◌, ◌≢◌, ℕ, ⊤, [], Bool, true, false, List, None, Option, Some}
+use Rattle.std.specs.Prelude.{⊤}
+use Rattle.std.proofs.Common.{◌≡◌, ◌≢◌, ℕ, [], Bool, true, false, List, None, Option, Some}
 use Rattle.std.proofs.Common.{Err, Ok, Result, arith, inl, inr, refl, subst}
 use Rattle.settings_core.specs.declared.settings.Settings.{Settings}
 use Rattle.desk_model.specs.Commands.{IsReading}
@@ -15,23 +16,9 @@ use Rattle.desk_texts.specs.Texts.{answer_text}
 use Rattle.stream_core.specs.Seen.{has_write_failed, held_in}
 use Rattle.stream_core.specs.Written.{IsWritten, Prints, WritesOn}
 use Rattle.stream_core.specs.declared.writer.CountedWriter.{CountedWriter}
-use Rattle.stream_core.proofs.WriterLemmas.{appends_none}
 use Rattle.service_core.specs.Streaming.{IsStreamed, is_write}
 use Rattle.service_core.specs.TableSteps.{IsStep}
 use Rattle.service_core.proofs.Stepping.{reading_step, refused_step}
-
--- ---- nothing is written
-
-writes_none : (failed : Bool) (held : Option (List ℕ)) → WritesOn failed failed held held []
-writes_none true held = (refl, refl)
-writes_none false held = appends_none held
-
-pub prints_none : {W : Type 0} (contents : W → Option (List ℕ)) (output : CountedWriter W)
-    → Prints contents output output []
-prints_none contents output = record {
-  written = writes_none (has_write_failed output) (held_in contents output);
-  counted = omega arith;
-}
 
 -- a list that is written
 pub listed_stream : (s : Settings) (ask : Ask) (desk : Desk) → IsDesk desk
@@ -55,18 +42,17 @@ refused_stream s ask desk is refusal refuses =
 
 -- ---- over a writer that counts from then on
 
-is_cut_by : (result : Result ⊤ StreamFault) (failed : Bool) → IsCutBy result failed
+pub is_cut_by : (result : Result ⊤ StreamFault) (failed : Bool) → IsCutBy result failed
     → failed ≡ is_write result
 is_cut_by (Ok done) failed cut = cut
 is_cut_by (Err Write) failed cut = cut
 is_cut_by (Err (Refused refusal)) failed cut = cut.0
 
 pub written_by : {W : Type 0} (contents : W → Option (List ℕ)) (old new : CountedWriter W)
-    (result : Result ⊤ StreamFault) (text : List ℕ) → has_write_failed old ≡ false
-    → IsCutBy result (has_write_failed new) → Prints contents old new text
-    → IsWritten (is_write result) (held_in contents old) (held_in contents new) text
-written_by contents old new result text fresh cut printed =
-    subst (λ b. IsWritten b (held_in contents old) (held_in contents new) text)
-    (is_cut_by result (has_write_failed new) cut)
+    (failed : Bool) (text : List ℕ) → has_write_failed old ≡ false
+    → has_write_failed new ≡ failed → Prints contents old new text
+    → IsWritten failed (held_in contents old) (held_in contents new) text
+written_by contents old new failed text fresh cut printed =
+    subst (λ b. IsWritten b (held_in contents old) (held_in contents new) text) cut
     (subst (λ b. WritesOn b (has_write_failed new) (held_in contents old)
     (held_in contents new) text) fresh printed.written)

@@ -63,7 +63,7 @@ impl<S: Backend> Desk<S> {
             (ask_by at caller.now command.now)
             (tables_of S.Store self.old) (tables_of S.Store self.new) result
             (Prints W.contents output.old output.new) }
-        ensures failed { IsCutBy result (has_write_failed output.new) }
+        ensures failed { has_write_failed output.new ≡ is_write result }
         ensures kept { Spares (tables_of S.Store self.old) (tables_of S.Store self.new) }
         ensures same { settings_of S.Store self.new ≡ settings_of S.Store self.old }
     {
@@ -80,6 +80,7 @@ impl<S: Backend> Desk<S> {
 }
 
 /// Writes the list that a command asks for. What every desk refuses costs no look at the tables.
+#[tactic(auto, using(store_tables::proofs::Spared::joined, store_core::proofs::AheadLemmas::unread))]
 fn stream_from<S: Backend, W: Write>(
     alloc: Global,
     store: &mut Store<S>,
@@ -94,7 +95,7 @@ fn stream_from<S: Backend, W: Write>(
     ensures streamed { StreamsOn settings.now (ask_by at caller.now command.now)
         (state_of S.Store store.old) (state_of S.Store store.new) result
         (Prints W.contents output.old output.new) }
-    ensures failed { IsCutBy result (has_write_failed output.new) }
+    ensures failed { has_write_failed output.new ≡ is_write result }
     ensures kept { Spares (state_of S.Store store.old) (state_of S.Store store.new) }
 {
     match refused_beforehand(settings, at, caller, command) {
@@ -104,6 +105,7 @@ fn stream_from<S: Backend, W: Write>(
 }
 
 /// Writes the list, if the tables don't refuse it.
+#[tactic(auto, using(store_tables::proofs::Spared::joined, store_core::proofs::AheadLemmas::unread))]
 fn admit_and_put<S: Backend, W: Write>(
     alloc: Global,
     store: &mut Store<S>,
@@ -118,7 +120,7 @@ fn admit_and_put<S: Backend, W: Write>(
     ensures streamed { StreamsOn settings.now (ask_by at caller.now command.now)
         (state_of S.Store store.old) (state_of S.Store store.new) result
         (Prints W.contents output.old output.new) }
-    ensures failed { IsCutBy result (has_write_failed output.new) }
+    ensures failed { has_write_failed output.new ≡ is_write result }
     ensures kept { Spares (state_of S.Store store.old) (state_of S.Store store.new) }
 {
     match admit(alloc, store, settings, at, caller, command) {
@@ -168,6 +170,7 @@ fn admit_seeing(
 }
 
 /// Writes the list of a command that isn't refused. Another command is `Unavailable`.
+#[tactic(auto, using(store_tables::proofs::Spared::joined, store_core::proofs::AheadLemmas::unread))]
 fn put_list<S: Backend, W: Write>(
     alloc: Global,
     store: &mut Store<S>,

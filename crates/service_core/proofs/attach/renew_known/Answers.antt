@@ -1,0 +1,100 @@
+-- the settings know what was read, and what was read is renewed
+use Rattle.std.proofs.Common.{◌∙◌, ◌≡◌, Err, Ok, false, rules, subst, sym, true}
+use Rattle.std.specs.Prelude.{⊤}
+use Rattle.desk_reports.specs.Rows.{QueuesRise}
+use Rattle.store_core.specs.Seen.{state_of}
+use Rattle.store_tables.specs.Contents.{contents_of}
+use Rattle.store_tables.proofs.RefusalLemmas.{dated_refuse, queues_refuse}
+use Rattle.store_tables.proofs.Spared.{joined, stands, stands_for}
+use Rattle.service_core.proofs.KnownLemmas.{known_of_dated}
+use Rattle.service_core.proofs.attach.renew_known.Goals as goal
+
+pub returns-in_err-dated-clause-left : goal.returns-in_err-dated-clause-left
+returns-in_err-dated-clause-left g c other = stands c.dated_requests.ensures.kept
+
+pub returns-in_err-dated-clause-fault : goal.returns-in_err-dated-clause-fault
+returns-in_err-dated-clause-fault g c =
+    let is : c.from_residual.result ≡ Err c.in_err-dated.field-0.0 = search rules in
+    rw is (dated_refuse (state_of g.S.Store c.args.store.now)
+    (state_of g.S.Store c.dated_requests.new.self) c.dated_requests.ensures.kept.clean
+    {X = ⊤} (Err c.in_err-dated.field-0.0) c.in_err-dated.ensures.mismatch)
+
+pub returns-in_err-queues-clause-left : goal.returns-in_err-queues-clause-left
+returns-in_err-queues-clause-left g c other =
+    stands (joined c.dated_requests.ensures.kept c.queues.ensures.kept)
+
+pub returns-in_err-queues-clause-fault : goal.returns-in_err-queues-clause-fault
+returns-in_err-queues-clause-fault g c d stand =
+    let is : c.from_residual-in_err-queues.result ≡ Err c.in_err-queues.field-0.0 =
+    search rules in
+    rw is (queues_refuse (state_of g.S.Store c.dated_requests.new.self)
+    (state_of g.S.Store c.queues.new.self) c.queues.ensures.kept.clean
+    {X = ⊤} (Err c.in_err-queues.field-0.0) c.in_err-queues.ensures.mismatch d
+    (stands c.dated_requests.ensures.kept d stand))
+
+pub returns-in_err-is_known-clause-left : goal.returns-in_err-is_known-clause-left
+returns-in_err-is_known-clause-left g c other =
+    stands (joined (joined c.dated_requests.ensures.kept c.queues.ensures.kept)
+    c.is_known.ensures.kept)
+
+pub returns-then-not-branch-clause-told : goal.returns-then-not-branch-clause-told
+returns-then-not-branch-clause-told g c desk is stand clean =
+    let queues_clean = c.is_known.ensures.kept.clean clean in
+    let dated_clean = c.queues.ensures.kept.clean queues_clean in
+    let after_dated = stands_for c.dated_requests.ensures.kept desk stand in
+    let after_queues = stands_for c.queues.ensures.kept desk after_dated in
+    let those =
+    c.as_slice-dated.ensures.value
+    ∙ c.in_ok-dated.ensures.listed desk is stand.0 stand.1 dated_clean in
+    let these =
+    c.as_slice-queues.ensures.value
+    ∙ c.in_ok-queues.ensures.listed desk is after_dated queues_clean in
+    known_of_dated c.args.settings.now desk stand.0 _ _ c.in_ok-is_known.field-0 these those
+    (c.in_ok-is_known.ensures.told (subst QueuesRise (sym these) is.queues) desk is after_queues
+    clean)
+    ∙ c.if-not-branch.true
+
+pub returns-then-not-branch-clause-left : goal.returns-then-not-branch-clause-left
+returns-then-not-branch-clause-left g c other =
+    stands (joined (joined c.dated_requests.ensures.kept c.queues.ensures.kept)
+    c.is_known.ensures.kept)
+
+pub returns-in_err-renew-clause-left : goal.returns-in_err-renew-clause-left
+returns-in_err-renew-clause-left g c other d stand =
+    c.in_err-renew.ensures.left d
+    (stands (joined (joined c.dated_requests.ensures.kept c.queues.ensures.kept)
+    c.is_known.ensures.kept) d stand)
+
+pub returns-clause-told : goal.returns-clause-told
+returns-clause-told g c desk is stand clean =
+    let known_clean = c.renew.ensures.honest clean in
+    let queues_clean = c.is_known.ensures.kept.clean known_clean in
+    let dated_clean = c.queues.ensures.kept.clean queues_clean in
+    let after_dated = stands_for c.dated_requests.ensures.kept desk stand in
+    let after_queues = stands_for c.queues.ensures.kept desk after_dated in
+    let those =
+    c.as_slice-dated.ensures.value
+    ∙ c.in_ok-dated.ensures.listed desk is stand.0 stand.1 dated_clean in
+    let these =
+    c.as_slice-queues.ensures.value
+    ∙ c.in_ok-queues.ensures.listed desk is after_dated queues_clean in
+    known_of_dated c.args.settings.now desk stand.0 _ _ c.in_ok-is_known.field-0 these those
+    (c.in_ok-is_known.ensures.told (subst QueuesRise (sym these) is.queues) desk is after_queues
+    known_clean)
+    ∙ c.if-not-branch.false
+
+pub returns-clause-renewed : goal.returns-clause-renewed
+returns-clause-renewed g c known desk is stand clean live =
+    let known_clean = c.renew.ensures.honest clean in
+    let queues_clean = c.is_known.ensures.kept.clean known_clean in
+    let dated_clean = c.queues.ensures.kept.clean queues_clean in
+    let after_dated = stands_for c.dated_requests.ensures.kept desk stand in
+    let those =
+    c.as_slice-dated.ensures.value
+    ∙ c.in_ok-dated.ensures.listed desk is stand.0 stand.1 dated_clean in
+    let these =
+    c.as_slice-queues.ensures.value
+    ∙ c.in_ok-queues.ensures.listed desk is after_dated queues_clean in
+    c.in_ok-renew.ensures.renewed desk is stand.0 these those
+    (stands (joined (joined c.dated_requests.ensures.kept c.queues.ensures.kept)
+    c.is_known.ensures.kept) (contents_of stand.0 desk) stand.1) clean live
