@@ -24,7 +24,7 @@ IsServed settings at had left before after (Ok done) old new =
 IsServed settings at had left before after (Err Write) old new =
     Replies settings at had left before after true old new
 IsServed settings at had left before after (Err Read) old new =
-    (after ≡ before) × StaysOn old new
+    (after ≡ before) × StaysOn settings old new
 IsServed settings at had left before after (Err NoMemory) old new = ⊥
 
 -- the bytes went out whole, or short of a byte or more
