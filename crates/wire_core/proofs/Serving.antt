@@ -55,7 +55,7 @@ pub left_out : (s : Settings) (at : ℕ) (had left : Option (List ℕ)) (bytes :
     (old new : State) → bytes ≡ bytes_of (unavailable false) → StaysOn s old new
     → StreamStepsOn s at had left bytes old new
 left_out s at had left bytes old new told stay =
-    leads_wider _ _ old new (λ desk after same. inl (told, same)) stay
+    leads_wider s _ _ old new (λ desk after same. inl (told, same)) stay
 
 -- ---- a message step leaves a well-formed desk
 

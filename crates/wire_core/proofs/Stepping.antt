@@ -27,19 +27,19 @@ use Rattle.wire_core.specs.Steps.{StreamSteps, StreamStepsOn}
 use Rattle.wire_core.specs.Runs.{RepliesOn}
 
 -- what one relation leads to, a wider one does
-pub leads_wider : {s : Settings} (P Q : Desk → Desk → Type 0) (old new : State)
+pub leads_wider : (s : Settings) (P Q : Desk → Desk → Type 0) (old new : State)
     → ((desk after : Desk) → P desk after → Q desk after) → LeadsOn s P old new
     → LeadsOn s Q old new
-leads_wider P Q old new wider leads desk is stands clean =
+leads_wider s P Q old new wider leads desk is stands clean =
     let led = leads desk is stands clean in (led.0, wider desk led.0 led.1, led.2)
 
 -- a relation that holds of each desk and itself leads from tables to themselves
-pub leads_nowhere : {s : Settings} (P : Desk → Desk → Type 0) (tables : State)
+pub leads_nowhere : (s : Settings) (P : Desk → Desk → Type 0) (tables : State)
     → ((desk : Desk) → P desk desk) → LeadsOn s P tables tables
-leads_nowhere P tables holds desk is stands clean = (desk, holds desk, stands)
+leads_nowhere s P tables holds desk is stands clean = (desk, holds desk, stands)
 
 pub stays : (s : Settings) (tables : State) → StaysOn s tables tables
-stays s tables = leads_nowhere (λ desk after. after ≡ desk) tables (λ desk. refl)
+stays s tables = leads_nowhere s (λ desk after. after ≡ desk) tables (λ desk. refl)
 
 -- ---- a command
 
@@ -67,7 +67,7 @@ pub faulty : (s : Settings) (at : ℕ) (message : Message) (place : Place) (faul
     → bytes ≡ bytes_of (fault_reply (is_head message) (Some (methods_of place)) fault)
     → CommandStepsOn s at message (Err fault) bytes tables tables
 faulty s at message place fault bytes tables placed told =
-    leads_nowhere (λ desk after. CommandSteps s at message (Err fault) desk bytes after) tables
+    leads_nowhere s (λ desk after. CommandSteps s at message (Err fault) desk bytes after) tables
     (λ desk. (
       rw (ap (option_map methods_of) placed) told,
       refl,
@@ -96,7 +96,7 @@ pub nowhere : (s : Settings) (at : ℕ) (message : Message) (bytes : List ℕ) (
     → bytes ≡ bytes_of (fault_reply (is_head message) None NoRoute)
     → CommandStepsOn s at message (command_of s message) bytes tables tables
 nowhere s at message bytes tables placed told =
-    leads_nowhere (λ desk after. CommandSteps s at message (command_of s message) desk bytes after)
+    leads_nowhere s (λ desk after. CommandSteps s at message (command_of s message) desk bytes after)
     tables
     (λ desk. subst (λ (p : Option Place). CommandSteps s at message (command_if_placed s message p)
     desk bytes desk) (sym placed) (told, refl))
@@ -114,13 +114,13 @@ pub message_done : (s : Settings) (at : ℕ) (message : Message) (bytes : List �
     → CommandStepsOn s at message (command_of s message) bytes old new
     → MessageStepsOn s at message bytes old new
 message_done s at message bytes old new steps =
-    leads_wider _ _ old new (λ desk after did. inr did) steps
+    leads_wider s _ _ old new (λ desk after did. inr did) steps
 
 pub message_left_out : (s : Settings) (at : ℕ) (message : Message) (bytes : List ℕ)
     (old new : State) → bytes ≡ bytes_of (unavailable (is_head message)) → StaysOn s old new
     → MessageStepsOn s at message bytes old new
 message_left_out s at message bytes old new told stay =
-    leads_wider _ _ old new (λ desk after same. inl (told, same)) stay
+    leads_wider s _ _ old new (λ desk after same. inl (told, same)) stay
 
 -- ---- a stream
 
@@ -131,14 +131,14 @@ pub stream_done : (s : Settings) (at : ℕ) (had left : Option (List ℕ)) (mess
     → MessageStepsOn s at message bytes old new → StreamStepsOn s at had left bytes old new
 stream_done s at had left message bytes old new reads steps =
     let read = reads (λ e. cc) (λ e. cc) in
-    leads_wider _ _ old new (λ desk after did. inr (Ok message, read, did)) steps
+    leads_wider s _ _ old new (λ desk after did. inr (Ok message, read, did)) steps
 
 -- what a stream steps by is the reply to its bytes
 pub replied : (s : Settings) (at : ℕ) (had left : Option (List ℕ)) (stream bytes : List ℕ)
     (old new : State) → had ≡ Some stream → StreamStepsOn s at had left bytes old new
     → RepliesOn s (at, stream) (Ok bytes) old new
 replied s at had left stream bytes old new known steps =
-    leads_wider _ _ old new
+    leads_wider s _ _ old new
     (λ desk after did. (
       left,
       subst (λ (h : Option (List ℕ)). StreamSteps s at h left desk bytes
