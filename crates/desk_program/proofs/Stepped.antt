@@ -1,5 +1,6 @@
 -- One command over tables: where it leads from the desk with which the tables begin.
-use Rattle.std.proofs.Common.{◌≡◌, ◌⊎◌, ◌∙◌, ◌++◌, [], inl, inr, ℕ, ⊤, Bool, true, false, List}
+use Rattle.std.specs.Prelude.{⊤}
+use Rattle.std.proofs.Common.{◌≡◌, ◌⊎◌, ◌∙◌, ◌++◌, [], inl, inr, ℕ, Bool, true, false, List}
 use Rattle.std.proofs.Common.{Result, Ok, Err, ap, refl, subst, sym}
 use Rattle.sqlite.specs.Held.{Held}
 use Rattle.sqlite.specs.State.{State, HasCleanDisk}

@@ -1,6 +1,7 @@
 //! Commands are run on a desk in memory.
 ghost use Rattle.std.specs.Prelude.{◌≡◌, ℕ, List, Ok};
 ghost use Rattle.store_tables.specs.Making.{IsBlank};
+ghost use Rattle.store_core.specs.Due.{StandsDue};
 ghost use Rattle.store_core.specs.Seen.{state_of};
 ghost use Rattle.store_tables.specs.Stands.{StandsFor};
 ghost use Rattle.desk_model.specs.Desk.{empty_desk};
