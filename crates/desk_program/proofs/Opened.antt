@@ -32,9 +32,9 @@ opened (Ok d) text s old attached tables stated same renewed made known =
 opened (Err e) text s old attached tables stated same renewed made known = tt
 
 -- tables that are left stand for the desk that they stood for
-pub left_for : {old new : State} → Leaves old new → (desk : Desk) → StandsFor desk old
+pub left_for : (old new : State) → Leaves old new → (desk : Desk) → StandsFor desk old
     → StandsFor desk new
-left_for kept desk stand = (stand.0, kept (contents_of stand.0 desk) stand.1)
+left_for old new kept desk stand = (stand.0, kept (contents_of stand.0 desk) stand.1)
 
 -- the tables were made, and then the settings weren't attached
 pub made_not_attached : (s : Settings) (old mid new : State) (fault : AttachFault)
@@ -49,9 +49,9 @@ made_not_attached s old mid new fault kept honest made version fails =
             honest = λ clean. honest (fails.honest clean);
             unknown =
                 λ e desk formed stand clean.
-                fails.unknown e desk formed (left_for kept desk stand) clean;
+                fails.unknown e desk formed (left_for old mid kept desk stand) clean;
             fails = λ c stand clean. fails.fails c (kept c stand) clean;
           };
-      made = λ blank. left_for fails.kept empty_desk (made blank);
+      made = λ blank. left_for mid new fails.kept empty_desk (made blank);
       version = λ c stand clean. version c stand (fails.honest clean);
     }

@@ -12,7 +12,8 @@ pub returns-in-Ok-clause-renewed : goal.returns-in-Ok-clause-renewed
 returns-in-Ok-clause-renewed g c =
     IfOk-weaker c.attach.result _ _
     (λ attached renews desk formed stand.
-    renews desk formed (left_for c.in-Ok.ensures.kept desk stand))
+    renews desk formed (left_for (state_of g.S.Store c.args.store) (state_of g.S.Store c.create_schema.new.self)
+    c.in-Ok.ensures.kept desk stand))
     c.attach.ensures.renewed
 
 pub returns-in-Ok-clause-made : goal.returns-in-Ok-clause-made
@@ -25,7 +26,8 @@ pub returns-in-Ok-clause-known : goal.returns-in-Ok-clause-known
 returns-in-Ok-clause-known g c =
     IfOk-weaker c.attach.result _ _
     (λ attached knows desk formed stand clean.
-    knows desk formed (left_for c.in-Ok.ensures.kept desk stand) clean)
+    knows desk formed (left_for (state_of g.S.Store c.args.store) (state_of g.S.Store c.create_schema.new.self)
+    c.in-Ok.ensures.kept desk stand) clean)
     c.attach.ensures.known
 
 pub returns-in-Ok-clause-told : goal.returns-in-Ok-clause-told
