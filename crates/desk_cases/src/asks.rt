@@ -24,7 +24,7 @@ pub(crate) fn command_of(alloc: Global, line: &str) -> Result<Command, Failure> 
 }
 
 /// What a line `MOMENT CALLER WORDS ..` asks.
-fn ask_of(alloc: Global, line: &str) -> Result<Ask, Failure> {
+pub(crate) fn ask_of(alloc: Global, line: &str) -> Result<Ask, Failure> {
     let words = words_of(alloc, line).map_err(failure_of)?;
     ask_in(alloc, words.as_slice())
 }

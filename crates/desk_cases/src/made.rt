@@ -54,7 +54,7 @@ fn serve_turn<S: Backend>(
 }
 
 /// The generator's next number.
-fn next(number: u32) -> u32 {
+pub(crate) fn next(number: u32) -> u32 {
     ((u64::from(number) * 1_664_525 + 1_013_904_223) % 4_294_967_296) as u32
 }
 
