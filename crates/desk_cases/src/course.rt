@@ -60,7 +60,9 @@ fn rows_after(alloc: Global, settings: &str, asks: &[Ask]) -> Result<String, Fai
     }
     let (mut store, settings) = desk.detach();
     drop(settings);
-    rows_of(alloc, &mut store)
+    let rows = rows_of(alloc, &mut store);
+    drop(store);
+    rows
 }
 
 /// Asks a command: the text of its outcome.
@@ -99,6 +101,18 @@ impl Course<'_> {
         match self.outcomes.get(number) {
             Some(outcome) => outcome.as_str() == text,
             None => false,
+        }
+    }
+
+    /// After how many commands these are the rows: after so many, or one more.
+    pub(crate) fn place(&self, rows: &str, count: usize) -> Option<usize> {
+        let more = count.saturating_add(1);
+        if self.has_rows(count, rows) {
+            Some(count)
+        } else if self.has_rows(more, rows) {
+            Some(more)
+        } else {
+            None
         }
     }
 

@@ -5,7 +5,7 @@ use crate::messages::replies;
 use crate::served::{Manner, Sent};
 
 /// More calls than a message takes.
-const MOST: u32 = 100_000;
+const MOST: u32 = 1_000;
 
 /// What is written of a message whose reader failed.
 const READ: &str = "| 1 Read\n";
@@ -23,7 +23,12 @@ pub(crate) fn reads(rt: &HostRuntime, before: &str, sent: &[Sent]) -> Result<(),
     let whole = answered(rt, before, sent, Manner::BYTES)?;
     let others = answered(rt, before, sent.get(1..).unwrap_or(&[]), Manner::BYTES)?;
     for count in 0..MOST {
-        let text = answered(rt, before, sent, Manner::streams(Some(count), u32::MAX, true))?;
+        let text = answered(
+            rt,
+            before,
+            sent,
+            Manner::streams(Some(count), u32::MAX, true),
+        )?;
         if text.as_str() == whole.as_str() {
             println!(rt; "read whole by {count} reads")?;
             return Ok(());
@@ -61,7 +66,7 @@ fn is_cut(text: &str, first: &str, others: &str, count: u32) -> bool {
     match text.split_once(WRITE) {
         Some((part, rest)) => {
             let bytes = part.bytes().filter(|byte| *byte != b'\\').count();
-            bytes as u64 == u64::from(count) && first.starts_with(part) && rest == others
+            bytes == count as usize && first.starts_with(part) && rest == others
         }
         None => false,
     }

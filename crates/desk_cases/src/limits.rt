@@ -17,10 +17,9 @@ const LIMITS: u32 = 17;
 enum Tried {
     /// It was answered under the limit.
     Answered,
-    /// It was `Unavailable` under the limit, and was answered without one.
+    /// It was `Unavailable` under the limit.
     Unavailable,
-    /// It was answered otherwise than in the course, or it was `Unavailable` and the tables weren't
-    /// as before.
+    /// It was answered otherwise than in the course.
     Wrong,
 }
 
@@ -58,46 +57,61 @@ fn unavailable(alloc: Global, course: &Course<'_>, limit: u32) -> Result<Option<
     let mut desk = attached(alloc, "", course.settings)?;
     let mut count = 0u32;
     for (i, ask) in course.asks.iter().enumerate() {
-        let (next, came) = tried(alloc, course, desk, i, ask, limit)?;
-        desk = next;
-        match came {
+        match under_limit(alloc, course, &mut desk, i, ask, limit)? {
             Tried::Answered => {}
-            Tried::Unavailable => count = count.saturating_add(1),
+            Tried::Unavailable => {
+                count = count.saturating_add(1);
+                let (next, right) = again(alloc, course, desk, i, ask)?;
+                desk = next;
+                if !right {
+                    return Ok(None);
+                }
+            }
             Tried::Wrong => return Ok(None),
         }
     }
     Ok(Some(count))
 }
 
-/// Tries the command of that number.
-fn tried(
+/// Tries the command of that number under the limit, which is taken away again.
+fn under_limit(
+    alloc: Global,
+    course: &Course<'_>,
+    desk: &mut Desk<MemStore>,
+    number: usize,
+    ask: &Ask,
+    limit: u32,
+) -> Result<Tried, Failure> {
+    desk.set_step_limit(Some(limit));
+    let text = outcome(alloc, desk, ask);
+    desk.set_step_limit(None);
+    let text = text?;
+    if text.as_str() == UNAVAILABLE {
+        Ok(Tried::Unavailable)
+    } else if course.answers(number, text.as_str()) {
+        Ok(Tried::Answered)
+    } else {
+        Ok(Tried::Wrong)
+    }
+}
+
+/// Tries it without a limit: whether the tables were as before, and it is answered as in the course.
+fn again(
     alloc: Global,
     course: &Course<'_>,
     desk: Desk<MemStore>,
     number: usize,
     ask: &Ask,
-    limit: u32,
-) -> Result<(Desk<MemStore>, Tried), Failure> {
-    let mut desk = desk;
-    desk.set_step_limit(Some(limit));
-    let text = outcome(alloc, &mut desk, ask)?;
-    desk.set_step_limit(None);
-    if text.as_str() != UNAVAILABLE {
-        let right = course.answers(number, text.as_str());
-        return Ok((desk, if right { Tried::Answered } else { Tried::Wrong }));
-    }
-    let (mut desk, rows) = seen(alloc, desk)?;
-    let text = outcome(alloc, &mut desk, ask)?;
-    let right = course.has_rows(number, rows.as_str()) && course.answers(number, text.as_str());
-    Ok((desk, if right { Tried::Unavailable } else { Tried::Wrong }))
-}
-
-/// The rows under a desk.
-fn seen(alloc: Global, desk: Desk<MemStore>) -> Result<(Desk<MemStore>, String), Failure> {
+) -> Result<(Desk<MemStore>, bool), Failure> {
     let (mut store, settings) = desk.detach();
-    let rows = rows_of(alloc, &mut store)?;
+    let rows = rows_of(alloc, &mut store);
     match Desk::attach(alloc, store, settings) {
-        Ok(desk) => Ok((desk, rows)),
+        Ok(mut desk) => {
+            let text = outcome(alloc, &mut desk, ask);
+            let right = course.has_rows(number, rows?.as_str())
+                && course.answers(number, text?.as_str());
+            Ok((desk, right))
+        }
         Err(_) => Err(Failure::Settings),
     }
 }

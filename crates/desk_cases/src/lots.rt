@@ -65,9 +65,8 @@ pub(crate) fn drawn(
 /// Which line a command is made of: the first one of the first four, the next one of the first
 /// eight, and so on.
 fn place_at(number: u32, i: u32, count: usize) -> usize {
-    let open = u64::from(i).saturating_add(1).saturating_mul(4);
-    let open = open.min(count as u64);
-    (u64::from(number) / 65_536).checked_rem(open).unwrap_or(0) as usize
+    let most = (i as usize).saturating_add(1).saturating_mul(4).min(count);
+    ((number / 65_536) as usize).checked_rem(most).unwrap_or(0)
 }
 
 /// The line with a word for each key, and the generator's number afterwards.
@@ -90,9 +89,9 @@ fn filled(
 }
 
 fn word_at(words: &str, number: u32) -> &str {
-    let count = words.split(' ').count() as u64;
-    let place = (u64::from(number) / 65_536).checked_rem(count).unwrap_or(0);
-    words.split(' ').nth(place as usize).unwrap_or("")
+    let count = words.split(' ').count();
+    let place = ((number / 65_536) as usize).checked_rem(count).unwrap_or(0);
+    words.split(' ').nth(place).unwrap_or("")
 }
 
 fn replaced(alloc: Global, text: &str, key: &str, word: &str) -> Result<String, AllocError> {

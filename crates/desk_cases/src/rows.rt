@@ -17,6 +17,15 @@ pub(crate) fn rows_of<S: Backend>(alloc: Global, store: &mut Store<S>) -> Result
     Ok(text)
 }
 
+/// The rows, once the tables are made that are missing.
+pub(crate) fn made_rows<S: Backend>(
+    alloc: Global,
+    store: &mut Store<S>,
+) -> Result<String, Failure> {
+    store.create_schema().map_err(|_| Failure::Statement)?;
+    rows_of(alloc, store)
+}
+
 /// Adds the entries of each request.
 fn put_histories<S: Backend>(
     alloc: Global,

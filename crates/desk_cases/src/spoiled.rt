@@ -1,13 +1,12 @@
 //! Files that no run left so.
 
 use crate::course::Course;
-use crate::disks::{Disks, Tables, after_kill, disks, given_back, holding, opened};
+use crate::disks::{Disks, Tables, disks, given_back, holding, opened};
 use crate::failure::Failure;
-use crate::rows::rows_of;
+use crate::rows::made_rows;
 use crate::stops::run_on;
 use sqlite::Files;
-use sqlite_disk::Memory;
-use sqlite_disk::Fuse;
+use sqlite_disk::{Fuse, Memory};
 use std::alloc::Global;
 use store_core::Store;
 
@@ -15,32 +14,31 @@ use store_core::Store;
 /// found.
 pub(crate) fn run(rt: &HostRuntime, course: &Course<'_>, words: &str) -> Result<(), Failure> {
     let disks = spoiled(rt.alloc(), course, words)?;
-    match opened(rt.alloc(), disks) {
-        Ok(store) => tell_found(rt, course, store),
-        Err(_) => {
-            println!(rt; "  refused")?;
-            Ok(())
-        }
+    let count = course.asks.len();
+    match found_on(rt.alloc(), course, disks)? {
+        None => println!(rt; "  refused")?,
+        Some(number) if number > count => println!(rt; "  found: other rows")?,
+        Some(number) => println!(rt; "  found: {number} of {count}")?,
     }
+    Ok(())
 }
 
-fn tell_found(
-    rt: &HostRuntime,
-    course: &Course<'_>,
-    store: Store<Tables>,
-) -> Result<(), Failure> {
-    let mut store = store;
-    store.create_schema().map_err(|_| Failure::Statement)?;
-    let rows = rows_of(rt.alloc(), &mut store)?;
+/// How many commands made the tables that are found, or one more than there are where none did.
+/// None where the files can't be opened.
+fn found_on(alloc: Global, course: &Course<'_>, disks: Disks) -> Result<Option<usize>, Failure> {
+    let Ok(mut store) = opened(alloc, disks) else {
+        return Ok(None);
+    };
+    let rows = made_rows(alloc, &mut store);
+    drop(store);
+    let rows = rows?;
     let count = course.asks.len();
     for number in 0..=count {
         if course.has_rows(number, rows.as_str()) {
-            println!(rt; "  found: {number} of {count}")?;
-            return Ok(());
+            return Ok(Some(number));
         }
     }
-    println!(rt; "  found: other rows")?;
-    Ok(())
+    Ok(Some(count.saturating_add(1)))
 }
 
 /// The files that the words name. Two runs are one of all commands, which is closed and leaves the
@@ -84,9 +82,13 @@ fn log_of_none(alloc: Global) -> Result<Fuse<Memory>, Failure> {
 
 fn made(alloc: Global, store: Store<Tables>) -> Result<Fuse<Memory>, Failure> {
     let mut store = store;
-    store.create_schema().map_err(|_| Failure::Statement)?;
-    let Files { log, db: _ } = after_kill(alloc, &given_back(store))?;
-    Ok(log)
+    let made = store.create_schema();
+    let Files { log, db } = given_back(store);
+    drop(db);
+    match made {
+        Ok(()) => Ok(log),
+        Err(_) => Err(Failure::Statement),
+    }
 }
 
 /// The files of a run of all commands, closed: all is in the database file.
@@ -96,7 +98,10 @@ fn closed(alloc: Global, course: &Course<'_>) -> Result<Disks, Failure> {
     };
     let (files, _) = run_on(alloc, course, store)?;
     match opened(alloc, files) {
-        Ok(store) => store.release().close_files().map_err(|_| Failure::Statement),
+        Ok(store) => store
+            .release()
+            .close_files()
+            .map_err(|_| Failure::Statement),
         Err(_) => Err(Failure::Statement),
     }
 }

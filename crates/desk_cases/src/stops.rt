@@ -3,14 +3,14 @@
 use crate::course::Course;
 use crate::disks::{Disks, Tables, after_crash, after_kill, disks, given_back, opened};
 use crate::failure::Failure;
-use crate::rows::rows_of;
+use crate::rows::{made_rows, rows_of};
 use service_core::Desk;
 use settings_core::Settings;
 use std::alloc::Global;
 use store_core::Store;
 
 /// More calls than a disk is asked.
-const MOST: u64 = 100_000;
+const MOST: u64 = 1_000;
 
 /// Where a disk stops, and what it leaves.
 #[derive(Clone, Copy)]
@@ -71,32 +71,50 @@ pub(crate) fn run_on(
     store: Store<Tables>,
 ) -> Result<(Disks, Option<usize>), Failure> {
     let mut store = store;
-    let settings = settings_of(alloc, course)?;
     if store.create_schema().is_err() {
         return Ok((given_back(store), Some(0)));
     }
-    match Desk::attach(alloc, store, settings) {
-        Ok(desk) => follow(alloc, course, desk, 0),
-        Err((_, store)) => Ok((given_back(store), Some(0))),
+    follow(alloc, course, store, 0)
+}
+
+/// Attaches the settings and runs the commands from that one on. None is answered where they can't
+/// be attached.
+fn follow(
+    alloc: Global,
+    course: &Course<'_>,
+    store: Store<Tables>,
+    from: usize,
+) -> Result<(Disks, Option<usize>), Failure> {
+    match Settings::read(alloc, course.settings.as_bytes()) {
+        Ok(settings) => match Desk::attach(alloc, store, settings) {
+            Ok(desk) => follow_on(alloc, course, desk, from),
+            Err((_, store)) => Ok((given_back(store), Some(from))),
+        },
+        Err(_) => {
+            drop(store);
+            Err(Failure::Settings)
+        }
     }
 }
 
-fn settings_of(alloc: Global, course: &Course<'_>) -> Result<Settings, Failure> {
-    Settings::read(alloc, course.settings.as_bytes()).map_err(|_| Failure::Settings)
-}
-
-/// Runs the commands from that one on.
-fn follow(
+fn follow_on(
     alloc: Global,
     course: &Course<'_>,
     desk: Desk<Tables>,
     from: usize,
 ) -> Result<(Disks, Option<usize>), Failure> {
     let mut desk = desk;
-    let answered = course.follow(alloc, &mut desk, from)?;
+    let answered = course.follow(alloc, &mut desk, from);
     let (store, settings) = desk.detach();
     drop(settings);
-    Ok((given_back(store), answered))
+    let disks = given_back(store);
+    match answered {
+        Ok(answered) => Ok((disks, answered)),
+        Err(failure) => {
+            drop(disks);
+            Err(failure)
+        }
+    }
 }
 
 /// Opens the files again: how many commands made the tables that are found. None where these aren't
@@ -126,38 +144,38 @@ fn found_in(
     answered: usize,
 ) -> Result<Option<usize>, Failure> {
     let mut store = store;
-    if store.create_schema().is_err() {
-        return Ok(None);
-    }
-    let rows = rows_of(alloc, &mut store)?;
-    for found in [answered, answered.saturating_add(1)] {
-        if course.has_rows(found, rows.as_str()) {
-            let ends = goes_on(alloc, course, store, found)?;
-            return Ok(if ends { Some(found) } else { None });
+    match made_rows(alloc, &mut store) {
+        Ok(rows) => match course.place(rows.as_str(), answered) {
+            Some(found) => goes_on(alloc, course, store, found),
+            None => {
+                drop(store);
+                Ok(None)
+            }
+        },
+        Err(failure) => {
+            drop(store);
+            Err(failure)
         }
     }
-    Ok(None)
 }
 
-/// Whether the commands from that one on go on to their answers, and leave the rows that they leave
-/// in memory.
+/// That number, where the commands from it on go on to their answers, and leave the rows that they
+/// leave in memory.
 fn goes_on(
     alloc: Global,
     course: &Course<'_>,
     store: Store<Tables>,
     from: usize,
-) -> Result<bool, Failure> {
+) -> Result<Option<usize>, Failure> {
     let count = course.asks.len();
-    let settings = settings_of(alloc, course)?;
-    let Ok(desk) = Desk::attach(alloc, store, settings) else {
-        return Ok(false);
-    };
-    let (disks, answered) = follow(alloc, course, desk, from)?;
+    let (disks, answered) = follow(alloc, course, store, from)?;
     match opened(alloc, disks) {
         Ok(mut store) => {
-            let rows = rows_of(alloc, &mut store)?;
-            Ok(answered == Some(count) && course.has_rows(count, rows.as_str()))
+            let rows = rows_of(alloc, &mut store);
+            drop(store);
+            let ends = answered == Some(count) && course.has_rows(count, rows?.as_str());
+            Ok(if ends { Some(from) } else { None })
         }
-        Err(_) => Ok(false),
+        Err(_) => Ok(None),
     }
 }

@@ -41,9 +41,13 @@ impl Read for Endless<'_> {
         if buf.is_empty() {
             return Ok(0);
         }
-        let (first, rest) = self.bytes.split_first().unwrap_or((&b'#', &[]));
-        buf[0] = *first;
-        self.bytes = rest;
+        match self.bytes.split_first() {
+            Some((first, rest)) => {
+                buf[0] = *first;
+                self.bytes = rest;
+            }
+            None => buf[0] = b'#',
+        }
         Ok(1)
     }
 }

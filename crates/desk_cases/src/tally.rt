@@ -71,10 +71,8 @@ fn count_list(
     list: &Drawn,
     tally: &mut Tally,
 ) -> Result<(), Failure> {
-    let mut desk = attached(alloc, "", settings)?;
-    let outcomes = desk.execute_all(alloc, list.asks.as_slice())?;
-    let mut desk = attached(alloc, "", settings)?;
-    let replies = serve_list(alloc, list.sent.as_slice(), &mut desk)?;
+    let outcomes = outcomes_of(alloc, settings, list)?;
+    let replies = replies_to(alloc, settings, list)?;
     for (i, outcome) in outcomes.iter().enumerate() {
         let place = list.places.get(i).copied().unwrap_or(usize::MAX);
         count_outcome(tally, place, outcome);
@@ -83,6 +81,30 @@ fn count_list(
         }
     }
     Ok(())
+}
+
+/// What comes of the commands, all asked of a new desk at once.
+fn outcomes_of(
+    alloc: Global,
+    settings: &str,
+    list: &Drawn,
+) -> Result<Vec<Result<Answer, Refusal>>, Failure> {
+    let mut desk = attached(alloc, "", settings)?;
+    let outcomes = desk.execute_all(alloc, list.asks.as_slice());
+    drop(desk);
+    Ok(outcomes?)
+}
+
+/// The replies to the messages, all sent to a new desk.
+fn replies_to(
+    alloc: Global,
+    settings: &str,
+    list: &Drawn,
+) -> Result<Vec<Result<Vec<u8>, ServeFault>>, Failure> {
+    let mut desk = attached(alloc, "", settings)?;
+    let replies = serve_list(alloc, list.sent.as_slice(), &mut desk);
+    drop(desk);
+    Ok(replies?)
 }
 
 fn count_outcome(tally: &mut Tally, place: usize, outcome: &Result<Answer, Refusal>) {
@@ -112,11 +134,18 @@ fn is_reply(
 fn tell(rt: &HostRuntime, urn: &Urn<'_>, tally: &Tally) -> Result<(), Failure> {
     for (line, count) in urn.lines.iter().zip(tally.accepted.iter()) {
         let (words, _) = line.split_once('|').unwrap_or((line, ""));
-        println!(rt; "{}: {words}", if *count > 0 { "accepted" } else { "never accepted" })?;
+        println!(rt; "accepted {}: {words}", told(*count))?;
     }
     for (number, count) in tally.refused.iter().enumerate().skip(1) {
-        println!(rt; "{}: {number}", if *count > 0 { "refused" } else { "never refused" })?;
+        println!(rt; "refused {number} {}", told(*count))?;
     }
     println!(rt; "replies with another text: {}", tally.differ)?;
     Ok(())
+}
+
+fn told(count: u32) -> &'static str {
+    match count {
+        0 => "never",
+        _ => "at least once",
+    }
 }
