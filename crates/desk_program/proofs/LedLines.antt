@@ -103,7 +103,7 @@ refused_alone : (s : Settings) (fault : AttachFault) (old new : State)
     → (fault ≡ UnknownName → TellsKnown s old new false) → FailsOver old new fault
     → StandsFor empty_desk old → HasCleanDisk new → fault ≡ Store Refused
 refused_alone s fault old new unknown fails empty clean =
-    elim (fails (contents_of empty_desk) empty clean) [
+    elim (fails (contents_of empty.0 empty_desk) empty.1 clean) [
       | inl e ↦ absurd (let no = unknown e empty_desk empty_is_desk empty clean in
           let yes = knows_empty s in cc)
       | inr refused ↦ refused

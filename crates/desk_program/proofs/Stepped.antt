@@ -1,63 +1,72 @@
 -- One command over tables: where it leads from the desk with which the tables begin.
-use Rattle.std.proofs.Common.{◌≡◌, inl, inr, ℕ, true, false, List, Result, Ok, Err, refl, subst}
-use Rattle.std.proofs.Common.{sym}
+use Rattle.std.proofs.Common.{◌≡◌, ◌⊎◌, ◌∙◌, ◌++◌, [], inl, inr, ℕ, ⊤, Bool, true, false, List}
+use Rattle.std.proofs.Common.{Result, Ok, Err, ap, refl, subst, sym}
 use Rattle.sqlite.specs.Held.{Held}
-use Rattle.sqlite.specs.State.{State}
+use Rattle.sqlite.specs.State.{State, HasCleanDisk}
 use Rattle.sqlite.specs.Store.{Ghosts}
 use Rattle.settings_core.specs.declared.fault.SettingsFault.{SettingsFault}
 use Rattle.settings_core.specs.declared.settings.Settings.{Settings}
 use Rattle.desk_model.specs.declared.command.Command.{Command}
+use Rattle.desk_model.specs.declared.refusal.Refusal.{Refusal}
 use Rattle.desk_model.specs.declared.refusal.Refusal.TheVariants.{Unavailable}
 use Rattle.desk_model.specs.Desk.{Desk}
+use Rattle.desk_model.specs.IsDesk.{IsDesk}
 use Rattle.desk_model.specs.Known.{is_known}
-use Rattle.desk_model.specs.Step.{Ask, Outcome}
+use Rattle.desk_model.specs.Step.{Ask, Outcome, Steps}
+use Rattle.desk_lists.specs.declared.fault.StreamFault.{StreamFault}
+use Rattle.desk_lists.specs.declared.fault.StreamFault.TheVariants.{Refused, Write}
 use Rattle.desk_texts.proofs.DeskUnchanged.{unchanged_if_long}
 use Rattle.desk_texts.specs.Short.{is_short}
-use Rattle.desk_texts.specs.Texts.{outcome_text}
+use Rattle.desk_texts.specs.Texts.{outcome_text, refusal_text}
+use Rattle.service_core.specs.Streaming.{IsStreamed}
 use Rattle.service_core.specs.TableSteps.{LeadsOn, StepsOn, ask_by}
-use Rattle.store_tables.specs.Calls.{WasClean}
+use Rattle.store_tables.proofs.Spared.{stands}
+use Rattle.store_tables.specs.Calls.{Spares, WasClean}
 use Rattle.store_tables.specs.Contents.{contents_of}
-use Rattle.store_tables.specs.Stands.{StandsFor}
+use Rattle.store_core.specs.Due.{StandsDue, due_of_row}
 use Rattle.desk_program.specs.FaultLines.{unavailable_text}
-use Rattle.desk_program.specs.One.{IsDone, IsGivenOutput, TakesStep, status_of}
+use Rattle.desk_program.specs.One.{IsDone, IsGivenOutput, TakesStep, TellsStep, status_of}
 use Rattle.desk_program.specs.Opening.{IsOpened, IsOpeningFault}
 use Rattle.desk_program.proofs.LedLines.{knows_empty}
 
 -- a command that was done
 pub stepped : (s : Settings) (at : ℕ) (caller : List ℕ) (command : Command) (outcome : Outcome)
-    (old new : State) (text : List ℕ) (status : ℕ) → text ≡ outcome_text outcome
+    (failed : Bool) (old new : State) (text : List ℕ) (status : ℕ) → text ≡ outcome_text outcome
     → status ≡ status_of outcome → StepsOn s (ask_by at caller command) outcome old new
-    → LeadsOn s (TakesStep s (ask_by at caller command) text status) old new
-stepped s at caller command outcome old new text status told ends steps desk formed stands clean =
+    → LeadsOn s (TakesStep s (ask_by at caller command) failed text status) old new
+stepped s at caller command outcome failed old new text status told ends steps desk formed stands clean =
     let done = steps desk formed stands clean in
-    (done.0, (outcome, done.1.step, told, ends, done.1.formed), done.2)
+    (done.0, (inl (outcome, done.1.step, told, ends), done.1.formed), done.2)
 
 -- a command that was done, and for whose text there was no memory
 pub unavailable_if_long : (s : Settings) (at : ℕ) (caller : List ℕ) (command : Command)
-    (outcome : Outcome) (old new : State) → is_short outcome ≡ false
+    (outcome : Outcome) (failed : Bool) (old new : State) → is_short outcome ≡ false
     → StepsOn s (ask_by at caller command) outcome old new
-    → LeadsOn s (TakesStep s (ask_by at caller command) unavailable_text 1) old new
-unavailable_if_long s at caller command outcome old new long steps desk formed stands clean =
+    → LeadsOn s (TakesStep s (ask_by at caller command) failed unavailable_text 1) old new
+unavailable_if_long s at caller command outcome failed old new long steps desk formed stands clean =
     let done = steps desk formed stands clean in
     let same = unchanged_if_long s at caller command desk done.0 outcome long done.1.step in
-    (done.0, (Err Unavailable, inl (refl, same), refl, refl, done.1.formed), done.2)
+    (done.0, (inl (Err Unavailable, inl (refl, same), refl, refl), done.1.formed), done.2)
 
 -- a command for which there was no room
-pub not_stepped : (s : Settings) (ask : Ask) (tables : State)
-    → LeadsOn s (TakesStep s ask unavailable_text 1) tables tables
-not_stepped s ask tables desk formed stands clean =
-    (desk, (Err Unavailable, inl (refl, refl), refl, refl, formed), stands)
+pub not_stepped : (s : Settings) (ask : Ask) (failed : Bool) (tables : State)
+    → LeadsOn s (TakesStep s ask failed unavailable_text 1) tables tables
+not_stepped s ask failed tables desk formed stands clean =
+    (desk, (inl (Err Unavailable, inl (refl, refl), refl, refl), formed), stands)
 
 -- the tables were opened, and the command was done
-pub done_once_opened : (s : Settings) (text : List ℕ) (ask : Ask) (old mid new : State)
-    (line : List ℕ) (status : ℕ) → IsOpened text old s mid → WasClean mid new
-    → LeadsOn s (TakesStep s ask line status) mid new → IsDone s ask old new line status
-done_once_opened s text ask old mid new line status is honest leads desk formed (inl stand) clean =
-    let led = leads desk formed (is.kept (contents_of desk) stand) clean in
+pub done_once_opened : (s : Settings) (text : List ℕ) (ask : Ask) (failed : Bool)
+    (old mid new : State) (line : List ℕ) (status : ℕ) → IsOpened text old s mid
+    → WasClean mid new → LeadsOn s (TakesStep s ask failed line status) mid new
+    → IsDone s ask failed old new line status
+done_once_opened s text ask failed old mid new line status is honest leads desk formed (inl stand)
+    clean =
+    let led = leads desk formed (is.renewed desk formed stand) clean in
     (led.0, is.known desk formed stand (honest clean), led.1, led.2)
-done_once_opened s text ask old mid new line status is honest leads desk formed (inr none) clean =
-    let begins : StandsFor desk mid =
-    subst (λ (d : Desk). StandsFor d mid) (sym none.1) (is.made none.0) in
+done_once_opened s text ask failed old mid new line status is honest leads desk formed (inr none)
+    clean =
+    let begins : StandsDue s desk mid =
+    subst (λ (d : Desk). StandsDue s d mid) (sym none.1) (is.made none.0) in
     let led = leads desk formed begins clean in (
       led.0,
       subst (λ (d : Desk). is_known s d ≡ true) (sym none.1) (knows_empty s),
@@ -67,7 +76,85 @@ done_once_opened s text ask old mid new line status is honest leads desk formed 
 
 -- the tables weren't opened, and the fault is told
 pub not_opened : {S : Type 0} (g : Ghosts S) (given : Result Settings SettingsFault) (ask : Ask)
-    (old new : Held S) (line : List ℕ) (status : ℕ) → IsOpeningFault g given old new line status
-    → IsGivenOutput g given ask old new line status
-not_opened g (Err fault) ask old new line status told = told
-not_opened g (Ok settings) ask old new line status told = inl told
+    (failed : Bool) (old new : Held S) (line : List ℕ) (status : ℕ)
+    → IsOpeningFault g given old new line status
+    → IsGivenOutput g given ask failed old new line status
+not_opened g (Err fault) ask failed old new line status told = told
+not_opened g (Ok settings) ask failed old new line status told = inl told
+
+-- ---- a list
+
+module _ (s : Settings) (at : ℕ) (caller : List ℕ) (command : Command) (old new : State)
+    (kept : Spares old new) where
+  abbrev ask : Ask
+  ask = ask_by at caller command
+
+  abbrev Came : Result ⊤ StreamFault → List ℕ → Type 0
+  Came result printed =
+      (desk : Desk) → IsDesk desk → StandsDue s desk old → HasCleanDisk new
+      → IsStreamed s ask desk result printed
+
+  still : (desk : Desk) → StandsDue s desk old → StandsDue s desk new
+  still desk stand = stands kept (contents_of (due_of_row s desk) desk) stand
+
+  -- it was written whole
+  pub list_printed : (failed : Bool) (printed : List ℕ) → Came (Ok tt) printed
+      → LeadsOn s (TakesStep s ask failed printed 0) old new
+  list_printed failed printed came desk formed stand clean =
+      let it = came desk formed stand clean in
+      (desk, (inl (Ok it.0, it.1.step, it.2, refl), formed), still desk stand)
+
+  -- a write failed in it
+  pub list_failed : (failed : Bool) (printed : List ℕ) (status : ℕ) → failed ≡ true
+      → Came (Err Write) printed → LeadsOn s (TakesStep s ask failed printed status) old new
+  list_failed failed printed status is came desk formed stand clean =
+      let it = came desk formed stand clean in (
+        desk,
+        (inr (it.0, it.1.step, printed, it.2, inl (is, refl), refl), formed),
+        still desk stand,
+      )
+
+  -- it was refused, maybe in its middle, and that is told, or that there was no memory to tell it
+  pub list_refused : (failed : Bool) (printed : List ℕ) (refusal told : Refusal)
+      → (told ≡ refusal) ⊎ (told ≡ Unavailable) → Came (Err (Refused refusal)) printed
+      → LeadsOn s (TakesStep s ask failed (printed ++ refusal_text told) 1) old new
+  list_refused failed printed refusal told which came desk formed stand clean = (
+    desk,
+    (
+      elim (came desk formed stand clean) [
+        | inl none ↦ inl (nothing which none.0.step none.1)
+        | inr cut ↦
+            let it = cut.1 in
+            let same : told ≡ Unavailable = elim which [
+              | inl as_it_is ↦ as_it_is ∙ cut.0
+              | inr unavailable ↦ unavailable
+            ] in
+            inr (
+              it.0,
+              it.1.step,
+              printed,
+              it.2,
+              inr (ap (λ r. printed ++ refusal_text r) same, refl),
+              refl,
+            )
+      ],
+      formed,
+    ),
+    still desk stand,
+  )
+    where
+      nothing : (told ≡ refusal) ⊎ (told ≡ Unavailable)
+          → Steps s at caller command desk (Err refusal) desk → printed ≡ []
+          → TellsStep s ask (printed ++ refusal_text told) 1 desk desk
+      nothing (inl same) step none = (
+        Err refusal,
+        step,
+        ap (λ (l : List ℕ). l ++ refusal_text told) none ∙ ap refusal_text same,
+        refl,
+      )
+      nothing (inr same) step none = (
+        Err Unavailable,
+        inl (refl, refl),
+        ap (λ (l : List ℕ). l ++ refusal_text told) none ∙ ap refusal_text same,
+        refl,
+      )

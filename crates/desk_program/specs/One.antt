@@ -1,19 +1,23 @@
 -- One command on the tables of a store.
-use Rattle.std.specs.Prelude.{◌≡◌, ◌⊎◌, ℕ, Bool, true, List, Option, Some, None, Result, Ok, Err}
+use Rattle.std.specs.Prelude.{◌≡◌, ◌⊎◌, ◌++◌, ℕ, Bool, true, List, Option, Some, None, Result}
+use Rattle.std.specs.Prelude.{Ok, Err}
 use Rattle.std.specs.Prelude.{if◌then◌else◌}
 use Rattle.sqlite.specs.Held.{Held, state}
 use Rattle.sqlite.specs.State.{State, HasCleanDisk}
 use Rattle.sqlite.specs.Store.{Ghosts}
 use Rattle.settings_core.specs.declared.fault.SettingsFault.{SettingsFault}
 use Rattle.settings_core.specs.declared.settings.Settings.{Settings}
+use Rattle.desk_model.specs.declared.answer.Answer.{Answer}
 use Rattle.desk_model.specs.declared.command.Command.{Command}
 use Rattle.desk_model.specs.Desk.{Desk, empty_desk}
 use Rattle.desk_model.specs.IsDesk.{IsDesk}
 use Rattle.desk_model.specs.Known.{is_known}
 use Rattle.desk_model.specs.Step.{Ask, Outcome, Steps}
-use Rattle.desk_texts.specs.Texts.{outcome_text}
+use Rattle.desk_texts.specs.Texts.{answer_text, outcome_text}
 use Rattle.desk_words.specs.Spelling.{command_of}
+use Rattle.service_core.specs.Streaming.{IsBeginningOf}
 use Rattle.service_core.specs.TableSteps.{ask_by}
+use Rattle.store_core.specs.Due.{StandsDue}
 use Rattle.store_tables.specs.Making.{IsBlank}
 use Rattle.store_tables.specs.Stands.{StandsFor}
 use Rattle.stream_core.specs.Written.{IsWritten}
@@ -40,64 +44,80 @@ abbrev pub status_of : Outcome → ℕ
 status_of (Ok answer) = 0
 status_of (Err refusal) = 1
 
--- one step to a well-formed desk, the text of its outcome and the status
-abbrev pub TakesStep : Settings → Ask → List ℕ → ℕ → Desk → Desk → Type 0
-TakesStep settings ask line status old new =
+-- what comes of a command, its text and the status
+abbrev pub TellsStep : Settings → Ask → List ℕ → ℕ → Desk → Desk → Type 0
+TellsStep settings ask line status old new =
     (outcome : Outcome) × Steps settings ask.at ask.caller ask.command old outcome new
-    × (line ≡ outcome_text outcome) × (status ≡ status_of outcome) × IsDesk new
+    × (line ≡ outcome_text outcome) × (status ≡ status_of outcome)
+
+-- A list was cut short: a part from the front of the answer's text, in which a write failed; or
+-- that and the line that memory or the store refused, with the status of a refusal. The desk stays.
+abbrev pub IsCutShort : Settings → Ask → Bool → List ℕ → ℕ → Desk → Desk → Type 0
+IsCutShort settings ask failed line status old new =
+    (answer : Answer) × Steps settings ask.at ask.caller ask.command old (Ok answer) new
+    × (part : List ℕ) × IsBeginningOf part (answer_text answer)
+    × (((failed ≡ true) × (line ≡ part))
+    ⊎ ((line ≡ part ++ unavailable_text) × (status ≡ 1))) × (new ≡ old)
+
+-- one step to a well-formed desk, and what is printed of it, where a write failed or not
+abbrev pub TakesStep : Settings → Ask → Bool → List ℕ → ℕ → Desk → Desk → Type 0
+TakesStep settings ask failed line status old new =
+    (TellsStep settings ask line status old new ⊎ IsCutShort settings ask failed line status old new)
+    × IsDesk new
 
 -- the desk with which the tables begin: the one that they stand for, or the empty one where there
 -- is no table at all
 abbrev pub BeginsWith : Desk → State → Type 0
 BeginsWith desk tables = StandsFor desk tables ⊎ (IsBlank tables × (desk ≡ empty_desk))
 
--- The command was done: whatever desk the tables begin with, the settings know its names, and the
--- tables stand afterwards for the desk to which one step leads.
-abbrev pub IsDone : Settings → Ask → State → State → List ℕ → ℕ → Type 0
-IsDone settings ask old new line status =
+-- The command was done, and a write of its text failed or not: whatever desk the tables begin with, the settings know its names, and the
+-- tables stand afterwards for the desk to which one step leads, with its due moments.
+abbrev pub IsDone : Settings → Ask → Bool → State → State → List ℕ → ℕ → Type 0
+IsDone settings ask failed old new line status =
     (desk : Desk) → IsDesk desk → BeginsWith desk old → HasCleanDisk new
     → (after : Desk) × (is_known settings desk ≡ true)
-    × TakesStep settings ask line status desk after × StandsFor after new
+    × TakesStep settings ask failed line status desk after × StandsDue settings after new
 
 -- ---- what is printed, and the status
 
 -- the settings were read and the desk was opened, or the first fault of that is told
-abbrev pub IsGivenOutput : {S : Type 0} → Ghosts S → Result Settings SettingsFault → Ask → Held S
-    → Held S → List ℕ → ℕ → Type 0
-IsGivenOutput g (Err fault) ask old new line status =
+abbrev pub IsGivenOutput : {S : Type 0} → Ghosts S → Result Settings SettingsFault → Ask → Bool
+    → Held S → Held S → List ℕ → ℕ → Type 0
+IsGivenOutput g (Err fault) ask failed old new line status =
     IsOpeningFault g (Err fault) old new line status
-IsGivenOutput g (Ok settings) ask old new line status =
+IsGivenOutput g (Ok settings) ask failed old new line status =
     IsOpeningFault g (Ok settings) old new line status
-    ⊎ IsDone settings ask (state g old) (state g new) line status
+    ⊎ IsDone settings ask failed (state g old) (state g new) line status
 
 -- no command, and the tables stay; or that command with the settings of a text
-abbrev pub IsCommandOutput : {S : Type 0} → Ghosts S → List ℕ → ℕ → List ℕ → Option Command → Held S
-    → Held S → List ℕ → ℕ → Type 0
-IsCommandOutput g settings at caller None old new line status =
+abbrev pub IsCommandOutput : {S : Type 0} → Ghosts S → List ℕ → ℕ → List ℕ → Option Command → Bool
+    → Held S → Held S → List ℕ → ℕ → Type 0
+IsCommandOutput g settings at caller None failed old new line status =
     (line ≡ bad_words_text) × (status ≡ 2) × (new ≡ old)
-IsCommandOutput g settings at caller (Some command) old new line status =
+IsCommandOutput g settings at caller (Some command) failed old new line status =
     (given : Result Settings SettingsFault) × GivesSettings settings given
-    × IsGivenOutput g given (ask_by at caller command) old new line status
+    × IsGivenOutput g given (ask_by at caller command) failed old new line status
 
 -- there was no memory to read the words, and the tables stay
 abbrev pub IsUnread : {S : Type 0} → Held S → Held S → List ℕ → ℕ → Type 0
 IsUnread old new line status = (line ≡ unavailable_text) × (status ≡ 1) × (new ≡ old)
 
-abbrev pub IsOneOutput : {S : Type 0} → Ghosts S → Asked → Held S → Held S → List ℕ → ℕ → Type 0
-IsOneOutput g asked old new line status =
+abbrev pub IsOneOutput : {S : Type 0} → Ghosts S → Asked → Bool → Held S → Held S → List ℕ → ℕ
+    → Type 0
+IsOneOutput g asked failed old new line status =
     IsUnread old new line status
-    ⊎ IsCommandOutput g asked.settings asked.at asked.caller (command_of asked.words) old new line
-    status
+    ⊎ IsCommandOutput g asked.settings asked.at asked.caller (command_of asked.words) failed old new
+    line status
 
 -- One command was run on the tables of a connection, and its text was written.
 pub record RunsOne {S : Type 0} (g : Ghosts S) (asked : Asked) (old new : Held S)
     (before after : Option (List ℕ)) (ended : ℕ) (failed : Bool) : Type 0 where
-  -- the text of the answer, of the refusal or of the fault
+  -- the text of the answer, of the refusal or of the fault, or of a list that was cut short
   pub text : List ℕ
   -- the status that goes with it
   pub status : ℕ
   -- they are those of what is asked, and so are the tables afterwards
-  pub output : IsOneOutput g asked old new text status
+  pub output : IsOneOutput g asked failed old new text status
   -- the text was written whole, or where a write failed a part from its front
   pub written : IsWritten failed before after text
   -- it ends with that status, or with 4 after a failed write

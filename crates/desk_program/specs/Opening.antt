@@ -9,8 +9,10 @@ use Rattle.settings_core.specs.declared.fault.SettingsFault.{SettingsFault}
 use Rattle.settings_core.specs.declared.settings.Settings.{Settings}
 use Rattle.settings_core.specs.Reading.{IsSettingsOf}
 use Rattle.service_core.specs.Attaching.{FailsOver, TellsKnown}
+use Rattle.service_core.specs.Renewing.{AreRenewed}
 use Rattle.service_core.specs.declared.fault.AttachFault.{AttachFault}
 use Rattle.service_core.specs.declared.fault.AttachFault.TheVariants.{UnknownName}
+use Rattle.store_core.specs.Due.{StandsDue}
 use Rattle.store_tables.specs.Calls.{Leaves, WasClean}
 use Rattle.store_tables.specs.Contents.{Contents}
 use Rattle.store_tables.specs.Making.{IsBlank}
@@ -26,10 +28,10 @@ use Rattle.desk_program.specs.Input.{GivesSettings}
 pub record IsOpened (text : List ℕ) (old : State) (settings : Settings) (new : State) : Type 0 where
   -- the settings are those of the text
   pub stated : IsSettingsOf text settings
-  -- what the tables held they hold still
-  pub kept : Leaves old new
+  -- whatever desk the tables stood for they stand for still, and keep its due moments
+  pub renewed : AreRenewed settings old new
   -- where there was no table at all, they stand for the empty desk
-  pub made : IsBlank old → StandsFor empty_desk new
+  pub made : IsBlank old → StandsDue settings empty_desk new
   -- the settings know each name of the desk that the tables stood for
   pub known : TellsKnown settings old new true
 

@@ -1,20 +1,22 @@
 //! One command on the tables of a store.
-ghost use Rattle.std.specs.Prelude.{◌≡◌, ◌+◌, ◌≤◌, [], ℕ, Bool, List, Some, map, string_bytes};
+ghost use Rattle.std.specs.Prelude.{◌≡◌, ◌⊎◌, ◌+◌, ◌≤◌, [], ℕ, Bool, List, Some, false, map, string_bytes};
 ghost use Rattle.std.specs.Vec.{vec_capacity, vec_len};
 ghost use Rattle.sqlite.specs.Held.{Held};
 ghost use Rattle.store_core.specs.Seen.{connection_of, state_of};
 ghost use Rattle.store_tables.specs.Calls.{WasClean};
 ghost use Rattle.service_core.specs.Seen.{settings_of, tables_of};
 ghost use Rattle.service_core.specs.TableSteps.{LeadsOn, ask_by};
-ghost use Rattle.stream_core.specs.Seen.{HaveOneWriter};
+ghost use Rattle.stream_core.specs.Seen.{HaveOneWriter, has_write_failed};
 ghost use Rattle.stream_core.specs.Written.{Prints};
+ghost use Rattle.desk_model.specs.declared.refusal.Refusal.{Refusal};
+ghost use Rattle.desk_texts.specs.Texts.{refusal_text};
 ghost use Rattle.desk_program.specs.One as one;
 ghost use Rattle.desk_program.specs.One.{RunsOne, TakesStep, asked_by};
 
 use crate::fault_lines::{put_bad_words, put_unavailable};
 use crate::opening::{ended, open};
 use desk_core::{Answer, Command, Refusal};
-use service_core::{Desk, SHORT_TEXT, text_in_room};
+use service_core::{Desk, SHORT_TEXT, StreamFault, refusal_text, text_in_room};
 use std::alloc::Global;
 use std::io::Write;
 use store_core::{Backend, Store};
@@ -48,7 +50,9 @@ pub struct OneEnded<S: Backend> {
 /// fault of the settings, with 3, one of the store when missing tables were to be made, and one of
 /// attaching the settings, each with 4. Else the command's answer is written, with 0, or its
 /// refusal, with 1; tables that were missing stay made after a refusal too. Out of memory for the
-/// words it is `refused 16 Unavailable`, with 1, and nothing is done.
+/// words it is `refused 16 Unavailable`, with 1, and nothing is done. A list of requests is written
+/// row by row: where memory or the store refuses in its middle, that line comes after the rows so
+/// far.
 ///
 /// A failed write, or one that takes no byte, ends it with status 4: what was written is then a
 /// part from the front of the text, and the change of the command stays.
@@ -105,10 +109,12 @@ fn run_words<S: Backend, W: Write>(
     words: &[String],
     output: &mut CountedWriter<'_, W>,
 ) -> (u8, Store<S>)
+    requires { has_write_failed output.old ≡ false }
     ensures same_writer { HaveOneWriter output.new output.old }
     ensures printed { (line : List ℕ)
         × one.IsOneOutput S.Store
         (asked_by settings.now at caller.now (map string_bytes words.now))
+        (has_write_failed output.new)
         (connection_of S.Store store) (connection_of S.Store result.1) line result.0
         × Prints W.contents output.old output.new line }
 {
@@ -139,10 +145,11 @@ fn run_command<S: Backend, W: Write>(
     command: &Command,
     output: &mut CountedWriter<'_, W>,
 ) -> (u8, Store<S>)
+    requires { has_write_failed output.old ≡ false }
     ensures same_writer { HaveOneWriter output.new output.old }
     ensures printed { (line : List ℕ)
         × one.IsCommandOutput S.Store settings.now at caller.now (Some command.now)
-        (connection_of S.Store store) (connection_of S.Store result.1) line result.0
+        (has_write_failed output.new) (connection_of S.Store store) (connection_of S.Store result.1) line result.0
         × Prints W.contents output.old output.new line }
 {
     match open(alloc, store, settings, output) {
@@ -160,11 +167,12 @@ fn run_on_desk<S: Backend, W: Write>(
     command: &Command,
     output: &mut CountedWriter<'_, W>,
 ) -> (u8, Store<S>)
+    requires { has_write_failed output.old ≡ false }
     ensures same_writer { HaveOneWriter output.new output.old }
     ensures printed { (line : List ℕ)
         × LeadsOn (settings_of S.Store desk)
         (TakesStep (settings_of S.Store desk) (ask_by at caller.now command.now)
-        line result.0) (tables_of S.Store desk) (state_of S.Store result.1)
+        (has_write_failed output.new) line result.0) (tables_of S.Store desk) (state_of S.Store result.1)
         × Prints W.contents output.old output.new line }
     ensures honest { WasClean (tables_of S.Store desk) (state_of S.Store result.1) }
 {
@@ -175,9 +183,79 @@ fn run_on_desk<S: Backend, W: Write>(
     (status, store)
 }
 
+/// Does the command and prints its text: a list row by row, any other text at once.
+fn run_step<S: Backend, W: Write>(
+    alloc: Global,
+    desk: &mut Desk<S>,
+    caller: &str,
+    at: u32,
+    command: &Command,
+    output: &mut CountedWriter<'_, W>,
+) -> u8
+    requires { has_write_failed output.old ≡ false }
+    ensures same_writer { HaveOneWriter output.new output.old }
+    ensures printed { (line : List ℕ)
+        × LeadsOn (settings_of S.Store desk.old)
+        (TakesStep (settings_of S.Store desk.old) (ask_by at caller.now command.now)
+        (has_write_failed output.new) line result) (tables_of S.Store desk.old) (tables_of S.Store desk.new)
+        × Prints W.contents output.old output.new line }
+    ensures honest { WasClean (tables_of S.Store desk.old) (tables_of S.Store desk.new) }
+{
+    match command {
+        Command::List { .. } => run_list(alloc, desk, caller, at, command, output),
+        Command::Overdue => run_list(alloc, desk, caller, at, command, output),
+        _ => run_whole(alloc, desk, caller, at, command, output),
+    }
+}
+
+/// Prints a list row by row. Where memory or the store refuses in its middle, the line that says so
+/// comes after the rows so far.
+fn run_list<S: Backend, W: Write>(
+    alloc: Global,
+    desk: &mut Desk<S>,
+    caller: &str,
+    at: u32,
+    command: &Command,
+    output: &mut CountedWriter<'_, W>,
+) -> u8
+    requires { has_write_failed output.old ≡ false }
+    ensures same_writer { HaveOneWriter output.new output.old }
+    ensures printed { (line : List ℕ)
+        × LeadsOn (settings_of S.Store desk.old)
+        (TakesStep (settings_of S.Store desk.old) (ask_by at caller.now command.now)
+        (has_write_failed output.new) line result) (tables_of S.Store desk.old) (tables_of S.Store desk.new)
+        × Prints W.contents output.old output.new line }
+    ensures honest { WasClean (tables_of S.Store desk.old) (tables_of S.Store desk.new) }
+{
+    match desk.stream_counted(alloc, at, caller, command, output) {
+        Ok(()) => ANSWERED,
+        // the writer tells that it failed, and then the status is 4
+        Err(StreamFault::Write) => ANSWERED,
+        Err(StreamFault::Refused(refusal)) => {
+            put_refusal(alloc, refusal, output);
+            REFUSED
+        }
+    }
+}
+
+/// Prints the text of a refusal, or that there is no memory for it.
+fn put_refusal<W: Write>(alloc: Global, refusal: Refusal, output: &mut CountedWriter<'_, W>)
+    ensures same_writer { HaveOneWriter output.new output.old }
+    ensures printed { (told : Refusal)
+        × ((told ≡ refusal) ⊎ (told ≡ Refusal.Unavailable))
+        × Prints W.contents output.old output.new (refusal_text told) }
+{
+    let text = refusal_text(alloc, &refusal);
+    drop(refusal);
+    match text {
+        Ok(text) => output.put(text.as_bytes()),
+        Err(_) => put_unavailable(output),
+    }
+}
+
 /// Does the command and prints its text. It is done only once there is room for the answer of a
 /// command that changes the desk.
-fn run_step<S: Backend, W: Write>(
+fn run_whole<S: Backend, W: Write>(
     alloc: Global,
     desk: &mut Desk<S>,
     caller: &str,
@@ -189,7 +267,7 @@ fn run_step<S: Backend, W: Write>(
     ensures printed { (line : List ℕ)
         × LeadsOn (settings_of S.Store desk.old)
         (TakesStep (settings_of S.Store desk.old) (ask_by at caller.now command.now)
-        line result) (tables_of S.Store desk.old) (tables_of S.Store desk.new)
+        (has_write_failed output.new) line result) (tables_of S.Store desk.old) (tables_of S.Store desk.new)
         × Prints W.contents output.old output.new line }
     ensures honest { WasClean (tables_of S.Store desk.old) (tables_of S.Store desk.new) }
 {
@@ -218,7 +296,7 @@ fn run_in_room<S: Backend, W: Write>(
     ensures printed { (line : List ℕ)
         × LeadsOn (settings_of S.Store desk.old)
         (TakesStep (settings_of S.Store desk.old) (ask_by at caller.now command.now)
-        line result) (tables_of S.Store desk.old) (tables_of S.Store desk.new)
+        (has_write_failed output.new) line result) (tables_of S.Store desk.old) (tables_of S.Store desk.new)
         × Prints W.contents output.old output.new line }
     ensures honest { WasClean (tables_of S.Store desk.old) (tables_of S.Store desk.new) }
 {

@@ -3,11 +3,11 @@ ghost use Rattle.std.specs.Prelude.{◌≡◌, ◌≢◌, ◌≤◌, ℕ, List, 
 ghost use Rattle.std.specs.Prelude.{OnOk, Result, true, if◌then◌else◌};
 ghost use Rattle.store_core.specs.Seen.{connection_of, state_of};
 ghost use Rattle.service_core.specs.Attaching.{TellsKnown};
+ghost use Rattle.service_core.specs.Renewing.{AreRenewed};
 ghost use Rattle.service_core.specs.Seen.{settings_of, tables_of};
 ghost use Rattle.service_core.specs.declared.fault.AttachFault.{AttachFault};
-ghost use Rattle.store_tables.specs.Calls.{Leaves};
+ghost use Rattle.store_core.specs.Due.{StandsDue};
 ghost use Rattle.store_tables.specs.Making.{IsBlank};
-ghost use Rattle.store_tables.specs.Stands.{StandsFor};
 ghost use Rattle.desk_model.specs.Desk.{empty_desk};
 ghost use Rattle.stream_core.specs.Seen.{HaveOneWriter, has_write_failed, held_in};
 ghost use Rattle.stream_core.specs.Written.{Prints};
@@ -74,7 +74,7 @@ pub(crate) fn ended<W: Write>(status: u8, output: &CountedWriter<'_, W>) -> u8
 }
 
 /// The desk over the tables of a store, with the settings of a text. Tables that are missing are
-/// made; those that are there stay as they are.
+/// made; those that are there keep their rows, with the due moments by these settings.
 ///
 /// Where there is none, a line tells the fault, and the exit status is the error: 3 for one of the
 /// settings, and 4 for one of the store or of attaching, or where the write of that line failed.
@@ -137,9 +137,10 @@ fn open_tables<S: Backend, W: Write>(
 ) -> Result<Desk<S>, (u8, Store<S>)>
     ensures same_writer { HaveOneWriter output.new output.old }
     ensures settings { IfOk result (λ desk. settings_of S.Store desk ≡ settings) }
-    ensures kept { IfOk result (λ desk. Leaves (state_of S.Store store) (tables_of S.Store desk)) }
+    ensures renewed { IfOk result (λ desk.
+        AreRenewed settings (state_of S.Store store) (tables_of S.Store desk)) }
     ensures made { IfOk result (λ desk. IsBlank (state_of S.Store store)
-        → StandsFor empty_desk (tables_of S.Store desk)) }
+        → StandsDue settings empty_desk (tables_of S.Store desk)) }
     ensures known { IfOk result (λ desk.
         TellsKnown settings (state_of S.Store store) (tables_of S.Store desk) true) }
     ensures quiet { OnOk result (output.new ≡ output.old) }
@@ -168,7 +169,8 @@ fn attach<S: Backend, W: Write>(
 ) -> Result<Desk<S>, (u8, Store<S>)>
     ensures same_writer { HaveOneWriter output.new output.old }
     ensures settings { IfOk result (λ desk. settings_of S.Store desk ≡ settings) }
-    ensures kept { IfOk result (λ desk. Leaves (state_of S.Store store) (tables_of S.Store desk)) }
+    ensures renewed { IfOk result (λ desk.
+        AreRenewed settings (state_of S.Store store) (tables_of S.Store desk)) }
     ensures known { IfOk result (λ desk.
         TellsKnown settings (state_of S.Store store) (tables_of S.Store desk) true) }
     ensures quiet { OnOk result (output.new ≡ output.old) }

@@ -111,7 +111,8 @@ fn run_lines<S: Backend, W: Write>(
     output: &mut CountedWriter<'_, W>,
 )
     requires clean { HasCleanDisks S.Store }
-    requires empty { StandsFor empty_desk (tables_of S.Store desk.old) }
+    requires empty { StandsDue (settings_of S.Store desk.old) empty_desk
+        (tables_of S.Store desk.old) }
     ensures same_writer { HaveOneWriter output.new output.old }
     ensures printed { (text : List ℕ)
         × AnswersCommands (settings_of S.Store desk.old) commands.now text

@@ -1,3 +1,2 @@
 mod Halves
-mod LateLemmas
 mod LoadLemmas

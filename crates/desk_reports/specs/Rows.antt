@@ -1,5 +1,5 @@
 -- What the reports tell of rows.
-use Rattle.std.specs.Prelude.{◌≡◌, ℕ, ◌+◌, ◌-◌, ◌^◌, min, Bool, true, nat_lt, if◌then◌else◌}
+use Rattle.std.specs.Prelude.{◌≡◌, ℕ, ◌+◌, ◌-◌, ◌^◌, min, Bool, true, if◌then◌else◌}
 use Rattle.std.specs.Prelude.{List, filter, filter_map, find, map, Option, Some, None}
 use Rattle.std.specs.Prelude.{option_and_then}
 use Rattle.std.specs.List.Sorted.{IsNonDecreasingBy}
@@ -8,7 +8,7 @@ use Rattle.settings_core.specs.declared.settings.Settings.{Settings}
 use Rattle.desk_model.specs.Desk.{has_lower_name}
 use Rattle.desk_model.specs.IsDesk.{is_rising}
 use Rattle.desk_model.specs.Readings.Listing.{line_of}
-use Rattle.desk_model.specs.Readings.Overdue.{late_line}
+use Rattle.desk_model.specs.Readings.Overdue.{line_if_late}
 use Rattle.desk_model.specs.Readings.Workload.{load_of, loads, owners}
 use Rattle.desk_model.specs.Told.{Told, told_in}
 use Rattle.desk_model.specs.Watchers.{may_show_by}
@@ -50,19 +50,42 @@ shown_by settings person watches rows =
 abbrev pub lines_by : Settings → Option QueueRow → List RequestRow → List Line
 lines_by settings queue rows = map (λ row. line_of (told_in settings queue row)) rows
 
--- a line for each row that is late, in the order of the rows
-abbrev pub late_lines_by : ℕ → Settings → List QueueRow → List RequestRow → List LateLine
-late_lines_by at settings queues rows =
-    filter_map (λ row. late_line at (told_among settings queues row)) rows
-
--- the rows stand in the order of their numbers
-abbrev pub NumbersRise : List RequestRow → Type 0
-NumbersRise rows = is_rising (λ a b. nat_lt a.id b.id) rows ≡ true
-
 -- the line of a row that has been late for so many minutes
 abbrev pub late_by : ℕ → RequestRow → ℕ → LateLine
 late_by late row due =
     record { id = row.id; queue = row.queue; owner = row.owner; due = due; late = late }
+
+-- ---- rows with their due moments
+
+-- the line of a request with this due moment
+abbrev pub line_with : RequestRow → Option ℕ → Line
+line_with row due =
+    record { id = row.id; status = row.status; owner = row.owner; due = due; subject = row.subject }
+
+-- the line of a row with its due moment, if the person may show it by these watches
+abbrev pub line_shown : Settings → List ℕ → List Watcher → RequestRow × Option ℕ → Option Line
+line_shown settings person watches dated =
+    if may_show_by settings person dated.0 watches then Some (line_with dated.0 dated.1) else None
+
+-- the same, if it is late
+abbrev pub late_line_shown : ℕ → Settings → List ℕ → List Watcher → RequestRow × Option ℕ
+    → Option LateLine
+late_line_shown at settings person watches dated =
+    if may_show_by settings person dated.0 watches
+    then option_and_then (line_if_late at dated.0) dated.1
+    else None
+
+-- those lines, in the order of the rows
+abbrev pub lines_shown : Settings → List ℕ → List Watcher → List (RequestRow × Option ℕ)
+    → List Line
+lines_shown settings person watches rows = filter_map (line_shown settings person watches) rows
+
+abbrev pub late_lines_shown : ℕ → Settings → List ℕ → List Watcher → List (RequestRow × Option ℕ)
+    → List LateLine
+late_lines_shown at settings person watches rows =
+    filter_map (late_line_shown at settings person watches) rows
+
+-- ---- what each owner has
 
 -- what each owner has of the rows whose status isn't inactive
 abbrev pub live_among : Settings → List QueueRow → List RequestRow → List Told

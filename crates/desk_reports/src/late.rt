@@ -1,56 +1,59 @@
 //! The requests that are late.
-ghost use Rattle.std.specs.Prelude.{◌≡◌, IfOk};
+ghost use Rattle.std.specs.Prelude.{◌≡◌, IfOk, option_and_then};
 ghost use Rattle.desk_model.specs.Readings.Overdue as overdue;
-ghost use Rattle.desk_reports.specs.Rows.{NumbersRise, QueuesRise, late_by, late_lines_by, told_among};
+ghost use Rattle.desk_reports.specs.Rows.{WatchesRise, late_by, late_line_shown, late_lines_shown};
 
-use crate::queues::{due_in, queue_named};
-use desk_model::{LateLine, QueueRow, RequestRow};
+use crate::showing::is_shown;
+use desk_model::{LateLine, RequestRow, Watcher};
 use hours_core::Minute;
 use settings_core::Settings;
 use std::alloc::{AllocError, Global};
 
-/// A line for each row that was due before the moment, in the order of the due moments, and of the
-/// numbers where those are the same. The queues stand in the order of their names, and the rows in
-/// that of their numbers. `AllocError` where memory is refused.
+/// A line for each row that the person may show and that was due before the moment, in the order of
+/// the rows. `AllocError` where memory is refused.
 pub(crate) fn late_lines(
     alloc: Global,
     at: u32,
     settings: &Settings,
-    queues: &[QueueRow],
-    rows: Vec<RequestRow>,
+    person: &str,
+    watches: &[Watcher],
+    rows: Vec<(RequestRow, Option<Minute>)>,
 ) -> Result<Vec<LateLine>, AllocError>
-    ensures { QueuesRise queues.now → NumbersRise rows.items
+    ensures { WatchesRise watches.now
         → IfOk result (λ lines. lines.items
-        ≡ overdue.in_due_order (late_lines_by at settings.now queues.now rows.items)) }
-{
-    let mut lines = made(alloc, at, settings, queues, rows)?;
-    lines.sort_unstable_by_key(|line| (line.due.get(), line.id));
-    Ok(lines)
-}
-
-/// A line for each row that is late, in the order of the rows.
-fn made(
-    alloc: Global,
-    at: u32,
-    settings: &Settings,
-    queues: &[QueueRow],
-    rows: Vec<RequestRow>,
-) -> Result<Vec<LateLine>, AllocError>
-    ensures { QueuesRise queues.now
-        → IfOk result (λ lines. lines.items
-        ≡ late_lines_by at settings.now queues.now rows.items) }
+        ≡ late_lines_shown at settings.now person.now watches.now rows.items) }
 {
     rows.into_iter()
-        .filter_map(|row| line(at, settings, queues, row))
+        .filter_map(|dated| late_line_shown(at, settings, person, watches, dated))
         .collect(alloc)
 }
 
-/// The line of a row, if it is late.
-fn line(at: u32, settings: &Settings, queues: &[QueueRow], row: RequestRow) -> Option<LateLine>
-    ensures { QueuesRise queues.now
-        → result ≡ overdue.late_line at (told_among settings.now queues.now row) }
+/// The line of a row with its due moment, if the person may show it and it was due before the
+/// moment. The watches are the person's own, in the order of their requests.
+pub fn late_line_shown(
+    at: u32,
+    settings: &Settings,
+    person: &str,
+    watches: &[Watcher],
+    dated: (RequestRow, Option<Minute>),
+) -> Option<LateLine>
+    ensures { WatchesRise watches.now
+        → result ≡ late_line_shown at settings.now person.now watches.now dated }
 {
-    match due_in(settings, queue_named(queues, &row.queue), &row) {
+    let (row, due) = dated;
+    if is_shown(settings, person, watches, &row) {
+        late_line(at, row, due)
+    } else {
+        drop(row);
+        None
+    }
+}
+
+/// The line of a row with this due moment, if that is before the moment.
+fn late_line(at: u32, row: RequestRow, due: Option<Minute>) -> Option<LateLine>
+    ensures { result ≡ option_and_then (overdue.line_if_late at row) due }
+{
+    match due {
         Some(due) => line_if_late(at, row, due),
         None => {
             drop(row);

@@ -10,5 +10,7 @@ mod queues;
 mod reports;
 mod showing;
 
+pub use late::late_line_shown;
+pub use lines::line_shown;
 pub use queues::queue_named;
 pub use reports::{list, overdue, workload};

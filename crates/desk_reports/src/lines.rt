@@ -3,10 +3,12 @@ ghost use Rattle.std.specs.Prelude.{◌≡◌, IfOk};
 ghost use Rattle.std.specs.Option.{option_map};
 ghost use Rattle.desk_model.specs.Readings.Listing.{line_of};
 ghost use Rattle.desk_model.specs.Told.{told_in};
-ghost use Rattle.desk_reports.specs.Rows.{lines_by};
+ghost use Rattle.desk_reports.specs.Rows.{WatchesRise, line_shown, line_with, lines_by};
 
 use crate::queues::due_in;
-use desk_model::{Line, QueueRow, RequestRow};
+use crate::showing::is_shown;
+use desk_model::{Line, QueueRow, RequestRow, Watcher};
+use hours_core::Minute;
 use settings_core::Settings;
 use std::alloc::{AllocError, Global};
 
@@ -31,6 +33,33 @@ fn line(settings: &Settings, queue: Option<&QueueRow>, row: RequestRow) -> Line
     ensures { result ≡ line_of (told_in settings.now (option_map (λ q. q.now) queue.entry) row) }
 {
     let due = due_in(settings, queue, &row);
+    line_with(row, due)
+}
+
+/// The line of a row with its due moment, if the person may show it. The watches are the person's
+/// own, in the order of their requests.
+pub fn line_shown(
+    settings: &Settings,
+    person: &str,
+    watches: &[Watcher],
+    dated: (RequestRow, Option<Minute>),
+) -> Option<Line>
+    ensures { WatchesRise watches.now
+        → result ≡ line_shown settings.now person.now watches.now dated }
+{
+    let (row, due) = dated;
+    if is_shown(settings, person, watches, &row) {
+        Some(line_with(row, due))
+    } else {
+        drop(row);
+        None
+    }
+}
+
+/// The line of a row with this due moment.
+fn line_with(row: RequestRow, due: Option<Minute>) -> Line
+    ensures { result ≡ line_with row due }
+{
     let RequestRow {
         id,
         queue,

@@ -1,18 +1,18 @@
 //! The three reports: a queue's list, the requests that are late, and the workload.
 //!
 //! Each is told of rows to a person, whose watches are handed in, in the order of their requests.
-//! Queues stand in the order of their names, and the rows of requests in that of their numbers.
+//! Queues stand in the order of their names.
 ghost use Rattle.std.specs.Prelude.{◌≡◌, IfOk};
 ghost use Rattle.std.specs.Option.{option_map};
-ghost use Rattle.desk_model.specs.Readings.Overdue.{in_due_order};
-ghost use Rattle.desk_reports.specs.Rows.{NumbersRise, QueuesRise, WatchesRise};
-ghost use Rattle.desk_reports.specs.Rows.{late_lines_by, lines_by, loads_by, shown_by};
+ghost use Rattle.desk_reports.specs.Rows.{QueuesRise, WatchesRise, late_lines_shown, lines_by};
+ghost use Rattle.desk_reports.specs.Rows.{loads_by, shown_by};
 
 use crate::late::late_lines;
 use crate::lines::lines_of;
 use crate::load::loads;
 use crate::showing::shown;
 use desk_model::{LateLine, Line, Load, QueueRow, RequestRow, Watcher};
+use hours_core::Minute;
 use settings_core::Settings;
 use std::alloc::{AllocError, Global};
 use text_core::Sequence;
@@ -42,24 +42,21 @@ pub fn list(
 }
 
 /// A line for each request that the person may show and that was due before the moment, in the
-/// order of the due moments, and of the numbers where those are the same. `AllocError` where memory
-/// is refused.
+/// order of the rows, each of which has its due moment. `AllocError` where memory is refused.
 pub fn overdue(
     alloc: Global,
     at: u32,
     settings: &Settings,
     person: &str,
     watches: &[Watcher],
-    queues: &[QueueRow],
-    rows: Vec<RequestRow>,
+    rows: Vec<(RequestRow, Option<Minute>)>,
 ) -> Result<Sequence<LateLine>, AllocError>
-    ensures { WatchesRise watches.now → QueuesRise queues.now
-        → NumbersRise (shown_by settings.now person.now watches.now rows.items)
-        → IfOk result (λ lines. lines ≡ in_due_order (late_lines_by at settings.now queues.now
-        (shown_by settings.now person.now watches.now rows.items))) }
+    ensures { WatchesRise watches.now
+        → IfOk result (λ lines. lines
+        ≡ late_lines_shown at settings.now person.now watches.now rows.items) }
 {
-    let shown = shown(settings, person, watches, rows);
-    Ok(Sequence::from(late_lines(alloc, at, settings, queues, shown)?))
+    let lines = late_lines(alloc, at, settings, person, watches, rows)?;
+    Ok(Sequence::from(lines))
 }
 
 /// What each owner has of the requests that the person may show and that aren't inactive, and how

@@ -23,7 +23,12 @@ pub(crate) fn shown(
 }
 
 /// Whether a person may show a request, by watches in the order of their requests.
-fn is_shown(settings: &Settings, person: &str, watches: &[Watcher], row: &RequestRow) -> bool
+pub(crate) fn is_shown(
+    settings: &Settings,
+    person: &str,
+    watches: &[Watcher],
+    row: &RequestRow,
+) -> bool
     ensures { WatchesRise watches.now
         → result ≡ watchers.may_show_by settings.now person.now row.now watches.now }
 {

@@ -1,8 +1,8 @@
 pub mod KnownLemmas
 pub mod Laws
 pub mod RenewedDues
-pub mod Reported
 pub mod Stepping
+pub mod StreamLemmas
 pub mod Running
 pub mod RunsAlike
 pub mod Linked

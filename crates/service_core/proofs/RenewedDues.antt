@@ -2,7 +2,7 @@
 -- differ, so each is written for one request alone.
 use Rattle.std.proofs.Common.{◌≡◌, ◌∙◌, ℕ, ◌+◌, ◌<◌, ◌≤◌, ◌==◌, Bool, true, false, cond, not}
 use Rattle.std.proofs.Common.{List, [], ◌∷◌, filter, length, map, Option, Some, None, refl}
-use Rattle.std.proofs.Common.{◌++◌, ap, ap₂, arith, get_or, sym, take}
+use Rattle.std.proofs.Common.{◌++◌, ap, ap₂, arith, get_or, sym, take, subst, Ok, Err, OnOk, Result}
 use Rattle.std.proofs.lemmas.List.{append-nil, map-append}
 use Rattle.std.proofs.lemmas.List.Elements.{filter_more}
 use Rattle.std.specs.List.{All}
@@ -14,10 +14,17 @@ use Rattle.desk_model.specs.IsDesk.{IsDesk, are_numbered}
 use Rattle.desk_model.specs.declared.rows.QueueRow.{QueueRow}
 use Rattle.desk_model.specs.declared.rows.RequestRow.{RequestRow}
 use Rattle.desk_core.proofs.EachRequest.{each_both, each_so, numbers_lie}
-use Rattle.store_tables.specs.Contents.{contents_of, request_rows}
+use Rattle.sqlite.specs.State.{State}
+use Rattle.desk_reports.specs.Rows.{QueuesRise}
+use Rattle.store_tables.specs.Contents.{Contents, contents_of, request_rows}
 use Rattle.store_tables.specs.Dated.{Dated, dated_by, due_but, dues_but}
+use Rattle.store_tables.specs.Stands.{Stand}
+use Rattle.store_tables.specs.declared.fault.StoreFault.{StoreFault}
+use Rattle.store_core.specs.Applying.{DatesDesk}
 use Rattle.store_core.specs.Due.{due_of_row}
-use Rattle.service_core.specs.Renewing.{due_by, is_same_moment, is_stale, renewal, renewals}
+use Rattle.store_core.specs.Rows.{dated_rows}
+use Rattle.service_core.specs.Renewing.{AreRenewedFrom, due_by, is_same_moment, is_stale, renewal}
+use Rattle.service_core.specs.Renewing.{renewals}
 
 same_moment : (a b : Option ℕ) → not (is_same_moment a b) ≡ false → b ≡ a
 same_moment None None is = refl
@@ -150,3 +157,17 @@ pub none_put : {X : Type 0} (b : Bool) (x : X) (was now : List X) → b ≡ fals
     → now ≡ was ++ cond b (x ∷ []) []
 none_put b x was now is same =
     same ∙ sym (append-nil was) ∙ ap (λ (t : Bool). was ++ cond t (x ∷ []) []) (sym is)
+
+-- once those that differ are set, the tables keep the desk's
+pub renewed_from : {X : Type 0} (s : Settings) (queues : List QueueRow) (dated : List Dated)
+    (dues : List (ℕ × Option ℕ)) (old new : State) (r : Result X StoreFault)
+    → (QueuesRise queues → dues ≡ renewals s queues dated)
+    → DatesDesk dues old new r → OnOk r (AreRenewedFrom s queues dated old new)
+renewed_from s queues dated dues old new (Err e) made dates = tt
+renewed_from s queues dated dues old new (Ok x) made dates desk is due these those stand =
+    let rise : QueuesRise queues = subst QueuesRise (sym these) is.queues in
+    let all : dues ≡ renewals s desk.queues (dated_rows due desk) =
+    made rise ∙ ap₂ (renewals s) these those in
+    subst (λ (c : Contents). Stand c new)
+    (ap (λ ds. contents_of (dues_but ds due) desk) all ∙ renewed_dues s desk due is)
+    (dates desk due stand)

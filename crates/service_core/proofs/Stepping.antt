@@ -26,8 +26,9 @@ use Rattle.store_tables.specs.Stands.{Stand}
 use Rattle.store_core.specs.Due.{due_of_row}
 use Rattle.store_core.specs.Written.{IsWritable, dues_after}
 use Rattle.store_core.proofs.Renewed.{renewed}
-use Rattle.service_core.specs.Decided.{Answers, CarriesOut, IsDecided, StepsSeeing, Writes}
-use Rattle.service_core.specs.TableSteps.{StepsOn, ask_by}
+use Rattle.service_core.specs.Decided.{Answers, AnswersDue, CarriesOut, IsDecided, StepsSeeing}
+use Rattle.service_core.specs.Decided.{Writes}
+use Rattle.service_core.specs.TableSteps.{IsStep, StepsOn, ask_by}
 use Rattle.service_core.proofs.Laws.{lawful}
 
 abbrev IsUnavailable : Refusal → Type 0
@@ -109,6 +110,23 @@ decide_so facts change s ask desk seen free made = (
   made ∙ ap (λ (f : Facts). change_of (call s ask.at ask.caller) f ask.command) seen,
 )
 
+-- a command that reads and isn't refused
+pub reading_step : (s : Settings) (ask : Ask) (desk : Desk) (answer : Answer) → IsDesk desk
+    → IsReading ask.command → guard s ask.at ask.caller ask.command desk ≡ None
+    → answer ≡ answer_of s ask.at ask.caller ask.command desk
+    → IsStep s ask desk (Ok answer) desk
+reading_step s ask desk answer is reads free told =
+    lawful s ask desk (Ok answer) desk is
+    (subst (λ (d : Desk). Steps s ask.at ask.caller ask.command desk (Ok answer) d)
+    (unchanged s ask desk reads) (done s ask desk answer free told))
+
+-- one that is refused, maybe for want of memory
+pub refused_step : (s : Settings) (ask : Ask) (desk : Desk) (refusal : Refusal) → IsDesk desk
+    → (refusal ≢ Unavailable → guard s ask.at ask.caller ask.command desk ≡ Some refusal)
+    → IsStep s ask desk (Err refusal) desk
+refused_step s ask desk refusal is refuses =
+    lawful s ask desk (Err refusal) desk is (refused s ask desk refusal refuses)
+
 -- ---- on tables
 
 pub unavailable_on : (s : Settings) (ask : Ask) (refusal : Refusal) (old new : State)
@@ -126,7 +144,7 @@ pub refused_seeing : (facts : Facts) (s : Settings) (ask : Ask) (refusal : Refus
     → StepsSeeing facts s ask (Err refusal) tables tables
 refused_seeing facts s ask refusal tables refuses desk is seen stand clean = (
   desk,
-  lawful s ask desk (Err refusal) desk is (refused s ask desk refusal (refuses desk seen)),
+  refused_step s ask desk refusal is (refuses desk seen),
   stand,
 )
 
@@ -136,21 +154,18 @@ pub refused_on : (s : Settings) (ask : Ask) (refusal : Refusal) (tables : State)
     → StepsOn s ask (Err refusal) tables tables
 refused_on s ask refusal tables always desk is stand clean = (
   desk,
-  lawful s ask desk (Err refusal) desk is (refused s ask desk refusal (λ known. always desk)),
+  refused_step s ask desk refusal is (λ known. always desk),
   stand,
 )
 
 pub read_where : (facts : Facts) (change : Change) (s : Settings) (ask : Ask) (outcome : Outcome)
-    (old new : State) → IsReading ask.command → Answers s ask facts old new outcome
+    (old new : State) → IsReading ask.command → AnswersDue s ask facts old new outcome
     → IfErr outcome (λ refusal. refusal ≡ Unavailable) → Leaves old new
     → CarriesOut facts change s ask outcome old new
 read_where facts change s ask (Ok answer) old new so told fault kept desk is holds stand clean =
-    let decided = parts facts change s ask desk holds in
-    let step = done s ask desk answer decided.1 (told desk is (due_of_row s desk, stand) clean decided.0) in (
+    let decided = parts facts change s ask desk holds in (
       desk,
-      lawful s ask desk (Ok answer) desk is
-          (subst (λ (d : Desk). Steps s ask.at ask.caller ask.command desk (Ok answer) d)
-          (unchanged s ask desk so) step),
+      reading_step s ask desk answer is so decided.1 (told desk is stand clean decided.0),
       kept (contents_of (due_of_row s desk) desk) stand,
     )
 read_where facts change s ask (Err refusal) old new so told fault kept desk is holds stand clean = (
@@ -159,13 +174,27 @@ read_where facts change s ask (Err refusal) old new so told fault kept desk is h
   kept (contents_of (due_of_row s desk) desk) stand,
 )
 
+-- what is told of any due moments is told of the desk's
+answers_due : (facts : Facts) (s : Settings) (ask : Ask) (outcome : Outcome) (old new : State)
+    → Answers s ask facts old new outcome → AnswersDue s ask facts old new outcome
+answers_due facts s ask outcome old new told desk is stand clean =
+    told desk is (due_of_row s desk, stand) clean
+
 -- as it is told of the command that is asked
+pub due_as : (facts : Facts) (s : Settings) (at : ℕ) (caller : List ℕ) (command asked : Command)
+    (outcome : Outcome) (old new : State) → command ≡ asked
+    → AnswersDue s (ask_by at caller asked) facts old new outcome
+    → AnswersDue s (ask_by at caller command) facts old new outcome
+due_as facts s at caller command asked outcome old new same told =
+    subst (λ (c : Command). AnswersDue s (ask_by at caller c) facts old new outcome) (sym same) told
+
 pub asked_as : (facts : Facts) (s : Settings) (at : ℕ) (caller : List ℕ) (command asked : Command)
     (outcome : Outcome) (old new : State) → command ≡ asked
     → Answers s (ask_by at caller asked) facts old new outcome
-    → Answers s (ask_by at caller command) facts old new outcome
+    → AnswersDue s (ask_by at caller command) facts old new outcome
 asked_as facts s at caller command asked outcome old new same told =
-    subst (λ (c : Command). Answers s (ask_by at caller c) facts old new outcome) (sym same) told
+    due_as facts s at caller command asked outcome old new same
+    (answers_due facts s (ask_by at caller asked) outcome old new told)
 
 pub written_where : (facts : Facts) (change : Change) (s : Settings) (ask : Ask) (outcome : Outcome)
     (old new : State) → is_reading (plan_of ask.command) ≡ false

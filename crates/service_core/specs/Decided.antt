@@ -2,6 +2,7 @@
 use Rattle.std.specs.Prelude.{◌≡◌, ℕ, None, Option}
 use Rattle.sqlite.specs.State.{State, HasCleanDisk}
 use Rattle.settings_core.specs.declared.settings.Settings.{Settings}
+use Rattle.desk_model.specs.declared.answer.Answer.{Answer}
 use Rattle.desk_model.specs.declared.change.Change.{Change}
 use Rattle.desk_model.specs.declared.facts.Facts.{Facts}
 use Rattle.desk_model.specs.declared.rows.RequestRow.{RequestRow}
@@ -13,7 +14,7 @@ use Rattle.desk_model.specs.Step.{Ask, Outcome, answer_of, call, facts_of, guard
 use Rattle.store_tables.specs.Calls.{Tells}
 use Rattle.store_tables.specs.Contents.{contents_of}
 use Rattle.store_tables.specs.Stands.{Stand}
-use Rattle.store_core.specs.Due.{StandsDue}
+use Rattle.store_core.specs.Due.{StandsDue, TellsDue}
 use Rattle.store_core.specs.Written.{IsWritable, dues_after}
 use Rattle.service_core.specs.TableSteps.{IsStep}
 
@@ -48,8 +49,18 @@ Writes change old new =
     → Stand (contents_of due desk) old
     → Stand (contents_of (dues_after change due) (applied change desk)) new
 
+-- an answer to the command is its own, of a desk of which it sees this
+abbrev pub IsAnswerTo : Settings → Ask → Facts → Desk → Answer → Type 0
+IsAnswerTo settings ask facts desk answer =
+    facts ≡ facts_of ask.command desk
+    → answer ≡ answer_of settings ask.at ask.caller ask.command desk
+
 -- what is told of whatever desk the tables stand for, of which the command sees this, is its answer
 abbrev pub Answers : Settings → Ask → Facts → State → State → Outcome → Type 0
 Answers settings ask facts old new outcome =
-    Tells (λ desk answer. facts ≡ facts_of ask.command desk
-    → answer ≡ answer_of settings ask.at ask.caller ask.command desk) old new outcome
+    Tells (IsAnswerTo settings ask facts) old new outcome
+
+-- the same of a desk for which they stand with its due moments
+abbrev pub AnswersDue : Settings → Ask → Facts → State → State → Outcome → Type 0
+AnswersDue settings ask facts old new outcome =
+    TellsDue settings (IsAnswerTo settings ask facts) old new outcome

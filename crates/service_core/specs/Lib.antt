@@ -5,4 +5,5 @@ pub mod Fault
 pub mod Renewing
 pub mod Seen
 pub mod Shown
+pub mod Streaming
 pub mod TableSteps

@@ -1,26 +1,34 @@
 //! Settings are attached to tables.
-ghost use Rattle.std.specs.Prelude.{◌≡◌, ◌&&◌, false, true, IfErr, IfOk};
+ghost use Rattle.std.specs.Prelude.{◌≡◌, ◌&&◌, ◌≢◌, false, map, true, IfErr, IfOk, Ok, OnOk, OnErr};
 ghost use Rattle.desk_model.specs.Known as known;
-ghost use Rattle.store_tables.specs.Calls.{OnlyRefuses, Spares, Tells};
+ghost use Rattle.store_tables.specs.Calls.{Leaves, OnlyRefuses, Spares, Tells, WasClean};
 ghost use Rattle.store_tables.specs.Contents.{watchers};
+ghost use Rattle.store_tables.specs.Dated.{row_of};
 ghost use Rattle.store_core.specs.Seen.{state_of};
+ghost use Rattle.desk_reports.specs.Rows.{QueuesRise};
 ghost use Rattle.service_core.specs.Attaching as attaching;
 ghost use Rattle.service_core.specs.Attaching.{FailsOver, TellsKnown};
+ghost use Rattle.service_core.specs.Renewing.{AreRenewed};
 ghost use Rattle.service_core.specs.Seen.{settings_of, tables_of};
 
 use crate::desk::Desk;
 use crate::fault::AttachFault;
 use crate::known::{knows_actors, knows_rows};
-use desk_core::RequestRow;
+use crate::renewal::renew;
+use desk_core::{QueueRow, RequestRow};
+use hours_core::Minute;
 use settings_core::Settings;
 use std::alloc::Global;
 use store_core::{Backend, Store, StoreFault};
 
 impl<S: Backend> Desk<S> {
-    /// The desk over these tables, with these settings. Answers `Store` where a row is no value of
-    /// its type, or the store or memory refuses it, and otherwise `UnknownName` where the settings
-    /// lack a name of the tables; the store is given back with either. Of an entry only the one who
-    /// made it is looked at. The tables stay as they are.
+    /// The desk over these tables, with these settings. The due moments that the tables keep become
+    /// those by these settings: the ones that differ are written, all or none.
+    ///
+    /// Answers `Store` where a row is no value of its type, or the store or memory refuses it, and
+    /// otherwise `UnknownName` where the settings lack a name of the tables; the store is given
+    /// back with either, and tables whose rows are values of their types are as they were. Of an
+    /// entry only the one who made it is looked at.
     pub fn attach(
         alloc: Global,
         store: Store<S>,
@@ -31,15 +39,19 @@ impl<S: Backend> Desk<S> {
             TellsKnown settings (state_of S.Store store) (tables_of S.Store desk) true) }
         ensures unknown { IfErr result (λ back. back.0 ≡ AttachFault.UnknownName
             → TellsKnown settings (state_of S.Store store) (state_of S.Store back.1) false) }
-        ensures kept { IfOk result (λ desk.
-            Spares (state_of S.Store store) (tables_of S.Store desk)) }
+        ensures renewed { IfOk result (λ desk.
+            AreRenewed settings (state_of S.Store store) (tables_of S.Store desk)) }
+        ensures honest { IfOk result (λ desk.
+            WasClean (state_of S.Store store) (tables_of S.Store desk)) }
         ensures given_back { IfErr result (λ back.
-            Spares (state_of S.Store store) (state_of S.Store back.1)) }
+            Leaves (state_of S.Store store) (state_of S.Store back.1)) }
         ensures fault { IfErr result (λ back.
             FailsOver (state_of S.Store store) (state_of S.Store back.1) back.0) }
+        ensures honest_fault { IfErr result (λ back.
+            WasClean (state_of S.Store store) (state_of S.Store back.1)) }
     {
         let mut store = store;
-        match is_known(alloc, &mut store, &settings) {
+        match renew_known(alloc, &mut store, &settings) {
             Ok(true) => Ok(Desk { store, settings }),
             Ok(false) => {
                 drop(settings);
@@ -53,45 +65,57 @@ impl<S: Backend> Desk<S> {
     }
 }
 
-/// Whether the settings know each name of the tables. The tables stay as they are.
+/// Whether the settings know each name of the tables. Where they do, the due moments of the tables
+/// are renewed; else, and on a fault, tables whose rows are values of their types stay as they are.
 #[tactic(auto, using(store_tables::proofs::Spared::joined, store_tables::proofs::Spared::stands))]
-fn is_known<S: Backend>(
+fn renew_known<S: Backend>(
     alloc: Global,
     store: &mut Store<S>,
     settings: &Settings,
 ) -> Result<bool, StoreFault>
     ensures told { Tells (λ desk found. known.is_known settings.now desk ≡ found)
         (state_of S.Store store.old) (state_of S.Store store.new) result }
-    ensures kept { Spares (state_of S.Store store.old) (state_of S.Store store.new) }
+    ensures renewed { result ≡ Ok true
+        → AreRenewed settings.now (state_of S.Store store.old) (state_of S.Store store.new) }
+    ensures left { result ≢ Ok true
+        → Leaves (state_of S.Store store.old) (state_of S.Store store.new) }
+    ensures honest { WasClean (state_of S.Store store.old) (state_of S.Store store.new) }
     ensures fault { OnlyRefuses
         (state_of S.Store store.old) (state_of S.Store store.new) result }
 {
-    let requests = store.requests(alloc)?;
-    let histories = knows_histories(alloc, store, settings)?;
-    let lists = knows_lists(alloc, store, settings, requests.as_slice())?;
-    Ok(both(lists, histories))
+    let dated = store.dated_requests(alloc)?;
+    let queues = store.queues(alloc)?;
+    let (dated, queues) = (dated.as_slice(), queues.as_slice());
+    if !is_known(alloc, store, settings, queues, dated)? {
+        return Ok(false);
+    }
+    renew(alloc, store, settings, queues, dated)?;
+    Ok(true)
 }
 
-/// Whether the settings know each name in the lists of queues and watchers, and in these requests.
-/// The tables stay as they are.
+/// Whether the settings know each name of the tables, of which these are the queues and the
+/// requests. The tables stay as they are.
 #[tactic(auto, using(store_tables::proofs::Spared::joined, store_tables::proofs::Spared::stands))]
-fn knows_lists<S: Backend>(
+fn is_known<S: Backend>(
     alloc: Global,
     store: &mut Store<S>,
     settings: &Settings,
-    requests: &[RequestRow],
+    queues: &[QueueRow],
+    dated: &[(RequestRow, Option<Minute>)],
 ) -> Result<bool, StoreFault>
-    ensures told { Tells (λ desk found. found
-        ≡ attaching.knows_rows settings.now desk.queues requests.now (watchers desk))
+    ensures told { QueuesRise queues.now → Tells (λ desk found. found
+        ≡ (attaching.knows_rows settings.now queues.now (map row_of dated.now) (watchers desk)
+        && attaching.knows_histories settings.now desk))
         (state_of S.Store store.old) (state_of S.Store store.new) result }
     ensures kept { Spares (state_of S.Store store.old) (state_of S.Store store.new) }
     ensures fault { OnlyRefuses
         (state_of S.Store store.old) (state_of S.Store store.new) result }
 {
     read_links(alloc, store)?;
-    let queues = store.queues(alloc)?;
+    let histories = knows_histories(alloc, store, settings)?;
     let watchers = store.watchers(alloc)?;
-    Ok(knows_rows(settings, queues.as_slice(), requests, watchers.as_slice()))
+    let rows = knows_rows(settings, queues, dated, watchers.as_slice());
+    Ok(both(rows, histories))
 }
 
 /// Reads the links: they have no names, but each has to be one. The tables stay as they are.

@@ -9,9 +9,9 @@ ghost use Rattle.service_core.specs.TableSteps.{StepsOn, ask_by};
 ghost use Rattle.service_core.specs.Seen.{settings_of, tables_of};
 
 use crate::desk::Desk;
-use crate::fault::unavailable;
 use crate::reading;
 use desk_core::{Answer, Change, Command, Facts, Refusal, decide, refused_beforehand};
+use desk_lists::unavailable;
 use settings_core::Settings;
 use std::alloc::Global;
 use store_core::{Backend, Store};

@@ -1,8 +1,7 @@
-//! The faults of attaching settings to tables, and what a fault of the store is to a command.
-ghost use Rattle.std.specs.Prelude.{◌≡◌, Ok, IfErr, IfOk};
+//! The faults of attaching settings to tables.
+ghost use Rattle.std.specs.Prelude.{◌≡◌};
 ghost use Rattle.service_core.specs.Fault.{name_of, number_of};
 
-use desk_core::Refusal;
 use store_core::StoreFault;
 use thiserror::Error;
 
@@ -43,22 +42,4 @@ impl AttachFault {
             AttachFault::NoMemory => "NoMemory",
         }
     }
-}
-
-/// What was read, or `Unavailable`, for whichever fault of the store.
-pub(crate) fn or_unavailable<T>(read: Result<T, StoreFault>) -> Result<T, Refusal>
-    ensures ok { IfOk result (λ value. read ≡ Ok value) }
-    ensures err { IfErr result (λ refusal. refusal ≡ Refusal.Unavailable) }
-{
-    match read {
-        Ok(value) => Ok(value),
-        Err(fault) => Err(unavailable(fault)),
-    }
-}
-
-/// What a command answers where its store did not do what it was asked, for whichever fault.
-pub(crate) fn unavailable(_fault: StoreFault) -> Refusal
-    ensures { result ≡ Refusal.Unavailable }
-{
-    Refusal::Unavailable
 }

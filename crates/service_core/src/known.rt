@@ -1,14 +1,16 @@
 //! Whether settings know the names in rows of the tables.
-ghost use Rattle.std.specs.Prelude.{◌≡◌};
+ghost use Rattle.std.specs.Prelude.{◌≡◌, map};
 ghost use Rattle.std.specs.List.{list_all};
 ghost use Rattle.settings_core.specs.Settings.{knows, lifecycle_named};
 ghost use Rattle.desk_model.specs.Known as known;
 ghost use Rattle.desk_model.specs.Lifecycles as lifecycles;
+ghost use Rattle.store_tables.specs.Dated.{row_of};
 ghost use Rattle.desk_reports.specs.Rows.{QueuesRise};
 ghost use Rattle.service_core.specs.Attaching as attaching;
 
 use desk_core::{QueueRow, RequestRow, Watcher};
 use desk_reports::queue_named;
+use hours_core::Minute;
 use settings_core::Settings;
 use text_core::Text;
 
@@ -18,14 +20,14 @@ use text_core::Text;
 pub(crate) fn knows_rows(
     settings: &Settings,
     queues: &[QueueRow],
-    requests: &[RequestRow],
+    dated: &[(RequestRow, Option<Minute>)],
     watchers: &[Watcher],
 ) -> bool
-    ensures { QueuesRise queues.now
-        → result ≡ attaching.knows_rows settings.now queues.now requests.now watchers.now }
+    ensures { QueuesRise queues.now → result
+        ≡ attaching.knows_rows settings.now queues.now (map row_of dated.now) watchers.now }
 {
     knows_queues(settings, queues)
-        && knows_requests(settings, queues, requests)
+        && knows_requests(settings, queues, dated)
         && knows_watchers(settings, watchers)
 }
 
@@ -59,13 +61,18 @@ fn knows_queue(settings: &Settings, queue: &QueueRow) -> bool
     settings.lifecycle(queue.lifecycle.as_str()).is_some() && knows_level(settings, &queue.level)
 }
 
-fn knows_requests(settings: &Settings, queues: &[QueueRow], requests: &[RequestRow]) -> bool
+fn knows_requests(
+    settings: &Settings,
+    queues: &[QueueRow],
+    dated: &[(RequestRow, Option<Minute>)],
+) -> bool
     ensures { QueuesRise queues.now → result
-        ≡ list_all (known.knows_row settings.now (attaching.of_queues queues.now)) requests.now }
+        ≡ list_all (known.knows_row settings.now (attaching.of_queues queues.now))
+        (map row_of dated.now) }
 {
-    requests
+    dated
         .iter()
-        .all(|request| knows_request(settings, queues, request))
+        .all(|(request, _)| knows_request(settings, queues, request))
 }
 
 /// Whether the status of a request is one of the lifecycle of its queue, and its level and its

@@ -11,12 +11,13 @@ mod known;
 mod links;
 mod reading;
 mod renewal;
-mod reports;
 mod run;
+mod stream;
 
 pub use desk::Desk;
+pub use desk_lists::StreamFault;
 pub use desk_texts::{
-    SHORT_TEXT, answer_text, history_text, is_short, outcome_text, put_short, queues_text,
-    refusal_text, show_text, text_in_room,
+    SHORT_TEXT, answer_text, history_text, is_short, list_text, outcome_text, overdue_text,
+    put_short, queues_text, refusal_text, show_text, text_in_room, workload_text,
 };
 pub use fault::AttachFault;

@@ -5,8 +5,8 @@ ghost use Rattle.store_tables.specs.Calls.{Spares, Tells};
 ghost use Rattle.store_core.specs.Seen.{state_of};
 ghost use Rattle.service_core.specs.Shown as shown;
 
-use crate::fault::or_unavailable;
 use desk_core::{LinkKind, LinkRow, Links, Refusal, is_kind};
+use desk_lists::or_unavailable;
 use settings_core::Settings;
 use std::alloc::{AllocError, Global};
 use store_core::{Backend, Store};

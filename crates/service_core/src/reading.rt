@@ -4,21 +4,20 @@ ghost use Rattle.desk_model.specs.Rights as rights;
 ghost use Rattle.desk_model.specs.declared.facts.Facts.{Facts};
 ghost use Rattle.store_tables.specs.Calls.{Spares, Tells};
 ghost use Rattle.store_core.specs.Seen.{state_of};
-ghost use Rattle.service_core.specs.Decided.{Answers};
+ghost use Rattle.service_core.specs.Decided.{Answers, AnswersDue};
 ghost use Rattle.service_core.specs.Shown as shown;
 ghost use Rattle.service_core.specs.TableSteps.{ask_by};
 
-use crate::fault::or_unavailable;
 use crate::links::links_of;
-use crate::reports::{list, overdue, workload};
 use desk_core::{
     Answer, Command, Entry, Facts, Links, QueueRow, Refusal, SeenRequest, Shown, due_of, sees_queue,
 };
+use desk_lists::or_unavailable;
 use hours_core::Minute;
 use settings_core::Settings;
 use std::alloc::Global;
 use store_core::{Backend, Store};
-use text_core::Sequence;
+use text_core::{Sequence, Text};
 
 /// What a command that reads answers, with its facts. `Unavailable` where memory or the store
 /// refused, and for a command that changes the desk. The tables stay as they are.
@@ -31,7 +30,7 @@ pub(crate) fn read<S: Backend>(
     command: &Command,
     facts: &Facts,
 ) -> Result<Answer, Refusal>
-    ensures told { Answers settings.now (ask_by at caller.now command.now) facts.now
+    ensures told { AnswersDue settings.now (ask_by at caller.now command.now) facts.now
         (state_of S.Store store.old) (state_of S.Store store.new) result }
     ensures kept { Spares (state_of S.Store store.old) (state_of S.Store store.new) }
     ensures fault { IfErr result (λ refusal. refusal ≡ Refusal.Unavailable) }
@@ -143,6 +142,66 @@ fn shown_with(request: SeenRequest, due: Option<Minute>, links: Links) -> Shown
         due,
         links,
     }
+}
+
+/// The requests of the queue that the caller may show. `Unavailable` where memory or the store
+/// refused. The tables stay as they are.
+fn list<S: Backend>(
+    alloc: Global,
+    store: &mut Store<S>,
+    settings: &Settings,
+    caller: &str,
+    queue: &Text,
+    facts: &Facts,
+) -> Result<Answer, Refusal>
+    ensures told { (at : ℕ)
+        → Answers settings.now (ask_by at caller.now (Command.List queue.now)) facts.now
+        (state_of S.Store store.old) (state_of S.Store store.new) result }
+    ensures kept { Spares (state_of S.Store store.old) (state_of S.Store store.new) }
+    ensures fault { IfErr result (λ refusal. refusal ≡ Refusal.Unavailable) }
+{
+    let in_queue = facts.queue.as_ref();
+    let lines = desk_lists::list(alloc, store, settings, caller, queue, in_queue)?;
+    Ok(Answer::Listed(lines))
+}
+
+/// The requests that the caller may show and that were due before the moment, by the due moments
+/// that the tables keep. `Unavailable` where memory or the store refused. The tables stay as they
+/// are.
+fn overdue<S: Backend>(
+    alloc: Global,
+    store: &mut Store<S>,
+    settings: &Settings,
+    at: u32,
+    caller: &str,
+) -> Result<Answer, Refusal>
+    ensures told { (facts : Facts)
+        → AnswersDue settings.now (ask_by at caller.now Command.Overdue) facts
+        (state_of S.Store store.old) (state_of S.Store store.new) result }
+    ensures kept { Spares (state_of S.Store store.old) (state_of S.Store store.new) }
+    ensures fault { IfErr result (λ refusal. refusal ≡ Refusal.Unavailable) }
+{
+    let lines = desk_lists::overdue(alloc, store, settings, at, caller)?;
+    Ok(Answer::Late(lines))
+}
+
+/// What each owner has of the requests that the caller may show. `Unavailable` where memory or the
+/// store refused. The tables stay as they are.
+fn workload<S: Backend>(
+    alloc: Global,
+    store: &mut Store<S>,
+    settings: &Settings,
+    at: u32,
+    caller: &str,
+) -> Result<Answer, Refusal>
+    ensures told { (facts : Facts)
+        → Answers settings.now (ask_by at caller.now Command.Workload) facts
+        (state_of S.Store store.old) (state_of S.Store store.new) result }
+    ensures kept { Spares (state_of S.Store store.old) (state_of S.Store store.new) }
+    ensures fault { IfErr result (λ refusal. refusal ≡ Refusal.Unavailable) }
+{
+    let loads = desk_lists::workload(alloc, store, settings, at, caller)?;
+    Ok(Answer::Workload(loads))
 }
 
 /// The history of the request that a command sees, as far as it is told to the caller.

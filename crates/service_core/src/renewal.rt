@@ -1,10 +1,11 @@
 //! The due moments that tables keep are renewed by the settings that are attached.
-ghost use Rattle.std.specs.Prelude.{◌≡◌, IfErr, IfOk, OnErr};
-ghost use Rattle.store_tables.specs.Calls.{Leaves, OnlyRefuses, WasClean};
+ghost use Rattle.std.specs.Prelude.{◌≡◌, IfErr, IfOk, OnErr, OnOk};
+ghost use Rattle.store_tables.specs.Calls.{Leaves, WasClean};
+ghost use Rattle.store_tables.specs.declared.fault.StoreFault.{StoreFault};
 ghost use Rattle.store_core.specs.Seen.{state_of};
 ghost use Rattle.desk_reports.specs.Rows.{QueuesRise};
 ghost use Rattle.service_core.specs.Renewing as renewing;
-ghost use Rattle.service_core.specs.Renewing.{Renews};
+ghost use Rattle.service_core.specs.Renewing.{AreRenewedFrom};
 
 use desk_core::{QueueRow, RequestRow, due_of};
 use desk_reports::queue_named;
@@ -13,24 +14,24 @@ use settings_core::Settings;
 use std::alloc::{AllocError, Global};
 use store_core::{Backend, Store, StoreFault};
 
-/// Writes the due moment of each request for which the tables keep another one. On a fault tables
-/// whose rows are values of their types stay as they are.
-pub(crate) fn renew_dues<S: Backend>(
+/// Writes the due moment of each of these requests for which the tables keep another one: all of
+/// them, or none. They are those of the tables, and so are the queues. On a fault tables whose rows
+/// are values of their types stay as they are.
+pub(crate) fn renew<S: Backend>(
     alloc: Global,
     store: &mut Store<S>,
     settings: &Settings,
+    queues: &[QueueRow],
+    dated: &[(RequestRow, Option<Minute>)],
 ) -> Result<(), StoreFault>
-    ensures renewed { Renews settings.now
-        (state_of S.Store store.old) (state_of S.Store store.new) result }
+    ensures renewed { OnOk result (AreRenewedFrom settings.now queues.now dated.now
+        (state_of S.Store store.old) (state_of S.Store store.new)) }
     ensures left { OnErr result
         (Leaves (state_of S.Store store.old) (state_of S.Store store.new)) }
     ensures honest { WasClean (state_of S.Store store.old) (state_of S.Store store.new) }
-    ensures fault { OnlyRefuses
-        (state_of S.Store store.old) (state_of S.Store store.new) result }
+    ensures fault { IfErr result (λ e. e ≡ StoreFault.Refused) }
 {
-    let queues = store.queues(alloc)?;
-    let dated = store.dated_requests(alloc)?;
-    match renewals(alloc, settings, queues.as_slice(), dated.as_slice()) {
+    match renewals(alloc, settings, queues, dated) {
         Ok(dues) => store.set_dues(dues.as_slice()),
         Err(_) => Err(StoreFault::Refused),
     }

@@ -1,6 +1,6 @@
 -- Tables that keep when each request of a desk is due.
-use Rattle.std.specs.Prelude.{◌≡◌, ℕ, List, None, Option, option_and_then}
-use Rattle.sqlite.specs.State.{State}
+use Rattle.std.specs.Prelude.{◌≡◌, ℕ, IfOk, List, None, Option, Result, option_and_then}
+use Rattle.sqlite.specs.State.{State, HasCleanDisk}
 use Rattle.settings_core.specs.declared.settings.Settings.{Settings}
 use Rattle.desk_model.specs.Change.{applied}
 use Rattle.desk_model.specs.Desk.{Desk, queue_at}
@@ -22,6 +22,13 @@ due_of_row settings desk row = option_and_then (λ q. due_of settings q row) (qu
 -- the tables stand for the desk, and keep the due moment that each request has on it
 abbrev pub StandsDue : Settings → Desk → State → Type 0
 StandsDue settings desk = Stand (contents_of (due_of_row settings desk) desk)
+
+-- what is answered is so of the desk that the tables stand for with its due moments
+abbrev pub TellsDue : {X E : Type 0} → Settings → (Desk → X → Type 0) → State → State → Result X E
+    → Type 0
+TellsDue settings P old new result =
+    (desk : Desk) → IsDesk desk → StandsDue settings desk old → HasCleanDisk new
+    → IfOk result (P desk)
 
 -- the due moments after a change are those of the desk after it
 abbrev pub RenewsBy : Settings → Desk → Change → Type 0

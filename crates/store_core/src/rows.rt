@@ -63,11 +63,7 @@ impl<S: Alter> Store<S> {
     /// The rows of the requests that are due before that moment, by due moment, and by number where
     /// those are the same, of which none is given yet. `Mismatch` where a number is none, `Refused`
     /// where the store or memory refuses it. The tables stay as they are.
-    pub fn rows_overdue(
-        &mut self,
-        alloc: Global,
-        at: u32,
-    ) -> Result<RequestRows<'_, S>, StoreFault>
+    pub fn rows_overdue(&mut self, alloc: Global, at: u32) -> Result<RequestRows<'_, S>, StoreFault>
         ensures* refused { sem 𝓛 (RestsIfErr (the_row S.row S.Store) self.entry
             (λ rows. rows.store.ghost_name) result (IsRefused S.Store self.old result)) }
         ensures same_reference { IfOk result (λ rows.

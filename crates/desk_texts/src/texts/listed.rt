@@ -16,22 +16,30 @@ pub fn list_text(alloc: Global, requests: &[Line]) -> Result<String, AllocError>
     ensures { IfOk result (λ t. string_bytes t ≡ text.list_text requests.now) }
 {
     let mut out = String::new(alloc);
-    put_columns(&mut out, "id", "status", "owner", "due", "subject")?;
-    put_requests(&mut out, requests)?;
+    put_list_header(&mut out)?;
+    put_lines(&mut out, requests)?;
     Ok(out)
 }
 
-fn put_requests(out: &mut String, requests: &[Line]) -> Result<(), AllocError>
+/// Puts the header of a list of requests. After an error nothing is known of the text.
+pub fn put_list_header(out: &mut String) -> Result<(), AllocError>
+    ensures { OnOk result (string_bytes out.new ≡ string_bytes out.old ++ text.header) }
+{
+    put_columns(out, "id", "status", "owner", "due", "subject")
+}
+
+fn put_lines(out: &mut String, requests: &[Line]) -> Result<(), AllocError>
     ensures { OnOk result (string_bytes out.new
         ≡ string_bytes out.old ++ flat_map text.line_of_request requests.now) }
 {
     for request in requests {
-        put_request(out, request)?;
+        put_line(out, request)?;
     }
     Ok(())
 }
 
-fn put_request(out: &mut String, request: &Line) -> Result<(), AllocError>
+/// Puts the line of a request. After an error nothing is known of the text.
+pub fn put_line(out: &mut String, request: &Line) -> Result<(), AllocError>
     ensures { OnOk result (string_bytes out.new
         ≡ string_bytes out.old ++ text.line_of_request request.now) }
 {

@@ -15,23 +15,31 @@ pub fn overdue_text(alloc: Global, requests: &[LateLine]) -> Result<String, Allo
     ensures { IfOk result (λ t. string_bytes t ≡ text.overdue_text requests.now) }
 {
     let mut out = String::new(alloc);
-    put_columns(&mut out, "id", "queue", "owner", "due", "late")?;
-    put_requests(&mut out, requests)?;
+    put_overdue_header(&mut out)?;
+    put_late_lines(&mut out, requests)?;
     Ok(out)
 }
 
-fn put_requests(out: &mut String, requests: &[LateLine]) -> Result<(), AllocError>
+/// Puts the header of a list of late requests. After an error nothing is known of the text.
+pub fn put_overdue_header(out: &mut String) -> Result<(), AllocError>
+    ensures { OnOk result (string_bytes out.new ≡ string_bytes out.old ++ text.header) }
+{
+    put_columns(out, "id", "queue", "owner", "due", "late")
+}
+
+fn put_late_lines(out: &mut String, requests: &[LateLine]) -> Result<(), AllocError>
     ensures { OnOk result (string_bytes out.new
         ≡ string_bytes out.old ++ flat_map text.line_of_request requests.now) }
 {
     for request in requests {
-        put_request(out, request)?;
+        put_late_line(out, request)?;
     }
     Ok(())
 }
 
+/// Puts the line of a late request. After an error nothing is known of the text.
 #[tactic(auto, unfolding(crate::specs::Texts::Overdue::line_of_request))]
-fn put_request(out: &mut String, request: &LateLine) -> Result<(), AllocError>
+pub fn put_late_line(out: &mut String, request: &LateLine) -> Result<(), AllocError>
     ensures { OnOk result (string_bytes out.new
         ≡ string_bytes out.old ++ text.line_of_request request.now) }
 {

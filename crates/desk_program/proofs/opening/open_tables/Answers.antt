@@ -3,28 +3,29 @@ use Rattle.std.proofs.Common.{inl, inr, refl}
 use Rattle.std.proofs.lemmas.Result.{IfErr-weaker, IfOk-weaker}
 use Rattle.desk_model.specs.Desk.{empty_desk}
 use Rattle.store_core.specs.Seen.{state_of}
-use Rattle.store_tables.specs.Contents.{contents_of}
 use Rattle.desk_program.specs.FaultLines.{attach_fault_text, store_fault_text}
-use Rattle.desk_program.proofs.Opened.{made_not_attached}
+use Rattle.desk_program.proofs.LedLines.{empty_is_desk}
+use Rattle.desk_program.proofs.Opened.{left_for, made_not_attached}
 use Rattle.desk_program.proofs.opening.open_tables.Goals as goal
 
-pub returns-in-Ok-clause-kept : goal.returns-in-Ok-clause-kept
-returns-in-Ok-clause-kept g c =
+pub returns-in-Ok-clause-renewed : goal.returns-in-Ok-clause-renewed
+returns-in-Ok-clause-renewed g c =
     IfOk-weaker c.attach.result _ _
-    (λ desk keeps contents stand. keeps contents (c.in-Ok.ensures.kept contents stand))
-    c.attach.ensures.kept
+    (λ attached renews desk formed stand.
+    renews desk formed (left_for c.in-Ok.ensures.kept desk stand))
+    c.attach.ensures.renewed
 
 pub returns-in-Ok-clause-made : goal.returns-in-Ok-clause-made
 returns-in-Ok-clause-made g c =
     IfOk-weaker c.attach.result _ _
-    (λ desk keeps blank. keeps (contents_of empty_desk) (c.in-Ok.ensures.made blank).0)
-    c.attach.ensures.kept
+    (λ attached renews blank. renews empty_desk empty_is_desk (c.in-Ok.ensures.made blank).0)
+    c.attach.ensures.renewed
 
 pub returns-in-Ok-clause-known : goal.returns-in-Ok-clause-known
 returns-in-Ok-clause-known g c =
     IfOk-weaker c.attach.result _ _
     (λ attached knows desk formed stand clean.
-    knows desk formed (c.in-Ok.ensures.kept (contents_of desk) stand) clean)
+    knows desk formed (left_for c.in-Ok.ensures.kept desk stand) clean)
     c.attach.ensures.known
 
 pub returns-in-Ok-clause-told : goal.returns-in-Ok-clause-told

@@ -1,17 +1,19 @@
 -- the lines were run, or the settings weren't attached
-use Rattle.std.proofs.Common.{inl, refl, subst}
+use Rattle.std.proofs.Common.{inl, refl, subst, sym}
 use Rattle.settings_core.specs.declared.settings.Settings.{Settings}
-use Rattle.store_tables.proofs.Spared.{stands}
-use Rattle.store_tables.specs.Contents.{contents_of}
+use Rattle.service_core.specs.Seen.{tables_of}
+use Rattle.store_core.specs.Due.{StandsDue}
 use Rattle.store_core.specs.Seen.{state_of}
 use Rattle.desk_model.specs.Desk.{empty_desk}
 use Rattle.desk_program.specs.Script.{AnswersCommands}
-use Rattle.desk_program.proofs.LedLines.{not_attached}
+use Rattle.desk_program.proofs.LedLines.{empty_is_desk, not_attached}
 use Rattle.desk_program.proofs.run.run_on_tables.Goals as goal
 
 pub run_lines-requires-clause-empty : goal.run_lines-requires-clause-empty
 run_lines-requires-clause-empty g c =
-    stands c.in-Ok.ensures.kept (contents_of empty_desk) c.requires.empty
+    subst (λ (s : Settings). StandsDue s empty_desk (tables_of g.S.Store c.in-Ok.desk))
+    (sym c.in-Ok.ensures.settings)
+    (c.in-Ok.ensures.renewed empty_desk empty_is_desk c.requires.empty)
 
 pub returns-in-Ok-clause-printed : goal.returns-in-Ok-clause-printed
 returns-in-Ok-clause-printed g c =

@@ -1,6 +1,6 @@
 -- what each reading answers is told of the command that is asked
 use Rattle.store_core.specs.Seen.{state_of}
-use Rattle.service_core.proofs.Stepping.{asked_as}
+use Rattle.service_core.proofs.Stepping.{asked_as, due_as}
 use Rattle.service_core.proofs.reading.read.Goals as goal
 
 pub returns-in-Queues-clause-told : goal.returns-in-Queues-clause-told
@@ -29,7 +29,7 @@ returns-in-List-clause-told g c =
 
 pub returns-in-Overdue-clause-told : goal.returns-in-Overdue-clause-told
 returns-in-Overdue-clause-told g c =
-    asked_as c.args.facts.now c.args.settings.now c.args.at c.args.caller.now c.args.command.now _
+    due_as c.args.facts.now c.args.settings.now c.args.at c.args.caller.now c.args.command.now _
     c.overdue.result (state_of g.S.Store c.args.store.now) (state_of g.S.Store c.overdue.new.store)
     c.in-Overdue.is (c.overdue.ensures.told c.args.facts.now)
 

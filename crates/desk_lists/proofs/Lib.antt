@@ -1,0 +1,4 @@
+pub mod LateLemmas
+pub mod PrintedLemmas
+pub mod Reported
+pub mod ShownLemmas

@@ -1,0 +1,193 @@
+//! A list of requests that is written row by row.
+ghost use Rattle.std.specs.Prelude.{◌≡◌, false};
+ghost use Rattle.desk_model.specs.Desk as desks;
+ghost use Rattle.desk_model.specs.Step.{facts_of};
+ghost use Rattle.store_tables.specs.Calls.{Spares};
+ghost use Rattle.store_core.specs.Seen.{state_of};
+ghost use Rattle.stream_core.specs.Seen.{HaveOneWriter, has_write_failed};
+ghost use Rattle.stream_core.specs.Written.{IsWritten, Prints};
+ghost use Rattle.desk_lists.specs.Streams.{IsCutBy};
+ghost use Rattle.service_core.specs.Seen.{settings_of, tables_of};
+ghost use Rattle.service_core.specs.Streaming.{Admits, IsAdmitted, StreamsAdmitted, StreamsOn};
+ghost use Rattle.service_core.specs.Streaming.{is_write};
+ghost use Rattle.service_core.specs.TableSteps.{ask_by};
+
+use crate::desk::Desk;
+use desk_core::{Command, Facts, Refusal, decide, refused_beforehand};
+use desk_lists::{StreamFault, or_unavailable, stream_list, stream_overdue};
+use settings_core::Settings;
+use std::alloc::Global;
+use std::io::Write;
+use store_core::{Backend, Store};
+use stream_core::CountedWriter;
+
+impl<S: Backend> Desk<S> {
+    /// Writes the text of a queue's list or of what is overdue, row by row, for a caller at a
+    /// moment, in minutes since 1970-01-01 00:00 UTC: the text that `execute` would answer. No
+    /// table changes, and of the rows one at a time is in memory.
+    ///
+    /// A command that is refused writes nothing. `Write` where a write fails or takes no byte: a
+    /// part from the front of the text was written. `Unavailable` where memory or the store
+    /// refused, maybe after a part of the text, and for any other command.
+    pub fn stream<W: Write>(
+        &mut self,
+        alloc: Global,
+        at: u32,
+        caller: &str,
+        command: &Command,
+        writer: &mut W,
+    ) -> Result<(), StreamFault>
+        ensures streamed { StreamsOn (settings_of S.Store self.old)
+            (ask_by at caller.now command.now)
+            (tables_of S.Store self.old) (tables_of S.Store self.new) result
+            (IsWritten (is_write result) (W.contents writer.old) (W.contents writer.new)) }
+        ensures kept { Spares (tables_of S.Store self.old) (tables_of S.Store self.new) }
+        ensures same { settings_of S.Store self.new ≡ settings_of S.Store self.old }
+    {
+        let mut output = CountedWriter::new(writer);
+        self.stream_counted(alloc, at, caller, command, &mut output)
+    }
+
+    /// Writes a list as `stream` does, to a writer that counts and that has not failed.
+    pub fn stream_counted<W: Write>(
+        &mut self,
+        alloc: Global,
+        at: u32,
+        caller: &str,
+        command: &Command,
+        output: &mut CountedWriter<'_, W>,
+    ) -> Result<(), StreamFault>
+        requires { has_write_failed output.old ≡ false }
+        ensures same_writer { HaveOneWriter output.new output.old }
+        ensures streamed { StreamsOn (settings_of S.Store self.old)
+            (ask_by at caller.now command.now)
+            (tables_of S.Store self.old) (tables_of S.Store self.new) result
+            (Prints W.contents output.old output.new) }
+        ensures failed { IsCutBy result (has_write_failed output.new) }
+        ensures kept { Spares (tables_of S.Store self.old) (tables_of S.Store self.new) }
+        ensures same { settings_of S.Store self.new ≡ settings_of S.Store self.old }
+    {
+        stream_from(
+            alloc,
+            &mut self.store,
+            &self.settings,
+            at,
+            caller,
+            command,
+            output,
+        )
+    }
+}
+
+/// Writes the list that a command asks for. What every desk refuses costs no look at the tables.
+fn stream_from<S: Backend, W: Write>(
+    alloc: Global,
+    store: &mut Store<S>,
+    settings: &Settings,
+    at: u32,
+    caller: &str,
+    command: &Command,
+    output: &mut CountedWriter<'_, W>,
+) -> Result<(), StreamFault>
+    requires { has_write_failed output.old ≡ false }
+    ensures same_writer { HaveOneWriter output.new output.old }
+    ensures streamed { StreamsOn settings.now (ask_by at caller.now command.now)
+        (state_of S.Store store.old) (state_of S.Store store.new) result
+        (Prints W.contents output.old output.new) }
+    ensures failed { IsCutBy result (has_write_failed output.new) }
+    ensures kept { Spares (state_of S.Store store.old) (state_of S.Store store.new) }
+{
+    match refused_beforehand(settings, at, caller, command) {
+        Some(refusal) => Err(StreamFault::Refused(refusal)),
+        None => admit_and_put(alloc, store, settings, at, caller, command, output),
+    }
+}
+
+/// Writes the list, if the tables don't refuse it.
+fn admit_and_put<S: Backend, W: Write>(
+    alloc: Global,
+    store: &mut Store<S>,
+    settings: &Settings,
+    at: u32,
+    caller: &str,
+    command: &Command,
+    output: &mut CountedWriter<'_, W>,
+) -> Result<(), StreamFault>
+    requires { has_write_failed output.old ≡ false }
+    ensures same_writer { HaveOneWriter output.new output.old }
+    ensures streamed { StreamsOn settings.now (ask_by at caller.now command.now)
+        (state_of S.Store store.old) (state_of S.Store store.new) result
+        (Prints W.contents output.old output.new) }
+    ensures failed { IsCutBy result (has_write_failed output.new) }
+    ensures kept { Spares (state_of S.Store store.old) (state_of S.Store store.new) }
+{
+    match admit(alloc, store, settings, at, caller, command) {
+        Ok(()) => put_list(alloc, store, settings, at, caller, command, output),
+        Err(refusal) => Err(StreamFault::Refused(refusal)),
+    }
+}
+
+/// Asks whether a command is refused. The tables stay as they are.
+fn admit<S: Backend>(
+    alloc: Global,
+    store: &mut Store<S>,
+    settings: &Settings,
+    at: u32,
+    caller: &str,
+    command: &Command,
+) -> Result<(), Refusal>
+    ensures admitted { Admits settings.now (ask_by at caller.now command.now) result
+        (state_of S.Store store.old) (state_of S.Store store.new) }
+    ensures kept { Spares (state_of S.Store store.old) (state_of S.Store store.new) }
+{
+    let facts = or_unavailable(store.facts_for(alloc, command))?;
+    let admitted = admit_seeing(alloc, settings, at, caller, command, &facts);
+    drop(facts);
+    admitted
+}
+
+/// Asks whether a command that sees this is refused.
+fn admit_seeing(
+    alloc: Global,
+    settings: &Settings,
+    at: u32,
+    caller: &str,
+    command: &Command,
+    facts: &Facts,
+) -> Result<(), Refusal>
+    ensures { (desk : desks.Desk) → facts.now ≡ facts_of command.now desk
+        → IsAdmitted settings.now (ask_by at caller.now command.now) desk result }
+{
+    match decide(alloc, settings, at, caller, facts, command) {
+        Ok(change) => {
+            drop(change);
+            Ok(())
+        }
+        Err(refusal) => Err(refusal),
+    }
+}
+
+/// Writes the list of a command that isn't refused. Another command is `Unavailable`.
+fn put_list<S: Backend, W: Write>(
+    alloc: Global,
+    store: &mut Store<S>,
+    settings: &Settings,
+    at: u32,
+    caller: &str,
+    command: &Command,
+    output: &mut CountedWriter<'_, W>,
+) -> Result<(), StreamFault>
+    requires { has_write_failed output.old ≡ false }
+    ensures same_writer { HaveOneWriter output.new output.old }
+    ensures streamed { StreamsAdmitted settings.now (ask_by at caller.now command.now)
+        (state_of S.Store store.old) (state_of S.Store store.new) result
+        (Prints W.contents output.old output.new) }
+    ensures failed { IsCutBy result (has_write_failed output.new) }
+    ensures kept { Spares (state_of S.Store store.old) (state_of S.Store store.new) }
+{
+    match command {
+        Command::List { queue } => stream_list(alloc, store, settings, caller, queue, output),
+        Command::Overdue => stream_overdue(alloc, store, settings, at, caller, output),
+        _ => Err(StreamFault::Refused(Refusal::Unavailable)),
+    }
+}
