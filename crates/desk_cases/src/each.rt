@@ -18,7 +18,8 @@ const LEFT: &str = "left:";
 
 /// Lets the reader of the first message fail after each number of reads, from none up to the first
 /// that is more than it takes. Nothing is to be written of that message, and the others are to be
-/// answered as on a desk that it never came to. Tells how many reads it takes, or where it is wrong.
+/// answered as on a desk that it never came to. Tells how many reads it takes, and where it is
+/// wrong.
 pub(crate) fn reads(rt: &HostRuntime, before: &str, sent: &[Sent]) -> Result<(), Failure> {
     let whole = answered(rt, before, sent, Manner::BYTES)?;
     let others = answered(rt, before, sent.get(1..).unwrap_or(&[]), Manner::BYTES)?;
@@ -40,9 +41,9 @@ pub(crate) fn reads(rt: &HostRuntime, before: &str, sent: &[Sent]) -> Result<(),
     Err(Failure::BadLine)
 }
 
-/// Lets the writer of the first message's reply fail after each number of writes, a byte each. Those
-/// bytes are to be written and no more, and the others are to be answered as on a desk that the
-/// first message came to. Tells how many writes the reply takes, or where it is wrong.
+/// Lets the writer of the first message's reply fail after each number of writes, a byte each.
+/// Those bytes are to be written and no more, and the others are to be answered as on a desk that
+/// the first message came to. Tells how many writes the reply takes, and where it is wrong.
 pub(crate) fn writes(rt: &HostRuntime, before: &str, sent: &[Sent]) -> Result<(), Failure> {
     let whole = answered(rt, before, sent, Manner::BYTES)?;
     let first = answered(rt, before, sent.get(..1).unwrap_or(&[]), Manner::BYTES)?;

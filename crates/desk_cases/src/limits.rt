@@ -95,7 +95,8 @@ fn under_limit(
     }
 }
 
-/// Tries it without a limit: whether the tables were as before, and it is answered as in the course.
+/// Tries it without a limit: whether the tables were as before, and it is answered as in the
+/// course.
 fn again(
     alloc: Global,
     course: &Course<'_>,

@@ -11,8 +11,8 @@
 //!   The whole list is asked at once, and each outcome is written as its text. Where the settings
 //!   can't be attached, it is written why, and what the store holds that is given back.
 //!
-//! Where lines stand after a line `+++`, each is a trial of the commands, of which it is written what
-//! comes of it (`trials.rt`).
+//! Where lines stand after a line `+++`, each is a trial of the commands, and what comes of it is
+//! written (`trials.rt`).
 //!
 //! After a line `@@` in place of `%%` lines stand of which lists of commands are made (`tally.rt`).
 //!
