@@ -1,7 +1,7 @@
 # Nothing has to be set up beforehand: `rt` is the toolchain's one command.
 PREFIX ?= /usr/local
 
-.PHONY: demo test desk install
+.PHONY: demo test desk install sweep
 
 # The first look: the printer script, run in two to three minutes on a fresh machine, before any proof.
 demo:
@@ -20,3 +20,9 @@ desk:
 
 install: desk
 	install -D -m 755 bin/desk $(PREFIX)/bin/desk
+
+# Each growth of the proved programs refused in turn, in some minutes. It needs a C compiler.
+sweep: desk
+	cd crates/leaf_cases && rt run < stdin > out/printed
+	cd crates/desk_cases && rt run < stdin > out/printed
+	bench/refused

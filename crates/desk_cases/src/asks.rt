@@ -3,7 +3,7 @@
 use crate::failure::Failure;
 use desk_core::Command;
 use std::alloc::Global;
-use wire_core::{WordsFault, command_of_words, number_of_word, words_of};
+use wire_core::{command_of_words, number_of_word, words_of};
 
 /// A moment, a caller and a command.
 pub(crate) type Ask = (u32, String, Command);
@@ -19,13 +19,13 @@ pub(crate) fn asks_of(alloc: Global, lines: &str) -> Result<Vec<Ask>, Failure> {
 
 /// The command that the words of a line spell.
 pub(crate) fn command_of(alloc: Global, line: &str) -> Result<Command, Failure> {
-    let words = words_of(alloc, line).map_err(failure_of)?;
-    command_of_words(alloc, words.as_slice()).map_err(failure_of)
+    let words = words_of(alloc, line)?;
+    Ok(command_of_words(alloc, words.as_slice())?)
 }
 
 /// What a line `MOMENT CALLER WORDS ..` asks.
-fn ask_of(alloc: Global, line: &str) -> Result<Ask, Failure> {
-    let words = words_of(alloc, line).map_err(failure_of)?;
+pub(crate) fn ask_of(alloc: Global, line: &str) -> Result<Ask, Failure> {
+    let words = words_of(alloc, line)?;
     ask_in(alloc, words.as_slice())
 }
 
@@ -35,13 +35,6 @@ fn ask_in(alloc: Global, words: &[String]) -> Result<Ask, Failure> {
     };
     let at = number_of_word(at.as_str()).ok_or(Failure::BadLine)?;
     let caller = String::from_str(alloc, caller.as_str())?;
-    let command = command_of_words(alloc, command).map_err(failure_of)?;
+    let command = command_of_words(alloc, command)?;
     Ok((at, caller, command))
-}
-
-fn failure_of(fault: WordsFault) -> Failure {
-    match fault {
-        WordsFault::NoMemory => Failure::Memory,
-        _ => Failure::BadLine,
-    }
 }

@@ -187,5 +187,5 @@ fn number_at(words: &[&str], at: usize) -> Result<u32, Failure> {
 
 /// The number that the word spells.
 pub fn number(word: &str) -> Result<u32, Failure> {
-    word.parse::<u32>().map_err(|_| Failure::BadLine)
+    Ok(word.parse::<u32>()?)
 }

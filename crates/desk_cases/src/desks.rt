@@ -17,7 +17,7 @@ pub(crate) fn run_case(
     settings: &str,
     commands: &str,
 ) -> Result<(), Failure> {
-    let settings = Settings::read(rt.alloc(), settings.as_bytes()).map_err(|_| Failure::Settings)?;
+    let settings = Settings::read(rt.alloc(), settings.as_bytes())?;
     let store = opened(rt.alloc(), statements)?;
     match Desk::attach(rt.alloc(), store, settings) {
         Ok(mut desk) => ask_all(rt, &mut desk, commands),
@@ -31,7 +31,7 @@ pub(crate) fn attached(
     statements: &str,
     settings: &str,
 ) -> Result<Desk<MemStore>, Failure> {
-    let settings = Settings::read(alloc, settings.as_bytes()).map_err(|_| Failure::Settings)?;
+    let settings = Settings::read(alloc, settings.as_bytes())?;
     let store = opened(alloc, statements)?;
     match Desk::attach(alloc, store, settings) {
         Ok(desk) => Ok(desk),
@@ -52,6 +52,6 @@ fn ask_all<S: Backend>(
 /// A store with the tables of an empty desk, or with those that the statements make.
 fn opened(alloc: Global, statements: &str) -> Result<Store<MemStore>, Failure> {
     let mut store = adopted(alloc, statements)?;
-    store.create_schema().map_err(|_| Failure::Statement)?;
+    store.create_schema()?;
     Ok(store)
 }

@@ -1,5 +1,9 @@
+use settings_core::SettingsFault;
 use std::alloc::{AllocError, AllocFailed};
 use std::io;
+use std::num::ParseIntError;
+use store_core::StoreFault;
+use wire_core::WordsFault;
 
 /// Why the cases end.
 #[derive(Debug, Drop)]
@@ -36,5 +40,32 @@ impl From<io::Error> for Failure {
 impl From<sqlite::Error> for Failure {
     fn from(_refused: sqlite::Error) -> Failure {
         Failure::Statement
+    }
+}
+
+impl From<StoreFault> for Failure {
+    fn from(_refused: StoreFault) -> Failure {
+        Failure::Statement
+    }
+}
+
+impl From<SettingsFault> for Failure {
+    fn from(_fault: SettingsFault) -> Failure {
+        Failure::Settings
+    }
+}
+
+impl From<ParseIntError> for Failure {
+    fn from(_none: ParseIntError) -> Failure {
+        Failure::BadLine
+    }
+}
+
+impl From<WordsFault> for Failure {
+    fn from(fault: WordsFault) -> Failure {
+        match fault {
+            WordsFault::NoMemory => Failure::Memory,
+            _ => Failure::BadLine,
+        }
     }
 }

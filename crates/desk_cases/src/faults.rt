@@ -46,7 +46,10 @@ fn slow(rt: &HostRuntime, line: &str, script: &[u8], fails_at: Option<u32>) -> R
 }
 
 fn endless(rt: &HostRuntime, line: &str) -> Result<(), Failure> {
-    let mut reader = Endless { reads: 0 };
+    let mut reader = Endless {
+        bytes: b"",
+        reads: 0,
+    };
     let mut written = Vec::new(rt.alloc());
     let ended = run_script_counted(rt.alloc(), &mut reader, &mut written);
     tell(rt, line, ended, reader.reads, ended.reads)?;

@@ -1,11 +1,12 @@
-//! Messages made of others: cut short, grown by a byte, with a byte changed, with a line repeated.
+//! Messages made of others: cut short, grown by a byte, with a byte changed, with a line repeated;
+//! and the same messages many times over.
 
 use crate::failure::Failure;
 use crate::served::{Sent, put_reply};
 use service_core::Desk;
 use std::alloc::{AllocError, Global};
 use store_core::Backend;
-use wire_core::serve_one;
+use wire_core::{serve_list, serve_one};
 
 /// What a reply begins with, before its code.
 const BEGIN: &[u8] = b"HTTP/1.1 ";
@@ -34,6 +35,35 @@ pub(crate) fn answer_made<S: Backend>(
     Ok(text)
 }
 
+/// Serves the messages so many times over, all in one list, and tells how many replies had which
+/// code.
+pub(crate) fn answer_many<S: Backend>(
+    alloc: Global,
+    sent: &[Sent],
+    times: u32,
+    desk: &mut Desk<S>,
+) -> Result<Vec<u8>, Failure> {
+    let list = many(alloc, sent, times)?;
+    let mut counts = [0u32; 8];
+    for reply in serve_list(alloc, list.as_slice(), desk)? {
+        match reply {
+            Ok(bytes) => count_code(&mut counts, bytes.as_slice()),
+            Err(_) => return Err(Failure::Memory),
+        }
+    }
+    Ok(told(alloc, &counts)?)
+}
+
+fn many(alloc: Global, sent: &[Sent], times: u32) -> Result<Vec<Sent>, AllocError> {
+    let mut list = Vec::new(alloc);
+    for number in 0..(times as usize).saturating_mul(sent.len()) {
+        if let Some(message) = sent.get(number.checked_rem(sent.len()).unwrap_or(0)) {
+            list.push((message.0, message.1.clone()?))?;
+        }
+    }
+    Ok(list)
+}
+
 /// One turn, from the generator's number on: its next number.
 fn serve_turn<S: Backend>(
     alloc: Global,
@@ -54,7 +84,7 @@ fn serve_turn<S: Backend>(
 }
 
 /// The generator's next number.
-fn next(number: u32) -> u32 {
+pub(crate) fn next(number: u32) -> u32 {
     ((u64::from(number) * 1_664_525 + 1_013_904_223) % 4_294_967_296) as u32
 }
 

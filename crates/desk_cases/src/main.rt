@@ -11,6 +11,11 @@
 //!   The whole list is asked at once, and each outcome is written as its text. Where the settings
 //!   can't be attached, it is written why, and what the store holds that is given back.
 //!
+//! Where lines stand after a line `+++`, each is a trial of the commands, and what comes of it is
+//! written (`trials.rt`).
+//!
+//! After a line `@@` in place of `%%` lines stand of which lists of commands are made (`tally.rt`).
+//!
 //! After a line `$$` in place of `%%` the commands are run one at a time, each as the program's
 //! form for one command does it (`singles.rt`).
 //!
@@ -33,20 +38,29 @@
 
 mod asks;
 mod changes;
+mod course;
 mod desks;
+mod dues;
+mod each;
 mod expansion;
 mod failure;
 mod faults;
+mod limits;
 mod lists;
 mod loopback;
+mod lots;
 mod made;
 mod messages;
+mod rows;
 mod scripts;
 mod served;
 mod singles;
 mod stores;
 mod streams;
+mod tally;
 mod telling;
+mod trials;
+mod written;
 
 use crate::expansion::{Named, expanded};
 use crate::failure::Failure;
@@ -108,17 +122,23 @@ fn answer(rt: &HostRuntime, named: &[Named<'_>], name: &str, text: &str) -> Resu
         return singles::run_case(rt, named, text, streams);
     }
     let case = expanded(rt.alloc(), named, text)?;
+    if text.contains(ASKED) {
+        return answer_on_tables(rt, str::from_utf8(case.as_slice()).unwrap_or(""), streams);
+    }
     if !streams.is_empty() {
         return faults::run_case(rt, case.as_slice(), streams);
     }
-    match text.split_once(ASKED) {
-        Some(_) => answer_on_tables(rt, str::from_utf8(case.as_slice()).unwrap_or("")),
-        None => scripts::run_case(rt, case.as_slice()),
-    }
+    scripts::run_case(rt, case.as_slice())
 }
 
 /// Writes what comes of a case that has tables.
-fn answer_on_tables(rt: &HostRuntime, case: &str) -> Result<(), Failure> {
+fn answer_on_tables(rt: &HostRuntime, case: &str, trials: &str) -> Result<(), Failure> {
+    if case.contains(tally::LOTS) {
+        return tally::run_case(rt, case, trials);
+    }
+    if !trials.is_empty() {
+        return trials::run_case(rt, case, trials);
+    }
     let (statements, asked) = case.split_once(ASKED).ok_or(Failure::BadLine)?;
     match asked.split_once(COMMANDS) {
         Some((settings, commands)) => desks::run_case(rt, statements, settings, commands),

@@ -6,7 +6,7 @@ use crate::desks::attached;
 use crate::expansion::{Named, expanded};
 use crate::failure::Failure;
 use crate::served::{LEFT, Manner, Sent, served};
-use crate::{ASKED, COMMANDS};
+use crate::{ASKED, COMMANDS, each};
 use service_core::Desk;
 use std::alloc::Global;
 use store_core::Backend;
@@ -32,10 +32,23 @@ pub(crate) fn run_case(
         return serve_alike(rt, before, sent.as_slice());
     }
     for line in manners.lines() {
-        let text = replies(rt, before, sent.as_slice(), manner_of(line)?)?;
-        print!(rt; "{line}\n{}", str::from_utf8(text.as_slice()).unwrap_or(""))?;
+        println!(rt; "{line}")?;
+        serve_by(rt, before, sent.as_slice(), line)?;
     }
     Ok(())
+}
+
+/// Serves the messages as the line states it.
+fn serve_by(rt: &HostRuntime, before: &str, sent: &[Sent], line: &str) -> Result<(), Failure> {
+    match line {
+        "each_read_fails" => each::reads(rt, before, sent),
+        "each_write_fails" => each::writes(rt, before, sent),
+        _ => {
+            let text = replies(rt, before, sent, manner_of(line)?)?;
+            print!(rt; "{}", str::from_utf8(text.as_slice()).unwrap_or(""))?;
+            Ok(())
+        }
+    }
 }
 
 /// The messages of a case.
@@ -81,7 +94,7 @@ fn serve_alike(rt: &HostRuntime, before: &str, sent: &[Sent]) -> Result<(), Fail
 }
 
 /// The replies to messages over a desk of their own.
-fn replies(
+pub(crate) fn replies(
     rt: &HostRuntime,
     before: &str,
     sent: &[Sent],
@@ -116,7 +129,12 @@ fn served_after<S: Backend>(
 /// | `writer_fails N` | the same; of the first the writer fails after N writes |
 /// | `writer_stops N` | the same, and takes nothing then |
 /// | `loopback` | each over a connection of its own, by a server that ends after it |
+/// | `endless` | each followed by bytes that never end, and told how often they were read |
 /// | `made N` | N turns of messages made of them: how many had which code; then the first |
+/// | `many N` | N times over, in one list: how many had which code |
+///
+/// `each_read_fails` and `each_write_fails` let the first fail after each number of calls in turn
+/// (`each.rt`).
 fn manner_of(line: &str) -> Result<Manner, Failure> {
     let (kind, rest) = line.split_once(' ').unwrap_or((line, "0"));
     let count = number(rest)?;
@@ -125,7 +143,9 @@ fn manner_of(line: &str) -> Result<Manner, Failure> {
         "writer_fails" => Ok(Manner::streams(None, count, true)),
         "writer_stops" => Ok(Manner::streams(None, count, false)),
         "loopback" => Ok(Manner::Loopback),
+        "endless" => Ok(Manner::Endless),
         "made" => Ok(Manner::Made(count)),
+        "many" => Ok(Manner::Many(count)),
         _ => Err(Failure::BadLine),
     }
 }

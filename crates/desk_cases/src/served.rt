@@ -2,8 +2,8 @@
 
 use crate::failure::Failure;
 use crate::loopback::answer_by_loopback;
-use crate::made::answer_made;
-use crate::streams::{Faltering, Slow};
+use crate::made::{answer_made, answer_many};
+use crate::streams::{Endless, Faltering, Slow};
 use service_core::Desk;
 use std::alloc::{AllocError, Global};
 use store_core::Backend;
@@ -14,6 +14,13 @@ pub(crate) type Sent = (u32, Vec<u8>);
 
 /// What stands after all replies, where they are followed by what is left of each message.
 pub(crate) const LEFT: &[u8] = b"left:";
+
+/// The greatest head and the greatest body, a byte a read, and one read more.
+const MOST_READS: u32 = 73_729;
+
+const FEW_READS: &[u8] = b"at most 73729 reads\n";
+
+const MANY_READS: &[u8] = b"more than 73729 reads\n";
 
 /// How messages are served.
 #[derive(Clone, Copy)]
@@ -27,8 +34,12 @@ pub(crate) enum Manner {
     Streams(Failing),
     /// Each over the loopback, at the clock's minute.
     Loopback,
+    /// Each followed by bytes that never end.
+    Endless,
     /// So many turns of messages made of them.
     Made(u32),
+    /// So many times over, in one list.
+    Many(u32),
 }
 
 /// When a reader or a writer fails: after how many calls, and whether the writer's call fails or
@@ -73,7 +84,9 @@ pub(crate) fn served<S: Backend>(
         Manner::Streams(failing) => one_by_one(rt.alloc(), sent, Some(failing), desk),
         Manner::List => in_list(rt.alloc(), sent, desk),
         Manner::Loopback => answer_by_loopback(rt, sent, desk),
+        Manner::Endless => before_others(rt.alloc(), sent, desk),
         Manner::Made(turns) => answer_made(rt.alloc(), sent, turns, desk),
+        Manner::Many(times) => answer_many(rt.alloc(), sent, times, desk),
     }
 }
 
@@ -105,7 +118,9 @@ fn one_by_one<S: Backend>(
         let rest = serve(alloc, message, failing, desk, &mut text)?;
         let number = format!(in alloc; " {rest}")?;
         left.extend_from_slice(number.as_bytes())?;
-        failing = failing.map(|_| NEVER);
+        if failing.is_some() {
+            failing = Some(NEVER);
+        }
     }
     text.extend_from_slice(LEFT)?;
     text.extend_from_slice(left.as_slice())?;
@@ -143,6 +158,28 @@ fn serve<S: Backend>(
     let ended = serve_one(alloc, &mut reader, &mut writer, message.0, desk);
     put_reply(alloc, text, writer.taken.as_slice(), ended)?;
     Ok(reader.bytes.len())
+}
+
+/// The replies to messages after which other bytes come without end, each with a line that tells
+/// whether it was read no more often than a head and a body can have bytes, and once more.
+fn before_others<S: Backend>(
+    alloc: Global,
+    sent: &[Sent],
+    desk: &mut Desk<S>,
+) -> Result<Vec<u8>, Failure> {
+    let mut text = Vec::new(alloc);
+    for message in sent {
+        let mut reader = Endless {
+            bytes: message.1.as_slice(),
+            reads: 0,
+        };
+        let mut written = Vec::new(alloc);
+        let ended = serve_one(alloc, &mut reader, &mut written, message.0, desk);
+        put_reply(alloc, &mut text, written.as_slice(), ended)?;
+        let few = reader.reads <= MOST_READS;
+        text.extend_from_slice(if few { FEW_READS } else { MANY_READS })?;
+    }
+    Ok(text)
 }
 
 /// Adds the bytes of a reply, with a backslash and `r` for each carriage return, and the fault of

@@ -54,7 +54,7 @@ fn run_line<S: Backend + Drop>(
     line: &str,
     fails_at: u32,
 ) -> Result<Store<S>, Failure> {
-    let words = words_of(rt.alloc(), line).map_err(|_| Failure::BadLine)?;
+    let words = words_of(rt.alloc(), line)?;
     let [at, caller, command @ ..] = words.as_slice() else {
         return Err(Failure::BadLine);
     };

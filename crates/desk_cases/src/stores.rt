@@ -1,6 +1,7 @@
 //! Cases of a store: its calls.
 
 use crate::changes::{change_of, number};
+use crate::dues;
 use crate::failure::Failure;
 use crate::lists::{entries, facts, facts_for, links, queues, requests, watchers};
 use sqlite::{Connection, MemStore};
@@ -19,7 +20,7 @@ pub(crate) fn run_case(rt: &HostRuntime, statements: &str, calls: &str) -> Resul
 /// A store without tables, or with those that the statements make.
 pub(crate) fn opened(alloc: Global, statements: &str) -> Result<Store<MemStore>, Failure> {
     if statements.is_empty() {
-        return Store::open_in_memory(alloc).map_err(|_| Failure::Statement);
+        return Ok(Store::open_in_memory(alloc)?);
     }
     adopted(alloc, statements)
 }
@@ -38,22 +39,56 @@ pub(crate) fn adopted(alloc: Global, statements: &str) -> Result<Store<MemStore>
 fn answer<S: Backend>(rt: &HostRuntime, store: &mut Store<S>, line: &str) -> Result<(), Failure> {
     let (call, rest) = line.split_once(' ').unwrap_or((line, ""));
     match call {
-        "create" => tell(rt, line, store.create_schema()),
-        "version" => version(rt, line, store),
         "queues" => queues(rt, line, store),
         "requests" => requests(rt, line, store, rest),
         "watchers" => watchers(rt, line, store),
         "links" => links(rt, line, store.links(rt.alloc())),
+        "entries" => entries(rt, line, store, rest),
+        "dues" => dues::list(rt, line, store),
+        _ => answer_on_some(rt, store, line, call, rest),
+    }
+}
+
+/// Writes a call that reads some rows, with its answer.
+fn answer_on_some<S: Backend>(
+    rt: &HostRuntime,
+    store: &mut Store<S>,
+    line: &str,
+    call: &str,
+    rest: &str,
+) -> Result<(), Failure> {
+    match call {
+        "version" => version(rt, line, store),
         "links_from" => links(rt, line, store.links_from(rt.alloc(), number(rest)?)),
         "links_to" => links(rt, line, store.links_to(rt.alloc(), number(rest)?)),
-        "entries" => entries(rt, line, store, rest),
         "facts" => facts(rt, line, store, rest),
         "facts_for" => facts_for(rt, line, store, rest),
-        _ => {
-            let change = change_of(rt.alloc(), call, rest)?;
-            tell(rt, line, store.apply(&change))
-        }
+        _ => tell(rt, line, written(rt.alloc(), store, call, rest)?),
     }
+}
+
+/// What comes of a call that writes.
+fn written<S: Backend>(
+    alloc: Global,
+    store: &mut Store<S>,
+    call: &str,
+    rest: &str,
+) -> Result<Result<(), StoreFault>, Failure> {
+    match call {
+        "create" => Ok(store.create_schema()),
+        "set_dues" => dues::set(alloc, store, rest),
+        _ => applied(alloc, store, call, rest),
+    }
+}
+
+fn applied<S: Backend>(
+    alloc: Global,
+    store: &mut Store<S>,
+    call: &str,
+    rest: &str,
+) -> Result<Result<(), StoreFault>, Failure> {
+    let change = change_of(alloc, call, rest)?;
+    Ok(store.apply(&change))
 }
 
 fn version<S: Backend>(rt: &HostRuntime, line: &str, store: &mut Store<S>) -> Result<(), Failure> {

@@ -28,19 +28,26 @@ impl Read for Slow<'_> {
     }
 }
 
-/// A reader that never ends, and gives one byte at a time.
+/// A reader that gives one byte at a time, and never ends: after its bytes come others.
 #[derive(Drop)]
-pub(crate) struct Endless {
+pub(crate) struct Endless<'b> {
+    pub(crate) bytes: &'b [u8],
     pub(crate) reads: u32,
 }
 
-impl Read for Endless {
+impl Read for Endless<'_> {
     fn read(&mut self, buf: &mut [u8]) -> Result<usize> {
         self.reads = self.reads.saturating_add(1);
         if buf.is_empty() {
             return Ok(0);
         }
-        buf[0] = b'#';
+        match self.bytes.split_first() {
+            Some((first, rest)) => {
+                buf[0] = *first;
+                self.bytes = rest;
+            }
+            None => buf[0] = b'#',
+        }
         Ok(1)
     }
 }

@@ -5,5 +5,6 @@ pub mod Stepping
 pub mod StreamLemmas
 pub mod Running
 pub mod RunsAlike
+pub mod WrittenAlike
 pub mod Linked
 pub mod Told

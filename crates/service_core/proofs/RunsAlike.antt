@@ -14,7 +14,7 @@ use Rattle.desk_core.proofs.Unchanged.{reading_law}
 use Rattle.service_core.specs.Alike.{AnswersAlike}
 use Rattle.service_core.specs.TableSteps.{IsStep}
 
-abbrev Reads : List ℕ → Ask → Type 0
+abbrev pub Reads : List ℕ → Ask → Type 0
 Reads caller ask = IsReading ask.command × (ask.caller ≡ caller)
 
 stays : (s : Settings) (ask : Ask) (old new : Desk) (outcome : Outcome) → IsReading ask.command
@@ -25,7 +25,7 @@ stays s ask old new outcome reads step =
       | inr done ↦ done.1 ∙ reading_law s ask.at ask.caller ask.command old reads
     ]
 
-tells : (s : Settings) (caller : List ℕ) (ask : Ask) (old new : Desk) (outcome : Outcome)
+pub tells : (s : Settings) (caller : List ℕ) (ask : Ask) (old new : Desk) (outcome : Outcome)
     → Reads caller ask → outcome ≢ Err Unavailable → IsStep s ask old outcome new
     → outcome ≡ outcome_of s ask.at ask.caller ask.command (view s caller old)
 tells s caller ask old new outcome reads told step =

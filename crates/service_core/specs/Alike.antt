@@ -1,5 +1,6 @@
 -- What a caller may not see changes no answer to that caller's reading commands.
-use Rattle.std.specs.Prelude.{◌≡◌, ◌≢◌, ℕ, List, All, Err}
+use Rattle.std.specs.Prelude.{◌≡◌, ◌≢◌, ℕ, ⊤, List, All, Option, Err, Result}
+use Rattle.std.specs.Io.KnownBytes.{Appends}
 use Rattle.sqlite.specs.Held.{Held, state}
 use Rattle.sqlite.specs.State.{HasCleanDisk}
 use Rattle.sqlite.specs.Store.{Ghosts}
@@ -10,7 +11,11 @@ use Rattle.desk_model.specs.IsDesk.{IsDesk}
 use Rattle.desk_model.specs.Step.{Ask, Outcome}
 use Rattle.desk_model.specs.View.{view}
 use Rattle.desk_model.specs.declared.refusal.Refusal.TheVariants.{Unavailable}
+use Rattle.desk_lists.specs.declared.fault.StreamFault.{StreamFault}
+use Rattle.desk_lists.specs.declared.fault.StreamFault.TheVariants.{Refused, Write}
 use Rattle.store_core.specs.Due.{StandsDue}
+use Rattle.stream_core.specs.Written.{IsWritten}
+use Rattle.service_core.specs.Streaming.{StreamsOn, is_write}
 use Rattle.service_core.specs.TableSteps.{RunsOn}
 
 -- the commands are that caller's, and only read
@@ -36,3 +41,32 @@ AnswersAlike {S} {T} g h settings caller asks =
     → RunsOn settings asks outcomes (state g old) (state g new)
     → RunsOn settings asks others (state h old_other) (state h new_other)
     → outcomes ≡ others
+
+-- no write failed, and neither memory nor the store refused
+abbrev pub IsWhole : Result ⊤ StreamFault → Type 0
+IsWhole result = (result ≢ Err Write) × (result ≢ Err (Refused Unavailable))
+
+-- both ended the same, and one text was written to both
+abbrev pub AreWrittenAlike : Result ⊤ StreamFault → Result ⊤ StreamFault → (List ℕ → Type 0)
+    → (List ℕ → Type 0) → Type 0
+AreWrittenAlike result other_result Written WrittenOther =
+    (result ≡ other_result) × (text : List ℕ) × Written text × WrittenOther text
+
+-- Two desks that a caller sees alike write a list for that caller alike: streams from tables that
+-- stand for them write one text, where neither was cut short.
+abbrev pub WritesAlike : {S T : Type 0} → Ghosts S → Ghosts T → Settings → Ask → Type 0
+WritesAlike {S} {T} g h settings ask =
+    (one other : Desk) (old new : Held S) (old_other new_other : Held T)
+    (result other_result : Result ⊤ StreamFault)
+    (before after before_other after_other : Option (List ℕ))
+    → IsDesk one → StandsDue settings one (state g old) → HasCleanDisk (state g new)
+    → IsDesk other → StandsDue settings other (state h old_other)
+    → HasCleanDisk (state h new_other)
+    → view settings ask.caller one ≡ view settings ask.caller other
+    → IsReading ask.command → IsWhole result → IsWhole other_result
+    → StreamsOn settings ask (state g old) (state g new) result
+    (IsWritten (is_write result) before after)
+    → StreamsOn settings ask (state h old_other) (state h new_other) other_result
+    (IsWritten (is_write other_result) before_other after_other)
+    → AreWrittenAlike result other_result (Appends before after)
+    (Appends before_other after_other)

@@ -1,9 +1,10 @@
-//! A law over two desks and their tables, as the contract of a function that does nothing. It
-//! speaks of the words of `execute_all` alone, and so of each list of commands that is executed.
+//! Laws over two desks and their tables, each as the contract of a function that does nothing. They
+//! speak of the words of `execute_all` and of `stream` alone, and so of each list of commands that
+//! is executed, and of each list of requests that is written row by row.
 ghost use Rattle.std.specs.Prelude.{ℕ, List};
 ghost use Rattle.settings_core.specs.declared.settings.Settings.{Settings};
 ghost use Rattle.desk_model.specs.Step.{Ask};
-ghost use Rattle.service_core.specs.Alike.{AnswersAlike};
+ghost use Rattle.service_core.specs.Alike.{AnswersAlike, WritesAlike};
 
 use store_core::Backend;
 
@@ -12,4 +13,10 @@ use store_core::Backend;
 pub fn alike_law<S: Backend, T: Backend>()
     ensures { (settings : Settings) (caller : List ℕ) (asks : List Ask)
         → AnswersAlike S.Store T.Store settings caller asks }
+{}
+
+/// Nothing leaks by writing row by row: two desks that a caller sees alike write that caller one
+/// text, where no write failed and none was out of memory.
+pub fn written_alike_law<S: Backend, T: Backend>()
+    ensures { (settings : Settings) (ask : Ask) → WritesAlike S.Store T.Store settings ask }
 {}

@@ -11,47 +11,76 @@ pub(crate) fn form_answer(
     call: &str,
     words: &[String],
 ) -> Result<Option<String>, AllocError> {
-    let answer = match (call, words) {
-        ("name", [text]) => yes_or_no(is_name(text.as_str())),
-        ("right", [text]) => yes_or_no(is_right_name(text.as_str())),
-        ("subject", [times, text]) => {
-            yes_or_no(is_subject(repeated(alloc, times.as_str(), text.as_str())?.as_str()))
-        }
-        ("text", [times, text]) => {
-            yes_or_no(is_text(repeated(alloc, times.as_str(), text.as_str())?.as_str()))
-        }
-        ("character", [code]) => character_answer(alloc, code.as_str())?,
-        ("order", [text, other]) => order_of(alloc, text.as_str(), other.as_str())?,
-        ("number", [word]) => return number_answer(alloc, word.as_str()),
-        _ => return list_answer(alloc, call, words),
+    let answer = match words {
+        [text] => answer_on_one(alloc, call, text.as_str())?,
+        [text, other] => answer_on_two(alloc, call, text.as_str(), other.as_str())?,
+        _ => None,
     };
-    Ok(Some(String::from_str(alloc, answer)?))
+    match answer {
+        Some(answer) => Ok(Some(String::from_str(alloc, answer)?)),
+        None => number_answer(alloc, call, words),
+    }
 }
 
-/// The answer to a call on lists of texts, where it is one.
-fn list_answer(alloc: Global, call: &str, words: &[String]) -> Result<Option<String>, AllocError> {
-    let answer = match (call, words) {
-        ("among", [texts, text]) => {
-            let texts = texts_of(alloc, texts.as_str())?;
-            let same = texts.contains(text.as_str()) == is_among(texts.as_slice(), text.as_str());
-            yes_or_no(same && texts.contains(text.as_str()))
-        }
-        ("repeats", [texts]) => yes_or_no(repeats_text(texts_of(
-            alloc,
-            texts.as_str(),
-        )?.as_slice())),
-        ("shares", [texts, others]) => {
-            let others = texts_of(alloc, others.as_str())?;
-            let texts = texts_of(alloc, texts.as_str())?;
-            yes_or_no(shares_text(texts.as_slice(), others.as_slice()))
-        }
-        ("same", [texts, others]) => {
-            let others = texts_of(alloc, others.as_str())?;
-            yes_or_no(texts_of(alloc, texts.as_str())? == others.clone()?)
-        }
+fn answer_on_one(
+    alloc: Global,
+    call: &str,
+    text: &str,
+) -> Result<Option<&'static str>, AllocError> {
+    Ok(Some(match call {
+        "name" => yes_or_no(is_name(text)),
+        "right" => yes_or_no(is_right_name(text)),
+        "character" => character_answer(alloc, text)?,
+        "repeats" => yes_or_no(repeats(alloc, text)?),
         _ => return Ok(None),
-    };
-    Ok(Some(String::from_str(alloc, answer)?))
+    }))
+}
+
+fn answer_on_two(
+    alloc: Global,
+    call: &str,
+    text: &str,
+    other: &str,
+) -> Result<Option<&'static str>, AllocError> {
+    Ok(Some(match call {
+        "subject" => yes_or_no(is_subject_repeated(alloc, text, other)?),
+        "text" => yes_or_no(is_text_repeated(alloc, text, other)?),
+        "order" => order_of(alloc, text, other)?,
+        "among" => yes_or_no(among(alloc, text, other)?),
+        "shares" => yes_or_no(shares(alloc, text, other)?),
+        "same" => yes_or_no(same(alloc, text, other)?),
+        _ => return Ok(None),
+    }))
+}
+
+fn is_subject_repeated(alloc: Global, times: &str, text: &str) -> Result<bool, AllocError> {
+    Ok(is_subject(repeated(alloc, times, text)?.as_str()))
+}
+
+fn is_text_repeated(alloc: Global, times: &str, text: &str) -> Result<bool, AllocError> {
+    Ok(is_text(repeated(alloc, times, text)?.as_str()))
+}
+
+/// Whether the text is among the texts, by both calls that tell it.
+fn among(alloc: Global, texts: &str, text: &str) -> Result<bool, AllocError> {
+    let texts = texts_of(alloc, texts)?;
+    let same = texts.contains(text) == is_among(texts.as_slice(), text);
+    Ok(same && texts.contains(text))
+}
+
+fn repeats(alloc: Global, texts: &str) -> Result<bool, AllocError> {
+    Ok(repeats_text(texts_of(alloc, texts)?.as_slice()))
+}
+
+fn shares(alloc: Global, texts: &str, others: &str) -> Result<bool, AllocError> {
+    let others = texts_of(alloc, others)?;
+    let texts = texts_of(alloc, texts)?;
+    Ok(shares_text(texts.as_slice(), others.as_slice()))
+}
+
+fn same(alloc: Global, texts: &str, others: &str) -> Result<bool, AllocError> {
+    let others = texts_of(alloc, others)?.clone()?;
+    Ok(texts_of(alloc, texts)? == others)
 }
 
 pub(crate) fn yes_or_no(holds: bool) -> &'static str {
@@ -106,8 +135,16 @@ fn order_of(alloc: Global, text: &str, other: &str) -> Result<&'static str, Allo
     })
 }
 
-fn number_answer(alloc: Global, word: &str) -> Result<Option<String>, AllocError> {
-    match number_of_word(word) {
+/// What number a word is, where that is the call.
+fn number_answer(
+    alloc: Global,
+    call: &str,
+    words: &[String],
+) -> Result<Option<String>, AllocError> {
+    let ("number", [word]) = (call, words) else {
+        return Ok(None);
+    };
+    match number_of_word(word.as_str()) {
         Some(number) => Ok(Some(format!(in alloc; "{number}")?)),
         None => Ok(Some(String::from_str(alloc, "no number")?)),
     }

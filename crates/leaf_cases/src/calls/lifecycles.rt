@@ -3,6 +3,9 @@ use lifecycle_core::{Class, Lifecycle, LifecycleFault, Move, MoveRight, Parts};
 use std::alloc::{AllocError, Global};
 use text_core::{Sequence, Text};
 
+/// What is answered where a call is none.
+const NO_CALL: &str = "no such call";
+
 /// The answer to a call on lifecycles: `lifecycle` and `default` build one, and the others ask
 /// about it.
 pub(crate) fn lifecycle_answer(
@@ -45,14 +48,28 @@ fn keep(
 
 /// What the lifecycle answers.
 fn asked<'l>(lifecycle: &'l Lifecycle, call: &str, words: &[String]) -> &'l str {
-    match (call, words) {
-        ("class", [status]) => class_name(lifecycle.class(status.as_str())),
-        ("creates", [status]) => yes_or_no(lifecycle.may_create(status.as_str())),
-        ("moves", [from, to]) => yes_or_no(lifecycle.may_move(from.as_str(), to.as_str())),
-        ("right_for", [from, to]) => lifecycle.right_for(from.as_str(), to.as_str()),
-        ("reopens", [from]) => lifecycle.reopen_to(from.as_str()).unwrap_or("none"),
-        ("on_create", []) => lifecycle.on_create(),
-        _ => "no such call",
+    match words {
+        [] if call == "on_create" => lifecycle.on_create(),
+        [status] => asked_of(lifecycle, call, status.as_str()),
+        [from, to] => asked_between(lifecycle, call, from.as_str(), to.as_str()),
+        _ => NO_CALL,
+    }
+}
+
+fn asked_of<'l>(lifecycle: &'l Lifecycle, call: &str, status: &str) -> &'l str {
+    match call {
+        "class" => class_name(lifecycle.class(status)),
+        "creates" => yes_or_no(lifecycle.may_create(status)),
+        "reopens" => lifecycle.reopen_to(status).unwrap_or("none"),
+        _ => NO_CALL,
+    }
+}
+
+fn asked_between<'l>(lifecycle: &'l Lifecycle, call: &str, from: &str, to: &str) -> &'l str {
+    match call {
+        "moves" => yes_or_no(lifecycle.may_move(from, to)),
+        "right_for" => lifecycle.right_for(from, to),
+        _ => NO_CALL,
     }
 }
 

@@ -61,7 +61,9 @@ fn show(rt: &impl Print, line: &str, minute: Option<Minute>) -> Result<(), Failu
 /// Writes whether the first of two minutes is before the second.
 fn in_order(rt: &impl Print, line: &str, words: &str) -> Result<(), Failure> {
     let (earlier, later) = halves(words, ' ')?;
-    println!(rt; "{line}: {}", moment(earlier)? < moment(later)?)?;
+    let earlier = moment(earlier)?;
+    let later = moment(later)?;
+    println!(rt; "{line}: {}", earlier < later)?;
     Ok(())
 }
 
@@ -82,10 +84,8 @@ fn show_text(rt: &impl Print, line: &str, minute: Minute) -> Result<(), Failure>
 
 /// Writes the offsets of a rule's zone at minutes, or its fault.
 fn by_rule(rt: &(impl AllocGlobal + Print), line: &str, words: &str) -> Result<(), Failure> {
-    let (first, rest) = halves(words, ' ')?;
-    let (last, rest) = halves(rest, ' ')?;
+    let (years, rest) = years_of(words)?;
     let (rule, minutes) = rest.split_once(' ').unwrap_or((rest, ""));
-    let years = (number(first)?, number(last)?);
     match Zone::by_rule(rt.alloc(), rule, years) {
         Ok(zone) => show_offsets(rt, line, &zone, minutes),
         Err(fault) => {
@@ -93,6 +93,13 @@ fn by_rule(rt: &(impl AllocGlobal + Print), line: &str, words: &str) -> Result<(
             Ok(())
         }
     }
+}
+
+/// The two years that words begin with, and the rest of the words.
+fn years_of(words: &str) -> Result<((i64, i64), &str), Failure> {
+    let (first, rest) = halves(words, ' ')?;
+    let (last, rest) = halves(rest, ' ')?;
+    Ok(((number(first)?, number(last)?), rest))
 }
 
 /// Writes the zone's offset at each minute.

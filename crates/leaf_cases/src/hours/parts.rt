@@ -66,12 +66,18 @@ impl Parts {
         self.changes = Vec::new(alloc);
         for change in changes.split(' ') {
             if !change.is_empty() {
-                let (minutes, offset) = halves(change, ':')?;
-                let (from, to) = range(minutes)?;
-                for minute in from..=to {
-                    self.changes.push((minute, number(offset)?))?;
-                }
+                self.take_changes(change)?;
             }
+        }
+        Ok(())
+    }
+
+    fn take_changes(&mut self, change: &str) -> Result<(), Failure> {
+        let (minutes, offset) = halves(change, ':')?;
+        let offset = number(offset)?;
+        let (from, to) = range(minutes)?;
+        for minute in from..=to {
+            self.changes.push((minute, offset))?;
         }
         Ok(())
     }
@@ -141,11 +147,16 @@ fn days(alloc: Global, rest: &str) -> Result<Vec<u32>, Failure> {
     let mut days = Vec::new(alloc);
     for word in rest.split(' ') {
         if !word.is_empty() {
-            let (first, last) = range(word)?;
-            for day in first..=last {
-                days.push(u32::try_from(day).map_err(|_| Failure::BadLine)?)?;
-            }
+            add_days(&mut days, word)?;
         }
     }
     Ok(days)
+}
+
+fn add_days(days: &mut Vec<u32>, word: &str) -> Result<(), Failure> {
+    let (first, last) = range(word)?;
+    for day in first..=last {
+        days.push(u32::try_from(day).map_err(|_| Failure::BadLine)?)?;
+    }
+    Ok(())
 }

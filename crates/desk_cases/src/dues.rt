@@ -1,0 +1,127 @@
+//! Due moments in the tables.
+
+use crate::changes::number;
+use crate::course::{Course, outcome};
+use crate::desks::attached;
+use crate::failure::Failure;
+use crate::stores::tell;
+use desk_core::{Command, RequestRow};
+use hours_core::{Minute, minute_text};
+use service_core::{Desk, outcome_text};
+use sqlite::MemStore;
+use std::alloc::Global;
+use store_core::{Backend, Store, StoreFault};
+
+/// What is shown where a request isn't due.
+const NEVER: &str = "-";
+
+/// A request with its due moment, as the tables have it.
+type Dated = (RequestRow, Option<Minute>);
+
+/// Asks the commands one after the other. After each, the due moments are written that the tables
+/// have, and that this person is shown.
+pub(crate) fn run(rt: &HostRuntime, course: &Course<'_>, caller: &str) -> Result<(), Failure> {
+    let mut desk = attached(rt.alloc(), "", course.settings)?;
+    for ask in course.asks.iter() {
+        let _ = outcome(rt.alloc(), &mut desk, ask)?;
+        desk = told(rt, desk, ask.0, caller)?;
+    }
+    Ok(())
+}
+
+/// Writes both due moments of each request, and gives a desk over the tables back.
+fn told(
+    rt: &HostRuntime,
+    desk: Desk<MemStore>,
+    at: u32,
+    caller: &str,
+) -> Result<Desk<MemStore>, Failure> {
+    let (mut store, settings) = desk.detach();
+    let dated = store.dated_requests(rt.alloc());
+    match Desk::attach(rt.alloc(), store, settings) {
+        Ok(mut desk) => {
+            tell_each(rt, &mut desk, at, caller, dated?.as_slice())?;
+            Ok(desk)
+        }
+        Err(_) => Err(Failure::Settings),
+    }
+}
+
+fn tell_each<S: Backend>(
+    rt: &HostRuntime,
+    desk: &mut Desk<S>,
+    at: u32,
+    caller: &str,
+    dated: &[Dated],
+) -> Result<(), Failure> {
+    for (request, due) in dated {
+        let id = request.id;
+        let outcome = desk.execute(rt.alloc(), at, caller, &Command::Show { id });
+        let text = outcome_text(rt.alloc(), &outcome)?;
+        print!(rt; "  {id}: ")?;
+        print_due(rt, *due)?;
+        println!(rt; ", shown {}", shown_due(text.as_str()))?;
+    }
+    Ok(())
+}
+
+/// What a shown request has beside `due`.
+fn shown_due(text: &str) -> &str {
+    for line in text.lines() {
+        if let Some(due) = line.strip_prefix("due: ") {
+            return due;
+        }
+    }
+    ""
+}
+
+fn print_due(rt: &HostRuntime, due: Option<Minute>) -> Result<(), Failure> {
+    match due {
+        Some(moment) => print!(rt; "{}", str::from_utf8(&minute_text(moment)).unwrap_or(""))?,
+        None => print!(rt; "{NEVER}")?,
+    }
+    Ok(())
+}
+
+/// Writes the due moments of all requests as the tables have them.
+pub(crate) fn list<S: Backend>(
+    rt: &HostRuntime,
+    line: &str,
+    store: &mut Store<S>,
+) -> Result<(), Failure> {
+    match store.dated_requests(rt.alloc()) {
+        Ok(dated) => tell_dated(rt, line, dated.as_slice()),
+        Err(fault) => tell(rt, line, Err(fault)),
+    }
+}
+
+fn tell_dated(rt: &HostRuntime, line: &str, dated: &[Dated]) -> Result<(), Failure> {
+    println!(rt; "{line}:")?;
+    for (request, due) in dated {
+        print!(rt; "  {}: ", request.id)?;
+        print_due(rt, *due)?;
+        println!(rt; "")?;
+    }
+    Ok(())
+}
+
+/// Sets due moments, each by words `ID MOMENT` or `ID -`.
+pub(crate) fn set<S: Backend>(
+    alloc: Global,
+    store: &mut Store<S>,
+    words: &str,
+) -> Result<Result<(), StoreFault>, Failure> {
+    let mut dues = Vec::new(alloc);
+    let mut words = words.split_whitespace();
+    while let (Some(id), Some(due)) = (words.next(), words.next()) {
+        dues.push((number(id)?, due_of_word(due)?))?;
+    }
+    Ok(store.set_dues(dues.as_slice()))
+}
+
+fn due_of_word(word: &str) -> Result<Option<Minute>, Failure> {
+    if word == NEVER {
+        return Ok(None);
+    }
+    Ok(Minute::new(number(word)?))
+}

@@ -1,0 +1,106 @@
+//! Commands under a limit on steps.
+
+use crate::asks::Ask;
+use crate::course::{Course, UNAVAILABLE, outcome, rows_left};
+use crate::desks::attached;
+use crate::failure::Failure;
+use service_core::Desk;
+use std::alloc::Global;
+use store_core::Backend;
+
+/// How many limits are tried: 1, 2, 4, .. up to 65,536.
+const LIMITS: u32 = 17;
+
+/// Tries each command under each limit, and where it is `Unavailable`, once more without one. A
+/// line for each limit tells whether all answers and the rows that are left are those of the
+/// course, and the last ones whether some command was `Unavailable` under the least limit, and
+/// under the greatest.
+pub(crate) fn run(rt: &HostRuntime, course: &Course<'_>) -> Result<(), Failure> {
+    let mut limit = 1u32;
+    let mut least = None;
+    let mut greatest = None;
+    for _ in 0..LIMITS {
+        let count = unavailable(rt.alloc(), course, limit)?;
+        let told = if count.is_some() { "ok" } else { "wrong" };
+        println!(rt; "  {limit}: {told}")?;
+        least = least.or(count);
+        greatest = count;
+        limit = limit.saturating_mul(2);
+    }
+    tell(rt, "least", least)?;
+    tell(rt, "greatest", greatest)
+}
+
+fn tell(rt: &HostRuntime, which: &str, count: Option<u32>) -> Result<(), Failure> {
+    let told = match count {
+        Some(0) => "none",
+        Some(_) => "some",
+        None => "wrong",
+    };
+    println!(rt; "  Unavailable under the {which}: {told}")?;
+    Ok(())
+}
+
+/// How many commands are `Unavailable` under the limit. None where an answer or the rows that are
+/// left are wrong.
+fn unavailable(alloc: Global, course: &Course<'_>, limit: u32) -> Result<Option<u32>, Failure> {
+    let mut desk = attached(alloc, "", course.settings)?;
+    let count = count_on(alloc, course, &mut desk, limit);
+    let rows = rows_left(alloc, desk)?;
+    if course.leaves(rows.as_str()) {
+        count
+    } else {
+        Ok(None)
+    }
+}
+
+fn count_on<S: Backend>(
+    alloc: Global,
+    course: &Course<'_>,
+    desk: &mut Desk<S>,
+    limit: u32,
+) -> Result<Option<u32>, Failure> {
+    let mut count = 0u32;
+    for (i, ask) in course.asks.iter().enumerate() {
+        if is_unavailable(alloc, desk, ask, limit, course, i)? {
+            count = count.saturating_add(1);
+            if !is_answered(alloc, desk, ask, course, i)? {
+                return Ok(None);
+            }
+        }
+    }
+    Ok(Some(count))
+}
+
+/// Whether the command of that number is `Unavailable` under the limit, which is taken away again.
+/// The case ends where it is answered otherwise than in the course.
+fn is_unavailable<S: Backend>(
+    alloc: Global,
+    desk: &mut Desk<S>,
+    ask: &Ask,
+    limit: u32,
+    course: &Course<'_>,
+    number: usize,
+) -> Result<bool, Failure> {
+    desk.set_step_limit(Some(limit));
+    let text = outcome(alloc, desk, ask);
+    desk.set_step_limit(None);
+    let text = text?;
+    if text.as_str() == UNAVAILABLE || course.answers(number, text.as_str()) {
+        Ok(text.as_str() == UNAVAILABLE)
+    } else {
+        Err(Failure::BadLine)
+    }
+}
+
+/// Whether the command of that number is answered as in the course.
+fn is_answered<S: Backend>(
+    alloc: Global,
+    desk: &mut Desk<S>,
+    ask: &Ask,
+    course: &Course<'_>,
+    number: usize,
+) -> Result<bool, Failure> {
+    let text = outcome(alloc, desk, ask)?;
+    Ok(course.answers(number, text.as_str()))
+}

@@ -1,0 +1,160 @@
+//! Cases of lists that are made by lot: what comes of their commands.
+
+use crate::ASKED;
+use crate::changes::number;
+use crate::desks::attached;
+use crate::failure::Failure;
+use crate::lots::{Drawn, Urn, draw, urn_of};
+use desk_core::{Answer, Refusal};
+use service_core::outcome_text;
+use std::alloc::{AllocError, Global};
+use wire_core::{ServeFault, serve_list};
+
+/// What stands between settings and the lines of which lists are made.
+pub(crate) const LOTS: &str = "@@\n";
+
+/// What came of all commands.
+#[derive(Drop)]
+struct Tally {
+    /// Of each line, how many of its commands were accepted.
+    accepted: Vec<u32>,
+    /// How often each refusal came, under its number.
+    refused: [u32; 17],
+    /// How many replies had another text than the outcome of the command.
+    differ: u32,
+}
+
+/// Makes so many lists of so many commands, as a line `LISTS COMMANDS` states. Each is asked of a
+/// new desk at once, and of another new desk by messages. It is written which lines were accepted
+/// at least once, which refusals came, and how many replies had another text.
+pub(crate) fn run_case(rt: &HostRuntime, case: &str, counts: &str) -> Result<(), Failure> {
+    let (_, asked) = case.split_once(ASKED).ok_or(Failure::BadLine)?;
+    let (settings, lines) = asked.split_once(LOTS).ok_or(Failure::BadLine)?;
+    let (lists, count) = counts.trim_end().split_once(' ').ok_or(Failure::BadLine)?;
+    let urn = urn_of(rt.alloc(), lines)?;
+    let tally = counted(rt.alloc(), settings, &urn, number(lists)?, number(count)?)?;
+    tell(rt, &urn, &tally)
+}
+
+fn counted(
+    alloc: Global,
+    settings: &str,
+    urn: &Urn<'_>,
+    lists: u32,
+    count: u32,
+) -> Result<Tally, Failure> {
+    let mut tally = Tally {
+        accepted: zeros(alloc, urn.lines.len())?,
+        refused: [0u32; 17],
+        differ: 0,
+    };
+    let mut number = 1u32;
+    for _ in 0..lists {
+        let (list, after) = draw(alloc, urn, count, number)?;
+        number = after;
+        count_list(alloc, settings, &list, &mut tally)?;
+    }
+    Ok(tally)
+}
+
+fn zeros(alloc: Global, count: usize) -> Result<Vec<u32>, AllocError> {
+    let mut numbers = Vec::new(alloc);
+    for _ in 0..count {
+        numbers.push(0u32)?;
+    }
+    Ok(numbers)
+}
+
+fn count_list(
+    alloc: Global,
+    settings: &str,
+    list: &Drawn,
+    tally: &mut Tally,
+) -> Result<(), Failure> {
+    let outcomes = outcomes_of(alloc, settings, list)?;
+    let replies = replies_to(alloc, settings, list)?;
+    for (i, outcome) in outcomes.iter().enumerate() {
+        let place = list.places.get(i).copied().unwrap_or(usize::MAX);
+        count_outcome(tally, place, outcome);
+        if !is_reply(alloc, outcome, replies.get(i))? {
+            tally.differ = tally.differ.saturating_add(1);
+        }
+    }
+    Ok(())
+}
+
+/// What comes of the commands, all asked of a new desk at once.
+fn outcomes_of(
+    alloc: Global,
+    settings: &str,
+    list: &Drawn,
+) -> Result<Vec<Result<Answer, Refusal>>, Failure> {
+    let mut desk = attached(alloc, "", settings)?;
+    let outcomes = desk.execute_all(alloc, list.asks.as_slice());
+    drop(desk);
+    Ok(outcomes?)
+}
+
+/// The replies to the messages, all sent to a new desk.
+fn replies_to(
+    alloc: Global,
+    settings: &str,
+    list: &Drawn,
+) -> Result<Vec<Result<Vec<u8>, ServeFault>>, Failure> {
+    let mut desk = attached(alloc, "", settings)?;
+    let replies = serve_list(alloc, list.sent.as_slice(), &mut desk);
+    drop(desk);
+    Ok(replies?)
+}
+
+fn count_outcome(tally: &mut Tally, place: usize, outcome: &Result<Answer, Refusal>) {
+    match outcome {
+        Ok(_) => raise(tally.accepted.as_mut_slice(), place),
+        Err(refusal) => raise(&mut tally.refused, usize::from(refusal.number())),
+    }
+}
+
+/// Adds one to the count at a place.
+fn raise(counts: &mut [u32], place: usize) {
+    if place < counts.len() {
+        counts[place] = counts[place].saturating_add(1);
+    }
+}
+
+/// Whether the reply has the text of the outcome as its body.
+fn is_reply(
+    alloc: Global,
+    outcome: &Result<Answer, Refusal>,
+    reply: Option<&Result<Vec<u8>, ServeFault>>,
+) -> Result<bool, AllocError> {
+    let text = outcome_text(alloc, outcome)?;
+    let text = format!(in alloc; "\r\n\r\n{}", text.as_str())?;
+    Ok(match reply {
+        Some(Ok(bytes)) => bytes.as_slice().ends_with(text.as_bytes()),
+        _ => false,
+    })
+}
+
+fn tell(rt: &HostRuntime, urn: &Urn<'_>, tally: &Tally) -> Result<(), Failure> {
+    for (line, count) in urn.lines.iter().zip(tally.accepted.iter()) {
+        tell_accepted(rt, line, *count)?;
+    }
+    for (number, count) in tally.refused.iter().enumerate().skip(1) {
+        println!(rt; "refused {number} {}", told(*count))?;
+    }
+    println!(rt; "replies with another text: {}", tally.differ)?;
+    Ok(())
+}
+
+fn tell_accepted(rt: &HostRuntime, line: &str, count: u32) -> Result<(), Failure> {
+    let (words, _) = line.split_once('|').unwrap_or((line, ""));
+    println!(rt; "accepted {}: {words}", told(count))?;
+    Ok(())
+}
+
+fn told(count: u32) -> &'static str {
+    match count {
+        0 => "never",
+        _ => "at least once",
+    }
+}

@@ -1,0 +1,110 @@
+//! A list that is written row by row, to a writer that falters at each of its calls in turn.
+
+use crate::asks::{Ask, ask_of};
+use crate::course::{Course, outcome};
+use crate::desks::attached;
+use crate::failure::Failure;
+use crate::streams::Faltering;
+use service_core::{Desk, StreamFault};
+use std::alloc::Global;
+use store_core::Backend;
+
+/// More bytes than a list has.
+const MOST: u32 = 10_000;
+
+/// What came of a list.
+#[derive(Clone, Copy)]
+enum Tried {
+    /// It was written whole.
+    Whole,
+    /// As many bytes of it were written as the writer took, and the failed write was told.
+    Cut,
+    /// Neither.
+    Wrong,
+}
+
+/// Writes the list that a line `MOMENT CALLER WORDS ..` asks for, after all commands, to a writer
+/// that takes a byte at a time and falters after none, after one, and so on: its write fails, or it
+/// takes none. So many bytes of the list are to be written, and `Write` told. Tells where that is
+/// wrong, and how many bytes the list has.
+pub(crate) fn run(
+    rt: &HostRuntime,
+    course: &Course<'_>,
+    line: &str,
+    fails: bool,
+) -> Result<(), Failure> {
+    let mut desk = attached(rt.alloc(), "", course.settings)?;
+    for ask in course.asks.iter() {
+        let _ = outcome(rt.alloc(), &mut desk, ask)?;
+    }
+    try_line(rt, &mut desk, line, fails)
+}
+
+fn try_line<S: Backend>(
+    rt: &HostRuntime,
+    desk: &mut Desk<S>,
+    line: &str,
+    fails: bool,
+) -> Result<(), Failure> {
+    let ask = ask_of(rt.alloc(), line)?;
+    try_list(rt, desk, &ask, fails)
+}
+
+fn try_list<S: Backend>(
+    rt: &HostRuntime,
+    desk: &mut Desk<S>,
+    ask: &Ask,
+    fails: bool,
+) -> Result<(), Failure> {
+    let whole = outcome(rt.alloc(), desk, ask)?;
+    try_each(rt, desk, ask, whole.as_bytes(), fails)
+}
+
+fn try_each<S: Backend>(
+    rt: &HostRuntime,
+    desk: &mut Desk<S>,
+    ask: &Ask,
+    whole: &[u8],
+    fails: bool,
+) -> Result<(), Failure> {
+    for count in 0..MOST {
+        match try_once(rt.alloc(), desk, ask, whole, count, fails) {
+            Tried::Whole => {
+                println!(rt; "  written whole by {count} writes")?;
+                return Ok(());
+            }
+            Tried::Cut => {}
+            Tried::Wrong => println!(rt; "  wrong after {count} writes")?,
+        }
+    }
+    Err(Failure::BadLine)
+}
+
+/// Writes the list to a writer that falters after so many writes.
+fn try_once<S: Backend>(
+    alloc: Global,
+    desk: &mut Desk<S>,
+    ask: &Ask,
+    whole: &[u8],
+    count: u32,
+    fails: bool,
+) -> Tried {
+    let mut writer = Faltering {
+        taken: Vec::new(alloc),
+        falters_at: count,
+        fails,
+        writes: 0,
+    };
+    let ended = desk.stream(alloc, ask.0, ask.1.as_str(), &ask.2, &mut writer);
+    let taken = writer.taken.as_slice();
+    match ended {
+        Ok(()) if taken == whole => Tried::Whole,
+        Err(StreamFault::Write) if is_cut(taken, whole, count) => Tried::Cut,
+        _ => Tried::Wrong,
+    }
+}
+
+/// Whether these are so many bytes of the whole.
+fn is_cut(taken: &[u8], whole: &[u8], count: u32) -> bool {
+    taken.len() == count as usize && whole.starts_with(taken)
+}
