@@ -1,3 +1,5 @@
+//! Calls of calendars and moments, a line each.
+
 use crate::failure::{Failure, count, halves, moment, number};
 use hours_core::{Calendar, Level, Limit, Minute, Probes, Zone, date_of, minute_text};
 use text_core::Text;
