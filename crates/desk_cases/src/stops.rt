@@ -43,8 +43,8 @@ pub(crate) fn run(rt: &HostRuntime, course: &Course<'_>, stop: Stop) -> Result<(
 
 fn tell(rt: &HostRuntime, calls: u64, found: Option<usize>) -> Result<(), Failure> {
     match found {
-        Some(count) => println!(rt; "  after {calls}: {count}")?,
-        None => println!(rt; "  after {calls}: wrong")?,
+        Some(count) => println!(rt; "  found: {count}")?,
+        None => println!(rt; "  wrong after {calls} calls")?,
     }
     Ok(())
 }
