@@ -76,12 +76,7 @@ fn shown<S: Backend>(
     Ok(text?)
 }
 
-fn tell_both(
-    rt: &HostRuntime,
-    id: u32,
-    due: Option<Minute>,
-    shown: &str,
-) -> Result<(), Failure> {
+fn tell_both(rt: &HostRuntime, id: u32, due: Option<Minute>, shown: &str) -> Result<(), Failure> {
     print!(rt; "  {id}: ")?;
     print_due(rt, due)?;
     println!(rt; ", shown {shown}")?;

@@ -5,8 +5,7 @@ use crate::disks::{Disks, closed, disks, given_back, holding, opened};
 use crate::failure::Failure;
 use crate::runs::{Found, Run, Way, found_on, run_on, way_of};
 use sqlite::Files;
-use sqlite_disk::Fuse;
-use sqlite_disk::Memory;
+use sqlite_disk::{Fuse, Memory};
 use std::alloc::Global;
 
 /// Opens such files, and tells that they are refused, or what is found.

@@ -71,10 +71,7 @@ fn stopped(
 fn found_after(answered: Option<usize>, found: Found) -> Option<usize> {
     match (answered, found) {
         (Some(answered), Found::After(count))
-            if count == answered || count == answered.saturating_add(1) =>
-        {
-            Some(count)
-        }
+            if count == answered || count == answered.saturating_add(1) => { Some(count) }
         _ => None,
     }
 }
