@@ -138,8 +138,9 @@ fn follow_on<S: Backend>(
     (store, reached)
 }
 
-/// Asks the commands from that one on: how many are answered. Once one is `Unavailable` all have to
-/// be. None where an answer is neither that nor the one in memory.
+/// Asks the commands from that one on: how many are answered. The first one that isn't has to be
+/// `Unavailable`, and those after it refused, since a refusal may need no disk. None where an answer
+/// is another one.
 fn reached_on<S: Backend>(
     alloc: Global,
     course: &Course<'_>,
@@ -148,15 +149,24 @@ fn reached_on<S: Backend>(
 ) -> Option<usize> {
     let mut reached = from;
     for (number, ask) in course.asks.iter().enumerate().skip(from) {
-        match outcome(alloc, desk, ask) {
-            Ok(text) if course.answers(number, text.as_str()) && number == reached => {
-                reached = reached.saturating_add(1);
-            }
-            Ok(text) if text.as_str() == UNAVAILABLE => {}
-            _ => return None,
+        let Ok(text) = outcome(alloc, desk, ask) else {
+            return None;
+        };
+        if number == reached && course.answers(number, text.as_str()) {
+            reached = reached.saturating_add(1);
+        } else if !may_follow_a_stop(text.as_str(), number == reached) {
+            return None;
         }
     }
     Some(reached)
+}
+
+fn may_follow_a_stop(text: &str, is_first: bool) -> bool {
+    if is_first {
+        text == UNAVAILABLE
+    } else {
+        text.starts_with("refused ")
+    }
 }
 
 impl Way<'_> {
