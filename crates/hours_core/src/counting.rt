@@ -78,10 +78,10 @@ impl Calendar {
         Some(Minute::at(end))
     }
     /// How many minutes are open from one to before another.
-    pub(crate) fn open_between(&self, a: Minute, b: Minute) -> u32
+    pub(crate) fn open_between(&self, a: u32, b: u32) -> u32
         requires { a ≤ b }
         ensures { result ≡ count (opens self.now) a b }
     {
-        minutes_between(&self.spans, a.get(), b.get(), &mut Probes::new())
+        minutes_between(&self.spans, a, b, &mut Probes::new())
     }
 }

@@ -5,7 +5,7 @@ ghost use Rattle.hours_core.specs.Least.{NoneHolds, AllHold};
 ghost use Rattle.hours_core.specs.Moment.{end_minute};
 ghost use Rattle.hours_core.specs.Pauses as spec;
 
-use crate::moment::{END, Minute};
+use crate::moment::END;
 use crate::stay::Stay;
 use text_core::Texts;
 
@@ -13,28 +13,31 @@ use text_core::Texts;
 #[derive(Clone, Copy)]
 pub struct Ahead {
     /// Up to where each minute is paused: the minute itself, where it isn't.
-    pub past: Minute,
-    /// Up to where none is, where the minute isn't.
-    pub next: Minute,
+    pub past: u32,
+    /// Up to where none is, where the minute itself isn't.
+    pub next: u32,
 }
 
 /// What lies ahead of the minute, where the stays in these statuses are ignored.
-pub fn ahead_of(m: Minute, ignored: &Texts, stays: &[Stay]) -> Ahead
+pub fn ahead_of(m: u32, ignored: &Texts, stays: &[Stay]) -> Ahead
+    requires { m ≤ end_minute }
     ensures paused { AllHold (spec.is_paused ignored.now stays.now) m result.past }
     ensures clear { result.past ≡ m
         → NoneHolds (spec.is_paused ignored.now stays.now) m result.next }
-    ensures past { m ≤ result.past }
-    ensures next { m < end_minute → m < result.next }
+    ensures past { m ≤ result.past × result.past ≤ end_minute }
+    ensures next { (m < end_minute → m < result.next) × result.next ≤ end_minute }
 {
     let mut past = m;
-    let mut next = Minute::at(END);
+    let mut next = END;
     for stay in stays {
-        if stay.from <= past {
-            if past < stay.end() && ignored.contains(stay.status.as_str()) {
-                past = stay.end();
+        let from = stay.from.get();
+        let end = stay.end();
+        if from <= past {
+            if past < end && ignored.contains(stay.status.as_str()) {
+                past = end;
             }
-        } else if stay.from < next && ignored.contains(stay.status.as_str()) {
-            next = stay.from;
+        } else if from < next && ignored.contains(stay.status.as_str()) {
+            next = from;
         }
     }
     Ahead { past, next }

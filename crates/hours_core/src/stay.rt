@@ -1,4 +1,4 @@
-ghost use Rattle.std.specs.Prelude.{◌≡◌, unwrap_or};
+ghost use Rattle.std.specs.Prelude.{◌≡◌, ◌≤◌, unwrap_or};
 ghost use Rattle.hours_core.specs.Moment.{end_minute};
 
 use crate::moment::{END, Minute};
@@ -17,12 +17,13 @@ pub struct Stay {
 
 impl Stay {
     /// When it ended, which is `END` while it lasts.
-    pub(crate) fn end(&self) -> Minute
-        ensures { result ≡ unwrap_or self.now.until end_minute }
+    pub(crate) fn end(&self) -> u32
+        ensures end { result ≡ unwrap_or self.now.until end_minute }
+        ensures to { result ≤ end_minute }
     {
         match self.until {
-            Some(end) => end,
-            None => Minute::at(END),
+            Some(end) => end.get(),
+            None => END,
         }
     }
 }

@@ -26,17 +26,18 @@ impl Limit {
     }
 
     /// How many minutes of the limit's kind there are from one to before another.
-    fn count_between(self, calendar: &Calendar, a: Minute, b: Minute) -> u32
+    fn count_between(self, calendar: &Calendar, a: u32, b: u32) -> u32
         requires { a ≤ b }
         ensures { result ≡ count (spec.is_of self (opens calendar.now)) a b }
     {
         match self {
-            Limit::RealMinutes(_) => b.get().saturating_sub(a.get()),
+            Limit::RealMinutes(_) => b - a,
             Limit::BusinessMinutes(_) => calendar.open_between(a, b),
         }
     }
 
-    /// The first minute before which so many minutes of the limit's kind have passed.
+    /// The first minute before which so many minutes of the limit's kind have passed from this one
+    /// on.
     fn end_of_count(self, calendar: &Calendar, m: Minute, minutes: u32) -> Option<Minute>
         ensures { IsLeast (has_passed (spec.is_of self (opens calendar.now)) m minutes) m
             (end_minute + 1) result }
@@ -58,21 +59,21 @@ impl Limit {
         ensures { result
             ≡ spec.end_of (opens calendar.now) (is_paused ignored.now stays.now) self begin }
     {
-        let mut place = begin;
+        let mut place = begin.get();
         let mut left = self.minutes();
         if left == 0 {
             return Some(begin);
         }
-        while place.get() < END {
+        while place < END {
             let ahead = ahead_of(place, ignored, stays);
             if place < ahead.past {
                 place = ahead.past;
-            } else if ahead.next.get() == END {
-                return self.end_of_count(calendar, place, left);
+            } else if ahead.next == END {
+                return self.end_of_count(calendar, Minute::at(place), left);
             } else {
                 let minutes = self.count_between(calendar, place, ahead.next);
                 if left <= minutes {
-                    return self.end_of_count(calendar, place, left);
+                    return self.end_of_count(calendar, Minute::at(place), left);
                 }
                 left -= minutes;
                 place = ahead.next;
