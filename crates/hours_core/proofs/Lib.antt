@@ -8,5 +8,7 @@ pub mod RunLemmas
 pub mod ScheduleLemmas
 pub mod SearchLemmas
 pub mod SpanLemmas
+pub mod StretchLemmas
 pub mod TextLemmas
+pub mod WalkLemmas
 pub mod ZoneLemmas

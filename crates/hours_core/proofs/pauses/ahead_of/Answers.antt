@@ -28,11 +28,11 @@ loop-stay-preserved c =
     let past = c.loop-stay.past in
     let next = c.loop-stay.next in
     let kept : AllHold (is_paused ignored (take (at + 1) xs)) m past =
-        still_paused ignored xs at x m past c.loop-stay-test.true c.stay-item.is i.paused in
+    still_paused ignored xs at x m past c.loop-stay-test.true c.stay-item.is i.paused in
     elim c.if-from-past.branch [
       | then-from-past+then-past-end+then-contains w ↦
           let is : is_among ignored x.status ≡ true =
-              rw w.as_str.ensures at (sym w.contains.ensures ∙ w.if-contains.true) in
+          rw w.as_str.ensures at (sym w.contains.ensures ∙ w.if-contains.true) in
           rw (w.past-is, w.next-is, c.end-end.ensures.end) (record {
             low = omega (arith, i.low, w.if-past-end.true, c.end-end.ensures.end);
             high = omega (arith, c.end-end.ensures.to, c.end-end.ensures.end);
