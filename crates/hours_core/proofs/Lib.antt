@@ -2,6 +2,7 @@ pub mod CountLemmas
 pub mod DateLemmas
 pub mod HolidayLemmas
 pub mod LeastLemmas
+pub mod LimitLemmas
 pub mod PauseLemmas
 pub mod RuleLemmas
 pub mod RunLemmas
