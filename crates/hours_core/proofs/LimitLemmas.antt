@@ -1,13 +1,11 @@
 -- Where no stay's status is ignored, a limit is due as if there were no stay.
-use Rattle.std.proofs.Common.{◌≡◌, ℕ, ◌+◌, ◌≤◌, Bool, true, false, ◌||◌, List, [], ◌∷◌, Option}
-use Rattle.std.proofs.Common.{Some, None, option_and_then, refl, sym, ◌∙◌}
+use Rattle.std.proofs.Common.{◌≡◌, ℕ, ◌+◌, Bool, false, List, [], ◌∷◌, Option}
+use Rattle.std.proofs.Common.{Some, None, option_and_then, refl, sym}
 use Rattle.std.proofs.lemmas.Bool.{and_left, or_from, or_parts}
-use Rattle.text_core.specs.Texts.{is_among}
 use Rattle.hours_core.specs.Counting.{has_passed, add_of}
-use Rattle.hours_core.specs.Least.{IsLeast}
 use Rattle.hours_core.specs.Limit.{begin_of, is_of, counts, end_of, limit_due, plain_end, plain_due}
 use Rattle.hours_core.specs.Moment.{end_minute}
-use Rattle.hours_core.specs.Pauses.{lies_in, pauses, is_paused, IgnoresNone}
+use Rattle.hours_core.specs.Pauses.{is_paused, IgnoresNone}
 use Rattle.hours_core.specs.declared.level.Level.{Level}
 use Rattle.hours_core.specs.declared.level.Limit.{Limit}
 use Rattle.hours_core.specs.declared.level.Limit.TheVariants.{RealMinutes, BusinessMinutes}

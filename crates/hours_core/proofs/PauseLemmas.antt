@@ -1,5 +1,5 @@
 -- Which minutes one stay more pauses.
-use Rattle.std.proofs.Common.{◌≡◌, ℕ, ◌+◌, ◌<◌, ◌≤◌, Bool, true, false, ◌||◌, List, length, take}
+use Rattle.std.proofs.Common.{◌≡◌, ℕ, ◌+◌, ◌<◌, ◌≤◌, true, false, ◌||◌, List, length, take}
 use Rattle.std.proofs.Common.{get_or, unwrap_or, Option, Some, None, inl, inr, refl, ap, sym, ◌∙◌}
 use Rattle.std.proofs.Common.{arith}
 use Rattle.std.specs.List.{list_any}
@@ -9,7 +9,7 @@ use Rattle.std.proofs.lemmas.List.Folds.{list_any_more}
 use Rattle.text_core.specs.Texts.{is_among}
 use Rattle.hours_core.specs.Least.{NoneHolds, AllHold}
 use Rattle.hours_core.specs.Moment.{end_minute}
-use Rattle.hours_core.specs.Pauses.{is_before, lies_in, pauses, is_paused}
+use Rattle.hours_core.specs.Pauses.{is_before, pauses, is_paused}
 use Rattle.hours_core.specs.declared.stay.Stay.{Stay}
 
 -- where a stay ends, and `END` while it lasts

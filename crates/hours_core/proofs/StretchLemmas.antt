@@ -1,13 +1,12 @@
 -- Counts over neighbouring stretches.
-use Rattle.std.proofs.Common.{◌≡◌, ℕ, zero, suc, ◌+◌, ◌-◌, ◌<◌, ◌≤◌, Bool, true, false, not, ◌&&◌}
-use Rattle.std.proofs.Common.{List, [], ◌∷◌, Option, Some, None, if◌then◌else◌, inl, inr, refl}
-use Rattle.std.proofs.Common.{ap, sym, ◌∙◌, arith, ◌==◌, nat_le, max, ◌⊎◌}
-use Rattle.std.proofs.lemmas.Bool.{both_ways, cases_lt, cases_eq, eq-eqb, ne_eqb, lt-ltb, le-ltb, le-leb, lt-leb}
-use Rattle.hours_core.specs.Least.{NoneHolds, IsLeast}
+use Rattle.std.proofs.Common.{◌≡◌, ℕ, zero, suc, ◌+◌, ◌-◌, ◌<◌, ◌≤◌, Bool, true, false}
+use Rattle.std.proofs.Common.{Option, Some, None, if◌then◌else◌, inl, inr, refl}
+use Rattle.std.proofs.Common.{sym, ◌∙◌, arith, ◌⊎◌}
+use Rattle.std.proofs.lemmas.Bool.{both_ways, cases_lt, cases_eq, eq-eqb, ne_eqb, le-leb, lt-leb}
+use Rattle.hours_core.specs.Least.{IsLeast}
 use Rattle.hours_core.specs.Counting.{count_of_next, count, has_passed}
 use Rattle.hours_core.specs.Moment.{end_minute}
 use Rattle.hours_core.specs.Limit.{minutes_after}
-use Rattle.hours_core.proofs.LeastLemmas.{count-start, count-step}
 
 join_next : (p : ℕ → Bool) (a m n : ℕ)
     → count_of_next p a (m + n) ≡ count_of_next p a m + count_of_next p (a + m) n

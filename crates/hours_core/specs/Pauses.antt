@@ -1,5 +1,5 @@
 -- Minutes that don't count: those that lie in a stay whose status a level ignores.
-use Rattle.std.specs.Prelude.{ℕ, Bool, true, false, not, ◌&&◌, nat_le, nat_lt, List}
+use Rattle.std.specs.Prelude.{ℕ, Bool, true, false, ◌&&◌, nat_le, nat_lt, List}
 use Rattle.std.specs.Prelude.{◌≡◌, Option, Some, None}
 use Rattle.std.specs.List.{list_any}
 use Rattle.text_core.specs.Texts.{is_among}

@@ -1,7 +1,7 @@
-use Rattle.std.proofs.Common.{◌≡◌, ◌+◌, ◌<◌, ◌≤◌, ℕ, Bool, true, false, refl, sym, ◌∙◌, arith, take}
+use Rattle.std.proofs.Common.{◌≡◌, ◌+◌, true, refl, sym, ◌∙◌, arith, take}
 use Rattle.text_core.specs.Texts.{is_among}
-use Rattle.hours_core.specs.Least.{NoneHolds, AllHold}
-use Rattle.hours_core.specs.Pauses.{is_paused, pauses}
+use Rattle.hours_core.specs.Least.{AllHold}
+use Rattle.hours_core.specs.Pauses.{is_paused}
 use Rattle.hours_core.proofs.PauseLemmas.{still_paused, longer, still_clear, earlier, later, counted}
 use Rattle.hours_core.proofs.pauses.ahead_of.Goals as goal
 use Rattle.hours_core.proofs.pauses.ahead_of.Goals.{then-from-past+then-past-end+then-contains, then-from-past+else-past-end, else-past-end-via-then-past-end+else-contains, else-past-end-via-else-past-end, else-from-past+then-from-next+then-contains-2, else-from-past+else-from-next, else-from-next-via-then-from-next+else-contains-2, else-from-next-via-else-from-next}

@@ -1,4 +1,4 @@
-use Rattle.std.proofs.Common.{◌+◌, ◌-◌, arith}
+use Rattle.std.proofs.Common.{◌-◌, arith}
 use Rattle.hours_core.specs.Moment.{first_minute, end_minute}
 use Rattle.hours_core.proofs.CountLemmas.{all_held, held_few}
 use Rattle.hours_core.proofs.search.all_minutes.Goals as goal

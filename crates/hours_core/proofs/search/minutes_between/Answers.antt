@@ -1,4 +1,4 @@
-use Rattle.std.proofs.Common.{◌≡◌, arith}
+use Rattle.std.proofs.Common.{arith}
 use Rattle.hours_core.specs.Moment.{first_minute}
 use Rattle.hours_core.proofs.CountLemmas.{counted}
 use Rattle.hours_core.proofs.search.minutes_between.Goals as goal

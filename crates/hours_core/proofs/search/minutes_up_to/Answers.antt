@@ -1,4 +1,4 @@
-use Rattle.std.proofs.Common.{◌≡◌, ◌+◌, ◌∙◌, arith}
+use Rattle.std.proofs.Common.{◌+◌, ◌∙◌, arith}
 use Rattle.hours_core.specs.Moment.{end_minute}
 use Rattle.hours_core.proofs.search.minutes_up_to.Goals as goal
 

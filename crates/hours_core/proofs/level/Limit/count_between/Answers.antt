@@ -1,4 +1,4 @@
-use Rattle.std.proofs.Common.{refl, sym, arith}
+use Rattle.std.proofs.Common.{refl, sym}
 use Rattle.hours_core.specs.Calendar.{opens}
 use Rattle.hours_core.specs.Limit.{is_of}
 use Rattle.hours_core.proofs.StretchLemmas.{count_all}

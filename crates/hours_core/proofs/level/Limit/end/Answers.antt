@@ -1,8 +1,7 @@
-use Rattle.std.proofs.Common.{◌≡◌, ◌+◌, ◌-◌, ◌<◌, ◌≤◌, ℕ, Some, None, inl, inr, arith}
+use Rattle.std.proofs.Common.{◌≡◌, ◌+◌, Some, None, inl, inr, arith}
 use Rattle.std.proofs.lemmas.Bool.{ne_eqb}
 use Rattle.hours_core.specs.Calendar.{opens}
 use Rattle.hours_core.specs.Counting.{has_passed}
-use Rattle.hours_core.specs.Least.{IsLeast}
 use Rattle.hours_core.specs.Limit.{counts, is_of, minutes_of}
 use Rattle.hours_core.specs.Moment.{end_minute}
 use Rattle.hours_core.specs.Pauses.{is_paused}
