@@ -1,6 +1,6 @@
 -- When a request is due: the least of the limits of its level that count, unless its status is
 -- inactive.
-use Rattle.std.specs.Prelude.{ℕ, Bool, true, false, nat_le, if◌then◌else◌}
+use Rattle.std.specs.Prelude.{ℕ, Bool, true, false, nat_le, if◌then◌else◌, []}
 use Rattle.std.specs.Prelude.{Option, Some, None, option_and_then}
 use Rattle.hours_core.specs.Calendar.{opens}
 use Rattle.hours_core.specs.Limit.{limit_due}
@@ -33,7 +33,7 @@ limit_on_turn level turn.Requestor = level.keep_in_loop
 -- when a limit from this moment on is due, if the level has it
 abbrev pub due_of_limit : (ℕ → Bool) → Level → ℕ → Option Limit → Option ℕ
 due_of_limit opens level from limit =
-    option_and_then (limit_due opens level.start_immediately from) limit
+    option_and_then (limit_due opens level [] from) limit
 
 -- the least of the limits: to resolve it, since it was opened, and that of the turn, since it began
 abbrev pub least_due : (ℕ → Bool) → Level → RequestRow → Option ℕ

@@ -83,7 +83,7 @@ fn due_of_limit(
     ensures { result ≡ due.due_of_limit (opens calendar.now) level.now from limit }
 {
     match limit {
-        Some(limit) => level.limit_due(calendar, from, limit),
+        Some(limit) => level.limit_due(calendar, from, limit, &[]),
         None => None,
     }
 }

@@ -3,7 +3,7 @@ use Rattle.std.proofs.Common.{◌≡◌, ℕ, ◌+◌, Bool, false, List, [], �
 use Rattle.std.proofs.Common.{Some, None, option_and_then, refl, sym}
 use Rattle.std.proofs.lemmas.Bool.{and_left, or_from, or_parts}
 use Rattle.hours_core.specs.Counting.{has_passed, add_of}
-use Rattle.hours_core.specs.Limit.{begin_of, is_of, counts, end_of, limit_due, plain_end, plain_due}
+use Rattle.hours_core.specs.Limit.{begin_of, kind_of, counts, end_of, limit_due, plain_end, plain_due}
 use Rattle.hours_core.specs.Moment.{end_minute}
 use Rattle.hours_core.specs.Pauses.{is_paused, IgnoresNone}
 use Rattle.hours_core.specs.declared.level.Level.{Level}
@@ -31,7 +31,7 @@ never_paused ignored (stay ∷ stays) k none =
 plain : (opens paused : ℕ → Bool) (limit : Limit) (begin : ℕ) → ((k : ℕ) → paused k ≡ false)
     → end_of opens paused limit begin ≡ plain_end opens limit begin
 plain opens paused (RealMinutes n) begin none =
-    let kind = is_of (RealMinutes n) opens in
+    let kind = kind_of (RealMinutes n) opens in
     sym (is_least (has_passed (counts kind paused) begin n) begin (end_minute + 1) _
     (all_end (counts kind paused) begin n (λ k. unpaused kind paused k (none k))))
 plain opens paused (BusinessMinutes n) begin none =
@@ -48,8 +48,8 @@ then_same : (f g : ℕ → Option ℕ) (o : Option ℕ) → ((n : ℕ) → f n �
 then_same f g None same = refl
 then_same f g (Some n) same = same n
 
-pub due_without_pause : (opens : ℕ → Bool) (level : Level) (stays : List Stay) (event : ℕ) (limit : Limit)
-    → IgnoresNone level.ignore stays
+pub due_without_pause : (opens : ℕ → Bool) (level : Level) (stays : List Stay) (event : ℕ)
+    (limit : Limit) → IgnoresNone level.ignore stays
     → limit_due opens level stays event limit ≡ plain_due opens level.start_immediately event limit
 due_without_pause opens level stays event limit none =
     then_same _ _ (begin_of opens level.start_immediately event)

@@ -45,10 +45,12 @@ counted ignored x k isnt = and_left _ _ isnt
 -- one stay more pauses its minutes too
 one_more : (ignored : List (List ℕ)) (xs : List Stay) (i : ℕ) (x : Stay) (k : ℕ) → i < length xs
     → x ≡ get_or xs i x
-    → is_paused ignored (take (i + 1) xs) k ≡ (is_paused ignored (take i xs) k || pauses ignored k x)
+    → is_paused ignored (take (i + 1) xs) k
+    ≡ (is_paused ignored (take i xs) k || pauses ignored k x)
 unfolding is_paused
 one_more ignored xs i x k h e =
-    list_any_more (pauses ignored k) xs i x h ∙ ap (λ y. list_any (pauses ignored k) (take i xs) || pauses ignored k y) (sym e)
+    list_any_more (pauses ignored k) xs i x h
+    ∙ ap (λ y. list_any (pauses ignored k) (take i xs) || pauses ignored k y) (sym e)
 
 -- what is paused stays so
 pub still_paused : (ignored : List (List ℕ)) (xs : List Stay) (i : ℕ) (x : Stay) (m past : ℕ)

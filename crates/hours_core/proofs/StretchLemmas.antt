@@ -33,8 +33,8 @@ same_next : (p q : ℕ → Bool) (a n : ℕ) → ((k : ℕ) → a ≤ k → k < 
 unfolding count_of_next
 same_next p q a zero same = refl
 same_next p q a (suc n) same =
-    rw (same (a + n) (omega arith) (omega arith), same_next p q a n (λ k low high. same k low (omega arith)))
-    refl
+    let before = same_next p q a n (λ k low high. same k low (omega arith)) in
+    rw (same (a + n) (omega arith) (omega arith), before) refl
 
 -- a stretch where two properties agree counts the same by both
 pub count_same : (p q : ℕ → Bool) (a b : ℕ) → ((k : ℕ) → a ≤ k → k < b → q k ≡ p k)
@@ -46,8 +46,8 @@ none_next : (p : ℕ → Bool) (a n : ℕ) → ((k : ℕ) → a ≤ k → k < a 
 unfolding count_of_next
 none_next p a zero none = refl
 none_next p a (suc n) none =
-    rw (none (a + n) (omega arith) (omega arith), none_next p a n (λ k low high. none k low (omega arith)))
-    refl
+    let before = none_next p a n (λ k low high. none k low (omega arith)) in
+    rw (none (a + n) (omega arith) (omega arith), before) refl
 
 -- a stretch where nothing counts has no minutes
 pub count_none : (p : ℕ → Bool) (a b : ℕ) → ((k : ℕ) → a ≤ k → k < b → p k ≡ false)
@@ -64,7 +64,9 @@ beyond : (p : ℕ → Bool) (a b n left k : ℕ) → a ≤ b → count p a b + l
     → has_passed p a n k ≡ has_passed p b left k
 beyond p a b n left k h e from =
     elim (cases_eq (count p b k) left) [
-      | inl same ↦ eq-eqb _ _ (omega (arith, count_join p a b k h from, e, same)) ∙ sym (eq-eqb _ _ same)
+      | inl same ↦
+          eq-eqb _ _ (omega (arith, count_join p a b k h from, e, same))
+          ∙ sym (eq-eqb _ _ same)
       | inr other ↦
           ne_eqb _ _ (λ s. other (omega (arith, count_join p a b k h from, e, s)))
           ∙ sym (ne_eqb _ _ other)

@@ -23,7 +23,8 @@ unpaused kind paused k none = rw none (on (kind k))
 clear_counts : (kind paused : ℕ → Bool) (a b : ℕ) → NoneHolds paused a b
     → count (counts kind paused) a b ≡ count kind a b
 clear_counts kind paused a b clear =
-    count_same kind (counts kind paused) a b (λ k low high. unpaused kind paused k (clear k low high))
+    count_same kind (counts kind paused) a b
+    (λ k low high. unpaused kind paused k (clear k low high))
 
 -- a paused stretch counts none
 paused_counts : (kind paused : ℕ → Bool) (a b : ℕ) → AllHold paused a b

@@ -18,10 +18,10 @@ abbrev pub minutes_of : Limit → ℕ
 minutes_of (RealMinutes n) = n
 minutes_of (BusinessMinutes n) = n
 
--- real minutes are all minutes, business minutes are the open ones
-abbrev pub is_of : Limit → (ℕ → Bool) → ℕ → Bool
-is_of (RealMinutes n) opens m = true
-is_of (BusinessMinutes n) opens m = opens m
+-- the minutes that a limit is of: real minutes are all minutes, business minutes the open ones
+abbrev pub kind_of : Limit → (ℕ → Bool) → ℕ → Bool
+kind_of (RealMinutes n) opens m = true
+kind_of (BusinessMinutes n) opens m = opens m
 
 -- a minute counts: it is of the limit's kind, and not paused
 abbrev pub counts : (ℕ → Bool) → (ℕ → Bool) → ℕ → Bool
@@ -30,7 +30,8 @@ counts kind paused m = kind m && not (paused m)
 -- the first minute, up to the end of all moments, before which the limit's minutes have passed,
 -- where a minute that is paused doesn't count
 abbrev pub end_of : (ℕ → Bool) → (ℕ → Bool) → Limit → ℕ → Option ℕ
-end_of opens paused limit begin = add_of (counts (is_of limit opens) paused) begin (minutes_of limit)
+end_of opens paused limit begin =
+    add_of (counts (kind_of limit opens) paused) begin (minutes_of limit)
 
 -- when a limit on what follows an event is due
 abbrev pub limit_due : (ℕ → Bool) → Level → List Stay → ℕ → Limit → Option ℕ

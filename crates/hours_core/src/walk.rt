@@ -28,7 +28,7 @@ impl Limit {
     /// How many minutes of the limit's kind there are from one to before another.
     fn count_between(self, calendar: &Calendar, a: u32, b: u32) -> u32
         requires { a ≤ b }
-        ensures { result ≡ count (spec.is_of self (opens calendar.now)) a b }
+        ensures { result ≡ count (spec.kind_of self (opens calendar.now)) a b }
     {
         match self {
             Limit::RealMinutes(_) => b - a,
@@ -39,7 +39,7 @@ impl Limit {
     /// The first minute before which so many minutes of the limit's kind have passed from this one
     /// on.
     fn end_of_count(self, calendar: &Calendar, m: Minute, minutes: u32) -> Option<Minute>
-        ensures { IsLeast (has_passed (spec.is_of self (opens calendar.now)) m minutes) m
+        ensures { IsLeast (has_passed (spec.kind_of self (opens calendar.now)) m minutes) m
             (end_minute + 1) result }
     {
         match self {

@@ -1,6 +1,6 @@
 use crate::failure::{Failure, count, halves, moment, number};
 use hours_core::{Calendar, Level, Limit, Minute, Probes, Zone, date_of, minute_text};
-use text_core::Text;
+use text_core::{Text, Texts};
 
 /// Writes the line and the answer of the call that it spells.
 pub fn answer(
@@ -134,8 +134,9 @@ fn due(
         response: None,
         keep_in_loop: None,
         resolve: None,
+        ignore: Texts::from(Vec::new(rt.alloc())),
     };
-    show(rt, line, level.limit_due(calendar, moment(from)?, limit))
+    show(rt, line, level.limit_due(calendar, moment(from)?, limit, &[]))
 }
 
 /// The spans that `first_open_counted` and `add_open_counted` of 60 read at the minute.

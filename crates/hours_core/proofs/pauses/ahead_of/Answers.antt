@@ -2,9 +2,17 @@ use Rattle.std.proofs.Common.{◌≡◌, ◌+◌, true, refl, sym, ◌∙◌, ar
 use Rattle.text_core.specs.Texts.{is_among}
 use Rattle.hours_core.specs.Least.{AllHold}
 use Rattle.hours_core.specs.Pauses.{is_paused}
-use Rattle.hours_core.proofs.PauseLemmas.{still_paused, longer, still_clear, earlier, later, counted}
+use Rattle.hours_core.proofs.PauseLemmas.{still_paused, longer, still_clear}
+use Rattle.hours_core.proofs.PauseLemmas.{earlier, later, counted}
 use Rattle.hours_core.proofs.pauses.ahead_of.Goals as goal
-use Rattle.hours_core.proofs.pauses.ahead_of.Goals.{then-from-past+then-past-end+then-contains, then-from-past+else-past-end, else-past-end-via-then-past-end+else-contains, else-past-end-via-else-past-end, else-from-past+then-from-next+then-contains-2, else-from-past+else-from-next, else-from-next-via-then-from-next+else-contains-2, else-from-next-via-else-from-next}
+use Rattle.hours_core.proofs.pauses.ahead_of.Goals.{then-from-past+then-past-end+then-contains}
+use Rattle.hours_core.proofs.pauses.ahead_of.Goals.{then-from-past+else-past-end}
+use Rattle.hours_core.proofs.pauses.ahead_of.Goals.{else-past-end-via-then-past-end+else-contains}
+use Rattle.hours_core.proofs.pauses.ahead_of.Goals.{else-past-end-via-else-past-end}
+use Rattle.hours_core.proofs.pauses.ahead_of.Goals.{else-from-past+then-from-next+then-contains-2}
+use Rattle.hours_core.proofs.pauses.ahead_of.Goals.{else-from-past+else-from-next}
+use Rattle.hours_core.proofs.pauses.ahead_of.Goals.{else-from-next-via-then-from-next+else-contains-2}
+use Rattle.hours_core.proofs.pauses.ahead_of.Goals.{else-from-next-via-else-from-next}
 
 pub loop-stay-init : goal.loop-stay-init
 unfolding is_paused
@@ -20,7 +28,11 @@ loop-stay-init c = record {
 pub loop-stay-preserved : goal.loop-stay-preserved
 loop-stay-preserved c =
     let i = c.loop-stay.invariant in
+    let more = c.loop-stay-test.true in
+    let item = c.stay-item.is in
     let x = c.stay-item.result in
+    let from = c.get-from.ensures.number in
+    let end = c.end-end.ensures.end in
     let xs = c.args.stays.now in
     let ignored = c.args.ignored.now in
     let m = c.args.m in
@@ -28,19 +40,19 @@ loop-stay-preserved c =
     let past = c.loop-stay.past in
     let next = c.loop-stay.next in
     let kept : AllHold (is_paused ignored (take (at + 1) xs)) m past =
-    still_paused ignored xs at x m past c.loop-stay-test.true c.stay-item.is i.paused in
+    still_paused ignored xs at x m past more item i.paused in
     elim c.if-from-past.branch [
       | then-from-past+then-past-end+then-contains w ↦
           let is : is_among ignored x.status ≡ true =
           rw w.as_str.ensures at (sym w.contains.ensures ∙ w.if-contains.true) in
-          rw (w.past-is, w.next-is, c.end-end.ensures.end) (record {
-            low = omega (arith, i.low, w.if-past-end.true, c.end-end.ensures.end);
-            high = omega (arith, c.end-end.ensures.to, c.end-end.ensures.end);
+          rw (w.past-is, w.next-is, end) (record {
+            low = omega (arith, i.low, w.if-past-end.true, end);
+            high = omega (arith, c.end-end.ensures.to, end);
             after = i.after;
             to = i.to;
-            paused = longer ignored xs at x m past c.loop-stay-test.true c.stay-item.is is
-                (omega (arith, w.if-from-past.true, c.get-from.ensures.number)) i.paused;
-            clear = λ same. absurd (omega (arith, i.low, w.if-past-end.true, c.end-end.ensures.end, same));
+            paused = longer ignored xs at x m past more item is
+                (omega (arith, w.if-from-past.true, from)) i.paused;
+            clear = λ same. absurd (omega (arith, i.low, w.if-past-end.true, end, same));
           })
       | then-from-past+else-past-end w ↦
           rw (w.past-is, w.next-is) (record {
@@ -49,25 +61,27 @@ loop-stay-preserved c =
             after = i.after;
             to = i.to;
             paused = kept;
-            clear = λ same. still_clear ignored xs at x m next next c.loop-stay-test.true c.stay-item.is
-                (i.clear same) (omega arith)
+            clear = λ same.
+                still_clear ignored xs at x m next next more item (i.clear same) (omega arith)
                 (λ k low high. elim w.else-past-end.branch [
                   | else-past-end-via-then-past-end+else-contains v ↦
-                      counted ignored x k (rw v.as_str.ensures at (sym v.contains.ensures ∙ v.if-contains.false))
+                      counted ignored x k
+                      (rw v.as_str.ensures at (sym v.contains.ensures ∙ v.if-contains.false))
                   | else-past-end-via-else-past-end v ↦
-                      later ignored x k (omega (arith, v.if-past-end.false, c.end-end.ensures.end, same, low))
+                      later ignored x k (omega (arith, v.if-past-end.false, end, same, low))
                       (omega (arith, high, i.to))
                 ]);
           })
       | else-from-past+then-from-next+then-contains-2 w ↦
-          rw (w.past-is, w.next-is, c.get-from.ensures.number) (record {
+          rw (w.past-is, w.next-is, from) (record {
             low = i.low;
             high = i.high;
-            after = λ before. omega (arith, i.low, w.if-from-past.false, c.get-from.ensures.number);
-            to = omega (arith, c.get-from.ensures.range, c.get-from.ensures.number);
+            after = λ before. omega (arith, i.low, w.if-from-past.false, from);
+            to = omega (arith, c.get-from.ensures.range, from);
             paused = kept;
-            clear = λ same. still_clear ignored xs at x m next x.from c.loop-stay-test.true c.stay-item.is
-                (i.clear same) (omega (arith, w.if-from-next.true, c.get-from.ensures.number))
+            clear = λ same.
+                still_clear ignored xs at x m next x.from more item (i.clear same)
+                (omega (arith, w.if-from-next.true, from))
                 (λ k low high. earlier ignored x k high);
           })
       | else-from-past+else-from-next w ↦
@@ -77,14 +91,14 @@ loop-stay-preserved c =
             after = i.after;
             to = i.to;
             paused = kept;
-            clear = λ same. still_clear ignored xs at x m next next c.loop-stay-test.true c.stay-item.is
-                (i.clear same) (omega arith)
+            clear = λ same.
+                still_clear ignored xs at x m next next more item (i.clear same) (omega arith)
                 (λ k low high. elim w.else-from-next.branch [
                   | else-from-next-via-then-from-next+else-contains-2 v ↦
                       counted ignored x k (rw v.as_str-then-from-next.ensures
                       at (sym v.contains-then-from-next.ensures ∙ v.if-contains-2.false))
                   | else-from-next-via-else-from-next v ↦
-                      earlier ignored x k (omega (arith, v.if-from-next.false, c.get-from.ensures.number, high))
+                      earlier ignored x k (omega (arith, v.if-from-next.false, from, high))
                 ]);
           })
     ]

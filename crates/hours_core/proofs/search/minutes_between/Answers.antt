@@ -5,18 +5,12 @@ use Rattle.hours_core.proofs.search.minutes_between.Goals as goal
 
 pub overflow_sub-result : goal.overflow_sub-result
 overflow_sub-result c =
-    omega (
-      arith,
-      counted first_minute 0 c.args.spans.now c.args.a c.args.b c.minutes_up_to.ensures.spans c.requires,
-      c.minutes_up_to.ensures.passed,
-      c.minutes_up_to-2.ensures.passed,
-    )
+    let spans = c.minutes_up_to.ensures.spans in
+    let held = counted first_minute 0 c.args.spans.now c.args.a c.args.b spans c.requires in
+    omega (arith, held, c.minutes_up_to.ensures.passed, c.minutes_up_to-2.ensures.passed)
 
 pub returns : goal.returns
 returns c =
-    omega (
-      arith,
-      counted first_minute 0 c.args.spans.now c.args.a c.args.b c.minutes_up_to.ensures.spans c.requires,
-      c.minutes_up_to.ensures.passed,
-      c.minutes_up_to-2.ensures.passed,
-    )
+    let spans = c.minutes_up_to.ensures.spans in
+    let held = counted first_minute 0 c.args.spans.now c.args.a c.args.b spans c.requires in
+    omega (arith, held, c.minutes_up_to.ensures.passed, c.minutes_up_to-2.ensures.passed)

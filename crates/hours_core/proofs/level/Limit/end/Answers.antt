@@ -2,7 +2,7 @@ use Rattle.std.proofs.Common.{◌≡◌, ◌+◌, Some, None, inl, inr, arith}
 use Rattle.std.proofs.lemmas.Bool.{ne_eqb}
 use Rattle.hours_core.specs.Calendar.{opens}
 use Rattle.hours_core.specs.Counting.{has_passed}
-use Rattle.hours_core.specs.Limit.{counts, is_of, minutes_of}
+use Rattle.hours_core.specs.Limit.{counts, kind_of, minutes_of}
 use Rattle.hours_core.specs.Moment.{end_minute}
 use Rattle.hours_core.specs.Pauses.{is_paused}
 use Rattle.hours_core.proofs.CountLemmas.{at_once}
@@ -13,16 +13,17 @@ use Rattle.hours_core.proofs.level.Limit.end.Goals as goal
 
 pub returns-then-left-eq0 : goal.returns-then-left-eq0
 returns-then-left-eq0 c =
-    let kind = is_of c.args.self (opens c.args.calendar.now) in
+    let kind = kind_of c.args.self (opens c.args.calendar.now) in
     let paused = is_paused c.args.ignored.now c.args.stays.now in
-    let none : minutes_of c.args.self ≡ 0 = omega (arith, c.minutes-left.ensures, c.if-left-eq0.true) in
+    let none : minutes_of c.args.self ≡ 0 =
+    omega (arith, c.minutes-left.ensures, c.if-left-eq0.true) in
     rw none (is_least (has_passed (counts kind paused) c.args.begin 0) c.args.begin (end_minute + 1)
     (Some c.args.begin) (at_once (counts kind paused) c.args.begin
     (omega (arith, c.get-place.ensures.number, c.get-place.ensures.range))))
 
 pub loop-place-init : goal.loop-place-init
 loop-place-init c =
-    let kind = is_of c.args.self (opens c.args.calendar.now) in
+    let kind = kind_of c.args.self (opens c.args.calendar.now) in
     let paused = is_paused c.args.ignored.now c.args.stays.now in
     rw (c.get-place.ensures.number) (record {
       from = omega arith;
@@ -39,10 +40,10 @@ loop-place-preserved-then-place-ahead c =
       from = omega (arith, i.from, ahead.past.0);
       to = ahead.past.1;
       some = i.some;
-      passed = skip (is_of c.args.self (opens c.args.calendar.now))
+      passed = skip (kind_of c.args.self (opens c.args.calendar.now))
           (is_paused c.args.ignored.now c.args.stays.now) c.args.begin c.loop-place.place
-          c.ahead_of-ahead.result.past c.loop-place.left (minutes_of c.args.self) i.from ahead.past.0
-          ahead.paused i.passed;
+          c.ahead_of-ahead.result.past c.loop-place.left (minutes_of c.args.self) i.from
+          ahead.past.0 ahead.paused i.passed;
     }
 
 pub loop-place-preserved : goal.loop-place-preserved
@@ -55,7 +56,7 @@ loop-place-preserved c =
       to = ahead.next.1;
       some = omega (arith, c.if-left-minutes.false);
       passed = rw c.count_between-minutes.ensures
-          (take_all (is_of c.args.self (opens c.args.calendar.now))
+          (take_all (kind_of c.args.self (opens c.args.calendar.now))
           (is_paused c.args.ignored.now c.args.stays.now) c.args.begin c.loop-place.place
           c.ahead_of-ahead.result.next c.loop-place.left (minutes_of c.args.self) i.from
           (omega (arith, low))
@@ -68,7 +69,7 @@ returns-then-ahead-eq-END c =
     let i = c.loop-place.invariant in
     let ahead = c.ahead_of-ahead.ensures in
     let low = ahead.next.0 c.loop-place-test.true in
-    let kind = is_of c.args.self (opens c.args.calendar.now) in
+    let kind = kind_of c.args.self (opens c.args.calendar.now) in
     let paused = is_paused c.args.ignored.now c.args.stays.now in
     is_least (has_passed (counts kind paused) c.args.begin (minutes_of c.args.self)) c.args.begin
     (end_minute + 1) c.end_of_count.result
@@ -83,7 +84,7 @@ returns-then-left-minutes c =
     let i = c.loop-place.invariant in
     let ahead = c.ahead_of-ahead.ensures in
     let low = ahead.next.0 c.loop-place-test.true in
-    let kind = is_of c.args.self (opens c.args.calendar.now) in
+    let kind = kind_of c.args.self (opens c.args.calendar.now) in
     let paused = is_paused c.args.ignored.now c.args.stays.now in
     let end = c.end_of_count-then-left-minutes in
     is_least (has_passed (counts kind paused) c.args.begin (minutes_of c.args.self)) c.args.begin
@@ -98,7 +99,7 @@ returns-then-left-minutes c =
 pub returns : goal.returns
 returns c =
     let i = c.loop-place.invariant in
-    let kind = is_of c.args.self (opens c.args.calendar.now) in
+    let kind = kind_of c.args.self (opens c.args.calendar.now) in
     let paused = is_paused c.args.ignored.now c.args.stays.now in
     let place = c.loop-place.place in
     is_least (has_passed (counts kind paused) c.args.begin (minutes_of c.args.self)) c.args.begin

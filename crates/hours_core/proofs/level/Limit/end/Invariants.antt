@@ -1,7 +1,7 @@
 use Rattle.std.proofs.Common.{◌≡◌, ◌+◌, ◌-◌, ◌<◌, ◌≤◌}
 use Rattle.hours_core.specs.Calendar.{opens}
 use Rattle.hours_core.specs.Counting.{count}
-use Rattle.hours_core.specs.Limit.{counts, is_of, minutes_of}
+use Rattle.hours_core.specs.Limit.{counts, kind_of, minutes_of}
 use Rattle.hours_core.specs.Moment.{end_minute}
 use Rattle.hours_core.specs.Pauses.{is_paused}
 use Rattle.hours_core.proofs.level.Limit.end.Given as goal
@@ -12,7 +12,7 @@ invariant-loop-place l = record {
   from : l.fn.begin ≤ l.place;
   to : l.place ≤ end_minute;
   some : 0 < l.left;
-  passed : count (counts (is_of l.self (opens l.calendar)) (is_paused l.ignored l.stays)) l.fn.begin
+  passed : count (counts (kind_of l.self (opens l.calendar)) (is_paused l.ignored l.stays)) l.fn.begin
       l.place + l.left ≡ minutes_of l.self;
 }
 
