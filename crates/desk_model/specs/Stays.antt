@@ -1,6 +1,6 @@
 -- The stays of a request in its statuses, read off its history.
-use Rattle.std.specs.Prelude.{ℕ, Bool, true, false, if◌then◌else◌, List, [], ◌∷◌, Option, Some}
-use Rattle.std.specs.Prelude.{None}
+use Rattle.std.specs.Prelude.{ℕ, Bool, true, false, if◌then◌else◌, List, [], ◌∷◌, ◌++◌}
+use Rattle.std.specs.Prelude.{Option, Some, None}
 use Rattle.hours_core.specs.declared.stay.Stay.{Stay}
 use Rattle.desk_model.specs.declared.rows.Entry.{Entry}
 use Rattle.desk_model.specs.declared.rows.EntryKind.{EntryKind}
@@ -28,7 +28,11 @@ stays_of [] = []
 stays_of (e ∷ entries) =
     if begins_stay e.kind then stay_from e entries ∷ stays_of entries else stays_of entries
 
--- a stay that is the last so far, if there is one, with its end
+-- the last stay so far, if there is one, with its end
 abbrev pub ended : Option Stay → Option ℕ → List Stay
 ended None until = []
 ended (Some stay) until = record stay { until = until } ∷ []
+
+-- the last stay so far, with its end, and the stays of the entries after it
+abbrev pub stays_on : Option Stay → List Entry → List Stay
+stays_on last entries = ended last (next_begin entries) ++ stays_of entries
