@@ -60,6 +60,6 @@ pub stays_told : (settings : Settings) (caller : List ℕ) (request : Request)
 stays_told settings caller request =
     stays_kept (is_told settings caller request) request.entries
     (λ e left.
-        let parts = or_parts (not (is_comment e.kind))
-            (may_show_comments settings caller (seen_request request)) left in
-        comments e.kind (not-false (is_comment e.kind) parts.0))
+    let parts = or_parts (not (is_comment e.kind))
+    (may_show_comments settings caller (seen_request request)) left in
+    comments e.kind (not-false (is_comment e.kind) parts.0))
