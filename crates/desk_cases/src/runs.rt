@@ -1,11 +1,13 @@
 //! Runs of commands on files.
 
 use crate::course::{Course, UNAVAILABLE, outcome, rows_after};
-use crate::disks::{Disks, Tables, given_back, opened};
+use crate::disks::{given_back, opened};
 use crate::failure::Failure;
 use crate::rows::rows_of;
 use service_core::Desk;
 use settings_core::Settings;
+use sqlite::{FileStore, Files};
+use sqlite_disk::Disk;
 use std::alloc::Global;
 use store_core::{Backend, Store};
 
@@ -29,8 +31,8 @@ pub(crate) enum Found {
 
 /// What comes of a run on files.
 #[derive(Drop)]
-pub(crate) struct Run {
-    pub(crate) disks: Disks,
+pub(crate) struct Run<D: Disk> {
+    pub(crate) files: Files<D>,
     pub(crate) found: Found,
     /// How many commands are answered. None where an answer isn't the one in memory.
     pub(crate) reached: Option<usize>,
@@ -46,18 +48,18 @@ pub(crate) fn way_of<'c>(alloc: Global, course: &'c Course<'c>) -> Result<Way<'c
 }
 
 /// Opens the files, and runs the commands that didn't make what is found.
-pub(crate) fn run_on(alloc: Global, way: &Way<'_>, disks: Disks) -> Run {
-    match opened(alloc, disks) {
+pub(crate) fn run_on<D: Disk + Drop>(alloc: Global, way: &Way<'_>, files: Files<D>) -> Run<D> {
+    match opened(alloc, files) {
         Ok(store) => run_in(alloc, way, store),
-        Err(disks) => Run {
-            disks,
+        Err(files) => Run {
+            files,
             found: Found::Refused,
             reached: Some(0),
         },
     }
 }
 
-fn run_in(alloc: Global, way: &Way<'_>, store: Store<Tables>) -> Run {
+fn run_in<D: Disk + Drop>(alloc: Global, way: &Way<'_>, store: Store<FileStore<D>>) -> Run<D> {
     let mut store = store;
     let found = found_in(alloc, way, &mut store);
     let from = match found {
@@ -66,10 +68,34 @@ fn run_in(alloc: Global, way: &Way<'_>, store: Store<Tables>) -> Run {
     };
     let (store, reached) = follow(alloc, way.course, store, from);
     Run {
-        disks: given_back(store),
+        files: given_back(store),
         found,
         reached,
     }
+}
+
+/// Goes on with what the files hold: what is found there, and whether all commands are done then and
+/// leave the rows that they leave in memory.
+pub(crate) fn go_on<D: Disk + Drop>(
+    alloc: Global,
+    way: &Way<'_>,
+    files: Files<D>,
+) -> (Found, bool) {
+    let count = way.course.asks.len();
+    let Run {
+        files,
+        found,
+        reached,
+    } = run_on(alloc, way, files);
+    let last = found_on(alloc, way, files);
+    (found, reached == Some(count) && last == Found::After(count))
+}
+
+/// What is found where the files are opened.
+pub(crate) fn found_on<D: Disk + Drop>(alloc: Global, way: &Way<'_>, files: Files<D>) -> Found {
+    let Run { files, found, .. } = run_on(alloc, way, files);
+    drop(files);
+    found
 }
 
 /// Makes the tables that are missing, and tells what they hold.

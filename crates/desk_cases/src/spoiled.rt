@@ -3,18 +3,16 @@
 use crate::course::Course;
 use crate::disks::{Disks, closed, disks, given_back, holding, opened};
 use crate::failure::Failure;
-use crate::runs::{Found, Run, Way, run_on, way_of};
+use crate::runs::{Found, Run, Way, found_on, run_on, way_of};
 use sqlite::Files;
-use sqlite_disk::Fuse;
-use sqlite_disk::Memory;
+use sqlite_disk::{Fuse, Memory};
 use std::alloc::Global;
 
 /// Opens such files, and tells that they are refused, or what is found.
 pub(crate) fn run(rt: &HostRuntime, course: &Course<'_>, words: &str) -> Result<(), Failure> {
     let way = way_of(rt.alloc(), course)?;
     let disks = spoiled(rt.alloc(), &way, words)?;
-    let Run { found, .. } = run_on(rt.alloc(), &way, disks);
-    match found {
+    match found_on(rt.alloc(), &way, disks) {
         Found::Refused => println!(rt; "  refused")?,
         Found::Other => println!(rt; "  other rows")?,
         Found::After(count) => println!(rt; "  found: {count}")?,
@@ -76,8 +74,8 @@ fn log_of_none(alloc: Global) -> Fuse<Memory> {
 
 /// The files of a run of all commands, closed.
 fn ended(alloc: Global, way: &Way<'_>) -> Disks {
-    let Run { disks, .. } = run_on(alloc, way, disks(alloc, u64::MAX, u64::MAX));
-    match opened(alloc, disks) {
+    let Run { files, .. } = run_on(alloc, way, disks(alloc, u64::MAX, u64::MAX));
+    match opened(alloc, files) {
         Ok(store) => closed(store),
         Err(disks) => disks,
     }

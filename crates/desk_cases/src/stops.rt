@@ -3,7 +3,7 @@
 use crate::course::Course;
 use crate::disks::{Disks, after_crash, after_kill, disks};
 use crate::failure::Failure;
-use crate::runs::{Found, Run, Way, run_on, way_of};
+use crate::runs::{Found, Run, Way, go_on, run_on, way_of};
 use std::alloc::Global;
 
 /// More calls than a disk is asked.
@@ -43,8 +43,8 @@ pub(crate) fn run(rt: &HostRuntime, course: &Course<'_>, stop: Stop) -> Result<(
 
 fn tell(rt: &HostRuntime, calls: u64, found: Option<usize>) -> Result<(), Failure> {
     match found {
-        Some(count) => println!(rt; "  after {calls}: {count}")?,
-        None => println!(rt; "  after {calls}: wrong")?,
+        Some(count) => println!(rt; "  found: {count}")?,
+        None => println!(rt; "  wrong after {calls} calls")?,
     }
     Ok(())
 }
@@ -58,12 +58,9 @@ fn stopped(
     stop: Stop,
     calls: u64,
 ) -> Result<(Option<usize>, Option<usize>), Failure> {
-    let Run { disks, reached, .. } = run_on(alloc, way, stop.disks(alloc, calls));
-    let disks = stop.left(alloc, disks)?;
-    let Run { disks, found, reached: ended } = run_on(alloc, way, disks);
-    let Run { found: last, .. } = run_on(alloc, way, disks);
-    let count = way.course.asks.len();
-    if ended == Some(count) && last == Found::After(count) {
+    let Run { files, reached, .. } = run_on(alloc, way, stop.disks(alloc, calls));
+    let (found, ends) = stop.go_on(alloc, way, files)?;
+    if ends {
         Ok((reached, found_after(reached, found)))
     } else {
         Ok((reached, None))
@@ -74,10 +71,7 @@ fn stopped(
 fn found_after(answered: Option<usize>, found: Found) -> Option<usize> {
     match (answered, found) {
         (Some(answered), Found::After(count))
-            if count == answered || count == answered.saturating_add(1) =>
-        {
-            Some(count)
-        }
+            if count == answered || count == answered.saturating_add(1) => { Some(count) }
         _ => None,
     }
 }
@@ -92,12 +86,12 @@ impl Stop {
         }
     }
 
-    /// The files as they are found after the stop.
-    fn left(self, alloc: Global, disks: Disks) -> Result<Disks, Failure> {
+    /// Goes on with the files as they are found after the stop.
+    fn go_on(self, alloc: Global, way: &Way<'_>, disks: Disks) -> Result<(Found, bool), Failure> {
         if self.loses {
-            Ok(after_crash(disks))
-        } else {
-            after_kill(alloc, &disks)
+            return Ok(go_on(alloc, way, after_crash(disks)));
         }
+        let disks = after_kill(alloc, disks)?;
+        Ok(go_on(alloc, way, disks))
     }
 }

@@ -51,8 +51,22 @@ fn try_files(
 ) -> Result<(), Failure> {
     let loses = rest == "lost";
     match trial {
-        "log_stops" => stops::run(rt, course, Stop { is_log: true, loses }),
-        "tables_stop" => stops::run(rt, course, Stop { is_log: false, loses }),
+        "log_stops" => stops::run(
+            rt,
+            course,
+            Stop {
+                is_log: true,
+                loses,
+            },
+        ),
+        "tables_stop" => stops::run(
+            rt,
+            course,
+            Stop {
+                is_log: false,
+                loses,
+            },
+        ),
         "opened" => spoiled::run(rt, course, rest),
         _ => Err(Failure::BadLine),
     }
