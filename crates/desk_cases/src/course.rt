@@ -47,6 +47,17 @@ fn run_of(alloc: Global, settings: &str, asks: &[Ask]) -> Result<(Vec<String>, S
     Ok((outcomes?, rows))
 }
 
+/// The rows that the first of the commands leave, so many of them.
+pub(crate) fn rows_after(
+    alloc: Global,
+    course: &Course<'_>,
+    count: usize,
+) -> Result<String, Failure> {
+    let asks = course.asks.as_slice().get(..count).ok_or(Failure::BadLine)?;
+    let (_, rows) = run_of(alloc, course.settings, asks)?;
+    Ok(rows)
+}
+
 fn outcomes_on<S: Backend>(
     alloc: Global,
     desk: &mut Desk<S>,

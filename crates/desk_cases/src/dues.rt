@@ -55,13 +55,31 @@ fn tell_each<S: Backend>(
     dated: &[Dated],
 ) -> Result<(), Failure> {
     for (request, due) in dated {
-        let id = request.id;
-        let outcome = desk.execute(rt.alloc(), at, caller, &Command::Show { id });
-        let text = outcome_text(rt.alloc(), &outcome)?;
-        print!(rt; "  {id}: ")?;
-        print_due(rt, *due)?;
-        println!(rt; ", shown {}", shown_due(text.as_str()))?;
+        let shown = shown(rt.alloc(), desk, at, caller, request.id)?;
+        tell_both(rt, request.id, *due, shown_due(shown.as_str()))?;
     }
+    Ok(())
+}
+
+/// What this person is shown of a request.
+fn shown<S: Backend>(
+    alloc: Global,
+    desk: &mut Desk<S>,
+    at: u32,
+    caller: &str,
+    id: u32,
+) -> Result<String, Failure> {
+    let show = Command::Show { id };
+    let outcome = desk.execute(alloc, at, caller, &show);
+    let text = outcome_text(alloc, &outcome);
+    drop(outcome);
+    Ok(text?)
+}
+
+fn tell_both(rt: &HostRuntime, id: u32, due: Option<Minute>, shown: &str) -> Result<(), Failure> {
+    print!(rt; "  {id}: ")?;
+    print_due(rt, due)?;
+    println!(rt; ", shown {shown}")?;
     Ok(())
 }
 

@@ -1,3 +1,5 @@
+//! Texts of cases in which words stand for others.
+
 use std::alloc::{AllocError, Global};
 
 /// A text that cases name.

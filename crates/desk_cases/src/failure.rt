@@ -1,3 +1,5 @@
+//! Why the cases end.
+
 use settings_core::SettingsFault;
 use std::alloc::{AllocError, AllocFailed};
 use std::io;

@@ -1,3 +1,5 @@
+//! What commands change.
+
 ghost use Rattle.std.specs.Prelude.{◌≡◌, option_and_then};
 ghost use Rattle.desk_model.specs.Change as change;
 ghost use Rattle.desk_model.specs.Due as due;

@@ -1,3 +1,5 @@
+//! When a request is due.
+
 ghost use Rattle.std.specs.Prelude.{◌≡◌, option_and_then};
 ghost use Rattle.std.specs.Option.{option_map};
 ghost use Rattle.hours_core.specs.Calendar.{opens};

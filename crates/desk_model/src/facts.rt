@@ -1,3 +1,5 @@
+//! What a command sees of the desk.
+
 ghost use Rattle.std.specs.Prelude.{◌≡◌, ◌+◌, ◌^◌, ◌<◌, false};
 ghost use Rattle.desk_model.specs.Commands.Create as create;
 ghost use Rattle.desk_model.specs.Commands.SetStatus as set_status;

@@ -1,3 +1,5 @@
+//! The rows of a desk: queues, requests, watchers, links and entries.
+
 ghost use Rattle.std.specs.Prelude.{◌≡◌, IfOk};
 ghost use Rattle.desk_model.specs.Readings.History.{is_comment};
 ghost use Rattle.desk_model.specs.Stays.{begins_stay};

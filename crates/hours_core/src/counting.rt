@@ -1,3 +1,5 @@
+//! What a calendar tells: when it is open, when it next opens, and when so many minutes are over.
+
 ghost use Rattle.std.specs.Prelude.{◌≡◌, ◌+◌, ◌*◌, ◌<◌, ◌≤◌, length, IsSome};
 ghost use Rattle.hours_core.specs.Calendar.{opens, spans_of};
 ghost use Rattle.hours_core.specs.Counting.{first_of, add_of, count, has_passed};

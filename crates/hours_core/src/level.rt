@@ -1,3 +1,5 @@
+//! Levels of service: how soon a request is to be answered and resolved.
+
 ghost use Rattle.std.specs.Prelude.{◌≡◌};
 ghost use Rattle.hours_core.specs.Calendar.{opens};
 ghost use Rattle.hours_core.specs.Limit as spec;

@@ -1,3 +1,5 @@
+//! Runs of minutes that are found by halving.
+
 ghost use Rattle.std.specs.Prelude.{◌≡◌, ◌<◌, ◌≤◌, ◌+◌, ◌*◌, ℕ, false, length, min, MatchOption};
 ghost use Rattle.std.specs.Prelude.{IsSome};
 ghost use Rattle.std.specs.List.{find};

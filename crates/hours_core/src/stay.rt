@@ -1,3 +1,5 @@
+//! Times in a status.
+
 ghost use Rattle.std.specs.Prelude.{◌≡◌, ◌≤◌, unwrap_or};
 ghost use Rattle.hours_core.specs.Moment.{end_minute};
 

@@ -1,3 +1,5 @@
+//! Why the cases end.
+
 use hours_core::Minute;
 use std::alloc::{AllocError, AllocFailed};
 use std::io;

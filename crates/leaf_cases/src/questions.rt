@@ -1,3 +1,5 @@
+//! Questions to settings that were read.
+
 ghost use Rattle.std.specs.Prelude.{◌<◌};
 
 use hours_core::{Level, Limit, Minute};

@@ -1,3 +1,5 @@
+//! The tables of settings, their keys, and what stands at each.
+
 ghost use Rattle.std.specs.Prelude.{◌≡◌, map};
 ghost use Rattle.std.specs.Str.{bytes_eq};
 ghost use Rattle.settings_form.specs.Form as form;

@@ -1,3 +1,5 @@
+//! Calls on texts: their forms, and what they share.
+
 use desk_words::number_of_word;
 use std::alloc::{AllocError, Global};
 use std::cmp::Ordering;

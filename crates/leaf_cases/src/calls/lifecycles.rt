@@ -1,3 +1,5 @@
+//! Calls on lifecycles.
+
 use crate::calls::forms::{texts_of, yes_or_no};
 use lifecycle_core::{Class, Lifecycle, LifecycleFault, Move, MoveRight, Parts};
 use std::alloc::{AllocError, Global};

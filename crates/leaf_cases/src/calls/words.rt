@@ -1,3 +1,5 @@
+//! Lines that are split into words.
+
 use desk_words::{WordsFault, command_of_words, words_of};
 use std::alloc::{AllocError, Global};
 

@@ -1,3 +1,5 @@
+//! Calls of calendars and moments, a line each.
+
 use crate::failure::{Failure, count, halves, moment, number};
 use crate::hours::parts::Parts;
 use hours_core::{Calendar, Limit, Minute, Probes, Zone, date_of, minute_text};

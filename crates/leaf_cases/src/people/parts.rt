@@ -1,3 +1,5 @@
+//! The parts of people, gathered from the lines of a case.
+
 use crate::failure::{Failure, halves};
 use rights_core::{Grant, Group, People, Role, Subject};
 use std::alloc::{AllocError, Global};

@@ -1,3 +1,5 @@
+//! Texts of settings that are cut off, or changed in a byte.
+
 use settings_core::{Settings, SettingsFault};
 use std::alloc::{AllocError, Global};
 use std::io;

@@ -1,3 +1,5 @@
+//! Texts of settings in which one line stands for several.
+
 use std::alloc::{AllocError, Global};
 
 /// The text, with each line that stands for several written out.

@@ -1,0 +1,172 @@
+//! Runs of commands on files.
+
+use crate::course::{Course, UNAVAILABLE, outcome, rows_after};
+use crate::disks::{given_back, opened};
+use crate::failure::Failure;
+use crate::rows::rows_of;
+use service_core::Desk;
+use settings_core::Settings;
+use sqlite::{FileStore, Files};
+use sqlite_disk::Disk;
+use std::alloc::Global;
+use store_core::{Backend, Store};
+
+/// A course, and the rows after each number of its commands, which are none the same.
+#[derive(Drop)]
+pub(crate) struct Way<'c> {
+    pub(crate) course: &'c Course<'c>,
+    rows: Vec<String>,
+}
+
+/// What is found where files are opened.
+#[derive(Clone, Copy, PartialEq, Eq)]
+pub(crate) enum Found {
+    /// They can't be opened, or the tables can't be made.
+    Refused,
+    /// Rows that no number of commands makes.
+    Other,
+    /// The rows after so many commands.
+    After(usize),
+}
+
+/// What comes of a run on files.
+#[derive(Drop)]
+pub(crate) struct Run<D: Disk> {
+    pub(crate) files: Files<D>,
+    pub(crate) found: Found,
+    /// How many commands are answered. None where an answer isn't the one in memory.
+    pub(crate) reached: Option<usize>,
+}
+
+/// The way of a course.
+pub(crate) fn way_of<'c>(alloc: Global, course: &'c Course<'c>) -> Result<Way<'c>, Failure> {
+    let mut rows = Vec::new(alloc);
+    for count in 0..=course.asks.len() {
+        rows.push(rows_after(alloc, course, count)?)?;
+    }
+    Ok(Way { course, rows })
+}
+
+/// Opens the files, and runs the commands that didn't make what is found.
+pub(crate) fn run_on<D: Disk + Drop>(alloc: Global, way: &Way<'_>, files: Files<D>) -> Run<D> {
+    match opened(alloc, files) {
+        Ok(store) => run_in(alloc, way, store),
+        Err(files) => Run {
+            files,
+            found: Found::Refused,
+            reached: Some(0),
+        },
+    }
+}
+
+fn run_in<D: Disk + Drop>(alloc: Global, way: &Way<'_>, store: Store<FileStore<D>>) -> Run<D> {
+    let mut store = store;
+    let found = found_in(alloc, way, &mut store);
+    let from = match found {
+        Found::After(count) => count,
+        _ => 0,
+    };
+    let (store, reached) = follow(alloc, way.course, store, from);
+    Run {
+        files: given_back(store),
+        found,
+        reached,
+    }
+}
+
+/// Goes on with what the files hold: what is found there, and whether all commands are done then and
+/// leave the rows that they leave in memory.
+pub(crate) fn go_on<D: Disk + Drop>(
+    alloc: Global,
+    way: &Way<'_>,
+    files: Files<D>,
+) -> (Found, bool) {
+    let count = way.course.asks.len();
+    let Run {
+        files,
+        found,
+        reached,
+    } = run_on(alloc, way, files);
+    let last = found_on(alloc, way, files);
+    (found, reached == Some(count) && last == Found::After(count))
+}
+
+/// What is found where the files are opened.
+pub(crate) fn found_on<D: Disk + Drop>(alloc: Global, way: &Way<'_>, files: Files<D>) -> Found {
+    let Run { files, found, .. } = run_on(alloc, way, files);
+    drop(files);
+    found
+}
+
+/// Makes the tables that are missing, and tells what they hold.
+fn found_in<S: Backend>(alloc: Global, way: &Way<'_>, store: &mut Store<S>) -> Found {
+    if store.create_schema().is_err() {
+        return Found::Refused;
+    }
+    match rows_of(alloc, store) {
+        Ok(rows) => way.place(rows.as_str()),
+        Err(_) => Found::Refused,
+    }
+}
+
+/// Attaches the settings, and asks the commands from that one on.
+fn follow<S: Backend>(
+    alloc: Global,
+    course: &Course<'_>,
+    store: Store<S>,
+    from: usize,
+) -> (Store<S>, Option<usize>) {
+    let Ok(settings) = Settings::read(alloc, course.settings.as_bytes()) else {
+        return (store, None);
+    };
+    match Desk::attach(alloc, store, settings) {
+        Ok(desk) => follow_on(alloc, course, desk, from),
+        Err((_, store)) => (store, Some(from)),
+    }
+}
+
+fn follow_on<S: Backend>(
+    alloc: Global,
+    course: &Course<'_>,
+    desk: Desk<S>,
+    from: usize,
+) -> (Store<S>, Option<usize>) {
+    let mut desk = desk;
+    let reached = reached_on(alloc, course, &mut desk, from);
+    let (store, settings) = desk.detach();
+    drop(settings);
+    (store, reached)
+}
+
+/// Asks the commands from that one on: how many are answered. Once one is `Unavailable` all have to
+/// be. None where an answer is neither that nor the one in memory.
+fn reached_on<S: Backend>(
+    alloc: Global,
+    course: &Course<'_>,
+    desk: &mut Desk<S>,
+    from: usize,
+) -> Option<usize> {
+    let mut reached = from;
+    for (number, ask) in course.asks.iter().enumerate().skip(from) {
+        match outcome(alloc, desk, ask) {
+            Ok(text) if course.answers(number, text.as_str()) && number == reached => {
+                reached = reached.saturating_add(1);
+            }
+            Ok(text) if text.as_str() == UNAVAILABLE => {}
+            _ => return None,
+        }
+    }
+    Some(reached)
+}
+
+impl Way<'_> {
+    /// How many commands make these rows.
+    fn place(&self, rows: &str) -> Found {
+        for (count, made) in self.rows.iter().enumerate() {
+            if made.as_str() == rows {
+                return Found::After(count);
+            }
+        }
+        Found::Other
+    }
+}

@@ -1,0 +1,82 @@
+//! Files that no run left so.
+
+use crate::course::Course;
+use crate::disks::{Disks, closed, disks, given_back, holding, opened};
+use crate::failure::Failure;
+use crate::runs::{Found, Run, Way, found_on, run_on, way_of};
+use sqlite::Files;
+use sqlite_disk::{Fuse, Memory};
+use std::alloc::Global;
+
+/// Opens such files, and tells that they are refused, or what is found.
+pub(crate) fn run(rt: &HostRuntime, course: &Course<'_>, words: &str) -> Result<(), Failure> {
+    let way = way_of(rt.alloc(), course)?;
+    let disks = spoiled(rt.alloc(), &way, words)?;
+    match found_on(rt.alloc(), &way, disks) {
+        Found::Refused => println!(rt; "  refused")?,
+        Found::Other => println!(rt; "  other rows")?,
+        Found::After(count) => println!(rt; "  found: {count}")?,
+    }
+    Ok(())
+}
+
+/// The files that the words name.
+fn spoiled(alloc: Global, way: &Way<'_>, words: &str) -> Result<Disks, Failure> {
+    match words {
+        "log stops at once" => Ok(disks(alloc, 0, u64::MAX)),
+        "tables stop at once" => Ok(disks(alloc, u64::MAX, 0)),
+        "text" => with_text(alloc),
+        _ => of_runs(alloc, way, words),
+    }
+}
+
+/// A database file that is a text.
+fn with_text(alloc: Global) -> Result<Disks, Failure> {
+    let Files { log, db: _ } = disks(alloc, u64::MAX, u64::MAX);
+    let db = holding(alloc, b"This is a text and no database.\n")?;
+    Ok(Files { log, db })
+}
+
+/// Files of a run of all commands that was closed, and so left all in the database file; with half
+/// of that file, or with the log of a run of none.
+fn of_runs(alloc: Global, way: &Way<'_>, words: &str) -> Result<Disks, Failure> {
+    let Files { log, db } = ended(alloc, way);
+    match words {
+        "half" => {
+            let db = half(alloc, &db)?;
+            Ok(Files { log, db })
+        }
+        "two runs" => Ok(Files {
+            log: log_of_none(alloc),
+            db,
+        }),
+        _ => Err(Failure::BadLine),
+    }
+}
+
+fn half(alloc: Global, db: &Fuse<Memory>) -> Result<Fuse<Memory>, Failure> {
+    let bytes = db.inner().bytes();
+    let (first, _) = bytes.split_at(bytes.len() / 2);
+    holding(alloc, first)
+}
+
+/// The log of a run that opened new files.
+fn log_of_none(alloc: Global) -> Fuse<Memory> {
+    let Files { log, db: _ } = match opened(alloc, disks(alloc, u64::MAX, u64::MAX)) {
+        Ok(mut store) => {
+            let _ = store.create_schema();
+            given_back(store)
+        }
+        Err(disks) => disks,
+    };
+    log
+}
+
+/// The files of a run of all commands, closed.
+fn ended(alloc: Global, way: &Way<'_>) -> Disks {
+    let Run { files, .. } = run_on(alloc, way, disks(alloc, u64::MAX, u64::MAX));
+    match opened(alloc, files) {
+        Ok(store) => closed(store),
+        Err(disks) => disks,
+    }
+}

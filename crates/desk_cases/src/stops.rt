@@ -1,0 +1,97 @@
+//! Commands on tables whose disk stops.
+
+use crate::course::Course;
+use crate::disks::{Disks, after_crash, after_kill, disks};
+use crate::failure::Failure;
+use crate::runs::{Found, Run, Way, go_on, run_on, way_of};
+use std::alloc::Global;
+
+/// More calls than a disk is asked.
+const MOST: u64 = 1_000;
+
+/// Where a disk stops, and what it leaves.
+#[derive(Clone, Copy)]
+pub(crate) struct Stop {
+    /// The log's disk stops, or else that of the database file.
+    pub(crate) is_log: bool,
+    /// What wasn't synced is lost, or else the bytes stay as they stand.
+    pub(crate) loses: bool,
+}
+
+/// Stops a disk at its first call, at its second, and so on, until a run meets no stop. Each time the
+/// files are opened again. What is found then are the tables after the commands that were answered,
+/// or after one more, and the others go on from there to their answers and rows; else it is wrong. A
+/// line is written wherever the number of commands that are found isn't that of the stop before, and
+/// at the end how many calls there are.
+pub(crate) fn run(rt: &HostRuntime, course: &Course<'_>, stop: Stop) -> Result<(), Failure> {
+    let way = way_of(rt.alloc(), course)?;
+    let count = course.asks.len();
+    let mut last = None;
+    for calls in 0..MOST {
+        let (answered, found) = stopped(rt.alloc(), &way, stop, calls)?;
+        if found.is_none() || found != last {
+            tell(rt, calls, found)?;
+        }
+        if answered == Some(count) {
+            println!(rt; "  calls: {calls}")?;
+            return Ok(());
+        }
+        last = found;
+    }
+    Err(Failure::BadLine)
+}
+
+fn tell(rt: &HostRuntime, calls: u64, found: Option<usize>) -> Result<(), Failure> {
+    match found {
+        Some(count) => println!(rt; "  found: {count}")?,
+        None => println!(rt; "  wrong after {calls} calls")?,
+    }
+    Ok(())
+}
+
+/// Runs the commands on new files that stop after so many calls, and goes on with what they leave:
+/// how many commands were answered before the stop, and how many are found after it, or none where
+/// that is wrong.
+fn stopped(
+    alloc: Global,
+    way: &Way<'_>,
+    stop: Stop,
+    calls: u64,
+) -> Result<(Option<usize>, Option<usize>), Failure> {
+    let Run { files, reached, .. } = run_on(alloc, way, stop.disks(alloc, calls));
+    let (found, ends) = stop.go_on(alloc, way, files)?;
+    if ends {
+        Ok((reached, found_after(reached, found)))
+    } else {
+        Ok((reached, None))
+    }
+}
+
+/// How many commands are found, where they are those that were answered, or one more.
+fn found_after(answered: Option<usize>, found: Found) -> Option<usize> {
+    match (answered, found) {
+        (Some(answered), Found::After(count))
+            if count == answered || count == answered.saturating_add(1) => { Some(count) }
+        _ => None,
+    }
+}
+
+impl Stop {
+    /// New files, one of which stops after so many calls.
+    fn disks(self, alloc: Global, calls: u64) -> Disks {
+        if self.is_log {
+            disks(alloc, calls, u64::MAX)
+        } else {
+            disks(alloc, u64::MAX, calls)
+        }
+    }
+
+    /// Goes on with the files as they are found after the stop.
+    fn go_on(self, alloc: Global, way: &Way<'_>, disks: Disks) -> Result<(Found, bool), Failure> {
+        if self.loses {
+            return Ok(go_on(alloc, way, after_crash(disks)));
+        }
+        let disks = after_kill(alloc, disks)?;
+        Ok(go_on(alloc, way, disks))
+    }
+}
