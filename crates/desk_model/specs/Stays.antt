@@ -36,3 +36,10 @@ ended (Some stay) until = record stay { until = until } ∷ []
 -- the last stay so far, with its end, and the stays of the entries after it
 abbrev pub stays_on : Option Stay → List Entry → List Stay
 stays_on last entries = ended last (next_begin entries) ++ stays_of entries
+
+-- the stays of a history with these entries after those that made the stays so far: the last of
+-- those ends where the next begins
+abbrev pub stays_after : List Stay → List Entry → List Stay
+stays_after [] entries = stays_of entries
+stays_after (stay ∷ []) entries = stays_on (Some stay) entries
+stays_after (stay ∷ next ∷ stays) entries = stay ∷ stays_after (next ∷ stays) entries

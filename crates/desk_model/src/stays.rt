@@ -1,7 +1,8 @@
 //! The stays of a request in its statuses, read off its history.
 
-ghost use Rattle.std.specs.Prelude.{◌≡◌, ◌++◌, IfOk, OnOk};
+ghost use Rattle.std.specs.Prelude.{◌≡◌, ◌++◌, List, IfOk, OnOk};
 ghost use Rattle.desk_model.specs.Stays as spec;
+ghost use Rattle.desk_model.specs.declared.rows.Entry as entry;
 
 use crate::rows::Entry;
 use hours_core::{Minute, Stay};
@@ -12,8 +13,15 @@ use std::alloc::{AllocError, Global};
 pub fn stays_of(alloc: Global, entries: &[Entry]) -> Result<Vec<Stay>, AllocError>
     ensures { IfOk result (λ v. v.items ≡ spec.stays_of entries.now) }
 {
-    let mut stays = Vec::new(alloc);
-    let mut last = None;
+    stays_after(Vec::new(alloc), entries)
+}
+
+/// The stays of a history in order, of which the entries so far made these stays, and to which these
+/// entries are added.
+pub fn stays_after(mut stays: Vec<Stay>, entries: &[Entry]) -> Result<Vec<Stay>, AllocError>
+    ensures { IfOk result (λ v. v.items ≡ spec.stays_after stays.items entries.now) }
+{
+    let mut last = take_last(&mut stays);
     for entry in entries {
         if entry.kind.begins_stay() {
             end_last(&mut stays, last, Some(entry.moment))?;
@@ -26,6 +34,14 @@ pub fn stays_of(alloc: Global, entries: &[Entry]) -> Result<Vec<Stay>, AllocErro
     }
     end_last(&mut stays, last, None)?;
     Ok(stays)
+}
+
+/// Takes the last stay, if there is one, so that it may get its end.
+fn take_last(stays: &mut Vec<Stay>) -> Option<Stay>
+    ensures { (entries : List entry.Entry) → stays.new.items ++ spec.stays_on result entries
+        ≡ spec.stays_after stays.old.items entries }
+{
+    stays.pop()
 }
 
 /// Adds the last stay, if there is one, which ends at the moment.
