@@ -86,7 +86,7 @@ fn decide_on_facts(
         facts,
     };
     match context.decide(command) {
-        Ok(change) => Ok(change.dated(settings, &facts.queue)),
+        Ok(change) => Ok(change.dated(alloc, settings, facts)?),
         Err(refusal) => Err(refusal),
     }
 }

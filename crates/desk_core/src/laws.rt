@@ -8,7 +8,7 @@ ghost use Rattle.desk_model.specs.Names.{in_order};
 ghost use Rattle.desk_model.specs.declared.rows.Watcher.{Watcher};
 ghost use Rattle.desk_core.specs.Laws.{AtEveryStep, HidesTheRest, KeepsDependencyLaw, KeepsHistory};
 ghost use Rattle.desk_core.specs.Laws.{KeepsOwnerLaw, KeepsStatusLaw, LeavesTheDesk};
-ghost use Rattle.desk_core.specs.Laws.{RefusesAsMissing};
+ghost use Rattle.desk_core.specs.Laws.{PlainDueLaw, RefusesAsMissing};
 ghost use Rattle.desk_core.specs.Laws.{ShowsByWatchers, TellsDueMoments, TellsOfTheView};
 ghost use Rattle.lifecycle_core.specs.declared.parts.Parts.{Parts};
 ghost use Rattle.desk_core.specs.Asked.{AsksToWatch, AsksUsualRight, LinksShown};
@@ -101,6 +101,11 @@ pub fn hidden_law()
 /// has.
 pub fn due_law()
     ensures { AtEveryStep TellsDueMoments }
+{}
+
+/// Where no level ignores a status, a request is due as if every minute counted.
+pub fn plain_due_law()
+    ensures { (settings : Settings) (desk : Desk) → PlainDueLaw settings desk }
 {}
 
 /// A command keeps the limits: of 1,000 queues, of the settings' requests, and, on a well-formed
