@@ -1,7 +1,6 @@
 -- The stays of a history: with one entry before, with more after it, and without comments.
 use Rattle.std.proofs.Common.{◌≡◌, ℕ, Bool, true, false, not, ◌||◌, List, [], ◌∷◌, Option, Some}
 use Rattle.std.proofs.Common.{None, inl, inr, refl, sym, ap, length, ◌+◌, ◌++◌, arith}
-use Rattle.std.specs.Prelude.{MatchOption}
 use Rattle.std.specs.Option.{option_to_list}
 use Rattle.std.proofs.Common.{if◌then◌else◌}
 use Rattle.std.specs.List.{filter}
@@ -63,10 +62,10 @@ after_last (stay ∷ next ∷ stays) last entries =
 -- where the last of the stays so far, if there is one, is taken from them
 pub last_taken : (old new : List Stay) (last : Option Stay) (entries : List Entry)
     → old ≡ new ++ option_to_list last
-    → MatchOption last ((length old ≡ 0) × (length new ≡ 0)) (λ stay. length new + 1 ≡ length old)
+    → (last ≡ None → length new ≡ 0)
     → new ++ stays_on last entries ≡ stays_after old entries
 last_taken old [] None entries items none = rw items refl
-last_taken old (stay ∷ new) None entries items none = absurd (omega (arith, none.1))
+last_taken old (stay ∷ new) None entries items none = absurd (omega (arith, none refl))
 last_taken old new (Some last) entries items some =
     rw items (sym (after_last new last entries))
 
