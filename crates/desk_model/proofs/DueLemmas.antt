@@ -2,7 +2,6 @@
 use Rattle.std.proofs.Common.{◌≡◌, ℕ, Bool, List, [], Option, Some, None, IfSome, refl, ap}
 use Rattle.std.proofs.Common.{if◌then◌else◌, option_and_then}
 use Rattle.hours_core.specs.Calendar.{opens}
-use Rattle.hours_core.specs.Pauses.{IgnoresNone}
 use Rattle.hours_core.specs.declared.level.Level.{Level}
 use Rattle.hours_core.specs.declared.level.Limit.{Limit}
 use Rattle.hours_core.specs.declared.stay.Stay.{Stay}
@@ -11,9 +10,9 @@ use Rattle.lifecycle_core.specs.Lifecycle.{class_of}
 use Rattle.settings_core.specs.Settings.{calendar_named, level_named, lifecycle_named}
 use Rattle.settings_core.specs.declared.settings.Settings.{Settings}
 use Rattle.desk_model.specs.Desk.{Desk, Request, queue_at}
-use Rattle.desk_model.specs.Due.{IgnoreNone, due_at_level, due_by, due_in, due_of, due_of_limit}
-use Rattle.desk_model.specs.Due.{due_on, is_live_class, least_due, level_of, limit_on_turn}
-use Rattle.desk_model.specs.Due.{plain_due_on, plain_rule, rule_of, sooner}
+use Rattle.desk_model.specs.Due.{IgnoreNone, due_at_level, due_by, due_of, due_of_limit}
+use Rattle.desk_model.specs.Due.{due_on, is_live_class, level_of, limit_on_turn}
+use Rattle.desk_model.specs.Due.{plain_due_on, plain_rule, rule_of}
 use Rattle.desk_model.specs.Stays.{stays_of}
 use Rattle.desk_model.specs.declared.rows.QueueRow.{QueueRow}
 use Rattle.desk_model.specs.declared.rows.RequestRow.{RequestRow}
@@ -43,8 +42,10 @@ level_same : (settings : Settings) (stays : List Stay) (row : RequestRow) (level
     → due_at_level (rule_of stays) settings row level ≡ due_at_level plain_rule settings row level
 level_same settings stays row level none =
     each_same _ _ (calendar_named settings level.calendar)
-    (λ calendar. rw (limit_same stays (opens calendar) level row.opened level.resolve none,
-    limit_same stays (opens calendar) level row.since (limit_on_turn level row.turn) none) refl)
+    (λ calendar. rw (
+      limit_same stays (opens calendar) level row.opened level.resolve none,
+      limit_same stays (opens calendar) level row.since (limit_on_turn level row.turn) none,
+    ) refl)
 
 -- the level that a request has ignores no status
 level_ignores : (settings : Settings) (name : Option (List ℕ)) → IgnoreNone settings

@@ -1,6 +1,6 @@
 -- The stays of a history: with one entry before, with more after it, and without comments.
-use Rattle.std.proofs.Common.{◌≡◌, ℕ, Bool, true, false, not, ◌||◌, List, [], ◌∷◌, Option, Some}
-use Rattle.std.proofs.Common.{None, inl, inr, refl, sym, ap, length, ◌+◌, ◌++◌, arith}
+use Rattle.std.proofs.Common.{◌≡◌, ℕ, Bool, true, false, not, List, [], ◌∷◌, Option, Some}
+use Rattle.std.proofs.Common.{None, inl, inr, refl, sym, ap, length, ◌++◌, arith}
 use Rattle.std.specs.Option.{option_to_list}
 use Rattle.std.proofs.Common.{if◌then◌else◌}
 use Rattle.std.specs.List.{filter}

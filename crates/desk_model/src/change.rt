@@ -70,11 +70,7 @@ impl Change {
 
     /// The stays of the request whose row the change puts, where these are those before it; none
     /// where it puts no row.
-    fn stays_put(
-        &self,
-        alloc: Global,
-        stays: &Sequence<Stay>,
-    ) -> Result<Sequence<Stay>, AllocError>
+    fn stays_put(&self, alloc: Global, stays: &Sequence<Stay>) -> Result<Sequence<Stay>, AllocError>
         ensures { IfOk result (λ put. put ≡ stays_put stays.now self.now.entries
             (either_row self.now.filed self.now.row)) }
     {

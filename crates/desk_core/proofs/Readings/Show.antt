@@ -12,7 +12,7 @@ use Rattle.desk_model.specs.Due.{due_of, due_on}
 use Rattle.desk_model.specs.Facts.{seen_request}
 use Rattle.desk_model.specs.IsDesk.{IsDesk}
 use Rattle.desk_model.specs.Links.{is_kind}
-use Rattle.desk_model.specs.Plan.{Call, OneRequest, answer_of_request}
+use Rattle.desk_model.specs.Plan.{OneRequest, answer_of_request}
 use Rattle.desk_model.specs.Readings.Show as show
 use Rattle.desk_model.specs.Readings.Show.{linked_from, linked_to, links_of, shown_of}
 use Rattle.desk_model.specs.Rights.{is_shown, may_show}

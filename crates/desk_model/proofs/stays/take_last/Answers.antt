@@ -1,4 +1,4 @@
-use Rattle.std.proofs.Common.{◌≡◌, ℕ, length, arith}
+use Rattle.std.proofs.Common.{◌≡◌, length, arith}
 use Rattle.std.proofs.lemmas.Grind.{common_steps}
 use Rattle.desk_model.proofs.StayLemmas.{last_taken}
 use Rattle.desk_model.proofs.stays.take_last.Goals as goal
