@@ -13,6 +13,7 @@ ghost use Rattle.desk_core.specs.Laws.{ShowsByWatchers, TellsDueMoments, TellsOf
 ghost use Rattle.lifecycle_core.specs.declared.parts.Parts.{Parts};
 ghost use Rattle.desk_core.specs.Asked.{AsksToWatch, AsksUsualRight, LinksShown};
 ghost use Rattle.desk_core.specs.Bounds.{KeepsEntryLimit, KeepsQueueLimit, KeepsRequestLimit};
+ghost use Rattle.desk_core.specs.Carried.{CarriesStays};
 ghost use Rattle.desk_core.specs.Histories.{KeepsEntriesLaw, KeepsStatusesTold, TellsStatuses};
 ghost use Rattle.desk_core.specs.Opened.{KeepsOpenedLaw};
 ghost use Rattle.desk_core.specs.Orders.{TellsInOrder};
@@ -101,6 +102,12 @@ pub fn hidden_law()
 /// has.
 pub fn due_law()
     ensures { AtEveryStep TellsDueMoments }
+{}
+
+/// On a well-formed desk, where a command that isn't refused gives a request another row, its change
+/// carries the stays that the request has afterwards.
+pub fn carried_law()
+    ensures { AtEveryStep CarriesStays }
 {}
 
 /// Where no level ignores a status, a request is due as if every minute counted.
