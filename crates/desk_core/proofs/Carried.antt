@@ -24,7 +24,7 @@ use Rattle.desk_core.proofs.Changed.{AllOf, changed, entries_changed, entries_fo
 use Rattle.desk_core.proofs.Changed.{row_id}
 use Rattle.desk_core.proofs.Goes.{number_found}
 use Rattle.desk_core.proofs.Touches.{Touches, number_within, touched}
-use Rattle.desk_core.specs.Carried.{CarriesStays, SetsRowOf}
+use Rattle.desk_core.specs.Carried.{CarriesStays}
 
 same_number : (n : ℕ) → (n == n) ≡ true
 same_number n =
