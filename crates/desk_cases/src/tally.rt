@@ -22,7 +22,7 @@ struct Tally {
     refused: [u32; 17],
     /// How many replies had another text than the outcome of the command.
     differ: u32,
-    /// How many replies were refused for want of memory, and how many texts of outcomes.
+    /// How many replies, and how many texts of outcomes, were out of memory.
     lacking: u32,
 }
 
