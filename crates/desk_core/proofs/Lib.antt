@@ -3,6 +3,7 @@ pub mod Applied
 pub mod Asked
 pub mod AsMissing
 pub mod Bounds
+pub mod Carried
 pub mod Changed
 pub mod Depends
 pub mod DeskLaw

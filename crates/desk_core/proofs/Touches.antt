@@ -126,7 +126,7 @@ touched s at caller command desk free =
     (nothing_touched (plan_of command) desk) (touches desk command) free
 
 -- a request that is found has no higher number than there are requests
-number_within : (n id : ℕ) (xs : List Request) (r : Request)
+pub number_within : (n id : ℕ) (xs : List Request) (r : Request)
     → are_numbered n (map (λ x. x.row.id) xs) ≡ true
     → find (λ x. x.row.id == id) xs ≡ Some r → r.row.id < n + length xs
 number_within n id [] r numbered there = cc

@@ -1,3 +1,5 @@
+//! A line of a script, and what it prints.
+
 ghost use Rattle.std.specs.Prelude.{◌≡◌, ◌≤◌, ◌+◌, [], map, true, false, is_ok, IfOk};
 ghost use Rattle.std.specs.Prelude.{IfErr, OnErr, string_bytes};
 ghost use Rattle.std.specs.Vec.{vec_capacity, vec_len};

@@ -1,12 +1,13 @@
 //! Calls of calendars and moments, a line each.
 
 use crate::failure::{Failure, count, halves, moment, number};
-use hours_core::{Calendar, Level, Limit, Minute, Probes, Zone, date_of, minute_text};
-use text_core::Text;
+use crate::hours::parts::Parts;
+use hours_core::{Calendar, Limit, Minute, Probes, Zone, date_of, minute_text};
 
 /// Writes the line and the answer of the call that it spells.
 pub fn answer(
     rt: &(impl AllocGlobal + Print),
+    parts: &Parts,
     calendar: Option<&Calendar>,
     line: &str,
 ) -> Result<(), Failure> {
@@ -18,7 +19,7 @@ pub fn answer(
         "text" => show_text(rt, line, moment(words)?),
         "by_rule" => by_rule(rt, line, words),
         _ => match calendar {
-            Some(calendar) => asked(rt, calendar, line, call, words),
+            Some(calendar) => asked(rt, parts, calendar, line, call, words),
             None => Err(Failure::BadLine),
         },
     }
@@ -27,6 +28,7 @@ pub fn answer(
 /// Writes the answer of a call on a calendar.
 fn asked(
     rt: &(impl AllocGlobal + Print),
+    parts: &Parts,
     calendar: &Calendar,
     line: &str,
     call: &str,
@@ -42,8 +44,8 @@ fn asked(
             let (from, n) = halves(words, ' ')?;
             show(rt, line, calendar.add_open(moment(from)?, count(n)?))
         }
-        "due_at_once" => due(rt, calendar, line, words, true),
-        "due" => due(rt, calendar, line, words, false),
+        "due_at_once" => due(rt, parts, calendar, line, words, true),
+        "due" => due(rt, parts, calendar, line, words, false),
         "bounded" => bounded(rt, calendar, line, words),
         "greatest" => greatest(rt, calendar, line, words),
         "ends" => ends(rt, calendar, line, words),
@@ -119,6 +121,7 @@ fn show_offsets(rt: &impl Print, line: &str, zone: &Zone, minutes: &str) -> Resu
 /// Writes when a limit is due, of a level that begins at once or with the opening.
 fn due(
     rt: &(impl AllocGlobal + Print),
+    parts: &Parts,
     calendar: &Calendar,
     line: &str,
     words: &str,
@@ -130,14 +133,9 @@ fn due(
         ("business", n) => Limit::BusinessMinutes(count(n)?),
         _ => return Err(Failure::BadLine),
     };
-    let level = Level {
-        calendar: Text::new(rt.alloc(), "office")?,
-        start_immediately,
-        response: None,
-        keep_in_loop: None,
-        resolve: None,
-    };
-    show(rt, line, level.limit_due(calendar, moment(from)?, limit))
+    let level = parts.level(rt.alloc(), start_immediately)?;
+    let due = level.limit_due(calendar, moment(from)?, limit, parts.stays());
+    show(rt, line, due)
 }
 
 /// The spans that `first_open_counted` and `add_open_counted` of 60 read at the minute.
