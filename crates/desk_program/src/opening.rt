@@ -1,4 +1,7 @@
 //! A desk is opened over the tables of a store, with the settings of a text.
+//!
+//! What owns much is given back by `drop`, whose proof stands once; at the end of its scope it
+//! would be taken apart for each function's own proof.
 ghost use Rattle.std.specs.Prelude.{◌≡◌, ◌≢◌, ◌≤◌, ℕ, List, Ok, Err, length, IfErr, IfOk, IfSome};
 ghost use Rattle.std.specs.Prelude.{OnOk, Result, true, if◌then◌else◌};
 ghost use Rattle.store_core.specs.Seen.{connection_of, state_of};
