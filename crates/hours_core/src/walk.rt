@@ -49,7 +49,7 @@ impl Limit {
     }
 
     /// The end of the limit, where minutes of the stays in these statuses don't count.
-    pub fn end(
+    pub(crate) fn end(
         self,
         calendar: &Calendar,
         begin: Minute,
