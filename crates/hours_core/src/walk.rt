@@ -49,7 +49,7 @@ impl Limit {
     }
 
     /// The end of the limit, where minutes of the stays in these statuses don't count.
-    pub(crate) fn end(
+    pub fn end(
         self,
         calendar: &Calendar,
         begin: Minute,
