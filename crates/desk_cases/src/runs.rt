@@ -107,7 +107,7 @@ pub(crate) fn found_on<D: Disk + Drop>(alloc: Global, way: &Way<'_>, files: File
 
 /// Makes the tables that are missing, and tells what they hold.
 fn found_in<S: Backend>(alloc: Global, way: &Way<'_>, store: &mut Store<S>) -> Found {
-    if store.create_schema().is_err() {
+    if store.create_schema(alloc).is_err() {
         return Found::Refused;
     }
     match rows_of(alloc, store) {

@@ -80,7 +80,7 @@ fn written<S: Backend>(
     rest: &str,
 ) -> Result<Result<(), StoreFault>, Failure> {
     match call {
-        "create" => Ok(store.create_schema()),
+        "create" => Ok(store.create_schema(alloc)),
         "set_dues" => dues::set(alloc, store, rest),
         _ => applied(alloc, store, call, rest),
     }
