@@ -16,6 +16,7 @@ mod opening;
 pub mod rows;
 mod seen_request;
 mod shown;
+mod stays;
 pub mod store;
 
 pub use rows::RequestRows;
