@@ -5,6 +5,7 @@
 
 mod columns;
 pub mod fault;
+pub mod inside;
 mod query;
 pub mod reads;
 mod stored;
