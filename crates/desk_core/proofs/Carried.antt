@@ -1,108 +1,136 @@
 -- The stays that a change carries are those that its request has afterwards.
-use Rattle.std.proofs.Common.{◌≡◌, ◌∙◌, ℕ, ◌+◌, ◌<◌, ◌==◌, true, List, [], ◌∷◌, ◌++◌, length}
-use Rattle.std.proofs.Common.{Option, Some, None, inl, inr, refl, ap, sym, subst, arith}
+use Rattle.std.proofs.Common.{◌≡◌, ◌∙◌, ℕ, ◌+◌, not, List, [], ◌∷◌, ◌++◌, length}
+use Rattle.std.proofs.Common.{Option, Some, None, refl, ap, sym, arith}
 use Rattle.std.specs.Option.{option_map_or}
-use Rattle.std.proofs.lemmas.Bool.{cases_Bool, eqb-false}
+use Rattle.hours_core.specs.Moment.{is_moment}
 use Rattle.hours_core.specs.declared.stay.Stay.{Stay}
+use Rattle.settings_core.specs.Settings.{knows}
 use Rattle.settings_core.specs.declared.settings.Settings.{Settings}
-use Rattle.desk_model.specs.Change.{applied}
+use Rattle.desk_model.specs.Change.{applied, filed}
 use Rattle.desk_model.specs.Commands.{plan_of}
+use Rattle.desk_model.specs.Commands.Reply as reply
+use Rattle.desk_model.specs.Condition.{Condition}
 use Rattle.desk_model.specs.Dated.{either_row, stays_put}
 use Rattle.desk_model.specs.Desk.{Desk, Request, request_at}
-use Rattle.desk_model.specs.Facts.{stays_at}
+use Rattle.desk_model.specs.Facts.{seen_request, stays_at}
 use Rattle.desk_model.specs.IsDesk.{IsDesk}
-use Rattle.desk_model.specs.Plan.{Besides, Nothing, Dependencies, Another, besides_on}
-use Rattle.desk_model.specs.Plan.{Call, Plan, Reads, OnQueue, OnRequest, change_by, seen_by}
+use Rattle.desk_model.specs.Plan.{Call}
 use Rattle.desk_model.specs.Stays.{stays_after, stays_of}
-use Rattle.desk_model.specs.Step.{call, desk_unless, effect, facts_of}
+use Rattle.desk_model.specs.Step.{call, facts_of}
 use Rattle.desk_model.specs.declared.change.Change.{Change}
 use Rattle.desk_model.specs.declared.command.Command.{Command}
+use Rattle.desk_model.specs.declared.command.Command.TheVariants.{OpenQueue, Create, Reply}
+use Rattle.desk_model.specs.declared.command.Command.TheVariants.{SetStatus}
+use Rattle.desk_model.specs.declared.facts.SeenRequest.{SeenRequest}
+use Rattle.desk_model.specs.declared.refusal.Refusal.TheVariants.{UnknownCaller, BadMoment}
 use Rattle.desk_model.specs.declared.rows.Entry.{Entry}
 use Rattle.desk_model.specs.declared.rows.RequestRow.{RequestRow}
 use Rattle.desk_model.proofs.StayLemmas.{stays_joined}
-use Rattle.desk_core.proofs.Changed.{AllOf, changed, entries_changed, entries_for, found_changed}
-use Rattle.desk_core.proofs.Changed.{row_id}
+use Rattle.desk_core.proofs.Changed.{AllOf, OnlyOf, changed, entries_changed, found_changed}
+use Rattle.desk_core.proofs.Changed.{found_filed, row_id}
+use Rattle.desk_core.proofs.DeskLaw.ByKind.{Meets, by_plan}
 use Rattle.desk_core.proofs.Goes.{number_found}
-use Rattle.desk_core.proofs.Touches.{Touches, number_within, touched}
-use Rattle.desk_core.specs.Carried.{CarriesStays}
+use Rattle.desk_core.proofs.Told.{all_for}
+use Rattle.desk_core.proofs.Touches.{number_within, only_of_few, second_of}
+use Rattle.desk_core.specs.Carried.{CarriesStays, HasStays, IsOneOf, beginning}
 
-same_number : (n : ℕ) → (n == n) ≡ true
-same_number n =
-    elim (cases_Bool (n == n)) [
-      | inl same ↦ same
-      | inr other ↦ absurd (eqb-false n n other refl)
-    ]
+-- no request has the next number
+none_next : (desk : Desk) → IsDesk desk → request_at desk (length desk.requests + 1) ≡ None
+none_next desk is =
+    let id = length desk.requests + 1 in
+    elim (request_at desk id)
+    as (λ o. request_at desk id ≡ o → o ≡ None) [
+      | None ↦ λ there. refl
+      | Some r ↦ λ there.
+          absurd (omega (arith, number_found desk id r there,
+          number_within 1 id desk.requests r is.requests there))
+    ] refl
 
--- of entries that are all of one request, those for it are all
-all_for : (id : ℕ) (entries : List Entry) → AllOf (λ e. e.id) id entries
-    → entries_for id entries ≡ entries
-all_for id [] all = refl
-all_for id (e ∷ es) all =
-    let kept : (id == e.id) ≡ true = ap (λ n. id == n) all.0 ∙ same_number id in
-    rw kept (ap (λ (rest : List Entry). e ∷ rest) (all_for id es all.1))
+-- the stays of a request after a change of its entries alone
+stays_changed : (change : Change) (desk : Desk) (id : ℕ) (r : Request)
+    → request_at (applied change desk) id ≡ Some (changed change r)
+    → AllOf (λ e. e.id) r.row.id change.entries
+    → stays_after (stays_of r.entries) change.entries ≡ stays_at (applied change desk) id
+stays_changed change desk id r found all =
+    stays_joined r.entries change.entries
+    ∙ ap stays_of (sym (entries_changed change r
+    ∙ ap (λ es. r.entries ++ es) (all_for r.row.id change.entries all)))
+    ∙ ap (λ o. option_map_or (λ (x : Request). stays_of x.entries) o []) (sym found)
 
--- the request afterwards has these entries at its end
-at_end : (change : Change) (desk : Desk) (id : ℕ) (before after : Request)
-    → request_at desk id ≡ Some before → request_at (applied change desk) id ≡ Some after
-    → AllOf (λ e. e.id) before.row.id change.entries
-    → after.entries ≡ before.entries ++ change.entries
-at_end change desk id before after was is all =
-    let one : Some (changed change before) ≡ Some after =
-    sym (found_changed change desk id before was) ∙ is in
-    let same : changed change before ≡ after = cc in
-    ap (λ (r : Request). r.entries) (sym same)
-    ∙ entries_changed change before
-    ∙ ap (λ (es : List Entry). before.entries ++ es) (all_for before.row.id change.entries all)
+-- after these stays a change carries those that the request whose row it puts has afterwards
+abbrev Carries : List Stay → Desk → Change → Type 0
+Carries stays desk change =
+    let put = stays_put stays change.entries (either_row change.filed change.row) in
+    HasStays (applied change desk) put change.filed × HasStays (applied change desk) put change.row
 
--- the facts' stays are those of the request
-facts_stays : (besides : Besides) (id : ℕ) (desk : Desk)
-    → (besides_on besides id desk).stays ≡ stays_at desk id
-facts_stays Nothing id desk = refl
-facts_stays Dependencies id desk = refl
-facts_stays (Another kind other) id desk = refl
+row_has : (desk : Desk) (stays : List Stay) (entries : List Entry) (id : ℕ)
+    (row : Option RequestRow) → row_id id row ≡ id → stays_after stays entries ≡ stays_at desk id
+    → HasStays desk (stays_put stays entries row) row
+row_has desk stays entries id None same after = tt
+row_has desk stays entries id (Some row) same after = after ∙ ap (stays_at desk) (sym same)
 
-seen_stays : (plan : Plan) (call : Call) (desk : Desk) (id : ℕ) (before : Request)
-    (row : RequestRow) → IsDesk desk → request_at desk id ≡ Some before
-    → Touches plan desk (change_by call (seen_by plan desk) plan)
-    → (change_by call (seen_by plan desk) plan).row ≡ Some row → row.id ≡ before.row.id
-    → (seen_by plan desk).stays ≡ stays_of before.entries
-seen_stays (Reads topic answer) call desk id before row is was touches sets same = cc
-seen_stays (OnQueue name conditions change) call desk id before row is was touches sets same =
-    let within : before.row.id < 1 + length desk.requests =
-    number_within 1 id desk.requests before is.requests was in
-    let next : touches.0 ≡ length desk.requests + 1 = touches.1 in
-    let number : row.id ≡ touches.0 = ap (row_id touches.0) (sym sets) ∙ touches.2.row in
-    absurd (omega (arith, same, number, within, next))
-seen_stays (OnRequest asked besides text conditions change) call desk id before row is was
-    touches sets same =
-    let number : row.id ≡ touches.0 = ap (row_id touches.0) (sym sets) ∙ touches.2.row in
-    let here : asked ≡ id =
-    touches.1 ∙ sym number ∙ same ∙ number_found desk id before was in
-    facts_stays besides asked desk
-    ∙ ap (λ (o : Option Request). option_map_or (λ r. stays_of r.entries) o [])
-    (ap (request_at desk) here ∙ was)
+-- a change of the request that is found
+set_on : (change : Change) (desk : Desk) (id : ℕ) (r : Request) → request_at desk id ≡ Some r
+    → id ≡ r.row.id → OnlyOf r.row.id change
+    → HasStays (applied change desk) (stays_put (stays_at desk id) change.entries change.row)
+    change.row
+set_on change desk id r there same only =
+    row_has (applied change desk) (stays_at desk id) change.entries id change.row
+    (ap (λ n. row_id n change.row) same ∙ only.row ∙ sym same)
+    (ap (λ o. stays_after (option_map_or (λ (x : Request). stays_of x.entries) o []) change.entries)
+    there
+    ∙ stays_changed change desk id r (found_changed change desk id r there) only.entries)
 
--- a change that puts a row carries the stays so far with its entries
-put_some : (stays : List Stay) (entries : List Entry) (filed set : Option RequestRow)
-    (row : RequestRow) → set ≡ Some row
-    → stays_put stays entries (either_row filed set) ≡ stays_after stays entries
-put_some stays entries None set row sets = rw sets refl
-put_some stays entries (Some filed) set row sets = refl
+carries : (desk : Desk) → IsDesk desk → (command : Command)
+    → Meets (Carries (facts_of command desk).stays) desk (plan_of command)
+carries desk is (OpenQueue name lifecycle level) = λ call none. (tt, tt)
+carries desk is (Create queue subject status requestors) = λ call none. (
+  stays_changed _ desk _ (filed _) (found_filed _ desk _ (none_next desk is) refl) (refl, tt),
+  tt,
+)
+carries desk is (Reply id text) = λ call r there same none. (
+  tt,
+  set_on _ desk id r there same (record {
+    row = refl;
+    put = tt;
+    taken = tt;
+    entries = (refl, second_of call (seen_request r) _);
+  }),
+)
+carries desk is other = λ call r there same none. (
+  tt,
+  set_on _ desk _ r there same (only_of_few _ r.row.id refl (refl, tt) (refl, tt) (refl, tt)),
+)
+
+-- at most one entry begins a stay, on the request whose row is put
+abbrev Begins : Desk → Change → Type 0
+Begins desk change = IsOneOf (either_row change.filed change.row) (beginning change.entries)
+
+reply_begins : (text : List ℕ) (call : Call) (request : SeenRequest) (row : RequestRow)
+    (move : Option (List ℕ)) → row.id ≡ request.row.id
+    → IsOneOf (Some row) (beginning (reply.entries_of text call request move))
+reply_begins text call request row None same = tt
+reply_begins text call request row (Some status) same = ap Some same
+
+begins : (desk : Desk) (command : Command) → Meets Begins desk (plan_of command)
+begins desk (OpenQueue name lifecycle level) = λ call none. tt
+begins desk (Create queue subject status requestors) = λ call none. refl
+begins desk (SetStatus id status) = λ call r there same none. refl
+begins desk (Reply id text) = λ call r there same none.
+    reply_begins text call (seen_request r) _ _ refl
+begins desk other = λ call r there same none. tt
 
 pub carried_law : (s : Settings) (at : ℕ) (caller : List ℕ) (command : Command) (desk : Desk)
     → CarriesStays s at caller command desk
-carried_law s at caller command desk is free id before after was now sets =
+carried_law s at caller command desk is free =
+    let asks = call s at caller in
     let plan = plan_of command in
-    let facts = facts_of command desk in
-    let change = change_by (call s at caller) facts plan in
-    let touches = touched s at caller command desk free in
-    let number : touches.0 ≡ before.row.id =
-    sym touches.2.row ∙ ap (row_id touches.0) sets.1 ∙ sets.2 in
-    let all = subst (λ n. AllOf (λ (e : Entry). e.id) n change.entries) number touches.2.entries in
-    let found = ap (λ o. request_at (desk_unless o desk (effect s at caller command desk)) id)
-    (sym free) ∙ now in
-    put_some facts.stays change.entries change.filed change.row sets.0 sets.1
-    ∙ ap (λ (stays : List Stay). stays_after stays change.entries)
-    (seen_stays plan (call s at caller) desk id before sets.0 is was touches sets.1 sets.2)
-    ∙ stays_joined before.entries change.entries
-    ∙ ap stays_of (sym (at_end change desk id before after was found all))
+    let front : List Condition =
+    (UnknownCaller, not (knows s caller)) ∷ (BadMoment, not (is_moment at)) ∷ [] in
+    let both = by_plan (Carries (facts_of command desk).stays) asks plan front desk (tt, tt)
+    (carries desk is command) free in
+    record {
+      filed = both.0;
+      set = both.1;
+      begun = by_plan Begins asks plan front desk tt (begins desk command) free;
+    }

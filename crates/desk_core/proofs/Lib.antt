@@ -2,6 +2,7 @@ pub mod Added
 pub mod Applied
 pub mod Asked
 pub mod AsMissing
+pub mod Begun
 pub mod Bounds
 pub mod Carried
 pub mod Changed

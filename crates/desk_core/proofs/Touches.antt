@@ -77,7 +77,8 @@ all_requestors : (n : ℕ) (names : List (List ℕ))
 all_requestors n [] = tt
 all_requestors n (name ∷ names) = (refl, all_requestors n names)
 
-second_of : (call : Call) (request : SeenRequest) (move : Option (List ℕ))
+-- the second entry of a reply is of its request
+pub second_of : (call : Call) (request : SeenRequest) (move : Option (List ℕ))
     → AllOf (λ e. e.id) request.row.id (reply.second_entry call request move)
 second_of call request None = tt
 second_of call request (Some status) = (refl, tt)

@@ -1,27 +1,46 @@
 -- The stays that the change of a command carries.
-use Rattle.std.specs.Prelude.{◌≡◌, ℕ, List, Some, None}
+use Rattle.std.specs.Prelude.{◌≡◌, ℕ, ⊤, List, [], ◌∷◌, Option, Some, None, filter}
+use Rattle.std.specs.Option.{option_map}
+use Rattle.hours_core.specs.declared.stay.Stay.{Stay}
 use Rattle.settings_core.specs.declared.settings.Settings.{Settings}
-use Rattle.desk_model.specs.Desk.{Desk, Request, request_at}
+use Rattle.desk_model.specs.Change.{applied}
+use Rattle.desk_model.specs.Dated.{either_row}
+use Rattle.desk_model.specs.Desk.{Desk}
+use Rattle.desk_model.specs.Facts.{stays_at}
 use Rattle.desk_model.specs.IsDesk.{IsDesk}
-use Rattle.desk_model.specs.Stays.{stays_of}
-use Rattle.desk_model.specs.Step.{call, desk_after, facts_of, guard}
+use Rattle.desk_model.specs.Stays.{begins_stay}
+use Rattle.desk_model.specs.Step.{call, facts_of, guard}
 use Rattle.desk_model.specs.declared.change.Change.{Change}
 use Rattle.desk_model.specs.declared.command.Command.{Command}
+use Rattle.desk_model.specs.declared.rows.Entry.{Entry}
 use Rattle.desk_model.specs.declared.rows.RequestRow.{RequestRow}
 use Rattle.desk_core.specs.Decision.{change_of}
 
--- the change gives the request of this row another row
-abbrev pub SetsRowOf : Change → Request → Type 0
-SetsRowOf change request =
-    (row : RequestRow) × (change.row ≡ Some row) × (row.id ≡ request.row.id)
+-- of entries, those that begin a stay
+abbrev pub beginning : List Entry → List Entry
+beginning entries = filter (λ e. begins_stay e.kind) entries
 
--- The carried law: where a command that isn't refused gives a request another row, its change
--- carries the stays that the request has afterwards.
+-- the request of this row, if there is a row, has these stays on the desk
+abbrev pub HasStays : Desk → List Stay → Option RequestRow → Type 0
+HasStays desk stays None = ⊤
+HasStays desk stays (Some row) = stays ≡ stays_at desk row.id
+
+-- at most one entry, on the request of this row
+abbrev pub IsOneOf : Option RequestRow → List Entry → Type 0
+IsOneOf row [] = ⊤
+IsOneOf row (e ∷ []) = option_map (λ r. r.id) row ≡ Some e.id
+IsOneOf row (e ∷ f ∷ rest) = ⊥
+
+-- a change carries the stays that the request whose row it files or sets has afterwards, and at
+-- most one of its entries begins a stay, on that request
+pub record KeepsStays (desk : Desk) (change : Change) : Type 0 where
+  pub filed : HasStays (applied change desk) change.stays change.filed
+  pub set : HasStays (applied change desk) change.stays change.row
+  pub begun : IsOneOf (either_row change.filed change.row) (beginning change.entries)
+
+-- The carried law: where a command isn't refused, its change carries the stays that the request
+-- whose row it puts has afterwards, and only that request's stays change, by one.
 abbrev pub CarriesStays : Settings → ℕ → List ℕ → Command → Desk → Type 0
 CarriesStays settings at caller command desk =
     IsDesk desk → guard settings at caller command desk ≡ None
-    → (id : ℕ) (before after : Request) → request_at desk id ≡ Some before
-    → request_at (desk_after settings at caller command desk) id ≡ Some after
-    → SetsRowOf (change_of (call settings at caller) (facts_of command desk) command) before
-    → (change_of (call settings at caller) (facts_of command desk) command).stays
-    ≡ stays_of after.entries
+    → KeepsStays desk (change_of (call settings at caller) (facts_of command desk) command)

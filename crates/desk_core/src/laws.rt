@@ -104,8 +104,9 @@ pub fn due_law()
     ensures { AtEveryStep TellsDueMoments }
 {}
 
-/// On a well-formed desk, where a command that isn't refused gives a request another row, its change
-/// carries the stays that the request has afterwards.
+/// On a well-formed desk the change of a command that isn't refused carries the stays which the
+/// request that it files or gives another row has afterwards. At most one of its entries begins a
+/// stay, on that request.
 pub fn carried_law()
     ensures { AtEveryStep CarriesStays }
 {}
