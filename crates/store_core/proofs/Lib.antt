@@ -14,6 +14,8 @@ pub mod Revised
 pub mod RoleRows
 pub mod RiseLemmas
 pub mod StandsAlike
+pub mod StayRows
+pub mod StaysWritten
 pub mod Writable
 pub mod WritableByKind
 pub mod WrittenDesk

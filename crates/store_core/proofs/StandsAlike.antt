@@ -42,6 +42,7 @@ values_alike a b same values =
           λ x has. v.watchers x (has_permuted _ _ x (IsPermutation-sym _ _ same.watchers) has);
       links = λ x has. v.links x (has_permuted _ _ x (IsPermutation-sym _ _ same.links) has);
       entries = λ x has. v.entries x (has_permuted _ _ x (IsPermutation-sym _ _ same.entries) has);
+      stays = λ x has. v.stays x (has_permuted _ _ x (IsPermutation-sym _ _ same.stays) has);
     })
 
 tables_alike : (a b : Contents) (db : Database) → AreAlike a b → Tables a db → Tables b db
@@ -53,6 +54,7 @@ tables_alike a b db same t = record {
   watchers = holds_alike _ _ _ _ _ same.watchers t.watchers;
   links = holds_alike _ _ _ _ _ same.links t.links;
   entries = holds_alike _ _ _ _ _ same.entries t.entries;
+  stays = holds_alike _ _ _ _ _ same.stays t.stays;
   values = values_alike a b same t.values;
 }
 

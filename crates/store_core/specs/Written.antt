@@ -72,15 +72,18 @@ abbrev pub stay_begun : Option ℕ → List Stay → Contents → Contents
 stay_begun None stays c = c
 stay_begun (Some id) stays c = stay_put id (length stays) (last_of stays) c
 
-abbrev pub written : Change → Contents → Contents
-written change c =
+-- the rows of a change, but for a stay that it begins
+abbrev pub rows_written : Change → Contents → Contents
+rows_written change c =
     let due = change.due in
     let opened = queue_added change.queue c in
     let rows = request_set change.row due (request_added change.filed due opened) in
     let persons = fold drop_watcher (fold add_watcher rows change.put) change.taken in
     let links = link_dropped change.unlinked (link_added change.linked persons) in
-    let noted = fold add_entry links change.entries in
-    stay_begun (begun_on change.entries) change.stays noted
+    fold add_entry links change.entries
+
+abbrev pub written : Change → Contents → Contents
+written change c = stay_begun (begun_on change.entries) change.stays (rows_written change c)
 
 -- the due moments, but for that of the row
 abbrev pub due_with : Option RequestRow → Option ℕ → (RequestRow → Option ℕ) → RequestRow → Option ℕ
