@@ -17,6 +17,7 @@ pub mod RefusalLemmas
 pub mod RowLemmas
 pub mod Spared
 pub mod StandLemmas
+pub mod StayLemmas
 pub mod Statements
 pub mod StepLemmas
 pub mod TableLemmas
