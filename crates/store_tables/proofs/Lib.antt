@@ -6,6 +6,7 @@ pub mod DatedLemmas
 pub mod DueLemmas
 pub mod EachQuery
 pub mod EachTable
+pub mod FirstLemmas
 pub mod FoundLemmas
 pub mod KeptLemmas
 pub mod LastLemmas

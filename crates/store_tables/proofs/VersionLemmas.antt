@@ -7,6 +7,9 @@ use Rattle.sqlite.proofs.Callers.{one_permutation}
 use Rattle.sqlite.specs.Order.{Row}
 use Rattle.sqlite.specs.Tree.{Trees, IsTable, put_row, rowid, without_rowid}
 use Rattle.sqlite.specs.Cast.{cast_row}
+use Rattle.sqlite.specs.declared.types.Value.TheVariants.{Int}
+use Rattle.sqlite_value.proofs.OrderLemmas.{value_cmp_total}
+use Rattle.std.proofs.lemmas.Cmp.{tied_itself}
 use Rattle.sqlite.specs.Edit.{id_in}
 use Rattle.sqlite.specs.Effect.{Database}
 use Rattle.store_tables.specs.Dated.{dated_columns, id_of}
@@ -103,6 +106,9 @@ version_now c n old new t low schema m now = record {
 same_row : (a b : Row) → a ∷ [] ≡ b ∷ [] → b ≡ a
 same_row a b e = cc
 
+gone : (n : ℕ) → without_rowid (pos 1) (version_row n ∷ []) ≡ []
+gone n = rw (tied_itself value_cmp_total (Int (pos 1)))
+
 pub sets_version : (c : Contents) (old new : State) → Tables c old.now
     → Executes set_version_text [] old new (Ok 1) → Tables (set_version c 2) new.now
 sets_version c old new t h =
@@ -116,7 +122,7 @@ sets_version c old new t h =
     (ap (λ row. cast_row meta (drop 1 (shows set_version_terms [] row))) it
     ∙ rw (cast_int (pos 1), cast_int (pos 2), cast_null)) in
     version_now c 2 old.now new.now t (omega arith) s.schema to.others
-    (to.rows ∙ ap (λ rows. put_row (version_row 2) (without_rowid (pos 1) rows)) t.meta)
+    (to.rows ∙ ap (put_row (version_row 2)) (ap (without_rowid (pos 1)) t.meta ∙ gone c.version))
 
 -- ---- the version that is read
 
