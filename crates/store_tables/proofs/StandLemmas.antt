@@ -20,7 +20,9 @@ use Rattle.sqlite.specs.Held.{Held, state}
 use Rattle.std.proofs.Common.{OnOk, OnErr, [], ◌∷◌, ◌++◌, ◌+◌, ◌<◌, length, take, get_or}
 use Rattle.std.proofs.lemmas.List.{take_more}
 use Rattle.std.specs.Prelude.{fold}
+use Rattle.store_tables.specs.Calls.{Looks}
 use Rattle.store_tables.specs.Contents.{Contents}
+use Rattle.store_tables.specs.declared.fault.StoreFault.TheVariants.{Refused}
 use Rattle.store_tables.specs.Making.{AreEmpty, WasBlank, IsBlank, Made}
 use Rattle.store_tables.specs.Stands.{HasTables}
 use Rattle.sqlite.specs.Schema.{Schema}
@@ -49,14 +51,24 @@ pub was_clean : (old new : State) (P : Trees → Type 0) → Survives old new P 
     → HasCleanDisk old
 was_clean old new P s c = omega (arith, s.clean)
 
+-- the tables hold this, whatever the last commit left
+abbrev pub Holding : Contents → State → Type 0
+Holding c s = HasCleanDisk s → IsTrue s.is_open → Tables c s.now
+
 -- a query that showed rows ran on the tables
+pub tables_shown : (d : Contents) (sql : List ℕ) (params : Row) (old new : State) (rows : List Row)
+    → (HasCleanDisk new → HasCleanDisk old) → Holding d old → HasCleanDisk new
+    → Shown sql params old new rows → Tables d old.now
+unfolding Shown
+tables_shown d sql params old new rows clean holding c h =
+    holding (clean c) (shown_was_open old new sql h.0 (timed params h.0.formats h.1.now) rows
+    h.0.returning h.2)
+
 pub shown_tables : (d : Contents) (sql : List ℕ) (params : Row) (old new : State) (rows : List Row)
     → (HasCleanDisk new → HasCleanDisk old) → Stand d old → HasCleanDisk new
     → Shown sql params old new rows → Tables d old.now
-unfolding Shown
-shown_tables d sql params old new rows clean stand c h =
-    (stand (clean c) (shown_was_open old new sql h.0 (timed params h.0.formats h.1.now) rows
-    h.0.returning h.2)).0
+shown_tables d sql params old new rows clean stand =
+    tables_shown d sql params old new rows clean (λ c o. (stand c o).0)
 
 -- ---- in a transaction
 
@@ -237,6 +249,31 @@ pub shown_keeps : (sql : List ℕ) (params : Row) (old new : State) (rows : List
 shown_keeps sql params old new rows plain clean has shown c o =
     let h = shown c in same_keeps old new clean (shown_same sql params old new rows plain
     (has (clean c) (shown_open sql params old new rows h)) h) c o
+
+-- so a query in a transaction leaves what the tables hold, and the last commit
+module _ (sql : List ℕ) (params : Row) (old new : State)
+    (plain : IsPlain (understood desk_schema sql)) (clean : HasCleanDisk new → HasCleanDisk old)
+  where
+    pub shown_looks : {X : Type 0} (x : X) (rows : List Row)
+        → (HasCleanDisk new → Shown sql params old new rows)
+        → Looks {X = X} old new (Ok x)
+    shown_looks x rows shown = record {
+      makes = λ c holds d o.
+          let h = shown d in
+          let before = holds (clean d) (shown_open sql params old new rows h) in
+          same_holds c old new (shown_same sql params old new rows plain before.0.schema h) before;
+      keeps = λ has. shown_keeps sql params old new rows plain clean has shown;
+      clean = clean;
+    }
+
+    pub failed_looks : {X : Type 0} (e : Error)
+        → (HasCleanDisk new → FailsToQuery sql params old new e ⊎ IsTooLate sql params old new e)
+        → Looks {X = X} old new (Err Refused)
+    failed_looks e fails = record {
+      makes = λ c holds. tt;
+      keeps = λ has. failed_keeps sql params old new e plain clean has fails;
+      clean = clean;
+    }
 
 -- a transaction that is dropped leaves what stood before it
 pub dropped_stands : (d : Contents) (a b end : State) → Within d d a → KeepsBase a b
