@@ -1,5 +1,5 @@
 -- What is read of one request, in order, is its part of the whole: its history, and its stays.
-use Rattle.std.proofs.Common.{◌≡◌, ◌∙◌, ◌==◌, ℕ, Bool, true, false, cond, List, [], ◌∷◌, ◌++◌, map}
+use Rattle.std.proofs.Common.{◌≡◌, ◌∙◌, ◌+◌, ◌==◌, ℕ, Bool, true, false, cond, List, [], ◌∷◌, ◌++◌, map}
 use Rattle.std.proofs.Common.{flat_map, filter, None, Option, Some, refl, ap, ap₂, subst}
 use Rattle.std.proofs.Common.{append-nil, arith, Less}
 use Rattle.std.proofs.lemmas.Bool.{and_parts, eqb-true}

@@ -8,6 +8,7 @@ pub mod FactsLemmasOfDesk
 pub mod HistoryLemmas
 pub mod MakeLemmas
 pub mod MakeStatements
+pub mod MigrationLemmas
 pub mod OrderLemmas
 pub mod Renewed
 pub mod Revised

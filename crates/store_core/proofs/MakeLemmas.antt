@@ -1,6 +1,6 @@
 -- What CREATE TABLE makes.
 use Rattle.std.proofs.Common.{◌≡◌, ◌⊎◌, ℕ, inl, inr, true, false, IsTrue, List, [], ◌∷◌, ◌++◌, None}
-use Rattle.std.proofs.Common.{Ok, sym, ap, subst, ◌∙◌, refl}
+use Rattle.std.proofs.Common.{Ok, sym, ap, subst, ◌∙◌, refl, arith, length}
 use Rattle.std.specs.List.{AllByRecursion}
 use Rattle.sqlite.specs.Table.{Table}
 use Rattle.sqlite.specs.Schema.{Schema}
@@ -109,9 +109,9 @@ pub unmoved : (text : List ℕ) → Idles desk_schema text → Idles first_schem
     → (HasCleanDisk new → HasCleanDisk old) → Unmoved old new
 unmoved text all first old new count ran clean has c =
     let r = ran c in
-    let open = r.shown.was_open in (
-      open,
-      elim (has (clean c) open) [
+    let live = r.shown.was_open in (
+      live,
+      elim (has (clean c) live) [
         | inl schema ↦ idles desk_schema text all old new count schema r.runs
         | inr schema ↦ idles first_schema text first old new count schema r.runs
       ],
@@ -139,9 +139,9 @@ pub grows : (text : List ℕ) (table : Table) → Creates first_schema desk_sche
     → (HasCleanDisk new → HasCleanDisk old) → Grows old new
 grows text table makes tree all old new count ran clean has c =
     let r = ran c in
-    let open = r.shown.was_open in (
-      open,
-      elim (has (clean c) open) [
+    let live = r.shown.was_open in (
+      live,
+      elim (has (clean c) live) [
         | inl schema ↦ inl (schema, idles desk_schema text all old new count schema r.runs)
         | inr schema ↦
             let it = adds_table first_schema desk_schema text table makes old new count schema
@@ -179,7 +179,7 @@ six_grown c old new six schema same none =
 
 two_schemas : (X : Type 0) (s : Schema) → s ≡ desk_schema → s ≡ first_schema → X
 two_schemas X s one two =
-    absurd (let both : desk_schema ≡ first_schema = sym one ∙ two in cc)
+    absurd (omega (arith, ap (λ (a : Schema). length a.tables) (sym one ∙ two)))
 
 all_tables : (c : Contents) (old new : Database) → EitherTables c old → IsGrown old new
     → Tables c new

@@ -81,10 +81,10 @@ other_name desk queue name new there true same =
     subst (λ n. is_some (queue_at desk n) ≡ false) is new in
     cc
 
-stays_at : (o : Option QueueRow) (desk : Desk) (name : List ℕ) → OpensNew desk o
+queue_kept : (o : Option QueueRow) (desk : Desk) (name : List ℕ) → OpensNew desk o
     → is_some (queue_at desk name) ≡ true → queue_at (queue_put o desk) name ≡ queue_at desk name
-stays_at None desk name new there = refl
-stays_at (Some queue) desk name new there =
+queue_kept None desk name new there = refl
+queue_kept (Some queue) desk name new there =
     placed_other has_lower_name desk.queues queue name
     (other_name desk queue name new there (bytes_eq queue.name name) refl)
 
@@ -95,7 +95,7 @@ queue_stays : (change : Change) (desk : Desk) (name : List ℕ) → OpensNew des
 queue_stays change desk name new there =
     ap (λ (queues : List QueueRow). find (λ q. bytes_eq q.name name) queues)
     (queues_after change desk)
-    ∙ stays_at change.queue desk name new there
+    ∙ queue_kept change.queue desk name new there
 
 -- ---- what is due of one row
 

@@ -68,7 +68,7 @@ stays_left change c =
 
 -- ---- on which request a stay begins
 
-first_on : List Entry → Option ℕ
+abbrev first_on : List Entry → Option ℕ
 first_on [] = None
 first_on (e ∷ es) = Some e.id
 
@@ -286,14 +286,16 @@ by_beginning change desk c [] is keeps one numbered there same =
     ∙ with_filed_none change.filed desk))
     (IsPermutation-refl c.stays)
 by_beginning change desk c (e ∷ []) is keeps one numbered there same =
-    let carried = its_stays (applied change desk) change.stays e.id change.filed change.row keeps.filed
-    keeps.set one in
     by_found (request_at (wider change desk) e.id) refl (there e refl)
+    (its_stays (applied change desk) change.stays e.id change.filed change.row keeps.filed
+    keeps.set one)
   where
     by_found : (o : Option Request) → request_at (wider change desk) e.id ≡ o → is_some o ≡ true
+        → change.stays ≡ stays_at (applied change desk) e.id
         → IsPermutation (stay_begun (Some e.id) change.stays c).stays (stays (applied change desk))
-    by_found None found some = cc
-    by_found (Some r) found some = begun_rows change desk e is r c found numbered same carried
+    by_found None found some carried = cc
+    by_found (Some r) found some carried =
+        begun_rows change desk e is r c found numbered same carried
 by_beginning change desk c (e ∷ f ∷ es) is keeps one numbered there same = absurd one
 
 pub stays_alike : (change : Change) (desk : Desk) (c : Contents) → KeepsStays desk change
