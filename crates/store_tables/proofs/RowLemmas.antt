@@ -187,7 +187,7 @@ parts_fail t q old new clean Reads values r h =
     values old new clean r h
 
 -- A list in an order is what passes of the table, in that order.
-module _ {K V X : Type 0} (t : TableOf K V) (q : QueryOn t) (old new : State)
+module _ {K V : Type 0} (t : TableOf K V) (q : QueryOn t) (old new : State)
     (clean : HasCleanDisk new → HasCleanDisk old) (cmp : V → V → Ordering)
     (orders : (a b : K) → output_cmp (reads t.tree q.test t.terms q.order)
     (output (reads t.tree q.test t.terms q.order) (q.params ∷ t.row a ∷ []))
@@ -204,7 +204,7 @@ module _ {K V X : Type 0} (t : TableOf K V) (q : QueryOn t) (old new : State)
         (picked_by q.text q.params old new tables.schema t.tree q.test t.terms q.order q.means rows
         h) cmp orders
 
-    pub holds_in_order : (values : X → List V) (result : Result X StoreFault)
+    pub holds_in_order : {X : Type 0} (values : X → List V) (result : Result X StoreFault)
         → ReadsRows t.Reads t.IsValue values q.text q.params old new result
         → IfOk result (λ x. AreOrdered cmp (filter q.passing (t.list c)) (values x))
     holds_in_order values result read = if_ok result
@@ -212,7 +212,7 @@ module _ {K V X : Type 0} (t : TableOf K V) (q : QueryOn t) (old new : State)
         (lists_shown it.0 it.1) it.2) (read.read now)
 
     -- and so is a part of each
-    pub parts_in_order : {Y : Type 0} (part : V → Y) (Reads : Row → Y → Type 0)
+    pub parts_in_order : {X Y : Type 0} (part : V → Y) (Reads : Row → Y → Type 0)
         → ((a : V) (b : Y) → Reads (t.view a) b → b ≡ part a) → (values : X → List Y)
         → (result : Result X StoreFault)
         → ReadsRows Reads t.IsValue values q.text q.params old new result
