@@ -36,7 +36,8 @@ use Rattle.store_tables.proofs.WriteLemmas.{inserting}
 
 -- ---- their numbers
 
-pub rows_counted : (id n : ℕ) (stays : List Stay) → length (stay_rows_from id n stays) ≡ length stays
+pub rows_counted : (id n : ℕ) (stays : List Stay)
+    → length (stay_rows_from id n stays) ≡ length stays
 rows_counted id n [] = refl
 rows_counted id n (x ∷ stays) = ap suc (rows_counted id (n + 1) stays)
 
@@ -63,7 +64,8 @@ stays_now d xs old new t schema m now each = record {
   queues = subst (Keeps queue_columns d.queues) (sym (m.1.0 (apart 1 10 refl))) t.queues;
   requests = subst (Numbers id_of dated_columns d.dated) (sym (m.1.1.0 (apart 3 10 refl)))
       t.requests;
-  watchers = subst (Keeps watcher_columns d.watchers) (sym (m.1.1.1.0 (apart 4 10 refl))) t.watchers;
+  watchers = subst (Keeps watcher_columns d.watchers) (sym (m.1.1.1.0 (apart 4 10 refl)))
+      t.watchers;
   links = subst (Keeps link_columns d.links) (sym (m.1.1.1.1.0 (apart 6 10 refl))) t.links;
   entries = subst (Keeps entry_columns d.entries) (sym (m.1.1.1.1.1.0 (apart 8 10 refl))) t.entries;
   stays = now;
