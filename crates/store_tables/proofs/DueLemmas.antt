@@ -1,5 +1,6 @@
 -- Requests of which one has its due moment set.
-use Rattle.std.proofs.Common.{◌≡◌, ◌++◌, arith, Bool, IsPermutation, List, Option, [], ◌∷◌, ℕ, ap₂}
+use Rattle.std.proofs.Common.{◌≡◌, ◌++◌, arith, Bool, IsPermutation, List, Option, [], ◌∷◌, ℕ, ap}
+use Rattle.std.proofs.Common.{ap₂}
 use Rattle.std.proofs.Common.{false, filter, inl, inr, map, not, refl, subst, sym, true}
 use Rattle.std.specs.Prelude.{if◌then◌else◌}
 use Rattle.std.proofs.lemmas.Bool.{cases_Bool}

@@ -5,7 +5,8 @@ use Rattle.desk_model.specs.Links.{kind_number}
 use Rattle.desk_model.specs.declared.rows.LinkKind.{LinkKind}
 use Rattle.desk_model.specs.declared.rows.LinkRow.{LinkRow}
 use Rattle.store_tables.specs.Dated.{id_of}
-use Rattle.store_tables.specs.Queries.{before_test, dated_before_text, dated_numbered_text, dated_text, due_order}
+use Rattle.store_tables.specs.Queries.{before_test, dated_before_text, dated_numbered_text}
+use Rattle.store_tables.specs.Queries.{dated_text, due_order}
 use Rattle.store_tables.specs.Queries.{numbers_before_text, numbers_in_text}
 use Rattle.store_tables.specs.Queries.{actors_text, all_from_text, all_to_text, entries_of_text}
 use Rattle.store_tables.specs.Queries.{filed_test, id_order, link_like_text, links_from_test}
@@ -22,10 +23,12 @@ use Rattle.store_tables.specs.Selection.{ends_at, is_filed_in, is_link, is_named
 use Rattle.store_tables.specs.Selection.{is_of_person, links_from, starts_at, tells_of, watches}
 use Rattle.store_tables.specs.Spelling.{count_value, link_columns}
 use Rattle.store_tables.specs.Stays.{is_of}
-use Rattle.store_tables.proofs.EachTable.{actor_table, dated_table, entry_table, link_table, queue_table}
+use Rattle.store_tables.proofs.EachTable.{actor_table, dated_table, entry_table, link_table}
+use Rattle.store_tables.proofs.EachTable.{queue_table}
 use Rattle.store_tables.proofs.EachTable.{request_table, stay_table, watcher_table}
 use Rattle.store_tables.proofs.RowLemmas.{NumbersOn, QueryOn}
-use Rattle.store_tables.proofs.Statements.{dated_before_is, dated_is, dated_numbered_is, numbers_before_is}
+use Rattle.store_tables.proofs.Statements.{dated_before_is, dated_is, dated_numbered_is}
+use Rattle.store_tables.proofs.Statements.{numbers_before_is}
 use Rattle.store_tables.proofs.Statements.{numbers_in_is}
 use Rattle.store_tables.proofs.Statements.{actors_is, all_from_is, all_to_is, entries_of_is}
 use Rattle.store_tables.proofs.Statements.{link_like_is, links_from_is, links_is, queue_named_is}

@@ -26,7 +26,8 @@ use Rattle.store_tables.specs.Spelling.{queue_columns}
 use Rattle.store_tables.specs.Spelling.{request_shown, text_shown}
 use Rattle.store_tables.specs.Spelling.{stay_columns, watcher_columns}
 use Rattle.store_tables.specs.Stays.{StayRow}
-use Rattle.store_tables.proofs.BackLemmas.{dated_back, entry_back, link_back, queue_back, request_back}
+use Rattle.store_tables.proofs.BackLemmas.{dated_back, entry_back, link_back, queue_back}
+use Rattle.store_tables.proofs.BackLemmas.{request_back}
 use Rattle.store_tables.proofs.BackLemmas.{same_count, text_back, watcher_back}
 use Rattle.store_tables.proofs.DatedLemmas.{rows_valid, undated}
 use Rattle.store_tables.proofs.KeptLemmas.{viewed}

@@ -9,7 +9,8 @@ use Rattle.store_tables.specs.Mismatches.{MismatchesInStays, MismatchesInWatcher
 use Rattle.store_tables.specs.Queries.{last_id_terms, last_number_terms}
 use Rattle.store_tables.specs.Reading.{IsNumberRow}
 use Rattle.store_tables.specs.declared.fault.StoreFault.{StoreFault}
-use Rattle.store_tables.proofs.EachTable.{actor_table, dated_table, id_table, link_table, place_table}
+use Rattle.store_tables.proofs.EachTable.{actor_table, dated_table, id_table, link_table}
+use Rattle.store_tables.proofs.EachTable.{place_table}
 use Rattle.store_tables.proofs.EachTable.{queue_table, request_table, stay_table, watcher_table}
 use Rattle.store_tables.proofs.RowLemmas.{refuses}
 

@@ -15,7 +15,8 @@ use Rattle.sqlite_rules.proofs.ProbeLemmas.{has_mapped, mapped_has}
 use Rattle.store_tables.specs.Calls.{FailsIn, OnlyRefuses, ReadsRows, WasClean}
 use Rattle.store_tables.specs.Contents.{Contents}
 use Rattle.store_tables.specs.Kept.{Holds}
-use Rattle.store_tables.specs.Picked.{AreNumbersOf, AreOrdered, AreParts, Lists, passes, shows, Shows}
+use Rattle.store_tables.specs.Picked.{AreNumbersOf, AreOrdered, AreParts, Lists, passes, shows}
+use Rattle.store_tables.specs.Picked.{Shows}
 use Rattle.store_tables.specs.Queries.{last_id_terms, reads}
 use Rattle.store_tables.specs.Reading.{IsNumberRow, ReadsCount}
 use Rattle.store_tables.specs.Spelling.{count_value}
@@ -27,7 +28,8 @@ use Rattle.store_tables.proofs.BackLemmas.{count_back}
 use Rattle.store_tables.proofs.LastLemmas.{has_permuted}
 use Rattle.store_tables.proofs.Meaning.{Selects}
 use Rattle.store_tables.proofs.PickedLemmas.{picked_by}
-use Rattle.store_tables.proofs.ReadLemmas.{all_read, all_shown, lists_values, one_read, shows_values}
+use Rattle.store_tables.proofs.ReadLemmas.{all_read, all_shown, lists_values, one_read}
+use Rattle.store_tables.proofs.ReadLemmas.{shows_values}
 use Rattle.store_tables.proofs.ReadingLemmas.{if_ok, table_rows}
 use Rattle.store_tables.proofs.StandLemmas.{Holding, shown_tables, tables_shown}
 
@@ -67,6 +69,14 @@ pub record TableOf (K V : Type 0) : Type 1 where
   pub kept : (c : Contents) (db : Database) → Tables c db → Holds row value (list c) (db.trees tree)
   pub valid : (c : Contents) (db : Database) → Tables c db → (x : V) → Has (list c) x
       → IsValue (view x)
+
+-- the rows of a query are in the order of their values
+abbrev pub RanksBy : {K V : Type 0} → TableOf K V → List Term → List Term → List Term → Row
+    → (V → V → Ordering) → Type 0
+RanksBy {K} t test terms order params cmp =
+    (a b : K) → output_cmp (reads t.tree test terms order)
+    (output (reads t.tree test terms order) (params ∷ t.row a ∷ []))
+    (output (reads t.tree test terms order) (params ∷ t.row b ∷ [])) ≡ cmp (t.value a) (t.value b)
 
 -- A query on a table: its text, what is bound, which rows pass, and their order.
 pub record QueryOn {K V : Type 0} (t : TableOf K V) : Type 0 where
@@ -187,12 +197,9 @@ parts_fail t q old new clean Reads values r h =
     values old new clean r h
 
 -- A list in an order is what passes of the table, in that order.
-module _ {K V X : Type 0} (t : TableOf K V) (q : QueryOn t) (old new : State)
+module _ {K V : Type 0} (t : TableOf K V) (q : QueryOn t) (old new : State)
     (clean : HasCleanDisk new → HasCleanDisk old) (cmp : V → V → Ordering)
-    (orders : (a b : K) → output_cmp (reads t.tree q.test t.terms q.order)
-    (output (reads t.tree q.test t.terms q.order) (q.params ∷ t.row a ∷ []))
-    (output (reads t.tree q.test t.terms q.order) (q.params ∷ t.row b ∷ []))
-    ≡ cmp (t.value a) (t.value b))
+    (orders : RanksBy t q.test t.terms q.order q.params cmp)
     (c : Contents) (holding : Holding c old) (now : HasCleanDisk new)
   where
     lists_shown : (rows : List Row) → Shown q.text q.params old new rows
@@ -204,7 +211,7 @@ module _ {K V X : Type 0} (t : TableOf K V) (q : QueryOn t) (old new : State)
         (picked_by q.text q.params old new tables.schema t.tree q.test t.terms q.order q.means rows
         h) cmp orders
 
-    pub holds_in_order : (values : X → List V) (result : Result X StoreFault)
+    pub holds_in_order : {X : Type 0} (values : X → List V) (result : Result X StoreFault)
         → ReadsRows t.Reads t.IsValue values q.text q.params old new result
         → IfOk result (λ x. AreOrdered cmp (filter q.passing (t.list c)) (values x))
     holds_in_order values result read = if_ok result
@@ -212,7 +219,7 @@ module _ {K V X : Type 0} (t : TableOf K V) (q : QueryOn t) (old new : State)
         (lists_shown it.0 it.1) it.2) (read.read now)
 
     -- and so is a part of each
-    pub parts_in_order : {Y : Type 0} (part : V → Y) (Reads : Row → Y → Type 0)
+    pub parts_in_order : {X Y : Type 0} (part : V → Y) (Reads : Row → Y → Type 0)
         → ((a : V) (b : Y) → Reads (t.view a) b → b ≡ part a) → (values : X → List Y)
         → (result : Result X StoreFault)
         → ReadsRows Reads t.IsValue values q.text q.params old new result
@@ -224,11 +231,8 @@ module _ {K V X : Type 0} (t : TableOf K V) (q : QueryOn t) (old new : State)
 pub reads_in_order : {K V X : Type 0} (t : TableOf K V) (q : QueryOn t) (values : X → List V)
     (old new : State) (clean : HasCleanDisk new → HasCleanDisk old) (result : Result X StoreFault)
     → ReadsRows t.Reads t.IsValue values q.text q.params old new result → (c : Contents)
-    → Stand c old → HasCleanDisk new → (cmp : V → V → Ordering) → ((a b : K)
-    → output_cmp (reads t.tree q.test t.terms q.order)
-    (output (reads t.tree q.test t.terms q.order) (q.params ∷ t.row a ∷ []))
-    (output (reads t.tree q.test t.terms q.order) (q.params ∷ t.row b ∷ []))
-    ≡ cmp (t.value a) (t.value b))
+    → Stand c old → HasCleanDisk new → (cmp : V → V → Ordering)
+    → RanksBy t q.test t.terms q.order q.params cmp
     → IfOk result (λ x. AreOrdered cmp (filter q.passing (t.list c)) (values x))
 reads_in_order t q values old new clean result read c stand now cmp orders =
     holds_in_order t q old new clean cmp orders c (λ d o. (stand d o).0) now values result read
@@ -268,11 +272,8 @@ module _ {K V X : Type 0} (t : TableOf K V) (q : NumbersOn t) (values : X → Li
     -- the numbers of what passes of the table, in an order
     pub holds_numbers : (r : Result X StoreFault)
         → ReadsRows ReadsCount IsNumberRow values q.text q.params old new r
-        → (c : Contents) → Holding c old → HasCleanDisk new → (cmp : V → V → Ordering) → ((a b : K)
-        → output_cmp (reads t.tree q.test last_id_terms q.order)
-        (output (reads t.tree q.test last_id_terms q.order) (q.params ∷ t.row a ∷ []))
-        (output (reads t.tree q.test last_id_terms q.order) (q.params ∷ t.row b ∷ []))
-        ≡ cmp (t.value a) (t.value b))
+        → (c : Contents) → Holding c old → HasCleanDisk new → (cmp : V → V → Ordering)
+        → RanksBy t q.test last_id_terms q.order q.params cmp
         → IfOk r (λ x. AreNumbersOf q.number cmp (filter q.passing (t.list c)) (values x))
     holds_numbers r read c holding now cmp orders = if_ok r
         (λ x it.
@@ -287,10 +288,7 @@ module _ {K V X : Type 0} (t : TableOf K V) (q : NumbersOn t) (values : X → Li
 
     pub numbers_in_order : (r : Result X StoreFault)
         → ReadsRows ReadsCount IsNumberRow values q.text q.params old new r
-        → (c : Contents) → Stand c old → HasCleanDisk new → (cmp : V → V → Ordering) → ((a b : K)
-        → output_cmp (reads t.tree q.test last_id_terms q.order)
-        (output (reads t.tree q.test last_id_terms q.order) (q.params ∷ t.row a ∷ []))
-        (output (reads t.tree q.test last_id_terms q.order) (q.params ∷ t.row b ∷ []))
-        ≡ cmp (t.value a) (t.value b))
+        → (c : Contents) → Stand c old → HasCleanDisk new → (cmp : V → V → Ordering)
+        → RanksBy t q.test last_id_terms q.order q.params cmp
         → IfOk r (λ x. AreNumbersOf q.number cmp (filter q.passing (t.list c)) (values x))
     numbers_in_order r read c stand = holds_numbers r read c (λ d o. (stand d o).0)

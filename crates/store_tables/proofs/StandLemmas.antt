@@ -27,7 +27,8 @@ use Rattle.store_tables.specs.Making.{AreEmpty, WasBlank, IsBlank, Made}
 use Rattle.store_tables.specs.Stands.{HasTables}
 use Rattle.sqlite.specs.Schema.{Schema}
 use Rattle.store_tables.specs.Tables.{desk_schema, no_schema}
-use Rattle.store_tables.specs.Stands.{Tables, Stand, HoldsNow, Within, Rests, GoesBack, KeepsBase, Ran}
+use Rattle.store_tables.specs.Stands.{Tables, Stand, HoldsNow, Within, Rests, GoesBack, KeepsBase}
+use Rattle.store_tables.specs.Stands.{Ran}
 use Rattle.store_tables.specs.Stands.{FirstHoldsNow, FirstStand, FirstTables}
 
 pub never_both : (r : Result Compiled CompileError) (c : Compiled) → IsPlain r → r ≡ Ok c

@@ -26,7 +26,8 @@ use Rattle.store_tables.specs.Queries.{filed_test, requests_of_text}
 use Rattle.store_tables.specs.Queries.{person_test, standing_order, watches_of_text}
 use Rattle.store_tables.specs.Queries.{version_query, version_text, watchers_of_text, watchers_text}
 use Rattle.store_tables.specs.Queries.{before_test, dated_before_text, dated_numbered_text}
-use Rattle.store_tables.specs.Queries.{dated_shown_terms, dated_text, due_order, last_id_terms, numbers_before_text}
+use Rattle.store_tables.specs.Queries.{dated_shown_terms, dated_text, due_order, last_id_terms}
+use Rattle.store_tables.specs.Queries.{numbers_before_text}
 use Rattle.store_tables.specs.Queries.{numbers_in_text, set_due_terms, set_due_text}
 use Rattle.store_tables.specs.Queries.{add_stay_terms, add_stay_text, dated_of_text, end_stay_terms}
 use Rattle.store_tables.specs.Queries.{end_stay_text, numbers_text, set_version_terms}

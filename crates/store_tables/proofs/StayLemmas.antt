@@ -36,20 +36,21 @@ use Rattle.store_tables.proofs.WriteLemmas.{inserting}
 
 -- ---- their numbers
 
-pub rows_counted : (id n : ℕ) (stays : List Stay) → length (stay_rows_from id n stays) ≡ length stays
+pub rows_counted : (id n : ℕ) (stays : List Stay)
+    → length (stay_rows_from id n stays) ≡ length stays
 rows_counted id n [] = refl
-rows_counted id n (x ∷ stays) = ap (λ m. m + 1) (rows_counted id (n + 1) stays)
+rows_counted id n (x ∷ stays) = ap suc (rows_counted id (n + 1) stays)
 
 -- the one at a place has the number of the first and the place
-pub row_at_place : (id n : ℕ) (stays : List Stay) (i : ℕ) (x : Stay) → i < length stays
-    → x ≡ get_or stays i x
-    → stay_row id (n + i) x ≡ get_or (stay_rows_from id n stays) i (stay_row id (n + i) x)
-row_at_place id n [] i x low is = absurd (omega (arith, low))
-row_at_place id n (y ∷ stays) zero x low is = ap (stay_row id n) is
-row_at_place id n (y ∷ stays) (suc i) x low is =
-    let next : (n + 1) + i ≡ n + suc i = omega arith in
-    subst (λ m. stay_row id m x ≡ get_or (stay_rows_from id (n + 1) stays) i (stay_row id m x)) next
-    (row_at_place id (n + 1) stays i x (omega (arith, low)) is)
+pub row_at_place : (id n m : ℕ) (stays : List Stay) (i : ℕ) (x : Stay) → m ≡ n + i
+    → i < length stays → x ≡ get_or stays i x
+    → stay_row id m x ≡ get_or (stay_rows_from id n stays) i (stay_row id m x)
+row_at_place id n m [] i x place low is = absurd (omega (arith, low))
+row_at_place id n m (y ∷ stays) zero x place low is =
+    let first : m ≡ n = omega (arith, place) in
+    ap (λ k. stay_row id k x) first ∙ ap (stay_row id n) is
+row_at_place id n m (y ∷ stays) (suc i) x place low is =
+    row_at_place id (n + 1) m stays i x (omega (arith, place)) (omega (arith, low)) is
 
 -- ---- the table
 
@@ -63,7 +64,8 @@ stays_now d xs old new t schema m now each = record {
   queues = subst (Keeps queue_columns d.queues) (sym (m.1.0 (apart 1 10 refl))) t.queues;
   requests = subst (Numbers id_of dated_columns d.dated) (sym (m.1.1.0 (apart 3 10 refl)))
       t.requests;
-  watchers = subst (Keeps watcher_columns d.watchers) (sym (m.1.1.1.0 (apart 4 10 refl))) t.watchers;
+  watchers = subst (Keeps watcher_columns d.watchers) (sym (m.1.1.1.0 (apart 4 10 refl)))
+      t.watchers;
   links = subst (Keeps link_columns d.links) (sym (m.1.1.1.1.0 (apart 6 10 refl))) t.links;
   entries = subst (Keeps entry_columns d.entries) (sym (m.1.1.1.1.1.0 (apart 8 10 refl))) t.entries;
   stays = now;
@@ -140,6 +142,7 @@ ended_row : (s : StayRow) (i : ℤ) → cast_row stay
     (Int i ∷ count_value s.request ∷ count_value s.number ∷ Words s.stay.status
     ∷ count_value s.stay.from ∷ or_null count_value s.stay.until ∷ []) ≡ Int i ∷ stay_columns s
 ended_row s i = rw (
+  cast_int i,
   cast_int (pos s.request),
   cast_int (pos s.number),
   cast_int (pos s.stay.from),

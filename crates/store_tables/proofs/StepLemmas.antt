@@ -4,9 +4,10 @@ use Rattle.std.proofs.Common.{ap, fold, get_or, length, refl, subst, sym, take}
 use Rattle.std.proofs.lemmas.List.{take_all}
 use Rattle.sqlite.specs.Order.{Row}
 use Rattle.sqlite.specs.State.{State, HasCleanDisk, Executes}
-use Rattle.store_tables.specs.Calls.{Does, Makes, WasClean}
+use Rattle.store_tables.specs.Calls.{Does, Looks, Makes, WasClean}
 use Rattle.store_tables.specs.Contents.{Contents}
-use Rattle.store_tables.specs.Stands.{HoldsNow, KeepsBase, Ran, RanOnAny, Tables, Within}
+use Rattle.store_tables.specs.Stands.{HasTables, HoldsNow, KeepsBase, Ran, RanOnAny, Tables}
+use Rattle.store_tables.specs.Stands.{Within}
 use Rattle.store_tables.specs.declared.fault.StoreFault.{StoreFault}
 use Rattle.store_tables.proofs.StandLemmas.{fold_more, held, steps, within_next}
 
@@ -63,6 +64,15 @@ does_none x s = record {
   clean = λ clean. clean;
 }
 
+-- a query, over tables that are there
+pub does_look : {X : Type 0} (r : Result X StoreFault) (old new : State) → HasTables old
+    → Looks old new r → Does (λ c. c) old new r
+does_look r old new has looks = record {
+  makes = looks.makes;
+  keeps = looks.keeps has;
+  clean = looks.clean;
+}
+
 -- the last commit beside what is made
 pub makes_within : {X : Type 0} (r : Result X StoreFault) (change : Contents → Contents)
     (old new : State) → Makes change old new r → KeepsBase old new
@@ -95,7 +105,8 @@ module _ {X Y : Type 0} (first second : Contents → Contents) (a b c : State) (
     }
 
     -- and the last one is refused
-    pub does_not : (e : StoreFault) → Does {X = Y} second b c (Err e) → (whole : Contents → Contents)
+    pub does_not : (e : StoreFault) → Does {X = Y} second b c (Err e)
+        → (whole : Contents → Contents)
         → {Z : Type 0} → Does {X = Z} whole a c (Err e)
     does_not e next whole = record {
       makes = λ now holds. tt;

@@ -40,8 +40,9 @@ pub fn dated_requests<S: Alter>(
     )
 }
 
-/// The requests of a queue, by number, each with its due moment. `Mismatch` where a row is no request
-/// or its due moment is neither a minute nor absent, `Refused` where the store or memory refuses it.
+/// The requests of a queue, by number, each with its due moment. `Mismatch` where a row is no
+/// request or its due moment is neither a minute nor absent, `Refused` where the store or memory
+/// refuses it.
 pub fn dated_of<S: Alter>(
     alloc: Global,
     conn: &mut Connection<S>,

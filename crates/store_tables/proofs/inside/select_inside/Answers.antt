@@ -7,7 +7,8 @@ pub returns-in-Ok-clause-looks : goal.returns-in-Ok-clause-looks
 returns-in-Ok-clause-looks g c =
     shown_looks c.args.sql.now (bound c.args.params.now) (state g.S.Store c.args.tx.now.conn.now)
     (state g.S.Store c.query_all.new.self.conn.now) c.requires
-    (was_clean _ _ _ c.query_all.ensures.survives) c.in-Ok.rows c.in-Ok.rows.items c.in-Ok.ensures.ok
+    (was_clean _ _ _ c.query_all.ensures.survives) c.in-Ok.rows c.in-Ok.rows.items
+    c.in-Ok.ensures.ok
 
 pub returns-in-Err-clause-looks : goal.returns-in-Err-clause-looks
 returns-in-Err-clause-looks g c =

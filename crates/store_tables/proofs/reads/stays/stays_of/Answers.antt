@@ -15,8 +15,8 @@ select_all-requires-clause-plain g c = (stays_on c.args.id).means.plain
 
 pub returns-clause-listed : goal.returns-clause-listed
 returns-clause-listed g c d stand clean =
-    parts_in_order stay_table (stays_on c.args.id) (state g.S.Store c.args.conn.now) (state g.S.Store
-    c.select_all.new.conn) c.select_all.ensures.kept.clean by_stay_number
+    parts_in_order stay_table (stays_on c.args.id) (state g.S.Store c.args.conn.now)
+    (state g.S.Store c.select_all.new.conn) c.select_all.ensures.kept.clean by_stay_number
     (stay_number_order_is c.args.id) d (λ k o. (stand k o).0) clean stay_of ReadsStay stay_back
     (λ xs. xs.items) c.select_all.result (rw c.number.ensures.bound at c.select_all.ensures.read)
 
