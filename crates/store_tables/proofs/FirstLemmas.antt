@@ -1,5 +1,5 @@
 -- Tables of version 1, and what they are with a table of stays beside them.
-use Rattle.std.proofs.Common.{◌≡◌, List, [], subst, sym, ◌∙◌}
+use Rattle.std.proofs.Common.{◌≡◌, [], subst, sym, ◌∙◌}
 use Rattle.std.specs.List.{AllByRecursion}
 use Rattle.sqlite.specs.Effect.{Database}
 use Rattle.sqlite.specs.Table.{Table}

@@ -33,7 +33,7 @@ use Rattle.store_tables.specs.Picked.{passes}
 use Rattle.store_tables.specs.Selection.{is_numbered, watches, is_watcher, is_link, links_from}
 use Rattle.store_tables.specs.Selection.{ends_at, is_filed_in, is_named, is_of_person, starts_at}
 use Rattle.store_tables.specs.Selection.{is_due_before, tells_of}
-use Rattle.store_tables.specs.Orders.{by_due, by_id, by_entry, by_number, by_link, by_watcher}
+use Rattle.store_tables.specs.Orders.{by_due, by_id, by_number, by_link, by_watcher}
 use Rattle.store_tables.specs.Orders.{by_role}
 use Rattle.store_tables.specs.Orders.{by_target, by_name, by_standing}
 use Rattle.store_tables.specs.Spelling.{role_number, watcher_columns, link_columns}

@@ -1,6 +1,6 @@
 use Rattle.sqlite.specs.Held.{state}
 use Rattle.store_tables.specs.Orders.{by_stay_number}
-use Rattle.store_tables.specs.Reading.{IsStayRow, ReadsStay}
+use Rattle.store_tables.specs.Reading.{ReadsStay}
 use Rattle.store_tables.specs.Stays.{stay_of}
 use Rattle.store_tables.proofs.BackLemmas.{stay_back}
 use Rattle.store_tables.proofs.EachQuery.{stays_on}

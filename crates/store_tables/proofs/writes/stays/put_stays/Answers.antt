@@ -1,4 +1,4 @@
-use Rattle.std.proofs.Common.{arith, length, rules, subst, sym, ◌≡◌, ◌+◌, ◌<◌, ◌≤◌}
+use Rattle.std.proofs.Common.{arith, length, rules, ◌≡◌, ◌+◌, ◌<◌, ◌≤◌}
 use Rattle.sqlite.specs.Held.{state}
 use Rattle.store_tables.specs.Contents.{add_stay}
 use Rattle.store_tables.specs.Stays.{stay_row, stay_rows}
