@@ -66,7 +66,7 @@ fn run_in_store<S: Backend + Drop, W: Write>(
         × IsCommandsOutput (Ok settings) commands.now text result
         × Prints W.contents output.old output.new text }
 {
-    match store.create_schema() {
+    match store.create_schema(alloc) {
         Ok(()) => run_on_tables(alloc, store, settings, commands, output),
         Err(fault) => {
             drop(settings);
