@@ -2,7 +2,7 @@
 
 use crate::failure::{Failure, count, halves, moment, number};
 use crate::hours::parts::Parts;
-use hours_core::{Calendar, Limit, Minute, Probes, Zone, date_of, minute_text};
+use hours_core::{Calendar, Level, Limit, Minute, Probes, Stay, Zone, date_of, minute_text};
 
 /// Writes the line and the answer of the call that it spells.
 pub fn answer(
@@ -46,6 +46,7 @@ fn asked(
         }
         "due_at_once" => due(rt, parts, calendar, line, words, true),
         "due" => due(rt, parts, calendar, line, words, false),
+        "dues" => dues(rt, parts, calendar, line, words),
         "bounded" => bounded(rt, calendar, line, words),
         "greatest" => greatest(rt, calendar, line, words),
         "ends" => ends(rt, calendar, line, words),
@@ -128,14 +129,53 @@ fn due(
     start_immediately: bool,
 ) -> Result<(), Failure> {
     let (from, limit) = halves(words, ' ')?;
-    let limit = match halves(limit, ' ')? {
-        ("real", n) => Limit::RealMinutes(count(n)?),
-        ("business", n) => Limit::BusinessMinutes(count(n)?),
-        _ => return Err(Failure::BadLine),
-    };
+    let limit = limit_of(limit)?;
     let level = parts.level(rt.alloc(), start_immediately)?;
     let due = level.limit_due(calendar, moment(from)?, limit, parts.stays());
     show(rt, line, due)
+}
+
+/// `real N` or `business N`
+fn limit_of(words: &str) -> Result<Limit, Failure> {
+    match halves(words, ' ')? {
+        ("real", n) => Ok(Limit::RealMinutes(count(n)?)),
+        ("business", n) => Ok(Limit::BusinessMinutes(count(n)?)),
+        _ => Err(Failure::BadLine),
+    }
+}
+
+/// Counts a limit from each of so many minutes on, a day's round and round, and writes the sum of
+/// the moments at which it is due. So one line measures many calls.
+fn dues(
+    rt: &(impl AllocGlobal + Print),
+    parts: &Parts,
+    calendar: &Calendar,
+    line: &str,
+    words: &str,
+) -> Result<(), Failure> {
+    let (from, rest) = halves(words, ' ')?;
+    let (limit, calls) = rest.rsplit_once(' ').ok_or(Failure::BadLine)?;
+    let (from, limit) = (count(from)?, limit_of(limit)?);
+    let level = parts.level(rt.alloc(), false)?;
+    let mut sum = 0u64;
+    for call in 0..count(calls)? {
+        let from = from.saturating_add(call % 1440);
+        if let Some(due) = due_from(&level, calendar, from, limit, parts.stays()) {
+            sum = sum.wrapping_add(due.get() as u64);
+        }
+    }
+    println!(rt; "{line}: {sum}")?;
+    Ok(())
+}
+
+fn due_from(
+    level: &Level,
+    calendar: &Calendar,
+    from: u32,
+    limit: Limit,
+    stays: &[Stay],
+) -> Option<Minute> {
+    level.limit_due(calendar, Minute::new(from)?, limit, stays)
 }
 
 /// The spans that `first_open_counted` and `add_open_counted` of 60 read at the minute.
