@@ -1,6 +1,6 @@
 -- the numbers rise, so those of the request stand side by side
 use Rattle.std.proofs.Common.{◌≡◌, ◌∙◌, ◌-◌, List, ℕ, ap, arith, drop, length, rules, subst, sym}
-use Rattle.std.proofs.Common.{take}
+use Rattle.std.proofs.Common.{false, take, true}
 use Rattle.std.specs.List.Sorted.{IsNonDecreasingBy, IsPartitionPoint}
 use Rattle.std.specs.Prelude.{nat_le, nat_lt}
 use Rattle.std.proofs.lemmas.List.{length-drop, take_all}
