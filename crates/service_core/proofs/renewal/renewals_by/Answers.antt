@@ -1,6 +1,6 @@
-use Rattle.std.proofs.Common.{◌≡◌, ◌∙◌, ◌<◌, ◌++◌, [], ◌∷◌, ap, ap₂, cond, length, not, refl, Option, ℕ}
-use Rattle.std.proofs.Common.{rules, sym}
-use Rattle.std.proofs.lemmas.List.{append-nil, take_all}
+use Rattle.std.proofs.Common.{◌≡◌, ◌∙◌, ◌<◌, ◌++◌, [], ◌∷◌, ap, cond, length, not, Option, ℕ}
+use Rattle.std.proofs.Common.{rules}
+use Rattle.std.proofs.lemmas.List.{take_all}
 use Rattle.service_core.specs.Renewing as renewing
 use Rattle.service_core.proofs.RenewedDues.{none_put, one_put, renewals_more}
 use Rattle.service_core.proofs.renewal.renewals_by.Goals as goal
