@@ -105,7 +105,8 @@ stays_found desk id is = found_among id 1 desk.requests is.requests
 
 -- ---- their order
 
-numbers_beside : (n : ℕ) (ss : List Stay) → AllByRecursion (λ m. n ≤ m) (map (λ p. p.0) (beside n ss))
+numbers_beside : (n : ℕ) (ss : List Stay)
+    → AllByRecursion (λ m. n ≤ m) (map (λ p. p.0) (beside n ss))
 numbers_beside n [] = tt
 numbers_beside n (s ∷ ss) = (omega arith, numbers_beside n ss)
 

@@ -20,7 +20,8 @@ returns c all rise parts =
     let rest = take (length ns - i) (drop i ns) in
     let whole : rest ≡ drop i ns =
     take_all (length ns - i) (drop i ns) (omega (arith, length-drop i ns)) in
-    let up : IsNonDecreasingBy (λ n. n) ns = subst (IsNonDecreasingBy (λ n. n)) (sym parts.0) rise in
+    let up : IsNonDecreasingBy (λ n. n) ns =
+    subst (IsNonDecreasingBy (λ n. n)) (sym parts.0) rise in
     let first = IsPartitionPoint-from_clause (λ n. nat_lt n id) ns i
     c.partition_point-start.ensures.partitioned (IsPartitionedBy-ltb (λ n. n) ns id up)
     (λ a r f' k. search rules) in
