@@ -1,6 +1,6 @@
 -- What CREATE TABLE makes.
 use Rattle.std.proofs.Common.{◌≡◌, ◌⊎◌, ℕ, inl, inr, true, false, IsTrue, List, [], ◌∷◌, ◌++◌, None}
-use Rattle.std.proofs.Common.{Ok, sym, ap, subst, ◌∙◌, refl, arith, length}
+use Rattle.std.proofs.Common.{IfSome, Ok, Option, Some, sym, ap, subst, ◌∙◌, refl, arith, length}
 use Rattle.std.specs.List.{AllByRecursion}
 use Rattle.sqlite.specs.Table.{Table}
 use Rattle.sqlite.specs.Schema.{Schema}
@@ -222,6 +222,13 @@ pub blamed_before : (old new : State) → IsGrown old.now new.now → IsBlamed n
 blamed_before old new grown (inl bad) =
     inl (bad.0, subst (λ rows. Has rows bad.0) (grown_meta old.now new.now grown) bad.1, bad.2)
 blamed_before old new grown (inr first) = inr (of_meta_before old new 1 grown first)
+
+-- the version that was read is the first
+pub first_blamed : (v : Option ℕ) (n : ℕ) (s : State) → v ≡ Some n → n ≡ 1
+    → IfSome v (IsOfMeta s) → IsBlamed s
+first_blamed None n s some one of = cc
+first_blamed (Some m) n s some one of =
+    let same : m ≡ n = cc in inr (subst (IsOfMeta s) (same ∙ one) of)
 
 -- ---- the whole transaction
 
