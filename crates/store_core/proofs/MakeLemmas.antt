@@ -1,6 +1,6 @@
 -- What CREATE TABLE makes.
 use Rattle.std.proofs.Common.{◌≡◌, ◌⊎◌, ℕ, inl, inr, true, false, IsTrue, List, [], ◌∷◌, ◌++◌, None}
-use Rattle.std.proofs.Common.{IfSome, Ok, Option, Some, sym, ap, subst, ◌∙◌, refl, arith, length}
+use Rattle.std.proofs.Common.{Err, IfSome, Ok, OnErr, Option, Result, Some, sym, ap, subst, ◌∙◌, refl, arith, length}
 use Rattle.std.specs.List.{AllByRecursion}
 use Rattle.sqlite.specs.Table.{Table}
 use Rattle.sqlite.specs.Schema.{Schema}
@@ -29,7 +29,7 @@ use Rattle.store_tables.specs.Picked.{shows}
 use Rattle.store_tables.specs.Queries.{version_shown}
 use Rattle.store_tables.proofs.WriteLemmas.{went, same_value}
 use Rattle.store_core.specs.Migrating.{EitherHolds, EitherStand, EitherTables, Grows, HasEither}
-use Rattle.store_core.specs.Migrating.{IsBlamed, IsGrown, SixTables, Unmoved}
+use Rattle.store_core.specs.Migrating.{IsBlamed, IsGrown, LeavesEither, SixTables, Unmoved}
 
 -- what the check computes of the text of a CREATE TABLE
 pub record Creates (base next : Schema) (text : List ℕ) (table : Table) : Type 0 where
@@ -274,3 +274,13 @@ back_either c old new stand back d o =
     let it = back d o in
     let was = (stand it.0 it.1).1 in
     (subst (EitherTables c) (sym it.2) was, subst (EitherTables c) (sym it.3) was)
+
+pub at_fault : {X E P Q : Type 0} (r : Result X E) → (P → Q) → OnErr r P → OnErr r Q
+at_fault (Ok x) f h = h
+at_fault (Err e) f h = f h
+
+pub left_either : {X E : Type 0} (r : Result X E) (old new : State)
+    → ((c : Contents) → EitherStand c old → OnErr r (GoesBack old new))
+    → OnErr r (LeavesEither old new)
+left_either (Ok x) old new back = tt
+left_either (Err e) old new back = λ c stand. back_either c old new stand (back c stand)
