@@ -1,7 +1,7 @@
 use Rattle.std.proofs.Common.{subst, sym}
 use Rattle.store_tables.specs.Reading.{IsNumberRow}
 use Rattle.store_tables.proofs.ReadingLemmas.{if_err}
-use Rattle.store_core.proofs.making.read_version.Goals as goal
+use Rattle.store_core.proofs.version.read_version.Goals as goal
 
 pub returns-clause-mismatch : goal.returns-clause-mismatch
 returns-clause-mismatch g c =

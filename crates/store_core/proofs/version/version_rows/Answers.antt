@@ -3,11 +3,11 @@ use Rattle.sqlite.specs.Held.{state}
 use Rattle.store_tables.specs.Queries.{version_shown, version_text}
 use Rattle.store_tables.specs.Tables.{desk_schema}
 use Rattle.store_tables.proofs.ReadingLemmas.{table_rows}
-use Rattle.store_tables.proofs.StandLemmas.{failed_keeps, same_made, same_within, shown_keeps}
+use Rattle.store_tables.proofs.StandLemmas.{failed_keeps, same_holds, same_made, shown_keeps}
 use Rattle.store_tables.proofs.StandLemmas.{shown_open, shown_same, was_clean}
 use Rattle.store_tables.proofs.Statements.{version_is}
 use Rattle.store_tables.proofs.VersionLemmas.{shows_none, shows_version}
-use Rattle.store_core.proofs.making.version_rows.Goals as goal
+use Rattle.store_core.proofs.version.version_rows.Goals as goal
 
 pub returns-in-Ok-clause-none : goal.returns-in-Ok-clause-none
 returns-in-Ok-clause-none g c made clean =
@@ -17,11 +17,11 @@ returns-in-Ok-clause-none g c made clean =
     (c.in-Ok.ensures.ok clean)
 
 pub returns-in-Ok-clause-one : goal.returns-in-Ok-clause-one
-returns-in-Ok-clause-one g c now was within clean =
+returns-in-Ok-clause-one g c now holds clean =
     let old = state g.S.Store c.args.tx.now.conn.now in
     let new = state g.S.Store c.query_all.new.self.conn.now in
     let shown = c.in-Ok.ensures.ok clean in
-    let before = within (was_clean _ _ _ c.query_all.ensures.survives clean)
+    let before = holds (was_clean _ _ _ c.query_all.ensures.survives clean)
     (shown_open version_text [] old new c.in-Ok.rows.items shown) in
     shows_version now old new before.0 c.in-Ok.rows.items shown
 
@@ -36,13 +36,13 @@ returns-in-Ok-clause-made g c made clean live =
     (shown_same version_text [] old new c.in-Ok.rows.items version_is.plain before.0 shown) before
 
 pub returns-in-Ok-clause-there : goal.returns-in-Ok-clause-there
-returns-in-Ok-clause-there g c now was within clean live =
+returns-in-Ok-clause-there g c now holds clean live =
     let old = state g.S.Store c.args.tx.now.conn.now in
     let new = state g.S.Store c.query_all.new.self.conn.now in
     let shown = c.in-Ok.ensures.ok clean in
-    let before = within (was_clean _ _ _ c.query_all.ensures.survives clean)
+    let before = holds (was_clean _ _ _ c.query_all.ensures.survives clean)
     (shown_open version_text [] old new c.in-Ok.rows.items shown) in
-    same_within now was old new (shown_same version_text [] old new c.in-Ok.rows.items
+    same_holds now old new (shown_same version_text [] old new c.in-Ok.rows.items
     version_is.plain before.0.schema shown) before
 
 pub returns-in-Ok-clause-keeps : goal.returns-in-Ok-clause-keeps
