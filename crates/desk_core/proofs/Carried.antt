@@ -44,8 +44,11 @@ none_next desk is =
     as (λ o. request_at desk id ≡ o → o ≡ None) [
       | None ↦ λ there. refl
       | Some r ↦ λ there.
-          absurd (omega (arith, number_found desk id r there,
-          number_within 1 id desk.requests r is.requests there))
+          absurd (omega (
+            arith,
+            number_found desk id r there,
+            number_within 1 id desk.requests r is.requests there,
+          ))
     ] refl
 
 -- the stays of a request after a change of its entries alone

@@ -1,7 +1,7 @@
 -- What a person's own watches and the rows tell of the requests of a desk.
 use Rattle.std.proofs.Common.{◌≡◌, ◌∙◌, ℕ, ◌+◌, ◌≤◌, ◌<◌, ◌==◌, zero, suc, Bool, true, false, ◌&&◌}
 use Rattle.std.proofs.Common.{◌||◌, cond, List, [], ◌∷◌, filter, find, flat_map, map}
-use Rattle.std.proofs.Common.{Option, Some, inl, inr, refl, ap, ap₂, sym, arith}
+use Rattle.std.proofs.Common.{Some, inl, inr, refl, ap, ap₂, sym, arith}
 use Rattle.std.proofs.Common.{rules, ◌⊎◌}
 use Rattle.std.specs.List.{AllByRecursion, list_any}
 use Rattle.std.specs.Option.{option_map_or}

@@ -131,7 +131,8 @@ pub renewed_dues : (s : Settings) (desk : Desk) (due : RequestRow → Option ℕ
     ≡ contents_of (due_of_row s desk) desk
 renewed_dues s desk due is =
     let stays = all_stays desk in
-    let dues = dues_but (renewals s desk.queues stays (map (dated_by due) (request_rows desk))) due in
+    let dues =
+    dues_but (renewals s desk.queues stays (map (dated_by due) (request_rows desk))) due in
     ap (λ (ds : List Dated). record (contents_of due desk) { dated = ds })
     (same_pairs dues (due_of_row s desk) desk.requests
     (each_so (λ r. dues r.row ≡ due_by s desk.queues stays r.row)

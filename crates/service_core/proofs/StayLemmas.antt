@@ -1,5 +1,5 @@
 -- The stays of a request are a stretch of the stays of all.
-use Rattle.std.proofs.Common.{◌≡◌, ◌∙◌, ◌+◌, ◌<◌, ◌≤◌, ◌==◌, ℕ, zero, suc, true, false, cond}
+use Rattle.std.proofs.Common.{◌≡◌, ◌∙◌, ◌+◌, ◌<◌, ◌≤◌, ◌==◌, ℕ, zero, suc, true, false}
 use Rattle.std.proofs.Common.{List, [], ◌∷◌, ◌++◌, drop, filter, find, flat_map, length, map, take}
 use Rattle.std.proofs.Common.{inl, inr, refl, ap, ap₂, sym, subst, arith, append-nil}
 use Rattle.std.specs.List.{AllByRecursion, AllWithin}
@@ -18,7 +18,7 @@ use Rattle.desk_model.specs.Facts.{stays_at}
 use Rattle.desk_model.specs.IsDesk.{IsDesk, are_numbered}
 use Rattle.desk_model.specs.Stays.{stays_of}
 use Rattle.desk_lists.proofs.Reported.{not_falling}
-use Rattle.store_tables.specs.Stays.{StayRow, request_stay, stay_rows, stay_rows_from}
+use Rattle.store_tables.specs.Stays.{request_stay, stay_rows, stay_rows_from}
 use Rattle.service_core.specs.Renewing.{AreApart, StaysRise, all_stays, stays_among}
 
 -- ---- of one request
@@ -105,7 +105,8 @@ stays_found desk id is = found_among id 1 desk.requests is.requests
 
 -- ---- their order
 
-numbers_beside : (n : ℕ) (ss : List Stay) → AllByRecursion (λ m. n ≤ m) (map (λ p. p.0) (beside n ss))
+numbers_beside : (n : ℕ) (ss : List Stay)
+    → AllByRecursion (λ m. n ≤ m) (map (λ p. p.0) (beside n ss))
 numbers_beside n [] = tt
 numbers_beside n (s ∷ ss) = (omega arith, numbers_beside n ss)
 

@@ -14,6 +14,7 @@ pub mod Renewed
 pub mod Revised
 pub mod RoleRows
 pub mod RiseLemmas
+pub mod RunLemmas
 pub mod StandsAlike
 pub mod StayRows
 pub mod StaysWritten

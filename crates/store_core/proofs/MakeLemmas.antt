@@ -1,6 +1,6 @@
 -- What CREATE TABLE makes.
 use Rattle.std.proofs.Common.{◌≡◌, ◌⊎◌, ℕ, inl, inr, true, false, IsTrue, List, [], ◌∷◌, ◌++◌, None}
-use Rattle.std.proofs.Common.{Ok, sym, ap, subst, ◌∙◌, refl, arith, length}
+use Rattle.std.proofs.Common.{Err, IfSome, Ok, OnErr, Option, Result, Some, sym, ap, subst, ◌∙◌, refl, arith, length}
 use Rattle.std.specs.List.{AllByRecursion}
 use Rattle.sqlite.specs.Table.{Table}
 use Rattle.sqlite.specs.Schema.{Schema}
@@ -29,7 +29,7 @@ use Rattle.store_tables.specs.Picked.{shows}
 use Rattle.store_tables.specs.Queries.{version_shown}
 use Rattle.store_tables.proofs.WriteLemmas.{went, same_value}
 use Rattle.store_core.specs.Migrating.{EitherHolds, EitherStand, EitherTables, Grows, HasEither}
-use Rattle.store_core.specs.Migrating.{IsBlamed, IsGrown, SixTables, Unmoved}
+use Rattle.store_core.specs.Migrating.{IsBlamed, IsGrown, LeavesEither, SixTables, Unmoved}
 
 -- what the check computes of the text of a CREATE TABLE
 pub record Creates (base next : Schema) (text : List ℕ) (table : Table) : Type 0 where
@@ -223,6 +223,13 @@ blamed_before old new grown (inl bad) =
     inl (bad.0, subst (λ rows. Has rows bad.0) (grown_meta old.now new.now grown) bad.1, bad.2)
 blamed_before old new grown (inr first) = inr (of_meta_before old new 1 grown first)
 
+-- the version that was read is the first
+pub first_blamed : (v : Option ℕ) (n : ℕ) (s : State) → v ≡ Some n → n ≡ 1
+    → IfSome v (IsOfMeta s) → IsBlamed s
+first_blamed None n s some one of = cc
+first_blamed (Some m) n s some one of =
+    let same : m ≡ n = cc in inr (subst (IsOfMeta s) (same ∙ one) of)
+
 -- ---- the whole transaction
 
 module _ {S : Type 0} (g : Ghosts S) (old tx : Held S)
@@ -267,3 +274,13 @@ back_either c old new stand back d o =
     let it = back d o in
     let was = (stand it.0 it.1).1 in
     (subst (EitherTables c) (sym it.2) was, subst (EitherTables c) (sym it.3) was)
+
+pub at_fault : {X E P Q : Type 0} (r : Result X E) → (P → Q) → OnErr r P → OnErr r Q
+at_fault (Ok x) f h = h
+at_fault (Err e) f h = f h
+
+pub left_either : {X E : Type 0} (r : Result X E) (old new : State)
+    → ((c : Contents) → EitherStand c old → OnErr r (GoesBack old new))
+    → OnErr r (LeavesEither old new)
+left_either (Ok x) old new back = tt
+left_either (Err e) old new back = λ c stand. back_either c old new stand (back c stand)

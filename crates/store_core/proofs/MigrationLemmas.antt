@@ -1,5 +1,5 @@
 -- The stays that are filled in are those of the desk.
-use Rattle.std.proofs.Common.{◌≡◌, ◌∙◌, ◌==◌, ℕ, List, [], ◌∷◌, ◌++◌, map, flat_map, find, fold}
+use Rattle.std.proofs.Common.{◌≡◌, ◌∙◌, ◌==◌, ℕ, List, [], ◌∷◌, ◌++◌, map, filter, flat_map, find, fold}
 use Rattle.std.proofs.Common.{append-nil, append_assoc, Option, Some, None, refl, ap, ap₂, sym, subst}
 use Rattle.std.proofs.Common.{IsPermutation}
 use Rattle.std.specs.List.{All}
@@ -12,18 +12,20 @@ use Rattle.desk_model.specs.Desk.{Desk, Request, request_at}
 use Rattle.desk_model.specs.Facts.{stays_at}
 use Rattle.desk_model.specs.IsDesk.{IsDesk, ids}
 use Rattle.desk_model.specs.Stays.{stays_of}
+use Rattle.desk_model.specs.declared.rows.Entry.{Entry}
 use Rattle.desk_model.specs.declared.rows.RequestRow.{RequestRow}
 use Rattle.desk_core.proofs.EachRequest.{found_each}
 use Rattle.store_tables.specs.Contents.{Contents, add_stay, contents_of, first_contents_of}
 use Rattle.store_tables.specs.Contents.{history_at, request_rows, requests, set_version}
 use Rattle.store_tables.specs.Dated.{row_of}
-use Rattle.store_tables.specs.Orders.{by_id}
+use Rattle.store_tables.specs.Orders.{by_id, by_number}
 use Rattle.store_tables.specs.Picked.{AreNumbersOf, AreOrdered}
-use Rattle.store_tables.specs.Selection.{number_of}
+use Rattle.store_tables.specs.Selection.{number_of, tells_of}
 use Rattle.store_tables.specs.Stays.{StayRow, stay_rows, stays}
 use Rattle.store_tables.proofs.DatedLemmas.{rows_dated}
 use Rattle.store_core.specs.Migrating.{stays_filled}
 use Rattle.store_core.specs.Written.{AreAlike}
+use Rattle.store_core.proofs.HistoryLemmas.{the_history}
 use Rattle.store_core.proofs.OrderLemmas.{the_requests}
 use Rattle.store_core.proofs.RiseLemmas.{requests_rise}
 
@@ -128,3 +130,11 @@ told_stays desk id = by_found (request_at desk id)
         → stays_of (option_map_or (λ r. r.entries) o []) ≡ option_map_or (λ r. stays_of r.entries) o []
     by_found None = refl
     by_found (Some r) = refl
+
+pub one_told : (due : RequestRow → Option ℕ) (desk : Desk) (c : Contents) (id : ℕ) → IsDesk desk
+    → c.entries ≡ (contents_of due desk).entries → (es : List Entry)
+    → AreOrdered by_number (filter (tells_of id) c.entries) es → stays_of es ≡ stays_at desk id
+one_told due desk c id is same es h =
+    ap stays_of (the_history desk is id es
+    (subst (λ all. AreOrdered by_number (filter (tells_of id) all) es) same h))
+    ∙ told_stays desk id

@@ -173,7 +173,7 @@ fn put_last<S: Alter>(
     last: Option<&Stay>,
 ) -> Result<(), StoreFault>
     ensures same_reference { tx.new.conn.ghost_name ≡ tx.old.conn.ghost_name }
-    ensures put { Does (spec.stay_put id number (option_copied last))
+    ensures put { Does (spec.stay_put id number (option_copied last.entry))
         (state S.Store tx.old.conn.now) (state S.Store tx.new.conn.now) result }
     ensures fault { IfErr result (λ e. e ≡ StoreFault.Refused) }
 {

@@ -1,5 +1,5 @@
 -- the settings know what was read, and what was read is renewed
-use Rattle.std.proofs.Common.{◌∙◌, ◌≡◌, Err, Ok, false, rules, subst, sym, true}
+use Rattle.std.proofs.Common.{◌∙◌, ◌≡◌, Err, rules, subst, sym}
 use Rattle.std.specs.Prelude.{⊤}
 use Rattle.desk_reports.specs.Rows.{QueuesRise}
 use Rattle.store_core.specs.Seen.{state_of}

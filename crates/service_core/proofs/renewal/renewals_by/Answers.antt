@@ -1,10 +1,11 @@
-use Rattle.std.proofs.Common.{◌≡◌, ◌∙◌, ◌<◌, ◌++◌, [], ◌∷◌, ap, ap₂, cond, length, not, refl, Option, ℕ}
-use Rattle.std.proofs.Common.{rules, sym}
-use Rattle.std.proofs.lemmas.List.{append-nil, take_all}
+use Rattle.std.proofs.Common.{◌≡◌, ◌∙◌, ◌<◌, ◌++◌, [], ◌∷◌, ap, cond, length, not, Option, ℕ}
+use Rattle.std.proofs.Common.{rules}
+use Rattle.std.proofs.lemmas.List.{take_all}
 use Rattle.service_core.specs.Renewing as renewing
 use Rattle.service_core.proofs.RenewedDues.{none_put, one_put, renewals_more}
 use Rattle.service_core.proofs.renewal.renewals_by.Goals as goal
-use Rattle.service_core.proofs.renewal.renewals_by.Goals.{then-not-is_same_moment+in_ok-push, else-not-is_same_moment}
+use Rattle.service_core.proofs.renewal.renewals_by.Goals.{then-not-is_same_moment+in_ok-push}
+use Rattle.service_core.proofs.renewal.renewals_by.Goals.{else-not-is_same_moment}
 
 pub loop-row-init : goal.loop-row-init
 loop-row-init c = λ all rises up parts. search rules
@@ -36,7 +37,8 @@ loop-row-preserved c = λ all rises up parts.
     pushed ∙ ap (λ (m : Option ℕ). c.loop-row.dues.items ++ cond b ((item.0.id, m) ∷ []) []) due in
     renewals_more s queues all c.args.dated.now c.loop-row.row-index item b c.loop-row.dues.items
     c.if-not-is_same_moment.dues.items low
-    (rw c.loop-row-item.is at stale) (rw c.loop-row-item.is at more) (c.loop-row.invariant all rises up parts)
+    (rw c.loop-row-item.is at stale) (rw c.loop-row-item.is at more)
+    (c.loop-row.invariant all rises up parts)
 
 pub returns : goal.returns
 returns c = λ all rises up parts.

@@ -1,6 +1,6 @@
 -- the numbers rise, so those of the request stand side by side
 use Rattle.std.proofs.Common.{◌≡◌, ◌∙◌, ◌-◌, List, ℕ, ap, arith, drop, length, rules, subst, sym}
-use Rattle.std.proofs.Common.{take}
+use Rattle.std.proofs.Common.{false, take, true}
 use Rattle.std.specs.List.Sorted.{IsNonDecreasingBy, IsPartitionPoint}
 use Rattle.std.specs.Prelude.{nat_le, nat_lt}
 use Rattle.std.proofs.lemmas.List.{length-drop, take_all}
@@ -20,7 +20,8 @@ returns c all rise parts =
     let rest = take (length ns - i) (drop i ns) in
     let whole : rest ≡ drop i ns =
     take_all (length ns - i) (drop i ns) (omega (arith, length-drop i ns)) in
-    let up : IsNonDecreasingBy (λ n. n) ns = subst (IsNonDecreasingBy (λ n. n)) (sym parts.0) rise in
+    let up : IsNonDecreasingBy (λ n. n) ns =
+    subst (IsNonDecreasingBy (λ n. n)) (sym parts.0) rise in
     let first = IsPartitionPoint-from_clause (λ n. nat_lt n id) ns i
     c.partition_point-start.ensures.partitioned (IsPartitionedBy-ltb (λ n. n) ns id up)
     (λ a r f' k. search rules) in

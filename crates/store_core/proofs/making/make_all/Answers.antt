@@ -1,0 +1,34 @@
+use Rattle.sqlite.specs.Held.{state}
+use Rattle.store_tables.specs.Contents.{first_contents_of}
+use Rattle.store_tables.proofs.ReadingLemmas.{if_err}
+use Rattle.store_core.proofs.MakeLemmas.{blamed_before, grown_there, holds_grown, of_meta_before}
+use Rattle.store_core.proofs.making.make_all.Goals as goal
+
+pub returns-clause-brings : goal.returns-clause-brings
+returns-clause-brings g c desk is due holds =
+    c.bring_up.ensures.brings desk is due
+    (holds_grown (first_contents_of due desk) (state g.S.Store c.args.tx.now.conn.now)
+    (state g.S.Store c.make_tables.new.tx.conn.now) c.make_tables.ensures.honest
+    c.in_ok-make_tables.ensures.grows holds)
+
+pub returns-clause-mismatch : goal.returns-clause-mismatch
+returns-clause-mismatch g c =
+    let old = state g.S.Store c.args.tx.now.conn.now in
+    let middle = state g.S.Store c.make_tables.new.tx.conn.now in
+    if_err c.bring_up.result (λ e why wrong has clean.
+    let grown = c.in_ok-make_tables.ensures.grows in
+    blamed_before old middle (grown has (c.bring_up.ensures.on.clean clean)).1
+    (why wrong (grown_there old middle grown has) clean))
+    c.bring_up.ensures.mismatch
+
+pub returns-clause-blames : goal.returns-clause-blames
+returns-clause-blames g c has clean =
+    let old = state g.S.Store c.args.tx.now.conn.now in
+    let middle = state g.S.Store c.make_tables.new.tx.conn.now in
+    let grown = c.in_ok-make_tables.ensures.grows in
+    if_err c.bring_up.result (λ e why wrong. let it = why wrong in (
+      it.0,
+      of_meta_before old middle it.0 (grown has (c.bring_up.ensures.on.clean clean)).1 it.1,
+      it.2,
+    ))
+    (c.bring_up.ensures.blames (grown_there old middle grown has) clean)
