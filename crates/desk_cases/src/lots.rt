@@ -63,10 +63,10 @@ pub(crate) fn draw(
     Ok((list, number))
 }
 
-/// Which line a command is made of: the first one of the first four, the next one of the first
-/// eight, and so on.
+/// Which line a command is made of: the first command of the first line, the next one of the first
+/// two, and so on.
 fn place_at(number: u32, i: u32, count: usize) -> usize {
-    let most = (i as usize).saturating_add(1).saturating_mul(4).min(count);
+    let most = (i as usize).saturating_add(1).min(count);
     ((number / 65_536) as usize).checked_rem(most).unwrap_or(0)
 }
 

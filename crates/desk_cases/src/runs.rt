@@ -81,8 +81,8 @@ fn run_in<D: Disk + Drop>(alloc: Global, way: &Way<'_>, store: Store<FileStore<D
     }
 }
 
-/// Goes on with what the files hold: what is found there, and whether all commands are done then and
-/// leave the rows that they leave in memory.
+/// Goes on with what the files hold: what is found there, and whether all commands are done then
+/// and leave the rows that they leave in memory.
 pub(crate) fn go_on<D: Disk + Drop>(
     alloc: Global,
     way: &Way<'_>,
@@ -146,8 +146,8 @@ fn follow_on<S: Backend>(
 }
 
 /// Asks the commands from that one on: how many are answered. The first one that isn't has to be
-/// `Unavailable`, and those after it refused, since a refusal may need no disk. None where an answer
-/// is another one.
+/// `Unavailable`, and those after it refused, since a refusal may need no disk. None where an
+/// answer is another one.
 fn reached_on<S: Backend>(
     alloc: Global,
     course: &Course<'_>,

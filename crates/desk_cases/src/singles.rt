@@ -2,11 +2,14 @@
 
 use crate::ASKED;
 use crate::changes::number;
+use crate::disks::closed;
 use crate::expansion::{Named, expanded};
 use crate::failure::Failure;
 use crate::stores::opened;
 use crate::streams::Faltering;
 use desk_program::{OneEnded, run_one_whole};
+use sqlite::{Connection, FileStore};
+use sqlite_disk::Disk;
 use std::str;
 use store_core::{Backend, Store};
 use wire_core::words_of;
@@ -17,7 +20,8 @@ pub(crate) const SINGLES: &str = "$$\n";
 /// Runs each command by itself with the settings, on the tables that the one before left; the first
 /// one on those that the statements make. Each is written with its status and whether a write
 /// failed, and then its text and a line feed. A line `writer_fails N` states that the first one's
-/// writer takes a byte at a time, and fails after N writes.
+/// writer takes a byte at a time, and fails after N writes; a line `on_file PATH` that the tables
+/// are in that file, which is opened anew for each command.
 pub(crate) fn run_case(
     rt: &HostRuntime,
     named: &[Named<'_>],
@@ -28,12 +32,50 @@ pub(crate) fn run_case(
     let case = str::from_utf8(case.as_slice()).unwrap_or("");
     let (before, commands) = case.split_once(SINGLES).ok_or(Failure::BadLine)?;
     let (statements, settings) = before.split_once(ASKED).ok_or(Failure::BadLine)?;
+    match streams.trim_end().strip_prefix("on_file ") {
+        Some(path) => run_on_file(rt, settings, path, commands),
+        None => run_in_memory(rt, statements, settings, commands, streams),
+    }
+}
+
+fn run_in_memory(
+    rt: &HostRuntime,
+    statements: &str,
+    settings: &str,
+    commands: &str,
+    streams: &str,
+) -> Result<(), Failure> {
     let mut store = opened(rt.alloc(), statements)?;
     let mut fails_at = write_that_fails(streams)?;
     for line in commands.lines() {
         store = run_line(rt, settings, store, line, fails_at)?;
         fails_at = u32::MAX;
     }
+    Ok(())
+}
+
+/// Runs each command over the tables in a file, which is opened for it and closed after it.
+fn run_on_file(
+    rt: &HostRuntime,
+    settings: &str,
+    path: &str,
+    commands: &str,
+) -> Result<(), Failure> {
+    for line in commands.lines() {
+        let store = Store::adopt(Connection::open(rt, path)?);
+        run_and_close(rt, settings, store, line)?;
+    }
+    Ok(())
+}
+
+fn run_and_close<D: Disk + Drop>(
+    rt: &HostRuntime,
+    settings: &str,
+    store: Store<FileStore<D>>,
+    line: &str,
+) -> Result<(), Failure> {
+    let store = run_line(rt, settings, store, line, u32::MAX)?;
+    drop(closed(store));
     Ok(())
 }
 

@@ -18,11 +18,11 @@ pub(crate) struct Stop {
     pub(crate) loses: bool,
 }
 
-/// Stops a disk at its first call, at its second, and so on, until a run meets no stop. Each time the
-/// files are opened again. What is found then are the tables after the commands that were answered,
-/// or after one more, and the others go on from there to their answers and rows; else it is wrong. A
-/// line is written wherever the number of commands that are found isn't that of the stop before, and
-/// at the end how many calls there are.
+/// Stops a disk at its first call, at its second, and so on, until a run meets no stop. Each time
+/// the files are opened again. What is found then are the tables after the commands that were
+/// answered, or after one more, and the others go on from there to their answers and rows; else it
+/// is wrong. A line is written wherever the number of commands that are found isn't that of the stop
+/// before, and at the end how many calls there are.
 pub(crate) fn run(rt: &HostRuntime, course: &Course<'_>, stop: Stop) -> Result<(), Failure> {
     let way = way_of(rt.alloc(), course)?;
     let count = course.asks.len();

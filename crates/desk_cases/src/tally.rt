@@ -22,11 +22,14 @@ struct Tally {
     refused: [u32; 17],
     /// How many replies had another text than the outcome of the command.
     differ: u32,
+    /// How many replies, and how many texts of outcomes, were out of memory.
+    lacking: u32,
 }
 
 /// Makes so many lists of so many commands, as a line `LISTS COMMANDS` states. Each is asked of a
-/// new desk at once, and of another new desk by messages. It is written which lines were accepted
-/// at least once, which refusals came, and how many replies had another text.
+/// new desk at once, and of another new desk by messages. It is written how often each line was
+/// accepted, how often each refusal came, how many replies had another text, and how many texts and
+/// replies found no memory.
 pub(crate) fn run_case(rt: &HostRuntime, case: &str, counts: &str) -> Result<(), Failure> {
     let (_, asked) = case.split_once(ASKED).ok_or(Failure::BadLine)?;
     let (settings, lines) = asked.split_once(LOTS).ok_or(Failure::BadLine)?;
@@ -47,6 +50,7 @@ fn counted(
         accepted: zeros(alloc, urn.lines.len())?,
         refused: [0u32; 17],
         differ: 0,
+        lacking: 0,
     };
     let mut number = 1u32;
     for _ in 0..lists {
@@ -76,9 +80,7 @@ fn count_list(
     for (i, outcome) in outcomes.iter().enumerate() {
         let place = list.places.get(i).copied().unwrap_or(usize::MAX);
         count_outcome(tally, place, outcome);
-        if !is_reply(alloc, outcome, replies.get(i))? {
-            tally.differ = tally.differ.saturating_add(1);
-        }
+        count_reply(alloc, tally, outcome, replies.get(i));
     }
     Ok(())
 }
@@ -114,6 +116,30 @@ fn count_outcome(tally: &mut Tally, place: usize, outcome: &Result<Answer, Refus
     }
 }
 
+fn count_reply(
+    alloc: Global,
+    tally: &mut Tally,
+    outcome: &Result<Answer, Refusal>,
+    reply: Option<&Result<Vec<u8>, ServeFault>>,
+) {
+    match is_reply(alloc, outcome, reply) {
+        Ok(true) => (),
+        Ok(false) => tally.differ = tally.differ.saturating_add(1),
+        Err(_) => tally.lacking = tally.lacking.saturating_add(1),
+    }
+    if lacks_memory(reply) {
+        tally.lacking = tally.lacking.saturating_add(1);
+    }
+}
+
+fn lacks_memory(reply: Option<&Result<Vec<u8>, ServeFault>>) -> bool {
+    match reply {
+        Some(Ok(bytes)) => bytes.as_slice().starts_with(b"HTTP/1.1 503"),
+        Some(Err(ServeFault::NoMemory)) => true,
+        _ => false,
+    }
+}
+
 /// Adds one to the count at a place.
 fn raise(counts: &mut [u32], place: usize) {
     if place < counts.len() {
@@ -140,21 +166,15 @@ fn tell(rt: &HostRuntime, urn: &Urn<'_>, tally: &Tally) -> Result<(), Failure> {
         tell_accepted(rt, line, *count)?;
     }
     for (number, count) in tally.refused.iter().enumerate().skip(1) {
-        println!(rt; "refused {number} {}", told(*count))?;
+        println!(rt; "refused {number}: {}", *count)?;
     }
     println!(rt; "replies with another text: {}", tally.differ)?;
+    println!(rt; "texts and replies without memory: {}", tally.lacking)?;
     Ok(())
 }
 
 fn tell_accepted(rt: &HostRuntime, line: &str, count: u32) -> Result<(), Failure> {
     let (words, _) = line.split_once('|').unwrap_or((line, ""));
-    println!(rt; "accepted {}: {words}", told(count))?;
+    println!(rt; "accepted {count}: {words}")?;
     Ok(())
-}
-
-fn told(count: u32) -> &'static str {
-    match count {
-        0 => "never",
-        _ => "at least once",
-    }
 }
