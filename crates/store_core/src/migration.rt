@@ -28,11 +28,7 @@ fn stays_told(alloc: Global, entries: &[Entry]) -> Result<Vec<Stay>, StoreFault>
 }
 
 /// Fills in the stays of one request, by its history.
-fn fill_one<S: Alter>(
-    alloc: Global,
-    tx: &mut Transaction<'_, S>,
-    id: u32,
-) -> Result<(), StoreFault>
+fn fill_one<S: Alter>(alloc: Global, tx: &mut Transaction<'_, S>, id: u32) -> Result<(), StoreFault>
     ensures same_reference { tx.new.conn.ghost_name ≡ tx.old.conn.ghost_name }
     ensures fills { FillsStays (λ desk. id ∷ [])
         (state S.Store tx.old.conn.now) (state S.Store tx.new.conn.now) result }
