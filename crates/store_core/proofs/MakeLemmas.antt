@@ -1,5 +1,5 @@
 -- What CREATE TABLE makes.
-use Rattle.std.proofs.Common.{◌≡◌, ◌⊎◌, ℕ, inl, inr, true, false, IsTrue, List, [], ◌∷◌, ◌++◌, None}
+use Rattle.std.proofs.Common.{◌≡◌, ◌⊎◌, ℕ, inl, inr, true, false, List, [], ◌∷◌, ◌++◌, None}
 use Rattle.std.proofs.Common.{Err, IfSome, Ok, OnErr, Option, Result, Some, sym, ap, subst, ◌∙◌, refl, arith, length}
 use Rattle.std.specs.List.{AllByRecursion}
 use Rattle.sqlite.specs.Table.{Table}
@@ -10,7 +10,6 @@ use Rattle.sqlite.specs.Compile.{table_defined_by}
 use Rattle.sqlite.specs.Does.{Tally, lacks_sequence}
 use Rattle.sqlite.specs.Effect.{Database}
 use Rattle.sqlite.specs.Held.{Held, state}
-use Rattle.sqlite.specs.Order.{Row, column}
 use Rattle.sqlite.specs.Store.{Ghosts}
 use Rattle.sqlite_rules.specs.Lists.{Has}
 use Rattle.sqlite.specs.State.{State, HasCleanDisk, Writes, Executes}
@@ -19,14 +18,12 @@ use Rattle.sqlite.proofs.Callers.{IsPlain, command_of, statement_of, runs_as}
 use Rattle.sqlite_trees.proofs.ListLemmas.{all_both, all-append}
 use Rattle.store_tables.specs.Dated.{dated_columns, id_of}
 use Rattle.store_tables.specs.Kept.{Keeps, Numbers}
-use Rattle.store_tables.specs.Spelling.{count_value, entry_columns, link_columns, queue_columns}
+use Rattle.store_tables.specs.Spelling.{entry_columns, link_columns, queue_columns}
 use Rattle.store_tables.specs.Spelling.{stay_columns, watcher_columns}
 use Rattle.store_tables.specs.Tables.{desk_schema, first_schema}
 use Rattle.store_tables.specs.Contents.{Contents}
 use Rattle.store_tables.specs.Stands.{FirstStand, GoesBack, HasTables, HoldsNow, Ran, Stand, Tables}
 use Rattle.store_tables.specs.Making.{AreEmpty, IsBlank, IsOfMeta, Made, WasBlank}
-use Rattle.store_tables.specs.Picked.{shows}
-use Rattle.store_tables.specs.Queries.{version_shown}
 use Rattle.store_tables.proofs.WriteLemmas.{went, same_value}
 use Rattle.store_core.specs.Migrating.{EitherHolds, EitherStand, EitherTables, Grows, HasEither}
 use Rattle.store_core.specs.Migrating.{IsBlamed, IsGrown, LeavesEither, SixTables, Unmoved}

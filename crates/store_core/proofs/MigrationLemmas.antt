@@ -1,6 +1,6 @@
 -- The stays that are filled in are those of the desk.
-use Rattle.std.proofs.Common.{◌≡◌, ◌∙◌, ◌==◌, ℕ, List, [], ◌∷◌, ◌++◌, map, filter, flat_map, find, fold}
-use Rattle.std.proofs.Common.{append-nil, append_assoc, Option, Some, None, refl, ap, ap₂, sym, subst}
+use Rattle.std.proofs.Common.{◌≡◌, ◌∙◌, ℕ, List, [], ◌∷◌, ◌++◌, map, filter, flat_map, fold}
+use Rattle.std.proofs.Common.{append-nil, Option, Some, None, refl, ap, ap₂, sym, subst}
 use Rattle.std.proofs.Common.{IsPermutation}
 use Rattle.std.specs.List.{All}
 use Rattle.std.specs.Option.{option_map_or}
@@ -21,7 +21,7 @@ use Rattle.store_tables.specs.Dated.{row_of}
 use Rattle.store_tables.specs.Orders.{by_id, by_number}
 use Rattle.store_tables.specs.Picked.{AreNumbersOf, AreOrdered}
 use Rattle.store_tables.specs.Selection.{number_of, tells_of}
-use Rattle.store_tables.specs.Stays.{StayRow, stay_rows, stays}
+use Rattle.store_tables.specs.Stays.{StayRow, stay_rows}
 use Rattle.store_tables.proofs.DatedLemmas.{rows_dated}
 use Rattle.store_core.specs.Migrating.{stays_filled}
 use Rattle.store_core.specs.Written.{AreAlike}

@@ -1,15 +1,24 @@
 -- Calls in a transaction, one after another: they hold something still, and the last commit stays.
-use Rattle.std.proofs.Common.{◌≡◌, ◌∙◌, ◌+◌, ◌<◌, ◌≤◌, ℕ, List, [], ◌∷◌, length, take, get_or, fold}
-use Rattle.std.proofs.Common.{Ok, Err, IfErr, OnOk, Result, ap, subst, sym}
+use Rattle.std.proofs.Common.{◌≡◌, ◌≢◌, ◌∙◌, ◌+◌, ◌<◌, ◌≤◌, ℕ, List, [], ◌∷◌, length, take, get_or, fold}
+use Rattle.std.proofs.Common.{Ok, Err, IfErr, OnOk, Result, ap, arith, inl, inr, refl, subst, sym}
 use Rattle.std.specs.Prelude.{⊤}
 use Rattle.std.proofs.lemmas.List.{get_or_default}
-use Rattle.sqlite.specs.State.{State}
+use Rattle.sqlite.specs.Effect.{Database}
+use Rattle.sqlite.specs.Order.{Row}
+use Rattle.sqlite.specs.State.{State, HasCleanDisk}
+use Rattle.sqlite_rules.specs.Lists.{Has}
 use Rattle.desk_model.specs.Desk.{Desk}
-use Rattle.store_tables.specs.Calls.{Does, Looks, WasClean}
+use Rattle.store_tables.specs.Calls.{Does, FailsIn, Looks, WasClean}
 use Rattle.store_tables.specs.Contents.{Contents}
-use Rattle.store_tables.specs.Stands.{HoldsNow, KeepsBase}
+use Rattle.store_tables.specs.Picked.{shows}
+use Rattle.store_tables.specs.Queries.{version_shown}
+use Rattle.store_tables.specs.Reading.{IsNumberRow}
+use Rattle.store_tables.specs.Stands.{HoldsNow, KeepsBase, Tables}
 use Rattle.store_tables.specs.declared.fault.StoreFault.{StoreFault}
+use Rattle.store_tables.specs.declared.fault.StoreFault.TheVariants.{Mismatch, Refused, WrongVersion}
+use Rattle.store_tables.proofs.RowLemmas.{TableOf, refuses}
 use Rattle.store_tables.proofs.StandLemmas.{desk_is_there, fold_more}
+use Rattle.store_tables.proofs.ValueLemmas.{values_of}
 use Rattle.store_core.specs.Migrating.{FillsStays, RunsOn, stays_filled}
 use Rattle.store_core.proofs.FactsLemmasOfDesk.{take_all}
 use Rattle.store_core.proofs.MigrationLemmas.{filled_only}
@@ -72,6 +81,36 @@ pub runs_failed : {X Y : Type 0} (e f : StoreFault) (a b : State)
     → (let r : Result Y StoreFault = Err f in RunsOn a b r)
 runs_failed e f a b on =
     record { holds = λ c h. tt; keeps = on.keeps; clean = on.clean }
+
+-- over tables that hold values, a list is read or refused
+pub inside_refused : {K V : Type 0} (t : TableOf K V) (a b : State) → WasClean a b
+    → (e : StoreFault)
+    → (let r : Result ⊤ StoreFault = Err e in FailsIn t.tree t.terms t.IsValue a b r)
+    → (c : Contents) → HoldsNow c a → HasCleanDisk b → e ≡ Refused
+inside_refused t a b clean e fails c holds now =
+    let r : Result ⊤ StoreFault = Err e in
+    refuses t (record a { committed = a.now }) b clean r fails c
+    (λ d o. let it = holds d o in (it.0, it.0)) now
+
+-- nor is the version another than a number
+pub version_valued : (c : Contents) (db : Database) → Tables c db → (r : Row) → Has (db.trees 0) r
+    → IsNumberRow (shows version_shown [] r)
+version_valued c db t r has = elim (subst (λ rows. Has rows r) t.meta has) [
+  | inl same ↦ subst (λ row. IsNumberRow (shows version_shown [] row)) (sym same)
+      (record { wide = omega arith; number = (c.version, refl, (values_of c t.values).version) })
+  | inr none ↦ absurd none
+]
+
+refused : (e : StoreFault) → e ≢ WrongVersion → (e ≡ Mismatch → ⊥) → e ≡ Refused
+refused WrongVersion version mismatch = absurd (version refl)
+refused Mismatch version mismatch = absurd (mismatch refl)
+refused Refused version mismatch = refl
+
+-- where what a mismatch comes of can't be
+pub no_mismatch : {X Y : Type 0} (r : Result X StoreFault) → IfErr r (λ e. e ≢ WrongVersion)
+    → IfErr r (λ e. e ≡ Mismatch → Y) → (Y → ⊥) → IfErr r (λ e. e ≡ Refused)
+no_mismatch (Ok x) version mismatch never = tt
+no_mismatch (Err e) version mismatch never = refused e version (λ wrong. never (mismatch wrong))
 
 -- ---- a loop that fills in stays
 

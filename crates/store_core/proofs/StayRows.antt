@@ -1,5 +1,5 @@
 -- Rows of stays: of a request on which one more begins, and of the others.
-use Rattle.std.proofs.Common.{◌≡◌, ◌∙◌, ℕ, ◌+◌, ◌<◌, ◌==◌, Bool, true, false, ◌&&◌, ◌||◌, List, []}
+use Rattle.std.proofs.Common.{◌≡◌, ◌∙◌, ℕ, ◌+◌, ◌<◌, ◌==◌, true, false, ◌&&◌, ◌||◌, List, []}
 use Rattle.std.proofs.Common.{◌∷◌, ◌++◌, map, flat_map, if◌then◌else◌, length, refl, ap, ap₂, sym}
 use Rattle.std.proofs.Common.{Some, arith, subst}
 use Rattle.std.proofs.Common.{IsPermutation}

@@ -1,12 +1,11 @@
 -- The stays that a change writes are those of the desk after it.
-use Rattle.std.proofs.Common.{◌≡◌, ◌∙◌, ℕ, ◌+◌, ◌-◌, ◌==◌, Bool, true, false, cond, List, [], ◌∷◌}
+use Rattle.std.proofs.Common.{◌≡◌, ◌∙◌, ℕ, ◌+◌, ◌-◌, ◌==◌, true, false, cond, List, [], ◌∷◌}
 use Rattle.std.proofs.Common.{◌++◌, map, flat_map, find, fold, length, append-nil, Option, Some, None}
 use Rattle.std.proofs.Common.{refl, ap, ap₂, sym, arith, subst, slice_get, IsPermutation}
-use Rattle.std.specs.List.{AllByRecursion, list_any}
 use Rattle.std.specs.Option.{is_some, option_map, option_map_or}
 use Rattle.std.proofs.lemmas.Bool.{eq-eqb, eqb-true}
 use Rattle.std.proofs.lemmas.Grind.{flat_map-append}
-use Rattle.std.proofs.lemmas.List.{length-append, map-id}
+use Rattle.std.proofs.lemmas.List.{length-append}
 use Rattle.std.proofs.lemmas.List.Elements.{recursion_from_All}
 use Rattle.std.proofs.lemmas.List.Sorted.{IsPermutation-refl}
 use Rattle.hours_core.specs.declared.stay.Stay.{Stay}
@@ -27,7 +26,7 @@ use Rattle.desk_core.proofs.EachRequest.{found_each}
 use Rattle.desk_core.proofs.Goes.{number_found}
 use Rattle.store_tables.specs.Contents.{Contents, add_entry, add_stay, add_watcher, drop_watcher}
 use Rattle.store_tables.specs.Stays.{StayRow, stay_row, stay_rows, stays, with_end}
-use Rattle.store_core.proofs.Revised.{id_of, there_by_number}
+use Rattle.store_core.proofs.Revised.{there_by_number}
 use Rattle.store_core.proofs.StayRows.{closed_length, grown_rows, none_ended, one_grown, others_kept}
 use Rattle.store_core.proofs.StayRows.{rows_of}
 use Rattle.store_core.specs.Written.{begun_on, last_of, link_added, link_dropped, queue_added}

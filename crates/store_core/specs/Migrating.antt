@@ -18,7 +18,7 @@ use Rattle.store_tables.specs.Stands.{with_no_stays}
 use Rattle.store_tables.specs.Stays.{stay_rows}
 use Rattle.store_tables.specs.Tables.{desk_schema, first_schema}
 use Rattle.store_tables.specs.declared.fault.StoreFault.{StoreFault}
-use Rattle.store_tables.specs.declared.fault.StoreFault.TheVariants.{Mismatch, WrongVersion}
+use Rattle.store_tables.specs.declared.fault.StoreFault.TheVariants.{Mismatch, Refused, WrongVersion}
 
 -- ---- tables with or without that of stays
 
@@ -94,6 +94,11 @@ pub record RunsOn {X : Type 0} (old new : State) (result : Result X StoreFault) 
   pub keeps : (c : Contents) → HoldsNow c old → KeepsBase old new
   pub clean : WasClean old new
 
+-- whatever values the tables hold, the fault is that the store or memory refused it
+abbrev pub RefusesOn : {X : Type 0} → State → State → Result X StoreFault → Type 0
+RefusesOn old new result =
+    (c : Contents) → HoldsNow c old → HasCleanDisk new → IfErr result (λ e. e ≡ Refused)
+
 -- ---- of a whole call
 
 -- tables of another version than 1 stay as they are
@@ -119,6 +124,12 @@ NeedsKnown old new result =
     (c : Contents) → EitherStand c old → HasCleanDisk new
     → IfOk result (λ done. IsKnown c.version)
     × IfErr result (λ e. e ≡ WrongVersion → ¬ IsKnown c.version)
+
+-- over values of a known version, the fault is that the store or memory refused it
+abbrev pub RefusesKnown : {X : Type 0} → State → State → Result X StoreFault → Type 0
+RefusesKnown old new result =
+    (c : Contents) → IsKnown c.version → EitherStand c old → HasCleanDisk new
+    → IfErr result (λ e. e ≡ Refused)
 
 -- a version is told to be wrong only where a row of meta shows one that isn't known
 abbrev pub BlamesUnknown : {X : Type 0} → State → State → Result X StoreFault → Type 0

@@ -13,7 +13,8 @@ ghost use Rattle.store_tables.specs.Stands.{FirstStand, GoesBack, HoldsNow, Keep
 ghost use Rattle.store_tables.specs.Tables.{desk_schema, first_schema, no_schema, request_schema};
 ghost use Rattle.store_tables.specs.declared.fault.StoreFault.{StoreFault};
 ghost use Rattle.store_core.specs.Migrating.{BlamesUnknown, EitherHolds, EitherStand, Grows};
-ghost use Rattle.store_core.specs.Migrating.{MismatchesInMaking, NeedsKnown, Unmoved};
+ghost use Rattle.store_core.specs.Migrating.{MismatchesInMaking, NeedsKnown, RefusesKnown};
+ghost use Rattle.store_core.specs.Migrating.{Unmoved};
 
 use crate::version::bring_up;
 use sqlite::{Alter, Connection, Transaction};
@@ -154,6 +155,10 @@ fn make_all<S: Alter>(alloc: Global, tx: &mut Transaction<'_, S>) -> Result<(), 
     ensures refused { Made no_schema (state S.Store tx.old.conn.now) →
         HasCleanDisk (state S.Store tx.new.conn.now) →
         IfErr result (λ e. e ≡ StoreFault.Refused) }
+    ensures refuses { (c : Contents) → IsKnown c.version →
+        EitherHolds c (state S.Store tx.old.conn.now) →
+        HasCleanDisk (state S.Store tx.new.conn.now) →
+        IfErr result (λ e. e ≡ StoreFault.Refused) }
     ensures honest { WasClean (state S.Store tx.old.conn.now) (state S.Store tx.new.conn.now) }
     ensures mismatch { MismatchesInMaking
         (state S.Store tx.old.conn.now) (state S.Store tx.new.conn.now) result }
@@ -187,6 +192,7 @@ pub(crate) fn make_schema<S: Alter>(
         OnErr result (GoesBack (state S.Store conn.old) (state S.Store conn.new)) }
     ensures honest { WasClean (state S.Store conn.old) (state S.Store conn.new) }
     ensures version { NeedsKnown (state S.Store conn.old) (state S.Store conn.new) result }
+    ensures refuses { RefusesKnown (state S.Store conn.old) (state S.Store conn.new) result }
     ensures blames { BlamesUnknown (state S.Store conn.old) (state S.Store conn.new) result }
     ensures mismatch { MismatchesInMaking
         (state S.Store conn.old) (state S.Store conn.new) result }

@@ -4,7 +4,7 @@ ghost use Rattle.sqlite.specs.Held.{state};
 ghost use Rattle.desk_model.specs.IsDesk.{ids};
 ghost use Rattle.desk_model.specs.Stays as spec;
 ghost use Rattle.store_tables.specs.declared.fault.StoreFault.{StoreFault};
-ghost use Rattle.store_core.specs.Migrating.{BringsUp, FillsStays, RunsOn};
+ghost use Rattle.store_core.specs.Migrating.{BringsUp, FillsStays, RefusesOn, RunsOn};
 
 use desk_core::Entry;
 use desk_model::stays_of;
@@ -28,15 +28,13 @@ fn stays_told(alloc: Global, entries: &[Entry]) -> Result<Vec<Stay>, StoreFault>
 }
 
 /// Fills in the stays of one request, by its history.
-fn fill_one<S: Alter>(
-    alloc: Global,
-    tx: &mut Transaction<'_, S>,
-    id: u32,
-) -> Result<(), StoreFault>
+fn fill_one<S: Alter>(alloc: Global, tx: &mut Transaction<'_, S>, id: u32) -> Result<(), StoreFault>
     ensures same_reference { tx.new.conn.ghost_name ≡ tx.old.conn.ghost_name }
     ensures fills { FillsStays (λ desk. id ∷ [])
         (state S.Store tx.old.conn.now) (state S.Store tx.new.conn.now) result }
     ensures on { RunsOn (state S.Store tx.old.conn.now) (state S.Store tx.new.conn.now) result }
+    ensures refuses { RefusesOn
+        (state S.Store tx.old.conn.now) (state S.Store tx.new.conn.now) result }
     ensures fault { IfErr result (λ e. e ≢ StoreFault.WrongVersion) }
 {
     let entries = entries_of(alloc, tx, id)?;
@@ -54,6 +52,8 @@ fn fill_each<S: Alter>(
     ensures fills { FillsStays (λ desk. ids.now)
         (state S.Store tx.old.conn.now) (state S.Store tx.new.conn.now) result }
     ensures on { RunsOn (state S.Store tx.old.conn.now) (state S.Store tx.new.conn.now) result }
+    ensures refuses { RefusesOn
+        (state S.Store tx.old.conn.now) (state S.Store tx.new.conn.now) result }
     ensures fault { IfErr result (λ e. e ≢ StoreFault.WrongVersion) }
 {
     for id in ids {
@@ -68,6 +68,8 @@ fn fill_stays<S: Alter>(alloc: Global, tx: &mut Transaction<'_, S>) -> Result<()
     ensures fills { FillsStays ids
         (state S.Store tx.old.conn.now) (state S.Store tx.new.conn.now) result }
     ensures on { RunsOn (state S.Store tx.old.conn.now) (state S.Store tx.new.conn.now) result }
+    ensures refuses { RefusesOn
+        (state S.Store tx.old.conn.now) (state S.Store tx.new.conn.now) result }
     ensures fault { IfErr result (λ e. e ≢ StoreFault.WrongVersion) }
 {
     let ids = numbers(alloc, tx)?;
@@ -83,6 +85,8 @@ pub(crate) fn migrate<S: Alter>(
     ensures brings { BringsUp
         (state S.Store tx.old.conn.now) (state S.Store tx.new.conn.now) result }
     ensures on { RunsOn (state S.Store tx.old.conn.now) (state S.Store tx.new.conn.now) result }
+    ensures refuses { RefusesOn
+        (state S.Store tx.old.conn.now) (state S.Store tx.new.conn.now) result }
     ensures fault { IfErr result (λ e. e ≢ StoreFault.WrongVersion) }
 {
     fill_stays(alloc, tx)?;

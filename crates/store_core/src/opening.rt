@@ -6,7 +6,7 @@ ghost use Rattle.store_tables.specs.Making.{IsBlank, MakesDesk, RefusesBlank};
 ghost use Rattle.store_tables.specs.Mismatches.{MismatchesInMeta};
 ghost use Rattle.store_tables.specs.declared.fault.StoreFault.{StoreFault};
 ghost use Rattle.store_core.specs.Migrating.{LeavesEither, LeavesOthers, MigratesDesk};
-ghost use Rattle.store_core.specs.Migrating.{MismatchesInMaking, TellsKnown};
+ghost use Rattle.store_core.specs.Migrating.{MismatchesInMaking, RefusesKnown, TellsKnown};
 ghost use Rattle.store_core.specs.Seen.{connection_of, state_of};
 
 use crate::making::make_schema;
@@ -62,6 +62,8 @@ impl<S: Alter> Store<S> {
             (LeavesEither (state_of S.Store self.old) (state_of S.Store self.new)) }
         ensures honest { WasClean (state_of S.Store self.old) (state_of S.Store self.new) }
         ensures version { TellsKnown
+            (state_of S.Store self.old) (state_of S.Store self.new) result }
+        ensures refuses { RefusesKnown
             (state_of S.Store self.old) (state_of S.Store self.new) result }
         ensures mismatch { MismatchesInMaking
             (state_of S.Store self.old) (state_of S.Store self.new) result }

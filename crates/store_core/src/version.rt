@@ -11,7 +11,7 @@ ghost use Rattle.store_tables.specs.Queries.{version_shown};
 ghost use Rattle.store_tables.specs.Stands.{HasTables, HoldsNow, KeepsBase};
 ghost use Rattle.store_tables.specs.Tables.{desk_schema};
 ghost use Rattle.store_tables.specs.declared.fault.StoreFault.{StoreFault};
-ghost use Rattle.store_core.specs.Migrating.{BringsUp, IsBlamed, RunsOn};
+ghost use Rattle.store_core.specs.Migrating.{BringsUp, IsBlamed, RefusesOn, RunsOn};
 
 use crate::migration::migrate;
 use sqlite::{Alter, Row, Transaction};
@@ -61,6 +61,8 @@ fn read_version<S: Alter>(tx: &mut Transaction<'_, S>) -> Result<Option<u32>, St
     ensures keeps { HasTables (state S.Store tx.old.conn.now) →
         KeepsBase (state S.Store tx.old.conn.now) (state S.Store tx.new.conn.now) }
     ensures honest { WasClean (state S.Store tx.old.conn.now) (state S.Store tx.new.conn.now) }
+    ensures refuses { RefusesOn
+        (state S.Store tx.old.conn.now) (state S.Store tx.new.conn.now) result }
     ensures mismatch { MismatchesInMeta
         (state S.Store tx.old.conn.now) (state S.Store tx.new.conn.now) result }
     ensures of_meta { HasTables (state S.Store tx.old.conn.now) →
@@ -108,6 +110,9 @@ pub(crate) fn bring_up<S: Alter>(
         (state S.Store tx.old.conn.now) (state S.Store tx.new.conn.now) result }
     ensures refused { Made desk_schema (state S.Store tx.old.conn.now) →
         HasCleanDisk (state S.Store tx.new.conn.now) →
+        IfErr result (λ e. e ≡ StoreFault.Refused) }
+    ensures refuses { (c : Contents) → IsKnown c.version →
+        HoldsNow c (state S.Store tx.old.conn.now) → HasCleanDisk (state S.Store tx.new.conn.now) →
         IfErr result (λ e. e ≡ StoreFault.Refused) }
     ensures mismatch { IfErr result (λ e. e ≡ StoreFault.Mismatch →
         HasTables (state S.Store tx.old.conn.now) → HasCleanDisk (state S.Store tx.new.conn.now) →

@@ -1,6 +1,6 @@
 use Rattle.std.proofs.Common.{length, rules, ◌<◌, ◌≤◌}
 use Rattle.sqlite.specs.Held.{state}
-use Rattle.store_core.proofs.RunLemmas.{fills_all, fills_more, runs_failed, runs_then}
+use Rattle.store_core.proofs.RunLemmas.{fills_all, fills_more, runs_then}
 use Rattle.store_core.proofs.migration.fill_each.Goals as goal
 
 pub loop-id-preserved : goal.loop-id-preserved

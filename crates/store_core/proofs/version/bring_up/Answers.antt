@@ -21,9 +21,11 @@ returns-in-None-clause-on g c =
     let middle = state g.S.Store c.read_version.new.tx.conn.now in
     let new = state g.S.Store c.add_version.new.tx.conn.now in
     record {
-      holds = λ d holds. always c.add_version.result
-          (d, λ clean live. absurd (never_both _ _ c.in-None.is
-          (c.in_ok-read_version.ensures.one d holds (c.add_version.ensures.honest clean))));
+      holds = λ d holds. always c.add_version.result (
+        d,
+        λ clean live. absurd (never_both _ _ c.in-None.is
+            (c.in_ok-read_version.ensures.one d holds (c.add_version.ensures.honest clean))),
+      );
       keeps = λ d holds. keeps_on old middle new
           (c.read_version.ensures.keeps (desk_is_there d old holds)) c.add_version.ensures.keeps;
       clean = λ clean. c.read_version.ensures.honest (c.add_version.ensures.honest clean);
