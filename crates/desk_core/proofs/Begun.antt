@@ -83,7 +83,8 @@ next_kept (e ∷ old) more none =
     (next_kept old more none)
 
 -- where none of the entries begins a stay, the stays are the same
-pub none_more : (old more : List Entry) → beginning more ≡ [] → stays_of (old ++ more) ≡ stays_of old
+pub none_more : (old more : List Entry) → beginning more ≡ []
+    → stays_of (old ++ more) ≡ stays_of old
 none_more [] more none = stays_none more none
 none_more (e ∷ old) more none =
     rw (next_kept old more none, none_more old more none) refl

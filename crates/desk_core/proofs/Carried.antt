@@ -135,8 +135,8 @@ begins desk (SetStatus id status) = λ call r there same none. refl
 begins desk (Reply id text) = λ call r there same none.
     let facts = besides_on Nothing id desk in
     let move = reply.move_of call facts (seen_request r) in
-    reply_begins text call (seen_request r) (reply.replied_row call facts move (seen_request r)) move
-    refl
+    reply_begins text call (seen_request r) (reply.replied_row call facts move (seen_request r))
+    move refl
 begins desk other = λ call r there same none. tt
 
 pub carried_law : (s : Settings) (at : ℕ) (caller : List ℕ) (command : Command) (desk : Desk)

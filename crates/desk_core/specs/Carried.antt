@@ -39,7 +39,7 @@ pub record KeepsStays (desk : Desk) (change : Change) : Type 0 where
   pub begun : IsOneOf (either_row change.filed change.row) (beginning change.entries)
 
 -- The carried law: where a command isn't refused, its change carries the stays that the request
--- whose row it puts has afterwards, and only that request's stays change, by one.
+-- whose row it puts has afterwards, and on no other request does a stay begin.
 abbrev pub CarriesStays : Settings → ℕ → List ℕ → Command → Desk → Type 0
 CarriesStays settings at caller command desk =
     IsDesk desk → guard settings at caller command desk ≡ None
