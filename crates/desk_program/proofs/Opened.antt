@@ -1,5 +1,5 @@
 -- What is opened, and what is left where it can't be, from what its parts are.
-use Rattle.std.proofs.Common.{◌≡◌, ◌≢◌, ◌⊎◌, inl, inr, List, ℕ, true, Result, Ok, Err, IfOk}
+use Rattle.std.proofs.Common.{◌≡◌, ◌≢◌, inl, inr, List, ℕ, true, Result, Ok, Err, IfOk}
 use Rattle.std.proofs.Common.{Option, arith, subst, sym}
 use Rattle.sqlite.specs.State.{State, HasCleanDisk}
 use Rattle.desk_model.specs.Desk.{Desk, empty_desk}
@@ -13,7 +13,7 @@ use Rattle.store_core.specs.Migrating.{EitherStand, LeavesOthers}
 use Rattle.store_tables.specs.Calls.{WasClean}
 use Rattle.store_tables.specs.Contents.{Contents, contents_of, first_contents_of}
 use Rattle.store_tables.specs.Making.{IsBlank, IsKnown}
-use Rattle.store_tables.specs.Stands.{FirstStand, FirstStandsFor, Stand, StandsFor}
+use Rattle.store_tables.specs.Stands.{FirstStand, Stand, StandsFor}
 use Rattle.desk_program.specs.Opening.{ComesToStand, FailsToAttach, IsNotAttached, IsOpened}
 use Rattle.desk_program.specs.Opening.{StoodFor, ToldKnown}
 
@@ -35,7 +35,7 @@ opened (Ok d) text s old attached tables stated same renewed made known =
 opened (Err e) text s old attached tables stated same renewed made known = tt
 
 -- the first version isn't the present one
-two : 2 ≢ 1
+two : ◌≢◌ {A = ℕ} 2 1
 two e = absurd (omega arith)
 
 -- tables that are left stand for the desk that they stood for
@@ -66,7 +66,7 @@ made_not_attached s old mid new fault kept on honest made version fails =
       kept = λ c other stand. fails.kept c (kept c other stand);
       first =
           λ desk formed stand.
-          left (brought old mid kept on desk formed (inr stand));
+          left desk (brought old mid kept on desk formed (inr stand));
       honest = λ clean. honest (fails.honest clean);
       unknown =
           λ e desk formed stand clean.
@@ -76,9 +76,9 @@ made_not_attached s old mid new fault kept on honest made version fails =
           λ desk formed stand clean.
           let it = brought old mid kept on desk formed (inr stand) in
           fails.fails (contents_of it.0 desk) it.1 clean;
-      made = λ blank. left (made blank);
+      made = λ blank. left empty_desk (made blank);
       version = λ c stand clean. version c stand (fails.honest clean);
     }
-    where
-      left : {desk : Desk} → StandsFor desk mid → StandsFor desk new
-      left {desk} stand = (stand.0, fails.kept (contents_of stand.0 desk) stand.1)
+  where
+    left : (desk : Desk) → StandsFor desk mid → StandsFor desk new
+    left desk stand = (stand.0, fails.kept (contents_of stand.0 desk) stand.1)

@@ -1,6 +1,6 @@
 -- What is read of one request, in order, is its part of the whole: its history, and its stays.
-use Rattle.std.proofs.Common.{◌≡◌, ◌∙◌, ◌+◌, ◌==◌, ℕ, Bool, true, false, cond, List, [], ◌∷◌, ◌++◌, map}
-use Rattle.std.proofs.Common.{flat_map, filter, None, Option, Some, refl, ap, ap₂, subst}
+use Rattle.std.proofs.Common.{◌≡◌, ◌∙◌, ◌+◌, ◌==◌, ℕ, Bool, true, false, cond, List, [], ◌∷◌, ◌++◌}
+use Rattle.std.proofs.Common.{map, flat_map, filter, None, Option, Some, refl, ap, ap₂, subst}
 use Rattle.std.proofs.Common.{append-nil, arith, Less}
 use Rattle.std.proofs.lemmas.Bool.{and_parts, eqb-true}
 use Rattle.std.proofs.lemmas.Bool.Decides.{nat_tests}
@@ -24,11 +24,11 @@ use Rattle.store_tables.specs.Kept.{itself}
 use Rattle.store_tables.specs.Orders.{by_number, by_stay, by_stay_number}
 use Rattle.store_tables.specs.Picked.{AreOrdered, AreParts}
 use Rattle.store_tables.specs.Selection.{tells_of}
-use Rattle.store_tables.specs.Stays.{StayRow, is_of, request_stay, stay_of, stay_rows, stay_rows_from}
-use Rattle.store_tables.specs.Stays.{stays}
+use Rattle.store_tables.specs.Stays.{StayRow, is_of, request_stay, stay_of, stay_rows}
+use Rattle.store_tables.specs.Stays.{stay_rows_from, stays}
 use Rattle.store_core.proofs.OrderLemmas.{stay_total}
-use Rattle.store_core.proofs.RiseLemmas.{all_later, all_tested, numbers_rise, own_entries, own_stays}
-use Rattle.store_core.proofs.RiseLemmas.{stays_numbered, stays_rise}
+use Rattle.store_core.proofs.RiseLemmas.{all_later, all_tested, numbers_rise, own_entries}
+use Rattle.store_core.proofs.RiseLemmas.{own_stays, stays_numbered, stays_rise}
 use Rattle.sorted_lists.proofs.SortedLemmas.{Rises, sorted_same}
 
 higher_differs : (m n : ℕ) → nat_cmp m n ≡ Less → (n == m) ≡ false

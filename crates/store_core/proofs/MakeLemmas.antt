@@ -1,6 +1,7 @@
 -- What CREATE TABLE makes.
 use Rattle.std.proofs.Common.{◌≡◌, ◌⊎◌, ℕ, inl, inr, true, false, List, [], ◌∷◌, ◌++◌, None}
-use Rattle.std.proofs.Common.{Err, IfSome, Ok, OnErr, Option, Result, Some, sym, ap, subst, ◌∙◌, refl, arith, length}
+use Rattle.std.proofs.Common.{Err, IfSome, Ok, OnErr, Option, Result, Some, sym, ap, subst, ◌∙◌}
+use Rattle.std.proofs.Common.{refl, arith, length}
 use Rattle.std.specs.List.{AllByRecursion}
 use Rattle.sqlite.specs.Table.{Table}
 use Rattle.sqlite.specs.Schema.{Schema}

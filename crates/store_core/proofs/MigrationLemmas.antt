@@ -127,7 +127,8 @@ pub told_stays : (desk : Desk) (id : ℕ) → stays_of (history_at desk id) ≡ 
 told_stays desk id = by_found (request_at desk id)
   where
     by_found : (o : Option Request)
-        → stays_of (option_map_or (λ r. r.entries) o []) ≡ option_map_or (λ r. stays_of r.entries) o []
+        → stays_of (option_map_or (λ r. r.entries) o [])
+        ≡ option_map_or (λ r. stays_of r.entries) o []
     by_found None = refl
     by_found (Some r) = refl
 

@@ -284,7 +284,8 @@ module _ (s : Settings) (at : ℕ) (caller : List ℕ) (command : Command) (desk
         ∙ ap stays_of (entries_changed change r)
         ∙ none_more r.entries (entries_for r.row.id change.entries)
         (beginning_for r.row.id change.entries
-        ∙ elsewhere (beginning change.entries) change.filed change.row r.row keeps.begun other unset))
+        ∙ elsewhere (beginning change.entries) change.filed change.row r.row keeps.begun other
+        unset))
 
     -- of a request that was there
     due_each : (r : Request) → request_at desk r.row.id ≡ Some r

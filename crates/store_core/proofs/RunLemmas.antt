@@ -1,6 +1,6 @@
 -- Calls in a transaction, one after another: they hold something still, and the last commit stays.
-use Rattle.std.proofs.Common.{◌≡◌, ◌≢◌, ◌∙◌, ◌+◌, ◌<◌, ◌≤◌, ℕ, List, [], ◌∷◌, length, take, get_or, fold}
-use Rattle.std.proofs.Common.{Ok, Err, IfErr, OnOk, Result, ap, arith, inl, inr, refl, subst, sym}
+use Rattle.std.proofs.Common.{◌≡◌, ◌≢◌, ◌∙◌, ◌+◌, ◌<◌, ◌≤◌, ℕ, List, [], ◌∷◌, length, take}
+use Rattle.std.proofs.Common.{get_or, fold, Ok, Err, IfErr, OnOk, Result, ap, arith, inl, inr, refl, subst, sym}
 use Rattle.std.specs.Prelude.{⊤}
 use Rattle.std.proofs.lemmas.List.{get_or_default}
 use Rattle.sqlite.specs.Effect.{Database}
@@ -15,7 +15,8 @@ use Rattle.store_tables.specs.Queries.{version_shown}
 use Rattle.store_tables.specs.Reading.{IsNumberRow}
 use Rattle.store_tables.specs.Stands.{HoldsNow, KeepsBase, Tables}
 use Rattle.store_tables.specs.declared.fault.StoreFault.{StoreFault}
-use Rattle.store_tables.specs.declared.fault.StoreFault.TheVariants.{Mismatch, Refused, WrongVersion}
+use Rattle.store_tables.specs.declared.fault.StoreFault.TheVariants.{Mismatch, Refused}
+use Rattle.store_tables.specs.declared.fault.StoreFault.TheVariants.{WrongVersion}
 use Rattle.store_tables.proofs.RowLemmas.{TableOf, refuses}
 use Rattle.store_tables.proofs.StandLemmas.{desk_is_there, fold_more}
 use Rattle.store_tables.proofs.ValueLemmas.{values_of}

@@ -55,7 +55,8 @@ none_ended id until (r ∷ rs) =
 
 -- of the request itself the last one
 last_ended : (id number until n : ℕ) (ss : List Stay) → number + 1 ≡ n + length ss
-    → map (with_end id number until) (stay_rows_from id n ss) ≡ stay_rows_from id n (closed ss until)
+    → map (with_end id number until) (stay_rows_from id n ss)
+    ≡ stay_rows_from id n (closed ss until)
 last_ended id number until n [] last = refl
 last_ended id number until n (s ∷ []) last =
     rw (eq-eqb id id refl, eq-eqb n number (omega (arith, last))) refl
@@ -82,11 +83,13 @@ closed_length (s ∷ t ∷ ss) until = omega (arith, closed_length (t ∷ ss) un
 -- it is one more row, and the one before it ends
 pub grown_rows : (id until : ℕ) (ss : List Stay) (s : Stay)
     → IsPermutation (stay_row id (1 + length ss) s
-    ∷ map (with_end id (length ss) until) (stay_rows id ss)) (stay_rows id (closed ss until ++ s ∷ []))
+    ∷ map (with_end id (length ss) until) (stay_rows id ss))
+    (stay_rows id (closed ss until ++ s ∷ []))
 grown_rows id until ss s =
     let new = stay_row id (1 + length ss) s in
     let after = stay_rows id (closed ss until) in
-    subst (λ (rs : List StayRow). IsPermutation (new ∷ rs) (stay_rows id (closed ss until ++ s ∷ [])))
+    subst
+    (λ (rs : List StayRow). IsPermutation (new ∷ rs) (stay_rows id (closed ss until ++ s ∷ [])))
     (sym (last_ended id (length ss) until 1 ss (omega arith)))
     (subst (IsPermutation (new ∷ after))
     (sym (one_more_row id 1 (closed ss until) s
@@ -107,7 +110,8 @@ module _ (end : StayRow → StayRow) (rows after : Request → List StayRow) (id
         ∙ ap₂ ◌++◌ (others r parts.0) (none_grown rs parts.1)
 
     pub one_grown : (Fits : Request → Type 0) (new : StayRow) (next : ℕ) (rs : List Request)
-        → ((r : Request) → Fits r → r.row.id ≡ id → IsPermutation (new ∷ map end (rows r)) (after r))
+        → ((r : Request) → Fits r → r.row.id ≡ id
+        → IsPermutation (new ∷ map end (rows r)) (after r))
         → are_numbered next (map id_of rs) ≡ true → list_any (λ n. n == id) (map id_of rs) ≡ true
         → AllByRecursion Fits rs
         → IsPermutation (new ∷ map end (flat_map rows rs)) (flat_map after rs)

@@ -1,7 +1,7 @@
 -- The stays that a change writes are those of the desk after it.
 use Rattle.std.proofs.Common.{◌≡◌, ◌∙◌, ℕ, ◌+◌, ◌-◌, ◌==◌, true, false, cond, List, [], ◌∷◌}
-use Rattle.std.proofs.Common.{◌++◌, map, flat_map, find, fold, length, append-nil, Option, Some, None}
-use Rattle.std.proofs.Common.{refl, ap, ap₂, sym, arith, subst, slice_get, IsPermutation}
+use Rattle.std.proofs.Common.{◌++◌, map, flat_map, find, fold, length, append-nil, Option}
+use Rattle.std.proofs.Common.{Some, None, refl, ap, ap₂, sym, arith, subst, slice_get, IsPermutation}
 use Rattle.std.specs.Option.{is_some, option_map, option_map_or}
 use Rattle.std.proofs.lemmas.Bool.{eq-eqb, eqb-true}
 use Rattle.std.proofs.lemmas.Grind.{flat_map-append}
@@ -27,8 +27,8 @@ use Rattle.desk_core.proofs.Goes.{number_found}
 use Rattle.store_tables.specs.Contents.{Contents, add_entry, add_stay, add_watcher, drop_watcher}
 use Rattle.store_tables.specs.Stays.{StayRow, stay_row, stay_rows, stays, with_end}
 use Rattle.store_core.proofs.Revised.{there_by_number}
-use Rattle.store_core.proofs.StayRows.{closed_length, grown_rows, none_ended, one_grown, others_kept}
-use Rattle.store_core.proofs.StayRows.{rows_of}
+use Rattle.store_core.proofs.StayRows.{closed_length, grown_rows, none_ended, one_grown}
+use Rattle.store_core.proofs.StayRows.{others_kept, rows_of}
 use Rattle.store_core.specs.Written.{begun_on, last_of, link_added, link_dropped, queue_added}
 use Rattle.store_core.specs.Written.{request_added, request_set, rows_written, stay_begun}
 use Rattle.store_core.specs.Written.{stay_ended, stay_put}
@@ -190,7 +190,8 @@ ended_rows id n until c rs same =
     ≡ map (with_end id n until) (flat_map rows_of rs)) [
       | true ↦ λ zero.
           let none : n ≡ 0 = eqb-true n 0 zero in
-          same ∙ sym (subst (λ m. map (with_end id m until) (flat_map rows_of rs) ≡ flat_map rows_of rs)
+          same ∙ sym (subst
+          (λ m. map (with_end id m until) (flat_map rows_of rs) ≡ flat_map rows_of rs)
           (sym none) (none_ended id until rs))
       | false ↦ λ some. ap (map (with_end id n until)) same
     ] refl
@@ -244,9 +245,11 @@ module _ (change : Change) (desk : Desk) (e : Entry) (is : beginning change.entr
         let ss = closed old e.moment in
         let all : change.stays ≡ ss ++ open_stay e ∷ [] =
         carried ∙ there_later change desk e.id r there ∙ own_later r own in
-        let so_far : c.stays ≡ flat_map rows_of rs = same ∙ sym (with_filed_none change.filed desk) in
+        let so_far : c.stays ≡ flat_map rows_of rs =
+        same ∙ sym (with_filed_none change.filed desk) in
         let put : (stay_begun (Some e.id) change.stays c).stays
-        ≡ stay_row e.id (1 + n) (open_stay e) ∷ map (with_end e.id n e.moment) (flat_map rows_of rs) =
+        ≡ stay_row e.id (1 + n) (open_stay e)
+        ∷ map (with_end e.id n e.moment) (flat_map rows_of rs) =
         ap (λ xs. (stay_put e.id (length xs) (last_of xs) c).stays) all
         ∙ ap (λ (d : Contents). d.stays) (put_grown e.id ss (open_stay e) c)
         ∙ ap (λ m. stay_row e.id (1 + m) (open_stay e) ∷ (stay_ended e.id m e.moment c).stays)
@@ -307,4 +310,5 @@ pub stays_alike : (change : Change) (desk : Desk) (c : Contents) → KeepsStays 
 stays_alike change desk c keeps numbered there same =
     subst (λ o. IsPermutation (stay_begun o change.stays c).stays (stays (applied change desk)))
     (sym (begun_first change.entries))
-    (by_beginning change desk c (beginning change.entries) refl keeps keeps.begun numbered there same)
+    (by_beginning change desk c (beginning change.entries) refl keeps keeps.begun numbered there
+    same)

@@ -169,8 +169,9 @@ rows_moved row r here =
     ap (λ id. map (watcher id Requestor) r.requestors
     ++ (map (watcher id Cc) r.cc ++ map (watcher id AdminCc) r.admin_cc)) (sym here)
 
-alike_put : (c : Contents) (due : Dues) (desk : Desk) (w : Watcher) → IsNumbered desk → is_there desk w.id ≡ true
-    → is_watching w.person w.id w.role (watchers desk) ≡ false → SameButStays c (contents_of due desk)
+alike_put : (c : Contents) (due : Dues) (desk : Desk) (w : Watcher) → IsNumbered desk
+    → is_there desk w.id ≡ true → is_watching w.person w.id w.role (watchers desk) ≡ false
+    → SameButStays c (contents_of due desk)
     → SameButStays (add_watcher c w) (contents_of due (person_put desk w))
 alike_put c due desk w numbered there none h =
     let f = in_role w.role (λ names. with_name names w.person) in
@@ -390,8 +391,8 @@ alike_unlinked (Some link) c due desk h =
 
 -- ---- the lists of a change
 
-alike_puts : (ws : List Watcher) (c : Contents) (due : Dues) (desk : Desk) → IsNumbered desk → PutsAnew desk ws
-    → SameButStays c (contents_of due desk)
+alike_puts : (ws : List Watcher) (c : Contents) (due : Dues) (desk : Desk) → IsNumbered desk
+    → PutsAnew desk ws → SameButStays c (contents_of due desk)
     → SameButStays (fold add_watcher c ws) (contents_of due (fold person_put desk ws))
 alike_puts [] c due desk numbered new h = h
 alike_puts (w ∷ ws) c due desk numbered new h =
@@ -399,7 +400,8 @@ alike_puts (w ∷ ws) c due desk numbered new h =
     (numbered_by (person_put desk w) desk (ids_put desk w) numbered) new.2
     (alike_put c due desk w numbered new.0 new.1 h)
 
-alike_takens : (ws : List Watcher) (c : Contents) (due : Dues) (desk : Desk) → SameButStays c (contents_of due desk)
+alike_takens : (ws : List Watcher) (c : Contents) (due : Dues) (desk : Desk)
+    → SameButStays c (contents_of due desk)
     → SameButStays (fold drop_watcher c ws) (contents_of due (fold person_taken desk ws))
 alike_takens [] c due desk h = h
 alike_takens (w ∷ ws) c due desk h =

@@ -18,7 +18,8 @@ use Rattle.store_tables.specs.Stands.{with_no_stays}
 use Rattle.store_tables.specs.Stays.{stay_rows}
 use Rattle.store_tables.specs.Tables.{desk_schema, first_schema}
 use Rattle.store_tables.specs.declared.fault.StoreFault.{StoreFault}
-use Rattle.store_tables.specs.declared.fault.StoreFault.TheVariants.{Mismatch, Refused, WrongVersion}
+use Rattle.store_tables.specs.declared.fault.StoreFault.TheVariants.{Mismatch, Refused}
+use Rattle.store_tables.specs.declared.fault.StoreFault.TheVariants.{WrongVersion}
 
 -- ---- tables with or without that of stays
 

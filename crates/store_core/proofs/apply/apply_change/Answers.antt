@@ -24,5 +24,6 @@ returns-clause-undone g c d stand =
     let last = written c.args.change.now d in
     let same : c.finish.new.tx.0 ≡ c.conn-2-1.given.0 = search rules in
     subst (λ h. OnErr c.finish.result (Stand d (state g.S.Store h))) same
-    (c.finish.ensures.undone last d (within_next d last d tx middle c.in_ok-write_change.ensures.made.keeps begun
+    (c.finish.ensures.undone last d (within_next d last d tx middle
+    c.in_ok-write_change.ensures.made.keeps begun
     (c.in_ok-write_change.ensures.made.makes d (held d d tx begun))))

@@ -16,7 +16,8 @@ returns-clause-made g c =
     let new = state g.S.Store c.write_history.new.tx.conn.now in
     let rows = λ (d : Contents). request_set change.row (change.due)
     (request_added change.filed (change.due) (queue_added change.queue d)) in
-    let persons = λ (d : Contents). fold drop_watcher (fold add_watcher d change.put) change.taken in
+    let persons = λ (d : Contents).
+    fold drop_watcher (fold add_watcher d change.put) change.taken in
     let links = λ (d : Contents). link_dropped change.unlinked (link_added change.linked d) in
     let history = λ (d : Contents). stay_begun (begun_on change.entries) change.stays
     (fold add_entry d change.entries) in

@@ -13,8 +13,8 @@ returns-clause-made g c =
     let new = state g.S.Store c.revise_request.new.tx.conn.now in
     let opened = queue_added change.queue in
     let filed = request_added change.filed (change.due) in
-    does_both (λ (c : Contents). filed (opened c)) (request_set change.row (change.due)) old second new
-    c.in_ok-file_request.field-0
+    does_both (λ (c : Contents). filed (opened c)) (request_set change.row (change.due)) old second
+    new c.in_ok-file_request.field-0
     (does_both opened filed old first second c.in_ok-open_queue.field-0
     c.in_ok-open_queue.ensures.opened _ c.in_ok-file_request.ensures.filed)
     c.revise_request.result c.revise_request.ensures.set

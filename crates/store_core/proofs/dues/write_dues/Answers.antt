@@ -24,5 +24,6 @@ returns-clause-undone g c d stand =
     let last = fold set_each_due d c.args.dues.now in
     let same : c.finish.new.tx.0 ≡ c.conn-2-1.given.0 = search rules in
     subst (λ h. OnErr c.finish.result (Stand d (state g.S.Store h))) same
-    (c.finish.ensures.undone last d (within_next d last d tx middle c.in_ok-set_dues.ensures.set.keeps begun
+    (c.finish.ensures.undone last d (within_next d last d tx middle
+    c.in_ok-set_dues.ensures.set.keeps begun
     (c.in_ok-set_dues.ensures.set.makes d (held d d tx begun))))
