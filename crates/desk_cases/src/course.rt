@@ -1,4 +1,4 @@
-//! A course: settings and commands, with what they answer and leave in memory.
+//! A course: tables, settings and commands, with what they answer and leave in memory.
 
 use crate::asks::{Ask, asks_of};
 use crate::desks::attached;
@@ -12,9 +12,11 @@ use store_core::Backend;
 /// What a command answers where memory or the store refused.
 pub(crate) const UNAVAILABLE: &str = "refused 16 Unavailable\n";
 
-/// Settings and commands on a new desk.
+/// Settings and commands on a desk.
 #[derive(Drop)]
 pub(crate) struct Course<'c> {
+    /// The statements that make its tables; none for those of a new desk.
+    pub(crate) statements: &'c str,
     pub(crate) settings: &'c str,
     pub(crate) asks: Vec<Ask>,
     /// The text of each outcome.
@@ -26,12 +28,14 @@ pub(crate) struct Course<'c> {
 /// The course of commands.
 pub(crate) fn course_of<'c>(
     alloc: Global,
+    statements: &'c str,
     settings: &'c str,
     commands: &str,
 ) -> Result<Course<'c>, Failure> {
     let asks = asks_of(alloc, commands)?;
-    let (outcomes, rows) = run_of(alloc, settings, asks.as_slice())?;
+    let (outcomes, rows) = run_of(alloc, statements, settings, asks.as_slice())?;
     Ok(Course {
+        statements,
         settings,
         asks,
         outcomes,
@@ -40,8 +44,13 @@ pub(crate) fn course_of<'c>(
 }
 
 /// The outcomes of the commands, and the rows that they leave.
-fn run_of(alloc: Global, settings: &str, asks: &[Ask]) -> Result<(Vec<String>, String), Failure> {
-    let mut desk = attached(alloc, "", settings)?;
+fn run_of(
+    alloc: Global,
+    statements: &str,
+    settings: &str,
+    asks: &[Ask],
+) -> Result<(Vec<String>, String), Failure> {
+    let mut desk = attached(alloc, statements, settings)?;
     let outcomes = outcomes_on(alloc, &mut desk, asks);
     let rows = rows_left(alloc, desk)?;
     Ok((outcomes?, rows))
@@ -54,7 +63,7 @@ pub(crate) fn rows_after(
     count: usize,
 ) -> Result<String, Failure> {
     let asks = course.asks.as_slice().get(..count).ok_or(Failure::BadLine)?;
-    let (_, rows) = run_of(alloc, course.settings, asks)?;
+    let (_, rows) = run_of(alloc, course.statements, course.settings, asks)?;
     Ok(rows)
 }
 

@@ -52,6 +52,6 @@ fn ask_all<S: Backend>(
 /// A store with the tables of an empty desk, or with those that the statements make.
 fn opened(alloc: Global, statements: &str) -> Result<Store<MemStore>, Failure> {
     let mut store = adopted(alloc, statements)?;
-    store.create_schema()?;
+    store.create_schema(alloc)?;
     Ok(store)
 }

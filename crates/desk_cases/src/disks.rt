@@ -17,11 +17,58 @@ pub(crate) fn disks(alloc: Global, log: u64, tables: u64) -> Disks {
     }
 }
 
+/// The same over a database file with these bytes.
+pub(crate) fn disks_with(
+    alloc: Global,
+    bytes: &[u8],
+    log: u64,
+    tables: u64,
+) -> Result<Disks, Failure> {
+    let log = Fuse::new(Memory::new(alloc), log);
+    let db = Fuse::new(kept(alloc, bytes)?, tables);
+    Ok(Files { log, db })
+}
+
 /// A file with these bytes that doesn't stop.
 pub(crate) fn holding(alloc: Global, bytes: &[u8]) -> Result<Fuse<Memory>, Failure> {
+    Ok(Fuse::new(kept(alloc, bytes)?, u64::MAX))
+}
+
+/// These bytes, synced.
+fn kept(alloc: Global, bytes: &[u8]) -> Result<Memory, Failure> {
     let mut memory = Memory::new(alloc);
     memory.write_at(0, bytes)?;
-    Ok(Fuse::new(memory, u64::MAX))
+    memory.sync()?;
+    Ok(memory)
+}
+
+/// The bytes of the database file in which statements leave their tables; none without statements.
+pub(crate) fn tables_of(alloc: Global, statements: &str) -> Result<Vec<u8>, Failure> {
+    if statements.is_empty() {
+        return Ok(Vec::new(alloc));
+    }
+    let files = made(alloc, statements);
+    let bytes = files.db.inner().bytes();
+    let mut copy = Vec::new(alloc);
+    copy.extend_from_slice(bytes)?;
+    Ok(copy)
+}
+
+/// The files that statements leave.
+fn made(alloc: Global, statements: &str) -> Disks {
+    match opened(alloc, disks(alloc, u64::MAX, u64::MAX)) {
+        Ok(store) => made_in(store, statements),
+        Err(files) => files,
+    }
+}
+
+fn made_in<D: Disk + Drop>(store: Store<FileStore<D>>, statements: &str) -> Files<D> {
+    let mut conn = store.release();
+    let _ = conn.execute_batch(statements);
+    match adopted(conn) {
+        Ok(store) => closed(store),
+        Err(files) => files,
+    }
 }
 
 /// The store over the files. They are given back where they can't be opened.

@@ -21,7 +21,7 @@ type Dated = (RequestRow, Option<Minute>);
 /// Asks the commands one after the other. After each, the due moments are written that the tables
 /// have, and that this person is shown.
 pub(crate) fn run(rt: &HostRuntime, course: &Course<'_>, caller: &str) -> Result<(), Failure> {
-    let mut desk = attached(rt.alloc(), "", course.settings)?;
+    let mut desk = attached(rt.alloc(), course.statements, course.settings)?;
     for ask in course.asks.iter() {
         let _ = outcome(rt.alloc(), &mut desk, ask)?;
         desk = told(rt, desk, ask.0, caller)?;

@@ -44,7 +44,7 @@ fn tell(rt: &HostRuntime, which: &str, count: Option<u32>) -> Result<(), Failure
 /// How many commands are `Unavailable` under the limit. None where an answer or the rows that are
 /// left are wrong.
 fn unavailable(alloc: Global, course: &Course<'_>, limit: u32) -> Result<Option<u32>, Failure> {
-    let mut desk = attached(alloc, "", course.settings)?;
+    let mut desk = attached(alloc, course.statements, course.settings)?;
     let count = count_on(alloc, course, &mut desk, limit);
     let rows = rows_left(alloc, desk)?;
     if course.leaves(rows.as_str()) {

@@ -7,6 +7,7 @@ use crate::stores::tell;
 use desk_core::{
     Command, Entry, Facts, LinkKind, LinkRow, QueueRow, RequestRow, Turn, WatchRole, Watcher,
 };
+use hours_core::Stay;
 use store_core::{Backend, Store, StoreFault};
 use text_core::Text;
 
@@ -144,6 +145,37 @@ fn tell_entries(rt: &HostRuntime, line: &str, rows: &[Entry]) -> Result<(), Fail
     for row in rows {
         let number = row.number;
         println!(rt; "  {number} {} {}", row.actor.as_str(), row.body.as_str())?;
+    }
+    Ok(())
+}
+
+/// The stays of a request in its statuses.
+pub fn stays<S: Backend>(
+    rt: &HostRuntime,
+    line: &str,
+    store: &mut Store<S>,
+    id: &str,
+) -> Result<(), Failure> {
+    match store.stays_of(rt.alloc(), number(id)?) {
+        Ok(rows) => tell_stays(rt, line, rows.as_slice()),
+        Err(fault) => tell(rt, line, Err(fault)),
+    }
+}
+
+fn tell_stays(rt: &HostRuntime, line: &str, rows: &[Stay]) -> Result<(), Failure> {
+    println!(rt; "{line}:")?;
+    for row in rows {
+        tell_stay(rt, row)?;
+    }
+    Ok(())
+}
+
+fn tell_stay(rt: &HostRuntime, stay: &Stay) -> Result<(), Failure> {
+    let status = stay.status.as_str();
+    let from = stay.from.get();
+    match stay.until {
+        Some(until) => println!(rt; "  {status} {from} {}", until.get())?,
+        None => println!(rt; "  {status} {from} {NONE}")?,
     }
     Ok(())
 }

@@ -6,13 +6,14 @@ use std::fmt::Debug;
 use store_core::{Backend, Store, StoreFault};
 
 /// The rows of the tables, a line for each list: the queues, the requests with their due moments,
-/// the watchers, the links, and the entries of each request.
+/// the watchers, the links, the stays, and the entries of each request.
 pub(crate) fn rows_of<S: Backend>(alloc: Global, store: &mut Store<S>) -> Result<String, Failure> {
     let mut text = String::new(alloc);
     put(alloc, &mut text, store.queues(alloc))?;
     put(alloc, &mut text, store.dated_requests(alloc))?;
     put(alloc, &mut text, store.watchers(alloc))?;
     put(alloc, &mut text, store.links(alloc))?;
+    put(alloc, &mut text, store.stays(alloc))?;
     put_histories(alloc, &mut text, store)?;
     Ok(text)
 }

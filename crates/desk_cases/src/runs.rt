@@ -1,7 +1,7 @@
 //! Runs of commands on files.
 
 use crate::course::{Course, UNAVAILABLE, outcome, rows_after};
-use crate::disks::{given_back, opened};
+use crate::disks::{given_back, opened, tables_of};
 use crate::failure::Failure;
 use crate::rows::rows_of;
 use service_core::Desk;
@@ -15,6 +15,8 @@ use store_core::{Backend, Store};
 #[derive(Drop)]
 pub(crate) struct Way<'c> {
     pub(crate) course: &'c Course<'c>,
+    /// The bytes of the database file on which it begins.
+    pub(crate) begin: Vec<u8>,
     rows: Vec<String>,
 }
 
@@ -44,7 +46,12 @@ pub(crate) fn way_of<'c>(alloc: Global, course: &'c Course<'c>) -> Result<Way<'c
     for count in 0..=course.asks.len() {
         rows.push(rows_after(alloc, course, count)?)?;
     }
-    Ok(Way { course, rows })
+    let begin = tables_of(alloc, course.statements)?;
+    Ok(Way {
+        course,
+        begin,
+        rows,
+    })
 }
 
 /// Opens the files, and runs the commands that didn't make what is found.
@@ -100,7 +107,7 @@ pub(crate) fn found_on<D: Disk + Drop>(alloc: Global, way: &Way<'_>, files: File
 
 /// Makes the tables that are missing, and tells what they hold.
 fn found_in<S: Backend>(alloc: Global, way: &Way<'_>, store: &mut Store<S>) -> Found {
-    if store.create_schema().is_err() {
+    if store.create_schema(alloc).is_err() {
         return Found::Refused;
     }
     match rows_of(alloc, store) {

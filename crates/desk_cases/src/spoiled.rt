@@ -64,7 +64,7 @@ fn half(alloc: Global, db: &Fuse<Memory>) -> Result<Fuse<Memory>, Failure> {
 fn log_of_none(alloc: Global) -> Fuse<Memory> {
     let Files { log, db: _ } = match opened(alloc, disks(alloc, u64::MAX, u64::MAX)) {
         Ok(mut store) => {
-            let _ = store.create_schema();
+            let _ = store.create_schema(alloc);
             given_back(store)
         }
         Err(disks) => disks,

@@ -1,7 +1,7 @@
 //! Commands on tables whose disk stops.
 
 use crate::course::Course;
-use crate::disks::{Disks, after_crash, after_kill, disks};
+use crate::disks::{Disks, after_crash, after_kill, disks_with};
 use crate::failure::Failure;
 use crate::runs::{Found, Run, Way, go_on, run_on, way_of};
 use std::alloc::Global;
@@ -49,7 +49,7 @@ fn tell(rt: &HostRuntime, calls: u64, found: Option<usize>) -> Result<(), Failur
     Ok(())
 }
 
-/// Runs the commands on new files that stop after so many calls, and goes on with what they leave:
+/// Runs the commands on files of the course that stop after so many calls, and goes on with what they leave:
 /// how many commands were answered before the stop, and how many are found after it, or none where
 /// that is wrong.
 fn stopped(
@@ -58,7 +58,8 @@ fn stopped(
     stop: Stop,
     calls: u64,
 ) -> Result<(Option<usize>, Option<usize>), Failure> {
-    let Run { files, reached, .. } = run_on(alloc, way, stop.disks(alloc, calls));
+    let disks = stop.disks(alloc, way.begin.as_slice(), calls)?;
+    let Run { files, reached, .. } = run_on(alloc, way, disks);
     let (found, ends) = stop.go_on(alloc, way, files)?;
     if ends {
         Ok((reached, found_after(reached, found)))
@@ -77,12 +78,12 @@ fn found_after(answered: Option<usize>, found: Found) -> Option<usize> {
 }
 
 impl Stop {
-    /// New files, one of which stops after so many calls.
-    fn disks(self, alloc: Global, calls: u64) -> Disks {
+    /// Files with these tables, one of which stops after so many calls.
+    fn disks(self, alloc: Global, tables: &[u8], calls: u64) -> Result<Disks, Failure> {
         if self.is_log {
-            disks(alloc, calls, u64::MAX)
+            disks_with(alloc, tables, calls, u64::MAX)
         } else {
-            disks(alloc, u64::MAX, calls)
+            disks_with(alloc, tables, u64::MAX, calls)
         }
     }
 

@@ -3,10 +3,14 @@
 use crate::changes::{change_of, number};
 use crate::dues;
 use crate::failure::Failure;
-use crate::lists::{entries, facts, facts_for, links, queues, requests, watchers};
+use crate::lists::{entries, facts, facts_for, links, queues, requests, stays, watchers};
+use desk_core::Change;
+use desk_model::stays::stays_after;
+use hours_core::Stay;
 use sqlite::{Connection, MemStore};
 use std::alloc::Global;
 use store_core::{Backend, Store, StoreFault};
+use text_core::Sequence;
 
 /// Answers each call of a store over the tables.
 pub(crate) fn run_case(rt: &HostRuntime, statements: &str, calls: &str) -> Result<(), Failure> {
@@ -44,6 +48,7 @@ fn answer<S: Backend>(rt: &HostRuntime, store: &mut Store<S>, line: &str) -> Res
         "watchers" => watchers(rt, line, store),
         "links" => links(rt, line, store.links(rt.alloc())),
         "entries" => entries(rt, line, store, rest),
+        "stays" => stays(rt, line, store, rest),
         "dues" => dues::list(rt, line, store),
         _ => answer_on_some(rt, store, line, call, rest),
     }
@@ -75,7 +80,7 @@ fn written<S: Backend>(
     rest: &str,
 ) -> Result<Result<(), StoreFault>, Failure> {
     match call {
-        "create" => Ok(store.create_schema()),
+        "create" => Ok(store.create_schema(alloc)),
         "set_dues" => dues::set(alloc, store, rest),
         _ => applied(alloc, store, call, rest),
     }
@@ -88,7 +93,22 @@ fn applied<S: Backend>(
     rest: &str,
 ) -> Result<Result<(), StoreFault>, Failure> {
     let change = change_of(alloc, call, rest)?;
-    Ok(store.apply(&change))
+    let stays = stays_with(alloc, store, &change)?;
+    Ok(store.apply(&Change { stays, ..change }))
+}
+
+/// The stays of the request that the change's first entry is about, with those that the entries begin.
+fn stays_with<S: Backend>(
+    alloc: Global,
+    store: &mut Store<S>,
+    change: &Change,
+) -> Result<Sequence<Stay>, Failure> {
+    let entries = change.entries.as_slice();
+    let before = match entries {
+        [] => Vec::new(alloc),
+        [first, ..] => store.stays_of(alloc, first.id)?,
+    };
+    Ok(Sequence::from(stays_after(before, entries)?))
 }
 
 fn version<S: Backend>(rt: &HostRuntime, line: &str, store: &mut Store<S>) -> Result<(), Failure> {

@@ -17,9 +17,9 @@ use crate::{ASKED, COMMANDS, dues, limits, spoiled, stops, written};
 /// | `tables_stop lost`, `tables_stop left` | the disk of the database file stops |
 /// | `opened WORDS` | files that are none are opened (`spoiled.rt`) |
 pub(crate) fn run_case(rt: &HostRuntime, case: &str, lines: &str) -> Result<(), Failure> {
-    let (_, asked) = case.split_once(ASKED).ok_or(Failure::BadLine)?;
+    let (statements, asked) = case.split_once(ASKED).ok_or(Failure::BadLine)?;
     let (settings, commands) = asked.split_once(COMMANDS).ok_or(Failure::BadLine)?;
-    let course = course_of(rt.alloc(), settings, commands)?;
+    let course = course_of(rt.alloc(), statements, settings, commands)?;
     try_lines(rt, &course, lines)
 }
 

@@ -33,7 +33,7 @@ pub(crate) fn run(
     line: &str,
     fails: bool,
 ) -> Result<(), Failure> {
-    let mut desk = attached(rt.alloc(), "", course.settings)?;
+    let mut desk = attached(rt.alloc(), course.statements, course.settings)?;
     for ask in course.asks.iter() {
         let _ = outcome(rt.alloc(), &mut desk, ask)?;
     }

@@ -3,7 +3,7 @@ use Rattle.std.proofs.Common.{◌≡◌, ◌∙◌, ℕ, ◌==◌, Bool, true, f
 use Rattle.std.proofs.Common.{map, filter, fold, find, Option, Some, None, append_assoc, append-nil}
 use Rattle.std.proofs.Common.{refl, ap, sym}
 use Rattle.std.specs.Option.{option_map, option_or}
-use Rattle.std.proofs.lemmas.Bool.{cond-false, eqb-true, ne_eqb}
+use Rattle.std.proofs.lemmas.Bool.{cond-false, cond-true, eq-eqb, eqb-true, ne_eqb}
 use Rattle.std.proofs.lemmas.List.{map-id}
 use Rattle.std.proofs.lemmas.List.Folds.{find-append}
 use Rattle.std.proofs.lemmas.Simd.{map-map}
@@ -232,6 +232,21 @@ found_changed change desk id r there =
     ∙ found_mapped (changed change) (id_changed change) id
     (request_filed change.filed desk).requests
     ∙ ap (option_map (changed change)) (still_found change.filed desk id r there)
+
+-- a request that is filed, with a number that none has, is found as what the change makes of it
+pub found_filed : (change : Change) (desk : Desk) (row : RequestRow)
+    → request_at desk row.id ≡ None → change.filed ≡ Some row
+    → request_at (applied change desk) row.id ≡ Some (changed change (filed row))
+found_filed change desk row none files =
+    let has : Request → Bool = λ x. x.row.id == row.id in
+    ap (find has) (requests_after change desk)
+    ∙ found_mapped (changed change) (id_changed change) row.id
+    (request_filed change.filed desk).requests
+    ∙ ap (option_map (changed change))
+    (ap (λ o. find has (request_filed o desk).requests) files
+    ∙ find-append has desk.requests (filed row ∷ [])
+    ∙ ap (λ o. option_or o (find has (filed row ∷ []))) none
+    ∙ cond-true (row.id == row.id) (Some (filed row)) None (eq-eqb row.id row.id refl))
 
 -- each of these has the number
 abbrev pub AllOf : {X : Type 0} → (X → ℕ) → ℕ → List X → Type 0

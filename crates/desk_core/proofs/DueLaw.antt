@@ -1,5 +1,5 @@
 -- Due moments in answers are those of the requests that are shown.
-use Rattle.std.proofs.Common.{◌≡◌, ℕ, List, Option, Some, None}
+use Rattle.std.proofs.Common.{ℕ, List, Option, Some, None}
 use Rattle.std.specs.List.{All}
 use Rattle.std.proofs.lemmas.List.Elements.{All-nil}
 use Rattle.settings_core.specs.declared.settings.Settings.{Settings}

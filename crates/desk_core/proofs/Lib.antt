@@ -2,7 +2,9 @@ pub mod Added
 pub mod Applied
 pub mod Asked
 pub mod AsMissing
+pub mod Begun
 pub mod Bounds
+pub mod Carried
 pub mod Changed
 pub mod Depends
 pub mod DeskLaw

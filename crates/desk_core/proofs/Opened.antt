@@ -89,11 +89,11 @@ limits_count at row opened since =
     record {
       opened = opened;
       since = since;
-      limits = λ opens level.
-          ap (λ n. sooner (due_of_limit opens level n level.resolve)
-          (due_of_limit opens level row.since (limit_on_turn level row.turn))) opened
-          ∙ ap (λ n. sooner (due_of_limit opens level at level.resolve)
-          (due_of_limit opens level n (limit_on_turn level row.turn))) since;
+      limits = λ rule opens level.
+          ap (λ n. sooner (due_of_limit rule opens level n level.resolve)
+          (due_of_limit rule opens level row.since (limit_on_turn level row.turn))) opened
+          ∙ ap (λ n. sooner (due_of_limit rule opens level at level.resolve)
+          (due_of_limit rule opens level n (limit_on_turn level row.turn))) since;
     }
 
 opened_after : (s : Settings) (at : ℕ) (caller : List ℕ) (command : Command) (desk : Desk)

@@ -77,7 +77,8 @@ all_requestors : (n : ℕ) (names : List (List ℕ))
 all_requestors n [] = tt
 all_requestors n (name ∷ names) = (refl, all_requestors n names)
 
-second_of : (call : Call) (request : SeenRequest) (move : Option (List ℕ))
+-- the second entry of a reply is of its request
+pub second_of : (call : Call) (request : SeenRequest) (move : Option (List ℕ))
     → AllOf (λ e. e.id) request.row.id (reply.second_entry call request move)
 second_of call request None = tt
 second_of call request (Some status) = (refl, tt)
@@ -126,7 +127,7 @@ touched s at caller command desk free =
     (nothing_touched (plan_of command) desk) (touches desk command) free
 
 -- a request that is found has no higher number than there are requests
-number_within : (n id : ℕ) (xs : List Request) (r : Request)
+pub number_within : (n id : ℕ) (xs : List Request) (r : Request)
     → are_numbered n (map (λ x. x.row.id) xs) ≡ true
     → find (λ x. x.row.id == id) xs ≡ Some r → r.row.id < n + length xs
 number_within n id [] r numbered there = cc

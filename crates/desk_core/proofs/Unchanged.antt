@@ -1,5 +1,5 @@
 -- A reading changes nothing, and leaves the desk.
-use Rattle.std.proofs.Common.{◌≡◌, ◌∙◌, ℕ, List, Option, Some, None, Result, Ok, Err, IfOk}
+use Rattle.std.proofs.Common.{◌≡◌, ◌∙◌, ℕ, List, [], Option, Some, None, Result, Ok, Err, IfOk}
 use Rattle.std.proofs.Common.{true, refl, ap}
 use Rattle.settings_core.specs.declared.settings.Settings.{Settings}
 use Rattle.desk_model.specs.Change.{applied, no_change}
@@ -13,7 +13,7 @@ use Rattle.desk_model.specs.declared.command.Command.{Command}
 use Rattle.desk_model.specs.declared.facts.Facts.{Facts}
 use Rattle.desk_model.specs.declared.refusal.Refusal.{Refusal}
 use Rattle.desk_model.specs.declared.rows.QueueRow.{QueueRow}
-use Rattle.desk_model.specs.Dated.{dated}
+use Rattle.desk_model.specs.Dated.{dated, due_in_queue}
 use Rattle.desk_core.specs.Decision.{change_of}
 use Rattle.desk_core.specs.Laws.{LeavesTheDesk}
 
@@ -28,7 +28,8 @@ pub reads_nothing : (command : Command) (call : Call) (facts : Facts) → IsRead
 reads_nothing command call facts reads = unchanged_by_plan (plan_of command) call facts reads
 
 -- what puts no row has no due moment
-undated : (settings : Settings) (queue : Option QueueRow) → dated settings queue no_change ≡ no_change
+undated : (settings : Settings) (queue : Option QueueRow)
+    → due_in_queue settings queue [] None ≡ None
 undated settings None = refl
 undated settings (Some queue) = refl
 
@@ -38,8 +39,9 @@ pub reads_on : (command : Command) (call : Call) (facts : Facts) (conditions : L
     → Decides result conditions (change_of call facts command) → IsReading command
     → IfOk result (λ change. change ≡ no_change)
 reads_on command call facts conditions (Ok change) decides reads =
-    decides.0.1 ∙ ap (dated call.settings facts.queue) (reads_nothing command call facts reads)
-    ∙ undated call.settings facts.queue
+    decides.0.1 ∙ ap (dated call.settings facts) (reads_nothing command call facts reads)
+    ∙ ap (λ (due : Option ℕ). record no_change { due = due })
+    (undated call.settings facts.queue)
 reads_on command call facts conditions (Err refusal) decides reads = tt
 
 same_desk : (o : Option Refusal) (desk : Desk) → desk_unless o desk desk ≡ desk

@@ -28,10 +28,11 @@ Refuses settings at caller facts command result =
     → IfErr result (λ refusal. refusal ≢ Unavailable
     → guard settings at caller command desk ≡ Some refusal)
 
--- the change of the command's plan, with the moment at which the row that it puts is due
+-- the change of the command's plan, with the stays of the request whose row it puts, and the moment
+-- at which that is due
 abbrev pub change_of : Call → Facts → Command → Change
 change_of asked facts command =
-    dated asked.settings facts.queue (change_by asked facts (plan_of command))
+    dated asked.settings facts (change_by asked facts (plan_of command))
 
 -- the result is that of the command's plan: its first condition that holds, or its change, dated
 abbrev pub FollowsPlan : Settings → ℕ → List ℕ → Facts → Command → Result Change Refusal → Type 0

@@ -9,7 +9,7 @@ use Rattle.settings_core.specs.Settings.{lifecycle_named}
 use Rattle.settings_core.specs.declared.settings.Settings.{Settings}
 use Rattle.desk_model.specs.Commands.{IsReading, requests_named}
 use Rattle.desk_model.specs.Desk.{Desk, Request, queue_at, request_at}
-use Rattle.desk_model.specs.Due.{due_on}
+use Rattle.desk_model.specs.Due.{IgnoreNone, due_on, plain_due_on}
 use Rattle.desk_model.specs.Facts.{seen_request}
 use Rattle.desk_model.specs.IsDesk.{IsDesk}
 use Rattle.desk_model.specs.Lifecycles.{is_allowed, is_inactive}
@@ -162,6 +162,12 @@ DueLaw settings desk answer = All (IsDue settings desk) (dues_told answer)
 abbrev pub TellsDueMoments : Settings → ℕ → List ℕ → Command → Desk → Type 0
 TellsDueMoments settings at caller command desk =
     IsDesk desk → DueLaw settings desk (answer_of settings at caller command desk)
+
+-- The plain due law: where no level ignores a status, a request is due as if every minute counted.
+abbrev pub PlainDueLaw : Settings → Desk → Type 0
+PlainDueLaw settings desk =
+    IgnoreNone settings → (request : Request)
+    → due_on settings desk request ≡ plain_due_on settings desk request
 
 -- A reading command leaves the desk as it was.
 abbrev pub LeavesTheDesk : Settings → ℕ → List ℕ → Command → Desk → Type 0

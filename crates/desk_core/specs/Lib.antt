@@ -1,5 +1,6 @@
 pub mod Asked
 pub mod Bounds
+pub mod Carried
 pub mod Context
 pub mod Decision
 pub mod Histories

@@ -1,3 +1,5 @@
+//! A command is decided: its first refusal, or what it changes.
+
 ghost use Rattle.text_core.specs.Form.{is_text};
 ghost use Rattle.std.specs.Prelude.{◌||◌, ◌≡◌, ◌≢◌, ◌+◌, ◌^◌, ◌<◌, true, false};
 ghost use Rattle.std.specs.Prelude.{if◌then◌else◌, IfOk, IfErr, OnOk, None, Some, [], ◌∷◌};
@@ -84,7 +86,7 @@ fn decide_on_facts(
         facts,
     };
     match context.decide(command) {
-        Ok(change) => Ok(change.dated(settings, &facts.queue)),
+        Ok(change) => Ok(change.dated(alloc, settings, facts)?),
         Err(refusal) => Err(refusal),
     }
 }

@@ -8,11 +8,12 @@ ghost use Rattle.desk_model.specs.Names.{in_order};
 ghost use Rattle.desk_model.specs.declared.rows.Watcher.{Watcher};
 ghost use Rattle.desk_core.specs.Laws.{AtEveryStep, HidesTheRest, KeepsDependencyLaw, KeepsHistory};
 ghost use Rattle.desk_core.specs.Laws.{KeepsOwnerLaw, KeepsStatusLaw, LeavesTheDesk};
-ghost use Rattle.desk_core.specs.Laws.{RefusesAsMissing};
+ghost use Rattle.desk_core.specs.Laws.{PlainDueLaw, RefusesAsMissing};
 ghost use Rattle.desk_core.specs.Laws.{ShowsByWatchers, TellsDueMoments, TellsOfTheView};
 ghost use Rattle.lifecycle_core.specs.declared.parts.Parts.{Parts};
 ghost use Rattle.desk_core.specs.Asked.{AsksToWatch, AsksUsualRight, LinksShown};
 ghost use Rattle.desk_core.specs.Bounds.{KeepsEntryLimit, KeepsQueueLimit, KeepsRequestLimit};
+ghost use Rattle.desk_core.specs.Carried.{CarriesStays};
 ghost use Rattle.desk_core.specs.Histories.{KeepsEntriesLaw, KeepsStatusesTold, TellsStatuses};
 ghost use Rattle.desk_core.specs.Opened.{KeepsOpenedLaw};
 ghost use Rattle.desk_core.specs.Orders.{TellsInOrder};
@@ -101,6 +102,18 @@ pub fn hidden_law()
 /// has.
 pub fn due_law()
     ensures { AtEveryStep TellsDueMoments }
+{}
+
+/// On a well-formed desk the change of a command that isn't refused carries the stays which the
+/// request that it files or gives another row has afterwards. At most one of its entries begins a
+/// stay, on that request.
+pub fn carried_law()
+    ensures { AtEveryStep CarriesStays }
+{}
+
+/// Where no level ignores a status, a request is due as if every minute counted.
+pub fn plain_due_law()
+    ensures { (settings : Settings) (desk : Desk) → PlainDueLaw settings desk }
 {}
 
 /// A command keeps the limits: of 1,000 queues, of the settings' requests, and, on a well-formed

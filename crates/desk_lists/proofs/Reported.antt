@@ -1,13 +1,15 @@
--- What is reported of the rows of a desk is what is told of the desk.
+-- What a person's own watches and the rows tell of the requests of a desk.
 use Rattle.std.proofs.Common.{◌≡◌, ◌∙◌, ℕ, ◌+◌, ◌≤◌, ◌<◌, ◌==◌, zero, suc, Bool, true, false, ◌&&◌}
 use Rattle.std.proofs.Common.{◌||◌, cond, List, [], ◌∷◌, filter, find, flat_map, map}
-use Rattle.std.proofs.Common.{Option, Some, inl, inr, refl, ap, ap₂, sym, subst, arith}
+use Rattle.std.proofs.Common.{Some, inl, inr, refl, ap, ap₂, sym, arith}
 use Rattle.std.proofs.Common.{rules, ◌⊎◌}
 use Rattle.std.specs.List.{AllByRecursion, list_any}
+use Rattle.std.specs.Option.{option_map_or}
+use Rattle.std.specs.Prelude.{option_and_then}
 use Rattle.std.specs.List.Sorted.{IsNonDecreasingBy}
 use Rattle.std.specs.Ordering.{nat_cmp, ordering_then}
 use Rattle.std.specs.Cmp.{nat_cmp_is}
-use Rattle.std.specs.Cmp.Lexicographic.{slice_cmp, texts_ties}
+use Rattle.std.specs.Cmp.Lexicographic.{slice_cmp}
 use Rattle.std.specs.Str.{bytes_eq}
 use Rattle.std.specs.declared.cmp.Ordering.TheVariants.{Less, Greater}
 use Rattle.std.proofs.Math.Bool.{or-false}
@@ -15,34 +17,27 @@ use Rattle.std.proofs.lemmas.Bool.{and_parts, eqb-true}
 use Rattle.std.proofs.lemmas.Bool.Decides.{eqb_tells}
 use Rattle.std.proofs.lemmas.List.Elements.{All-from_recursion, recursion_from_All}
 use Rattle.std.proofs.lemmas.List.Folds.{list_any-append}
-use Rattle.std.proofs.lemmas.Slice.Eq.{bytes_eq-Decides}
 use Rattle.sqlite_trees.specs.Tree.{IsAscending}
 use Rattle.sqlite_trees.proofs.ListLemmas.{all_weaker}
 use Rattle.sqlite_trees.proofs.ListLemmas.{ascending-filter, ascending_weaker}
 use Rattle.settings_core.specs.declared.settings.Settings.{Settings}
 use Rattle.desk_model.specs.Desk.{Desk, Request, queue_at}
+use Rattle.desk_model.specs.Due.{due_of, due_on}
 use Rattle.desk_model.specs.Facts.{seen_request}
 use Rattle.desk_model.specs.IsDesk.{IsDesk, are_numbered}
-use Rattle.desk_model.specs.Readings.Listing as listing
-use Rattle.desk_model.specs.Readings.Workload.{loads}
 use Rattle.desk_model.specs.Rights.{may_show}
-use Rattle.desk_model.specs.Told.{Told, told, told_in, told_on}
+use Rattle.desk_model.specs.Stays.{stays_of}
 use Rattle.desk_model.specs.Watchers.{is_role, may_show_by, watchers_of}
-use Rattle.desk_model.specs.declared.answer.Line.{Line}
-use Rattle.desk_model.specs.declared.answer.Load.{Load}
-use Rattle.desk_model.specs.declared.rows.QueueRow.{QueueRow}
-use Rattle.desk_model.specs.declared.rows.RequestRow.{RequestRow}
 use Rattle.desk_model.specs.declared.rows.Watcher.{Watcher}
 use Rattle.desk_model.specs.declared.rows.WatchRole.{WatchRole}
 use Rattle.desk_core.proofs.EachRequest.{found_each}
 use Rattle.desk_core.proofs.Roles.{roles_law, watchers_tell}
-use Rattle.desk_reports.specs.Rows.{QueuesRise, WatchesRise, lines_by, loads_by, shown_by}
-use Rattle.desk_reports.specs.Rows.{told_among}
-use Rattle.store_tables.specs.Contents.{request_rows, watchers}
+use Rattle.store_tables.specs.Contents.{watchers}
 use Rattle.store_tables.specs.Orders.{by_watcher}
-use Rattle.store_tables.specs.Selection.{is_filed_in, is_of_person}
+use Rattle.store_tables.specs.Selection.{is_of_person}
 use Rattle.store_tables.specs.Spelling.{role_number}
 use Rattle.store_core.proofs.RiseLemmas.{their_own, watchers_rise}
+use Rattle.store_core.specs.Due.{due_of_row}
 
 -- a person's own watches
 abbrev pub watches_on : Desk → List ℕ → List Watcher
@@ -147,113 +142,25 @@ shows_alike s person desk is =
     (recursion_from_All (λ r. find (λ x. x.row.id == r.row.id) desk.requests ≡ Some r)
     desk.requests (found_each 1 desk.requests is.requests))
 
--- ---- the rows
-
 abbrev pub Alike : Settings → List ℕ → List Watcher → List Request → Type 0
 Alike s person watches rs =
     AllByRecursion (λ r. may_show_by s person r.row watches ≡ may_show s person (seen_request r)) rs
 
-kept_rows : (s : Settings) (person : List ℕ) (watches : List Watcher) (rs : List Request)
-    → Alike s person watches rs
-    → shown_by s person watches (map (λ r. r.row) rs)
-    ≡ map (λ r. r.row) (filter (λ r. may_show s person (seen_request r)) rs)
-kept_rows s person watches [] alike = refl
-kept_rows s person watches (r ∷ rs) alike =
-    let rest = kept_rows s person watches rs alike.1 in
-    ap₂ (λ (b : Bool) (rows : List RequestRow). cond b (r.row ∷ rows) rows) alike.0 rest
-    ∙ elim (may_show s person (seen_request r)) as (λ b.
-    cond b (r.row ∷ map (λ x. x.row) (filter (λ x. may_show s person (seen_request x)) rs))
-    (map (λ x. x.row) (filter (λ x. may_show s person (seen_request x)) rs))
-    ≡ map (λ x. x.row) (cond b (r ∷ filter (λ x. may_show s person (seen_request x)) rs)
-    (filter (λ x. may_show s person (seen_request x)) rs))) [
-      | true ↦ refl
-      | false ↦ refl
-    ]
+-- ---- when each request is due
 
-map_rows : (s : Settings) (desk : Desk) (rs : List Request)
-    → map (told_among s desk.queues) (map (λ r. r.row) rs) ≡ map (told_on s desk) rs
-map_rows s desk [] = refl
-map_rows s desk (r ∷ rs) =
-    ap (λ (ts : List Told). told_on s desk r ∷ ts) (map_rows s desk rs)
+abbrev pub HaveDues : Settings → Desk → List Request → Type 0
+HaveDues s desk rs = AllByRecursion (λ r. due_of_row s desk r.row ≡ due_on s desk r) rs
 
--- the rows that are shown tell what is told
-pub rows_told : (s : Settings) (person : List ℕ) (desk : Desk) → IsDesk desk
-    → map (told_among s desk.queues)
-    (shown_by s person (watches_on desk person) (request_rows desk))
-    ≡ told s person desk
-rows_told s person desk is =
-    ap (map (told_among s desk.queues))
-    (kept_rows s person (watches_on desk person) desk.requests (shows_alike s person desk is))
-    ∙ map_rows s desk (filter (λ r. may_show s person (seen_request r)) desk.requests)
-
--- ---- the list of a queue
-
-told_first : (b : Bool) (t : Told) (ts : List Told)
-    → cond b (listing.line_of t ∷ map listing.line_of ts) (map listing.line_of ts)
-    ≡ map listing.line_of (cond b (t ∷ ts) ts)
-told_first true t ts = refl
-told_first false t ts = refl
-
-lines_of_rows : (s : Settings) (person queue : List ℕ) (desk : Desk) (watches : List Watcher)
-    (rs : List Request) → Alike s person watches rs
-    → lines_by s (queue_at desk queue)
-    (shown_by s person watches (filter (is_filed_in queue) (map (λ r. r.row) rs)))
-    ≡ listing.lines_of queue
-    (map (told_on s desk) (filter (λ r. may_show s person (seen_request r)) rs))
-lines_of_rows s person queue desk watches [] alike = refl
-lines_of_rows s person queue desk watches (r ∷ rs) alike =
-    let rows : List RequestRow = filter (is_filed_in queue) (map (λ x. x.row) rs) in
-    let shown : List Request = filter (λ x. may_show s person (seen_request x)) rs in
-    let line : Line = listing.line_of (told_in s (queue_at desk queue) r.row) in
-    let others : List Line = listing.lines_of queue (map (told_on s desk) shown) in
-    let rest = lines_of_rows s person queue desk watches rs alike.1 in
-    let ties : is_filed_in queue r.row ≡ bytes_eq r.row.queue queue =
-    sym (texts_ties r.row.queue queue) in
-    elim (bytes_eq r.row.queue queue) as (λ b. bytes_eq r.row.queue queue ≡ b
-    → lines_by s (queue_at desk queue)
-    (shown_by s person watches (cond (is_filed_in queue r.row) (r.row ∷ rows) rows))
-    ≡ listing.lines_of queue (map (told_on s desk)
-    (cond (may_show s person (seen_request r)) (r ∷ shown) shown))) [
-      | true ↦ λ filed.
-          let name : r.row.queue ≡ queue = (bytes_eq-Decides r.row.queue queue).0 filed in
-          ap (λ b. lines_by s (queue_at desk queue)
-          (shown_by s person watches (cond b (r.row ∷ rows) rows))) (ties ∙ filed)
-          ∙ ap (λ b. lines_by s (queue_at desk queue)
-          (cond b (r.row ∷ shown_by s person watches rows) (shown_by s person watches rows)))
-          alike.0
-          ∙ elim (may_show s person (seen_request r)) as (λ b.
-          lines_by s (queue_at desk queue)
-          (cond b (r.row ∷ shown_by s person watches rows) (shown_by s person watches rows))
-          ≡ listing.lines_of queue (map (told_on s desk) (cond b (r ∷ shown) shown))) [
-            | true ↦
-                ap (λ (ls : List Line). line ∷ ls) rest
-                ∙ ap (λ n. listing.line_of (told_in s (queue_at desk n) r.row) ∷ others) (sym name)
-                ∙ ap (λ b. cond b (listing.line_of (told_on s desk r) ∷ others) others) (sym filed)
-                ∙ told_first (bytes_eq r.row.queue queue) (told_on s desk r)
-                (filter (listing.is_in queue) (map (told_on s desk) shown))
-            | false ↦ rest
-          ]
-      | false ↦ λ other.
-          ap (λ b. lines_by s (queue_at desk queue)
-          (shown_by s person watches (cond b (r.row ∷ rows) rows))) (ties ∙ other)
-          ∙ rest
-          ∙ elim (may_show s person (seen_request r)) as (λ b. others
-          ≡ listing.lines_of queue (map (told_on s desk) (cond b (r ∷ shown) shown))) [
-            | true ↦
-                ap (λ b. cond b (listing.line_of (told_on s desk r) ∷ others) others) (sym other)
-                ∙ told_first (bytes_eq r.row.queue queue) (told_on s desk r)
-                (filter (listing.is_in queue) (map (told_on s desk) shown))
-            | false ↦ refl
-          ]
-    ] refl
-
-pub list_told : (s : Settings) (person queue : List ℕ) (desk : Desk) → IsDesk desk
-    → lines_by s (queue_at desk queue)
-    (shown_by s person (watches_on desk person) (filter (is_filed_in queue) (request_rows desk)))
-    ≡ listing.lines_of queue (told s person desk)
-list_told s person queue desk is =
-    lines_of_rows s person queue desk (watches_on desk person) desk.requests
-    (shows_alike s person desk is)
+-- the stays that are found by the number of a row are those of its request
+pub have_dues : (s : Settings) (desk : Desk) → IsDesk desk → HaveDues s desk desk.requests
+have_dues s desk is =
+    all_weaker (λ r. find (λ x. x.row.id == r.row.id) desk.requests ≡ Some r)
+    (λ r. due_of_row s desk r.row ≡ due_on s desk r)
+    (λ r there. ap (λ o. option_and_then
+    (λ q. due_of s q (option_map_or (λ (x : Request). stays_of x.entries) o []) r.row)
+    (queue_at desk r.row.queue)) there) desk.requests
+    (recursion_from_All (λ r. find (λ x. x.row.id == r.row.id) desk.requests ≡ Some r)
+    desk.requests (found_each 1 desk.requests is.requests))
 
 -- ---- the watches are in the order of their requests
 
@@ -271,62 +178,21 @@ lower_id a b e =
       | inr low ↦ low
     ]
 
-not_falling : (ws : List Watcher) → IsAscending (λ a b. a.id ≤ b.id) ws
-    → IsNonDecreasingBy (λ w. w.id) ws
-not_falling [] up i j d le lt = absurd (omega arith)
-not_falling (w ∷ ws) up zero zero d le lt = omega arith
-not_falling (w ∷ ws) up zero (suc j) d le lt =
-    All-from_recursion (λ v. w.id ≤ v.id) ws up.0 j d (omega arith)
-not_falling (w ∷ ws) up (suc i) zero d le lt = absurd (omega arith)
-not_falling (w ∷ ws) up (suc i) (suc j) d le lt =
-    not_falling ws up.1 i j d (omega arith) (omega arith)
+pub not_falling : {X : Type 0} (number : X → ℕ) (xs : List X)
+    → IsAscending (λ a b. number a ≤ number b) xs → IsNonDecreasingBy number xs
+not_falling number [] up i j d le lt = absurd (omega arith)
+not_falling number (x ∷ xs) up zero zero d le lt = omega arith
+not_falling number (x ∷ xs) up zero (suc j) d le lt =
+    All-from_recursion (λ y. number x ≤ number y) xs up.0 j d (omega arith)
+not_falling number (x ∷ xs) up (suc i) zero d le lt = absurd (omega arith)
+not_falling number (x ∷ xs) up (suc i) (suc j) d le lt =
+    not_falling number xs up.1 i j d (omega arith) (omega arith)
 
 pub watches_in_order : (person : List ℕ) (desk : Desk) → IsDesk desk
     → IsNonDecreasingBy (λ w. w.id) (watches_on desk person)
 watches_in_order person desk is =
-    not_falling (watches_on desk person)
+    not_falling (λ w. w.id) (watches_on desk person)
     (ascending_weaker (λ a b. by_watcher a b ≡ Less) (λ a b. a.id ≤ b.id) lower_id
     (watches_on desk person)
     (ascending-filter (λ a b. by_watcher a b ≡ Less) (is_of_person person) (watchers desk)
     (watchers_rise desk is)))
-
--- ---- what is made of lists that are the desk's
-
-pub list_of : (s : Settings) (person queue : List ℕ) (desk : Desk) → IsDesk desk
-    → (watches : List Watcher) (at : Option QueueRow) (rows : List RequestRow) (lines : List Line)
-    → watches ≡ watches_on desk person → at ≡ queue_at desk queue
-    → rows ≡ filter (is_filed_in queue) (request_rows desk)
-    → (WatchesRise watches → lines ≡ lines_by s at (shown_by s person watches rows))
-    → lines ≡ listing.lines_of queue (told s person desk)
-list_of s person queue desk is watches at rows lines same_watches same_queue same_rows made =
-    let one = subst (λ (ws : List Watcher). WatchesRise ws
-    → lines ≡ lines_by s at (shown_by s person ws rows)) same_watches made in
-    one (watches_in_order person desk is)
-    ∙ ap (λ q. lines_by s q (shown_by s person (watches_on desk person) rows)) same_queue
-    ∙ ap (λ rs. lines_by s (queue_at desk queue) (shown_by s person (watches_on desk person) rs))
-    same_rows
-    ∙ list_told s person queue desk is
-
--- the lists that the workload is told of
-pub record AreOf (desk : Desk) (person : List ℕ) (watches : List Watcher) (queues : List QueueRow)
-    (rows : List RequestRow) : Type 0 where
-  pub own : watches ≡ watches_on desk person
-  pub all_queues : queues ≡ desk.queues
-  pub all_rows : rows ≡ request_rows desk
-
-pub loads_of : (at : ℕ) (s : Settings) (person : List ℕ) (desk : Desk) → IsDesk desk
-    → (watches : List Watcher) (queues : List QueueRow) (rows : List RequestRow)
-    (given : List Load) → AreOf desk person watches queues rows
-    → (WatchesRise watches → QueuesRise queues
-    → given ≡ loads_by at s queues (shown_by s person watches rows))
-    → given ≡ loads at (filter (λ t. t.is_live) (told s person desk))
-loads_of at s person desk is watches queues rows given same made =
-    let W = watches_on desk person in
-    let one = subst (λ (ws : List Watcher). WatchesRise ws → QueuesRise queues
-    → given ≡ loads_by at s queues (shown_by s person ws rows)) same.own made in
-    let two = subst (λ (qs : List QueueRow). WatchesRise W → QueuesRise qs
-    → given ≡ loads_by at s qs (shown_by s person W rows)) same.all_queues one in
-    let three = subst (λ (rs : List RequestRow). WatchesRise W → QueuesRise desk.queues
-    → given ≡ loads_by at s desk.queues (shown_by s person W rs)) same.all_rows two in
-    three (watches_in_order person desk is) is.queues
-    ∙ ap (λ ts. loads at (filter (λ t. t.is_live) ts)) (rows_told s person desk is)

@@ -1,25 +1,23 @@
 //! What the commands that report answer, of the tables: the rows are read here, and told by
 //! `desk_reports`.
 ghost use Rattle.std.specs.Prelude.{◌≡◌, IfErr, filter};
-ghost use Rattle.std.specs.Option.{option_map};
-ghost use Rattle.desk_model.specs.Desk.{queue_at};
 ghost use Rattle.desk_model.specs.Readings.Listing as listing;
 ghost use Rattle.desk_model.specs.Readings.Overdue as overdue;
 ghost use Rattle.desk_model.specs.Readings.Workload as workload;
 ghost use Rattle.desk_model.specs.Told as reports;
-ghost use Rattle.store_tables.specs.Calls.{Spares, Tells};
+ghost use Rattle.store_tables.specs.Calls.{Spares};
 ghost use Rattle.store_core.specs.Due.{TellsDue};
 ghost use Rattle.store_core.specs.Seen.{state_of};
 
 use crate::fault::or_unavailable;
-use desk_core::{LateLine, Line, Load, QueueRow, Refusal};
+use desk_core::{LateLine, Line, Load, Refusal};
 use settings_core::Settings;
 use std::alloc::Global;
 use store_core::{Backend, Store};
 use text_core::{Sequence, Text};
 
-/// A line for each request of the queue that the caller may show. `Unavailable` where memory or the
-/// store refused. The tables stay as they are.
+/// A line for each request of the queue that the caller may show, with the due moments that the
+/// tables keep. `Unavailable` where memory or the store refused. The tables stay as they are.
 #[tactic(auto, using(store_tables::proofs::Spared::joined, store_tables::proofs::Spared::stands))]
 pub fn list<S: Backend>(
     alloc: Global,
@@ -27,19 +25,17 @@ pub fn list<S: Backend>(
     settings: &Settings,
     caller: &str,
     queue: &Text,
-    in_queue: Option<&QueueRow>,
 ) -> Result<Sequence<Line>, Refusal>
-    ensures told { Tells (λ desk lines.
-        option_map (λ q. q.now) in_queue.entry ≡ queue_at desk queue.now
-        → lines ≡ listing.lines_of queue.now (reports.told settings.now caller.now desk))
+    ensures told { TellsDue settings.now (λ desk lines. lines
+        ≡ listing.lines_of queue.now (reports.told settings.now caller.now desk))
         (state_of S.Store store.old) (state_of S.Store store.new) result }
     ensures kept { Spares (state_of S.Store store.old) (state_of S.Store store.new) }
     ensures fault { IfErr result (λ refusal. refusal ≡ Refusal.Unavailable) }
 {
     let watches = or_unavailable(store.watches_of(alloc, caller))?;
-    let rows = or_unavailable(store.requests_of(alloc, queue))?;
+    let rows = or_unavailable(store.dated_requests_of(alloc, queue))?;
     let own = watches.as_slice();
-    let lines = desk_reports::list(alloc, settings, caller, own, in_queue, rows)?;
+    let lines = desk_reports::list(alloc, settings, caller, own, rows)?;
     Ok(lines)
 }
 
@@ -67,8 +63,8 @@ pub fn overdue<S: Backend>(
     Ok(lines)
 }
 
-/// What each owner has of the requests that the caller may show. `Unavailable` where memory or the
-/// store refused. The tables stay as they are.
+/// What each owner has of the requests that the caller may show, by the due moments that the tables
+/// keep. `Unavailable` where memory or the store refused. The tables stay as they are.
 #[tactic(auto, using(store_tables::proofs::Spared::joined, store_tables::proofs::Spared::stands))]
 pub fn workload<S: Backend>(
     alloc: Global,
@@ -77,7 +73,7 @@ pub fn workload<S: Backend>(
     at: u32,
     caller: &str,
 ) -> Result<Sequence<Load>, Refusal>
-    ensures told { Tells (λ desk loads. loads ≡ workload.loads at
+    ensures told { TellsDue settings.now (λ desk loads. loads ≡ workload.loads at
         (filter (λ r. r.is_live) (reports.told settings.now caller.now desk)))
         (state_of S.Store store.old) (state_of S.Store store.new) result }
     ensures kept { Spares (state_of S.Store store.old) (state_of S.Store store.new) }
@@ -85,7 +81,7 @@ pub fn workload<S: Backend>(
 {
     let watches = or_unavailable(store.watches_of(alloc, caller))?;
     let queues = or_unavailable(store.queues(alloc))?;
-    let rows = or_unavailable(store.requests(alloc))?;
+    let rows = or_unavailable(store.dated_requests(alloc))?;
     let (watches, queues) = (watches.as_slice(), queues.as_slice());
     let loads = desk_reports::workload(alloc, at, settings, caller, watches, queues, rows)?;
     Ok(loads)

@@ -21,6 +21,7 @@ no_change =
       filed = None;
       row = None;
       due = None;
+      stays = [];
       put = [];
       taken = [];
       linked = None;

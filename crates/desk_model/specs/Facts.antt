@@ -1,9 +1,11 @@
 -- What a command sees of the desk.
 use Rattle.std.specs.Prelude.{ℕ, false, ◌&&◌, ◌==◌, List, [], Option}
 use Rattle.std.specs.Prelude.{None, length, filter, flat_map, option_and_then}
-use Rattle.std.specs.Option.{option_map, option_to_list}
+use Rattle.std.specs.Option.{option_map, option_map_or, option_to_list}
+use Rattle.hours_core.specs.declared.stay.Stay.{Stay}
 use Rattle.desk_model.specs.Desk.{Desk, Request, queue_at, request_at, queue_count, request_count}
 use Rattle.desk_model.specs.Links.{is_kind}
+use Rattle.desk_model.specs.Stays.{stays_of}
 use Rattle.desk_model.specs.declared.rows.QueueRow.{QueueRow}
 use Rattle.desk_model.specs.declared.rows.LinkKind.TheVariants.{DependsOn}
 use Rattle.desk_model.specs.declared.rows.LinkRow.{LinkRow}
@@ -24,6 +26,10 @@ seen_request request =
 
 abbrev pub seen_request_at : Desk → ℕ → Option SeenRequest
 seen_request_at desk id = option_map seen_request (request_at desk id)
+
+-- the stays of a request, if it is there
+abbrev pub stays_at : Desk → ℕ → List Stay
+stays_at desk id = option_map_or (λ r. stays_of r.entries) (request_at desk id) []
 
 -- the queue of a request
 abbrev pub queue_of : Desk → Option Request → Option QueueRow
@@ -52,6 +58,7 @@ no_facts =
       queue_count = 0;
       request_count = 0;
       request = None;
+      stays = [];
       other = None;
       is_linked = false;
       dependencies = [];
@@ -70,10 +77,11 @@ facts_on_queue desk name =
       request_count = request_count desk;
     }
 
--- of a command on a request: the request and its queue
+-- of a command on a request: the request, its stays and its queue
 abbrev pub facts_on_request : Desk → ℕ → Facts
 facts_on_request desk id =
     record no_facts {
       queue = queue_of desk (request_at desk id);
       request = seen_request_at desk id;
+      stays = stays_at desk id;
     }

@@ -16,6 +16,7 @@ pub mod Readings
 pub mod Refusals
 pub mod Rights
 pub mod Scope
+pub mod Stays
 pub mod Step
 pub mod Told
 pub mod View

@@ -2,12 +2,14 @@
 use Rattle.std.specs.Prelude.{ℕ, Bool, false, not, nat_lt, List, filter, map}
 use Rattle.std.specs.Prelude.{Option, option_and_then}
 use Rattle.std.specs.Option.{option_map_or}
+use Rattle.hours_core.specs.declared.stay.Stay.{Stay}
 use Rattle.settings_core.specs.declared.settings.Settings.{Settings}
 use Rattle.desk_model.specs.Desk.{Desk, Request, queue_at}
 use Rattle.desk_model.specs.Due.{due_of}
 use Rattle.desk_model.specs.Facts.{seen_request}
 use Rattle.desk_model.specs.Lifecycles.{is_inactive, lifecycle_of}
 use Rattle.desk_model.specs.Rights.{may_show}
+use Rattle.desk_model.specs.Stays.{stays_of}
 use Rattle.desk_model.specs.declared.rows.QueueRow.{QueueRow}
 use Rattle.desk_model.specs.declared.rows.RequestRow.{RequestRow}
 
@@ -17,18 +19,18 @@ pub record Told : Type 0 where
   pub due : Option ℕ
   pub is_live : Bool
 
--- a request of this queue, if the queue is there
-abbrev pub told_in : Settings → Option QueueRow → RequestRow → Told
-told_in settings queue row =
+-- a request of this queue with these stays, if the queue is there
+abbrev pub told_in : Settings → Option QueueRow → List Stay → RequestRow → Told
+told_in settings queue stays row =
     record {
       row = row;
-      due = option_and_then (λ q. due_of settings q row) queue;
+      due = option_and_then (λ q. due_of settings q stays row) queue;
       is_live = not (is_inactive (lifecycle_of settings queue) row.status);
     }
 
 abbrev pub told_on : Settings → Desk → Request → Told
 told_on settings desk request =
-    told_in settings (queue_at desk request.row.queue) request.row
+    told_in settings (queue_at desk request.row.queue) (stays_of request.entries) request.row
 
 -- the requests of the desk that the caller may show, in the order of their numbers
 abbrev pub told : Settings → List ℕ → Desk → List Told

@@ -1,3 +1,5 @@
+//! What commands answer.
+
 use crate::rows::{Entry, QueueRow, RequestRow};
 use hours_core::Minute;
 use text_core::{Sequence, Text, Texts};

@@ -1,15 +1,19 @@
-ghost use Rattle.std.specs.Prelude.{◌≡◌, option_and_then};
+//! What commands change.
+
+ghost use Rattle.std.specs.Prelude.{◌≡◌, option_and_then, IfOk};
 ghost use Rattle.desk_model.specs.Change as change;
 ghost use Rattle.desk_model.specs.Due as due;
-ghost use Rattle.desk_model.specs.Dated.{dated, due_in_queue, either_row};
+ghost use Rattle.desk_model.specs.Dated.{dated, due_in_queue, either_row, stays_put};
 ghost use Rattle.desk_model.specs.Plan.{told_of};
 
 use crate::answer::Answer;
 use crate::due::due_of;
+use crate::facts::Facts;
 use crate::rows::{Entry, LinkRow, QueueRow, RequestRow, Watcher};
-use hours_core::Minute;
+use crate::stays::stays_after;
+use hours_core::{Minute, Stay};
 use settings_core::Settings;
-use std::alloc::Global;
+use std::alloc::{AllocError, Global};
 use text_core::Sequence;
 
 /// What an accepted command does to the desk, in this order. A reading command does nothing.
@@ -23,6 +27,8 @@ pub struct Change {
     pub row: Option<RequestRow>,
     /// When the request that is filed, or that gets another row, is due.
     pub due: Option<Minute>,
+    /// The stays of that request after the change, in order; none where the change puts no row.
+    pub stays: Sequence<Stay>,
     /// The persons that are put into a role.
     pub put: Sequence<Watcher>,
     /// The persons that are taken out of a role.
@@ -47,36 +53,62 @@ impl Change {
         }
     }
 
-    /// The change with the moment at which the request that it files, or that gets another row, is
-    /// due in this queue. Nothing else of it changes.
-    pub fn dated(self, settings: &Settings, queue: &Option<QueueRow>) -> Change
-        ensures { result ≡ dated settings.now queue.now self }
+    /// The change with the stays that the request that it files, or that gets another row, has after
+    /// it, and with the moment at which that request is due. Nothing else of it changes.
+    pub fn dated(
+        self,
+        alloc: Global,
+        settings: &Settings,
+        facts: &Facts,
+    ) -> Result<Change, AllocError>
+        ensures { IfOk result (λ change. change ≡ dated settings.now facts.now self) }
     {
-        let due = self.due_in(settings, queue);
-        Change { due, ..self }
+        let stays = self.stays_put(alloc, &facts.stays)?;
+        let due = self.due_in(settings, &facts.queue, stays.as_slice());
+        Ok(Change { due, stays, ..self })
+    }
+
+    /// The stays of the request whose row the change puts, where these are those before it; none
+    /// where it puts no row.
+    fn stays_put(&self, alloc: Global, stays: &Sequence<Stay>) -> Result<Sequence<Stay>, AllocError>
+        ensures { IfOk result (λ put. put ≡ stays_put stays.now self.now.entries
+            (either_row self.now.filed self.now.row)) }
+    {
+        if self.filed.is_none() && self.row.is_none() {
+            return Ok(Sequence::from(Vec::new(alloc)));
+        }
+        let so_far = stays.clone()?.into_vec();
+        let after = stays_after(so_far, self.entries.as_slice())?;
+        Ok(Sequence::from(after))
     }
 
     /// When the request that is filed, or that gets another row, is due in this queue, in minutes
     /// since 1970-01-01 00:00 UTC; none where the change puts no row.
-    fn due_in(&self, settings: &Settings, queue: &Option<QueueRow>) -> Option<Minute>
-        ensures { result
-            ≡ due_in_queue settings.now queue.now (either_row self.now.filed self.now.row) }
+    fn due_in(
+        &self,
+        settings: &Settings,
+        queue: &Option<QueueRow>,
+        stays: &[Stay],
+    ) -> Option<Minute>
+        ensures { result ≡ due_in_queue settings.now queue.now stays.now
+            (either_row self.now.filed self.now.row) }
     {
         match queue {
             Some(queue) => match &self.filed {
-                Some(row) => due_of(settings, queue, row),
-                None => self.due_of_row(settings, queue),
+                Some(row) => due_of(settings, queue, row, stays),
+                None => self.due_of_row(settings, queue, stays),
             },
             None => None,
         }
     }
 
     /// When the request that gets another row is due in this queue.
-    fn due_of_row(&self, settings: &Settings, queue: &QueueRow) -> Option<Minute>
-        ensures { result ≡ option_and_then (due.due_of settings.now queue.now) self.now.row }
+    fn due_of_row(&self, settings: &Settings, queue: &QueueRow, stays: &[Stay]) -> Option<Minute>
+        ensures { result
+            ≡ option_and_then (due.due_of settings.now queue.now stays.now) self.now.row }
     {
         match &self.row {
-            Some(row) => due_of(settings, queue, row),
+            Some(row) => due_of(settings, queue, row, stays),
             None => None,
         }
     }
@@ -90,6 +122,7 @@ impl Change {
             filed: None,
             row: None,
             due: None,
+            stays: Sequence::from(Vec::new(alloc)),
             put: Sequence::from(Vec::new(alloc)),
             taken: Sequence::from(Vec::new(alloc)),
             linked: None,

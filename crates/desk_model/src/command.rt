@@ -1,3 +1,5 @@
+//! The commands of the desk.
+
 ghost use Rattle.std.specs.Prelude.{◌≡◌};
 ghost use Rattle.desk_model.specs.Commands.{plan_of};
 ghost use Rattle.desk_model.specs.Desk.{Desk};

@@ -1,3 +1,5 @@
+//! When a request is due.
+
 ghost use Rattle.std.specs.Prelude.{◌≡◌, option_and_then};
 ghost use Rattle.std.specs.Option.{option_map};
 ghost use Rattle.hours_core.specs.Calendar.{opens};
@@ -6,7 +8,7 @@ ghost use Rattle.settings_core.specs.Settings.{level_named};
 ghost use Rattle.desk_model.specs.Due as due;
 
 use crate::rows::{QueueRow, RequestRow, Turn};
-use hours_core::{Calendar, Level, Limit, Minute};
+use hours_core::{Calendar, Level, Limit, Minute, Stay};
 use lifecycle_core::{Class, Lifecycle};
 use settings_core::Settings;
 use text_core::Text;
@@ -14,18 +16,24 @@ use text_core::Text;
 /// When a request of this queue is due: the least moment among the limits of its level that count.
 /// These are the limit to resolve it, since it was opened, and the limit of the turn, since the
 /// turn began: to respond, where it is the desk's, and to keep the requestor in the loop, where it
-/// is the requestor's.
+/// is the requestor's. Minutes of the request's stays in a status that the level ignores don't
+/// count; the stays stand in any order, and may overlap.
 ///
 /// None where its status is inactive, where it has no level, where no limit that counts is over by
 /// 2100-01-01 00:00, and where the settings lack the queue's lifecycle, the status, the level or
 /// its calendar.
-pub fn due_of(settings: &Settings, queue: &QueueRow, request: &RequestRow) -> Option<Minute>
-    ensures { result ≡ due.due_of settings.now queue.now request.now }
+pub fn due_of(
+    settings: &Settings,
+    queue: &QueueRow,
+    request: &RequestRow,
+    stays: &[Stay],
+) -> Option<Minute>
+    ensures { result ≡ due.due_of settings.now queue.now stays.now request.now }
 {
     match settings.lifecycle(queue.lifecycle.as_str()) {
         Some(lifecycle) if is_live(lifecycle, &request.status) => {
             let level = level_of(settings, &request.level)?;
-            due_at_level(settings, level, request)
+            due_at_level(settings, level, request, stays)
         }
         _ => None,
     }
@@ -43,11 +51,17 @@ fn is_live(lifecycle: &Lifecycle, status: &Text) -> bool
 }
 
 /// When a request with a live status is due by this level.
-fn due_at_level(settings: &Settings, level: &Level, request: &RequestRow) -> Option<Minute>
-    ensures { result ≡ due.due_at_level settings.now request.now level.now }
+fn due_at_level(
+    settings: &Settings,
+    level: &Level,
+    request: &RequestRow,
+    stays: &[Stay],
+) -> Option<Minute>
+    ensures { result
+        ≡ due.due_at_level (due.rule_of stays.now) settings.now request.now level.now }
 {
     let calendar = settings.calendar(level.calendar.as_str())?;
-    least_due(calendar, level, request)
+    least_due(calendar, level, request, stays)
 }
 
 /// The level of this name, if one is given and known.
@@ -60,16 +74,23 @@ fn level_of<'s>(settings: &'s Settings, name: &Option<Text>) -> Option<&'s Level
     }
 }
 
-fn least_due(calendar: &Calendar, level: &Level, request: &RequestRow) -> Option<Minute>
-    ensures { result ≡ due.least_due (opens calendar.now) level.now request.now }
+/// The least of the limits that count by this calendar.
+fn least_due(
+    calendar: &Calendar,
+    level: &Level,
+    request: &RequestRow,
+    stays: &[Stay],
+) -> Option<Minute>
+    ensures { result
+        ≡ due.least_due (due.rule_of stays.now) (opens calendar.now) level.now request.now }
 {
     let on_turn = match request.turn {
         Turn::Desk => level.response,
         Turn::Requestor => level.keep_in_loop,
     };
     sooner(
-        due_of_limit(calendar, level, request.opened, level.resolve),
-        due_of_limit(calendar, level, request.since, on_turn),
+        due_of_limit(calendar, level, request.opened, level.resolve, stays),
+        due_of_limit(calendar, level, request.since, on_turn, stays),
     )
 }
 
@@ -79,11 +100,13 @@ fn due_of_limit(
     level: &Level,
     from: Minute,
     limit: Option<Limit>,
+    stays: &[Stay],
 ) -> Option<Minute>
-    ensures { result ≡ due.due_of_limit (opens calendar.now) level.now from limit }
+    ensures { result
+        ≡ due.due_of_limit (due.rule_of stays.now) (opens calendar.now) level.now from limit }
 {
     match limit {
-        Some(limit) => level.limit_due(calendar, from, limit),
+        Some(limit) => level.limit_due(calendar, from, limit, stays),
         None => None,
     }
 }

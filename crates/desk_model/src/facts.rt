@@ -1,9 +1,12 @@
+//! What a command sees of the desk.
+
 ghost use Rattle.std.specs.Prelude.{◌≡◌, ◌+◌, ◌^◌, ◌<◌, false};
 ghost use Rattle.desk_model.specs.Commands.Create as create;
 ghost use Rattle.desk_model.specs.Commands.SetStatus as set_status;
 
 use crate::lifecycles::is_inactive;
 use crate::rows::{QueueRow, RequestRow};
+use hours_core::Stay;
 use settings_core::Settings;
 use std::alloc::AllocError;
 use text_core::{Sequence, Text, Texts};
@@ -19,6 +22,8 @@ pub struct Facts {
     pub request_count: u32,
     /// The request that the command names.
     pub request: Option<SeenRequest>,
+    /// The stays of that request, in order.
+    pub stays: Sequence<Stay>,
     /// The other request that the command names.
     pub other: Option<SeenRequest>,
     /// Whether the link that the command names is there.

@@ -18,6 +18,7 @@ pub mod revised;
 pub mod rights;
 pub mod rows;
 pub mod scope;
+pub mod stays;
 
 pub use answer::{Answer, LateLine, Line, Links, Load, Shown};
 pub use change::Change;
@@ -32,3 +33,4 @@ pub use rows::{
     Entry, EntryKind, LinkKind, LinkRow, QueueRow, RequestRow, Turn, WatchRole, Watcher,
 };
 pub use scope::Scope;
+pub use stays::stays_of;

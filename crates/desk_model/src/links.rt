@@ -1,3 +1,5 @@
+//! Kinds of links.
+
 ghost use Rattle.std.specs.Prelude.{◌≡◌};
 ghost use Rattle.desk_model.specs.Links as links;
 

@@ -1,3 +1,5 @@
+//! Lists of names.
+
 ghost use Rattle.std.specs.Prelude.{◌≡◌, IfOk};
 ghost use Rattle.desk_model.specs.Names.{in_order};
 

@@ -1,3 +1,5 @@
+//! Why commands are refused.
+
 ghost use Rattle.std.specs.Prelude.{◌≡◌};
 ghost use Rattle.desk_model.specs.Refusals.{number_of, name_of};
 ghost use Rattle.desk_model.specs.declared.refusal.Refusal.TheVariants.{Unavailable};

@@ -1,3 +1,5 @@
+//! A request with one thing about it changed.
+
 ghost use Rattle.std.specs.Prelude.{◌≡◌, IfOk};
 ghost use Rattle.std.specs.Option.{option_map};
 ghost use Rattle.desk_model.specs.Commands.Reply as reply;

@@ -1,3 +1,5 @@
+//! What a person may see, and the roles that a person has on a request.
+
 ghost use Rattle.std.specs.Prelude.{◌≡◌};
 ghost use Rattle.desk_model.specs.Rights as rights;
 ghost use Rattle.desk_model.specs.Watchers as words;

@@ -1,5 +1,8 @@
+//! The rows of a desk: queues, requests, watchers, links and entries.
+
 ghost use Rattle.std.specs.Prelude.{◌≡◌, IfOk};
 ghost use Rattle.desk_model.specs.Readings.History.{is_comment};
+ghost use Rattle.desk_model.specs.Stays.{begins_stay};
 
 use hours_core::Minute;
 use std::alloc::AllocError;
@@ -133,6 +136,17 @@ impl EntryKind {
     {
         match self {
             EntryKind::Comment => true,
+            _ => false,
+        }
+    }
+
+    /// Whether the entry begins a stay: one that files the request or moves its status.
+    pub fn begins_stay(self) -> bool
+        ensures { result ≡ begins_stay self }
+    {
+        match self {
+            EntryKind::Create => true,
+            EntryKind::Status => true,
             _ => false,
         }
     }

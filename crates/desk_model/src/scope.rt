@@ -1,3 +1,5 @@
+//! Which part of the desk a command looks at.
+
 use crate::rows::LinkRow;
 use text_core::Text;
 

@@ -1,19 +1,18 @@
 -- Connections that are answered one after the other.
-use Rattle.std.proofs.Common.{◌≡◌, ◌≤◌, ◌+◌, inl, inr, ℕ, zero, suc, List, Option, Result, Ok, Err}
+use Rattle.std.proofs.Common.{◌≡◌, ◌+◌, inl, inr, ℕ, zero, suc, List, Option, Result, Ok, Err}
 use Rattle.std.proofs.Common.{refl, sym, subst, arith}
 use Rattle.std.specs.Prelude.{⊤}
 use Rattle.sqlite.specs.State.{State}
 use Rattle.settings_core.specs.declared.settings.Settings.{Settings}
 use Rattle.desk_model.specs.Desk.{Desk}
 use Rattle.desk_model.specs.IsDesk.{IsDesk}
-use Rattle.service_core.specs.TableSteps.{LeadsOn}
 use Rattle.store_tables.specs.Calls.{WasClean}
 use Rattle.wire_core.specs.Served.{IsServed}
 use Rattle.wire_core.specs.declared.fault.ServeFault.{ServeFault}
 use Rattle.wire_core.specs.declared.fault.ServeFault.TheVariants.{NoMemory, Read, Write}
 use Rattle.wire_core.proofs.Serving.{formed_stream}
 use Rattle.desk_program.specs.Serving.{AnswersConnection, AnswersConnections, AnswersMany}
-use Rattle.desk_program.specs.Serving.{AnswersOne, IsEnded}
+use Rattle.desk_program.specs.Serving.{AnswersOne}
 
 -- a message that was served is a connection that was answered
 pub answered : (s : Settings) (at : ℕ) (had left before after : Option (List ℕ))

@@ -1,5 +1,5 @@
 -- The words of a server, part by part.
-use Rattle.std.proofs.Common.{◌≡◌, ℕ, true, List, ◌∷◌, Option, String, Global, string_bytes}
+use Rattle.std.proofs.Common.{◌≡◌, ℕ, true, List, Option, String, Global, string_bytes}
 use Rattle.std.proofs.Common.{codes, drop, length, map, refl, take}
 use Rattle.std.proofs.lemmas.List.{drop-map, length-map, take-map}
 use Rattle.desk_program.specs.Options.{both_values, is_next, served_with, serving_of}

@@ -19,11 +19,10 @@ use Rattle.service_core.specs.Streaming.{IsBeginningOf}
 use Rattle.service_core.specs.TableSteps.{ask_by}
 use Rattle.store_core.specs.Due.{StandsDue}
 use Rattle.store_tables.specs.Making.{IsBlank}
-use Rattle.store_tables.specs.Stands.{StandsFor}
 use Rattle.stream_core.specs.Written.{IsWritten}
 use Rattle.desk_program.specs.FaultLines.{unavailable_text}
 use Rattle.desk_program.specs.Input.{GivesSettings}
-use Rattle.desk_program.specs.Opening.{IsOpeningFault}
+use Rattle.desk_program.specs.Opening.{IsOpeningFault, StoodFor}
 use Rattle.desk_program.specs.Script.{bad_words_text}
 
 -- what is asked: the text of the settings, a moment, a caller, and the words of a command
@@ -65,13 +64,14 @@ TakesStep settings ask failed line status old new =
     (TellsStep settings ask line status old new ⊎ IsCutShort settings ask failed line status old new)
     × IsDesk new
 
--- the desk with which the tables begin: the one that they stand for, or the empty one where there
--- is no table at all
+-- the desk with which the tables begin: the one that they stand for, in the present version or the
+-- first, or the empty one where there is no table at all
 abbrev pub BeginsWith : Desk → State → Type 0
-BeginsWith desk tables = StandsFor desk tables ⊎ (IsBlank tables × (desk ≡ empty_desk))
+BeginsWith desk tables = StoodFor desk tables ⊎ (IsBlank tables × (desk ≡ empty_desk))
 
--- The command was done, and a write of its text failed or not: whatever desk the tables begin with, the settings know its names, and the
--- tables stand afterwards for the desk to which one step leads, with its due moments.
+-- The command was done, and a write of its text failed or not: whatever desk the tables begin with,
+-- the settings know its names, and the tables stand afterwards for the desk to which one step leads,
+-- with its due moments.
 abbrev pub IsDone : Settings → Ask → Bool → State → State → List ℕ → ℕ → Type 0
 IsDone settings ask failed old new line status =
     (desk : Desk) → IsDesk desk → BeginsWith desk old → HasCleanDisk new

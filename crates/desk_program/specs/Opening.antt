@@ -4,24 +4,42 @@ use Rattle.std.specs.Prelude.{if◌then◌else◌}
 use Rattle.sqlite.specs.Held.{Held, state}
 use Rattle.sqlite.specs.State.{State, HasCleanDisk}
 use Rattle.sqlite.specs.Store.{Ghosts}
-use Rattle.desk_model.specs.Desk.{empty_desk}
+use Rattle.desk_model.specs.Desk.{Desk, empty_desk}
+use Rattle.desk_model.specs.IsDesk.{IsDesk}
+use Rattle.desk_model.specs.Known.{is_known}
 use Rattle.settings_core.specs.declared.fault.SettingsFault.{SettingsFault}
 use Rattle.settings_core.specs.declared.settings.Settings.{Settings}
 use Rattle.settings_core.specs.Reading.{IsSettingsOf}
 use Rattle.service_core.specs.Attaching.{FailsOver, TellsKnown}
-use Rattle.service_core.specs.Renewing.{AreRenewed}
 use Rattle.service_core.specs.declared.fault.AttachFault.{AttachFault}
-use Rattle.service_core.specs.declared.fault.AttachFault.TheVariants.{UnknownName}
+use Rattle.service_core.specs.declared.fault.AttachFault.TheVariants.{Store, UnknownName}
 use Rattle.store_core.specs.Due.{StandsDue}
+use Rattle.store_core.specs.Migrating.{EitherStand, LeavesEither, LeavesOthers}
 use Rattle.store_tables.specs.Calls.{Leaves, WasClean}
 use Rattle.store_tables.specs.Contents.{Contents}
-use Rattle.store_tables.specs.Making.{IsBlank}
-use Rattle.store_tables.specs.Stands.{Stand, StandsFor}
+use Rattle.store_tables.specs.Making.{IsBlank, IsKnown}
+use Rattle.store_tables.specs.Stands.{FirstStandsFor, Stand, StandsFor}
 use Rattle.store_tables.specs.declared.fault.StoreFault.{StoreFault}
 use Rattle.store_tables.specs.declared.fault.StoreFault.TheVariants.{Refused, WrongVersion}
 use Rattle.stream_core.specs.Written.{IsWritten}
 use Rattle.desk_program.specs.FaultLines.{attach_fault_text, settings_fault_text, store_fault_text}
 use Rattle.desk_program.specs.Input.{GivesSettings}
+
+-- tables of the present version, or of the first, stand for the desk
+abbrev pub StoodFor : Desk → State → Type 0
+StoodFor desk s = StandsFor desk s ⊎ FirstStandsFor desk s
+
+-- whatever desk the tables stood for they stand for still, in the present version, and keep its due
+-- moments
+abbrev pub ComesToStand : Settings → State → State → Type 0
+ComesToStand settings old new =
+    (desk : Desk) → IsDesk desk → StoodFor desk old → StandsDue settings desk new
+
+-- the settings know each name of whatever desk the tables stood for, or lack one
+abbrev pub ToldKnown : Settings → State → State → Bool → Type 0
+ToldKnown settings old new known =
+    (desk : Desk) → IsDesk desk → StoodFor desk old → HasCleanDisk new
+    → is_known settings desk ≡ known
 
 -- ---- what is opened
 
@@ -29,23 +47,26 @@ pub record IsOpened (text : List ℕ) (old : State) (settings : Settings) (new :
   -- the settings are those of the text
   pub stated : IsSettingsOf text settings
   -- whatever desk the tables stood for they stand for still, and keep its due moments
-  pub renewed : AreRenewed settings old new
+  pub renewed : ComesToStand settings old new
   -- where there was no table at all, they stand for the empty desk
   pub made : IsBlank old → StandsDue settings empty_desk new
   -- the settings know each name of the desk that the tables stood for
-  pub known : TellsKnown settings old new true
+  pub known : ToldKnown settings old new true
 
 -- ---- what is told where there is no desk
 
 -- a fault of the store when the tables were to be made
 pub record IsNotMade (old new : State) (fault : StoreFault) : Type 0 where
   -- what the tables held they hold still
-  pub kept : Leaves old new
+  pub kept : LeavesOthers old new
+  pub left : LeavesEither old new
+  -- those of version 1 stand for their desk still
+  pub first : (desk : Desk) → IsDesk desk → FirstStandsFor desk old → FirstStandsFor desk new
   -- where there was no table there is none, and the store or memory refused it
   pub blank : IsBlank old → IsBlank new × (HasCleanDisk new → fault ≡ Refused)
-  -- the version is told to be wrong only where it isn't the present one
-  pub version : (c : Contents) → Stand c old → HasCleanDisk new → fault ≡ WrongVersion
-      → c.version ≢ 1
+  -- the version is told to be wrong only where it isn't a known one
+  pub version : (c : Contents) → EitherStand c old → HasCleanDisk new → fault ≡ WrongVersion
+      → ¬ IsKnown c.version
 
 -- a fault of attaching settings to tables
 pub record FailsToAttach (settings : Settings) (old new : State) (fault : AttachFault) : Type 0
@@ -62,11 +83,24 @@ pub record FailsToAttach (settings : Settings) (old new : State) (fault : Attach
 -- the same of tables that were made first, where any were missing
 pub record IsNotAttached (settings : Settings) (old new : State) (fault : AttachFault) : Type 0
   where
-    pub attaching : FailsToAttach settings old new fault
+    -- what tables of another version than 1 held they hold still
+    pub kept : LeavesOthers old new
+    -- those of version 1 stand for their desk in the present version
+    pub first : (desk : Desk) → IsDesk desk → FirstStandsFor desk old → StandsFor desk new
+    -- a disk that is clean afterwards was clean before
+    pub honest : WasClean old new
+    -- a name is told to be unknown only where the settings lack one of the desk
+    pub unknown : fault ≡ UnknownName → ToldKnown settings old new false
+    -- over tables that hold values nothing else can be wrong, but that the store or memory refused
+    pub fails : (c : Contents) → c.version ≢ 1 → Stand c old → HasCleanDisk new
+        → (fault ≡ UnknownName) ⊎ (fault ≡ Store Refused)
+    -- and so over those of version 1 that stood for a desk
+    pub fails_first : (desk : Desk) → IsDesk desk → FirstStandsFor desk old → HasCleanDisk new
+        → (fault ≡ UnknownName) ⊎ (fault ≡ Store Refused)
     -- where there was no table at all, they stand for the empty desk
     pub made : IsBlank old → StandsFor empty_desk new
-    -- the tables were of the present version
-    pub version : (c : Contents) → Stand c old → HasCleanDisk new → c.version ≡ 1
+    -- the tables were of a known version
+    pub version : (c : Contents) → EitherStand c old → HasCleanDisk new → IsKnown c.version
 
 -- The line that is printed and the status, and what is left of the tables: a fault of the settings
 -- comes before one of the store, and that before one of attaching.

@@ -1,3 +1,5 @@
+//! Why an input is no script.
+
 ghost use Rattle.std.specs.Prelude.{◌≡◌};
 ghost use Rattle.desk_program.specs.Fault.{number_of, name_of};
 

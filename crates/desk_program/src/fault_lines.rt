@@ -1,3 +1,5 @@
+//! The lines that tell faults.
+
 ghost use Rattle.std.specs.Prelude.{◌≡◌};
 ghost use Rattle.stream_core.specs.Seen.{HaveOneWriter};
 ghost use Rattle.stream_core.specs.Written.{Prints};

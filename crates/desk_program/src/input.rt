@@ -1,3 +1,5 @@
+//! A script, as it comes in: settings, and lines of commands.
+
 ghost use Rattle.std.specs.Prelude.{◌≡◌, ◌≢◌, ◌≤◌, ◌<◌, ◌+◌, ◌-◌, ◌++◌, List, ℕ};
 ghost use Rattle.std.specs.Prelude.{Ok, Err, None, length, IfOk, IfErr, IfSome, if◌then◌else◌};
 ghost use Rattle.std.specs.Option.{option_map};

@@ -1,3 +1,8 @@
+//! A line of a script, and what it prints.
+//!
+//! What owns much is given back by `drop`, whose proof stands once; at the end of its scope it
+//! would be taken apart for each function's own proof.
+
 ghost use Rattle.std.specs.Prelude.{◌≡◌, ◌≤◌, ◌+◌, [], map, true, false, is_ok, IfOk};
 ghost use Rattle.std.specs.Prelude.{IfErr, OnErr, string_bytes};
 ghost use Rattle.std.specs.Vec.{vec_capacity, vec_len};

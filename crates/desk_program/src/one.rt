@@ -1,4 +1,7 @@
 //! One command on the tables of a store.
+//!
+//! What owns much is given back by `drop`, whose proof stands once; at the end of its scope it
+//! would be taken apart for each function's own proof.
 ghost use Rattle.std.specs.Prelude.{◌≡◌, ◌⊎◌, ◌+◌, ◌≤◌, [], ℕ, Bool, List, Some, false, map, string_bytes};
 ghost use Rattle.std.specs.Vec.{vec_capacity, vec_len};
 ghost use Rattle.sqlite.specs.Held.{Held};

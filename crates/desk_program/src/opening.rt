@@ -1,4 +1,7 @@
 //! A desk is opened over the tables of a store, with the settings of a text.
+//!
+//! What owns much is given back by `drop`, whose proof stands once; at the end of its scope it
+//! would be taken apart for each function's own proof.
 ghost use Rattle.std.specs.Prelude.{◌≡◌, ◌≢◌, ◌≤◌, ℕ, List, Ok, Err, length, IfErr, IfOk, IfSome};
 ghost use Rattle.std.specs.Prelude.{OnOk, Result, true, if◌then◌else◌};
 ghost use Rattle.store_core.specs.Seen.{connection_of, state_of};
@@ -15,7 +18,7 @@ ghost use Rattle.desk_program.specs.FaultLines.{attach_fault_text, input_fault_t
 ghost use Rattle.desk_program.specs.FaultLines.{store_fault_text};
 ghost use Rattle.desk_program.specs.Input as form;
 ghost use Rattle.desk_program.specs.Opening.{EndsWith, IsNotOpened, IsOpened, IsOpeningFault};
-ghost use Rattle.desk_program.specs.Opening.{FailsToAttach};
+ghost use Rattle.desk_program.specs.Opening.{ComesToStand, FailsToAttach, ToldKnown};
 
 use crate::fault::InputFault;
 use crate::fault_lines::{put_attach_fault, put_input_fault, put_settings_fault, put_store_fault};
@@ -74,7 +77,8 @@ pub(crate) fn ended<W: Write>(status: u8, output: &CountedWriter<'_, W>) -> u8
 }
 
 /// The desk over the tables of a store, with the settings of a text. Tables that are missing are
-/// made; those that are there keep their rows, with the due moments by these settings.
+/// made, and those of version 1 brought to the present one; those that are there keep their rows,
+/// with the due moments by these settings.
 ///
 /// Where there is none, a line tells the fault, and the exit status is the error: 3 for one of the
 /// settings, and 4 for one of the store or of attaching, or where the write of that line failed.
@@ -138,11 +142,11 @@ fn open_tables<S: Backend, W: Write>(
     ensures same_writer { HaveOneWriter output.new output.old }
     ensures settings { IfOk result (λ desk. settings_of S.Store desk ≡ settings) }
     ensures renewed { IfOk result (λ desk.
-        AreRenewed settings (state_of S.Store store) (tables_of S.Store desk)) }
+        ComesToStand settings (state_of S.Store store) (tables_of S.Store desk)) }
     ensures made { IfOk result (λ desk. IsBlank (state_of S.Store store)
         → StandsDue settings empty_desk (tables_of S.Store desk)) }
     ensures known { IfOk result (λ desk.
-        TellsKnown settings (state_of S.Store store) (tables_of S.Store desk) true) }
+        ToldKnown settings (state_of S.Store store) (tables_of S.Store desk) true) }
     ensures quiet { OnOk result (output.new ≡ output.old) }
     ensures told { IfErr result (λ back. (line : List ℕ)
         × IsOpeningFault S.Store (Ok settings) (connection_of S.Store store)
@@ -150,7 +154,7 @@ fn open_tables<S: Backend, W: Write>(
         × Prints W.contents output.old output.new line) }
 {
     let mut store = store;
-    match store.create_schema() {
+    match store.create_schema(alloc) {
         Ok(()) => attach(alloc, store, settings, output),
         Err(fault) => {
             drop(settings);

@@ -1,4 +1,7 @@
 //! Commands are run on a desk in memory.
+//!
+//! What owns much is given back by `drop`, whose proof stands once; at the end of its scope it
+//! would be taken apart for each function's own proof.
 ghost use Rattle.std.specs.Prelude.{◌≡◌, ℕ, List, Ok};
 ghost use Rattle.store_tables.specs.Making.{IsBlank};
 ghost use Rattle.store_core.specs.Due.{StandsDue};
@@ -63,7 +66,7 @@ fn run_in_store<S: Backend + Drop, W: Write>(
         × IsCommandsOutput (Ok settings) commands.now text result
         × Prints W.contents output.old output.new text }
 {
-    match store.create_schema() {
+    match store.create_schema(alloc) {
         Ok(()) => run_on_tables(alloc, store, settings, commands, output),
         Err(fault) => {
             drop(settings);

@@ -1,3 +1,5 @@
+//! A whole script, from its reader to its writer.
+
 ghost use Rattle.std.specs.Prelude.{◌≡◌, ◌≤◌, ◌+◌, ℕ, List, IfSome, Result, if◌then◌else◌};
 ghost use Rattle.desk_program.specs.Input as form;
 ghost use Rattle.desk_program.specs.Script as script;

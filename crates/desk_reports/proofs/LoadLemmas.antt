@@ -330,8 +330,9 @@ counted_more at ts t small =
     ∙ ap (map (with_counts at more)) (sym (owners_more ts t))
 
 -- what is live among the rows, with one more
-pub live_more : (settings : Settings) (queues : List QueueRow) (rows : List RequestRow) (i : ℕ)
-    (row : RequestRow) → i < length rows → row ≡ get_or rows i row
+pub live_more : (settings : Settings) (queues : List QueueRow)
+    (rows : List (RequestRow × Option ℕ)) (i : ℕ) (row : RequestRow × Option ℕ)
+    → i < length rows → row ≡ get_or rows i row
     → live_among settings queues (take (i + 1) rows)
     ≡ live_among settings queues (take i rows)
     ++ cond (told_among settings queues row).is_live (told_among settings queues row ∷ []) []
@@ -340,11 +341,12 @@ live_more settings queues rows i row low is =
     ap (λ xs. filter (λ t. t.is_live) (map one xs)) (take_more rows i row low)
     ∙ ap (filter (λ t. t.is_live)) (map-append one (take i rows) (get_or rows i row ∷ []))
     ∙ filter-append (λ t. t.is_live) (map one (take i rows)) (one (get_or rows i row) ∷ [])
-    ∙ ap (λ (x : RequestRow). live_among settings queues (take i rows)
+    ∙ ap (λ (x : RequestRow × Option ℕ). live_among settings queues (take i rows)
     ++ cond (one x).is_live (one x ∷ []) []) (sym is)
 
 -- no more is live than there are rows
-pub live_fewer : (settings : Settings) (queues : List QueueRow) (rows : List RequestRow) (i : ℕ)
+pub live_fewer : (settings : Settings) (queues : List QueueRow)
+    (rows : List (RequestRow × Option ℕ)) (i : ℕ)
     → i ≤ length rows → length (live_among settings queues (take i rows)) ≤ i
 live_fewer settings queues rows i low =
     omega (

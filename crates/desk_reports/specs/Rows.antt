@@ -1,5 +1,5 @@
 -- What the reports tell of rows.
-use Rattle.std.specs.Prelude.{◌≡◌, ℕ, ◌+◌, ◌-◌, ◌^◌, min, Bool, true, if◌then◌else◌}
+use Rattle.std.specs.Prelude.{◌≡◌, ℕ, ◌+◌, ◌-◌, ◌^◌, min, Bool, true, not, if◌then◌else◌}
 use Rattle.std.specs.Prelude.{List, filter, filter_map, find, map, Option, Some, None}
 use Rattle.std.specs.Prelude.{option_and_then}
 use Rattle.std.specs.List.Sorted.{IsNonDecreasingBy}
@@ -7,10 +7,10 @@ use Rattle.std.specs.Str.{bytes_eq}
 use Rattle.settings_core.specs.declared.settings.Settings.{Settings}
 use Rattle.desk_model.specs.Desk.{has_lower_name}
 use Rattle.desk_model.specs.IsDesk.{is_rising}
-use Rattle.desk_model.specs.Readings.Listing.{line_of}
+use Rattle.desk_model.specs.Lifecycles.{is_inactive, lifecycle_of}
 use Rattle.desk_model.specs.Readings.Overdue.{line_if_late}
 use Rattle.desk_model.specs.Readings.Workload.{load_of, loads, owners}
-use Rattle.desk_model.specs.Told.{Told, told_in}
+use Rattle.desk_model.specs.Told.{Told}
 use Rattle.desk_model.specs.Watchers.{may_show_by}
 use Rattle.desk_model.specs.declared.answer.LateLine.{LateLine}
 use Rattle.desk_model.specs.declared.answer.Line.{Line}
@@ -36,19 +36,6 @@ queue_among queues name = find (λ q. bytes_eq q.name name) queues
 abbrev pub named_only : List ℕ → Option QueueRow → Option QueueRow
 named_only name queue =
     option_and_then (λ q. if bytes_eq q.name name then Some q else None) queue
-
--- a row as the reports tell of it, where these are the queues
-abbrev pub told_among : Settings → List QueueRow → RequestRow → Told
-told_among settings queues row = told_in settings (queue_among queues row.queue) row
-
--- those of the rows that the person may show by these watches
-abbrev pub shown_by : Settings → List ℕ → List Watcher → List RequestRow → List RequestRow
-shown_by settings person watches rows =
-    filter (λ row. may_show_by settings person row watches) rows
-
--- a line for each row of that queue, if the queue is there
-abbrev pub lines_by : Settings → Option QueueRow → List RequestRow → List Line
-lines_by settings queue rows = map (λ row. line_of (told_in settings queue row)) rows
 
 -- the line of a row that has been late for so many minutes
 abbrev pub late_by : ℕ → RequestRow → ℕ → LateLine
@@ -87,12 +74,32 @@ late_lines_shown at settings person watches rows =
 
 -- ---- what each owner has
 
--- what each owner has of the rows whose status isn't inactive
-abbrev pub live_among : Settings → List QueueRow → List RequestRow → List Told
+-- those of the rows that the person may show by these watches
+abbrev pub shown_by : Settings → List ℕ → List Watcher → List (RequestRow × Option ℕ)
+    → List (RequestRow × Option ℕ)
+shown_by settings person watches rows =
+    filter (λ dated. may_show_by settings person dated.0 watches) rows
+
+-- the status of a request of this queue isn't inactive
+abbrev pub is_live : Settings → Option QueueRow → RequestRow → Bool
+is_live settings queue row = not (is_inactive (lifecycle_of settings queue) row.status)
+
+-- a row with its due moment as the reports tell of it, where these are the queues
+abbrev pub told_among : Settings → List QueueRow → RequestRow × Option ℕ → Told
+told_among settings queues dated =
+    record {
+      row = dated.0;
+      due = dated.1;
+      is_live = is_live settings (queue_among queues dated.0.queue) dated.0;
+    }
+
+-- those of the rows whose status isn't inactive
+abbrev pub live_among : Settings → List QueueRow → List (RequestRow × Option ℕ) → List Told
 live_among settings queues rows =
     filter (λ r. r.is_live) (map (told_among settings queues) rows)
 
-abbrev pub loads_by : ℕ → Settings → List QueueRow → List RequestRow → List Load
+-- what each owner has of them
+abbrev pub loads_by : ℕ → Settings → List QueueRow → List (RequestRow × Option ℕ) → List Load
 loads_by at settings queues rows = loads at (live_among settings queues rows)
 
 -- how many of the requests are the owner's, and how many of those are late

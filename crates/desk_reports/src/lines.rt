@@ -1,39 +1,29 @@
 //! The lines of a queue's list.
 ghost use Rattle.std.specs.Prelude.{◌≡◌, IfOk};
-ghost use Rattle.std.specs.Option.{option_map};
-ghost use Rattle.desk_model.specs.Readings.Listing.{line_of};
-ghost use Rattle.desk_model.specs.Told.{told_in};
-ghost use Rattle.desk_reports.specs.Rows.{WatchesRise, line_shown, line_with, lines_by};
+ghost use Rattle.desk_reports.specs.Rows.{WatchesRise, line_shown, line_with, lines_shown};
 
-use crate::queues::due_in;
 use crate::showing::is_shown;
-use desk_model::{Line, QueueRow, RequestRow, Watcher};
+use desk_model::{Line, RequestRow, Watcher};
 use hours_core::Minute;
 use settings_core::Settings;
 use std::alloc::{AllocError, Global};
 
-/// A line for each row of that queue, in the order of the rows. `AllocError` where memory is
-/// refused.
+/// A line for each row that the person may show, in the order of the rows. `AllocError` where
+/// memory is refused.
 pub(crate) fn lines_of(
     alloc: Global,
     settings: &Settings,
-    queue: Option<&QueueRow>,
-    rows: Vec<RequestRow>,
+    person: &str,
+    watches: &[Watcher],
+    rows: Vec<(RequestRow, Option<Minute>)>,
 ) -> Result<Vec<Line>, AllocError>
-    ensures { IfOk result (λ lines. lines.items
-        ≡ lines_by settings.now (option_map (λ q. q.now) queue.entry) rows.items) }
+    ensures { WatchesRise watches.now
+        → IfOk result (λ lines. lines.items
+        ≡ lines_shown settings.now person.now watches.now rows.items) }
 {
     rows.into_iter()
-        .map(|row| line(settings, queue, row))
+        .filter_map(|dated| line_shown(settings, person, watches, dated))
         .collect(alloc)
-}
-
-/// A row of that queue as its list tells of it.
-fn line(settings: &Settings, queue: Option<&QueueRow>, row: RequestRow) -> Line
-    ensures { result ≡ line_of (told_in settings.now (option_map (λ q. q.now) queue.entry) row) }
-{
-    let due = due_in(settings, queue, &row);
-    line_with(row, due)
 }
 
 /// The line of a row with its due moment, if the person may show it. The watches are the person's

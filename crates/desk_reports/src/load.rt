@@ -1,15 +1,16 @@
 //! What each owner has to do.
-ghost use Rattle.std.specs.Prelude.{◌≡◌, ◌<◌, ◌^◌, length, map, IfOk, OnOk, unwrap_or};
+ghost use Rattle.std.specs.Prelude.{◌≡◌, ◌<◌, ◌^◌, false, length, map, nat_lt};
+ghost use Rattle.std.specs.Prelude.{IfOk, OnOk, unwrap_or};
 ghost use Rattle.std.specs.BTreeMap.{get, insert_entry};
-ghost use Rattle.std.specs.Option.{option_map};
+ghost use Rattle.std.specs.Option.{option_map, option_map_or};
 ghost use Rattle.desk_model.specs.Readings.Workload.{owner_order};
-ghost use Rattle.desk_model.specs.Told as told;
-ghost use Rattle.desk_reports.specs.Rows.{QueuesRise, counted, entries_of, live_among, loads_by};
-ghost use Rattle.desk_reports.specs.Rows.{load_in, no_counts};
+ghost use Rattle.desk_reports.specs.Rows.{QueuesRise, counted, entries_of, is_live, live_among};
+ghost use Rattle.desk_reports.specs.Rows.{load_in, loads_by, no_counts};
 
-use crate::queues::{due_in, queue_named};
+use crate::queues::queue_named;
 use desk_model::lifecycles::is_inactive;
 use desk_model::{Load, QueueRow, RequestRow};
+use hours_core::Minute;
 use settings_core::Settings;
 use std::alloc::{AllocError, Global};
 use std::collections::BTreeMap;
@@ -33,7 +34,7 @@ pub(crate) fn loads(
     at: u32,
     settings: &Settings,
     queues: &[QueueRow],
-    rows: &[RequestRow],
+    rows: &[(RequestRow, Option<Minute>)],
 ) -> Result<Vec<Load>, AllocError>
     ensures { QueuesRise queues.now → length rows.now < 2 ^ 32
         → IfOk result (λ loads. loads.items ≡ loads_by at settings.now queues.now rows.now) }
@@ -69,17 +70,17 @@ fn owners_of(
     at: u32,
     settings: &Settings,
     queues: &[QueueRow],
-    rows: &[RequestRow],
+    rows: &[(RequestRow, Option<Minute>)],
 ) -> Result<Owners, AllocError>
     ensures { QueuesRise queues.now → length rows.now < 2 ^ 32
         → IfOk result (λ owners. owners.entries
         ≡ entries_of at (live_among settings.now queues.now rows.now)) }
 {
     let mut owners = BTreeMap::new(alloc);
-    for row in rows {
+    for (row, due) in rows {
         let queue = queue_named(queues, &row.queue);
         if is_live(settings, queue, row) {
-            count(&mut owners, &row.owner, is_late(at, settings, queue, row))?;
+            count(&mut owners, &row.owner, is_late(at, due))?;
         }
     }
     Ok(owners)
@@ -120,7 +121,7 @@ impl Counts {
 
 /// Whether the status of a request of this queue isn't inactive.
 fn is_live(settings: &Settings, queue: Option<&QueueRow>, row: &RequestRow) -> bool
-    ensures { result ≡ (told.told_in settings.now (option_map (λ q. q.now) queue.entry) row.now).is_live }
+    ensures { result ≡ is_live settings.now (option_map (λ q. q.now) queue.entry) row.now }
 {
     match queue {
         Some(queue) => !is_inactive(
@@ -131,12 +132,11 @@ fn is_live(settings: &Settings, queue: Option<&QueueRow>, row: &RequestRow) -> b
     }
 }
 
-/// Whether a request of this queue was due before the moment.
-fn is_late(at: u32, settings: &Settings, queue: Option<&QueueRow>, row: &RequestRow) -> bool
-    ensures { result
-        ≡ told.is_late at (told.told_in settings.now (option_map (λ q. q.now) queue.entry) row.now) }
+/// Whether that due moment is before the moment.
+fn is_late(at: u32, due: &Option<Minute>) -> bool
+    ensures { result ≡ option_map_or (λ due. nat_lt due at) due.now false }
 {
-    match due_in(settings, queue, row) {
+    match due {
         Some(due) => due.get() < at,
         None => false,
     }

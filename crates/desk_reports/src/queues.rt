@@ -1,12 +1,9 @@
 //! The queues of requests.
-ghost use Rattle.std.specs.Prelude.{◌≡◌, option_and_then};
+ghost use Rattle.std.specs.Prelude.{◌≡◌};
 ghost use Rattle.std.specs.Option.{option_map};
-ghost use Rattle.desk_model.specs.Due as due;
 ghost use Rattle.desk_reports.specs.Rows.{QueuesRise, named_only, queue_among};
 
-use desk_model::{QueueRow, RequestRow, due_of};
-use hours_core::Minute;
-use settings_core::Settings;
+use desk_model::QueueRow;
 use text_core::Text;
 
 /// The queue of that name, of queues in the order of their names.
@@ -27,20 +24,5 @@ fn named_only<'q>(queue: Option<&'q QueueRow>, name: &Text) -> Option<&'q QueueR
     match queue {
         Some(queue) if queue.name.as_str() == name.as_str() => Some(queue),
         _ => None,
-    }
-}
-
-/// When a request of this queue is due, if the queue is there.
-pub(crate) fn due_in(
-    settings: &Settings,
-    queue: Option<&QueueRow>,
-    row: &RequestRow,
-) -> Option<Minute>
-    ensures { result ≡ option_and_then (λ q. due.due_of settings.now q row.now)
-        (option_map (λ q. q.now) queue.entry) }
-{
-    match queue {
-        Some(queue) => due_of(settings, queue, row),
-        None => None,
     }
 }

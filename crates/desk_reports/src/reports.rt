@@ -1,10 +1,9 @@
 //! The three reports: a queue's list, the requests that are late, and the workload.
 //!
-//! Each is told of rows to a person, whose watches are handed in, in the order of their requests.
-//! Queues stand in the order of their names.
+//! Each is told of rows, with their due moments, to a person, whose watches are handed in, in the
+//! order of their requests. Queues stand in the order of their names.
 ghost use Rattle.std.specs.Prelude.{◌≡◌, IfOk};
-ghost use Rattle.std.specs.Option.{option_map};
-ghost use Rattle.desk_reports.specs.Rows.{QueuesRise, WatchesRise, late_lines_shown, lines_by};
+ghost use Rattle.desk_reports.specs.Rows.{QueuesRise, WatchesRise, late_lines_shown, lines_shown};
 ghost use Rattle.desk_reports.specs.Rows.{loads_by, shown_by};
 
 use crate::late::late_lines;
@@ -17,32 +16,25 @@ use settings_core::Settings;
 use std::alloc::{AllocError, Global};
 use text_core::Sequence;
 
-/// The list of that queue, of the rows of its requests: a line for each that the person may show,
-/// in the order of the rows. `AllocError` where memory is refused.
+/// The list of a queue, of the rows of its requests: a line for each that the person may show, in
+/// the order of the rows. `AllocError` where memory is refused.
 pub fn list(
     alloc: Global,
     settings: &Settings,
     person: &str,
     watches: &[Watcher],
-    queue: Option<&QueueRow>,
-    rows: Vec<RequestRow>,
+    rows: Vec<(RequestRow, Option<Minute>)>,
 ) -> Result<Sequence<Line>, AllocError>
     ensures { WatchesRise watches.now
         → IfOk result (λ lines. lines
-        ≡ lines_by settings.now (option_map (λ q. q.now) queue.entry)
-        (shown_by settings.now person.now watches.now rows.items)) }
+        ≡ lines_shown settings.now person.now watches.now rows.items) }
 {
-    let lines = lines_of(
-        alloc,
-        settings,
-        queue,
-        shown(settings, person, watches, rows),
-    )?;
+    let lines = lines_of(alloc, settings, person, watches, rows)?;
     Ok(Sequence::from(lines))
 }
 
 /// A line for each request that the person may show and that was due before the moment, in the
-/// order of the rows, each of which has its due moment. `AllocError` where memory is refused.
+/// order of the rows. `AllocError` where memory is refused.
 pub fn overdue(
     alloc: Global,
     at: u32,
@@ -69,7 +61,7 @@ pub fn workload(
     person: &str,
     watches: &[Watcher],
     queues: &[QueueRow],
-    rows: Vec<RequestRow>,
+    rows: Vec<(RequestRow, Option<Minute>)>,
 ) -> Result<Sequence<Load>, AllocError>
     ensures { WatchesRise watches.now → QueuesRise queues.now
         → IfOk result (λ told. told ≡ loads_by at settings.now queues.now

@@ -5,6 +5,7 @@ ghost use Rattle.desk_model.specs.declared.rows.WatchRole.{WatchRole};
 ghost use Rattle.desk_reports.specs.Rows.{WatchesRise, shown_by};
 
 use desk_model::{RequestRow, Watcher, may_show};
+use hours_core::Minute;
 use settings_core::Settings;
 
 /// Those of the rows that a person may show. The watches are the person's own, in the order of
@@ -13,12 +14,12 @@ pub(crate) fn shown(
     settings: &Settings,
     person: &str,
     watches: &[Watcher],
-    mut rows: Vec<RequestRow>,
-) -> Vec<RequestRow>
+    mut rows: Vec<(RequestRow, Option<Minute>)>,
+) -> Vec<(RequestRow, Option<Minute>)>
     ensures { WatchesRise watches.now
         → result.items ≡ shown_by settings.now person.now watches.now rows.items }
 {
-    rows.retain(|row| is_shown(settings, person, watches, row));
+    rows.retain(|dated| is_shown(settings, person, watches, &dated.0));
     rows
 }
 

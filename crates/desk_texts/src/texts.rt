@@ -1,3 +1,5 @@
+//! The texts of answers, refusals and outcomes.
+
 ghost use Rattle.std.specs.Prelude.{◌≡◌, ◌++◌, [], IfOk, codes, string_bytes};
 ghost use Rattle.desk_texts.specs.Texts as text;
 

@@ -1,3 +1,5 @@
+//! Commands from words, by the matches of a command line.
+
 ghost use Rattle.std.specs.Prelude.{◌≡◌, ◌≢◌, Err, Some, None, map, string_bytes, IfOk, IfErr};
 ghost use Rattle.desk_words.specs.Spelling as spelling;
 ghost use Rattle.desk_words.specs.Subcommands as subcommands;

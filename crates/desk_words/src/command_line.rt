@@ -1,3 +1,5 @@
+//! The command line that `clap` is given.
+
 ghost use Rattle.std.specs.Prelude.{◌≡◌, map, string_bytes, IfOk, false};
 ghost use Rattle.clap.specs.Words as clap;
 ghost use Rattle.clap.specs.Words.{Rule, rule_of, with_rule, with_subcommand};

@@ -1,3 +1,5 @@
+//! Why words are no command.
+
 ghost use Rattle.std.specs.Prelude.{◌≡◌};
 ghost use Rattle.desk_words.specs.Faults.{number_of, name_of};
 ghost use Rattle.desk_words.specs.declared.fault.WordsFault.TheVariants.{NoMemory};

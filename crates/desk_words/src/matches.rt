@@ -1,3 +1,5 @@
+//! What `clap` makes of words.
+
 ghost use Rattle.std.specs.Prelude.{◌≡◌, ◌≢◌, [], Err, map, true, string_bytes, IfOk, IfErr};
 ghost use Rattle.std.specs.Option.{option_map};
 ghost use Rattle.clap.specs.Words as clap;

@@ -1,3 +1,5 @@
+//! Numbers in words.
+
 ghost use Rattle.std.specs.Prelude.{◌≡◌};
 ghost use Rattle.desk_words.specs.Number.{number_of};
 

@@ -1,3 +1,5 @@
+//! A line as words.
+
 ghost use Rattle.std.specs.Prelude.{◌≡◌, ◌≢◌, ℕ, List, [], ◌∷◌, ◌++◌, Err, Some, None, map};
 ghost use Rattle.std.specs.Prelude.{string_bytes, encode_utf8, IfOk, IfErr, OnOk, Option};
 ghost use Rattle.desk_words.specs.Words as spec;

@@ -1,7 +1,7 @@
 -- The span that a search finds, and what is counted up to it.
 use Rattle.std.proofs.Common.{◌≡◌, ℕ, zero, suc, ◌+◌, ◌-◌, ◌<◌, ◌≤◌, Bool, true}
 use Rattle.std.proofs.Common.{false, List, [], ◌∷◌, Option, Some, None, MatchOption}
-use Rattle.std.proofs.Common.{max, if◌then◌else◌, inl, inr, refl, ap, ◌∙◌, arith}
+use Rattle.std.proofs.Common.{max, length, get_or, if◌then◌else◌, inl, inr, refl, ap, ◌∙◌, arith}
 use Rattle.std.specs.List.{find}
 use Rattle.std.proofs.lemmas.Bool.{cases_lt, lt-ltb, le-ltb, le-leb, lt-leb, ne_eqb, eq-eqb}
 use Rattle.hours_core.specs.Counting.{count_of_next, count, has_passed}
@@ -73,6 +73,36 @@ counted_next e b xs a (suc n) h =
 pub counted : (e b : ℕ) (xs : List Span) (a m : ℕ) → AreSpans e b xs → a ≤ m
     → count (is_held xs) a m + held_before xs a ≡ held_before xs m
 counted e b xs a m h k = counted_next e b xs a (m - a) h ∙ ap (held_before xs) (omega arith)
+
+-- the last span tells how many minutes all of them hold
+pub all_held : (e b : ℕ) (xs : List Span) (last m : ℕ) (d : Span) → AreSpans e b xs
+    → last + 1 ≡ length xs → end_minute ≤ m
+    → (get_or xs last d).before + minutes_of (get_or xs last d) ≡ b + held_before xs m
+all_held e b [] last m d h n late = absurd (omega arith)
+all_held e b (x ∷ []) (suc last) m d h n late = absurd (omega arith)
+all_held e b (x ∷ y ∷ xs) zero m d h n late = absurd (omega arith)
+all_held e b (x ∷ []) zero m d h n late =
+    let some = h.1 in
+    let to = h.2 in
+    let total = h.3 in
+    omega (arith, some, to, total)
+all_held e b (x ∷ y ∷ xs) (suc last) m d h n late =
+    let some = h.1 in
+    let to = h.2 in
+    omega (
+      arith,
+      some,
+      to,
+      all_held (x.end + 1) (b + minutes_of x) (y ∷ xs) last m d h.4 (omega arith) late,
+    )
+
+-- no more minutes are held than there are
+pub held_few : (e b : ℕ) (xs : List Span) (m : ℕ) → AreSpans e b xs → held_before xs m ≤ m - e
+held_few e b [] m h = omega arith
+held_few e b (x ∷ xs) m h =
+    let start = h.0 in
+    let some = h.1 in
+    omega (arith, start, some, held_few (x.end + 1) (b + minutes_of x) xs m h.4)
 
 -- the first open minute of the span that a search finds
 abbrev pub opening_of : ℕ → Option Span → Option ℕ

@@ -2,10 +2,14 @@ pub mod CountLemmas
 pub mod DateLemmas
 pub mod HolidayLemmas
 pub mod LeastLemmas
+pub mod LimitLemmas
+pub mod PauseLemmas
 pub mod RuleLemmas
 pub mod RunLemmas
 pub mod ScheduleLemmas
 pub mod SearchLemmas
 pub mod SpanLemmas
+pub mod StretchLemmas
 pub mod TextLemmas
+pub mod WalkLemmas
 pub mod ZoneLemmas

@@ -16,6 +16,10 @@ least holds first bound = least_of_next holds first (bound - first)
 abbrev pub NoneHolds : (ℕ → Bool) → ℕ → ℕ → Type 0
 NoneHolds holds first bound = (k : ℕ) → first ≤ k → k < bound → holds k ≡ false
 
+-- each of these numbers has the property
+abbrev pub AllHold : (ℕ → Bool) → ℕ → ℕ → Type 0
+AllHold holds first bound = (k : ℕ) → first ≤ k → k < bound → holds k ≡ true
+
 -- an answer is the least number with the property from `first` on that is below the bound, or there
 -- is no such number
 abbrev pub IsLeast : (ℕ → Bool) → ℕ → ℕ → Option ℕ → Type 0

@@ -6,6 +6,7 @@ pub mod Hours
 pub mod Least
 pub mod Limit
 pub mod Moment
+pub mod Pauses
 pub mod Probes
 pub mod Rules
 pub mod Runs

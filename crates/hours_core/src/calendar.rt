@@ -1,3 +1,5 @@
+//! Calendars: opening hours, kept as runs of open minutes.
+
 ghost use Rattle.std.specs.Prelude.{◌≡◌, ◌≢◌, None, Some, IfOk, OnOk, IfErr};
 ghost use Rattle.hours_core.specs.Calendar.{KeepsHours};
 ghost use Rattle.hours_core.specs.Hours as spec;

@@ -1,6 +1,8 @@
+//! What a calendar tells: when it is open, when it next opens, and when so many minutes are over.
+
 ghost use Rattle.std.specs.Prelude.{◌≡◌, ◌+◌, ◌*◌, ◌<◌, ◌≤◌, length, IsSome};
 ghost use Rattle.hours_core.specs.Calendar.{opens, spans_of};
-ghost use Rattle.hours_core.specs.Counting.{first_of, add_of, has_passed};
+ghost use Rattle.hours_core.specs.Counting.{first_of, add_of, count, has_passed};
 ghost use Rattle.hours_core.specs.Least.{IsLeast};
 ghost use Rattle.hours_core.specs.Moment.{end_minute};
 ghost use Rattle.hours_core.specs.Probes.{most_probes, at_least};
@@ -8,7 +10,7 @@ ghost use Rattle.hours_core.specs.Runs.{AreRuns};
 
 use crate::calendar::Calendar;
 use crate::moment::Minute;
-use crate::search::{end_of_count, first_held};
+use crate::search::{end_of_count, first_held, minutes_between};
 use crate::spans::Probes;
 
 impl Calendar {
@@ -76,5 +78,12 @@ impl Calendar {
     {
         let end = end_of_count(&self.spans, m.get(), n, probes)?;
         Some(Minute::at(end))
+    }
+    /// How many minutes are open from one to before another.
+    pub(crate) fn open_between(&self, a: u32, b: u32) -> u32
+        requires { a ≤ b }
+        ensures { result ≡ count (opens self.now) a b }
+    {
+        minutes_between(&self.spans, a, b, &mut Probes::new())
     }
 }

@@ -1,3 +1,5 @@
+//! The date and the text of a minute.
+
 ghost use Rattle.std.specs.Prelude.{◌≡◌, ℕ, ◌+◌, ◌/◌, pos, ◌≤◌, ◌≤ℤ◌};
 ghost use Rattle.jiff.specs.Words.{epoch_day, IsBetween};
 ghost use Rattle.hours_core.specs.Date as spec;

@@ -1,3 +1,5 @@
+//! Why a zone or a calendar is not built.
+
 ghost use Rattle.std.specs.Prelude.{◌≡◌};
 ghost use Rattle.hours_core.specs.Fault.{number_of, name_of};
 

@@ -1,3 +1,5 @@
+//! The days on which an office is closed.
+
 ghost use Rattle.std.specs.Prelude.{◌≡◌, ◌==◌, ℕ, IfOk};
 ghost use Rattle.std.specs.List.{list_any};
 

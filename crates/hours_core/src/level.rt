@@ -1,10 +1,14 @@
+//! Levels of service: how soon a request is to be answered and resolved.
+
 ghost use Rattle.std.specs.Prelude.{◌≡◌};
 ghost use Rattle.hours_core.specs.Calendar.{opens};
 ghost use Rattle.hours_core.specs.Limit as spec;
+ghost use Rattle.hours_core.specs.Pauses.{IgnoresNone};
 
 use crate::calendar::Calendar;
 use crate::moment::Minute;
-use text_core::Text;
+use crate::stay::Stay;
+use text_core::{Text, Texts};
 
 /// How long something may take, in minutes.
 #[derive(Clone, Copy, Debug, PartialEq, Eq)]
@@ -28,21 +32,29 @@ pub struct Level {
     pub keep_in_loop: Option<Limit>,
     /// From the request's opening to its end.
     pub resolve: Option<Limit>,
+    /// The statuses in which no minute counts.
+    pub ignore: Texts,
 }
 
 impl Level {
     /// When a limit on what follows the minute `from` is due by the calendar's hours, or `None`
     /// where that isn't before or at `END`. The time begins with `from` or, unless the level starts
-    /// immediately, with the first open minute from there on.
-    pub fn limit_due(&self, calendar: &Calendar, from: Minute, limit: Limit) -> Option<Minute>
-        ensures { result
-            ≡ spec.limit_due (opens calendar.now) self.now.start_immediately from limit }
+    /// immediately, with the first open minute from there on. Minutes of the stays in a status that
+    /// the level ignores don't count; the stays stand in any order, and may overlap.
+    pub fn limit_due(
+        &self,
+        calendar: &Calendar,
+        from: Minute,
+        limit: Limit,
+        stays: &[Stay],
+    ) -> Option<Minute>
+        ensures due { result
+            ≡ spec.limit_due (opens calendar.now) self.now stays.now from limit }
+        ensures plain { IgnoresNone self.now.ignore stays.now → result
+            ≡ spec.plain_due (opens calendar.now) self.now.start_immediately from limit }
     {
         let begin = self.begin(calendar, from)?;
-        match limit {
-            Limit::RealMinutes(minutes) => begin.after(minutes),
-            Limit::BusinessMinutes(minutes) => calendar.add_open(begin, minutes),
-        }
+        limit.end(calendar, begin, &self.ignore, stays)
     }
 
     /// When the time begins.

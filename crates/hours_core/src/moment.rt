@@ -1,3 +1,5 @@
+//! Minutes from the year 2000 to the year 2099.
+
 ghost use Rattle.std.specs.Prelude.{◌≡◌, if◌then◌else◌};
 ghost use Rattle.hours_core.specs.Limit.{minutes_after};
 ghost use Rattle.hours_core.specs.Moment.{is_moment, is_due_moment, IsDueMoment};

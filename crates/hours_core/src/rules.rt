@@ -1,3 +1,5 @@
+//! Zones by a rule, minute by minute.
+
 ghost use Rattle.std.specs.Prelude.{◌≡◌, ◌≢◌, ◌≤◌, ◌<◌, ◌-◌, ◌+◌, ◌+ℤ◌, ◌≤ℤ◌, pos, suc, true, false};
 ghost use Rattle.std.specs.Prelude.{IfOk, IfErr, IsOk};
 ghost use Rattle.zone_rules.specs.Rule.{first_day_of};

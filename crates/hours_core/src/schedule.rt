@@ -1,3 +1,5 @@
+//! Opening hours as settings state them, and the runs of open minutes that follow from them.
+
 ghost use Rattle.std.specs.Prelude.{◌≡◌, ◌<◌, ◌≤◌, ◌+◌, ◌-◌, ◌&&◌, ◌||◌, ℕ};
 ghost use Rattle.std.specs.Prelude.{true, pos, neg_ℤ, ◌+ℤ◌, ◌≤ℤ◌, IfOk, OnOk};
 ghost use Rattle.std.specs.List.{list_all, list_any};

@@ -1,7 +1,9 @@
+//! Runs of minutes that are found by halving.
+
 ghost use Rattle.std.specs.Prelude.{◌≡◌, ◌<◌, ◌≤◌, ◌+◌, ◌*◌, ℕ, false, length, min, MatchOption};
 ghost use Rattle.std.specs.Prelude.{IsSome};
 ghost use Rattle.std.specs.List.{find};
-ghost use Rattle.hours_core.specs.Counting.{has_passed};
+ghost use Rattle.hours_core.specs.Counting.{count, has_passed};
 ghost use Rattle.hours_core.specs.Least.{IsLeast};
 ghost use Rattle.hours_core.specs.Moment.{first_minute, end_minute};
 ghost use Rattle.hours_core.specs.Probes as spec;
@@ -79,6 +81,38 @@ fn minutes_before(spans: &Spans, m: u32, probes: &mut Probes) -> Option<u32>
 {
     let span = first_reaching(spans, Mark::EndsAfter(m), probes)?;
     Some(span.before + m.saturating_sub(span.start))
+}
+
+/// How many minutes the spans hold.
+fn all_minutes(spans: &Spans, probes: &mut Probes) -> u32
+    ensures all { (m : ℕ) → end_minute ≤ m → result ≡ held_before spans.now m }
+    ensures spans { AreSpans first_minute 0 spans.now }
+{
+    let number = spans.len();
+    if number == 0 {
+        return 0;
+    }
+    let last = spans.read(number - 1, probes);
+    last.before + last.minutes()
+}
+
+/// How many minutes before this one the spans hold.
+fn minutes_up_to(spans: &Spans, m: u32, probes: &mut Probes) -> u32
+    ensures passed { result ≡ held_before spans.now m }
+    ensures spans { AreSpans first_minute 0 spans.now }
+{
+    match minutes_before(spans, m, probes) {
+        Some(minutes) => minutes,
+        None => all_minutes(spans, probes),
+    }
+}
+
+/// How many minutes from one to before another the spans hold.
+pub fn minutes_between(spans: &Spans, a: u32, b: u32, probes: &mut Probes) -> u32
+    requires { a ≤ b }
+    ensures { result ≡ count (is_held spans.now) a b }
+{
+    minutes_up_to(spans, b, probes) - minutes_up_to(spans, a, probes)
 }
 
 /// The first minute before which the spans hold `n` minutes from `m` on.

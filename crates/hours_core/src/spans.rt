@@ -1,3 +1,5 @@
+//! Runs of open minutes in order, and reads of them that are counted.
+
 ghost use Rattle.std.specs.Prelude.{◌≡◌, ◌<◌, ◌≤◌, ℕ, ◌+◌, ◌||◌, []};
 ghost use Rattle.std.specs.Prelude.{length, min, OnOk, slice_index_or};
 ghost use Rattle.hours_core.specs.Hours.{is_within};

@@ -1,3 +1,5 @@
+//! The opening hours of the days of a week.
+
 ghost use Rattle.std.specs.Prelude.{◌≡◌, ◌≤◌, true, IfOk};
 ghost use Rattle.std.specs.List.{list_all};
 ghost use Rattle.hours_core.specs.Hours as spec;

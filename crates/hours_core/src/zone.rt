@@ -1,3 +1,5 @@
+//! The offset of local time, and when it changes.
+
 ghost use Rattle.std.specs.Prelude.{◌≡◌, ◌≢◌, ◌⊎◌, ◌<◌, ◌≤◌, ◌+◌, ℕ, ℤ, true, ◌&&◌};
 ghost use Rattle.std.specs.Prelude.{length, pos, ◌+ℤ◌, ◌≤ℤ◌, neg_ℤ, IsOk, IfOk, IfErr};
 ghost use Rattle.std.specs.List.{list_all};

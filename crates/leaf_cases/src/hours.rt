@@ -1,7 +1,9 @@
 //! Opening hours: each line is a call, and is written again with its answer.
 //!
 //! The lines `zone`, `rule`, `week`, `holidays` and `years` give the parts of a calendar, where a
-//! rule stands in place of a zone, and `build` makes it, which the calls after it are asked of. An empty line and one that begins with `#` are no
+//! rule stands in place of a zone, and `build` makes it, which the calls after it are asked of. The
+//! line `ignore` gives the statuses that the level of the calls ignores; `stay` and `stays` add
+//! stays, and `no_stays` takes all of them away. An empty line and one that begins with `#` are no
 //! calls. A line that isn't understood ends all.
 
 mod asked;
@@ -21,7 +23,7 @@ pub fn run(rt: &HostRuntime, cases: &str) -> Result<(), Failure> {
         } else if line == "build" {
             calendar = parts.build(rt)?;
         } else if !parts.take(rt.alloc(), line)? {
-            answer(rt, calendar.as_ref(), line)?;
+            answer(rt, &parts, calendar.as_ref(), line)?;
         }
     }
     Ok(())

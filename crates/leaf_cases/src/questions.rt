@@ -154,10 +154,18 @@ fn level(rt: &HostRuntime, settings: &Settings, question: &str, name: &str) -> i
             let calendar = level.calendar.as_str();
             let begins = level.start_immediately;
             println!(rt; "{question}: {calendar} {begins}")?;
+            ignored(rt, level)?;
             limits(rt, level)
         }
         None => println!(rt; "{question}: {NONE}"),
     }
+}
+
+fn ignored(rt: &HostRuntime, level: &Level) -> io::Result<()> {
+    for status in level.ignore.as_slice() {
+        println!(rt; "  ignore: {}", status.as_str())?;
+    }
+    Ok(())
 }
 
 fn limits(rt: &HostRuntime, level: &Level) -> io::Result<()> {

@@ -1,3 +1,5 @@
+//! The faults of the parts of a lifecycle.
+
 ghost use Rattle.std.specs.Prelude.{◌≡◌, ◌≢◌, IfSome};
 ghost use Rattle.std.specs.List.{list_all, list_any};
 ghost use Rattle.lifecycle_core.specs.Lifecycle as words;

@@ -1,3 +1,5 @@
+//! Why parts make no lifecycle.
+
 ghost use Rattle.std.specs.Prelude.{◌≡◌};
 ghost use Rattle.lifecycle_core.specs.Fault.{number_of, name_of};
 

@@ -1,3 +1,5 @@
+//! Lifecycles: the classes of statuses, the moves between them, and the right for each.
+
 ghost use Rattle.std.specs.Prelude.{◌≡◌, ◌≢◌, true, None, Some, IfOk, IfErr, is_some};
 ghost use Rattle.std.specs.Option.{option_copied};
 ghost use Rattle.text_core.specs.Form.{is_right_name};

@@ -1,3 +1,5 @@
+//! What a lifecycle is built from.
+
 ghost use Rattle.std.specs.Prelude.{◌≡◌, IfOk};
 
 use std::alloc::{AllocError, Global};

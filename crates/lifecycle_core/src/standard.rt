@@ -1,3 +1,5 @@
+//! The lifecycle that is there without settings.
+
 ghost use Rattle.std.specs.Prelude.{◌≡◌, ◌++◌, None, IfOk, map};
 ghost use Rattle.lifecycle_core.specs.Fault.{fault_of};
 ghost use Rattle.lifecycle_core.specs.Standard as words;

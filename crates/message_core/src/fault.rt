@@ -1,3 +1,5 @@
+//! Why bytes are no message.
+
 ghost use Rattle.std.specs.Prelude.{◌≡◌};
 ghost use Rattle.message_core.specs.Fault.{name_of, number_of};
 

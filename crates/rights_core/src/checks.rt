@@ -1,3 +1,5 @@
+//! The faults of persons, groups and grants.
+
 ghost use Rattle.std.specs.Prelude.{◌≡◌, ◌≢◌, ◌||◌, IfSome};
 ghost use Rattle.std.specs.List.{list_all};
 ghost use Rattle.rights_core.specs.People as words;

@@ -1,3 +1,5 @@
+//! Why persons, groups and grants make no people.
+
 use std::alloc::AllocError;
 use thiserror::Error;
 

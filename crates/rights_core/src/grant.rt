@@ -1,3 +1,5 @@
+//! Grants, and whom they are for.
+
 use crate::role::Role;
 use text_core::Text;
 

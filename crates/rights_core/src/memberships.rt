@@ -1,3 +1,5 @@
+//! Which groups each person is a member of, through groups in groups.
+
 ghost use Rattle.std.specs.Prelude.{◌≡◌, ◌++◌, ℕ, [], List, IfOk, OnOk};
 ghost use Rattle.std.specs.List.{list_any, slice_index_or};
 ghost use Rattle.rights_core.specs.Index.{IsMemberships};

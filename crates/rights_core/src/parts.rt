@@ -1,3 +1,5 @@
+//! What people are built from.
+
 ghost use Rattle.std.specs.Prelude.{◌≡◌, IfOk};
 ghost use Rattle.rights_core.specs.People.{parts_of};
 

@@ -1,3 +1,5 @@
+//! People: who is known, who is a member of what, and who holds a right.
+
 ghost use Rattle.std.specs.Prelude.{◌≡◌, ◌≢◌, ◌↔◌, ℕ, List, None, Some, IsTrue, IfOk, IfErr};
 ghost use Rattle.rights_core.specs.People as words;
 ghost use Rattle.rights_core.specs.People.{parts_of};

@@ -1,3 +1,5 @@
+//! Roles of a person on a request.
+
 ghost use Rattle.std.specs.Prelude.{◌≡◌};
 ghost use Rattle.rights_core.specs.People as words;
 

@@ -1,3 +1,5 @@
+//! Why a message asks for no command.
+
 ghost use Rattle.std.specs.Prelude.{◌≡◌};
 ghost use Rattle.route_core.specs.Fault.{name_of, number_of};
 

@@ -5,6 +5,7 @@ pub mod Stepping
 pub mod StreamLemmas
 pub mod Running
 pub mod RunsAlike
+pub mod StayLemmas
 pub mod WrittenAlike
 pub mod Linked
 pub mod Told

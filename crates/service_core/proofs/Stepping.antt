@@ -1,5 +1,5 @@
 -- What is read or written of a command makes a step.
-use Rattle.std.proofs.Common.{◌≡◌, ◌≢◌, ◌⊎◌, ◌∙◌, ℕ, false, true, List, Option, Some, None, Result}
+use Rattle.std.proofs.Common.{◌≡◌, ◌≢◌, ◌⊎◌, ◌∙◌, ℕ, false, List, Option, Some, None, Result}
 use Rattle.std.proofs.Common.{Ok, Err, IfErr, IfOk, OnErr, OnOk, inl, inr, refl, ap, subst, sym}
 use Rattle.sqlite.specs.State.{State}
 use Rattle.settings_core.specs.declared.settings.Settings.{Settings}

@@ -1,7 +1,7 @@
 -- What is written of a list is what comes of its command.
 use Rattle.std.specs.Prelude.{⊤}
-use Rattle.std.proofs.Common.{◌≡◌, ◌≢◌, ℕ, [], Bool, true, false, List, None, Option, Some}
-use Rattle.std.proofs.Common.{Err, Ok, Result, arith, inl, inr, refl, subst}
+use Rattle.std.proofs.Common.{◌≡◌, ◌≢◌, ℕ, [], Bool, false, List, None, Option, Some}
+use Rattle.std.proofs.Common.{Err, Ok, Result, inl, inr, refl, subst}
 use Rattle.settings_core.specs.declared.settings.Settings.{Settings}
 use Rattle.desk_model.specs.Commands.{IsReading}
 use Rattle.desk_model.specs.Desk.{Desk}
@@ -17,7 +17,6 @@ use Rattle.stream_core.specs.Seen.{has_write_failed, held_in}
 use Rattle.stream_core.specs.Written.{IsWritten, Prints, WritesOn}
 use Rattle.stream_core.specs.declared.writer.CountedWriter.{CountedWriter}
 use Rattle.service_core.specs.Streaming.{IsStreamed, is_write}
-use Rattle.service_core.specs.TableSteps.{IsStep}
 use Rattle.service_core.proofs.Stepping.{reading_step, refused_step}
 
 -- a list that is written

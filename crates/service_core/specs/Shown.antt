@@ -49,7 +49,7 @@ links_by from to =
 abbrev pub due_in : Settings → Facts → Option ℕ
 due_in settings facts =
     option_and_then (λ queue. option_and_then
-    (λ request. due_of settings queue request.row) facts.request)
+    (λ request. due_of settings queue facts.stays request.row) facts.request)
     facts.queue
 
 -- a request with this due moment and these links

@@ -85,11 +85,12 @@ fn renew_known<S: Backend>(
 {
     let dated = store.dated_requests(alloc)?;
     let queues = store.queues(alloc)?;
+    let stays = store.stays(alloc)?;
     let (dated, queues) = (dated.as_slice(), queues.as_slice());
     if !is_known(alloc, store, settings, queues, dated)? {
         return Ok(false);
     }
-    renew(alloc, store, settings, queues, dated)?;
+    renew(alloc, store, settings, queues, stays, dated)?;
     Ok(true)
 }
 

@@ -12,6 +12,7 @@ mod links;
 mod reading;
 mod renewal;
 mod run;
+mod stays;
 mod stream;
 
 pub use desk::Desk;

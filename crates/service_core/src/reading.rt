@@ -38,7 +38,7 @@ pub(crate) fn read<S: Backend>(
     match command {
         Command::Queues => queues(alloc, store, settings, caller),
         Command::Show { .. } => show(alloc, store, settings, caller, facts),
-        Command::List { queue } => list(alloc, store, settings, caller, queue, facts),
+        Command::List { queue } => list(alloc, store, settings, caller, queue),
         Command::History { .. } => history(alloc, store, settings, caller, facts),
         Command::Overdue => overdue(alloc, store, settings, at, caller),
         Command::Workload => workload(alloc, store, settings, at, caller),
@@ -105,7 +105,9 @@ fn due_in(settings: &Settings, facts: &Facts) -> Option<Minute>
     ensures { result ≡ shown.due_in settings.now facts.now }
 {
     match (&facts.queue, &facts.request) {
-        (Some(queue), Some(request)) => due_of(settings, queue, &request.row),
+        (Some(queue), Some(request)) => {
+            due_of(settings, queue, &request.row, facts.stays.as_slice())
+        }
         _ => None,
     }
 }
@@ -144,24 +146,22 @@ fn shown_with(request: SeenRequest, due: Option<Minute>, links: Links) -> Shown
     }
 }
 
-/// The requests of the queue that the caller may show. `Unavailable` where memory or the store
-/// refused. The tables stay as they are.
+/// The requests of the queue that the caller may show, with the due moments that the tables keep.
+/// `Unavailable` where memory or the store refused. The tables stay as they are.
 fn list<S: Backend>(
     alloc: Global,
     store: &mut Store<S>,
     settings: &Settings,
     caller: &str,
     queue: &Text,
-    facts: &Facts,
 ) -> Result<Answer, Refusal>
-    ensures told { (at : ℕ)
-        → Answers settings.now (ask_by at caller.now (Command.List queue.now)) facts.now
+    ensures told { (at : ℕ) (facts : Facts)
+        → AnswersDue settings.now (ask_by at caller.now (Command.List queue.now)) facts
         (state_of S.Store store.old) (state_of S.Store store.new) result }
     ensures kept { Spares (state_of S.Store store.old) (state_of S.Store store.new) }
     ensures fault { IfErr result (λ refusal. refusal ≡ Refusal.Unavailable) }
 {
-    let in_queue = facts.queue.as_ref();
-    let lines = desk_lists::list(alloc, store, settings, caller, queue, in_queue)?;
+    let lines = desk_lists::list(alloc, store, settings, caller, queue)?;
     Ok(Answer::Listed(lines))
 }
 
@@ -185,8 +185,8 @@ fn overdue<S: Backend>(
     Ok(Answer::Late(lines))
 }
 
-/// What each owner has of the requests that the caller may show. `Unavailable` where memory or the
-/// store refused. The tables stay as they are.
+/// What each owner has of the requests that the caller may show, by the due moments that the tables
+/// keep. `Unavailable` where memory or the store refused. The tables stay as they are.
 fn workload<S: Backend>(
     alloc: Global,
     store: &mut Store<S>,
@@ -195,7 +195,7 @@ fn workload<S: Backend>(
     caller: &str,
 ) -> Result<Answer, Refusal>
     ensures told { (facts : Facts)
-        → Answers settings.now (ask_by at caller.now Command.Workload) facts
+        → AnswersDue settings.now (ask_by at caller.now Command.Workload) facts
         (state_of S.Store store.old) (state_of S.Store store.new) result }
     ensures kept { Spares (state_of S.Store store.old) (state_of S.Store store.new) }
     ensures fault { IfErr result (λ refusal. refusal ≡ Refusal.Unavailable) }

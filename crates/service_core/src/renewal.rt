@@ -1,37 +1,41 @@
 //! The due moments that tables keep are renewed by the settings that are attached.
-ghost use Rattle.std.specs.Prelude.{◌≡◌, IfErr, IfOk, OnErr, OnOk};
+ghost use Rattle.std.specs.Prelude.{◌≡◌, ℕ, length, IfErr, IfOk, List, OnErr, OnOk};
+ghost use Rattle.hours_core.specs.declared.stay.Stay as stay;
 ghost use Rattle.store_tables.specs.Calls.{Leaves, WasClean};
 ghost use Rattle.store_tables.specs.declared.fault.StoreFault.{StoreFault};
 ghost use Rattle.store_core.specs.Seen.{state_of};
 ghost use Rattle.desk_reports.specs.Rows.{QueuesRise};
 ghost use Rattle.service_core.specs.Renewing as renewing;
-ghost use Rattle.service_core.specs.Renewing.{AreRenewedFrom};
+ghost use Rattle.service_core.specs.Renewing.{AreApart, AreRenewedFrom, StaysRise};
 
+use crate::stays::{apart, stays_at};
 use desk_core::{QueueRow, RequestRow, due_of};
 use desk_reports::queue_named;
-use hours_core::Minute;
+use hours_core::{Minute, Stay};
 use settings_core::Settings;
 use std::alloc::{AllocError, Global};
 use store_core::{Backend, Store, StoreFault};
 
 /// Writes the due moment of each of these requests for which the tables keep another one: all of
-/// them, or none. They are those of the tables, and so are the queues. On a fault tables whose rows
-/// are values of their types stay as they are.
+/// them, or none. They are those of the tables, and so are the queues and the stays, beside which
+/// the numbers of their requests stand. On a fault tables whose rows are values of their types stay
+/// as they are.
 pub(crate) fn renew<S: Backend>(
     alloc: Global,
     store: &mut Store<S>,
     settings: &Settings,
     queues: &[QueueRow],
+    stays: Vec<(u32, Stay)>,
     dated: &[(RequestRow, Option<Minute>)],
 ) -> Result<(), StoreFault>
-    ensures renewed { OnOk result (AreRenewedFrom settings.now queues.now dated.now
+    ensures renewed { OnOk result (AreRenewedFrom settings.now queues.now stays.items dated.now
         (state_of S.Store store.old) (state_of S.Store store.new)) }
     ensures left { OnErr result
         (Leaves (state_of S.Store store.old) (state_of S.Store store.new)) }
     ensures honest { WasClean (state_of S.Store store.old) (state_of S.Store store.new) }
     ensures fault { IfErr result (λ e. e ≡ StoreFault.Refused) }
 {
-    match renewals(alloc, settings, queues, dated) {
+    match renewals(alloc, settings, queues, stays, dated) {
         Ok(dues) => store.set_dues(dues.as_slice()),
         Err(_) => Err(StoreFault::Refused),
     }
@@ -42,14 +46,34 @@ fn renewals(
     alloc: Global,
     settings: &Settings,
     queues: &[QueueRow],
+    stays: Vec<(u32, Stay)>,
     dated: &[(RequestRow, Option<Minute>)],
 ) -> Result<Vec<(u32, Option<Minute>)>, AllocError>
-    ensures { QueuesRise queues.now → IfOk result (λ dues.
-        dues.items ≡ renewing.renewals settings.now queues.now dated.now) }
+    ensures { QueuesRise queues.now → StaysRise stays.items → IfOk result (λ dues.
+        dues.items ≡ renewing.renewals settings.now queues.now stays.items dated.now) }
+{
+    let (numbers, stays) = apart(alloc, stays)?;
+    let (numbers, stays) = (numbers.as_slice(), stays.as_slice());
+    renewals_by(alloc, settings, queues, numbers, stays, dated)
+}
+
+/// The same, by stays in the order of their requests' numbers, which stand beside them.
+fn renewals_by(
+    alloc: Global,
+    settings: &Settings,
+    queues: &[QueueRow],
+    numbers: &[u32],
+    stays: &[Stay],
+    dated: &[(RequestRow, Option<Minute>)],
+) -> Result<Vec<(u32, Option<Minute>)>, AllocError>
+    requires { length numbers.now ≡ length stays.now }
+    ensures { (all : List (ℕ × stay.Stay)) → QueuesRise queues.now → StaysRise all
+        → AreApart all numbers.now stays.now → IfOk result (λ dues.
+        dues.items ≡ renewing.renewals settings.now queues.now all dated.now) }
 {
     let mut dues = Vec::new(alloc);
     for (row, kept) in dated {
-        let due = due_by(settings, queues, row);
+        let due = due_by(settings, queues, stays_at(numbers, stays, row.id), row);
         if !is_same_moment(&due, kept) {
             dues.push((row.id, due))?;
         }
@@ -57,13 +81,18 @@ fn renewals(
     Ok(dues)
 }
 
-/// When a request is due, of queues in the order of their names.
-fn due_by(settings: &Settings, queues: &[QueueRow], row: &RequestRow) -> Option<Minute>
+/// When a request with these stays is due, of queues in the order of their names.
+fn due_by(
+    settings: &Settings,
+    queues: &[QueueRow],
+    stays: &[Stay],
+    row: &RequestRow,
+) -> Option<Minute>
     ensures { QueuesRise queues.now
-        → result ≡ renewing.due_by settings.now queues.now row.now }
+        → result ≡ renewing.due_with settings.now queues.now stays.now row.now }
 {
     match queue_named(queues, &row.queue) {
-        Some(queue) => due_of(settings, queue, row),
+        Some(queue) => due_of(settings, queue, row, stays),
         None => None,
     }
 }

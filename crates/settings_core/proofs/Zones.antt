@@ -1,6 +1,6 @@
 -- A calendar of its parts.
-use Rattle.std.proofs.Common.{◌≡◌, ℕ, List, None}
-use Rattle.std.proofs.Common.{Result, Ok, Err, sym, subst, ℤ}
+use Rattle.std.proofs.Common.{◌≡◌, None}
+use Rattle.std.proofs.Common.{Result, Ok, Err, sym, subst}
 use Rattle.std.specs.Option.{option_or}
 use Rattle.std.specs.Result.{IfOk, OnOk, result_err}
 use Rattle.hours_core.specs.Calendar.{HasHours, KeepsHours}

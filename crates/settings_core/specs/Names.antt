@@ -4,7 +4,7 @@ use Rattle.std.specs.List.{list_all, list_any}
 use Rattle.std.specs.Str.{bytes_eq}
 use Rattle.toml.specs.Data.{Members, get_member}
 use Rattle.hours_core.specs.declared.level.Level.{Level}
-use Rattle.lifecycle_core.specs.Lifecycle.{names_right}
+use Rattle.lifecycle_core.specs.Lifecycle.{names_right, is_status}
 use Rattle.lifecycle_core.specs.declared.parts.Parts as lifecycles
 use Rattle.rights_core.specs.People.{is_among, knows}
 use Rattle.rights_core.specs.Right.{standard_rights}
@@ -35,11 +35,21 @@ knows_calendar ms name = bytes_eq name (codes "default") || has_calendar ms name
 abbrev pub knows_calendars : Members → List (Named Level) → Bool
 knows_calendars ms levels = list_all (λ l. knows_calendar ms l.value.calendar) levels
 
+-- a status is one of some lifecycle
+abbrev pub knows_status : List (Named lifecycles.Parts) → List ℕ → Bool
+knows_status lifecycles status = list_any (λ l. is_status l.value status) lifecycles
+
+-- the statuses that levels ignore
+abbrev pub knows_ignored : List (Named lifecycles.Parts) → List (Named Level) → Bool
+knows_ignored lifecycles levels =
+    list_all (λ l. list_all (knows_status lifecycles) l.value.ignore) levels
+
 abbrev pub knows_persons : Parts → List Token → Bool
 knows_persons people tokens = list_all (λ t. knows people t.person) tokens
 
--- the granted rights, the levels' calendars and the tokens' persons are known
+-- the granted rights, the levels' calendars and statuses, and the tokens' persons are known
 abbrev pub knows_names : Members → Bool
 knows_names ms =
     knows_rights (lifecycles_of ms) (people_in ms).grants
-    && knows_calendars ms (levels_of ms) && knows_persons (people_in ms) (tokens_of ms)
+    && knows_calendars ms (levels_of ms) && knows_ignored (lifecycles_of ms) (levels_of ms)
+    && knows_persons (people_in ms) (tokens_of ms)

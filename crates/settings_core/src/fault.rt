@@ -1,3 +1,5 @@
+//! Why a text states no settings.
+
 ghost use Rattle.std.specs.Prelude.{◌≡◌};
 ghost use Rattle.std.specs.Option.{option_map};
 ghost use Rattle.settings_core.specs.Fault.{number_of, name_of, inner_of, of_text};

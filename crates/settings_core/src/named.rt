@@ -1,3 +1,5 @@
+//! Values under their names.
+
 ghost use Rattle.std.specs.Prelude.{◌≡◌};
 ghost use Rattle.std.specs.Option.{option_map};
 ghost use Rattle.settings_core.specs.Named.{under};

@@ -1,7 +1,7 @@
 //! Whether the names of a settings text are known.
 
 ghost use Rattle.std.specs.Prelude.{◌≡◌};
-ghost use Rattle.std.specs.List.{list_any};
+ghost use Rattle.std.specs.List.{list_all, list_any};
 ghost use Rattle.toml.specs.View.{table_view};
 ghost use Rattle.lifecycle_core.specs.Lifecycle.{names_right};
 ghost use Rattle.settings_core.specs.Names as spec;
@@ -12,6 +12,7 @@ use lifecycle_core::Lifecycle;
 use rights_core::{Grant, People, right};
 use settings_parts::people::Token;
 use settings_parts::values::{has_key, table_at};
+use text_core::Texts;
 use toml::Table;
 
 /// Whether each granted right is standard or named in the rights of a lifecycle.
@@ -57,6 +58,30 @@ fn has_calendar(table: &Table, name: &str) -> bool
         Some(calendars) => has_key(calendars, name),
         None => false,
     }
+}
+
+/// Whether each status that a level ignores is one of some lifecycle.
+pub fn knows_ignored(lifecycles: &[Named<Lifecycle>], levels: &[Named<Level>]) -> bool
+    ensures { result ≡ spec.knows_ignored lifecycles.now levels.now }
+{
+    levels
+        .iter()
+        .all(|l| knows_statuses(lifecycles, &l.value.ignore))
+}
+
+fn knows_statuses(lifecycles: &[Named<Lifecycle>], statuses: &Texts) -> bool
+    ensures { result ≡ list_all (spec.knows_status lifecycles.now) statuses.now }
+{
+    statuses
+        .as_slice()
+        .iter()
+        .all(|s| knows_status(lifecycles, s.as_str()))
+}
+
+fn knows_status(lifecycles: &[Named<Lifecycle>], status: &str) -> bool
+    ensures { result ≡ spec.knows_status lifecycles.now status.now }
+{
+    lifecycles.iter().any(|l| l.value.class(status).is_some())
 }
 
 /// Whether the person of each token is known.

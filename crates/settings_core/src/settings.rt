@@ -1,3 +1,5 @@
+//! Settings: read from a text, and what they say.
+
 ghost use Rattle.std.specs.Prelude.{◌≡◌, ◌≢◌, [], None, Some, IfOk, IfErr};
 ghost use Rattle.std.specs.Option.{option_copied, option_map};
 ghost use Rattle.toml.specs.View.{table_view};
@@ -14,7 +16,7 @@ use crate::levels::levels_of;
 use crate::lifecycles::lifecycles_of;
 use crate::limits::{MAX_ENTRIES, MAX_REQUESTS, count_at, has_limits};
 use crate::named::Named;
-use crate::names::{knows_calendars, knows_persons, knows_rights};
+use crate::names::{knows_calendars, knows_ignored, knows_persons, knows_rights};
 use crate::people::people_of;
 use crate::tokens::are_tokens;
 use hours_core::{Calendar, Level};
@@ -169,7 +171,7 @@ fn late_fault(table: &Table, settings: &Settings) -> Option<SettingsFault>
     }
 }
 
-/// Whether granted rights, the levels' calendars and the tokens' persons are known.
+/// Whether granted rights, the levels' calendars and statuses, and the tokens' persons are known.
 fn knows_names(table: &Table, settings: &Settings) -> bool
     requires { IsBuilt (table_view table.now) settings.now }
     ensures { result ≡ knows_names_in (table_view table.now) }
@@ -177,5 +179,6 @@ fn knows_names(table: &Table, settings: &Settings) -> bool
     let grants = settings.people.parts().grants.as_slice();
     knows_rights(settings.lifecycles.as_slice(), grants)
         && knows_calendars(table, settings.levels.as_slice())
+        && knows_ignored(settings.lifecycles.as_slice(), settings.levels.as_slice())
         && knows_persons(&settings.people, settings.tokens.as_slice())
 }

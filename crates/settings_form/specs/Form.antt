@@ -94,6 +94,7 @@ keys Level =
     may (codes "response") (One (Table Limit)) ∷
     may (codes "keep_in_loop") (One (Table Limit)) ∷
     may (codes "resolve") (One (Table Limit)) ∷
+    may (codes "ignore") (Many (Text Any)) ∷
     [])
 keys Limit =
     one_of (

@@ -1,3 +1,5 @@
+//! The tables of settings, their keys, and what stands at each.
+
 ghost use Rattle.std.specs.Prelude.{◌≡◌, map};
 ghost use Rattle.std.specs.Str.{bytes_eq};
 ghost use Rattle.settings_form.specs.Form as form;
@@ -113,12 +115,13 @@ static CALENDAR: [Row; 12] = [
     Row("sat", MAY, Many(Text(TextForm::Interval))),
 ];
 
-static LEVEL: [Row; 5] = [
+static LEVEL: [Row; 6] = [
     Row("calendar", MUST, One(Text(TextForm::Any))),
     Row("start_immediately", MAY, One(Boolean)),
     Row("response", MAY, One(Table(Place::Limit))),
     Row("keep_in_loop", MAY, One(Table(Place::Limit))),
     Row("resolve", MAY, One(Table(Place::Limit))),
+    Row("ignore", MAY, Many(Text(TextForm::Any))),
 ];
 
 static LIMIT: [Row; 2] = [

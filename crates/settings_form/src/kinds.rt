@@ -1,3 +1,5 @@
+//! Whether a value is of the kind that its key asks for.
+
 ghost use Rattle.std.specs.Prelude.{◌≡◌, string_bytes, option_map, map};
 ghost use Rattle.std.specs.List.{list_any};
 ghost use Rattle.std.specs.BTreeMap.{keys as map_keys};

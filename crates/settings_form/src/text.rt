@@ -1,3 +1,5 @@
+//! A text of settings as a table.
+
 ghost use Rattle.std.specs.Prelude.{◌≢◌, IfOk, IfErr};
 ghost use Rattle.toml.specs.View.{table_view};
 ghost use Rattle.settings_form.specs.Text.{IsFormed, HasFault};

@@ -1,3 +1,5 @@
+//! The forms of texts in settings: names, days, times, whom a grant is for.
+
 ghost use Rattle.std.specs.Prelude.{◌≡◌, ◌<◌, ◌≤◌, slice_index};
 ghost use Rattle.std.specs.List.{list_any};
 ghost use Rattle.settings_form.specs.TextForms as spec;

@@ -1,3 +1,5 @@
+//! The faults of form, looked for in the whole of a table.
+
 ghost use Rattle.std.specs.Prelude.{◌≡◌};
 ghost use Rattle.toml.specs.View.{view, array_view, table_view};
 ghost use Rattle.settings_form.specs.Walk as walk;

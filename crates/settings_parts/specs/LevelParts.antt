@@ -7,7 +7,7 @@ use Rattle.toml.specs.Data.{Members, get_member, as_table}
 use Rattle.hours_core.specs.declared.level.Level.{Level}
 use Rattle.hours_core.specs.declared.level.Limit.{Limit}
 use Rattle.hours_core.specs.declared.level.Limit.TheVariants.{RealMinutes, BusinessMinutes}
-use Rattle.settings_parts.specs.Values.{text_at, integer_at, boolean_at}
+use Rattle.settings_parts.specs.Values.{text_at, texts_at, integer_at, boolean_at}
 
 -- from 1 to the most
 abbrev pub is_from_one : ℕ → ℤ → Bool
@@ -66,4 +66,5 @@ level_of ms =
       response = limit_at (codes "response") ms;
       keep_in_loop = limit_at (codes "keep_in_loop") ms;
       resolve = limit_at (codes "resolve") ms;
+      ignore = texts_at (codes "ignore") ms;
     }

@@ -5,7 +5,7 @@ ghost use Rattle.std.specs.Option.{option_map};
 ghost use Rattle.toml.specs.View.{table_view};
 ghost use Rattle.settings_parts.specs.LevelParts as spec;
 
-use crate::values::{boolean_at, integer_at, text_or_empty};
+use crate::values::{boolean_at, integer_at, text_or_empty, texts_at};
 use hours_core::{Level, Limit};
 use settings_form::kinds::value_at;
 use std::alloc::{AllocError, Global};
@@ -120,5 +120,6 @@ pub fn level_of(alloc: Global, table: &Table) -> Result<Level, AllocError>
         response: limit_at(table, "response"),
         keep_in_loop: limit_at(table, "keep_in_loop"),
         resolve: limit_at(table, "resolve"),
+        ignore: texts_at(alloc, table, "ignore")?,
     })
 }

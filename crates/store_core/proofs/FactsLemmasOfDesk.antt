@@ -13,6 +13,7 @@ use Rattle.std.specs.Prelude.{option_and_then}
 use Rattle.std.proofs.lemmas.List.{append_assoc, append-nil, length-map, take_more}
 use Rattle.sqlite_rules.proofs.ListLemmas.{all_from, test_has}
 use Rattle.sqlite_trees.proofs.ListLemmas.{map-map}
+use Rattle.hours_core.specs.declared.stay.Stay.{Stay}
 use Rattle.desk_model.specs.declared.facts.Dependency.{Dependency}
 use Rattle.desk_model.specs.declared.facts.Facts.{Facts}
 use Rattle.desk_model.specs.declared.facts.SeenRequest.{SeenRequest}
@@ -25,12 +26,14 @@ use Rattle.desk_model.specs.Desk.{Desk, Request, queue_at, request_at}
 use Rattle.desk_model.specs.Desk.{queue_count, request_count}
 use Rattle.desk_model.specs.Facts.{as_dependency, dependencies_of, facts_on_queue}
 use Rattle.desk_model.specs.Facts.{facts_on_request, queue_of, seen_request, seen_request_at}
+use Rattle.desk_model.specs.Facts.{stays_at}
 use Rattle.desk_model.specs.Links as links
 use Rattle.desk_model.specs.Links.{has_link}
 use Rattle.desk_model.specs.Plan.{Another, Dependencies, besides_on}
 use Rattle.desk_model.specs.IsDesk.{IsDesk, are_numbered, has_both_ends, has_its_entries}
 use Rattle.desk_model.specs.IsDesk.{persons_rise}
 use Rattle.desk_model.specs.Rights.{is_shown, may_show}
+use Rattle.desk_model.specs.Stays.{stays_of}
 use Rattle.desk_model.specs.Watchers.{may_show_by, watchers_of}
 use Rattle.desk_core.proofs.Roles.{own_roles_law}
 use Rattle.settings_core.specs.declared.settings.Settings.{Settings}
@@ -41,7 +44,7 @@ use Rattle.store_tables.specs.Selection as chosen
 use Rattle.store_tables.specs.Selection.{is_numbered, links_from, number_of, place_of}
 use Rattle.store_tables.specs.Selection.{tells_of, watches}
 use Rattle.store_core.specs.Found.{dependency_at, dependency_by, dependency_of}
-use Rattle.store_core.specs.Found.{counted, filed, queue_by, seen_request_of}
+use Rattle.store_core.specs.Found.{counted, filed, queue_by, seen_request_of, stays_if}
 use Rattle.store_core.specs.Found.{with_dependencies, with_link}
 use Rattle.store_core.proofs.FactsLemmas.{entries_of_one, found_row, greatest_counts}
 use Rattle.store_core.proofs.FactsLemmas.{IsOnly, numbers_of, only_request, some_found, watchers_of_one}
@@ -212,12 +215,23 @@ queue_facts desk name q n m q_is n_is m_is =
     ap (λ v. counted v n m) q_is ∙ ap (λ v. counted (queue_at desk name) v m) n_is
     ∙ ap (counted (queue_at desk name) (queue_count desk)) m_is
 
+-- the stays of a request that is seen are those of the request
+stays_seen : (o : Option Request)
+    → stays_if (is_some (option_map seen_request o)) (option_map_or (λ r. stays_of r.entries) o [])
+    ≡ option_map_or (λ r. stays_of r.entries) o []
+stays_seen None = refl
+stays_seen (Some r) = refl
+
 pub request_facts : (desk : Desk) (id : ℕ) (q : Option QueueRow) (request : Option SeenRequest)
-    → request ≡ seen_request_at desk id → q ≡ queue_by desk request → filed q request
-    ≡ facts_on_request desk id
-request_facts desk id q request on_is q_is =
-    ap (λ v. filed v request) (q_is ∙ ap (queue_by desk) on_is ∙ queue_by_is desk id)
-    ∙ ap (filed (queue_of desk (request_at desk id))) on_is
+    (stays : List Stay) → request ≡ seen_request_at desk id
+    → stays ≡ stays_if (is_some request) (stays_at desk id) → q ≡ queue_by desk request
+    → filed q request stays ≡ facts_on_request desk id
+request_facts desk id q request stays on_is stays_are q_is =
+    ap (λ v. filed v request stays) (q_is ∙ ap (queue_by desk) on_is ∙ queue_by_is desk id)
+    ∙ ap (λ v. filed (queue_of desk (request_at desk id)) v stays) on_is
+    ∙ ap (filed (queue_of desk (request_at desk id)) (seen_request_at desk id))
+    (stays_are ∙ ap (λ (v : Option SeenRequest). stays_if (is_some v) (stays_at desk id)) on_is
+    ∙ stays_seen (request_at desk id))
 
 pub link_there : (desk : Desk) (l : LinkRow) (o : Option LinkRow)
     → option_to_list o ≡ filter (chosen.is_link l) desk.links → is_some o ≡ has_link desk l

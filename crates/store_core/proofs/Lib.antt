@@ -8,12 +8,16 @@ pub mod FactsLemmasOfDesk
 pub mod HistoryLemmas
 pub mod MakeLemmas
 pub mod MakeStatements
+pub mod MigrationLemmas
 pub mod OrderLemmas
 pub mod Renewed
 pub mod Revised
 pub mod RoleRows
 pub mod RiseLemmas
+pub mod RunLemmas
 pub mod StandsAlike
+pub mod StayRows
+pub mod StaysWritten
 pub mod Writable
 pub mod WritableByKind
 pub mod WrittenDesk

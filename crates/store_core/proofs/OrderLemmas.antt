@@ -17,8 +17,9 @@ use Rattle.store_tables.specs.Dated.{Dated}
 use Rattle.store_tables.specs.Kept.{itself}
 use Rattle.store_tables.specs.Picked.{AreOrdered}
 use Rattle.store_tables.specs.Orders.{by_dated_id, by_id, by_entry, by_link, by_name, by_standing}
-use Rattle.store_tables.specs.Orders.{by_watcher}
+use Rattle.store_tables.specs.Orders.{by_stay, by_watcher}
 use Rattle.store_tables.specs.Spelling.{role_number}
+use Rattle.store_tables.specs.Stays.{StayRow}
 use Rattle.desk_model.specs.Links.{kind_number}
 use Rattle.sorted_lists.proofs.SortedLemmas.{Rises, sorted_same}
 
@@ -59,6 +60,10 @@ dated_total = on_total (λ (p : Dated). p.0.id) nat_cmp_total
 pub entry_total : IsTotalOrder by_entry
 entry_total = then_total (on_total (λ (e : Entry). e.id) nat_cmp_total)
     (on_total (λ (e : Entry). e.number) nat_cmp_total)
+
+pub stay_total : IsTotalOrder by_stay
+stay_total = then_total (on_total (λ (s : StayRow). s.request) nat_cmp_total)
+    (on_total (λ (s : StayRow). s.number) nat_cmp_total)
 
 pub link_total : IsTotalOrder by_link
 link_total = then_total (on_total (λ (l : LinkRow). l.source) nat_cmp_total)

@@ -1,16 +1,18 @@
 -- The due moments that a change writes are those of the desk after it: the request that it files or
--- sets has the moment that comes with it, and of all others neither the row nor the queue changes.
+-- sets has the moment that comes with it, and of all others neither the row, nor the queue, nor a
+-- stay changes.
 use Rattle.std.proofs.Common.{◌≡◌, ◌⊎◌, ◌∙◌, ℕ, ◌+◌, ◌<◌, ◌≤◌, ◌==◌, Bool, true, false, cond, not}
 use Rattle.std.proofs.Common.{List, [], ◌∷◌, find, length, map, Option, Some, None, inl, inr}
 use Rattle.std.proofs.Common.{refl, ap, ap₂, arith, sym, subst}
 use Rattle.std.specs.List.{All, list_all}
-use Rattle.std.specs.Option.{is_some}
+use Rattle.std.specs.Option.{is_some, option_map_or}
 use Rattle.std.specs.Prelude.{⊤, option_and_then}
 use Rattle.std.specs.Str.{bytes_eq}
 use Rattle.std.proofs.lemmas.Bool.{and_parts, eq-eqb, eqb-true, ne_eqb}
 use Rattle.std.proofs.lemmas.Slice.Eq.{bytes_eq-Decides}
 use Rattle.std.proofs.lemmas.List.Elements.{All-nil, All-cons, All-head, All-tail}
 use Rattle.hours_core.specs.Moment.{is_moment}
+use Rattle.hours_core.specs.declared.stay.Stay.{Stay}
 use Rattle.settings_core.specs.Settings.{knows}
 use Rattle.settings_core.specs.declared.settings.Settings.{Settings}
 use Rattle.desk_model.specs.Change.{applied, filed, queue_put, request_filed}
@@ -19,18 +21,25 @@ use Rattle.desk_model.specs.Condition.{Condition}
 use Rattle.desk_model.specs.Dated.{either_row}
 use Rattle.desk_model.specs.Desk.{Desk, Request, has_lower_name, placed, queue_at, request_at}
 use Rattle.desk_model.specs.Due.{due_of}
+use Rattle.desk_model.specs.Facts.{stays_at}
 use Rattle.desk_model.specs.IsDesk.{IsDesk}
 use Rattle.desk_model.specs.Plan.{change_by}
+use Rattle.desk_model.specs.Stays.{stays_of}
 use Rattle.desk_model.specs.Step.{call, facts_of, guard}
 use Rattle.desk_model.specs.declared.change.Change.{Change}
 use Rattle.desk_model.specs.declared.command.Command.{Command}
 use Rattle.desk_model.specs.declared.command.Command.TheVariants.{OpenQueue, Create}
 use Rattle.desk_model.specs.declared.refusal.Refusal.TheVariants.{BadMoment, UnknownCaller}
+use Rattle.desk_model.specs.declared.rows.Entry.{Entry}
 use Rattle.desk_model.specs.declared.rows.QueueRow.{QueueRow}
 use Rattle.desk_model.specs.declared.rows.RequestRow.{RequestRow}
+use Rattle.desk_core.specs.Carried.{HasStays, IsOneOf, KeepsStays, beginning}
 use Rattle.desk_core.specs.Decision.{change_of}
 use Rattle.desk_core.proofs.Applied.{row_after}
-use Rattle.desk_core.proofs.Changed.{changed, requests_after, row_changed}
+use Rattle.desk_core.proofs.Begun.{beginning_for, none_more}
+use Rattle.desk_core.proofs.Carried.{carried_law}
+use Rattle.desk_core.proofs.Changed.{changed, entries_changed, entries_for, found_changed}
+use Rattle.desk_core.proofs.Changed.{requests_after, row_changed}
 use Rattle.desk_core.proofs.DeskLaw.ByKind.{Meets, by_plan, change_fits}
 use Rattle.desk_core.proofs.DeskLaw.Fitting.{FilesNext, Fits, OpensNew}
 use Rattle.desk_core.proofs.DeskLaw.Stages.{queues_after}
@@ -39,7 +48,7 @@ use Rattle.desk_core.proofs.EachRequest.{numbers_lie}
 use Rattle.desk_core.proofs.Goes.{Sets, row_goes}
 use Rattle.desk_core.proofs.Identity.{IdentityGoes, identities_go}
 use Rattle.desk_core.proofs.Kept.{ids_kept}
-use Rattle.store_tables.specs.Contents.{contents_of, request_rows}
+use Rattle.store_tables.specs.Contents.{contents_of}
 use Rattle.store_tables.specs.Dated.{Dated, dated_by}
 use Rattle.store_core.specs.Due.{due_of_row}
 use Rattle.store_core.specs.Written.{due_with, dues_after}
@@ -72,10 +81,10 @@ other_name desk queue name new there true same =
     subst (λ n. is_some (queue_at desk n) ≡ false) is new in
     cc
 
-stays_at : (o : Option QueueRow) (desk : Desk) (name : List ℕ) → OpensNew desk o
+queue_kept : (o : Option QueueRow) (desk : Desk) (name : List ℕ) → OpensNew desk o
     → is_some (queue_at desk name) ≡ true → queue_at (queue_put o desk) name ≡ queue_at desk name
-stays_at None desk name new there = refl
-stays_at (Some queue) desk name new there =
+queue_kept None desk name new there = refl
+queue_kept (Some queue) desk name new there =
     placed_other has_lower_name desk.queues queue name
     (other_name desk queue name new there (bytes_eq queue.name name) refl)
 
@@ -86,7 +95,7 @@ queue_stays : (change : Change) (desk : Desk) (name : List ℕ) → OpensNew des
 queue_stays change desk name new there =
     ap (λ (queues : List QueueRow). find (λ q. bytes_eq q.name name) queues)
     (queues_after change desk)
-    ∙ stays_at change.queue desk name new there
+    ∙ queue_kept change.queue desk name new there
 
 -- ---- what is due of one row
 
@@ -100,16 +109,23 @@ past_filed : (o : Option RequestRow) (moment : Option ℕ) (due : RequestRow →
 past_filed None moment due row other = refl
 past_filed (Some new) moment due row other = ap (λ b. cond b moment (due row)) other
 
+-- the row of another request than the one that a change sets
+abbrev NotSet : Option RequestRow → RequestRow → Type 0
+NotSet None row = ⊤
+NotSet (Some new) row = (row.id == new.id) ≡ false
+
 -- the row that a change sets, where the request has its number, is due when the change says
 abbrev SetsDue : Option RequestRow → Option ℕ → (RequestRow → Option ℕ) → RequestRow → Type 0
 SetsDue None moment after row = ⊤
 SetsDue (Some new) moment after row = (row.id == new.id) ≡ true → moment ≡ after new
 
 due_row : (sets filed : Option RequestRow) (moment : Option ℕ) (was after : RequestRow → Option ℕ)
-    (row : RequestRow) → NotFiled filed row → SetsDue sets moment after row → was row ≡ after row
+    (row : RequestRow) → NotFiled filed row → SetsDue sets moment after row
+    → (NotSet sets row → was row ≡ after row)
     → due_with sets moment (due_with filed moment was) (row_after sets row)
     ≡ after (row_after sets row)
-due_row None filed moment was after row other set same = past_filed filed moment was row other ∙ same
+due_row None filed moment was after row other set same =
+    past_filed filed moment was row other ∙ same tt
 due_row (Some new) filed moment was after row other set same =
     let below : RequestRow → Option ℕ = due_with filed moment was in
     elim (row.id == new.id)
@@ -118,7 +134,7 @@ due_row (Some new) filed moment was after row other set same =
       | true ↦ λ e.
           ap (λ b. cond b moment (below new)) (same_number new.id) ∙ set e
       | false ↦ λ e.
-          ap (λ b. cond b moment (below row)) e ∙ past_filed filed moment was row other ∙ same
+          ap (λ b. cond b moment (below row)) e ∙ past_filed filed moment was row other ∙ same e
     ] refl
   where
     same_number : (n : ℕ) → (n == n) ≡ true
@@ -131,6 +147,21 @@ filed_row : (sets : Option RequestRow) (moment : Option ℕ) (was after : Reques
 filed_row None moment was after row none is =
     ap (λ b. cond b moment (was row)) (eq-eqb row.id row.id refl) ∙ is
 filed_row (Some new) moment was after row none is = cc
+
+its_number : (m n : ℕ) → Some m ≡ Some n → n ≡ m
+its_number m n same = cc
+
+-- no entry on another request than the one whose row is put begins a stay
+elsewhere : (es : List Entry) (filed sets : Option RequestRow) (row : RequestRow)
+    → IsOneOf (either_row filed sets) es → NotFiled filed row → NotSet sets row
+    → entries_for row.id es ≡ []
+elsewhere [] filed sets row one other unset = refl
+elsewhere (e ∷ []) None None row one other unset = cc
+elsewhere (e ∷ []) None (Some new) row one other unset =
+    ap (λ b. cond b (e ∷ []) []) (ap (λ n. row.id == n) (its_number new.id e.id one) ∙ unset)
+elsewhere (e ∷ []) (Some new) sets row one other unset =
+    ap (λ b. cond b (e ∷ []) []) (ap (λ n. row.id == n) (its_number new.id e.id one) ∙ other)
+elsewhere (e ∷ f ∷ es) filed sets row one other unset = absurd one
 
 -- ---- what a command puts
 
@@ -199,12 +230,19 @@ module _ (s : Settings) (at : ℕ) (caller : List ℕ) (command : Command) (desk
         by_plan (λ d c. (c.filed ≡ None) ⊎ IsCreate command) (call s at caller) (plan_of command)
         front desk (inl refl) (only_creates desk command) free
 
-    -- a row in a queue that is there is due as before
-    due_stays : (row : RequestRow) → is_some (queue_at desk row.queue) ≡ true
-        → due_of_row s desk row ≡ due_of_row s after row
-    due_stays row there =
-        ap (λ (o : Option QueueRow). option_and_then (λ q. due_of s q row) o)
+    keeps : KeepsStays desk change
+    keeps = carried_law s at caller command desk is free
+
+    -- a row in a queue that is there, with the stays of its request afterwards, is due as then
+    due_stays : (row : RequestRow) (stays : List Stay)
+        → is_some (queue_at desk row.queue) ≡ true → stays ≡ stays_at after row.id
+        → option_and_then (λ q. due_of s q stays row) (queue_at desk row.queue)
+        ≡ due_of_row s after row
+    due_stays row stays there same =
+        ap (λ (o : Option QueueRow). option_and_then (λ q. due_of s q stays row) o)
         (sym (queue_stays change desk row.queue fits.opens there))
+        ∙ ap (λ (ss : List Stay). option_and_then (λ q. due_of s q ss row)
+        (queue_at after row.queue)) same
 
     set_due : (r : Request) → request_at desk r.row.id ≡ Some r
         → is_some (queue_at desk r.row.queue) ≡ true
@@ -224,16 +262,30 @@ module _ (s : Settings) (at : ℕ) (caller : List ℕ) (command : Command) (desk
         let there_still : is_some (queue_at desk new.queue) ≡ true =
         subst (λ n. is_some (queue_at desk n) ≡ true) (sym goes.0.queue) there in
         ap (λ (o : Option RequestRow). option_and_then
-        (λ q. option_and_then (due_of s q) (either_row o change.row)) (facts_of command desk).queue)
-        none
+        (λ q. option_and_then (due_of s q change.stays) (either_row o change.row))
+        (facts_of command desk).queue) none
         ∙ ap (λ (o : Option RequestRow). option_and_then
-        (λ q. option_and_then (due_of s q) o) (facts_of command desk).queue) sets_is
-        ∙ ap (λ (o : Option QueueRow). option_and_then (λ q. due_of s q new) o)
+        (λ q. option_and_then (due_of s q change.stays) o) (facts_of command desk).queue) sets_is
+        ∙ ap (λ (o : Option QueueRow). option_and_then (λ q. due_of s q change.stays new) o)
         (goes.1 ∙ ap (queue_at desk) (sym goes.0.queue))
-        ∙ due_stays new there_still
+        ∙ due_stays new change.stays there_still
+        (subst (λ (o : Option RequestRow). HasStays after change.stays o) sets_is keeps.set)
       where
         absurd_row : {X : Type 0} → change.row ≡ None → X
         absurd_row no_row = cc
+
+    -- where a request's row isn't put, its stays are as before
+    stays_stay : (r : Request) → request_at desk r.row.id ≡ Some r → NotFiled change.filed r.row
+        → NotSet change.row r.row → stays_at desk r.row.id ≡ stays_at after r.row.id
+    stays_stay r found other unset =
+        ap (λ (o : Option Request). option_map_or (λ x. stays_of x.entries) o []) found
+        ∙ sym (ap (λ (o : Option Request). option_map_or (λ x. stays_of x.entries) o [])
+        (found_changed change desk r.row.id r found)
+        ∙ ap stays_of (entries_changed change r)
+        ∙ none_more r.entries (entries_for r.row.id change.entries)
+        (beginning_for r.row.id change.entries
+        ∙ elsewhere (beginning change.entries) change.filed change.row r.row keeps.begun other
+        unset))
 
     -- of a request that was there
     due_each : (r : Request) → request_at desk r.row.id ≡ Some r
@@ -244,7 +296,8 @@ module _ (s : Settings) (at : ℕ) (caller : List ℕ) (command : Command) (desk
         subst (λ row. dues_after change (due_of_row s desk) row ≡ due_of_row s after row)
         (sym (row_changed change r))
         (due_row change.row change.filed change.due (due_of_row s desk) (due_of_row s after) r.row
-        other (set_due r found there change.row refl) (due_stays r.row there))
+        other (set_due r found there change.row refl)
+        (λ unset. due_stays r.row (stays_at desk r.row.id) there (stays_stay r found other unset)))
 
     -- a request that was there isn't the one that is filed
     not_filed : (r : Request) → r.row.id < 1 + length desk.requests → (o : Option RequestRow)
@@ -284,11 +337,12 @@ module _ (s : Settings) (at : ℕ) (caller : List ℕ) (command : Command) (desk
         let next : FilesNext desk (Some row) =
         subst (λ (o : Option RequestRow). FilesNext desk o) files fits.files in
         ap (λ (o : Option RequestRow). option_and_then
-        (λ q. option_and_then (due_of s q) (either_row o change.row)) (facts_of command desk).queue)
-        files
-        ∙ ap (λ (o : Option QueueRow). option_and_then (λ q. due_of s q row) o)
+        (λ q. option_and_then (due_of s q change.stays) (either_row o change.row))
+        (facts_of command desk).queue) files
+        ∙ ap (λ (o : Option QueueRow). option_and_then (λ q. due_of s q change.stays row) o)
         (files_in command s at caller desk row created files)
-        ∙ due_stays row next.1
+        ∙ due_stays row change.stays next.1
+        (subst (λ (o : Option RequestRow). HasStays after change.stays o) files keeps.filed)
 
     filed_renewed : (row : RequestRow) → change.filed ≡ Some row
         → IsRenewed (changed change (filed row))

@@ -2,18 +2,19 @@
 use Rattle.std.proofs.Common.{◌≡◌, ◌∙◌, ◌+◌, ◌<◌, ◌==◌, ℕ, Bool, true, false, cond, List, [], ◌∷◌}
 use Rattle.std.proofs.Common.{◌++◌, map, filter, flat_map, arith, refl, ap, sym, Ordering, Less}
 use Rattle.std.proofs.Common.{Equal, Greater, Option}
-use Rattle.std.proofs.lemmas.Bool.{and_parts, eqb-true}
+use Rattle.std.proofs.lemmas.Bool.{and_from, and_parts, eq-eqb, eqb-true}
 use Rattle.std.proofs.lemmas.Bool.Decides.{nat_tests}
 use Rattle.std.proofs.lemmas.Cmp.{nat_cmp_total, nat_list_cmp_total, tied_itself}
 use Rattle.std.specs.Prelude.{◌&&◌, ◌||◌}
 use Rattle.std.specs.Bool.{nat_lt}
 use Rattle.std.specs.Cmp.Lexicographic.{same_text, slice_cmp}
 use Rattle.std.specs.List.{AllByRecursion, list_all}
-use Rattle.std.specs.Ordering.{is_lt, nat_cmp, ordering_then}
+use Rattle.std.specs.Ordering.{is_lt, nat_cmp, on, ordering_then, then_cmp}
 use Rattle.sqlite_trees.specs.Tree.{IsAscending}
 use Rattle.sqlite_trees.proofs.ListLemmas.{all_both, all_of, all_weaker, all-append, all-map}
 use Rattle.sqlite_trees.proofs.ListLemmas.{ascending-append, ascending-filter, ascending-map}
 use Rattle.sqlite_trees.proofs.ListLemmas.{ascending_weaker}
+use Rattle.hours_core.specs.declared.stay.Stay.{Stay}
 use Rattle.desk_model.specs.declared.rows.Entry.{Entry}
 use Rattle.desk_model.specs.declared.rows.LinkRow.{LinkRow}
 use Rattle.desk_model.specs.declared.rows.RequestRow.{RequestRow}
@@ -25,17 +26,19 @@ use Rattle.desk_model.specs.IsDesk.{IsDesk, are_numbered, has_its_entries, names
 use Rattle.desk_model.specs.IsDesk.{persons_rise}
 use Rattle.desk_model.specs.Links.{is_lower_link, kind_number}
 use Rattle.desk_model.specs.Names.{text_order}
+use Rattle.desk_model.specs.Stays.{stays_of}
 use Rattle.desk_model.specs.Watchers.{watcher, watchers_of}
 use Rattle.store_tables.specs.Contents.{entries, request_rows, watchers}
 use Rattle.store_tables.specs.Dated.{Dated, dated_by}
 use Rattle.store_tables.specs.Kept.{itself}
 use Rattle.store_tables.specs.Orders.{by_dated_id, by_entry, by_id, by_link, by_standing}
-use Rattle.store_tables.specs.Orders.{by_watcher}
+use Rattle.store_tables.specs.Orders.{by_stay, by_watcher}
 use Rattle.store_tables.specs.Selection.{is_of_person}
 use Rattle.store_tables.specs.Spelling.{role_number}
+use Rattle.store_tables.specs.Stays.{StayRow, stay_rows, stay_rows_from, stays}
 use Rattle.store_core.specs.Rows.{dated_rows}
 use Rattle.store_core.proofs.OrderLemmas.{all_rise, dated_total, entry_total, id_total, link_total}
-use Rattle.store_core.proofs.OrderLemmas.{standing_total, watcher_total}
+use Rattle.store_core.proofs.OrderLemmas.{standing_total, stay_total, watcher_total}
 use Rattle.sorted_lists.proofs.SortedLemmas.{Rises}
 
 -- ---- numbers from 1 on
@@ -286,22 +289,24 @@ own_entries r h =
     (λ e is. eqb-true e.id r.row.id is) r.entries parts.0
 
 -- what rises by number rises by request and number too, where the request is one
-one_request : (id : ℕ) (es : List Entry) → AllByRecursion (λ e. e.id ≡ id) es
-    → IsAscending (λ a b. nat_cmp a.number b.number ≡ Less) es
-    → IsAscending (λ a b. by_entry a b ≡ Less) es
-one_request id [] own up = tt
-one_request id (e ∷ es) own up = (
-  all_both (λ (b : Entry). b.id ≡ id) (λ b. nat_cmp e.number b.number ≡ Less)
-      (λ b. by_entry e b ≡ Less) (λ b is low. rw (own.0, is, tied id, low)) es own.1 up.0,
-  one_request id es own.1 up.1,
-)
+module _ {X : Type 0} (of number : X → ℕ) where
+  one_request : (id : ℕ) (xs : List X) → AllByRecursion (λ x. of x ≡ id) xs
+      → IsAscending (λ a b. nat_cmp (number a) (number b) ≡ Less) xs
+      → IsAscending (λ a b. then_cmp (on of nat_cmp) (on number nat_cmp) a b ≡ Less) xs
+  one_request id [] own up = tt
+  one_request id (x ∷ xs) own up = (
+    all_both (λ b. of b ≡ id) (λ b. nat_cmp (number x) (number b) ≡ Less)
+        (λ b. then_cmp (on of nat_cmp) (on number nat_cmp) x b ≡ Less)
+        (λ b is low. rw (own.0, is, tied id, low)) xs own.1 up.0,
+    one_request id xs own.1 up.1,
+  )
 
 entries_of_one : (r : Request) → has_its_entries r ≡ true
     → IsAscending (λ a b. by_entry a b ≡ Less) r.entries
 entries_of_one r h =
     let parts = and_parts (list_all (λ e. e.id == r.row.id) r.entries)
     (are_numbered 1 (map (λ e. e.number) r.entries)) h in
-    one_request r.row.id r.entries (own_entries r h)
+    one_request (λ (e : Entry). e.id) (λ e. e.number) r.row.id r.entries (own_entries r h)
     (numbers_rise (λ (e : Entry). e.number) 1 r.entries parts.1)
 
 pub entries_rise : (desk : Desk) → IsDesk desk
@@ -314,3 +319,37 @@ entries_rise desk is =
     own_entries desk.requests is.entries)
     (all_tested has_its_entries (λ r. IsAscending (λ a b. by_entry a b ≡ Less) r.entries)
     entries_of_one desk.requests is.entries)
+
+-- ---- stays
+
+pub own_stays : (id n : ℕ) (ss : List Stay)
+    → AllByRecursion (λ s. s.request ≡ id) (stay_rows_from id n ss)
+own_stays id n [] = tt
+own_stays id n (s ∷ ss) = (refl, own_stays id (n + 1) ss)
+
+stays_from : (id n : ℕ) (ss : List Stay)
+    → are_numbered n (map (λ s. s.number) (stay_rows_from id n ss)) ≡ true
+stays_from id n [] = refl
+stays_from id n (s ∷ ss) =
+    and_from (n == n) (are_numbered (n + 1) (map (λ s. s.number) (stay_rows_from id (n + 1) ss)))
+    (eq-eqb n n refl) (stays_from id (n + 1) ss)
+
+pub stays_numbered : (id n : ℕ) (ss : List Stay)
+    → IsAscending (λ a b. nat_cmp a.number b.number ≡ Less) (stay_rows_from id n ss)
+stays_numbered id n ss =
+    numbers_rise (λ (s : StayRow). s.number) n (stay_rows_from id n ss) (stays_from id n ss)
+
+pub stays_rise : (desk : Desk) → IsDesk desk → Rises itself by_stay stay_total (stays desk)
+stays_rise desk is =
+    lists_rise (λ (r : Request). stay_rows r.row.id (stays_of r.entries))
+    (λ (r : Request). r.row.id) (λ (s : StayRow). s.request) (λ a b. by_stay a b ≡ Less)
+    (λ a b low. rw low) desk.requests
+    (numbers_rise (λ (r : Request). r.row.id) 1 desk.requests is.requests)
+    (all_of (λ r. AllByRecursion (λ s. s.request ≡ r.row.id)
+    (stay_rows r.row.id (stays_of r.entries)))
+    (λ r. own_stays r.row.id 1 (stays_of r.entries)) desk.requests)
+    (all_of (λ r. IsAscending (λ a b. by_stay a b ≡ Less)
+    (stay_rows r.row.id (stays_of r.entries)))
+    (λ r. one_request (λ (s : StayRow). s.request) (λ s. s.number) r.row.id
+    (stay_rows r.row.id (stays_of r.entries)) (own_stays r.row.id 1 (stays_of r.entries))
+    (stays_numbered r.row.id 1 (stays_of r.entries))) desk.requests)

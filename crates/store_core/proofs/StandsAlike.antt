@@ -10,7 +10,7 @@ use Rattle.store_tables.specs.Calls.{Leaves}
 use Rattle.store_tables.specs.Contents.{Contents, no_contents}
 use Rattle.store_tables.specs.Kept.{Holds}
 use Rattle.store_tables.specs.Spelling.{version_row}
-use Rattle.store_tables.specs.Stands.{Stand, StandsFor, Tables}
+use Rattle.store_tables.specs.Stands.{HoldsNow, Stand, StandsFor, Tables}
 use Rattle.store_tables.specs.Values.{AreValues}
 use Rattle.store_tables.proofs.LastLemmas.{has_permuted}
 use Rattle.store_tables.proofs.ValueLemmas.{are_values, values_of}
@@ -42,6 +42,7 @@ values_alike a b same values =
           λ x has. v.watchers x (has_permuted _ _ x (IsPermutation-sym _ _ same.watchers) has);
       links = λ x has. v.links x (has_permuted _ _ x (IsPermutation-sym _ _ same.links) has);
       entries = λ x has. v.entries x (has_permuted _ _ x (IsPermutation-sym _ _ same.entries) has);
+      stays = λ x has. v.stays x (has_permuted _ _ x (IsPermutation-sym _ _ same.stays) has);
     })
 
 tables_alike : (a b : Contents) (db : Database) → AreAlike a b → Tables a db → Tables b db
@@ -53,8 +54,13 @@ tables_alike a b db same t = record {
   watchers = holds_alike _ _ _ _ _ same.watchers t.watchers;
   links = holds_alike _ _ _ _ _ same.links t.links;
   entries = holds_alike _ _ _ _ _ same.entries t.entries;
+  stays = holds_alike _ _ _ _ _ same.stays t.stays;
   values = values_alike a b same t.values;
 }
+
+pub now_alike : (a b : Contents) (s : State) → AreAlike a b → HoldsNow a s → HoldsNow b s
+now_alike a b s same holds c o =
+    let it = holds c o in (tables_alike a b s.now same it.0, it.1)
 
 stand_alike : (a b : Contents) (s : State) → AreAlike a b → Stand a s → Stand b s
 stand_alike a b s same stand c o =

@@ -15,6 +15,7 @@ use Rattle.desk_model.specs.declared.refusal.Refusal.TheVariants.{UnknownCaller,
 use Rattle.desk_model.specs.declared.rows.Entry.{Entry}
 use Rattle.desk_model.specs.declared.rows.RequestRow.{RequestRow}
 use Rattle.desk_core.specs.Decision.{change_of}
+use Rattle.desk_core.proofs.Carried.{carried_law}
 use Rattle.desk_core.proofs.DeskLaw.ByKind.{IsNext, Meets, by_plan, change_fits}
 use Rattle.desk_core.proofs.DeskLaw.Fitting as fitting
 use Rattle.desk_core.proofs.NamesLaw.{names_in_order_rise}
@@ -155,4 +156,5 @@ change_writable s at caller command desk is free =
           (puts desk is command) free;
       notes = (by_plan NotesThere asks plan front desk (record { there = refl })
           (notes desk is command) free).there;
+      stays = carried_law s at caller command desk is free;
     }

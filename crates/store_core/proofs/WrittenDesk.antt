@@ -1,5 +1,5 @@
 -- What a change writes is, up to order, what tables hold of the changed desk.
-use Rattle.std.proofs.Common.{◌≡◌, ◌∙◌, ℕ, ◌==◌, Bool, true, false, not, ◌&&◌}
+use Rattle.std.proofs.Common.{◌≡◌, ◌∙◌, ℕ, ◌-◌, ◌==◌, Bool, true, false, cond, not, ◌&&◌, length}
 use Rattle.std.proofs.Common.{List, [], ◌∷◌, ◌++◌, map, filter, fold, refl, ap}
 use Rattle.std.proofs.Common.{ap₂}
 use Rattle.std.proofs.Common.{sym, subst, IsPermutation, Option, Some, None, arith, append-nil}
@@ -11,6 +11,7 @@ use Rattle.std.proofs.lemmas.List.Sorted.{IsPermutation-sym, IsPermutation-trans
 use Rattle.std.proofs.lemmas.List.Sorted.{IsPermutation-map, IsPermutation-to_front}
 use Rattle.sqlite_trees.proofs.ListLemmas.{IsPermutation-filter}
 use Rattle.std.specs.List.{list_all, list_any}
+use Rattle.hours_core.specs.declared.stay.Stay.{Stay}
 use Rattle.desk_model.specs.declared.change.Change.{Change}
 use Rattle.desk_model.specs.declared.rows.Entry.{Entry}
 use Rattle.desk_model.specs.declared.rows.LinkKind.{LinkKind}
@@ -22,6 +23,8 @@ use Rattle.desk_model.specs.declared.rows.Watcher.{Watcher}
 use Rattle.desk_model.specs.declared.rows.WatchRole.{WatchRole}
 use Rattle.desk_model.specs.declared.rows.WatchRole.TheVariants.{Requestor, Cc, AdminCc}
 use Rattle.desk_core.proofs.DeskLaw.Numbers.{numbered_more}
+use Rattle.desk_core.proofs.DeskLaw.Stages.{filed_alike}
+use Rattle.desk_core.specs.Carried.{beginning}
 use Rattle.desk_model.specs.Change.{applied, entry_put, filed, in_role, link_put, link_taken}
 use Rattle.desk_model.specs.Change.{person_put}
 use Rattle.desk_model.specs.Change.{person_taken, queue_put, request_filed, row_set, with_entry}
@@ -32,21 +35,35 @@ use Rattle.desk_model.specs.IsDesk.{IsDesk, are_numbered, ids}
 use Rattle.desk_model.specs.Links as links
 use Rattle.desk_model.specs.Links.{is_kind, is_lower_link, kind_number}
 use Rattle.desk_model.specs.Names.{with_name}
+use Rattle.desk_model.specs.Stays.{begins_stay}
 use Rattle.desk_model.specs.Watchers.{is_watching, watcher, watchers_of}
 use Rattle.store_tables.specs.Contents.{Contents, contents_of, entries, request_rows, watchers}
-use Rattle.store_tables.specs.Contents.{add_entry, add_watcher, drop_watcher}
+use Rattle.store_tables.specs.Contents.{add_entry, add_stay, add_watcher, drop_watcher, end_stay}
 use Rattle.store_tables.specs.Selection as selection
 use Rattle.store_tables.specs.Selection.{has_number, is_watcher}
 use Rattle.store_tables.specs.Dated.{dated_by, due_but}
+use Rattle.store_tables.specs.Stays.{StayRow, stay_row}
 use Rattle.store_core.proofs.Alike.{placed_alike}
 use Rattle.store_core.proofs.Revised.{kept_all, kept_each, none_each, one_more, one_set}
 use Rattle.store_core.proofs.Revised.{none_past, there_by_number}
 use Rattle.store_core.proofs.DuesWritten.{Dues, more_dated, one_dated}
+use Rattle.store_core.proofs.StaysWritten.{stays_alike, stays_left}
 use Rattle.store_core.proofs.RoleRows.{filter_alike, is_row_of, put_row_alike, taken_each}
-use Rattle.store_core.specs.Written.{AreAlike, FilesNext, IsWritable, PutsAnew, SetsThere, is_there}
+use Rattle.store_core.specs.Written.{AreAlike, FilesNext, IsWritable, PutsAnew, SetsThere}
+use Rattle.store_core.specs.Written.{begun_on, is_there, last_of, rows_written, stay_begun}
+use Rattle.store_core.specs.Written.{stay_put}
 use Rattle.store_core.specs.Written.{link_added, link_dropped, queue_added, request_added}
 use Rattle.store_core.specs.Written.{due_with, dues_after, request_set, with_rows}
 use Rattle.store_core.specs.Written.{written}
+
+-- the same version and the same rows of all tables but that of stays
+pub record SameButStays (a b : Contents) : Type 0 where
+  pub version : a.version ≡ b.version
+  pub queues : IsPermutation a.queues b.queues
+  pub dated : IsPermutation a.dated b.dated
+  pub watchers : IsPermutation a.watchers b.watchers
+  pub links : IsPermutation a.links b.links
+  pub entries : IsPermutation a.entries b.entries
 
 -- the requests of a desk are numbered from 1
 abbrev pub IsNumbered : Desk → Type 0
@@ -152,9 +169,10 @@ rows_moved row r here =
     ap (λ id. map (watcher id Requestor) r.requestors
     ++ (map (watcher id Cc) r.cc ++ map (watcher id AdminCc) r.admin_cc)) (sym here)
 
-alike_put : (c : Contents) (due : Dues) (desk : Desk) (w : Watcher) → IsNumbered desk → is_there desk w.id ≡ true
-    → is_watching w.person w.id w.role (watchers desk) ≡ false → AreAlike c (contents_of due desk)
-    → AreAlike (add_watcher c w) (contents_of due (person_put desk w))
+alike_put : (c : Contents) (due : Dues) (desk : Desk) (w : Watcher) → IsNumbered desk
+    → is_there desk w.id ≡ true → is_watching w.person w.id w.role (watchers desk) ≡ false
+    → SameButStays c (contents_of due desk)
+    → SameButStays (add_watcher c w) (contents_of due (person_put desk w))
 alike_put c due desk w numbered there none h =
     let f = in_role w.role (λ names. with_name names w.person) in
     let is = is_row_of w.id w.role w.person in
@@ -177,8 +195,8 @@ alike_put c due desk w numbered there none h =
     }
 
 alike_taken : (c : Contents) (due : Dues) (desk : Desk) (w : Watcher)
-    → AreAlike c (contents_of due desk)
-    → AreAlike (drop_watcher c w) (contents_of due (person_taken desk w))
+    → SameButStays c (contents_of due desk)
+    → SameButStays (drop_watcher c w) (contents_of due (person_taken desk w))
 alike_taken c due desk w h =
     let f = in_role w.role (λ names. without_name names w.person) in
     let rs = desk.requests in
@@ -197,8 +215,8 @@ alike_taken c due desk w h =
     }
 
 alike_noted : (c : Contents) (due : Dues) (desk : Desk) (e : Entry) → IsNumbered desk
-    → is_there desk e.id ≡ true → AreAlike c (contents_of due desk)
-    → AreAlike (add_entry c e) (contents_of due (entry_put desk e))
+    → is_there desk e.id ≡ true → SameButStays c (contents_of due desk)
+    → SameButStays (add_entry c e) (contents_of due (entry_put desk e))
 alike_noted c due desk e numbered there h =
     let f = with_entry e in
     let rs = desk.requests in
@@ -217,8 +235,8 @@ alike_noted c due desk e numbered there h =
     }
 
 alike_set : (c : Contents) (due : Dues) (desk : Desk) (row : RequestRow) (moment : Option ℕ)
-    → IsNumbered desk → is_there desk row.id ≡ true → AreAlike c (contents_of due desk)
-    → AreAlike (request_set (Some row) moment c)
+    → IsNumbered desk → is_there desk row.id ≡ true → SameButStays c (contents_of due desk)
+    → SameButStays (request_set (Some row) moment c)
     (contents_of (due_but row.id moment due) (row_set (Some row) desk))
 alike_set c due desk row moment numbered there h =
     let f = with_row row in
@@ -256,7 +274,7 @@ every_there a b same (e ∷ es) all =
     and_from (is_there a e.id) (list_all (λ x. is_there a x.id) es) (there_by a b e.id same parts.0)
     (every_there a b same es parts.1)
 
-alike_itself : (c : Contents) → AreAlike c c
+alike_itself : (c : Contents) → SameButStays c c
 alike_itself c =
     record {
       version = refl;
@@ -275,8 +293,8 @@ turned a b =
     ] refl
 
 alike_queued : (o : Option QueueRow) (c : Contents) (due : Dues) (desk : Desk)
-    → AreAlike c (contents_of due desk)
-    → AreAlike (queue_added o c) (contents_of due (queue_put o desk))
+    → SameButStays c (contents_of due desk)
+    → SameButStays (queue_added o c) (contents_of due (queue_put o desk))
 alike_queued None c due desk h = h
 alike_queued (Some q) c due desk h =
     record {
@@ -290,8 +308,8 @@ alike_queued (Some q) c due desk h =
     }
 
 alike_filed : (o : Option RequestRow) (moment : Option ℕ) (c : Contents) (due : Dues) (desk : Desk)
-    → IsNumbered desk → FilesNext desk o → AreAlike c (contents_of due desk)
-    → AreAlike (request_added o moment c)
+    → IsNumbered desk → FilesNext desk o → SameButStays c (contents_of due desk)
+    → SameButStays (request_added o moment c)
     (contents_of (due_with o moment due) (request_filed o desk))
 alike_filed None moment c due desk numbered next h = h
 alike_filed (Some row) moment c due desk numbered next h =
@@ -317,15 +335,15 @@ alike_filed (Some row) moment c due desk numbered next h =
     }
 
 alike_row : (o : Option RequestRow) (moment : Option ℕ) (c : Contents) (due : Dues) (desk : Desk)
-    → IsNumbered desk → SetsThere desk o → AreAlike c (contents_of due desk)
-    → AreAlike (request_set o moment c) (contents_of (due_with o moment due) (row_set o desk))
+    → IsNumbered desk → SetsThere desk o → SameButStays c (contents_of due desk)
+    → SameButStays (request_set o moment c) (contents_of (due_with o moment due) (row_set o desk))
 alike_row None moment c due desk numbered there h = h
 alike_row (Some row) moment c due desk numbered there h =
     alike_set c due desk row moment numbered there h
 
 alike_linked : (o : Option LinkRow) (c : Contents) (due : Dues) (desk : Desk)
-    → AreAlike c (contents_of due desk)
-    → AreAlike (link_added o c) (contents_of due (link_put o desk))
+    → SameButStays c (contents_of due desk)
+    → SameButStays (link_added o c) (contents_of due (link_put o desk))
 alike_linked None c due desk h = h
 alike_linked (Some link) c due desk h =
     record {
@@ -356,8 +374,8 @@ links_alike a b =
     (ap₂ (λ x y. x && y) (kinds_alike b.kind a.kind) (turned b.target a.target))
 
 alike_unlinked : (o : Option LinkRow) (c : Contents) (due : Dues) (desk : Desk)
-    → AreAlike c (contents_of due desk)
-    → AreAlike (link_dropped o c) (contents_of due (link_taken o desk))
+    → SameButStays c (contents_of due desk)
+    → SameButStays (link_dropped o c) (contents_of due (link_taken o desk))
 alike_unlinked None c due desk h = h
 alike_unlinked (Some link) c due desk h =
     record {
@@ -373,24 +391,25 @@ alike_unlinked (Some link) c due desk h =
 
 -- ---- the lists of a change
 
-alike_puts : (ws : List Watcher) (c : Contents) (due : Dues) (desk : Desk) → IsNumbered desk → PutsAnew desk ws
-    → AreAlike c (contents_of due desk)
-    → AreAlike (fold add_watcher c ws) (contents_of due (fold person_put desk ws))
+alike_puts : (ws : List Watcher) (c : Contents) (due : Dues) (desk : Desk) → IsNumbered desk
+    → PutsAnew desk ws → SameButStays c (contents_of due desk)
+    → SameButStays (fold add_watcher c ws) (contents_of due (fold person_put desk ws))
 alike_puts [] c due desk numbered new h = h
 alike_puts (w ∷ ws) c due desk numbered new h =
     alike_puts ws (add_watcher c w) due (person_put desk w)
     (numbered_by (person_put desk w) desk (ids_put desk w) numbered) new.2
     (alike_put c due desk w numbered new.0 new.1 h)
 
-alike_takens : (ws : List Watcher) (c : Contents) (due : Dues) (desk : Desk) → AreAlike c (contents_of due desk)
-    → AreAlike (fold drop_watcher c ws) (contents_of due (fold person_taken desk ws))
+alike_takens : (ws : List Watcher) (c : Contents) (due : Dues) (desk : Desk)
+    → SameButStays c (contents_of due desk)
+    → SameButStays (fold drop_watcher c ws) (contents_of due (fold person_taken desk ws))
 alike_takens [] c due desk h = h
 alike_takens (w ∷ ws) c due desk h =
     alike_takens ws (drop_watcher c w) due (person_taken desk w) (alike_taken c due desk w h)
 
 alike_notes : (es : List Entry) (c : Contents) (due : Dues) (desk : Desk) → IsNumbered desk
-    → list_all (λ e. is_there desk e.id) es ≡ true → AreAlike c (contents_of due desk)
-    → AreAlike (fold add_entry c es) (contents_of due (fold entry_put desk es))
+    → list_all (λ e. is_there desk e.id) es ≡ true → SameButStays c (contents_of due desk)
+    → SameButStays (fold add_entry c es) (contents_of due (fold entry_put desk es))
 alike_notes [] c due desk numbered there h = h
 alike_notes (e ∷ es) c due desk numbered there h =
     let parts = and_parts (is_there desk e.id) (list_all (λ x. is_there desk x.id) es) there in
@@ -401,11 +420,11 @@ alike_notes (e ∷ es) c due desk numbered there h =
 
 -- ---- the whole change
 
-pub written_alike : (due : Dues) (desk : Desk) (change : Change) → IsDesk desk
+rows_alike : (due : Dues) (desk : Desk) (change : Change) → IsDesk desk
     → IsWritable desk change
-    → AreAlike (written change (contents_of due desk))
+    → SameButStays (rows_written change (contents_of due desk))
     (contents_of (dues_after change due) (applied change desk))
-written_alike due desk change is fits =
+rows_alike due desk change is fits =
     let moment = change.due in
     let one_more = due_with change.filed moment due in
     let after = dues_after change due in
@@ -436,3 +455,76 @@ written_alike due desk change is fits =
     (alike_row change.row moment _ one_more wider grown fits.sets
     (alike_filed change.filed moment _ due opened from_one next
     (alike_queued change.queue (contents_of due desk) due desk start)))))))
+
+-- ---- with the stay that it begins
+
+put_only : (id n : ℕ) (o : Option Stay) (c : Contents)
+    → stay_put id n o c ≡ record c { stays = (stay_put id n o c).stays }
+put_only id n None c = refl
+put_only id n (Some s) c =
+    let ended = end_stay c id (n - 1) s.from in
+    elim (n - 1 == 0)
+    as (λ b. add_stay (cond b c ended) (stay_row id n s)
+    ≡ record c { stays = stay_row id n s ∷ (cond b c ended).stays }) [
+      | true ↦ refl
+      | false ↦ refl
+    ]
+
+begun_only : (o : Option ℕ) (ss : List Stay) (c : Contents)
+    → stay_begun o ss c ≡ record c { stays = (stay_begun o ss c).stays }
+begun_only None ss c = refl
+begun_only (Some id) ss c = put_only id (length ss) (last_of ss) c
+
+with_stays : (a b : Contents) (xs : List StayRow) → SameButStays a b → IsPermutation xs b.stays
+    → AreAlike (record a { stays = xs }) b
+with_stays a b xs h same =
+    record {
+      version = h.version;
+      queues = h.queues;
+      dated = h.dated;
+      watchers = h.watchers;
+      links = h.links;
+      entries = h.entries;
+      stays = same;
+    }
+
+-- the entries that begin a stay pass where all do
+beginning_pass : (test : Entry → Bool) (es : List Entry) → list_all test es ≡ true
+    → list_all test (beginning es) ≡ true
+beginning_pass test [] all = refl
+beginning_pass test (e ∷ es) all =
+    let parts = and_parts (test e) (list_all test es) all in
+    let rest = beginning_pass test es parts.1 in
+    elim (begins_stay e.kind)
+    as (λ b. list_all test (cond b (e ∷ beginning es) (beginning es)) ≡ true) [
+      | true ↦ and_from (test e) (list_all test (beginning es)) parts.0 rest
+      | false ↦ rest
+    ]
+
+-- the request on which a stay begins is there
+begun_there : (change : Change) (desk : Desk) (e : Entry) → IsWritable desk change
+    → beginning change.entries ≡ e ∷ [] → is_there (request_filed change.filed desk) e.id ≡ true
+begun_there change desk e fits one =
+    let opened = queue_put change.queue desk in
+    let wider = request_filed change.filed opened in
+    let all = beginning_pass (λ x. is_there wider x.id) change.entries fits.notes in
+    let here = and_parts (is_there wider e.id) true
+    (ap (list_all (λ x. is_there wider x.id)) (sym one) ∙ all) in
+    there_by (request_filed change.filed desk) wider e.id
+    (ap (map (λ r. r.row.id))
+    (sym (filed_alike change.filed opened desk (requests_queued change.queue desk)))) here.0
+
+pub written_alike : (due : Dues) (desk : Desk) (change : Change) → IsDesk desk
+    → IsWritable desk change
+    → AreAlike (written change (contents_of due desk))
+    (contents_of (dues_after change due) (applied change desk))
+written_alike due desk change is fits =
+    let c = rows_written change (contents_of due desk) in
+    let begun = stay_begun (begun_on change.entries) change.stays c in
+    let after = contents_of (dues_after change due) (applied change desk) in
+    subst (λ d. AreAlike d after) (sym (begun_only (begun_on change.entries) change.stays c))
+    (with_stays c after begun.stays (rows_alike due desk change is fits)
+    (stays_alike change desk c fits.stays
+    (numbered_filed change.filed desk fits.files is.requests)
+    (λ e one. begun_there change desk e fits one)
+    (stays_left change (contents_of due desk))))

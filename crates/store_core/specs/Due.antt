@@ -5,6 +5,7 @@ use Rattle.settings_core.specs.declared.settings.Settings.{Settings}
 use Rattle.desk_model.specs.Change.{applied}
 use Rattle.desk_model.specs.Desk.{Desk, queue_at}
 use Rattle.desk_model.specs.Due.{due_of}
+use Rattle.desk_model.specs.Facts.{stays_at}
 use Rattle.desk_model.specs.IsDesk.{IsDesk}
 use Rattle.desk_model.specs.Step.{call, facts_of, guard}
 use Rattle.desk_model.specs.declared.change.Change.{Change}
@@ -15,9 +16,11 @@ use Rattle.store_tables.specs.Contents.{contents_of}
 use Rattle.store_tables.specs.Stands.{Stand}
 use Rattle.store_core.specs.Written.{dues_after}
 
--- when the request of a row is due on a desk, if its queue is there
+-- when the request of a row is due on a desk, if its queue is there: by the stays of the request of
+-- its number
 abbrev pub due_of_row : Settings → Desk → RequestRow → Option ℕ
-due_of_row settings desk row = option_and_then (λ q. due_of settings q row) (queue_at desk row.queue)
+due_of_row settings desk row =
+    option_and_then (λ q. due_of settings q (stays_at desk row.id) row) (queue_at desk row.queue)
 
 -- the tables stand for the desk, and keep the due moment that each request has on it
 abbrev pub StandsDue : Settings → Desk → State → Type 0

@@ -1,7 +1,8 @@
 -- What reads by key find of a desk, and how facts are put together of it.
-use Rattle.std.specs.Prelude.{◌==◌, ℕ, Bool, List, filter, map, Option}
+use Rattle.std.specs.Prelude.{◌==◌, ℕ, Bool, List, [], filter, if◌then◌else◌, map, Option}
 use Rattle.std.specs.Prelude.{option_and_then}
 use Rattle.std.specs.Option.{option_map, option_to_list}
+use Rattle.hours_core.specs.declared.stay.Stay.{Stay}
 use Rattle.desk_model.specs.declared.facts.Dependency.{Dependency}
 use Rattle.desk_model.specs.declared.facts.Facts.{Facts}
 use Rattle.desk_model.specs.declared.facts.SeenRequest.{SeenRequest}
@@ -56,8 +57,13 @@ abbrev pub counted : Option QueueRow → ℕ → ℕ → Facts
 counted queue queues requests =
     record no_facts { queue = queue; queue_count = queues; request_count = requests }
 
-abbrev pub filed : Option QueueRow → Option SeenRequest → Facts
-filed queue request = record no_facts { queue = queue; request = request }
+-- the stays of a request, where it is there
+abbrev pub stays_if : Bool → List Stay → List Stay
+stays_if is_there stays = if is_there then stays else []
+
+abbrev pub filed : Option QueueRow → Option SeenRequest → List Stay → Facts
+filed queue request stays =
+    record no_facts { queue = queue; request = request; stays = stays }
 
 abbrev pub with_dependencies : Facts → List Dependency → Facts
 with_dependencies facts dependencies = record facts { dependencies = dependencies }

@@ -3,6 +3,7 @@ pub mod Applying
 pub mod Due
 pub mod Found
 pub mod Limits
+pub mod Migrating
 pub mod Rows
 pub mod Seen
 pub mod Written

@@ -1,12 +1,14 @@
 -- What a change makes of the rows of a desk, statement by statement, and on which desk it can be
 -- written.
-use Rattle.std.specs.Prelude.{◌≡◌, ◌+◌, ℕ, Bool, true, false, List, [], ◌∷◌, Option, Some, None}
-use Rattle.std.specs.Prelude.{IsPermutation, fold, length}
+use Rattle.std.specs.Prelude.{◌≡◌, ◌+◌, ◌-◌, ◌==◌, ℕ, Bool, true, false, List, [], ◌∷◌, Option}
+use Rattle.std.specs.Prelude.{Some, None, IsPermutation, find, fold, if◌then◌else◌, length, slice_get}
 use Rattle.std.specs.List.{list_all}
-use Rattle.std.specs.Option.{is_some}
+use Rattle.std.specs.Option.{is_some, option_map}
+use Rattle.hours_core.specs.declared.stay.Stay.{Stay}
 use Rattle.settings_core.specs.declared.settings.Settings.{Settings}
 use Rattle.desk_model.specs.declared.change.Change.{Change}
 use Rattle.desk_model.specs.declared.command.Command.{Command}
+use Rattle.desk_model.specs.declared.rows.Entry.{Entry}
 use Rattle.desk_model.specs.declared.rows.LinkRow.{LinkRow}
 use Rattle.desk_model.specs.declared.rows.QueueRow.{QueueRow}
 use Rattle.desk_model.specs.declared.rows.RequestRow.{RequestRow}
@@ -14,13 +16,17 @@ use Rattle.desk_model.specs.declared.rows.Watcher.{Watcher}
 use Rattle.desk_model.specs.Change.{person_put, queue_put, request_filed, row_set}
 use Rattle.desk_model.specs.Desk.{Desk, request_at}
 use Rattle.desk_model.specs.IsDesk.{IsDesk}
+use Rattle.desk_core.specs.Carried.{KeepsStays}
 use Rattle.desk_core.specs.Decision.{change_of}
+use Rattle.desk_model.specs.Stays.{begins_stay}
 use Rattle.desk_model.specs.Step.{call, facts_of, guard}
 use Rattle.desk_model.specs.Watchers.{is_watching}
 use Rattle.store_tables.specs.Contents.{Contents, watchers}
 use Rattle.store_tables.specs.Contents.{add_queue, add_request, set_request, add_watcher}
 use Rattle.store_tables.specs.Dated.{due_but}
 use Rattle.store_tables.specs.Contents.{drop_watcher, add_link, drop_link, add_entry}
+use Rattle.store_tables.specs.Contents.{add_stay, end_stay}
+use Rattle.store_tables.specs.Stays.{stay_row}
 
 abbrev pub queue_added : Option QueueRow → Contents → Contents
 queue_added None c = c
@@ -43,14 +49,41 @@ abbrev pub link_dropped : Option LinkRow → Contents → Contents
 link_dropped None c = c
 link_dropped (Some link) c = drop_link c link
 
-abbrev pub written : Change → Contents → Contents
-written change c =
+-- the request on which the first of these entries that begins a stay begins it
+abbrev pub begun_on : List Entry → Option ℕ
+begun_on entries = option_map (λ e. e.id) (find (λ e. begins_stay e.kind) entries)
+
+-- the last of some stays
+abbrev pub last_of : List Stay → Option Stay
+last_of stays = slice_get stays (length stays - 1)
+
+-- the stay of that number ends; none has the number 0
+abbrev pub stay_ended : ℕ → ℕ → ℕ → Contents → Contents
+stay_ended id number until c = if number == 0 then c else end_stay c id number until
+
+-- a stay is put under its number, and the one before it ends where it begins
+abbrev pub stay_put : ℕ → ℕ → Option Stay → Contents → Contents
+stay_put id number None c = c
+stay_put id number (Some stay) c =
+    add_stay (stay_ended id (number - 1) stay.from c) (stay_row id number stay)
+
+-- where a stay begins on a request, it is the last of these
+abbrev pub stay_begun : Option ℕ → List Stay → Contents → Contents
+stay_begun None stays c = c
+stay_begun (Some id) stays c = stay_put id (length stays) (last_of stays) c
+
+-- the rows of a change, but for a stay that it begins
+abbrev pub rows_written : Change → Contents → Contents
+rows_written change c =
     let due = change.due in
     let opened = queue_added change.queue c in
     let rows = request_set change.row due (request_added change.filed due opened) in
     let persons = fold drop_watcher (fold add_watcher rows change.put) change.taken in
     let links = link_dropped change.unlinked (link_added change.linked persons) in
     fold add_entry links change.entries
+
+abbrev pub written : Change → Contents → Contents
+written change c = stay_begun (begun_on change.entries) change.stays (rows_written change c)
 
 -- the due moments, but for that of the row
 abbrev pub due_with : Option RequestRow → Option ℕ → (RequestRow → Option ℕ) → RequestRow → Option ℕ
@@ -70,6 +103,7 @@ pub record AreAlike (a b : Contents) : Type 0 where
   pub watchers : IsPermutation a.watchers b.watchers
   pub links : IsPermutation a.links b.links
   pub entries : IsPermutation a.entries b.entries
+  pub stays : IsPermutation a.stays b.stays
 
 -- the request of that number is there
 abbrev pub is_there : Desk → ℕ → Bool
@@ -101,12 +135,14 @@ with_filed change desk = request_filed change.filed (queue_put change.queue desk
 abbrev pub with_rows : Change → Desk → Desk
 with_rows change desk = row_set change.row (with_filed change desk)
 
--- what a change names is there, and what it puts isn't there yet
+-- what a change names is there, what it puts isn't there yet, and it carries the stays that it
+-- begins
 pub record IsWritable (desk : Desk) (change : Change) : Type 0 where
   pub files : FilesNext desk change.filed
   pub sets : SetsThere (with_filed change desk) change.row
   pub puts : PutsAnew (with_rows change desk) change.put
   pub notes : list_all (λ e. is_there (with_filed change desk) e.id) change.entries ≡ true
+  pub stays : KeepsStays desk change
 
 -- on a well-formed desk, the change of a command that isn't refused can be written
 abbrev pub CanBeWritten : Type 0

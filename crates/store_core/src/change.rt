@@ -1,20 +1,24 @@
 //! The statements of a change, in the order in which it is applied.
-ghost use Rattle.std.specs.Prelude.{◌≡◌, fold, IfErr};
+ghost use Rattle.std.specs.Prelude.{◌≡◌, fold, IfErr, IfOk, length};
+ghost use Rattle.std.specs.Option.{option_copied};
 ghost use Rattle.sqlite.specs.Held.{state};
 ghost use Rattle.store_tables.specs.Calls.{Does};
+ghost use Rattle.store_tables.specs.Contents.{add_entry};
 ghost use Rattle.store_tables.specs.Contents.{add_watcher, drop_watcher as without_watcher};
 ghost use Rattle.store_tables.specs.declared.fault.StoreFault.{StoreFault};
 ghost use Rattle.store_core.specs.Written.{link_added, link_dropped, queue_added};
 ghost use Rattle.store_core.specs.Written.{request_added, request_set, written};
+ghost use Rattle.store_core.specs.Written as spec;
 
-use desk_core::{Change, LinkRow, QueueRow, RequestRow};
-use hours_core::Minute;
+use desk_core::{Change, Entry, LinkRow, QueueRow, RequestRow};
+use hours_core::{Minute, Stay};
 use sqlite::{Alter, Transaction};
 use store_tables::StoreFault;
 use store_tables::writes::entries::put_entries;
 use store_tables::writes::links::{drop_link, put_link};
 use store_tables::writes::queues::put_queue;
 use store_tables::writes::requests::{put_request, set_request};
+use store_tables::writes::stays::{end_stay, put_stay};
 use store_tables::writes::watchers::{drop_watchers, put_watchers};
 
 /// Adds the queue, if there is one.
@@ -132,6 +136,107 @@ fn write_links<S: Alter>(tx: &mut Transaction<'_, S>, change: &Change) -> Result
     unlink(tx, &change.unlinked)
 }
 
+/// The request on which one of the entries begins a stay, if one does.
+fn begun_on(entries: &[Entry]) -> Option<u32>
+    ensures { result ≡ spec.begun_on entries.now }
+{
+    entries
+        .iter()
+        .find(|entry| entry.kind.begins_stay())
+        .map(|entry| entry.id)
+}
+
+/// Ends the stay of that number, if the number isn't 0.
+fn end_before<S: Alter>(
+    tx: &mut Transaction<'_, S>,
+    id: u32,
+    number: u32,
+    until: Minute,
+) -> Result<(), StoreFault>
+    ensures same_reference { tx.new.conn.ghost_name ≡ tx.old.conn.ghost_name }
+    ensures ended { Does (spec.stay_ended id number until)
+        (state S.Store tx.old.conn.now) (state S.Store tx.new.conn.now) result }
+    ensures fault { IfErr result (λ e. e ≡ StoreFault.Refused) }
+{
+    if number == 0 {
+        Ok(())
+    } else {
+        end_stay(tx, id, number, until)
+    }
+}
+
+/// Puts a stay under its number, if there is one, and ends the one before it where it begins.
+fn put_last<S: Alter>(
+    tx: &mut Transaction<'_, S>,
+    id: u32,
+    number: u32,
+    last: Option<&Stay>,
+) -> Result<(), StoreFault>
+    ensures same_reference { tx.new.conn.ghost_name ≡ tx.old.conn.ghost_name }
+    ensures put { Does (spec.stay_put id number (option_copied last.entry))
+        (state S.Store tx.old.conn.now) (state S.Store tx.new.conn.now) result }
+    ensures fault { IfErr result (λ e. e ≡ StoreFault.Refused) }
+{
+    match last {
+        None => Ok(()),
+        Some(stay) => {
+            end_before(tx, id, number.saturating_sub(1), stay.from)?;
+            put_stay(tx, id, number, stay)
+        }
+    }
+}
+
+/// How many stays there are.
+fn count_stays(stays: &[Stay]) -> Result<u32, StoreFault>
+    ensures ok { IfOk result (λ n. n ≡ length stays.now) }
+    ensures fault { IfErr result (λ e. e ≡ StoreFault.Refused) }
+{
+    match u32::try_from(stays.len()) {
+        Ok(count) => Ok(count),
+        Err(_) => Err(StoreFault::Refused),
+    }
+}
+
+/// Begins the last of the stays on a request.
+fn begin_stay<S: Alter>(
+    tx: &mut Transaction<'_, S>,
+    id: u32,
+    stays: &[Stay],
+) -> Result<(), StoreFault>
+    ensures same_reference { tx.new.conn.ghost_name ≡ tx.old.conn.ghost_name }
+    ensures begun { Does (spec.stay_put id (length stays.now) (spec.last_of stays.now))
+        (state S.Store tx.old.conn.now) (state S.Store tx.new.conn.now) result }
+    ensures fault { IfErr result (λ e. e ≡ StoreFault.Refused) }
+{
+    let count = count_stays(stays)?;
+    put_last(tx, id, count, stays.last())
+}
+
+/// Begins a stay, if an entry of the change does.
+fn write_stay<S: Alter>(tx: &mut Transaction<'_, S>, change: &Change) -> Result<(), StoreFault>
+    ensures same_reference { tx.new.conn.ghost_name ≡ tx.old.conn.ghost_name }
+    ensures made { Does (spec.stay_begun (spec.begun_on change.now.entries) change.now.stays)
+        (state S.Store tx.old.conn.now) (state S.Store tx.new.conn.now) result }
+    ensures fault { IfErr result (λ e. e ≡ StoreFault.Refused) }
+{
+    match begun_on(change.entries.as_slice()) {
+        Some(id) => begin_stay(tx, id, change.stays.as_slice()),
+        None => Ok(()),
+    }
+}
+
+/// Adds the entries, and the stay that one of them begins.
+fn write_history<S: Alter>(tx: &mut Transaction<'_, S>, change: &Change) -> Result<(), StoreFault>
+    ensures same_reference { tx.new.conn.ghost_name ≡ tx.old.conn.ghost_name }
+    ensures made { Does (λ c. spec.stay_begun (spec.begun_on change.now.entries) change.now.stays
+        (fold add_entry c change.now.entries))
+        (state S.Store tx.old.conn.now) (state S.Store tx.new.conn.now) result }
+    ensures fault { IfErr result (λ e. e ≡ StoreFault.Refused) }
+{
+    put_entries(tx, change.entries.as_slice())?;
+    write_stay(tx, change)
+}
+
 /// Writes a change, in a transaction that goes on.
 pub(crate) fn write_change<S: Alter>(
     tx: &mut Transaction<'_, S>,
@@ -145,5 +250,5 @@ pub(crate) fn write_change<S: Alter>(
     write_rows(tx, change)?;
     write_persons(tx, change)?;
     write_links(tx, change)?;
-    put_entries(tx, change.entries.as_slice())
+    write_history(tx, change)
 }

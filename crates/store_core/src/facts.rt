@@ -13,8 +13,10 @@ ghost use Rattle.store_core.specs.Seen.{state_of};
 
 use crate::dependencies::dependencies_of;
 use crate::seen_request::{queue_at, queue_of, seen_request_at};
+use crate::stays::stays_if;
 use crate::store::Store;
 use desk_core::{Command, Dependency, Facts, LinkRow, QueueRow, Scope, SeenRequest};
+use hours_core::Stay;
 use sqlite::{Alter, Connection};
 use std::alloc::Global;
 use store_tables::StoreFault;
@@ -131,7 +133,7 @@ fn count_requests<S: Alter>(conn: &mut Connection<S>) -> Result<u32, StoreFault>
     last_id(conn)
 }
 
-/// Of a command on a request: the request and its queue.
+/// Of a command on a request: the request, its stays and its queue.
 #[tactic(auto, using(store_tables::proofs::Spared::joined, store_tables::proofs::Spared::stands))]
 fn facts_on<S: Alter>(alloc: Global, conn: &mut Connection<S>, id: u32) -> Result<Facts, StoreFault>
     requires { conn.old.in_transaction ≡ false }
@@ -144,8 +146,9 @@ fn facts_on<S: Alter>(alloc: Global, conn: &mut Connection<S>, id: u32) -> Resul
     ensures fault { IfErr result (λ e. e ≢ StoreFault.WrongVersion) }
 {
     let request = seen_request_at(alloc, conn, id)?;
+    let stays = stays_if(alloc, conn, id, request.is_some())?;
     let queue = queue_of(conn, &request)?;
-    Ok(filed(alloc, queue, request))
+    Ok(filed(alloc, queue, request, stays))
 }
 
 /// Of a move: what the request depends on too, which is nothing where it isn't there.
@@ -226,13 +229,19 @@ fn counted(alloc: Global, queue: Option<QueueRow>, queue_count: u32, request_cou
     }
 }
 
-/// Facts of a request and its queue.
-fn filed(alloc: Global, queue: Option<QueueRow>, request: Option<SeenRequest>) -> Facts
-    ensures { result ≡ found.filed queue request }
+/// Facts of a request, its stays and its queue.
+fn filed(
+    alloc: Global,
+    queue: Option<QueueRow>,
+    request: Option<SeenRequest>,
+    stays: Sequence<Stay>,
+) -> Facts
+    ensures { result ≡ found.filed queue request stays }
 {
     Facts {
         queue,
         request,
+        stays,
         ..no_facts(alloc)
     }
 }
@@ -267,6 +276,7 @@ fn no_facts(alloc: Global) -> Facts
         queue_count: 0,
         request_count: 0,
         request: None,
+        stays: Sequence::from(Vec::new(alloc)),
         other: None,
         is_linked: false,
         dependencies: Sequence::from(Vec::new(alloc)),

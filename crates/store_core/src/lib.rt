@@ -12,11 +12,14 @@ pub mod laws;
 mod limits;
 mod lists;
 mod making;
+mod migration;
 mod opening;
 pub mod rows;
 mod seen_request;
 mod shown;
+mod stays;
 pub mod store;
+mod version;
 
 pub use rows::RequestRows;
 /// What keeps the tables of a store: memory, or a file.

@@ -1,20 +1,22 @@
 //! The lists of a store, each in the order of its key.
-ghost use Rattle.std.specs.Prelude.{◌≡◌, filter, IsPermutation};
+ghost use Rattle.std.specs.Prelude.{◌≡◌, filter, IsPermutation, map};
+ghost use Rattle.desk_model.specs.Facts.{stays_at};
 ghost use Rattle.store_tables.specs.Calls.{Spares, Tells};
 ghost use Rattle.store_tables.specs.Contents.{actors, history_at, request_rows, watchers};
 ghost use Rattle.store_tables.specs.Mismatches.{MismatchesInActors, MismatchesInDated};
 ghost use Rattle.store_tables.specs.Mismatches.{MismatchesInEntries};
 ghost use Rattle.store_tables.specs.Mismatches.{MismatchesInLinks};
 ghost use Rattle.store_tables.specs.Mismatches.{MismatchesInQueues, MismatchesInRequests};
-ghost use Rattle.store_tables.specs.Mismatches.{MismatchesInWatchers};
+ghost use Rattle.store_tables.specs.Mismatches.{MismatchesInStays, MismatchesInWatchers};
 ghost use Rattle.store_tables.specs.Selection.{ends_at, is_filed_in, is_of_person, starts_at};
-ghost use Rattle.store_core.specs.Rows.{AreDueBefore, TellsDated, dated_rows};
+ghost use Rattle.store_tables.specs.Stays.{request_stay, stays};
+ghost use Rattle.store_core.specs.Rows.{AreDueBefore, AreFiledIn, TellsDated, dated_rows};
 ghost use Rattle.store_core.specs.Seen.{state_of};
 
 use crate::Backend;
 use crate::store::Store;
 use desk_core::{Entry, LinkRow, QueueRow, RequestRow, Watcher};
-use hours_core::Minute;
+use hours_core::{Minute, Stay};
 use std::alloc::Global;
 use store_tables::{StoreFault, reads};
 use text_core::Text;
@@ -75,6 +77,23 @@ impl<S: Backend> Store<S> {
         ensures kept { Spares (state_of S.Store self.old) (state_of S.Store self.new) }
     {
         reads::dated_requests::dated_requests(alloc, &mut self.conn)
+    }
+
+    /// The requests of a queue, in the order of their numbers, each with the due moment that the
+    /// tables keep. `Mismatch` where a row is no request or its due moment is neither a minute nor
+    /// absent, `Refused` where the store or memory refuses it. The tables stay as they are.
+    pub fn dated_requests_of(
+        &mut self,
+        alloc: Global,
+        queue: &Text,
+    ) -> Result<Vec<(RequestRow, Option<Minute>)>, StoreFault>
+        ensures listed { TellsDated (λ due desk xs. AreFiledIn queue.now due desk xs.items)
+            (state_of S.Store self.old) (state_of S.Store self.new) result }
+        ensures mismatch { MismatchesInDated
+            (state_of S.Store self.old) (state_of S.Store self.new) result }
+        ensures kept { Spares (state_of S.Store self.old) (state_of S.Store self.new) }
+    {
+        reads::dated_requests::dated_of(alloc, &mut self.conn, queue)
     }
 
     /// The requests that are due before that moment, each with its due moment: by due moment, and
@@ -169,6 +188,31 @@ impl<S: Backend> Store<S> {
         ensures kept { Spares (state_of S.Store self.old) (state_of S.Store self.new) }
     {
         reads::lists_entries::entries_of(alloc, &mut self.conn, id)
+    }
+
+    /// The stays of a request, in order, none where there is no such request. `Mismatch` where a
+    /// row is no stay, `Refused` where the store or memory refuses it. The tables stay as they are.
+    pub fn stays_of(&mut self, alloc: Global, id: u32) -> Result<Vec<Stay>, StoreFault>
+        ensures listed { Tells (λ desk xs. xs.items ≡ stays_at desk id)
+            (state_of S.Store self.old) (state_of S.Store self.new) result }
+        ensures mismatch { MismatchesInStays
+            (state_of S.Store self.old) (state_of S.Store self.new) result }
+        ensures kept { Spares (state_of S.Store self.old) (state_of S.Store self.new) }
+    {
+        reads::stays::stays_of(alloc, &mut self.conn, id)
+    }
+
+    /// The stays of all requests, each with the number of its request, in the order of those
+    /// numbers and of each request's stays. `Mismatch` where a row is no stay, `Refused` where the
+    /// store or memory refuses it. The tables stay as they are.
+    pub fn stays(&mut self, alloc: Global) -> Result<Vec<(u32, Stay)>, StoreFault>
+        ensures listed { Tells (λ desk xs. xs.items ≡ map request_stay (stays desk))
+            (state_of S.Store self.old) (state_of S.Store self.new) result }
+        ensures mismatch { MismatchesInStays
+            (state_of S.Store self.old) (state_of S.Store self.new) result }
+        ensures kept { Spares (state_of S.Store self.old) (state_of S.Store self.new) }
+    {
+        reads::stays::stays(alloc, &mut self.conn)
     }
 
     /// Who made each entry, one name an entry, in no order that matters. `Mismatch` where one is no

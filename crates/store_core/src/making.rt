@@ -1,35 +1,36 @@
 //! Making the tables, in a transaction.
-ghost use Rattle.std.specs.Prelude.{◌≡◌, ◌≢◌, [], false, IfErr, IfOk, None, OnErr};
-ghost use Rattle.std.specs.Prelude.{IfSome, OnOk, Some};
+ghost use Rattle.std.specs.Prelude.{◌≡◌, ◌≢◌, ℕ, false, IfErr, IfOk, OnErr, OnOk, Option};
 ghost use Rattle.sqlite.specs.Held.{state};
 ghost use Rattle.sqlite.specs.State.{HasCleanDisk};
-ghost use Rattle.store_tables.specs.Calls.{Leaves, Makes, ShowsRowsOf, WasClean};
-ghost use Rattle.store_tables.specs.Contents.{Contents, no_contents};
-ghost use Rattle.store_tables.specs.Making.{Fresh, Inside, IsBlank, Made, ShowsVersion, WasBlank};
-ghost use Rattle.store_tables.specs.Making.{BlamesMeta, IsOfMeta, NeedsVersion};
-ghost use Rattle.store_tables.specs.Making.{Stays, WrongInside};
-ghost use Rattle.store_tables.specs.Mismatches.{MismatchesInMeta};
-ghost use Rattle.store_tables.specs.Queries.{version_shown};
-ghost use Rattle.store_tables.specs.Stands.{HasTables, KeepsBase, Stand, Within};
-ghost use Rattle.store_tables.specs.Tables.{desk_schema, no_schema, request_schema};
+ghost use Rattle.store_tables.specs.Calls.{WasClean};
+ghost use Rattle.desk_model.specs.Desk.{Desk};
+ghost use Rattle.desk_model.specs.IsDesk.{IsDesk};
+ghost use Rattle.desk_model.specs.declared.rows.RequestRow.{RequestRow};
+ghost use Rattle.store_tables.specs.Contents.{Contents, contents_of, first_contents_of};
+ghost use Rattle.store_tables.specs.Contents.{no_contents};
+ghost use Rattle.store_tables.specs.Making.{Fresh, IsBlank, IsKnown, Made};
+ghost use Rattle.store_tables.specs.Stands.{FirstStand, GoesBack, HoldsNow, KeepsBase, Stand};
+ghost use Rattle.store_tables.specs.Tables.{desk_schema, first_schema, no_schema, request_schema};
 ghost use Rattle.store_tables.specs.declared.fault.StoreFault.{StoreFault};
+ghost use Rattle.store_core.specs.Migrating.{BlamesUnknown, EitherHolds, EitherStand, Grows};
+ghost use Rattle.store_core.specs.Migrating.{MismatchesInMaking, NeedsKnown, RefusesKnown};
+ghost use Rattle.store_core.specs.Migrating.{Unmoved};
 
-use sqlite::{Alter, Connection, Row, Transaction};
+use crate::version::bring_up;
+use sqlite::{Alter, Connection, Transaction};
+use std::alloc::Global;
 use store_tables::StoreFault;
-use store_tables::reads::version::version_in;
-use store_tables::transaction::run;
+use store_tables::transaction::{finish, run};
 
 /// Makes the first three tables where they are missing.
 fn make_first<S: Alter>(tx: &mut Transaction<'_, S>) -> Result<(), StoreFault>
     ensures same_reference { tx.new.conn.ghost_name ≡ tx.old.conn.ghost_name }
     ensures made { Made no_schema (state S.Store tx.old.conn.now) →
         OnOk result (Made request_schema (state S.Store tx.new.conn.now)) }
-    ensures there { Makes (λ c. c)
-        (state S.Store tx.old.conn.now) (state S.Store tx.new.conn.now) result }
+    ensures there { OnOk result
+        (Unmoved (state S.Store tx.old.conn.now) (state S.Store tx.new.conn.now)) }
     ensures keeps { KeepsBase (state S.Store tx.old.conn.now) (state S.Store tx.new.conn.now) }
     ensures honest { WasClean (state S.Store tx.old.conn.now) (state S.Store tx.new.conn.now) }
-    ensures stays { OnOk result
-        (Stays (state S.Store tx.old.conn.now) (state S.Store tx.new.conn.now)) }
     ensures fault { IfErr result (λ e. e ≡ StoreFault.Refused) }
 {
     let _ = run(
@@ -55,17 +56,15 @@ fn make_first<S: Alter>(tx: &mut Transaction<'_, S>) -> Result<(), StoreFault>
     Ok(())
 }
 
-/// Makes the last three tables where they are missing.
-fn make_last<S: Alter>(tx: &mut Transaction<'_, S>) -> Result<(), StoreFault>
+/// Makes the three tables of what belongs to requests where they are missing.
+fn make_next<S: Alter>(tx: &mut Transaction<'_, S>) -> Result<(), StoreFault>
     ensures same_reference { tx.new.conn.ghost_name ≡ tx.old.conn.ghost_name }
     ensures made { Made request_schema (state S.Store tx.old.conn.now) →
-        OnOk result (Made desk_schema (state S.Store tx.new.conn.now)) }
-    ensures there { Makes (λ c. c)
-        (state S.Store tx.old.conn.now) (state S.Store tx.new.conn.now) result }
+        OnOk result (Made first_schema (state S.Store tx.new.conn.now)) }
+    ensures there { OnOk result
+        (Unmoved (state S.Store tx.old.conn.now) (state S.Store tx.new.conn.now)) }
     ensures keeps { KeepsBase (state S.Store tx.old.conn.now) (state S.Store tx.new.conn.now) }
     ensures honest { WasClean (state S.Store tx.old.conn.now) (state S.Store tx.new.conn.now) }
-    ensures stays { OnOk result
-        (Stays (state S.Store tx.old.conn.now) (state S.Store tx.new.conn.now)) }
     ensures fault { IfErr result (λ e. e ≡ StoreFault.Refused) }
 {
     let _ = run(
@@ -93,158 +92,88 @@ fn make_last<S: Alter>(tx: &mut Transaction<'_, S>) -> Result<(), StoreFault>
     Ok(())
 }
 
+/// Makes the table of stays where it is missing.
+fn make_last<S: Alter>(tx: &mut Transaction<'_, S>) -> Result<(), StoreFault>
+    ensures same_reference { tx.new.conn.ghost_name ≡ tx.old.conn.ghost_name }
+    ensures made { Made first_schema (state S.Store tx.old.conn.now) →
+        OnOk result (Made desk_schema (state S.Store tx.new.conn.now)) }
+    ensures grows { OnOk result
+        (Grows (state S.Store tx.old.conn.now) (state S.Store tx.new.conn.now)) }
+    ensures keeps { KeepsBase (state S.Store tx.old.conn.now) (state S.Store tx.new.conn.now) }
+    ensures honest { WasClean (state S.Store tx.old.conn.now) (state S.Store tx.new.conn.now) }
+    ensures fault { IfErr result (λ e. e ≡ StoreFault.Refused) }
+{
+    let _ = run(
+        tx,
+        "CREATE TABLE IF NOT EXISTS stay (request INTEGER NOT NULL REFERENCES request(id), \
+         number INTEGER NOT NULL, status TEXT NOT NULL, begun INTEGER NOT NULL, ended \
+         INTEGER, PRIMARY KEY (request, number)) STRICT",
+        &[],
+    )?;
+    Ok(())
+}
+
 /// Makes the tables that are missing.
 fn make_tables<S: Alter>(tx: &mut Transaction<'_, S>) -> Result<(), StoreFault>
     ensures same_reference { tx.new.conn.ghost_name ≡ tx.old.conn.ghost_name }
     ensures made { Made no_schema (state S.Store tx.old.conn.now) →
         OnOk result (Made desk_schema (state S.Store tx.new.conn.now)) }
-    ensures there { Makes (λ c. c)
-        (state S.Store tx.old.conn.now) (state S.Store tx.new.conn.now) result }
+    ensures grows { OnOk result
+        (Grows (state S.Store tx.old.conn.now) (state S.Store tx.new.conn.now)) }
     ensures keeps { KeepsBase (state S.Store tx.old.conn.now) (state S.Store tx.new.conn.now) }
     ensures honest { WasClean (state S.Store tx.old.conn.now) (state S.Store tx.new.conn.now) }
-    ensures stays { OnOk result
-        (Stays (state S.Store tx.old.conn.now) (state S.Store tx.new.conn.now)) }
     ensures fault { IfErr result (λ e. e ≡ StoreFault.Refused) }
 {
     make_first(tx)?;
+    make_next(tx)?;
     make_last(tx)
 }
 
-/// The rows of the version.
-fn version_rows<S: Alter>(tx: &mut Transaction<'_, S>) -> Result<Vec<Row>, StoreFault>
-    ensures same_reference { tx.new.conn.ghost_name ≡ tx.old.conn.ghost_name }
-    ensures none { Made desk_schema (state S.Store tx.old.conn.now) →
-        HasCleanDisk (state S.Store tx.new.conn.now) → IfOk result (λ rows. rows.items ≡ []) }
-    ensures one { Inside (λ c rows. ShowsVersion c.version rows.items)
-        (state S.Store tx.old.conn.now) (state S.Store tx.new.conn.now) result }
-    ensures made { Made desk_schema (state S.Store tx.old.conn.now) →
-        OnOk result (Made desk_schema (state S.Store tx.new.conn.now)) }
-    ensures there { Makes (λ c. c)
-        (state S.Store tx.old.conn.now) (state S.Store tx.new.conn.now) result }
-    ensures keeps { HasTables (state S.Store tx.old.conn.now) →
-        KeepsBase (state S.Store tx.old.conn.now) (state S.Store tx.new.conn.now) }
-    ensures honest { WasClean (state S.Store tx.old.conn.now) (state S.Store tx.new.conn.now) }
-    ensures of_table { ShowsRowsOf 0 version_shown (λ rows. rows.items)
-        (state S.Store tx.old.conn.now) (state S.Store tx.new.conn.now) result }
-    ensures fault { IfErr result (λ e. e ≡ StoreFault.Refused) }
-{
-    match tx.query_all("SELECT version FROM meta", &[]) {
-        Ok(rows) => Ok(rows),
-        Err(_) => Err(StoreFault::Refused),
-    }
-}
-
-/// The version that the tables hold, or none where `meta` has no row.
-fn read_version<S: Alter>(tx: &mut Transaction<'_, S>) -> Result<Option<u32>, StoreFault>
-    ensures same_reference { tx.new.conn.ghost_name ≡ tx.old.conn.ghost_name }
-    ensures none { Made desk_schema (state S.Store tx.old.conn.now) →
-        HasCleanDisk (state S.Store tx.new.conn.now) → IfOk result (λ v. v ≡ None) }
-    ensures refused { Made desk_schema (state S.Store tx.old.conn.now) →
-        HasCleanDisk (state S.Store tx.new.conn.now) →
-        IfErr result (λ e. e ≡ StoreFault.Refused) }
-    ensures one { Inside (λ c v. v ≡ Some c.version)
-        (state S.Store tx.old.conn.now) (state S.Store tx.new.conn.now) result }
-    ensures made { Made desk_schema (state S.Store tx.old.conn.now) →
-        OnOk result (Made desk_schema (state S.Store tx.new.conn.now)) }
-    ensures there { Makes (λ c. c)
-        (state S.Store tx.old.conn.now) (state S.Store tx.new.conn.now) result }
-    ensures keeps { HasTables (state S.Store tx.old.conn.now) →
-        KeepsBase (state S.Store tx.old.conn.now) (state S.Store tx.new.conn.now) }
-    ensures honest { WasClean (state S.Store tx.old.conn.now) (state S.Store tx.new.conn.now) }
-    ensures mismatch { MismatchesInMeta
-        (state S.Store tx.old.conn.now) (state S.Store tx.new.conn.now) result }
-    ensures of_meta { HasTables (state S.Store tx.old.conn.now) →
-        HasCleanDisk (state S.Store tx.new.conn.now) →
-        IfOk result (λ v. IfSome v (IsOfMeta (state S.Store tx.old.conn.now))) }
-    ensures fault { IfErr result (λ e. e ≢ StoreFault.WrongVersion) }
-{
-    let rows = version_rows(tx)?;
-    version_in(rows.as_slice())
-}
-
-/// Writes the present version where there is none. `WrongVersion` where there is another.
-fn fill_meta<S: Alter>(tx: &mut Transaction<'_, S>) -> Result<(), StoreFault>
-    ensures same_reference { tx.new.conn.ghost_name ≡ tx.old.conn.ghost_name }
-    ensures fresh { Made desk_schema (state S.Store tx.old.conn.now) →
-        OnOk result (Fresh (state S.Store tx.new.conn.now)) }
-    ensures there { Makes (λ c. c)
-        (state S.Store tx.old.conn.now) (state S.Store tx.new.conn.now) result }
-    ensures present { Inside (λ c done. c.version ≡ 1)
-        (state S.Store tx.old.conn.now) (state S.Store tx.new.conn.now) result }
-    ensures wrong { WrongInside
-        (state S.Store tx.old.conn.now) (state S.Store tx.new.conn.now) result }
-    ensures refused { Made desk_schema (state S.Store tx.old.conn.now) →
-        HasCleanDisk (state S.Store tx.new.conn.now) →
-        IfErr result (λ e. e ≡ StoreFault.Refused) }
-    ensures keeps { HasTables (state S.Store tx.old.conn.now) →
-        KeepsBase (state S.Store tx.old.conn.now) (state S.Store tx.new.conn.now) }
-    ensures honest { WasClean (state S.Store tx.old.conn.now) (state S.Store tx.new.conn.now) }
-    ensures mismatch { MismatchesInMeta
-        (state S.Store tx.old.conn.now) (state S.Store tx.new.conn.now) result }
-    ensures blames { BlamesMeta
-        (state S.Store tx.old.conn.now) (state S.Store tx.new.conn.now) result }
-{
-    match read_version(tx)? {
-        None => {
-            let _ = run(tx, "INSERT INTO meta (one, version) VALUES (1, 1)", &[])?;
-            Ok(())
-        }
-        Some(1) => Ok(()),
-        Some(_) => Err(StoreFault::WrongVersion),
-    }
-}
-
-/// Makes the tables that are missing, and writes the version where there is none.
-fn make_all<S: Alter>(tx: &mut Transaction<'_, S>) -> Result<(), StoreFault>
+/// Makes the tables that are missing, and brings them to the present version.
+fn make_all<S: Alter>(alloc: Global, tx: &mut Transaction<'_, S>) -> Result<(), StoreFault>
     ensures same_reference { tx.new.conn.ghost_name ≡ tx.old.conn.ghost_name }
     ensures fresh { Made no_schema (state S.Store tx.old.conn.now) →
         OnOk result (Fresh (state S.Store tx.new.conn.now)) }
-    ensures there { Makes (λ c. c)
-        (state S.Store tx.old.conn.now) (state S.Store tx.new.conn.now) result }
-    ensures present { Inside (λ c done. c.version ≡ 1)
-        (state S.Store tx.old.conn.now) (state S.Store tx.new.conn.now) result }
-    ensures wrong { WrongInside
-        (state S.Store tx.old.conn.now) (state S.Store tx.new.conn.now) result }
+    ensures there { (c : Contents) → c.version ≢ 1 →
+        EitherHolds c (state S.Store tx.old.conn.now) →
+        OnOk result (HoldsNow c (state S.Store tx.new.conn.now)) }
+    ensures brings { (desk : Desk) → IsDesk desk → (due : RequestRow → Option ℕ) →
+        EitherHolds (first_contents_of due desk) (state S.Store tx.old.conn.now) →
+        OnOk result (HoldsNow (contents_of due desk) (state S.Store tx.new.conn.now)) }
+    ensures holds { (c : Contents) → EitherHolds c (state S.Store tx.old.conn.now) →
+        OnOk result ((d : Contents) × HoldsNow d (state S.Store tx.new.conn.now)) }
+    ensures keeps { (c : Contents) → EitherHolds c (state S.Store tx.old.conn.now) →
+        KeepsBase (state S.Store tx.old.conn.now) (state S.Store tx.new.conn.now) }
+    ensures keeps_none { Made no_schema (state S.Store tx.old.conn.now) →
+        KeepsBase (state S.Store tx.old.conn.now) (state S.Store tx.new.conn.now) }
+    ensures known { (c : Contents) → EitherHolds c (state S.Store tx.old.conn.now) →
+        HasCleanDisk (state S.Store tx.new.conn.now) →
+        IfOk result (λ done. IsKnown c.version) }
+    ensures wrong { (c : Contents) → EitherHolds c (state S.Store tx.old.conn.now) →
+        HasCleanDisk (state S.Store tx.new.conn.now) →
+        IfErr result (λ e. e ≡ StoreFault.WrongVersion → ¬ IsKnown c.version) }
     ensures refused { Made no_schema (state S.Store tx.old.conn.now) →
         HasCleanDisk (state S.Store tx.new.conn.now) →
         IfErr result (λ e. e ≡ StoreFault.Refused) }
-    ensures keeps_none { Made no_schema (state S.Store tx.old.conn.now) →
-        KeepsBase (state S.Store tx.old.conn.now) (state S.Store tx.new.conn.now) }
-    ensures keeps { (now was : Contents) → Within now was (state S.Store tx.old.conn.now) →
-        KeepsBase (state S.Store tx.old.conn.now) (state S.Store tx.new.conn.now) }
+    ensures refuses { (c : Contents) → IsKnown c.version →
+        EitherHolds c (state S.Store tx.old.conn.now) →
+        HasCleanDisk (state S.Store tx.new.conn.now) →
+        IfErr result (λ e. e ≡ StoreFault.Refused) }
     ensures honest { WasClean (state S.Store tx.old.conn.now) (state S.Store tx.new.conn.now) }
-    ensures mismatch { MismatchesInMeta
+    ensures mismatch { MismatchesInMaking
         (state S.Store tx.old.conn.now) (state S.Store tx.new.conn.now) result }
-    ensures blames { BlamesMeta
+    ensures blames { BlamesUnknown
         (state S.Store tx.old.conn.now) (state S.Store tx.new.conn.now) result }
 {
     make_tables(tx)?;
-    fill_meta(tx)
-}
-
-/// Commits what was made, or leaves what was committed before.
-fn end_making<S: Alter>(tx: Transaction<'_, S>) -> Result<(), StoreFault>
-    ensures ended { tx.exit.0.now.in_transaction ≡ false }
-    ensures done { (now was : Contents) → Within now was (state S.Store tx.entry.conn.now) →
-        OnOk result (Stand now (state S.Store tx.exit.0.now)) }
-    ensures undone { (now was : Contents) → Within now was (state S.Store tx.entry.conn.now) →
-        OnErr result (Stand was (state S.Store tx.exit.0.now)) }
-    ensures fresh { Fresh (state S.Store tx.entry.conn.now) →
-        OnOk result (Stand no_contents (state S.Store tx.exit.0.now)) }
-    ensures blank { Fresh (state S.Store tx.entry.conn.now) →
-        WasBlank (state S.Store tx.entry.conn.now) →
-        OnErr result (IsBlank (state S.Store tx.exit.0.now)) }
-    ensures honest { WasClean (state S.Store tx.entry.conn.now) (state S.Store tx.exit.0.now) }
-    ensures fault { IfErr result (λ e. e ≡ StoreFault.Refused) }
-{
-    match tx.commit() {
-        Ok(()) => Ok(()),
-        Err(_) => Err(StoreFault::Refused),
-    }
+    bring_up(alloc, tx)
 }
 
 /// Makes the tables in one transaction.
-pub(crate) fn make_schema<S: Alter>(conn: &mut Connection<S>) -> Result<(), StoreFault>
+pub(crate) fn make_schema<S: Alter>(
+    alloc: Global,
+    conn: &mut Connection<S>,
+) -> Result<(), StoreFault>
     requires { conn.old.in_transaction ≡ false }
     ensures idle { conn.new.in_transaction ≡ false }
     ensures made { IsBlank (state S.Store conn.old) →
@@ -254,14 +183,21 @@ pub(crate) fn make_schema<S: Alter>(conn: &mut Connection<S>) -> Result<(), Stor
     ensures refused { IsBlank (state S.Store conn.old) →
         HasCleanDisk (state S.Store conn.new) →
         IfErr result (λ e. e ≡ StoreFault.Refused) }
-    ensures kept { Leaves (state S.Store conn.old) (state S.Store conn.new) }
+    ensures kept { (c : Contents) → c.version ≢ 1 → Stand c (state S.Store conn.old) →
+        OnOk result (Stand c (state S.Store conn.new)) }
+    ensures brings { (desk : Desk) → IsDesk desk → (due : RequestRow → Option ℕ) →
+        FirstStand (first_contents_of due desk) (state S.Store conn.old) →
+        OnOk result (Stand (contents_of due desk) (state S.Store conn.new)) }
+    ensures back { (c : Contents) → EitherStand c (state S.Store conn.old) →
+        OnErr result (GoesBack (state S.Store conn.old) (state S.Store conn.new)) }
     ensures honest { WasClean (state S.Store conn.old) (state S.Store conn.new) }
-    ensures version { NeedsVersion (state S.Store conn.old) (state S.Store conn.new) result }
-    ensures blames { BlamesMeta (state S.Store conn.old) (state S.Store conn.new) result }
-    ensures mismatch { MismatchesInMeta
+    ensures version { NeedsKnown (state S.Store conn.old) (state S.Store conn.new) result }
+    ensures refuses { RefusesKnown (state S.Store conn.old) (state S.Store conn.new) result }
+    ensures blames { BlamesUnknown (state S.Store conn.old) (state S.Store conn.new) result }
+    ensures mismatch { MismatchesInMaking
         (state S.Store conn.old) (state S.Store conn.new) result }
 {
     let mut tx = conn.transaction();
-    make_all(&mut tx)?;
-    end_making(tx)
+    make_all(alloc, &mut tx)?;
+    finish(tx)
 }

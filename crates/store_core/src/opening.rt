@@ -1,11 +1,12 @@
 //! A store is opened, and its tables are made.
-ghost use Rattle.std.specs.Prelude.{◌≡◌, ◌≢◌, false, IfErr, IfOk};
+ghost use Rattle.std.specs.Prelude.{◌≡◌, ◌≢◌, false, IfErr, IfOk, OnErr};
 ghost use Rattle.sqlite.specs.Steps.{over_memory};
-ghost use Rattle.store_tables.specs.Calls.{Answers, Leaves, WasClean, Spares};
+ghost use Rattle.store_tables.specs.Calls.{Answers, WasClean, Spares};
 ghost use Rattle.store_tables.specs.Making.{IsBlank, MakesDesk, RefusesBlank};
-ghost use Rattle.store_tables.specs.Making.{TellsVersion};
 ghost use Rattle.store_tables.specs.Mismatches.{MismatchesInMeta};
 ghost use Rattle.store_tables.specs.declared.fault.StoreFault.{StoreFault};
+ghost use Rattle.store_core.specs.Migrating.{LeavesEither, LeavesOthers, MigratesDesk};
+ghost use Rattle.store_core.specs.Migrating.{MismatchesInMaking, RefusesKnown, TellsKnown};
 ghost use Rattle.store_core.specs.Seen.{connection_of, state_of};
 
 use crate::making::make_schema;
@@ -45,20 +46,29 @@ impl<S: Alter> Store<S> {
         self.conn
     }
 
-    /// Makes the tables that are missing and, where there is no version, writes version 1, in one
-    /// transaction. `WrongVersion` where the tables are of another version, `Mismatch` where their
-    /// version is no number, `Refused` where the store or memory refuses it. A fault leaves what
-    /// there was, where there was no table or all of them. Tables of version 1 stay as they are.
-    pub fn create_schema(&mut self) -> Result<(), StoreFault>
+    /// Makes the tables that are missing and, where there is no version, writes version 2. Of
+    /// tables of version 1 it fills in the stays, by the histories, and sets version 2. All is in
+    /// one transaction. `WrongVersion` where the tables are of another version, `Mismatch` where
+    /// their version is no number, or a row of a request or of an entry is none in tables of
+    /// version 1, `Refused` where the store or memory refuses it. A fault leaves what there was,
+    /// where there was no table, or the six of version 1, or all. Tables of version 2 stay as they
+    /// are.
+    pub fn create_schema(&mut self, alloc: Global) -> Result<(), StoreFault>
         ensures made { MakesDesk (state_of S.Store self.old) (state_of S.Store self.new) result }
-        ensures kept { Leaves (state_of S.Store self.old) (state_of S.Store self.new) }
-        ensures honest { WasClean (state_of S.Store self.old) (state_of S.Store self.new) }
-        ensures version { TellsVersion
+        ensures migrated { MigratesDesk
             (state_of S.Store self.old) (state_of S.Store self.new) result }
-        ensures mismatch { MismatchesInMeta
+        ensures kept { LeavesOthers (state_of S.Store self.old) (state_of S.Store self.new) }
+        ensures undone { OnErr result
+            (LeavesEither (state_of S.Store self.old) (state_of S.Store self.new)) }
+        ensures honest { WasClean (state_of S.Store self.old) (state_of S.Store self.new) }
+        ensures version { TellsKnown
+            (state_of S.Store self.old) (state_of S.Store self.new) result }
+        ensures refuses { RefusesKnown
+            (state_of S.Store self.old) (state_of S.Store self.new) result }
+        ensures mismatch { MismatchesInMaking
             (state_of S.Store self.old) (state_of S.Store self.new) result }
     {
-        make_schema(&mut self.conn)
+        make_schema(alloc, &mut self.conn)
     }
 
     /// The version that the tables hold. `Refused` before `create_schema`, and where the store or

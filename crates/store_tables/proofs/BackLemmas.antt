@@ -22,6 +22,10 @@ use Rattle.desk_model.specs.Links.{kind_number}
 use Rattle.store_tables.specs.Dated.{Dated, dated_shown}
 use Rattle.store_tables.specs.Reading.{ReadsDated, ReadsQueue, ReadsRequest, ReadsWatcher}
 use Rattle.store_tables.specs.Reading.{ReadsCount, ReadsLink, ReadsEntry, ReadsText}
+use Rattle.store_tables.specs.Reading.{ReadsRequestStay, ReadsStay}
+use Rattle.store_tables.specs.Spelling.{stay_columns}
+use Rattle.store_tables.specs.Stays.{StayRow, request_stay}
+use Rattle.hours_core.specs.declared.stay.Stay.{Stay}
 
 same_option : (a b : Option (List ℕ)) → or_null Words a ≡ or_null Words b → a ≡ b
 same_option None None e = refl
@@ -237,3 +241,26 @@ entry_back a b h =
 -- of a number alone
 pub count_back : (a b : ℕ) → ReadsCount (count_value a ∷ []) b → b ≡ a
 count_back a b h = same_count (sym h.number)
+
+abbrev make_stay : List ℕ → ℕ → Option ℕ → Stay
+make_stay x0 x1 x2 = record { status = x0; from = x1; until = x2 }
+
+-- of a stay in its row
+pub stay_back : (a : StayRow) (b : Stay) → ReadsStay (stay_columns a) b → b ≡ a.stay
+stay_back a b h =
+    let status : b.status ≡ a.stay.status = (let e = h.status in cc) in
+    let from : b.from ≡ a.stay.from = same_count (sym h.from) in
+    let until : b.until ≡ a.stay.until = same_moment b.until a.stay.until (sym h.until) in
+    ap (λ v. make_stay v b.from b.until) status
+    ∙ ap (λ v. make_stay a.stay.status v b.until) from
+    ∙ ap (λ v. make_stay a.stay.status a.stay.from v) until
+
+abbrev make_pair : ℕ → Stay → ℕ × Stay
+make_pair id stay = (id, stay)
+
+-- and with its request
+pub request_stay_back : (a : StayRow) (b : ℕ × Stay) → ReadsRequestStay (stay_columns a) b
+    → b ≡ request_stay a
+request_stay_back a b h =
+    ap (λ n. make_pair n b.1) (same_count (sym h.request))
+    ∙ ap (make_pair a.request) (stay_back a b.1 h.stay)

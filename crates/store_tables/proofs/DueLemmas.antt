@@ -1,5 +1,6 @@
 -- Requests of which one has its due moment set.
-use Rattle.std.proofs.Common.{◌≡◌, ◌++◌, arith, Bool, IsPermutation, List, Option, [], ◌∷◌, ℕ, ap₂}
+use Rattle.std.proofs.Common.{◌≡◌, ◌++◌, arith, Bool, IsPermutation, List, Option, [], ◌∷◌, ℕ, ap}
+use Rattle.std.proofs.Common.{ap₂}
 use Rattle.std.proofs.Common.{false, filter, inl, inr, map, not, refl, subst, sym, true}
 use Rattle.std.specs.Prelude.{if◌then◌else◌}
 use Rattle.std.proofs.lemmas.Bool.{cases_Bool}
@@ -22,10 +23,10 @@ AreEach {X} P xs = (x : X) → Has xs x → P x
 abbrev pub moved : ℕ → Option ℕ → Dated → Dated
 moved id due p = (p.0, if is_numbered id p.0 then due else p.1)
 
-stays : (id : ℕ) (due : Option ℕ) (p : Dated) → has_number id p ≡ false → moved id due p ≡ p
+pub stays : (id : ℕ) (due : Option ℕ) (p : Dated) → has_number id p ≡ false → moved id due p ≡ p
 stays id due p apart = rw apart
 
-goes : (id : ℕ) (due : Option ℕ) (p : Dated) → has_number id p ≡ true
+pub goes : (id : ℕ) (due : Option ℕ) (p : Dated) → has_number id p ≡ true
     → moved id due p ≡ (p.0, due)
 goes id due p here = rw here
 
@@ -38,39 +39,37 @@ false_of : (b : Bool) → not b ≡ true → b ≡ false
 false_of true h = absurd (cc)
 false_of false h = refl
 
--- those with other numbers stay
-others_stay : (id : ℕ) (due : Option ℕ) (xs : List Dated)
-    → map (moved id due) (filter (λ p. not (has_number id p)) xs)
-    ≡ filter (λ p. not (has_number id p)) xs
-others_stay id due xs = map_same (moved id due) (filter (λ p. not (has_number id p)) xs)
-    (λ p has. stays id due p (false_of (has_number id p)
-    (has_filtered (λ q. not (has_number id q)) xs p has).1))
+-- where what a test doesn't pass stays as it is
+module _ {X : Type 0} (f : X → X) (p : X → Bool) (stays : (x : X) → p x ≡ false → f x ≡ x) where
+  others_stay : (xs : List X) → map f (filter (λ x. not (p x)) xs) ≡ filter (λ x. not (p x)) xs
+  others_stay xs = map_same f (filter (λ x. not (p x)) xs)
+      (λ x has. stays x (false_of (p x) (has_filtered (λ y. not (p y)) xs x has).1))
 
--- where no request has the number, all stay
-pub none_moved : (id : ℕ) (due : Option ℕ) (xs : List Dated) → filter (has_number id) xs ≡ []
-    → map (moved id due) xs ≡ xs
-none_moved id due xs none = map_same (moved id due) xs
-    (λ p has. elim (cases_Bool (has_number id p)) [
-      | inl here ↦ absurd (subst (λ l. Has l p) none (has_kept (has_number id) xs p has here))
-      | inr apart ↦ stays id due p apart
-    ])
+  -- where none passes, all stay
+  pub none_moved : (xs : List X) → filter p xs ≡ [] → map f xs ≡ xs
+  none_moved xs none = map_same f xs
+      (λ x has. elim (cases_Bool (p x)) [
+        | inl here ↦ absurd (subst (λ l. Has l x) none (has_kept p xs x has here))
+        | inr apart ↦ stays x apart
+      ])
 
--- where one has it, that one gives way to itself with the due moment
-pub one_moved : (id : ℕ) (due : Option ℕ) (xs : List Dated) (p : Dated)
-    → filter (has_number id) xs ≡ p ∷ []
-    → IsPermutation ((p.0, due) ∷ filter (λ q. not (has_number id q)) xs) (map (moved id due) xs)
-one_moved id due xs p one =
-    let others = filter (λ q. not (has_number id q)) xs in
-    let here : has_number id p ≡ true = (has_filtered (has_number id) xs p
-    (subst (λ l. Has l p) (sym one) (inl refl))).1 in
-    let parts : IsPermutation xs (filter (has_number id) xs ++ others) =
-    IsPermutation-filter_both (has_number id) (λ q. not (has_number id q)) (λ q. refl) xs in
-    let whole : IsPermutation xs (p ∷ others) =
-    subst (λ l. IsPermutation xs (l ++ others)) one parts in
-    let images : map (moved id due) (p ∷ others) ≡ (p.0, due) ∷ others =
-    ap₂ (λ q qs. q ∷ qs) (goes id due p here) (others_stay id due xs) in
-    IsPermutation-sym _ _ (subst (IsPermutation (map (moved id due) xs)) images
-    (IsPermutation-map (moved id due) _ _ whole))
+  -- where one passes, that one gives way
+  pub one_moved : (xs : List X) (x : X) → filter p xs ≡ x ∷ []
+      → IsPermutation (f x ∷ filter (λ y. not (p y)) xs) (map f xs)
+  one_moved xs x one =
+      let others = filter (λ y. not (p y)) xs in
+      let parts : IsPermutation xs (filter p xs ++ others) =
+      IsPermutation-filter_both p (λ y. not (p y)) (λ y. refl) xs in
+      let whole : IsPermutation xs (x ∷ others) =
+      subst (λ l. IsPermutation xs (l ++ others)) one parts in
+      IsPermutation-sym _ _ (subst (IsPermutation (map f xs)) (ap (λ l. f x ∷ l) (others_stay xs))
+      (IsPermutation-map f _ _ whole))
+
+-- what passes is the one that does
+pub passes_one : {X : Type 0} (p : X → Bool) (xs : List X) (x : X) → filter p xs ≡ x ∷ []
+    → p x ≡ true
+passes_one p xs x one =
+    (has_filtered p xs x (subst (λ l. Has l x) (sym one) (inl refl))).1
 
 -- what is shown of a request is valid with any due moment that is one
 with_moment : (p : Dated) (due : Option ℕ) → IsMinuteOrNull (or_null count_value due)

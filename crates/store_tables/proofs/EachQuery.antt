@@ -5,7 +5,8 @@ use Rattle.desk_model.specs.Links.{kind_number}
 use Rattle.desk_model.specs.declared.rows.LinkKind.{LinkKind}
 use Rattle.desk_model.specs.declared.rows.LinkRow.{LinkRow}
 use Rattle.store_tables.specs.Dated.{id_of}
-use Rattle.store_tables.specs.Queries.{before_test, dated_before_text, dated_numbered_text, dated_text, due_order}
+use Rattle.store_tables.specs.Queries.{before_test, dated_before_text, dated_numbered_text}
+use Rattle.store_tables.specs.Queries.{dated_text, due_order}
 use Rattle.store_tables.specs.Queries.{numbers_before_text, numbers_in_text}
 use Rattle.store_tables.specs.Queries.{actors_text, all_from_text, all_to_text, entries_of_text}
 use Rattle.store_tables.specs.Queries.{filed_test, id_order, link_like_text, links_from_test}
@@ -15,23 +16,28 @@ use Rattle.store_tables.specs.Queries.{queues_text, request_numbered_text, reque
 use Rattle.store_tables.specs.Queries.{requests_of_text, requests_text, role_order, source_test}
 use Rattle.store_tables.specs.Queries.{standing_order, target_order, target_test, three_order}
 use Rattle.store_tables.specs.Queries.{three_test, watchers_of_text, watchers_text}
-use Rattle.store_tables.specs.Queries.{watches_of_text}
-use Rattle.store_tables.specs.Selection.{has_number, is_due_before, number_of}
+use Rattle.store_tables.specs.Queries.{dated_of_text, numbers_text, stay_order, stays_of_text}
+use Rattle.store_tables.specs.Queries.{stays_text, watches_of_text}
+use Rattle.store_tables.specs.Selection.{has_number, is_dated_in, is_due_before, number_of}
 use Rattle.store_tables.specs.Selection.{ends_at, is_filed_in, is_link, is_named, is_numbered}
 use Rattle.store_tables.specs.Selection.{is_of_person, links_from, starts_at, tells_of, watches}
 use Rattle.store_tables.specs.Spelling.{count_value, link_columns}
-use Rattle.store_tables.proofs.EachTable.{actor_table, dated_table, entry_table, link_table, queue_table}
-use Rattle.store_tables.proofs.EachTable.{request_table, watcher_table}
+use Rattle.store_tables.specs.Stays.{is_of}
+use Rattle.store_tables.proofs.EachTable.{actor_table, dated_table, entry_table, link_table}
+use Rattle.store_tables.proofs.EachTable.{queue_table}
+use Rattle.store_tables.proofs.EachTable.{request_table, stay_table, watcher_table}
 use Rattle.store_tables.proofs.RowLemmas.{NumbersOn, QueryOn}
-use Rattle.store_tables.proofs.Statements.{dated_before_is, dated_is, dated_numbered_is, numbers_before_is}
+use Rattle.store_tables.proofs.Statements.{dated_before_is, dated_is, dated_numbered_is}
+use Rattle.store_tables.proofs.Statements.{numbers_before_is}
 use Rattle.store_tables.proofs.Statements.{numbers_in_is}
 use Rattle.store_tables.proofs.Statements.{actors_is, all_from_is, all_to_is, entries_of_is}
 use Rattle.store_tables.proofs.Statements.{link_like_is, links_from_is, links_is, queue_named_is}
 use Rattle.store_tables.proofs.Statements.{queues_is, request_numbered_is, requests_is}
 use Rattle.store_tables.proofs.Statements.{requests_of_is, watchers_is, watchers_of_is}
+use Rattle.store_tables.proofs.Statements.{dated_of_is, numbers_is, stays_is, stays_of_is}
 use Rattle.store_tables.proofs.Statements.{watches_of_is}
 use Rattle.store_tables.proofs.TestLemmas.{before, ends, filed_in, from_source, named, numbered}
-use Rattle.store_tables.proofs.TestLemmas.{of_person, starts, the_link, told, watched}
+use Rattle.store_tables.proofs.TestLemmas.{of_person, starts, stays_with, the_link, told, watched}
 
 abbrev pub all_queues : QueryOn queue_table
 all_queues = record {
@@ -117,6 +123,18 @@ dated_by_number id = record {
   tests = numbered id [];
 }
 
+abbrev pub dated_in_queue : (name : List ℕ) → QueryOn dated_table
+dated_in_queue name = record {
+  text = dated_of_text;
+  params = Words name ∷ [];
+  test = filed_test;
+  order = id_order;
+  names = _;
+  means = dated_of_is;
+  passing = is_dated_in name;
+  tests = filed_in name;
+}
+
 abbrev pub dated_due_before : (at : ℕ) → QueryOn dated_table
 dated_due_before at = record {
   text = dated_before_text;
@@ -127,6 +145,20 @@ dated_due_before at = record {
   means = dated_before_is;
   passing = is_due_before at;
   tests = before at;
+}
+
+abbrev pub all_numbers : NumbersOn request_table
+all_numbers = record {
+  text = numbers_text;
+  params = [];
+  test = [];
+  order = id_order;
+  names = _;
+  means = numbers_is;
+  number = number_of;
+  shown = λ k. refl;
+  passing = λ _. true;
+  tests = λ k. refl;
 }
 
 abbrev pub numbers_of_queue : (name : List ℕ) → NumbersOn request_table
@@ -275,4 +307,28 @@ all_actors = record {
   means = actors_is;
   passing = λ _. true;
   tests = λ k. refl;
+}
+
+abbrev pub all_stays : QueryOn stay_table
+all_stays = record {
+  text = stays_text;
+  params = [];
+  test = [];
+  order = stay_order;
+  names = _;
+  means = stays_is;
+  passing = λ _. true;
+  tests = λ k. refl;
+}
+
+abbrev pub stays_on : (id : ℕ) → QueryOn stay_table
+stays_on id = record {
+  text = stays_of_text;
+  params = count_value id ∷ [];
+  test = request_test;
+  order = number_order;
+  names = _;
+  means = stays_of_is;
+  passing = is_of id;
+  tests = stays_with id;
 }

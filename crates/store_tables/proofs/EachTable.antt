@@ -14,9 +14,9 @@ use Rattle.store_tables.specs.Kept.{filed, itself, value_of}
 use Rattle.store_tables.specs.Queries.{actor_shown, dated_shown_terms, entry_shown_terms}
 use Rattle.store_tables.specs.Queries.{queue_shown}
 use Rattle.store_tables.specs.Queries.{last_id_terms, last_number_terms, request_shown_terms}
-use Rattle.store_tables.specs.Queries.{three_shown}
+use Rattle.store_tables.specs.Queries.{stay_shown, three_shown}
 use Rattle.store_tables.specs.Reading.{IsDatedRow, IsEntryRow, IsLinkRow, IsNumberRow}
-use Rattle.store_tables.specs.Reading.{IsQueueRow, ReadsDated}
+use Rattle.store_tables.specs.Reading.{IsQueueRow, IsStayRow, ReadsDated}
 use Rattle.store_tables.specs.Reading.{IsRequestRow}
 use Rattle.store_tables.specs.Reading.{IsTextRow, IsWatcherRow, ReadsEntry, ReadsLink, ReadsQueue}
 use Rattle.store_tables.specs.Reading.{ReadsRequest, ReadsText, ReadsWatcher}
@@ -24,8 +24,10 @@ use Rattle.store_tables.specs.Selection.{actor_of, number_of, place_of}
 use Rattle.store_tables.specs.Spelling.{count_value, entry_columns, link_columns}
 use Rattle.store_tables.specs.Spelling.{queue_columns}
 use Rattle.store_tables.specs.Spelling.{request_shown, text_shown}
-use Rattle.store_tables.specs.Spelling.{watcher_columns}
-use Rattle.store_tables.proofs.BackLemmas.{dated_back, entry_back, link_back, queue_back, request_back}
+use Rattle.store_tables.specs.Spelling.{stay_columns, watcher_columns}
+use Rattle.store_tables.specs.Stays.{StayRow}
+use Rattle.store_tables.proofs.BackLemmas.{dated_back, entry_back, link_back, queue_back}
+use Rattle.store_tables.proofs.BackLemmas.{request_back}
 use Rattle.store_tables.proofs.BackLemmas.{same_count, text_back, watcher_back}
 use Rattle.store_tables.proofs.DatedLemmas.{rows_valid, undated}
 use Rattle.store_tables.proofs.KeptLemmas.{viewed}
@@ -202,4 +204,22 @@ place_table = record {
         wide = omega arith;
         number = ((values_of c t.values).entries e.0 e.1).number;
       });
+}
+
+-- the stays, of whose rows only parts are read
+abbrev pub stay_table : TableOf (ℤ × StayRow) StayRow
+stay_table = record {
+  tree = 10;
+  terms = stay_shown;
+  row = filed stay_columns;
+  value = value_of;
+  view = stay_columns;
+  list = λ c. c.stays;
+  Reads = λ row x. (a : StayRow) → row ≡ stay_columns a → x ≡ a;
+  IsValue = IsStayRow;
+  back = λ a b only. only a refl;
+  shown = λ params k. refl;
+  same = λ params r. refl;
+  kept = λ c db t. t.stays;
+  valid = λ c db t. (values_of c t.values).stays;
 }

@@ -6,6 +6,7 @@ pub mod DatedLemmas
 pub mod DueLemmas
 pub mod EachQuery
 pub mod EachTable
+pub mod FirstLemmas
 pub mod FoundLemmas
 pub mod KeptLemmas
 pub mod LastLemmas
@@ -17,6 +18,7 @@ pub mod RefusalLemmas
 pub mod RowLemmas
 pub mod Spared
 pub mod StandLemmas
+pub mod StayLemmas
 pub mod Statements
 pub mod StepLemmas
 pub mod TableLemmas

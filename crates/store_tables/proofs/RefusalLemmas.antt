@@ -5,12 +5,13 @@ use Rattle.store_tables.specs.Calls.{FailsIn, OnlyRefuses, WasClean}
 use Rattle.store_tables.specs.Mismatches.{MismatchesInActors, MismatchesInDated}
 use Rattle.store_tables.specs.Mismatches.{MismatchesInLinks, MismatchesInNumbers}
 use Rattle.store_tables.specs.Mismatches.{MismatchesInQueues, MismatchesInRequests}
-use Rattle.store_tables.specs.Mismatches.{MismatchesInWatchers}
+use Rattle.store_tables.specs.Mismatches.{MismatchesInStays, MismatchesInWatchers}
 use Rattle.store_tables.specs.Queries.{last_id_terms, last_number_terms}
 use Rattle.store_tables.specs.Reading.{IsNumberRow}
 use Rattle.store_tables.specs.declared.fault.StoreFault.{StoreFault}
-use Rattle.store_tables.proofs.EachTable.{actor_table, dated_table, id_table, link_table, place_table}
-use Rattle.store_tables.proofs.EachTable.{queue_table, request_table, watcher_table}
+use Rattle.store_tables.proofs.EachTable.{actor_table, dated_table, id_table, link_table}
+use Rattle.store_tables.proofs.EachTable.{place_table}
+use Rattle.store_tables.proofs.EachTable.{queue_table, request_table, stay_table, watcher_table}
 use Rattle.store_tables.proofs.RowLemmas.{refuses}
 
 module _ (old new : State) (clean : WasClean old new) {X : Type 0} (result : Result X StoreFault)
@@ -29,6 +30,9 @@ module _ (old new : State) (clean : WasClean old new) {X : Type 0} (result : Res
 
     pub watchers_refuse : MismatchesInWatchers old new result → OnlyRefuses old new result
     watchers_refuse = refuses watcher_table old new clean result
+
+    pub stays_refuse : MismatchesInStays old new result → OnlyRefuses old new result
+    stays_refuse = refuses stay_table old new clean result
 
     pub links_refuse : MismatchesInLinks old new result → OnlyRefuses old new result
     links_refuse = refuses link_table old new clean result

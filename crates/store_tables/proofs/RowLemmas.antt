@@ -15,7 +15,8 @@ use Rattle.sqlite_rules.proofs.ProbeLemmas.{has_mapped, mapped_has}
 use Rattle.store_tables.specs.Calls.{FailsIn, OnlyRefuses, ReadsRows, WasClean}
 use Rattle.store_tables.specs.Contents.{Contents}
 use Rattle.store_tables.specs.Kept.{Holds}
-use Rattle.store_tables.specs.Picked.{AreNumbersOf, AreOrdered, passes, shows, Shows}
+use Rattle.store_tables.specs.Picked.{AreNumbersOf, AreOrdered, AreParts, Lists, passes, shows}
+use Rattle.store_tables.specs.Picked.{Shows}
 use Rattle.store_tables.specs.Queries.{last_id_terms, reads}
 use Rattle.store_tables.specs.Reading.{IsNumberRow, ReadsCount}
 use Rattle.store_tables.specs.Spelling.{count_value}
@@ -27,9 +28,10 @@ use Rattle.store_tables.proofs.BackLemmas.{count_back}
 use Rattle.store_tables.proofs.LastLemmas.{has_permuted}
 use Rattle.store_tables.proofs.Meaning.{Selects}
 use Rattle.store_tables.proofs.PickedLemmas.{picked_by}
-use Rattle.store_tables.proofs.ReadLemmas.{all_read, all_shown, lists_values, one_read, shows_values}
+use Rattle.store_tables.proofs.ReadLemmas.{all_read, all_shown, lists_values, one_read}
+use Rattle.store_tables.proofs.ReadLemmas.{shows_values}
 use Rattle.store_tables.proofs.ReadingLemmas.{if_ok, table_rows}
-use Rattle.store_tables.proofs.StandLemmas.{shown_tables}
+use Rattle.store_tables.proofs.StandLemmas.{Holding, shown_tables, tables_shown}
 
 -- What was read of the rows of a query.
 pub rows_read : {X V : Type 0} (Reads : Row → V → Type 0) (IsValue : Row → Type 0)
@@ -68,6 +70,14 @@ pub record TableOf (K V : Type 0) : Type 1 where
   pub valid : (c : Contents) (db : Database) → Tables c db → (x : V) → Has (list c) x
       → IsValue (view x)
 
+-- the rows of a query are in the order of their values
+abbrev pub RanksBy : {K V : Type 0} → TableOf K V → List Term → List Term → List Term → Row
+    → (V → V → Ordering) → Type 0
+RanksBy {K} t test terms order params cmp =
+    (a b : K) → output_cmp (reads t.tree test terms order)
+    (output (reads t.tree test terms order) (params ∷ t.row a ∷ []))
+    (output (reads t.tree test terms order) (params ∷ t.row b ∷ [])) ≡ cmp (t.value a) (t.value b)
+
 -- A query on a table: its text, what is bound, which rows pass, and their order.
 pub record QueryOn {K V : Type 0} (t : TableOf K V) : Type 0 where
   pub text : List ℕ
@@ -101,6 +111,27 @@ refuses t old new clean (Err e) fails c stand now =
         subst t.IsValue (sym (ap (shows t.terms []) k.2 ∙ t.shown [] k.0))
         (t.valid c old.now tables (t.value k.0) (has_permuted (map t.value held.kept) (t.list c)
         (t.value k.0) held.same (mapped_has t.value held.kept k.0 k.1)))
+
+-- what was read of rows is a part of each value that they show
+parts_are : {V Y : Type 0} (view : V → Row) (part : V → Y) (Reads : Row → Y → Type 0)
+    → ((a : V) (b : Y) → Reads (view a) b → b ≡ part a) → (vs : List V) (ys : List Y)
+    → AllZip Reads (map view vs) ys → ys ≡ map part vs
+parts_are view part Reads back [] [] zip = refl
+parts_are view part Reads back [] (y ∷ ys) zip = absurd zip
+parts_are view part Reads back (v ∷ vs) [] zip = absurd zip
+parts_are view part Reads back (v ∷ vs) (y ∷ ys) zip =
+    ap₂ (λ z zs. z ∷ zs) (back v y zip.0) (parts_are view part Reads back vs ys zip.1)
+
+parts_of : {V Y : Type 0} (view : V → Row) (part : V → Y) (Reads : Row → Y → Type 0)
+    → ((a : V) (b : Y) → Reads (view a) b → b ≡ part a) → (cmp : V → V → Ordering) (xs : List V)
+    (rows : List Row) (ys : List Y) → Lists cmp view xs rows → AllZip Reads rows ys
+    → AreParts part cmp xs ys
+parts_of view part Reads back cmp xs rows ys lists zip = record {
+  values = lists.values;
+  ordered = lists.ordered;
+  are = parts_are view part Reads back lists.values ys
+      (subst (λ rs. AllZip Reads rs ys) lists.are zip);
+}
 
 -- what the rows show is what passes of the table
 passing_shown : {K V : Type 0} (t : TableOf K V) (q : QueryOn t) (old new : State)
@@ -155,21 +186,56 @@ module _ {K V X : Type 0} (t : TableOf K V) (q : QueryOn t) (values : X → List
             (λ x it. all_shown t.view t.Reads t.back (filter q.passing (t.list c)) it.0 (values x)
             (passing_shown t q old new clean c stand now it.0 it.1) it.2) (read.read now)
 
-        -- a list in an order is
-        pub reads_in_order : (cmp : V → V → Ordering) → ((a b : K)
-            → output_cmp (reads t.tree q.test t.terms q.order)
-            (output (reads t.tree q.test t.terms q.order) (q.params ∷ t.row a ∷ []))
-            (output (reads t.tree q.test t.terms q.order) (q.params ∷ t.row b ∷ []))
-            ≡ cmp (t.value a) (t.value b))
-            → IfOk result (λ x. AreOrdered cmp (filter q.passing (t.list c)) (values x))
-        reads_in_order cmp orders = if_ok result
-            (λ x it. all_read t.view t.Reads t.back cmp (filter q.passing (t.list c)) it.0 (values x)
-            (let tables = shown_tables c q.text q.params old new it.0 clean stand now it.1 in
-            lists_values t.row t.value t.view t.tree q.test t.terms q.order q.params (t.list c)
-            (old.now.trees t.tree) it.0 q.passing q.tests (t.shown q.params)
-            (t.kept c old.now tables)
-            (picked_by q.text q.params old new tables.schema t.tree q.test t.terms q.order q.means it.0
-            it.1) cmp orders) it.2) (read.read now)
+-- whatever part of a row is read
+pub parts_fail : {K V X Y : Type 0} (t : TableOf K V) (q : QueryOn t) (old new : State)
+    (clean : HasCleanDisk new → HasCleanDisk old) (Reads : Row → Y → Type 0) (values : X → List Y)
+    (r : Result X StoreFault)
+    → ReadsRows Reads t.IsValue values q.text q.params old new r
+    → FailsIn t.tree t.terms t.IsValue old new r
+parts_fail t q old new clean Reads values r h =
+    fails_of q.text q.params t.tree q.test t.terms q.order q.means (t.same q.params) Reads t.IsValue
+    values old new clean r h
+
+-- A list in an order is what passes of the table, in that order.
+module _ {K V : Type 0} (t : TableOf K V) (q : QueryOn t) (old new : State)
+    (clean : HasCleanDisk new → HasCleanDisk old) (cmp : V → V → Ordering)
+    (orders : RanksBy t q.test t.terms q.order q.params cmp)
+    (c : Contents) (holding : Holding c old) (now : HasCleanDisk new)
+  where
+    lists_shown : (rows : List Row) → Shown q.text q.params old new rows
+        → Lists cmp t.view (filter q.passing (t.list c)) rows
+    lists_shown rows h =
+        let tables = tables_shown c q.text q.params old new rows clean holding now h in
+        lists_values t.row t.value t.view t.tree q.test t.terms q.order q.params (t.list c)
+        (old.now.trees t.tree) rows q.passing q.tests (t.shown q.params) (t.kept c old.now tables)
+        (picked_by q.text q.params old new tables.schema t.tree q.test t.terms q.order q.means rows
+        h) cmp orders
+
+    pub holds_in_order : {X : Type 0} (values : X → List V) (result : Result X StoreFault)
+        → ReadsRows t.Reads t.IsValue values q.text q.params old new result
+        → IfOk result (λ x. AreOrdered cmp (filter q.passing (t.list c)) (values x))
+    holds_in_order values result read = if_ok result
+        (λ x it. all_read t.view t.Reads t.back cmp (filter q.passing (t.list c)) it.0 (values x)
+        (lists_shown it.0 it.1) it.2) (read.read now)
+
+    -- and so is a part of each
+    pub parts_in_order : {X Y : Type 0} (part : V → Y) (Reads : Row → Y → Type 0)
+        → ((a : V) (b : Y) → Reads (t.view a) b → b ≡ part a) → (values : X → List Y)
+        → (result : Result X StoreFault)
+        → ReadsRows Reads t.IsValue values q.text q.params old new result
+        → IfOk result (λ x. AreParts part cmp (filter q.passing (t.list c)) (values x))
+    parts_in_order part Reads back values result read = if_ok result
+        (λ x it. parts_of t.view part Reads back cmp (filter q.passing (t.list c)) it.0 (values x)
+        (lists_shown it.0 it.1) it.2) (read.read now)
+
+pub reads_in_order : {K V X : Type 0} (t : TableOf K V) (q : QueryOn t) (values : X → List V)
+    (old new : State) (clean : HasCleanDisk new → HasCleanDisk old) (result : Result X StoreFault)
+    → ReadsRows t.Reads t.IsValue values q.text q.params old new result → (c : Contents)
+    → Stand c old → HasCleanDisk new → (cmp : V → V → Ordering)
+    → RanksBy t q.test t.terms q.order q.params cmp
+    → IfOk result (λ x. AreOrdered cmp (filter q.passing (t.list c)) (values x))
+reads_in_order t q values old new clean result read c stand now cmp orders =
+    holds_in_order t q old new clean cmp orders c (λ d o. (stand d o).0) now values result read
 
 -- the one value, or none, is
 pub reads_one : {K V : Type 0} (t : TableOf K V) (q : QueryOn t) (old new : State)
@@ -194,15 +260,6 @@ pub record NumbersOn {K V : Type 0} (t : TableOf K V) : Type 0 where
   pub passing : V → Bool
   pub tests : (k : K) → passes test params (t.row k) ≡ passing (t.value k)
 
--- what was read of such rows is the numbers of what they show
-numbers_are : {V : Type 0} (number : V → ℕ) (vs : List V) (ns : List ℕ)
-    → AllZip ReadsCount (map (λ v. count_value (number v) ∷ []) vs) ns → ns ≡ map number vs
-numbers_are number [] [] zip = refl
-numbers_are number [] (n ∷ ns) zip = absurd zip
-numbers_are number (v ∷ vs) [] zip = absurd zip
-numbers_are number (v ∷ vs) (n ∷ ns) zip =
-    ap₂ (λ m ms. m ∷ ms) (count_back (number v) n zip.0) (numbers_are number vs ns zip.1)
-
 module _ {K V X : Type 0} (t : TableOf K V) (q : NumbersOn t) (values : X → List ℕ)
     (old new : State) (clean : HasCleanDisk new → HasCleanDisk old)
   where
@@ -213,25 +270,25 @@ module _ {K V X : Type 0} (t : TableOf K V) (q : NumbersOn t) (values : X → Li
         (λ r. refl) ReadsCount IsNumberRow values old new clean
 
     -- the numbers of what passes of the table, in an order
+    pub holds_numbers : (r : Result X StoreFault)
+        → ReadsRows ReadsCount IsNumberRow values q.text q.params old new r
+        → (c : Contents) → Holding c old → HasCleanDisk new → (cmp : V → V → Ordering)
+        → RanksBy t q.test last_id_terms q.order q.params cmp
+        → IfOk r (λ x. AreNumbersOf q.number cmp (filter q.passing (t.list c)) (values x))
+    holds_numbers r read c holding now cmp orders = if_ok r
+        (λ x it.
+        let tables = tables_shown c q.text q.params old new it.0 clean holding now it.1 in
+        let view = λ (v : V). count_value (q.number v) ∷ [] in
+        parts_of view q.number ReadsCount (λ v n. count_back (q.number v) n) cmp
+        (filter q.passing (t.list c)) it.0 (values x)
+        (lists_values t.row t.value view t.tree q.test last_id_terms q.order q.params (t.list c)
+        (old.now.trees t.tree) it.0 q.passing q.tests q.shown (t.kept c old.now tables)
+        (picked_by q.text q.params old new tables.schema t.tree q.test last_id_terms q.order q.means
+        it.0 it.1) cmp orders) it.2) (read.read now)
+
     pub numbers_in_order : (r : Result X StoreFault)
         → ReadsRows ReadsCount IsNumberRow values q.text q.params old new r
-        → (c : Contents) → Stand c old → HasCleanDisk new → (cmp : V → V → Ordering) → ((a b : K)
-        → output_cmp (reads t.tree q.test last_id_terms q.order)
-        (output (reads t.tree q.test last_id_terms q.order) (q.params ∷ t.row a ∷ []))
-        (output (reads t.tree q.test last_id_terms q.order) (q.params ∷ t.row b ∷ []))
-        ≡ cmp (t.value a) (t.value b))
+        → (c : Contents) → Stand c old → HasCleanDisk new → (cmp : V → V → Ordering)
+        → RanksBy t q.test last_id_terms q.order q.params cmp
         → IfOk r (λ x. AreNumbersOf q.number cmp (filter q.passing (t.list c)) (values x))
-    numbers_in_order r read c stand now cmp orders = if_ok r
-        (λ x it.
-        let tables = shown_tables c q.text q.params old new it.0 clean stand now it.1 in
-        let lists = lists_values t.row t.value (λ v. count_value (q.number v) ∷ []) t.tree q.test
-        last_id_terms q.order q.params (t.list c) (old.now.trees t.tree) it.0 q.passing q.tests
-        q.shown (t.kept c old.now tables)
-        (picked_by q.text q.params old new tables.schema t.tree q.test last_id_terms q.order q.means
-        it.0 it.1) cmp orders in
-        record {
-          values = lists.values;
-          ordered = lists.ordered;
-          are = numbers_are q.number lists.values (values x)
-              (subst (λ rs. AllZip ReadsCount rs (values x)) lists.are it.2);
-        }) (read.read now)
+    numbers_in_order r read c stand = holds_numbers r read c (λ d o. (stand d o).0)

@@ -20,12 +20,16 @@ use Rattle.sqlite.specs.Held.{Held, state}
 use Rattle.std.proofs.Common.{OnOk, OnErr, [], ◌∷◌, ◌++◌, ◌+◌, ◌<◌, length, take, get_or}
 use Rattle.std.proofs.lemmas.List.{take_more}
 use Rattle.std.specs.Prelude.{fold}
+use Rattle.store_tables.specs.Calls.{Looks}
 use Rattle.store_tables.specs.Contents.{Contents}
+use Rattle.store_tables.specs.declared.fault.StoreFault.TheVariants.{Refused}
 use Rattle.store_tables.specs.Making.{AreEmpty, WasBlank, IsBlank, Made}
 use Rattle.store_tables.specs.Stands.{HasTables}
 use Rattle.sqlite.specs.Schema.{Schema}
 use Rattle.store_tables.specs.Tables.{desk_schema, no_schema}
-use Rattle.store_tables.specs.Stands.{Tables, Stand, Within, Rests, KeepsBase, Ran}
+use Rattle.store_tables.specs.Stands.{Tables, Stand, HoldsNow, Within, Rests, GoesBack, KeepsBase}
+use Rattle.store_tables.specs.Stands.{Ran}
+use Rattle.store_tables.specs.Stands.{FirstHoldsNow, FirstStand, FirstTables}
 
 pub never_both : (r : Result Compiled CompileError) (c : Compiled) → IsPlain r → r ≡ Ok c
     → c.returning ≡ None
@@ -48,14 +52,24 @@ pub was_clean : (old new : State) (P : Trees → Type 0) → Survives old new P 
     → HasCleanDisk old
 was_clean old new P s c = omega (arith, s.clean)
 
+-- the tables hold this, whatever the last commit left
+abbrev pub Holding : Contents → State → Type 0
+Holding c s = HasCleanDisk s → IsTrue s.is_open → Tables c s.now
+
 -- a query that showed rows ran on the tables
+pub tables_shown : (d : Contents) (sql : List ℕ) (params : Row) (old new : State) (rows : List Row)
+    → (HasCleanDisk new → HasCleanDisk old) → Holding d old → HasCleanDisk new
+    → Shown sql params old new rows → Tables d old.now
+unfolding Shown
+tables_shown d sql params old new rows clean holding c h =
+    holding (clean c) (shown_was_open old new sql h.0 (timed params h.0.formats h.1.now) rows
+    h.0.returning h.2)
+
 pub shown_tables : (d : Contents) (sql : List ℕ) (params : Row) (old new : State) (rows : List Row)
     → (HasCleanDisk new → HasCleanDisk old) → Stand d old → HasCleanDisk new
     → Shown sql params old new rows → Tables d old.now
-unfolding Shown
-shown_tables d sql params old new rows clean stand c h =
-    (stand (clean c) (shown_was_open old new sql h.0 (timed params h.0.formats h.1.now) rows
-    h.0.returning h.2)).0
+shown_tables d sql params old new rows clean stand =
+    tables_shown d sql params old new rows clean (λ c o. (stand c o).0)
 
 -- ---- in a transaction
 
@@ -84,31 +98,75 @@ pub kept_rests : (d : Contents) (old new : State) → KeepsBase old new → Rest
 kept_rests d old new keeps rests c o = let it = keeps c o in
     subst (Tables d) (sym it.2) (rests it.0 it.1)
 
-pub committed_stands : (now was : Contents) (old new : State)
+pub committed_stands : (now : Contents) (old new : State)
     → (HasCleanDisk new → HasCleanDisk old) → (HasCleanDisk new
-    → Shows old new old.now old.now false) → Within now was old → Stand now new
-committed_stands now was old new clean shows within c o =
-    let it = shows c in let before = within (clean c) it.was_open in
+    → Shows old new old.now old.now false) → HoldsNow now old → Stand now new
+committed_stands now old new clean shows holds c o =
+    let it = shows c in let before = holds (clean c) it.was_open in
     (subst (Tables now) (sym it.now_is) before.0, subst (Tables now) (sym it.committed_is) before.0)
+
+-- what is undone is as the last commit left it
+pub undone_back : (old new : State) → (HasCleanDisk new → HasCleanDisk old)
+    → (HasCleanDisk new → IsRolledBack old new) → GoesBack old new
+undone_back old new clean undone c o =
+    let it = undone c in (clean c, it.was_open o, (it.undone o).0, (it.undone o).1)
+
+pub uncommitted_back : (now : Contents) (old new : State) (e : Error)
+    → (HasCleanDisk new → HasCleanDisk old) → (HasCleanDisk new → FailsToCommit old new e)
+    → HoldsNow now old → GoesBack old new
+uncommitted_back now old new e clean fails holds c o = elim (fails c) [
+  | inl failed ↦ undone_back old new clean (λ _. failed.3) c o
+  | inr late ↦ absurd (let before = holds (clean c) late.2.0.was_open in let e : true ≡ false =
+      sym before.1 ∙ late.1 in cc)
+]
+
+-- and so is what was done before, while the last commit stayed
+pub back_on : (a b end : State) → KeepsBase a b → GoesBack b end → GoesBack a end
+back_on a b end keeps back c o =
+    let it = back c o in
+    let base = keeps it.0 it.1 in
+    (base.0, base.1, it.2 ∙ base.2, it.3 ∙ base.2)
+
+-- what the last commit left stands again
+pub back_stands : (d : Contents) (old new : State) → Rests d old → GoesBack old new → Stand d new
+back_stands d old new rests back c o =
+    let it = back c o in
+    let was = rests it.0 it.1 in
+    (subst (Tables d) (sym it.2) was, subst (Tables d) (sym it.3) was)
+
+-- six tables too
+pub back_first : (d : Contents) (old new : State)
+    → (HasCleanDisk old → IsTrue old.is_open → FirstTables d old.committed) → GoesBack old new
+    → FirstStand d new
+back_first d old new rests back c o =
+    let it = back c o in
+    let was = rests it.0 it.1 in
+    (subst (FirstTables d) (sym it.2) was, subst (FirstTables d) (sym it.3) was)
+
+-- the two parts of what holds in a transaction
+pub held : (now was : Contents) (s : State) → Within now was s → HoldsNow now s
+held now was s within c o = let it = within c o in (it.0, it.2)
+
+pub rested : (now was : Contents) (s : State) → Within now was s → Rests was s
+rested now was s within c o = (within c o).1
 
 pub uncommitted_stands : (now was : Contents) (old new : State) (e : Error)
     → (HasCleanDisk new → HasCleanDisk old) → (HasCleanDisk new → FailsToCommit old new e)
     → Within now was old → Stand was new
-uncommitted_stands now was old new e clean fails within c o = elim (fails c) [
-  | inl failed ↦
-      let undone = failed.3 in let before = within (clean c) (undone.was_open o) in (
-        subst (Tables was) (sym (undone.undone o).0) before.1,
-        subst (Tables was)
-            (sym (undone.undone o).1) before.1,
-      )
-  | inr late ↦ absurd (let before = within (clean c) late.2.0.was_open in let e : true ≡ false =
-      sym before.2 ∙ late.1 in cc)
-]
+uncommitted_stands now was old new e clean fails within =
+    back_stands was old new (rested now was old within)
+    (uncommitted_back now old new e clean fails (held now was old within))
 
 pub begins : {S : Type 0} (g : Ghosts S) (old tx : Held S) (d : Contents)
     → tx ≡ record old { in_transaction = true } → Stand d (state g old) → Within d d (state g tx)
 begins g old tx d is stand = subst (λ h. Within d d (state g h)) (sym is) (λ c o. let t =
     stand c o in (t.0, t.1, refl))
+
+pub begins_first : {S : Type 0} (g : Ghosts S) (old tx : Held S) (d : Contents)
+    → tx ≡ record old { in_transaction = true } → FirstStand d (state g old)
+    → FirstHoldsNow d (state g tx)
+begins_first g old tx d is stand = subst (λ h. FirstHoldsNow d (state g h)) (sym is) (λ c o.
+    ((stand c o).0, refl))
 
 fold_last : {A X : Type 0} (f : A → X → A) (a : A) (xs : List X) (x : X)
     → fold f a (xs ++ x ∷ []) ≡ f (fold f a xs) x
@@ -136,15 +194,10 @@ shown_same sql params old new rows plain has h =
     let none = never_both _ h.0 plain (subst (λ s. understood s sql ≡ Ok h.0) has h.1.is) in
     (subst (ShowsRows old new sql h.0 (timed params h.0.formats h.1.now) rows) none h.2).3
 
-pub same_within : (now was : Contents) (old new : State) → IsUnchanged old new → Tables now old.now
-    × Tables was old.committed × (old.in_transaction ≡ true) → Tables now new.now
-    × Tables was new.committed × (new.in_transaction ≡ true)
-same_within now was old new same b = (
-  subst (Tables now) (sym same.0.now_is) b.0,
-  subst (Tables was)
-      (sym same.0.committed_is) b.1,
-  same.0.mode ∙ b.2,
-)
+pub same_holds : (c : Contents) (old new : State) → IsUnchanged old new
+    → Tables c old.now × (old.in_transaction ≡ true)
+    → Tables c new.now × (new.in_transaction ≡ true)
+same_holds c old new same b = (subst (Tables c) (sym same.0.now_is) b.0, same.0.mode ∙ b.1)
 
 pub same_made : (schema : Schema) (old new : State) → IsUnchanged old new
     → (old.now.schema ≡ schema) × AreEmpty schema old.now.trees × (old.in_transaction ≡ true)
@@ -198,17 +251,40 @@ shown_keeps sql params old new rows plain clean has shown c o =
     let h = shown c in same_keeps old new clean (shown_same sql params old new rows plain
     (has (clean c) (shown_open sql params old new rows h)) h) c o
 
+-- so a query in a transaction leaves what the tables hold, and the last commit
+module _ (sql : List ℕ) (params : Row) (old new : State)
+    (plain : IsPlain (understood desk_schema sql)) (clean : HasCleanDisk new → HasCleanDisk old)
+  where
+    pub shown_looks : {X : Type 0} (x : X) (rows : List Row)
+        → (HasCleanDisk new → Shown sql params old new rows)
+        → Looks {X = X} old new (Ok x)
+    shown_looks x rows shown = record {
+      makes = λ c holds d o.
+          let h = shown d in
+          let before = holds (clean d) (shown_open sql params old new rows h) in
+          same_holds c old new (shown_same sql params old new rows plain before.0.schema h) before;
+      keeps = λ has. shown_keeps sql params old new rows plain clean has shown;
+      clean = clean;
+    }
+
+    pub failed_looks : {X : Type 0} (e : Error)
+        → (HasCleanDisk new → FailsToQuery sql params old new e ⊎ IsTooLate sql params old new e)
+        → Looks {X = X} old new (Err Refused)
+    failed_looks e fails = record {
+      makes = λ c holds. tt;
+      keeps = λ has. failed_keeps sql params old new e plain clean has fails;
+      clean = clean;
+    }
+
 -- a transaction that is dropped leaves what stood before it
 pub dropped_stands : (d : Contents) (a b end : State) → Within d d a → KeepsBase a b
     → (HasCleanDisk end → HasCleanDisk b) → (HasCleanDisk end → IsRolledBack b end) → Stand d end
-dropped_stands d a b end within keeps clean undone c o =
-    let back = undone c in
-    let base = keeps (clean c) (back.was_open o) in
-    let was : Tables d b.committed = subst (Tables d) (sym base.2) (within base.0 base.1).1 in
-    (subst (Tables d) (sym (back.undone o).0) was, subst (Tables d) (sym (back.undone o).1) was)
+dropped_stands d a b end within keeps clean undone =
+    back_stands d a end (rested d d a within) (back_on a b end keeps
+    (undone_back b end clean undone))
 
-pub desk_is_there : (now was : Contents) (s : State) → Within now was s → HasTables s
-desk_is_there now was s within c o = (within c o).0.schema
+pub desk_is_there : (c : Contents) (s : State) → HoldsNow c s → HasTables s
+desk_is_there c s holds clean live = (holds clean live).0.schema
 
 pub begins_blank : {S : Type 0} (g : Ghosts S) (old tx : Held S)
     → tx ≡ record old { in_transaction = true } → IsBlank (state g old) → WasBlank (state g tx)
@@ -227,12 +303,19 @@ begins_made g old tx is blank = subst (λ h. Made no_schema (state g h)) (sym is
 pub made_is_there : (s : State) → Made desk_schema s → HasTables s
 made_is_there s made c o = (made c o).0
 
--- a statement that makes one desk of another, in a transaction over a third
-pub steps : (sql : List ℕ) (params : Row) (old new : State) (count : ℕ) (now next was : Contents)
+-- a statement that makes one desk of another
+pub steps : (sql : List ℕ) (params : Row) (old new : State) (count : ℕ) (now next : Contents)
     → (HasCleanDisk new → Ran sql params old new count) → (HasCleanDisk new → HasCleanDisk old)
     → (Tables now old.now → Executes sql params old new (Ok count) → Tables next new.now)
-    → Within now was old → Within next was new
-steps sql params old new count now next was ran clean makes stand c o =
+    → HoldsNow now old → HoldsNow next new
+steps sql params old new count now next ran clean makes holds c o =
     let it = ran c in
-    let before = stand (clean c) it.shown.was_open in
-    (makes before.0 it.runs, subst (Tables was) (sym it.shown.committed_is) before.1, it.shown.mode)
+    let before = holds (clean c) it.shown.was_open in
+    (makes before.0 it.runs, it.shown.mode)
+
+-- while the last commit stays, it goes on beside what the tables come to hold
+pub within_next : (now next was : Contents) (old new : State) → KeepsBase old new
+    → Within now was old → HoldsNow next new → Within next was new
+within_next now next was old new keeps within holds c o =
+    let it = holds c o in
+    (it.0, kept_rests was old new keeps (rested now was old within) c o, it.1)

@@ -26,8 +26,13 @@ use Rattle.store_tables.specs.Queries.{filed_test, requests_of_text}
 use Rattle.store_tables.specs.Queries.{person_test, standing_order, watches_of_text}
 use Rattle.store_tables.specs.Queries.{version_query, version_text, watchers_of_text, watchers_text}
 use Rattle.store_tables.specs.Queries.{before_test, dated_before_text, dated_numbered_text}
-use Rattle.store_tables.specs.Queries.{dated_shown_terms, dated_text, due_order, last_id_terms, numbers_before_text}
+use Rattle.store_tables.specs.Queries.{dated_shown_terms, dated_text, due_order, last_id_terms}
+use Rattle.store_tables.specs.Queries.{numbers_before_text}
 use Rattle.store_tables.specs.Queries.{numbers_in_text, set_due_terms, set_due_text}
+use Rattle.store_tables.specs.Queries.{add_stay_terms, add_stay_text, dated_of_text, end_stay_terms}
+use Rattle.store_tables.specs.Queries.{end_stay_text, numbers_text, set_version_terms}
+use Rattle.store_tables.specs.Queries.{set_version_text, stay_order, stay_shown, stay_test}
+use Rattle.store_tables.specs.Queries.{stays_of_text, stays_text}
 use Rattle.sqlite.specs.Listing.{understood}
 use Rattle.store_tables.proofs.Meaning.{Changes, Selects}
 
@@ -196,3 +201,37 @@ pub set_due_is : Changes set_due_text (Update 2
     (record { lets = []; body = reads 3 numbered_test set_due_terms [] }))
 unfolding understood everything
 set_due_is = record { is = refl; plain = (refl, refl) }
+
+pub set_version_is : Changes set_version_text (Update 0
+    (record { lets = []; body = reads 0 [] set_version_terms [] }))
+unfolding understood everything
+set_version_is = record { is = refl; plain = (refl, refl) }
+
+pub numbers_is : Selects numbers_text (reads 3 [] last_id_terms id_order) (codes "id" ∷ [])
+unfolding understood everything
+numbers_is = record { is = refl; plain = (refl, refl); unlisted = refl }
+
+pub dated_of_is : Selects dated_of_text (reads 3 filed_test dated_shown_terms id_order) dated_names
+unfolding understood everything
+dated_of_is = record { is = refl; plain = (refl, refl); unlisted = refl }
+
+abbrev stay_names : List (List ℕ)
+stay_names =
+    codes "request" ∷ codes "number" ∷ codes "status" ∷ codes "begun" ∷ codes "ended" ∷ []
+
+pub stays_is : Selects stays_text (reads 10 [] stay_shown stay_order) stay_names
+unfolding understood everything
+stays_is = record { is = refl; plain = (refl, refl); unlisted = refl }
+
+pub stays_of_is : Selects stays_of_text (reads 10 request_test stay_shown number_order) stay_names
+unfolding understood everything
+stays_of_is = record { is = refl; plain = (refl, refl); unlisted = refl }
+
+pub add_stay_is : Changes add_stay_text (Insert 6 (Values add_stay_terms 6))
+unfolding understood everything
+add_stay_is = record { is = refl; plain = (refl, refl) }
+
+pub end_stay_is : Changes end_stay_text (Update 6
+    (record { lets = []; body = reads 10 stay_test end_stay_terms [] }))
+unfolding understood everything
+end_stay_is = record { is = refl; plain = (refl, refl) }

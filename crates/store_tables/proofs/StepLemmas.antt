@@ -4,20 +4,21 @@ use Rattle.std.proofs.Common.{ap, fold, get_or, length, refl, subst, sym, take}
 use Rattle.std.proofs.lemmas.List.{take_all}
 use Rattle.sqlite.specs.Order.{Row}
 use Rattle.sqlite.specs.State.{State, HasCleanDisk, Executes}
-use Rattle.store_tables.specs.Calls.{Does, WasClean}
+use Rattle.store_tables.specs.Calls.{Does, Looks, Makes, WasClean}
 use Rattle.store_tables.specs.Contents.{Contents}
-use Rattle.store_tables.specs.Stands.{KeepsBase, Ran, RanOnAny, Tables, Within}
+use Rattle.store_tables.specs.Stands.{HasTables, HoldsNow, KeepsBase, Ran, RanOnAny, Tables}
+use Rattle.store_tables.specs.Stands.{Within}
 use Rattle.store_tables.specs.declared.fault.StoreFault.{StoreFault}
-use Rattle.store_tables.proofs.StandLemmas.{fold_more, steps}
+use Rattle.store_tables.proofs.StandLemmas.{fold_more, held, steps, within_next}
 
 if_done : {X E : Type 0} (r : Result X E) (sql : List ℕ) (params : Row) (old new : State)
-    (now next was : Contents) → (HasCleanDisk new → IfOk r (λ done. Ran sql params old new 1))
+    (now next : Contents) → (HasCleanDisk new → IfOk r (λ done. Ran sql params old new 1))
     → (HasCleanDisk new → HasCleanDisk old)
     → (Tables now old.now → Executes sql params old new (Ok 1) → Tables next new.now)
-    → Within now was old → OnOk r (Within next was new)
-if_done (Ok x) sql params old new now next was ran clean makes within =
-    steps sql params old new 1 now next was ran clean makes within
-if_done (Err e) sql params old new now next was ran clean makes within = tt
+    → HoldsNow now old → OnOk r (HoldsNow next new)
+if_done (Ok x) sql params old new now next ran clean makes holds =
+    steps sql params old new 1 now next ran clean makes holds
+if_done (Err e) sql params old new now next ran clean makes holds = tt
 
 -- a statement that changed one row
 pub does_one : {X : Type 0} (r : Result X StoreFault) (sql : List ℕ) (params : Row)
@@ -28,7 +29,7 @@ pub does_one : {X : Type 0} (r : Result X StoreFault) (sql : List ℕ) (params :
     → Tables (change now) new.now)
     → Does change old new r
 does_one r sql params old new change ran clean keeps makes = record {
-  makes = λ now was. if_done r sql params old new now (change now) was ran clean (makes now);
+  makes = λ now. if_done r sql params old new now (change now) ran clean (makes now);
   keeps = keeps;
   clean = clean;
 }
@@ -42,18 +43,15 @@ pub does_any : {X : Type 0} (r : Result X StoreFault) (sql : List ℕ) (params :
     → Executes sql params old new (Ok count) → Tables (change now) new.now)
     → Does change old new r
 does_any (Ok x) sql params old new change ran clean keeps makes = record {
-  makes = λ now was within c o.
+  makes = λ now holds c o.
       let it = ran c in
-      let before = within (clean c) it.2.shown.was_open in (
-        makes now it.0 it.1 before.0 it.2.runs,
-        subst (Tables was) (sym it.2.shown.committed_is) before.1,
-        it.2.shown.mode,
-      );
+      let before = holds (clean c) it.2.shown.was_open in
+      (makes now it.0 it.1 before.0 it.2.runs, it.2.shown.mode);
   keeps = keeps;
   clean = clean;
 }
 does_any (Err e) sql params old new change ran clean keeps makes = record {
-  makes = λ now was within. tt;
+  makes = λ now holds. tt;
   keeps = keeps;
   clean = clean;
 }
@@ -61,10 +59,32 @@ does_any (Err e) sql params old new change ran clean keeps makes = record {
 -- no statement
 pub does_none : {X : Type 0} (x : X) (s : State) → Does (λ c. c) s s (Ok x)
 does_none x s = record {
-  makes = λ now was within. within;
+  makes = λ now holds. holds;
   keeps = λ clean live. (clean, live, refl);
   clean = λ clean. clean;
 }
+
+-- a query, over tables that are there
+pub does_look : {X : Type 0} (r : Result X StoreFault) (old new : State) → HasTables old
+    → Looks old new r → Does (λ c. c) old new r
+does_look r old new has looks = record {
+  makes = looks.makes;
+  keeps = looks.keeps has;
+  clean = looks.clean;
+}
+
+-- the last commit beside what is made
+pub makes_within : {X : Type 0} (r : Result X StoreFault) (change : Contents → Contents)
+    (old new : State) → Makes change old new r → KeepsBase old new
+    → (now was : Contents) → Within now was old → OnOk r (Within (change now) was new)
+makes_within (Ok x) change old new makes keeps now was within =
+    within_next now (change now) was old new keeps within (makes now (held now was old within))
+makes_within (Err e) change old new makes keeps now was within = tt
+
+pub does_within : {X : Type 0} (r : Result X StoreFault) (change : Contents → Contents)
+    (old new : State) → Does change old new r
+    → (now was : Contents) → Within now was old → OnOk r (Within (change now) was new)
+does_within r change old new did = makes_within r change old new did.makes did.keeps
 
 kept_on : (a b c : State) → KeepsBase a b → KeepsBase b c → KeepsBase a c
 kept_on a b c first second clean live =
@@ -79,16 +99,17 @@ module _ {X Y : Type 0} (first second : Contents → Contents) (a b c : State) (
     pub does_both : (r : Result Y StoreFault) → Does second b c r
         → Does (λ (d : Contents). second (first d)) a c r
     does_both r next = record {
-      makes = λ now was within. next.makes (first now) was (did.makes now was within);
+      makes = λ now holds. next.makes (first now) (did.makes now holds);
       keeps = kept_on a b c did.keeps next.keeps;
       clean = λ clean. did.clean (next.clean clean);
     }
 
     -- and the last one is refused
-    pub does_not : (e : StoreFault) → Does {X = Y} second b c (Err e) → (whole : Contents → Contents)
+    pub does_not : (e : StoreFault) → Does {X = Y} second b c (Err e)
+        → (whole : Contents → Contents)
         → {Z : Type 0} → Does {X = Z} whole a c (Err e)
     does_not e next whole = record {
-      makes = λ now was within. tt;
+      makes = λ now holds. tt;
       keeps = kept_on a b c did.keeps next.keeps;
       clean = λ clean. did.clean (next.clean clean);
     }
@@ -97,7 +118,7 @@ module _ {X Y : Type 0} (first second : Contents → Contents) (a b c : State) (
 pub does_fail : {X Y : Type 0} (first whole : Contents → Contents) (a b : State) (e : StoreFault)
     → Does {X = X} first a b (Err e) → Does {X = Y} whole a b (Err e)
 does_fail first whole a b e did = record {
-  makes = λ now was within. tt;
+  makes = λ now holds. tt;
   keeps = did.keeps;
   clean = did.clean;
 }
@@ -109,8 +130,8 @@ module _ {X Y : Type 0} (done : Y) (f : Contents → X → Contents) (xs : List 
         → Does (λ d. fold f d (take i xs)) a b (Ok done) → Does (λ d. f d x) b c (Ok done)
         → Does (λ d. fold f d (take (i + 1) xs)) a c (Ok done)
     does_more c x low is did next = record {
-      makes = λ now was within. subst (λ d. Within d was c) (sym (fold_more f now xs i x low is))
-          (next.makes (fold f now (take i xs)) was (did.makes now was within));
+      makes = λ now holds. subst (λ d. HoldsNow d c) (sym (fold_more f now xs i x low is))
+          (next.makes (fold f now (take i xs)) (did.makes now holds));
       keeps = kept_on a b c did.keeps next.keeps;
       clean = λ clean. did.clean (next.clean clean);
     }
@@ -119,8 +140,8 @@ module _ {X Y : Type 0} (done : Y) (f : Contents → X → Contents) (xs : List 
     pub does_all : length xs ≤ i → Does (λ d. fold f d (take i xs)) a b (Ok done)
         → Does (λ d. fold f d xs) a b (Ok done)
     does_all high did = record {
-      makes = λ now was within. subst (λ d. Within d was b) (ap (fold f now) (take_all i xs high))
-          (did.makes now was within);
+      makes = λ now holds. subst (λ d. HoldsNow d b) (ap (fold f now) (take_all i xs high))
+          (did.makes now holds);
       keeps = did.keeps;
       clean = did.clean;
     }

@@ -1,7 +1,7 @@
 -- What each INSERT, UPDATE and DELETE makes of the desk that the tables stand for.
 use Rattle.std.proofs.Common.{◌≡◌, inl, inr, Bool, filter, true, arith, drop, ℕ, pos, List, [], ◌∷◌}
 use Rattle.std.proofs.Common.{Ok, refl, sym, map, None, Option, Some, zero, suc, ◌<◌}
-use Rattle.std.proofs.Common.{ap, subst, ◌∙◌}
+use Rattle.std.proofs.Common.{ap, subst, ◌∙◌, not, IsPermutation}
 use Rattle.std.specs.Prelude.{◌==◌}
 use Rattle.std.proofs.lemmas.Bool.Decides.{nat_tests}
 use Rattle.sqlite_rules.specs.Lists.{Has}
@@ -37,14 +37,15 @@ use Rattle.store_tables.specs.Selection.{has_number, is_watcher, is_link}
 use Rattle.store_tables.specs.Contents.{Contents, add_queue, add_request, set_request, add_watcher}
 use Rattle.store_tables.specs.Contents.{drop_watcher, add_link, drop_link, add_entry, set_due}
 use Rattle.store_tables.specs.Stands.{Tables}
-use Rattle.store_tables.specs.Spelling.{queue_columns}
+use Rattle.store_tables.specs.Spelling.{queue_columns, stay_columns}
 use Rattle.store_tables.specs.Spelling.{watcher_columns, link_columns, entry_columns, count_value}
 use Rattle.store_tables.specs.Spelling.{turn_number, role_number, entry_kind_number}
 use Rattle.desk_model.specs.Links.{kind_number}
 use Rattle.store_tables.proofs.Statements.{add_entry_is, add_link_is, add_queue_is, add_request_is}
 use Rattle.store_tables.proofs.Statements.{add_watcher_is, drop_link_is, drop_watcher_is}
 use Rattle.store_tables.proofs.Statements.{set_due_is, set_request_is}
-use Rattle.store_tables.proofs.DueLemmas.{AreEach, each_moved, moved, none_moved, one_moved}
+use Rattle.store_tables.proofs.DueLemmas.{AreEach, each_moved, goes, moved, none_moved, one_moved}
+use Rattle.store_tables.proofs.DueLemmas.{passes_one, stays}
 use Rattle.store_tables.proofs.KeptLemmas.{inserted, removed, replaced, one_kept, reordered}
 use Rattle.store_tables.proofs.TestLemmas.{numbered, the_watcher, the_link}
 use Rattle.store_tables.proofs.LastLemmas.{none_held, one_held}
@@ -53,12 +54,12 @@ use Rattle.store_tables.proofs.ChangeLemmas.{cast_text, misses}
 use Rattle.store_tables.proofs.ValueLemmas.{are_values, values_of}
 use Rattle.store_tables.proofs.WriteLemmas.{inserting}
 
-also : {X : Type 0} (P : X → Type 0) (x : X) (xs : List X) → P x → AreEach P xs
+pub also : {X : Type 0} (P : X → Type 0) (x : X) (xs : List X) → P x → AreEach P xs
     → AreEach P (x ∷ xs)
 also P x xs one others y (inl same) = subst P (sym same) one
 also P x xs one others y (inr later) = others y later
 
-still : {X : Type 0} (P : X → Type 0) (p : X → Bool) (xs : List X) → AreEach P xs
+pub still : {X : Type 0} (P : X → Type 0) (p : X → Bool) (xs : List X) → AreEach P xs
     → AreEach P (filter p xs)
 still P p xs each x has = each x (has_filtered p xs x has).0
 
@@ -74,6 +75,7 @@ queues_now d xs old new t schema m now each = record {
   watchers = subst (Keeps watcher_columns d.watchers) (sym (m.1.1.1.0 (apart 4 1 refl))) t.watchers;
   links = subst (Keeps link_columns d.links) (sym (m.1.1.1.1.0 (apart 6 1 refl))) t.links;
   entries = subst (Keeps entry_columns d.entries) (sym (m.1.1.1.1.1.0 (apart 8 1 refl))) t.entries;
+  stays = subst (Keeps stay_columns d.stays) (sym (m.1.1.1.1.1.1.0 (apart 10 1 refl))) t.stays;
   values = are_values _ (record {
     version = (values_of d t.values).version;
     queues = each;
@@ -81,6 +83,7 @@ queues_now d xs old new t schema m now each = record {
     watchers = (values_of d t.values).watchers;
     links = (values_of d t.values).links;
     entries = (values_of d t.values).entries;
+    stays = (values_of d t.values).stays;
   });
 }
 
@@ -96,6 +99,7 @@ requests_now d xs old new t schema m now each = record {
   watchers = subst (Keeps watcher_columns d.watchers) (sym (m.1.1.1.0 (apart 4 3 refl))) t.watchers;
   links = subst (Keeps link_columns d.links) (sym (m.1.1.1.1.0 (apart 6 3 refl))) t.links;
   entries = subst (Keeps entry_columns d.entries) (sym (m.1.1.1.1.1.0 (apart 8 3 refl))) t.entries;
+  stays = subst (Keeps stay_columns d.stays) (sym (m.1.1.1.1.1.1.0 (apart 10 3 refl))) t.stays;
   values = are_values _ (record {
     version = (values_of d t.values).version;
     queues = (values_of d t.values).queues;
@@ -103,6 +107,7 @@ requests_now d xs old new t schema m now each = record {
     watchers = (values_of d t.values).watchers;
     links = (values_of d t.values).links;
     entries = (values_of d t.values).entries;
+    stays = (values_of d t.values).stays;
   });
 }
 
@@ -119,6 +124,7 @@ watchers_now d xs old new t schema m now each = record {
   watchers = now;
   links = subst (Keeps link_columns d.links) (sym (m.1.1.1.1.0 (apart 6 4 refl))) t.links;
   entries = subst (Keeps entry_columns d.entries) (sym (m.1.1.1.1.1.0 (apart 8 4 refl))) t.entries;
+  stays = subst (Keeps stay_columns d.stays) (sym (m.1.1.1.1.1.1.0 (apart 10 4 refl))) t.stays;
   values = are_values _ (record {
     version = (values_of d t.values).version;
     queues = (values_of d t.values).queues;
@@ -126,6 +132,7 @@ watchers_now d xs old new t schema m now each = record {
     watchers = each;
     links = (values_of d t.values).links;
     entries = (values_of d t.values).entries;
+    stays = (values_of d t.values).stays;
   });
 }
 
@@ -141,6 +148,7 @@ links_now d xs old new t schema m now each = record {
   watchers = subst (Keeps watcher_columns d.watchers) (sym (m.1.1.1.0 (apart 4 6 refl))) t.watchers;
   links = now;
   entries = subst (Keeps entry_columns d.entries) (sym (m.1.1.1.1.1.0 (apart 8 6 refl))) t.entries;
+  stays = subst (Keeps stay_columns d.stays) (sym (m.1.1.1.1.1.1.0 (apart 10 6 refl))) t.stays;
   values = are_values _ (record {
     version = (values_of d t.values).version;
     queues = (values_of d t.values).queues;
@@ -148,6 +156,7 @@ links_now d xs old new t schema m now each = record {
     watchers = (values_of d t.values).watchers;
     links = each;
     entries = (values_of d t.values).entries;
+    stays = (values_of d t.values).stays;
   });
 }
 
@@ -163,6 +172,7 @@ entries_now d xs old new t schema m now each = record {
   watchers = subst (Keeps watcher_columns d.watchers) (sym (m.1.1.1.0 (apart 4 8 refl))) t.watchers;
   links = subst (Keeps link_columns d.links) (sym (m.1.1.1.1.0 (apart 6 8 refl))) t.links;
   entries = now;
+  stays = subst (Keeps stay_columns d.stays) (sym (m.1.1.1.1.1.1.0 (apart 10 8 refl))) t.stays;
   values = are_values _ (record {
     version = (values_of d t.values).version;
     queues = (values_of d t.values).queues;
@@ -170,6 +180,7 @@ entries_now d xs old new t schema m now each = record {
     watchers = (values_of d t.values).watchers;
     links = (values_of d t.values).links;
     entries = each;
+    stays = (values_of d t.values).stays;
   });
 }
 
@@ -191,7 +202,7 @@ adds_queue d q old new count row t h =
     it.free))
     (also (λ x. IsQueueRow (queue_columns x)) q d.queues row (values_of d t.values).queues)
 
-cast_moment : (m : Option ℕ) → cast Integer (or_null count_value m) ≡ or_null count_value m
+pub cast_moment : (m : Option ℕ) → cast Integer (or_null count_value m) ≡ or_null count_value m
 cast_moment None = cast_null
 cast_moment (Some n) = cast_int (pos n)
 
@@ -367,11 +378,16 @@ sets_due d id due old new is t h =
     (ap (λ row. id_in (rowid (shows set_due_terms params row))) k.1)
     (ap (λ row. cast_row request (drop 1 (shows set_due_terms params row))) k.1
     ∙ changed_row p k.0.0.id) in
+    let others = filter (λ q. not (has_number id q)) d.dated in
+    let same : moved id due k.0 ≡ p = goes id due k.0 (passes_one (has_number id) d.dated k.0 k.2)
+    in
     requests_now d _ old.now new.now t s.schema to.others
     (subst (Numbers id_of dated_columns _) (sym to.rows)
     (reordered dated_row itself _ (map (moved id due) d.dated) _ (replaced dated_row itself d.dated
     (db 3) t.requests (passes numbered_test params) (has_number id) (numbered id more)
-    (pos k.0.0.id) s.it (ap rowid k.1) s.one p to.free) (one_moved id due d.dated k.0 k.2)))
+    (pos k.0.0.id) s.it (ap rowid k.1) s.one p to.free)
+    (subst (λ q. IsPermutation (q ∷ others) (map (moved id due) d.dated)) same
+    (one_moved (moved id due) (has_number id) (stays id due) d.dated k.0 k.2))))
     (each_moved id due d.dated (values_of d t.values).dated is)
 
 -- no request has the number, and all stay
@@ -389,7 +405,7 @@ misses_due d id due old new is t h =
     (has_number id) (numbered id more) m.none in
     requests_now d _ old.now new.now t m.schema m.others
     (subst (λ xs. Numbers id_of dated_columns xs (new.now.trees 3))
-    (sym (none_moved id due d.dated none))
+    (sym (none_moved (moved id due) (has_number id) (stays id due) d.dated none))
     (subst (Numbers id_of dated_columns d.dated) (sym m.rows) t.requests))
     (each_moved id due d.dated (values_of d t.values).dated is)
 

@@ -33,7 +33,8 @@ use Rattle.store_tables.specs.Picked.{passes}
 use Rattle.store_tables.specs.Selection.{is_numbered, watches, is_watcher, is_link, links_from}
 use Rattle.store_tables.specs.Selection.{ends_at, is_filed_in, is_named, is_of_person, starts_at}
 use Rattle.store_tables.specs.Selection.{is_due_before, tells_of}
-use Rattle.store_tables.specs.Orders.{by_due, by_id, by_entry, by_number, by_link, by_watcher, by_role}
+use Rattle.store_tables.specs.Orders.{by_due, by_id, by_number, by_link, by_watcher}
+use Rattle.store_tables.specs.Orders.{by_role}
 use Rattle.store_tables.specs.Orders.{by_target, by_name, by_standing}
 use Rattle.store_tables.specs.Spelling.{role_number, watcher_columns, link_columns}
 use Rattle.store_tables.specs.Spelling.{entry_columns, count_value, queue_columns}
@@ -43,7 +44,11 @@ use Rattle.store_tables.specs.Queries.{filed_test, request_test, three_test, lin
 use Rattle.store_tables.specs.Queries.{before_test, due_order, id_order, source_test, target_test}
 use Rattle.store_tables.specs.Queries.{three_shown, role_order, three_order, target_order}
 use Rattle.store_tables.specs.Queries.{entry_shown_terms, number_order}
-use Rattle.store_tables.specs.Queries.{person_test, standing_order}
+use Rattle.store_tables.specs.Queries.{person_test, standing_order, stay_order, stay_shown}
+use Rattle.store_tables.specs.Queries.{stay_test}
+use Rattle.store_tables.specs.Orders.{by_stay, by_stay_number}
+use Rattle.store_tables.specs.Spelling.{stay_columns}
+use Rattle.store_tables.specs.Stays.{StayRow, is_of, is_stay}
 
 true_again : (b : Bool) → is_true (from_truth (Some b)) ≡ b
 true_again true = refl
@@ -125,6 +130,16 @@ named name more k = and_true _ ∙ equal_texts k.1.name name
 pub filed_in : (name : List ℕ) (p : Dated) → passes filed_test (Words name ∷ []) (dated_row p)
     ≡ is_filed_in name p.0
 filed_in name p = and_true _ ∙ equal_texts p.0.queue name
+
+pub stays_with : (id : ℕ) (k : ℤ × StayRow) → passes request_test (count_value id ∷ [])
+    (filed stay_columns k) ≡ is_of id k.1
+stays_with id k = and_true _ ∙ equal_numbers k.1.request id
+
+pub the_stay : (id number : ℕ) (more : Row) (k : ℤ × StayRow)
+    → passes stay_test (count_value id ∷ count_value number ∷ more) (filed stay_columns k)
+    ≡ is_stay id number k.1
+the_stay id number more k = ap₂ (λ a b. a && b) (equal_numbers k.1.request id)
+    (and_true _ ∙ equal_numbers k.1.number number)
 
 lt_numbers : (a b : ℕ) → is_lt (nat_cmp a b) ≡ nat_lt a b
 lt_numbers a b = grind (arith, nat_tests)
@@ -253,3 +268,22 @@ pub name_order_is : (a b : ℤ × QueueRow)
     b.1
 name_order_is a b = then-Equal (value_cmp (Words a.1.name) (Words b.1.name))
     ∙ value_cmp-Text a.1.name b.1.name
+
+pub stay_number_order_is : (id : ℕ) (a b : ℤ × StayRow)
+    → output_cmp (reads 10 request_test stay_shown number_order)
+    (output (reads 10 request_test stay_shown number_order)
+    ((count_value id ∷ []) ∷ filed stay_columns a ∷ []))
+    (output (reads 10 request_test stay_shown number_order)
+    ((count_value id ∷ []) ∷ filed stay_columns b ∷ [])) ≡ by_stay_number a.1 b.1
+stay_number_order_is id a b =
+    then-Equal (value_cmp (count_value a.1.number) (count_value b.1.number))
+    ∙ order_numbers a.1.number b.1.number
+
+pub stay_order_is : (a b : ℤ × StayRow)
+    → output_cmp (reads 10 [] stay_shown stay_order)
+    (output (reads 10 [] stay_shown stay_order) ([] ∷ filed stay_columns a ∷ []))
+    (output (reads 10 [] stay_shown stay_order) ([] ∷ filed stay_columns b ∷ [])) ≡ by_stay a.1 b.1
+stay_order_is a b =
+    ap₂ ordering_then (order_numbers a.1.request b.1.request)
+    (then-Equal (value_cmp (count_value a.1.number) (count_value b.1.number))
+    ∙ order_numbers a.1.number b.1.number)

@@ -9,7 +9,7 @@ use Rattle.desk_model.specs.Desk.{Desk}
 use Rattle.desk_model.specs.IsDesk.{IsDesk}
 use Rattle.store_tables.specs.Contents.{Contents}
 use Rattle.store_tables.specs.Picked.{shows}
-use Rattle.store_tables.specs.Stands.{HasTables, KeepsBase, Rests, Stand, StandsFor, Within}
+use Rattle.store_tables.specs.Stands.{HasTables, HoldsNow, KeepsBase, Rests, Stand, StandsFor}
 use Rattle.store_tables.specs.Tables.{desk_schema}
 use Rattle.store_tables.specs.declared.fault.StoreFault.{StoreFault}
 use Rattle.store_tables.specs.declared.fault.StoreFault.TheVariants.{Mismatch, Refused}
@@ -97,7 +97,7 @@ OnlyRefuses old new result =
 abbrev pub Makes : {X : Type 0} → (Contents → Contents) → State → State → Result X StoreFault
     → Type 0
 Makes change old new result =
-    (now was : Contents) → Within now was old → OnOk result (Within (change now) was new)
+    (c : Contents) → HoldsNow c old → OnOk result (HoldsNow (change c) new)
 
 -- the last commit stays
 abbrev pub RestsOn : State → State → Type 0
@@ -110,3 +110,15 @@ pub record Does {X : Type 0} (change : Contents → Contents) (old new : State)
   pub makes : Makes change old new result
   pub keeps : KeepsBase old new
   pub clean : WasClean old new
+
+-- What a query does there: the tables hold what they held, the last commit stays where the tables
+-- are there, and a disk that is clean after it was clean before.
+pub record Looks {X : Type 0} (old new : State) (result : Result X StoreFault) : Type 0 where
+  pub makes : Makes (λ c. c) old new result
+  pub keeps : HasTables old → KeepsBase old new
+  pub clean : WasClean old new
+
+-- what is answered there is so of whatever the tables hold
+abbrev pub Inside : {X : Type 0} → (Contents → X → Type 0) → State → State → Result X StoreFault
+    → Type 0
+Inside P old new result = (c : Contents) → HoldsNow c old → HasCleanDisk new → IfOk result (P c)

@@ -1,4 +1,4 @@
--- What the tables of a desk hold: a version, and the rows of five lists, in no order that matters.
+-- What the tables of a desk hold: a version, and the rows of six lists, in no order that matters.
 use Rattle.std.specs.Prelude.{ℕ, List, Option, [], ◌∷◌, filter, flat_map, if◌then◌else◌, map, not}
 use Rattle.std.specs.Option.{option_map_or}
 use Rattle.desk_model.specs.Desk.{Desk, request_at}
@@ -10,6 +10,7 @@ use Rattle.desk_model.specs.declared.rows.RequestRow.{RequestRow}
 use Rattle.desk_model.specs.declared.rows.Watcher.{Watcher}
 use Rattle.store_tables.specs.Dated.{Dated, dated_by, row_of}
 use Rattle.store_tables.specs.Selection.{actor_of, is_link, is_numbered, is_watcher}
+use Rattle.store_tables.specs.Stays.{StayRow, stays, with_end}
 
 pub record Contents : Type 0 where
   pub version : ℕ
@@ -18,6 +19,7 @@ pub record Contents : Type 0 where
   pub watchers : List Watcher
   pub links : List LinkRow
   pub entries : List Entry
+  pub stays : List StayRow
 
 -- the rows of requests, without their due moments
 abbrev pub requests : Contents → List RequestRow
@@ -45,17 +47,30 @@ history_at desk id = option_map_or (λ r. r.entries) (request_at desk id) []
 abbrev pub contents_of : (RequestRow → Option ℕ) → Desk → Contents
 contents_of due desk =
     record {
-      version = 1;
+      version = 2;
       queues = desk.queues;
       dated = map (dated_by due) (request_rows desk);
       watchers = watchers desk;
       links = desk.links;
       entries = entries desk;
+      stays = stays desk;
     }
+
+-- and what those of version 1 do, which know no stays
+abbrev pub first_contents_of : (RequestRow → Option ℕ) → Desk → Contents
+first_contents_of due desk = record (contents_of due desk) { version = 1; stays = [] }
 
 abbrev pub no_contents : Contents
 no_contents =
-    record { version = 1; queues = []; dated = []; watchers = []; links = []; entries = [] }
+    record {
+      version = 2;
+      queues = [];
+      dated = [];
+      watchers = [];
+      links = [];
+      entries = [];
+      stays = [];
+    }
 
 -- ---- what one statement makes of them
 
@@ -97,3 +112,10 @@ drop_link c l = record c { links = filter (λ x. not (is_link l x)) c.links }
 
 abbrev pub add_entry : Contents → Entry → Contents
 add_entry c e = record c { entries = e ∷ c.entries }
+
+abbrev pub add_stay : Contents → StayRow → Contents
+add_stay c s = record c { stays = s ∷ c.stays }
+
+-- the stay of that request with that number gets that end, if there is one
+abbrev pub end_stay : Contents → ℕ → ℕ → ℕ → Contents
+end_stay c id number until = record c { stays = map (with_end id number until) c.stays }

@@ -12,5 +12,6 @@ pub mod Reading
 pub mod Selection
 pub mod Spelling
 pub mod Stands
+pub mod Stays
 pub mod Tables
 pub mod Values

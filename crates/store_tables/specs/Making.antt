@@ -1,5 +1,5 @@
 -- How far the tables are made.
-use Rattle.std.specs.Prelude.{◌≡◌, ◌≢◌, ℕ, pos, IfErr, IfOk, List, [], ◌∷◌, IsTrue}
+use Rattle.std.specs.Prelude.{◌≡◌, ◌⊎◌, ℕ, pos, IfErr, IfOk, List, [], ◌∷◌, IsTrue}
 use Rattle.std.specs.Prelude.{Err, OnErr, OnOk, Result, true}
 use Rattle.std.specs.List.{AllByRecursion}
 use Rattle.sqlite.specs.Order.{Row, column}
@@ -13,7 +13,7 @@ use Rattle.store_tables.specs.Contents.{Contents, no_contents}
 use Rattle.store_tables.specs.Picked.{shows}
 use Rattle.store_tables.specs.Queries.{version_shown}
 use Rattle.store_tables.specs.Spelling.{count_value}
-use Rattle.store_tables.specs.Stands.{HasTables, Stand, StandsFor, Tables, Within}
+use Rattle.store_tables.specs.Stands.{HasTables, HoldsNow, Stand, StandsFor}
 use Rattle.store_tables.specs.Tables.{no_schema}
 use Rattle.store_tables.specs.declared.fault.StoreFault.{StoreFault}
 use Rattle.store_tables.specs.declared.fault.StoreFault.TheVariants.{Refused, WrongVersion}
@@ -35,8 +35,7 @@ IsBlank s =
 
 -- in a transaction, the tables stand for the empty desk, whatever the last commit left
 abbrev pub Fresh : State → Type 0
-Fresh s =
-    HasCleanDisk s → IsTrue s.is_open → Tables no_contents s.now × (s.in_transaction ≡ true)
+Fresh s = HoldsNow no_contents s
 
 abbrev pub WasBlank : State → Type 0
 WasBlank s = HasCleanDisk s → IsTrue s.is_open → s.committed.schema ≡ no_schema
@@ -45,17 +44,15 @@ WasBlank s = HasCleanDisk s → IsTrue s.is_open → s.committed.schema ≡ no_s
 abbrev pub ShowsVersion : ℕ → List Row → Type 0
 ShowsVersion n rows = rows ≡ (Int (pos n) ∷ []) ∷ []
 
--- in a transaction, what is answered is so of whatever the tables hold
-abbrev pub Inside : {X : Type 0} → (Contents → X → Type 0) → State → State → Result X StoreFault
-    → Type 0
-Inside P old new result =
-    (now was : Contents) → Within now was old → HasCleanDisk new → IfOk result (P now)
+-- the versions that are known: the present one, and the first, which comes to be the present one
+abbrev pub IsKnown : ℕ → Type 0
+IsKnown n = (n ≡ 1) ⊎ (n ≡ 2)
 
--- and the version is told to be wrong only where it isn't the present one
+-- in a transaction, the version is told to be wrong only where it isn't a known one
 abbrev pub WrongInside : {X : Type 0} → State → State → Result X StoreFault → Type 0
 WrongInside old new result =
-    (now was : Contents) → Within now was old → HasCleanDisk new
-    → IfErr result (λ e. e ≡ WrongVersion → now.version ≢ 1)
+    (c : Contents) → HoldsNow c old → HasCleanDisk new
+    → IfErr result (λ e. e ≡ WrongVersion → ¬ IsKnown c.version)
 
 -- tables that are there stay as they are
 abbrev pub Stays : State → State → Type 0
@@ -66,11 +63,11 @@ abbrev pub IsOfMeta : State → ℕ → Type 0
 IsOfMeta s n =
     (r : Row) × Has (s.now.trees 0) r × (column (shows version_shown [] r) 0 ≡ count_value n)
 
--- a version is told to be wrong only where a row of meta shows another than the present one
+-- a version is told to be wrong only where a row of meta shows one that isn't known
 abbrev pub BlamesMeta : {X : Type 0} → State → State → Result X StoreFault → Type 0
 BlamesMeta old new result =
     HasTables old → HasCleanDisk new
-    → IfErr result (λ e. e ≡ WrongVersion → (n : ℕ) × IsOfMeta old n × (n ≢ 1))
+    → IfErr result (λ e. e ≡ WrongVersion → (n : ℕ) × IsOfMeta old n × ¬ IsKnown n)
 
 -- ---- of a whole call
 
@@ -82,11 +79,12 @@ MakesDesk old new result =
     → OnOk result (StandsFor empty_desk new) × OnErr result (IsBlank new)
     × (HasCleanDisk new → IfErr result (λ e. e ≡ Refused))
 
--- it goes well only over the present version, and is the wrong version only over another
+-- it goes well only over a known version, and is the wrong version only over another
 abbrev pub NeedsVersion : {X : Type 0} → State → State → Result X StoreFault → Type 0
 NeedsVersion old new result =
     (c : Contents) → Stand c old → HasCleanDisk new
-    → IfOk result (λ done. c.version ≡ 1) × IfErr result (λ e. e ≡ WrongVersion → c.version ≢ 1)
+    → IfOk result (λ done. IsKnown c.version)
+    × IfErr result (λ e. e ≡ WrongVersion → ¬ IsKnown c.version)
 
 -- where there is no table it is refused, and there is none still
 abbrev pub RefusesBlank : {X : Type 0} → State → State → Result X StoreFault → Type 0

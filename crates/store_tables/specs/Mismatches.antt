@@ -5,9 +5,9 @@ use Rattle.sqlite.specs.State.{State}
 use Rattle.store_tables.specs.Calls.{FailsIn, MismatchesIn}
 use Rattle.store_tables.specs.Queries.{actor_shown, dated_shown_terms, entry_shown_terms}
 use Rattle.store_tables.specs.Queries.{last_id_terms, queue_shown, request_shown_terms}
-use Rattle.store_tables.specs.Queries.{three_shown, version_shown}
+use Rattle.store_tables.specs.Queries.{stay_shown, three_shown, version_shown}
 use Rattle.store_tables.specs.Reading.{IsDatedRow, IsEntryRow, IsLinkRow, IsNumberRow, IsQueueRow}
-use Rattle.store_tables.specs.Reading.{IsRequestRow, IsTextRow, IsWatcherRow}
+use Rattle.store_tables.specs.Reading.{IsRequestRow, IsStayRow, IsTextRow, IsWatcherRow}
 use Rattle.store_tables.specs.declared.fault.StoreFault.{StoreFault}
 
 abbrev pub MismatchesInMeta : {X : Type 0} → State → State → Result X StoreFault → Type 0
@@ -39,3 +39,6 @@ MismatchesInEntries old new result = FailsIn 8 entry_shown_terms IsEntryRow old 
 -- of those who made entries: only of one who is no text
 abbrev pub MismatchesInActors : {X : Type 0} → State → State → Result X StoreFault → Type 0
 MismatchesInActors old new result = FailsIn 8 actor_shown IsTextRow old new result
+
+abbrev pub MismatchesInStays : {X : Type 0} → State → State → Result X StoreFault → Type 0
+MismatchesInStays old new result = FailsIn 10 stay_shown IsStayRow old new result

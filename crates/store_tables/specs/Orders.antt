@@ -11,6 +11,7 @@ use Rattle.desk_model.specs.declared.rows.RequestRow.{RequestRow}
 use Rattle.desk_model.specs.declared.rows.Watcher.{Watcher}
 use Rattle.store_tables.specs.Dated.{Dated}
 use Rattle.store_tables.specs.Spelling.{role_number}
+use Rattle.store_tables.specs.Stays.{StayRow}
 
 abbrev pub by_name : QueueRow → QueueRow → Ordering
 by_name a b = slice_cmp nat_cmp a.name b.name
@@ -57,3 +58,11 @@ by_number a b = nat_cmp a.number b.number
 -- by request and number
 abbrev pub by_entry : Entry → Entry → Ordering
 by_entry = then_cmp (on (λ e. e.id) nat_cmp) (on (λ e. e.number) nat_cmp)
+
+-- within one request: by number
+abbrev pub by_stay_number : StayRow → StayRow → Ordering
+by_stay_number a b = nat_cmp a.number b.number
+
+-- by request and number
+abbrev pub by_stay : StayRow → StayRow → Ordering
+by_stay = then_cmp (on (λ s. s.request) nat_cmp) (on (λ s. s.number) nat_cmp)

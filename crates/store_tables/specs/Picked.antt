@@ -45,12 +45,16 @@ pub record AreOrdered {X : Type 0} (cmp : X → X → Ordering) (xs ys : List X)
   pub same : IsPermutation xs ys
   pub sorted : IsSorted cmp ys
 
--- the numbers of these values, in this order
-pub record AreNumbersOf {X : Type 0} (number : X → ℕ) (cmp : X → X → Ordering) (xs : List X)
-    (ns : List ℕ) : Type 0 where
+-- a part of each of these values, in the order of the values
+pub record AreParts {X Y : Type 0} (part : X → Y) (cmp : X → X → Ordering) (xs : List X)
+    (ys : List Y) : Type 0 where
   pub values : List X
   pub ordered : AreOrdered cmp xs values
-  pub are : ns ≡ map number values
+  pub are : ys ≡ map part values
+
+-- the numbers of these values, in this order
+abbrev pub AreNumbersOf : {X : Type 0} → (X → ℕ) → (X → X → Ordering) → List X → List ℕ → Type 0
+AreNumbersOf number cmp xs ns = AreParts number cmp xs ns
 
 -- what is shown is the view of these values, in this order
 pub record Lists {X : Type 0} (cmp : X → X → Ordering) (view : X → Row) (xs : List X)

@@ -99,10 +99,16 @@ entries_of_text =
     ++ codes "ORDER BY number"
 
 abbrev pub add_version_text : List ℕ
-add_version_text = codes "INSERT INTO meta (one, version) VALUES (1, 1)"
+add_version_text = codes "INSERT INTO meta (one, version) VALUES (1, 2)"
 
 abbrev pub add_version_terms : List Term
-add_version_terms = lit (Int (pos 1)) ∷ lit Null ∷ lit (Int (pos 1)) ∷ []
+add_version_terms = lit (Int (pos 1)) ∷ lit Null ∷ lit (Int (pos 2)) ∷ []
+
+abbrev pub set_version_text : List ℕ
+set_version_text = codes "UPDATE meta SET version = 2"
+
+abbrev pub set_version_terms : List Term
+set_version_terms = col 1 0 ∷ col 1 0 ∷ lit Null ∷ lit (Int (pos 2)) ∷ []
 
 abbrev pub version_shown : List Term
 version_shown = col 1 2 ∷ []
@@ -326,3 +332,45 @@ before_test = op2 (Compare Lt Binary) (col 1 11) (col 0 0) ∷ []
 
 abbrev pub due_order : List Term
 due_order = col 1 11 ∷ col 1 0 ∷ []
+
+abbrev pub numbers_text : List ℕ
+numbers_text = codes "SELECT id FROM request ORDER BY id"
+
+-- ---- the requests of a queue with their due moments
+
+abbrev pub dated_of_text : List ℕ
+dated_of_text =
+    codes "SELECT id, queue, subject, status, owner, level, created, opened, turn, since, due "
+    ++ codes "FROM request WHERE queue = ?1 ORDER BY id"
+
+-- ---- stays
+
+abbrev pub stay_shown : List Term
+stay_shown = col 1 1 ∷ col 1 2 ∷ col 1 3 ∷ col 1 4 ∷ col 1 5 ∷ []
+
+abbrev pub stays_text : List ℕ
+stays_text = codes "SELECT request, number, status, begun, ended FROM stay ORDER BY request, number"
+
+abbrev pub stay_order : List Term
+stay_order = col 1 1 ∷ col 1 2 ∷ []
+
+abbrev pub stays_of_text : List ℕ
+stays_of_text =
+    codes "SELECT request, number, status, begun, ended FROM stay WHERE request = ?1 "
+    ++ codes "ORDER BY number"
+
+abbrev pub add_stay_text : List ℕ
+add_stay_text =
+    codes "INSERT INTO stay (request, number, status, begun, ended) VALUES (?1, ?2, ?3, ?4, ?5)"
+
+abbrev pub add_stay_terms : List Term
+add_stay_terms = lit Null ∷ col 0 0 ∷ col 0 1 ∷ col 0 2 ∷ col 0 3 ∷ col 0 4 ∷ []
+
+abbrev pub end_stay_text : List ℕ
+end_stay_text = codes "UPDATE stay SET ended = ?3 WHERE request = ?1 AND number = ?2"
+
+abbrev pub stay_test : List Term
+stay_test = eq (col 1 1) (col 0 0) ∷ eq (col 1 2) (col 0 1) ∷ []
+
+abbrev pub end_stay_terms : List Term
+end_stay_terms = col 1 0 ∷ col 1 0 ∷ col 1 1 ∷ col 1 2 ∷ col 1 3 ∷ col 1 4 ∷ col 0 2 ∷ []

@@ -6,6 +6,7 @@ use Rattle.sqlite.specs.Values.{or_null}
 use Rattle.sqlite.specs.declared.types.Value.{Value}
 use Rattle.sqlite.specs.declared.types.Value.TheVariants.{Null, Text as Words}
 use Rattle.hours_core.specs.Moment.{IsDueMoment}
+use Rattle.hours_core.specs.declared.stay.Stay.{Stay}
 use Rattle.desk_model.specs.Links.{kind_number}
 use Rattle.desk_model.specs.declared.rows.Entry.{Entry}
 use Rattle.desk_model.specs.declared.rows.EntryKind.{EntryKind}
@@ -147,6 +148,25 @@ pub record IsEntryRow (row : Row) : Type 0 where
   pub kind : IsEntryKind (column row 4)
   pub head : IsText (column row 5)
   pub body : IsText (column row 6)
+
+-- a row of a stay, which isn't asked for its number
+pub record ReadsStay (row : Row) (x : Stay) : Type 0 where
+  pub status : column row 2 ≡ Words x.status
+  pub from : column row 3 ≡ count_value x.from
+  pub until : column row 4 ≡ or_null count_value x.until
+
+-- the same, with its request
+pub record ReadsRequestStay (row : Row) (x : ℕ × Stay) : Type 0 where
+  pub request : column row 0 ≡ count_value x.0
+  pub stay : ReadsStay row x.1
+
+pub record IsStayRow (row : Row) : Type 0 where
+  pub wide : 4 < length row
+  pub request : IsCount (column row 0)
+  pub number : IsCount (column row 1)
+  pub status : IsText (column row 2)
+  pub from : IsMinute (column row 3)
+  pub until : IsMinuteOrNull (column row 4)
 
 -- a row of one text: who made an entry
 pub record ReadsText (row : Row) (x : List ℕ) : Type 0 where

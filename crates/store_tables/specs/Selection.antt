@@ -29,13 +29,17 @@ is_numbered id r = r.id == id
 abbrev pub has_number : ℕ → Dated → Bool
 has_number id p = is_numbered id p.0
 
--- a request that is due before that moment
-abbrev pub is_due_before : ℕ → Dated → Bool
-is_due_before at p = option_map_or (λ due. nat_lt due at) p.1 false
-
 -- a request of that queue
 abbrev pub is_filed_in : List ℕ → RequestRow → Bool
 is_filed_in name r = same_text r.queue name
+
+-- the same, of one with its due moment
+abbrev pub is_dated_in : List ℕ → Dated → Bool
+is_dated_in name p = is_filed_in name p.0
+
+-- a request that is due before that moment
+abbrev pub is_due_before : ℕ → Dated → Bool
+is_due_before at p = option_map_or (λ due. nat_lt due at) p.1 false
 
 -- a watcher of that request
 abbrev pub watches : ℕ → Watcher → Bool

@@ -16,6 +16,7 @@ use Rattle.desk_model.specs.declared.rows.Turn.TheVariants as turn
 use Rattle.desk_model.specs.declared.rows.Watcher.{Watcher}
 use Rattle.desk_model.specs.declared.rows.WatchRole.{WatchRole}
 use Rattle.desk_model.specs.declared.rows.WatchRole.TheVariants as role
+use Rattle.store_tables.specs.Stays.{StayRow}
 
 abbrev pub turn_number : Turn → ℕ
 turn_number turn.Desk = 0
@@ -79,3 +80,9 @@ abbrev pub entry_columns : Entry → Row
 entry_columns e =
     count_value e.id ∷ count_value e.number ∷ count_value e.moment ∷ Words e.actor
     ∷ count_value (entry_kind_number e.kind) ∷ Words e.head ∷ Words e.body ∷ []
+
+-- a stay that lasts has no end
+abbrev pub stay_columns : StayRow → Row
+stay_columns s =
+    count_value s.request ∷ count_value s.number ∷ Words s.stay.status ∷ count_value s.stay.from
+    ∷ or_null count_value s.stay.until ∷ []

@@ -1,19 +1,21 @@
 -- What it is that tables stand for a desk.
-use Rattle.std.specs.Prelude.{◌≡◌, ◌<◌, ℕ, [], ◌∷◌, IsTrue, List, Ok, Option, true}
+use Rattle.std.specs.Prelude.{◌≡◌, ◌<◌, ◌==◌, ℕ, [], ◌∷◌, IsTrue, List, Ok, Option, true}
+use Rattle.std.specs.Prelude.{if◌then◌else◌}
 use Rattle.sqlite.specs.Order.{Row}
 use Rattle.sqlite.specs.Effect.{Database}
 use Rattle.sqlite.specs.State.{State, HasCleanDisk, Executes, Shows}
 use Rattle.desk_model.specs.Desk.{Desk}
 use Rattle.desk_model.specs.declared.rows.RequestRow.{RequestRow}
-use Rattle.store_tables.specs.Contents.{Contents, contents_of}
+use Rattle.store_tables.specs.Contents.{Contents, contents_of, first_contents_of}
 use Rattle.store_tables.specs.Dated.{dated_columns, id_of}
 use Rattle.store_tables.specs.Kept.{Keeps, Numbers}
 use Rattle.store_tables.specs.Spelling.{version_row, queue_columns}
 use Rattle.store_tables.specs.Spelling.{watcher_columns, link_columns, entry_columns}
-use Rattle.store_tables.specs.Tables.{desk_schema}
+use Rattle.store_tables.specs.Spelling.{stay_columns}
+use Rattle.store_tables.specs.Tables.{desk_schema, first_schema}
 use Rattle.store_tables.specs.Values.{AreValues}
 
--- meta has its one row, and the other five tables are, up to order, the five lists of values
+-- meta has its one row, and the other six tables are, up to order, the six lists of values
 pub record Tables (c : Contents) (db : Database) : Type 0 where
   pub schema : db.schema ≡ desk_schema
   pub meta : db.trees 0 ≡ version_row c.version ∷ []
@@ -22,6 +24,7 @@ pub record Tables (c : Contents) (db : Database) : Type 0 where
   pub watchers : Keeps watcher_columns c.watchers (db.trees 4)
   pub links : Keeps link_columns c.links (db.trees 6)
   pub entries : Keeps entry_columns c.entries (db.trees 8)
+  pub stays : Keeps stay_columns c.stays (db.trees 10)
   pub values : AreValues c
 
 -- where the store is open and its disk is clean, the tables hold this, and so do those of the last
@@ -32,6 +35,11 @@ Stand c s = HasCleanDisk s → IsTrue s.is_open → Tables c s.now × Tables c s
 -- the tables stand for the desk, with any due moments
 abbrev pub StandsFor : Desk → State → Type 0
 StandsFor desk s = (due : RequestRow → Option ℕ) × Stand (contents_of due desk) s
+
+-- in a transaction the tables hold this, whatever the last commit left
+abbrev pub HoldsNow : Contents → State → Type 0
+HoldsNow c s =
+    HasCleanDisk s → IsTrue s.is_open → Tables c s.now × (s.in_transaction ≡ true)
 
 -- in a transaction the tables hold the first, and those of the last commit the second
 abbrev pub Within : Contents → Contents → State → Type 0
@@ -47,6 +55,13 @@ Rests c s = HasCleanDisk s → IsTrue s.is_open → Tables c s.committed
 abbrev pub HasTables : State → Type 0
 HasTables s = HasCleanDisk s → IsTrue s.is_open → s.now.schema ≡ desk_schema
 
+-- the tables are again as the last commit left them
+abbrev pub GoesBack : State → State → Type 0
+GoesBack old new =
+    HasCleanDisk new → IsTrue new.is_open
+    → HasCleanDisk old × IsTrue old.is_open × (new.now ≡ old.committed)
+    × (new.committed ≡ old.committed)
+
 -- the last commit stays what it was, whatever it is
 abbrev pub KeepsBase : State → State → Type 0
 KeepsBase old new =
@@ -61,3 +76,32 @@ pub record Ran (sql : List ℕ) (params : Row) (old new : State) (count : ℕ) :
 -- it did, and changed one row or none
 abbrev pub RanOnAny : List ℕ → Row → State → State → Type 0
 RanOnAny sql params old new = (count : ℕ) × (count < 2) × Ran sql params old new count
+
+-- ---- version 1
+
+-- with a table of stays that has no row beside the six, which stay as they are
+abbrev pub with_no_stays : Database → Database
+with_no_stays db =
+    record { schema = desk_schema; trees = λ n. if n == 10 then [] else db.trees n }
+
+-- the six tables of version 1: what they hold is what all seven would, with no row of stays
+pub record FirstTables (c : Contents) (db : Database) : Type 0 where
+  pub schema : db.schema ≡ first_schema
+  pub version : c.version ≡ 1
+  pub tables : Tables c (with_no_stays db)
+
+-- where the store is open and its disk is clean, the six tables hold this, and so do those of the
+-- last commit
+abbrev pub FirstStand : Contents → State → Type 0
+FirstStand c s =
+    HasCleanDisk s → IsTrue s.is_open → FirstTables c s.now × FirstTables c s.committed
+
+-- the six tables stand for the desk, with any due moments
+abbrev pub FirstStandsFor : Desk → State → Type 0
+FirstStandsFor desk s =
+    (due : RequestRow → Option ℕ) × FirstStand (first_contents_of due desk) s
+
+-- in a transaction the six tables hold this, whatever the last commit left
+abbrev pub FirstHoldsNow : Contents → State → Type 0
+FirstHoldsNow c s =
+    HasCleanDisk s → IsTrue s.is_open → FirstTables c s.now × (s.in_transaction ≡ true)

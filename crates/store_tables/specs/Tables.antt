@@ -52,6 +52,12 @@ entry_text =
     ++ codes "INTEGER NOT NULL, head TEXT NOT NULL, body TEXT NOT NULL, PRIMARY KEY (request, "
     ++ codes "number)) STRICT"
 
+abbrev pub stay_text : List ℕ
+stay_text =
+    codes "CREATE TABLE IF NOT EXISTS stay (request INTEGER NOT NULL REFERENCES request(id), "
+    ++ codes "number INTEGER NOT NULL, status TEXT NOT NULL, begun INTEGER NOT NULL, ended "
+    ++ codes "INTEGER, PRIMARY KEY (request, number)) STRICT"
+
 abbrev pub no_stamps : Stamps
 no_stamps = record { places = []; terms = []; formats = [] }
 
@@ -215,6 +221,24 @@ entry = record {
   is_counted = false;
 }
 
+abbrev pub stay : Table
+stay = record {
+  name = codes "stay";
+  tree = 10;
+  columns = needed (codes "request") Integer ∷ needed (codes "number") Integer
+      ∷ needed (codes "status") Text ∷ needed (codes "begun") Integer
+      ∷ optional (codes "ended") Integer ∷ [];
+  key = None;
+  primary = 1 ∷ 2 ∷ [];
+  uniques = (1 ∷ 2 ∷ []) ∷ [];
+  orders = plain ∷ [];
+  checks = [];
+  references = refers 1 (codes "request") (codes "id") ∷ [];
+  computed = [];
+  stamps = no_stamps;
+  is_counted = false;
+}
+
 abbrev pub watcher_key : Index
 watcher_key = record {
   name = codes "sqlite_autoindex_watcher_1";
@@ -248,6 +272,17 @@ entry_key = record {
   is_unique = true;
 }
 
+abbrev pub stay_key : Index
+stay_key = record {
+  name = codes "sqlite_autoindex_stay_1";
+  tree = 11;
+  table = 10;
+  columns =
+      1 ∷ 2 ∷ [];
+  order = plain;
+  is_unique = true;
+}
+
 abbrev pub request_schema : Schema
 request_schema = record {
   tables = meta ∷ queue ∷ request ∷ [];
@@ -272,10 +307,20 @@ link_schema = record {
   views = [];
 }
 
-abbrev pub desk_schema : Schema
-desk_schema = record {
+-- the six tables of version 1
+abbrev pub first_schema : Schema
+first_schema = record {
   tables = meta ∷ queue ∷ request ∷ watcher ∷ link ∷ entry ∷ [];
   indexes =
       queue_key ∷ watcher_key ∷ link_key ∷ entry_key ∷ [];
+  views = [];
+}
+
+-- the seven of the present one
+abbrev pub desk_schema : Schema
+desk_schema = record {
+  tables = meta ∷ queue ∷ request ∷ watcher ∷ link ∷ entry ∷ stay ∷ [];
+  indexes =
+      queue_key ∷ watcher_key ∷ link_key ∷ entry_key ∷ stay_key ∷ [];
   views = [];
 }

@@ -78,7 +78,7 @@ pub(crate) fn select_one<T: Stored + Drop, S: Alter>(
 }
 
 /// The values that the rows show. `Mismatch` where one shows none.
-fn read_all<T: Stored + Drop>(alloc: Global, rows: &[Row]) -> Result<Vec<T>, StoreFault>
+pub(crate) fn read_all<T: Stored + Drop>(alloc: Global, rows: &[Row]) -> Result<Vec<T>, StoreFault>
     ensures ok { IfOk result (λ xs. AllZip T.Stored.reads rows.now xs.items) }
     ensures mismatch { IfErr result (λ e. e ≡ StoreFault.Mismatch →
         (r : _) × Has rows.now r × ¬ T.Stored.is_value r) }

@@ -13,6 +13,7 @@ pub mod queue_count;
 pub mod queues;
 pub mod request_numbers;
 pub mod requests_by_key;
+pub mod stays;
 pub mod version;
 pub mod watchers_by_key;
 pub mod watches_by_person;

@@ -7,6 +7,7 @@ ghost use Rattle.store_tables.specs.Reading.{ReadsQueue, ReadsRequest, ReadsWatc
 ghost use Rattle.store_tables.specs.Reading.{ReadsEntry, IsQueueRow, IsRequestRow, IsWatcherRow};
 ghost use Rattle.store_tables.specs.Reading.{IsLinkRow, IsEntryRow, IsTextRow, ReadsText};
 ghost use Rattle.store_tables.specs.Reading.{IsDatedRow, IsNumberRow, ReadsCount, ReadsDated};
+ghost use Rattle.store_tables.specs.Reading.{IsStayRow, ReadsRequestStay, ReadsStay};
 
 use crate::columns::{
     entry_kind_at, link_kind_at, minute_at, nullable_at, nullable_minute_at, number_at, role_at,
@@ -14,7 +15,7 @@ use crate::columns::{
 };
 use crate::fault::StoreFault;
 use desk_model::{Entry, LinkRow, QueueRow, RequestRow, Watcher};
-use hours_core::Minute;
+use hours_core::{Minute, Stay};
 use sqlite::Row;
 use text_core::Text;
 
@@ -144,5 +145,31 @@ impl Stored for Text {
 
     fn read(row: &Row) -> Result<Text, StoreFault> {
         text_at(row, 0)
+    }
+}
+
+impl Stored for Stay {
+    ghost reads = { ReadsStay };
+
+    ghost is_value = { IsStayRow };
+
+    fn read(row: &Row) -> Result<Stay, StoreFault> {
+        Ok(Stay {
+            from: minute_at(row, 3)?,
+            until: nullable_minute_at(row, 4)?,
+            status: text_at(row, 2)?,
+        })
+    }
+}
+
+/// The number of a request, and a stay of it.
+impl Stored for (u32, Stay) {
+    ghost reads = { ReadsRequestStay };
+
+    ghost is_value = { IsStayRow };
+
+    fn read(row: &Row) -> Result<(u32, Stay), StoreFault> {
+        let request = number_at(row, 0)?;
+        Ok((request, Stay::read(row)?))
     }
 }

@@ -5,7 +5,8 @@ ghost use Rattle.sqlite.specs.State.{HasCleanDisk};
 ghost use Rattle.sqlite.specs.Values.{bound};
 ghost use Rattle.store_tables.specs.Calls.{WasClean};
 ghost use Rattle.store_tables.specs.Contents.{Contents};
-ghost use Rattle.store_tables.specs.Stands.{KeepsBase, Ran, RanOnAny, Stand, Within};
+ghost use Rattle.store_tables.specs.Stands.{GoesBack, HoldsNow, KeepsBase, Ran, RanOnAny, Stand};
+ghost use Rattle.store_tables.specs.Stands.{Within};
 ghost use Rattle.store_tables.specs.declared.fault.StoreFault.{StoreFault};
 
 use crate::fault::StoreFault;
@@ -78,10 +79,12 @@ pub(crate) fn run_on_any<S: Alter>(
 /// Commits. `Refused` where the store refuses it: then what was committed before stays.
 pub fn finish<S: Alter>(tx: Transaction<'_, S>) -> Result<(), StoreFault>
     ensures ended { tx.exit.0.now.in_transaction ≡ false }
-    ensures done { (now was : Contents) → Within now was (state S.Store tx.entry.conn.now) →
-        OnOk result (Stand now (state S.Store tx.exit.0.now)) }
+    ensures done { (c : Contents) → HoldsNow c (state S.Store tx.entry.conn.now) →
+        OnOk result (Stand c (state S.Store tx.exit.0.now)) }
     ensures undone { (now was : Contents) → Within now was (state S.Store tx.entry.conn.now) →
         OnErr result (Stand was (state S.Store tx.exit.0.now)) }
+    ensures back { (c : Contents) → HoldsNow c (state S.Store tx.entry.conn.now) →
+        OnErr result (GoesBack (state S.Store tx.entry.conn.now) (state S.Store tx.exit.0.now)) }
     ensures honest { WasClean (state S.Store tx.entry.conn.now) (state S.Store tx.exit.0.now) }
     ensures fault { IfErr result (λ e. e ≡ StoreFault.Refused) }
 {

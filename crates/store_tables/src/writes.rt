@@ -5,4 +5,6 @@ pub mod entries;
 pub mod links;
 pub mod queues;
 pub mod requests;
+pub mod stays;
+pub mod version;
 pub mod watchers;

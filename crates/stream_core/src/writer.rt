@@ -1,3 +1,5 @@
+//! Writes that are counted, and texts that go out whole.
+
 ghost use Rattle.std.specs.Prelude.{◌≡◌, ◌≤◌, ◌+◌, ◌||◌, ◌==◌, false, length, take};
 ghost use Rattle.std.specs.Io.KnownBytes.{Appends};
 

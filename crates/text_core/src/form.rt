@@ -1,3 +1,5 @@
+//! The forms of names, rights, subjects and texts.
+
 ghost use Rattle.std.specs.Prelude.{◌≡◌, ◌||◌, not, ◌==◌, length};
 ghost use Rattle.std.specs.List.{list_all};
 ghost use Rattle.std.specs.Str.{chars};

@@ -1,3 +1,5 @@
+//! Values in order, for contracts that speak of lists.
+
 ghost use Rattle.std.specs.Prelude.{◌≡◌, ◌==◌, length};
 
 use std::marker::Model;

@@ -1,3 +1,5 @@
+//! Texts, for contracts that speak of bytes.
+
 ghost use Rattle.std.specs.Prelude.{◌≡◌, IfOk};
 
 use std::alloc::{AllocError, Global};

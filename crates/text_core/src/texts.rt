@@ -1,3 +1,5 @@
+//! Lists of texts: what stands in them, twice in one, and in two.
+
 ghost use Rattle.std.specs.Prelude.{◌≡◌, IfOk, map};
 ghost use Rattle.text_core.specs.Texts as words;
 

@@ -1,3 +1,5 @@
+//! Why no reply was written whole.
+
 ghost use Rattle.std.specs.Prelude.{◌≡◌};
 ghost use Rattle.wire_core.specs.Fault.{name_of, number_of};
 

@@ -1,3 +1,5 @@
+//! Days since 1970 and dates of the calendar.
+
 ghost use Rattle.std.specs.Prelude.{◌≡◌, ◌<◌, ◌≤◌, ◌*◌, ◌≤ℤ◌, ℕ, pos, unsigned_abs};
 ghost use Rattle.jiff.specs.Words.{epoch_day, IsBetween};
 ghost use Rattle.jiff_tz.specs.Year.{year_of_day};

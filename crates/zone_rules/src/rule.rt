@@ -1,3 +1,5 @@
+//! A rule of local time, and its offset at each minute.
+
 ghost use Rattle.std.specs.Prelude.{◌≡◌, ◌<◌, ◌≤◌, ◌*◌, ◌<ℤ◌, ℕ, pos};
 ghost use Rattle.jiff.specs.Words.{next_at, offset_at as zone_offset, plain_zone, read_whole};
 ghost use Rattle.jiff_tz.specs.declared.timezone.TimeZone.{TimeZone as Zone};

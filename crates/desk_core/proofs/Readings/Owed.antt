@@ -1,6 +1,6 @@
 -- What a reading owes: it tells of the caller's view what it tells of the desk, and each due moment
 -- in it is right.
-use Rattle.std.proofs.Common.{◌≡◌, ℕ, true, Some}
+use Rattle.std.proofs.Common.{◌≡◌, true, Some}
 use Rattle.std.specs.List.{All}
 use Rattle.desk_model.specs.Desk.{Desk, Request, request_at}
 use Rattle.desk_model.specs.Facts.{seen_request}

@@ -1,17 +1,18 @@
 -- A request is shown alike on the desk and on the caller's view.
 use Rattle.std.proofs.Common.{◌≡◌, ◌∙◌, ℕ, ◌==◌, Bool, true, ◌&&◌, List, [], filter, map}
-use Rattle.std.proofs.Common.{Option, Some, None, refl, ap, sym}
+use Rattle.std.proofs.Common.{Option, Some, None, refl, ap, ap₂, sym}
 use Rattle.std.specs.List.{All}
 use Rattle.std.specs.Option.{option_and_then}
 use Rattle.std.proofs.lemmas.Bool.{and_from, and_parts, eqb-true}
 use Rattle.std.proofs.lemmas.List.Elements.{All-nil, All-cons, filter_agree}
+use Rattle.hours_core.specs.declared.stay.Stay.{Stay}
 use Rattle.settings_core.specs.declared.settings.Settings.{Settings}
 use Rattle.desk_model.specs.Desk.{Desk, Request, request_at}
 use Rattle.desk_model.specs.Due.{due_of, due_on}
 use Rattle.desk_model.specs.Facts.{seen_request}
 use Rattle.desk_model.specs.IsDesk.{IsDesk}
 use Rattle.desk_model.specs.Links.{is_kind}
-use Rattle.desk_model.specs.Plan.{Call, OneRequest, answer_of_request}
+use Rattle.desk_model.specs.Plan.{OneRequest, answer_of_request}
 use Rattle.desk_model.specs.Readings.Show as show
 use Rattle.desk_model.specs.Readings.Show.{linked_from, linked_to, links_of, shown_of}
 use Rattle.desk_model.specs.Rights.{is_shown, may_show}
@@ -23,6 +24,7 @@ use Rattle.desk_model.specs.declared.rows.LinkKind.{LinkKind}
 use Rattle.desk_model.specs.declared.rows.LinkKind.TheVariants.{DependsOn, MemberOf, RefersTo}
 use Rattle.desk_model.specs.declared.rows.LinkRow.{LinkRow}
 use Rattle.desk_model.specs.declared.rows.QueueRow.{QueueRow}
+use Rattle.desk_model.proofs.StayLemmas.{stays_told}
 use Rattle.desk_core.proofs.Goes.{number_found}
 use Rattle.desk_core.proofs.InView.{filter_within, found_in_view, queue_in_view, shown_in_view}
 use Rattle.desk_core.proofs.InView.{shown_there}
@@ -110,9 +112,10 @@ shown_alike : (s : Settings) (caller : List ℕ) (desk : Desk) (id : ℕ) (r : R
     → shown_of s caller desk r ≡ shown_of s caller (view s caller desk) (as_seen s caller r)
 shown_alike s caller desk id r is there may =
     sym
-    (ap (λ (q : Option QueueRow). shown_with r (option_and_then (λ x. due_of s x r.row) q)
+    (ap₂ (λ (q : Option QueueRow) (stays : List Stay).
+    shown_with r (option_and_then (λ x. due_of s x stays r.row) q)
     (links_of s caller (view s caller desk) r.row.id))
-    (queue_in_view s caller desk id r there may)
+    (queue_in_view s caller desk id r there may) (stays_told s caller r)
     ∙ ap (λ (l : Links). shown_with r (due_on s desk r) l)
     (links_in_view s caller desk r.row.id is (shown_there s caller desk r id there may)))
 

@@ -8,6 +8,7 @@ use Rattle.std.proofs.lemmas.Bool.{and_from}
 use Rattle.std.proofs.lemmas.List.Elements.{All-filter, All-map, All-weaker}
 use Rattle.std.proofs.lemmas.List.Elements.{All-from_recursion, recursion_from_All}
 use Rattle.std.proofs.lemmas.Slice.Eq.{bytes_eq-Decides}
+use Rattle.hours_core.specs.declared.stay.Stay.{Stay}
 use Rattle.settings_core.specs.declared.settings.Settings.{Settings}
 use Rattle.desk_model.specs.Desk.{Desk, Request}
 use Rattle.desk_model.specs.Due.{due_on}
@@ -17,6 +18,7 @@ use Rattle.desk_model.specs.Rights.{may_show}
 use Rattle.desk_model.specs.Told.{Told, told, told_in, told_on}
 use Rattle.desk_model.specs.View.{as_seen, has_shown, view}
 use Rattle.desk_model.specs.declared.rows.QueueRow.{QueueRow}
+use Rattle.desk_model.proofs.StayLemmas.{stays_told}
 use Rattle.desk_core.proofs.EachRequest.{found_each}
 use Rattle.desk_core.proofs.InView.{queue_kept}
 use Rattle.desk_core.specs.Laws.{IsDue}
@@ -74,8 +76,9 @@ told_of_kept s caller desk (x ∷ xs) among =
           among.0 (λ r. shows s caller r && bytes_eq r.row.queue x.row.queue)
           (and_from (shows s caller x) (bytes_eq x.row.queue x.row.queue) e
           ((bytes_eq-Decides x.row.queue x.row.queue).1 refl)) in
-          ap₂ (λ (q : Option QueueRow) (others : List Told). told_in s q x.row ∷ others)
-          (queue_kept s caller desk x.row.queue has) rest
+          ap₂ (λ (t : Told) (others : List Told). t ∷ others)
+          (ap₂ (λ (q : Option QueueRow) (stays : List Stay). told_in s q stays x.row)
+          (queue_kept s caller desk x.row.queue has) (stays_told s caller x)) rest
       | false ↦ λ e. rest
     ] refl
 

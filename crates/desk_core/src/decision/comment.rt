@@ -1,3 +1,5 @@
+//! Commenting on a request.
+
 ghost use Rattle.std.specs.Prelude.{◌+◌, ◌^◌, ◌<◌, OnOk, Some};
 ghost use Rattle.desk_model.specs.Commands.Comment as comment;
 ghost use Rattle.desk_model.specs.Plan.{Nothing};

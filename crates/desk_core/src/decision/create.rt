@@ -1,3 +1,5 @@
+//! Filing a request.
+
 ghost use Rattle.std.specs.Prelude.{◌≡◌, map, IfOk, OnOk, ◌+◌, ◌^◌, ◌<◌, [], ◌∷◌};
 ghost use Rattle.std.specs.List.{list_all};
 ghost use Rattle.settings_core.specs.Settings.{knows};

@@ -1,3 +1,5 @@
+//! Giving a request to an owner.
+
 ghost use Rattle.std.specs.Prelude.{◌≡◌, ◌+◌, ◌^◌, ◌<◌, OnOk, None};
 ghost use Rattle.desk_model.specs.Commands.Give as give;
 ghost use Rattle.desk_model.specs.Plan.{Nothing};

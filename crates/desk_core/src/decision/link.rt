@@ -1,3 +1,5 @@
+//! Linking two requests.
+
 ghost use Rattle.std.specs.Prelude.{◌≡◌, ◌+◌, ◌^◌, ◌<◌, IfOk, OnOk, decimal, None};
 ghost use Rattle.desk_model.specs.Commands.Link as link;
 ghost use Rattle.desk_model.specs.Plan.{Another};

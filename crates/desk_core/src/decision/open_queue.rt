@@ -1,3 +1,5 @@
+//! Opening a queue.
+
 ghost use Rattle.std.specs.Prelude.{◌≡◌};
 ghost use Rattle.desk_model.specs.Commands.OpenQueue as open_queue;
 ghost use Rattle.desk_model.specs.Condition.{Passes};

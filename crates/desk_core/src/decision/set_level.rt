@@ -1,3 +1,5 @@
+//! Giving a request another level, or none.
+
 ghost use Rattle.std.specs.Prelude.{◌≡◌, ◌+◌, ◌^◌, ◌<◌, IfOk, OnOk, None};
 ghost use Rattle.desk_model.specs.Commands.SetLevel as set_level;
 ghost use Rattle.desk_model.specs.Plan.{Nothing};

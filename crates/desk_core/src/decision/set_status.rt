@@ -1,3 +1,5 @@
+//! Moving a request to a status.
+
 ghost use Rattle.std.specs.Prelude.{◌≡◌, ◌+◌, ◌^◌, ◌<◌, true, IfOk, IfErr, OnOk, None};
 ghost use Rattle.desk_model.specs.Commands.SetStatus as set_status;
 ghost use Rattle.desk_model.specs.Plan.{Dependencies};

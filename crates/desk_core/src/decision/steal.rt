@@ -1,3 +1,5 @@
+//! Owning a request in place of another person.
+
 ghost use Rattle.std.specs.Prelude.{◌+◌, ◌^◌, ◌<◌, OnOk, None};
 ghost use Rattle.desk_model.specs.Commands.Steal as steal;
 ghost use Rattle.desk_model.specs.Plan.{Nothing};

@@ -1,3 +1,5 @@
+//! Owning a request that nobody owns.
+
 ghost use Rattle.std.specs.Prelude.{◌≡◌, ◌+◌, ◌^◌, ◌<◌, IfOk, OnOk, Some, None};
 ghost use Rattle.std.specs.Option.{option_map};
 ghost use Rattle.desk_model.specs.Commands.Take as take;

@@ -1,3 +1,5 @@
+//! Taking a link away.
+
 ghost use Rattle.std.specs.Prelude.{◌+◌, ◌^◌, ◌<◌, OnOk, None};
 ghost use Rattle.desk_model.specs.Commands.Unlink as unlink;
 ghost use Rattle.desk_model.specs.Plan.{Another};

@@ -1,3 +1,5 @@
+//! Owning a request no longer.
+
 ghost use Rattle.std.specs.Prelude.{◌+◌, ◌^◌, ◌<◌, OnOk, None};
 ghost use Rattle.desk_model.specs.Commands.Untake as untake;
 ghost use Rattle.desk_model.specs.Plan.{Nothing};

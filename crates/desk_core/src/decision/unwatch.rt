@@ -1,3 +1,5 @@
+//! Taking a person out of a role.
+
 ghost use Rattle.std.specs.Prelude.{◌+◌, ◌^◌, ◌<◌, OnOk, None};
 ghost use Rattle.desk_model.specs.Commands.Unwatch as unwatch;
 ghost use Rattle.desk_model.specs.Plan.{Nothing};

@@ -1,3 +1,5 @@
+//! Putting a person into a role.
+
 ghost use Rattle.std.specs.Prelude.{◌≡◌, ◌+◌, ◌^◌, ◌<◌, [], ◌∷◌, IfOk, OnOk, None};
 ghost use Rattle.desk_model.specs.Commands.Watch as watch;
 ghost use Rattle.desk_model.specs.Watchers as watchers;

@@ -1,3 +1,5 @@
+//! The text of a history.
+
 ghost use Rattle.std.specs.Prelude.{◌≡◌, ◌++◌, IfOk, OnOk, encode_utf8, string_bytes};
 ghost use Rattle.std.specs.List.{flat_map};
 ghost use Rattle.hours_core.specs.Date.{text_of_minute};

@@ -1,3 +1,5 @@
+//! The text of a queue's requests.
+
 ghost use Rattle.std.specs.Prelude.{◌≡◌, ◌++◌, IfOk, OnOk, decimal, string_bytes};
 ghost use Rattle.std.specs.List.{flat_map};
 ghost use Rattle.desk_texts.specs.Texts.Listed as text;

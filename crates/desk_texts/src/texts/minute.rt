@@ -1,3 +1,5 @@
+//! A minute as a text.
+
 ghost use Rattle.std.specs.Prelude.{◌≡◌, ℕ};
 ghost use Rattle.hours_core.specs.Date.{text_of_minute};
 

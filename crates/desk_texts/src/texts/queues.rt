@@ -1,3 +1,5 @@
+//! The text of a list of queues.
+
 ghost use Rattle.std.specs.Prelude.{◌≡◌, ◌++◌, IfOk, OnOk, string_bytes};
 ghost use Rattle.std.specs.List.{flat_map};
 ghost use Rattle.desk_texts.specs.Texts.Queues as text;

@@ -1,3 +1,5 @@
+//! The words of links.
+
 ghost use Rattle.std.specs.Prelude.{◌≡◌};
 ghost use Rattle.desk_words.specs.Subcommands as subcommands;
 ghost use Rattle.desk_words.specs.Subcommands.{given_to};

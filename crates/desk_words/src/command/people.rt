@@ -1,3 +1,5 @@
+//! The words of people.
+
 ghost use Rattle.std.specs.Prelude.{◌≡◌, IfOk};
 ghost use Rattle.desk_words.specs.Subcommands as subcommands;
 ghost use Rattle.desk_words.specs.Subcommands.{given_to};

@@ -1,12 +1,13 @@
 //! Calls of calendars and moments, a line each.
 
 use crate::failure::{Failure, count, halves, moment, number};
-use hours_core::{Calendar, Level, Limit, Minute, Probes, Zone, date_of, minute_text};
-use text_core::Text;
+use crate::hours::parts::Parts;
+use hours_core::{Calendar, Level, Limit, Minute, Probes, Stay, Zone, date_of, minute_text};
 
 /// Writes the line and the answer of the call that it spells.
 pub fn answer(
     rt: &(impl AllocGlobal + Print),
+    parts: &Parts,
     calendar: Option<&Calendar>,
     line: &str,
 ) -> Result<(), Failure> {
@@ -18,7 +19,7 @@ pub fn answer(
         "text" => show_text(rt, line, moment(words)?),
         "by_rule" => by_rule(rt, line, words),
         _ => match calendar {
-            Some(calendar) => asked(rt, calendar, line, call, words),
+            Some(calendar) => asked(rt, parts, calendar, line, call, words),
             None => Err(Failure::BadLine),
         },
     }
@@ -27,6 +28,7 @@ pub fn answer(
 /// Writes the answer of a call on a calendar.
 fn asked(
     rt: &(impl AllocGlobal + Print),
+    parts: &Parts,
     calendar: &Calendar,
     line: &str,
     call: &str,
@@ -42,8 +44,9 @@ fn asked(
             let (from, n) = halves(words, ' ')?;
             show(rt, line, calendar.add_open(moment(from)?, count(n)?))
         }
-        "due_at_once" => due(rt, calendar, line, words, true),
-        "due" => due(rt, calendar, line, words, false),
+        "due_at_once" => due(rt, parts, calendar, line, words, true),
+        "due" => due(rt, parts, calendar, line, words, false),
+        "dues" => dues(rt, parts, calendar, line, words),
         "bounded" => bounded(rt, calendar, line, words),
         "greatest" => greatest(rt, calendar, line, words),
         "ends" => ends(rt, calendar, line, words),
@@ -119,25 +122,60 @@ fn show_offsets(rt: &impl Print, line: &str, zone: &Zone, minutes: &str) -> Resu
 /// Writes when a limit is due, of a level that begins at once or with the opening.
 fn due(
     rt: &(impl AllocGlobal + Print),
+    parts: &Parts,
     calendar: &Calendar,
     line: &str,
     words: &str,
     start_immediately: bool,
 ) -> Result<(), Failure> {
     let (from, limit) = halves(words, ' ')?;
-    let limit = match halves(limit, ' ')? {
-        ("real", n) => Limit::RealMinutes(count(n)?),
-        ("business", n) => Limit::BusinessMinutes(count(n)?),
-        _ => return Err(Failure::BadLine),
-    };
-    let level = Level {
-        calendar: Text::new(rt.alloc(), "office")?,
-        start_immediately,
-        response: None,
-        keep_in_loop: None,
-        resolve: None,
-    };
-    show(rt, line, level.limit_due(calendar, moment(from)?, limit))
+    let limit = limit_of(limit)?;
+    let level = parts.level(rt.alloc(), start_immediately)?;
+    let due = level.limit_due(calendar, moment(from)?, limit, parts.stays());
+    show(rt, line, due)
+}
+
+/// `real N` or `business N`
+fn limit_of(words: &str) -> Result<Limit, Failure> {
+    match halves(words, ' ')? {
+        ("real", n) => Ok(Limit::RealMinutes(count(n)?)),
+        ("business", n) => Ok(Limit::BusinessMinutes(count(n)?)),
+        _ => Err(Failure::BadLine),
+    }
+}
+
+/// Counts a limit from each of so many minutes on, a day's round and round, and writes the sum of
+/// the moments at which it is due. So one line measures many calls.
+fn dues(
+    rt: &(impl AllocGlobal + Print),
+    parts: &Parts,
+    calendar: &Calendar,
+    line: &str,
+    words: &str,
+) -> Result<(), Failure> {
+    let (from, rest) = halves(words, ' ')?;
+    let (limit, calls) = rest.rsplit_once(' ').ok_or(Failure::BadLine)?;
+    let (from, limit) = (count(from)?, limit_of(limit)?);
+    let level = parts.level(rt.alloc(), false)?;
+    let mut sum = 0u64;
+    for call in 0..count(calls)? {
+        let from = from.saturating_add(call % 1440);
+        if let Some(due) = due_from(&level, calendar, from, limit, parts.stays()) {
+            sum = sum.wrapping_add(due.get() as u64);
+        }
+    }
+    println!(rt; "{line}: {sum}")?;
+    Ok(())
+}
+
+fn due_from(
+    level: &Level,
+    calendar: &Calendar,
+    from: u32,
+    limit: Limit,
+    stays: &[Stay],
+) -> Option<Minute> {
+    level.limit_due(calendar, Minute::new(from)?, limit, stays)
 }
 
 /// The spans that `first_open_counted` and `add_open_counted` of 60 read at the minute.

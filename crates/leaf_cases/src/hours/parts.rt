@@ -1,11 +1,11 @@
 //! The parts of a calendar, gathered from the lines of a case.
 
-use crate::failure::{Failure, halves, minute_of_day, number};
-use hours_core::{Calendar, HoursFault, Intervals, Zone};
+use crate::failure::{Failure, halves, minute_of_day, moment, number};
+use hours_core::{Calendar, HoursFault, Intervals, Level, Minute, Stay, Zone};
 use std::alloc::{AllocError, Global};
-use text_core::Text;
+use text_core::{Text, Texts};
 
-/// The parts of a calendar.
+/// The parts of a calendar, the statuses that a level ignores, and stays.
 #[derive(Drop)]
 pub struct Parts {
     first: i64,
@@ -14,6 +14,8 @@ pub struct Parts {
     week: [Intervals; 7],
     holidays: Vec<u32>,
     years: (i64, i64),
+    ignored: Texts,
+    stays: Vec<Stay>,
 }
 
 /// A week without intervals.
@@ -30,7 +32,7 @@ fn closed(alloc: Global) -> Result<[Intervals; 7], AllocError> {
 }
 
 impl Parts {
-    /// UTC, no intervals, no holidays, and the years that moments reach over.
+    /// UTC, no intervals, no holidays, the years that moments reach over, and no stays.
     pub fn new(alloc: Global) -> Result<Parts, AllocError> {
         Ok(Parts {
             first: 0,
@@ -39,6 +41,8 @@ impl Parts {
             week: closed(alloc)?,
             holidays: Vec::new(alloc),
             years: (2000, 2099),
+            ignored: Texts::from(Vec::new(alloc)),
+            stays: Vec::new(alloc),
         })
     }
 
@@ -50,6 +54,10 @@ impl Parts {
             "rule" => self.rule = Some(Text::new(alloc, rest)?),
             "week" => self.week = week(alloc, rest)?,
             "holidays" => self.holidays = days(alloc, rest)?,
+            "ignore" => self.ignored = texts(alloc, rest)?,
+            "stay" => self.take_stay(alloc, rest)?,
+            "stays" => self.take_stays(alloc, rest)?,
+            "no_stays" => self.stays = Vec::new(alloc),
             "years" => {
                 let (first, last) = halves(rest, ' ')?;
                 self.years = (number(first)?, number(last)?);
@@ -84,6 +92,67 @@ impl Parts {
         Ok(())
     }
 
+    /// Takes a stay, as `STATUS FROM UNTIL`, with `-` for no end.
+    fn take_stay(&mut self, alloc: Global, rest: &str) -> Result<(), Failure> {
+        let (status, rest) = halves(rest, ' ')?;
+        let (from, until) = halves(rest, ' ')?;
+        let until = match until {
+            "-" => None,
+            until => Some(moment(until)?),
+        };
+        self.put(alloc, status, moment(from)?, until)
+    }
+
+    /// Takes so many stays, each of so many minutes and so many minutes after the one before, as
+    /// `NUMBER STATUS FROM STEP MINUTES`.
+    fn take_stays(&mut self, alloc: Global, rest: &str) -> Result<(), Failure> {
+        let (stays, rest) = halves(rest, ' ')?;
+        let (status, rest) = halves(rest, ' ')?;
+        let (from, rest) = halves(rest, ' ')?;
+        let (step, minutes) = halves(rest, ' ')?;
+        let (step, minutes) = (number(step)?, number(minutes)?);
+        let mut from = number(from)?;
+        for _ in 0..number(stays)? {
+            let until = minute(from.saturating_add(minutes))?;
+            self.put(alloc, status, minute(from)?, Some(until))?;
+            from = from.saturating_add(step);
+        }
+        Ok(())
+    }
+
+    fn put(
+        &mut self,
+        alloc: Global,
+        status: &str,
+        from: Minute,
+        until: Option<Minute>,
+    ) -> Result<(), Failure> {
+        let status = Text::new(alloc, status)?;
+        self.stays.push(Stay {
+            status,
+            from,
+            until,
+        })?;
+        Ok(())
+    }
+
+    /// The stays.
+    pub fn stays(&self) -> &[Stay] {
+        self.stays.as_slice()
+    }
+
+    /// A level that ignores the statuses, and begins at once or with the opening.
+    pub fn level(&self, alloc: Global, start_immediately: bool) -> Result<Level, AllocError> {
+        Ok(Level {
+            calendar: Text::new(alloc, "office")?,
+            start_immediately,
+            response: None,
+            keep_in_loop: None,
+            resolve: None,
+            ignore: self.ignored.clone()?,
+        })
+    }
+
     /// The calendar of the parts. Writes how many spans it has, or the fault.
     pub fn build(&self, rt: &(impl AllocGlobal + Print)) -> Result<Option<Calendar>, Failure> {
         match self.calendar(rt.alloc()) {
@@ -111,6 +180,23 @@ impl Parts {
             self.years,
         )
     }
+}
+
+/// The moment of this number.
+fn minute(number: i64) -> Result<Minute, Failure> {
+    let number = u32::try_from(number).map_err(|_| Failure::BadLine)?;
+    Minute::new(number).ok_or(Failure::BadLine)
+}
+
+/// The words.
+fn texts(alloc: Global, rest: &str) -> Result<Texts, Failure> {
+    let mut texts = Vec::new(alloc);
+    for word in rest.split(' ') {
+        if !word.is_empty() {
+            texts.push(Text::new(alloc, word)?)?;
+        }
+    }
+    Ok(Texts::from(texts))
 }
 
 /// The first and the last number of `FIRST..END`, or of a number alone.

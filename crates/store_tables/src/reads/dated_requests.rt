@@ -5,16 +5,17 @@ ghost use Rattle.store_tables.specs.Calls.{Answers, OnlyRefuses, Spares};
 ghost use Rattle.store_tables.specs.Mismatches.{MismatchesInDated};
 ghost use Rattle.store_tables.specs.Orders.{by_dated_id, by_due};
 ghost use Rattle.store_tables.specs.Picked.{AreOrdered};
-ghost use Rattle.store_tables.specs.Selection.{has_number, is_due_before};
+ghost use Rattle.store_tables.specs.Selection.{has_number, is_dated_in, is_due_before};
 ghost use Rattle.store_tables.specs.declared.fault.StoreFault.{StoreFault};
 
-use crate::columns::number;
+use crate::columns::{number, words};
 use crate::fault::StoreFault;
 use crate::query::{select_all, select_one};
 use desk_model::RequestRow;
 use hours_core::Minute;
 use sqlite::{Alter, Connection};
 use std::alloc::Global;
+use text_core::Text;
 
 /// The requests, by number, each with its due moment. `Mismatch` where a row is no request or its
 /// due moment is neither a minute nor absent, `Refused` where the store or memory refuses it.
@@ -36,6 +37,32 @@ pub fn dated_requests<S: Alter>(
         "SELECT id, queue, subject, status, owner, level, created, opened, turn, since, due FROM \
         request ORDER BY id",
         &[],
+    )
+}
+
+/// The requests of a queue, by number, each with its due moment. `Mismatch` where a row is no
+/// request or its due moment is neither a minute nor absent, `Refused` where the store or memory
+/// refuses it.
+pub fn dated_of<S: Alter>(
+    alloc: Global,
+    conn: &mut Connection<S>,
+    queue: &Text,
+) -> Result<Vec<(RequestRow, Option<Minute>)>, StoreFault>
+    requires { conn.old.in_transaction ≡ false }
+    ensures idle { conn.new.in_transaction ≡ false }
+    ensures listed { Answers (λ c xs.
+        AreOrdered by_dated_id (filter (is_dated_in queue.now) c.dated) xs.items)
+        (state S.Store conn.old) (state S.Store conn.new) result }
+    ensures mismatch { MismatchesInDated
+        (state S.Store conn.old) (state S.Store conn.new) result }
+    ensures kept { Spares (state S.Store conn.old) (state S.Store conn.new) }
+{
+    select_all(
+        alloc,
+        conn,
+        "SELECT id, queue, subject, status, owner, level, created, opened, turn, since, due FROM \
+        request WHERE queue = ?1 ORDER BY id",
+        &[words(queue)],
     )
 }
 

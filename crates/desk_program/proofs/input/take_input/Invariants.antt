@@ -1,5 +1,5 @@
 -- what was taken so far is what the reader has lost, and each turn took a byte by one read
-use Rattle.std.proofs.Common.{◌≡◌, ◌≤◌, ◌+◌, length}
+use Rattle.std.proofs.Common.{◌≤◌, ◌+◌, length}
 use Rattle.std.specs.Io.KnownBytes.{Consumes}
 use Rattle.stream_core.specs.Seen.{HaveOneReader, left_in, reads_of}
 use Rattle.desk_program.specs.Input.{input_limit}

@@ -1,5 +1,5 @@
 -- the refusal's text was printed, or that there is no memory for it
-use Rattle.std.proofs.Common.{inl, inr, refl}
+use Rattle.std.proofs.Common.{inr, refl}
 use Rattle.desk_model.specs.declared.refusal.Refusal.TheVariants.{Unavailable}
 use Rattle.desk_program.proofs.one.put_refusal.Goals as goal
 

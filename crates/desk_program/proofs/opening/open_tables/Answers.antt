@@ -5,15 +5,16 @@ use Rattle.desk_model.specs.Desk.{empty_desk}
 use Rattle.store_core.specs.Seen.{state_of}
 use Rattle.desk_program.specs.FaultLines.{attach_fault_text, store_fault_text}
 use Rattle.desk_program.proofs.LedLines.{empty_is_desk}
-use Rattle.desk_program.proofs.Opened.{left_for, made_not_attached}
+use Rattle.desk_program.proofs.Opened.{brought, made_not_attached}
 use Rattle.desk_program.proofs.opening.open_tables.Goals as goal
 
 pub returns-in-Ok-clause-renewed : goal.returns-in-Ok-clause-renewed
 returns-in-Ok-clause-renewed g c =
     IfOk-weaker c.attach.result _ _
     (λ attached renews desk formed stand.
-    renews desk formed (left_for (state_of g.S.Store c.args.store) (state_of g.S.Store c.create_schema.new.self)
-    c.in-Ok.ensures.kept desk stand))
+    renews desk formed (brought (state_of g.S.Store c.args.store)
+    (state_of g.S.Store c.create_schema.new.self) c.in-Ok.ensures.kept
+    (λ d f due first. (c.in-Ok.ensures.migrated d f due first).0) desk formed stand))
     c.attach.ensures.renewed
 
 pub returns-in-Ok-clause-made : goal.returns-in-Ok-clause-made
@@ -26,8 +27,9 @@ pub returns-in-Ok-clause-known : goal.returns-in-Ok-clause-known
 returns-in-Ok-clause-known g c =
     IfOk-weaker c.attach.result _ _
     (λ attached knows desk formed stand clean.
-    knows desk formed (left_for (state_of g.S.Store c.args.store) (state_of g.S.Store c.create_schema.new.self)
-    c.in-Ok.ensures.kept desk stand) clean)
+    knows desk formed (brought (state_of g.S.Store c.args.store)
+    (state_of g.S.Store c.create_schema.new.self) c.in-Ok.ensures.kept
+    (λ d f due first. (c.in-Ok.ensures.migrated d f due first).0) desk formed stand) clean)
     c.attach.ensures.known
 
 pub returns-in-Ok-clause-told : goal.returns-in-Ok-clause-told
@@ -41,7 +43,8 @@ returns-in-Ok-clause-told g c =
           refl,
           made_not_attached c.args.settings (state_of g.S.Store c.args.store)
               (state_of g.S.Store c.create_schema.new.self) (state_of g.S.Store back.1) told.0
-              c.in-Ok.ensures.kept c.in-Ok.ensures.honest
+              c.in-Ok.ensures.kept (λ d f due first. (c.in-Ok.ensures.migrated d f due first).0)
+              c.in-Ok.ensures.honest
               (λ blank. (c.in-Ok.ensures.made blank).0)
               (λ contents stand clean.
               (c.in-Ok.ensures.version.0 contents stand clean).0)
@@ -62,6 +65,12 @@ returns-in-Err-clause-told g c = (
       refl,
       record {
         kept = c.in-Err.ensures.kept;
+        left = c.in-Err.ensures.undone;
+        first =
+            λ desk formed stand. (
+              stand.0,
+              (c.in-Err.ensures.migrated desk formed stand.0 stand.1).1,
+            );
         blank = λ blank. let made = c.in-Err.ensures.made blank in (made.1, made.2);
         version = λ contents stand clean. (c.in-Err.ensures.version.0 contents stand clean).1;
       },

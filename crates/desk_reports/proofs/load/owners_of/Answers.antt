@@ -5,8 +5,9 @@ use Rattle.std.specs.Prelude.{unwrap_or}
 use Rattle.std.specs.BTreeMap.{insert_entry, is_at}
 use Rattle.std.specs.Map.{lookup}
 use Rattle.desk_model.specs.Readings.Workload.{owner_order}
-use Rattle.desk_model.specs.Told.{is_late, told_in}
-use Rattle.desk_reports.specs.Rows.{counted, entries_of, live_among, no_counts, told_among}
+use Rattle.desk_model.specs.Told.{is_late}
+use Rattle.desk_reports.specs.Rows.{counted, entries_of, is_live, live_among, no_counts}
+use Rattle.desk_reports.specs.Rows.{told_among}
 use Rattle.desk_reports.proofs.LoadLemmas.{counted_more, live_fewer, live_more}
 use Rattle.desk_reports.proofs.load.owners_of.Goals as goal
 use Rattle.desk_reports.proofs.load.owners_of.Goals.{then-is_live+in_ok-count, else-is_live}
@@ -18,24 +19,25 @@ loop-row-preserved c rise small =
     let queues = c.args.queues.now in
     let rows = c.args.rows.now in
     let i = c.loop-row.row-index in
-    let row = c.row-item.result in
+    let row = c.loop-row-item.result in
     let before = live_among settings queues (take i rows) in
     let t = told_among settings queues row in
+    let owner = row.0.owner in
     let few = live_fewer settings queues rows i (omega (arith, c.loop-row-test.true)) in
-    let grown = live_more settings queues rows i row c.loop-row-test.true c.row-item.is in
+    let grown = live_more settings queues rows i row c.loop-row-test.true c.loop-row-item.is in
     let named = c.queue_named-queue.ensures rise in
     let so_far = c.loop-row.invariant rise small in
     let lives : c.is_live.result ≡ t.is_live =
-    c.is_live.ensures ∙ ap (λ q. (told_in settings q row).is_live) named in
+    c.is_live.ensures ∙ ap (λ q. is_live settings q row.0) named in
     elim c.if-is_live.branch [
       | then-is_live+in_ok-count w ↦
           ap (λ m. m.entries) w.owners-is
           ∙ w.in_ok-count.ensures
-          ∙ ap (λ es. insert_entry owner_order es row.owner (counted w.is_late.result
-          (unwrap_or (lookup (is_at (owner_order row.owner)) es) no_counts))) so_far
-          ∙ ap (λ b. insert_entry owner_order (entries_of at before) row.owner (counted b
-          (unwrap_or (lookup (is_at (owner_order row.owner)) (entries_of at before)) no_counts)))
-          (w.is_late.ensures ∙ ap (λ q. is_late at (told_in settings q row)) named)
+          ∙ ap (λ es. insert_entry owner_order es owner (counted w.is_late.result
+          (unwrap_or (lookup (is_at (owner_order owner)) es) no_counts))) so_far
+          ∙ ap (λ b. insert_entry owner_order (entries_of at before) owner (counted b
+          (unwrap_or (lookup (is_at (owner_order owner)) (entries_of at before)) no_counts)))
+          w.is_late.ensures
           ∙ counted_more at before t (omega (arith, few, small, c.loop-row-test.true))
           ∙ ap (entries_of at) (sym (grown
           ∙ ap (λ b. before ++ cond b (t ∷ []) []) (sym lives ∙ w.if-is_live.true)))

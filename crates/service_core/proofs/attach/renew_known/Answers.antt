@@ -1,10 +1,10 @@
 -- the settings know what was read, and what was read is renewed
-use Rattle.std.proofs.Common.{◌∙◌, ◌≡◌, Err, Ok, false, rules, subst, sym, true}
+use Rattle.std.proofs.Common.{◌∙◌, ◌≡◌, Err, rules, subst, sym}
 use Rattle.std.specs.Prelude.{⊤}
 use Rattle.desk_reports.specs.Rows.{QueuesRise}
 use Rattle.store_core.specs.Seen.{state_of}
 use Rattle.store_tables.specs.Contents.{contents_of}
-use Rattle.store_tables.proofs.RefusalLemmas.{dated_refuse, queues_refuse}
+use Rattle.store_tables.proofs.RefusalLemmas.{dated_refuse, queues_refuse, stays_refuse}
 use Rattle.store_tables.proofs.Spared.{joined, stands, stands_for}
 use Rattle.service_core.proofs.KnownLemmas.{known_of_dated}
 use Rattle.service_core.proofs.attach.renew_known.Goals as goal
@@ -32,17 +32,33 @@ returns-in_err-queues-clause-fault g c d stand =
     {X = ⊤} (Err c.in_err-queues.field-0.0) c.in_err-queues.ensures.mismatch d
     (stands c.dated_requests.ensures.kept d stand))
 
+pub returns-in_err-stays-clause-left : goal.returns-in_err-stays-clause-left
+returns-in_err-stays-clause-left g c other =
+    stands (joined (joined c.dated_requests.ensures.kept c.queues.ensures.kept)
+    c.stays.ensures.kept)
+
+pub returns-in_err-stays-clause-fault : goal.returns-in_err-stays-clause-fault
+returns-in_err-stays-clause-fault g c d stand =
+    let is : c.from_residual-in_err-stays.result ≡ Err c.in_err-stays.field-0.0 =
+    search rules in
+    rw is (stays_refuse (state_of g.S.Store c.queues.new.self)
+    (state_of g.S.Store c.stays.new.self) c.stays.ensures.kept.clean
+    {X = ⊤} (Err c.in_err-stays.field-0.0) c.in_err-stays.ensures.mismatch d
+    (stands (joined c.dated_requests.ensures.kept c.queues.ensures.kept) d stand))
+
 pub returns-in_err-is_known-clause-left : goal.returns-in_err-is_known-clause-left
 returns-in_err-is_known-clause-left g c other =
-    stands (joined (joined c.dated_requests.ensures.kept c.queues.ensures.kept)
-    c.is_known.ensures.kept)
+    stands (joined (joined (joined c.dated_requests.ensures.kept c.queues.ensures.kept)
+    c.stays.ensures.kept) c.is_known.ensures.kept)
 
 pub returns-then-not-branch-clause-told : goal.returns-then-not-branch-clause-told
 returns-then-not-branch-clause-told g c desk is stand clean =
-    let queues_clean = c.is_known.ensures.kept.clean clean in
+    let stays_clean = c.is_known.ensures.kept.clean clean in
+    let queues_clean = c.stays.ensures.kept.clean stays_clean in
     let dated_clean = c.queues.ensures.kept.clean queues_clean in
     let after_dated = stands_for c.dated_requests.ensures.kept desk stand in
     let after_queues = stands_for c.queues.ensures.kept desk after_dated in
+    let after_stays = stands_for c.stays.ensures.kept desk after_queues in
     let those =
     c.as_slice-dated.ensures.value
     ∙ c.in_ok-dated.ensures.listed desk is stand.0 stand.1 dated_clean in
@@ -50,28 +66,30 @@ returns-then-not-branch-clause-told g c desk is stand clean =
     c.as_slice-queues.ensures.value
     ∙ c.in_ok-queues.ensures.listed desk is after_dated queues_clean in
     known_of_dated c.args.settings.now desk stand.0 _ _ c.in_ok-is_known.field-0 these those
-    (c.in_ok-is_known.ensures.told (subst QueuesRise (sym these) is.queues) desk is after_queues
+    (c.in_ok-is_known.ensures.told (subst QueuesRise (sym these) is.queues) desk is after_stays
     clean)
     ∙ c.if-not-branch.true
 
 pub returns-then-not-branch-clause-left : goal.returns-then-not-branch-clause-left
 returns-then-not-branch-clause-left g c other =
-    stands (joined (joined c.dated_requests.ensures.kept c.queues.ensures.kept)
-    c.is_known.ensures.kept)
+    stands (joined (joined (joined c.dated_requests.ensures.kept c.queues.ensures.kept)
+    c.stays.ensures.kept) c.is_known.ensures.kept)
 
 pub returns-in_err-renew-clause-left : goal.returns-in_err-renew-clause-left
 returns-in_err-renew-clause-left g c other d stand =
     c.in_err-renew.ensures.left d
-    (stands (joined (joined c.dated_requests.ensures.kept c.queues.ensures.kept)
-    c.is_known.ensures.kept) d stand)
+    (stands (joined (joined (joined c.dated_requests.ensures.kept c.queues.ensures.kept)
+    c.stays.ensures.kept) c.is_known.ensures.kept) d stand)
 
 pub returns-clause-told : goal.returns-clause-told
 returns-clause-told g c desk is stand clean =
     let known_clean = c.renew.ensures.honest clean in
-    let queues_clean = c.is_known.ensures.kept.clean known_clean in
+    let stays_clean = c.is_known.ensures.kept.clean known_clean in
+    let queues_clean = c.stays.ensures.kept.clean stays_clean in
     let dated_clean = c.queues.ensures.kept.clean queues_clean in
     let after_dated = stands_for c.dated_requests.ensures.kept desk stand in
     let after_queues = stands_for c.queues.ensures.kept desk after_dated in
+    let after_stays = stands_for c.stays.ensures.kept desk after_queues in
     let those =
     c.as_slice-dated.ensures.value
     ∙ c.in_ok-dated.ensures.listed desk is stand.0 stand.1 dated_clean in
@@ -79,22 +97,25 @@ returns-clause-told g c desk is stand clean =
     c.as_slice-queues.ensures.value
     ∙ c.in_ok-queues.ensures.listed desk is after_dated queues_clean in
     known_of_dated c.args.settings.now desk stand.0 _ _ c.in_ok-is_known.field-0 these those
-    (c.in_ok-is_known.ensures.told (subst QueuesRise (sym these) is.queues) desk is after_queues
+    (c.in_ok-is_known.ensures.told (subst QueuesRise (sym these) is.queues) desk is after_stays
     known_clean)
     ∙ c.if-not-branch.false
 
 pub returns-clause-renewed : goal.returns-clause-renewed
 returns-clause-renewed g c known desk is stand clean live =
     let known_clean = c.renew.ensures.honest clean in
-    let queues_clean = c.is_known.ensures.kept.clean known_clean in
+    let stays_clean = c.is_known.ensures.kept.clean known_clean in
+    let queues_clean = c.stays.ensures.kept.clean stays_clean in
     let dated_clean = c.queues.ensures.kept.clean queues_clean in
     let after_dated = stands_for c.dated_requests.ensures.kept desk stand in
+    let after_queues = stands_for c.queues.ensures.kept desk after_dated in
     let those =
     c.as_slice-dated.ensures.value
     ∙ c.in_ok-dated.ensures.listed desk is stand.0 stand.1 dated_clean in
     let these =
     c.as_slice-queues.ensures.value
     ∙ c.in_ok-queues.ensures.listed desk is after_dated queues_clean in
-    c.in_ok-renew.ensures.renewed desk is stand.0 these those
-    (stands (joined (joined c.dated_requests.ensures.kept c.queues.ensures.kept)
-    c.is_known.ensures.kept) (contents_of stand.0 desk) stand.1) clean live
+    let all = c.in_ok-stays.ensures.listed desk is after_queues stays_clean in
+    c.in_ok-renew.ensures.renewed desk is stand.0 these all those
+    (stands (joined (joined (joined c.dated_requests.ensures.kept c.queues.ensures.kept)
+    c.stays.ensures.kept) c.is_known.ensures.kept) (contents_of stand.0 desk) stand.1) clean live

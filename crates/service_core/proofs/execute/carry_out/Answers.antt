@@ -2,7 +2,7 @@
 use Rattle.std.proofs.Common.{◌∙◌, sym}
 use Rattle.store_tables.proofs.Spared.{stands}
 use Rattle.service_core.specs.TableSteps.{ask_by}
-use Rattle.service_core.proofs.Stepping.{left_by, read_where, written_where}
+use Rattle.service_core.proofs.Stepping.{read_where, written_where}
 use Rattle.store_core.specs.Seen.{state_of}
 use Rattle.service_core.proofs.execute.carry_out.Goals as goal
 

@@ -25,3 +25,6 @@ returns-in-Err-clause-step g c =
     unavailable_on c.args.settings.now (ask_by c.args.at c.args.caller.now c.args.command.now)
     c.unavailable.result (state_of g.S.Store c.args.store.now) (state_of g.S.Store c.facts_for.new.self)
     c.unavailable.ensures (stands c.facts_for.ensures.kept)
+
+pub returns-in-Err-clause-refused : goal.returns-in-Err-clause-refused
+returns-in-Err-clause-refused g c = stands c.facts_for.ensures.kept

@@ -1,8 +1,7 @@
-use Rattle.std.proofs.Common.{◌∙◌, ap}
+use Rattle.std.proofs.Common.{ap}
 use Rattle.desk_model.specs.declared.answer.Answer.TheVariants.{Listed}
 use Rattle.service_core.proofs.reading.list.Goals as goal
 
 pub returns-clause-told : goal.returns-clause-told
-returns-clause-told g c at desk is stand clean seen =
-    ap Listed (c.in_ok-lines.ensures.told desk is stand clean
-    (c.as_ref-in_queue.ensures.value ∙ ap (λ f. f.queue) seen))
+returns-clause-told g c at facts desk is stand clean seen =
+    ap Listed (c.in_ok-lines.ensures.told desk is stand clean)

@@ -23,9 +23,9 @@ returns-in-History-clause-told g c =
 
 pub returns-in-List-clause-told : goal.returns-in-List-clause-told
 returns-in-List-clause-told g c =
-    asked_as c.args.facts.now c.args.settings.now c.args.at c.args.caller.now c.args.command.now _
+    due_as c.args.facts.now c.args.settings.now c.args.at c.args.caller.now c.args.command.now _
     c.list.result (state_of g.S.Store c.args.store.now) (state_of g.S.Store c.list.new.store)
-    c.in-List.is (c.list.ensures.told c.args.at)
+    c.in-List.is (c.list.ensures.told c.args.at c.args.facts.now)
 
 pub returns-in-Overdue-clause-told : goal.returns-in-Overdue-clause-told
 returns-in-Overdue-clause-told g c =
@@ -35,7 +35,7 @@ returns-in-Overdue-clause-told g c =
 
 pub returns-in-Workload-clause-told : goal.returns-in-Workload-clause-told
 returns-in-Workload-clause-told g c =
-    asked_as c.args.facts.now c.args.settings.now c.args.at c.args.caller.now c.args.command.now _
+    due_as c.args.facts.now c.args.settings.now c.args.at c.args.caller.now c.args.command.now _
     c.workload.result (state_of g.S.Store c.args.store.now)
     (state_of g.S.Store c.workload.new.store) c.in-Workload.is
     (c.workload.ensures.told c.args.facts.now)

@@ -2,7 +2,6 @@
 use Rattle.std.proofs.Common.{[]}
 use Rattle.desk_lists.proofs.PrintedLemmas.{prints_none}
 use Rattle.store_core.specs.Due.{due_of_row}
-use Rattle.store_core.specs.Seen.{state_of}
 use Rattle.store_tables.proofs.Spared.{stands}
 use Rattle.store_tables.specs.Contents.{contents_of}
 use Rattle.stream_core.specs.Seen.{has_write_failed}

@@ -1,24 +1,29 @@
 use Rattle.std.proofs.Common.{◌≡◌, OnOk, OnErr, fold, subst, rules}
 use Rattle.sqlite.specs.Held.{state}
 use Rattle.store_tables.specs.Stands.{Stand}
-use Rattle.store_tables.proofs.StandLemmas.{begins}
+use Rattle.store_tables.proofs.StandLemmas.{begins, held, within_next}
 use Rattle.store_tables.specs.Contents.{set_each_due}
 use Rattle.store_core.proofs.dues.write_dues.Goals as goal
 
 pub returns-clause-done : goal.returns-clause-done
 returns-clause-done g c d stand =
+    let tx = state g.S.Store c.transaction-tx.result.conn.now in
     let begun = begins g.S.Store c.args.conn.now c.transaction-tx.result.conn.now d
     c.transaction-tx.ensures.begun stand in
     let last = fold set_each_due d c.args.dues.now in
     let same : c.finish.new.tx.0 ≡ c.conn-2-1.given.0 = search rules in
     subst (λ h. OnOk c.finish.result (Stand last (state g.S.Store h))) same
-    (c.finish.ensures.done last d (c.in_ok-set_dues.ensures.set.makes d d begun))
+    (c.finish.ensures.done last (c.in_ok-set_dues.ensures.set.makes d (held d d tx begun)))
 
 pub returns-clause-undone : goal.returns-clause-undone
 returns-clause-undone g c d stand =
+    let tx = state g.S.Store c.transaction-tx.result.conn.now in
+    let middle = state g.S.Store c.set_dues.new.tx.conn.now in
     let begun = begins g.S.Store c.args.conn.now c.transaction-tx.result.conn.now d
     c.transaction-tx.ensures.begun stand in
     let last = fold set_each_due d c.args.dues.now in
     let same : c.finish.new.tx.0 ≡ c.conn-2-1.given.0 = search rules in
     subst (λ h. OnErr c.finish.result (Stand d (state g.S.Store h))) same
-    (c.finish.ensures.undone last d (c.in_ok-set_dues.ensures.set.makes d d begun))
+    (c.finish.ensures.undone last d (within_next d last d tx middle
+    c.in_ok-set_dues.ensures.set.keeps begun
+    (c.in_ok-set_dues.ensures.set.makes d (held d d tx begun))))

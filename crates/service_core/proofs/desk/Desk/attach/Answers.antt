@@ -1,5 +1,5 @@
 -- a fault leaves the tables
-use Rattle.std.proofs.Common.{◌≡◌, ap, inr}
+use Rattle.std.proofs.Common.{ap, inr}
 use Rattle.service_core.specs.declared.fault.AttachFault.TheVariants.{Store}
 use Rattle.service_core.proofs.desk.Desk.attach.Goals as goal
 

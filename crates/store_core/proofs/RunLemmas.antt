@@ -1,0 +1,139 @@
+-- Calls in a transaction, one after another: they hold something still, and the last commit stays.
+use Rattle.std.proofs.Common.{◌≡◌, ◌≢◌, ◌∙◌, ◌+◌, ◌<◌, ◌≤◌, ℕ, List, [], ◌∷◌, length, take}
+use Rattle.std.proofs.Common.{get_or, fold, Ok, Err, IfErr, OnOk, Result, ap, arith, inl, inr, refl, subst, sym}
+use Rattle.std.specs.Prelude.{⊤}
+use Rattle.std.proofs.lemmas.List.{get_or_default}
+use Rattle.sqlite.specs.Effect.{Database}
+use Rattle.sqlite.specs.Order.{Row}
+use Rattle.sqlite.specs.State.{State, HasCleanDisk}
+use Rattle.sqlite_rules.specs.Lists.{Has}
+use Rattle.desk_model.specs.Desk.{Desk}
+use Rattle.store_tables.specs.Calls.{Does, FailsIn, Looks, WasClean}
+use Rattle.store_tables.specs.Contents.{Contents}
+use Rattle.store_tables.specs.Picked.{shows}
+use Rattle.store_tables.specs.Queries.{version_shown}
+use Rattle.store_tables.specs.Reading.{IsNumberRow}
+use Rattle.store_tables.specs.Stands.{HoldsNow, KeepsBase, Tables}
+use Rattle.store_tables.specs.declared.fault.StoreFault.{StoreFault}
+use Rattle.store_tables.specs.declared.fault.StoreFault.TheVariants.{Mismatch, Refused}
+use Rattle.store_tables.specs.declared.fault.StoreFault.TheVariants.{WrongVersion}
+use Rattle.store_tables.proofs.RowLemmas.{TableOf, refuses}
+use Rattle.store_tables.proofs.StandLemmas.{desk_is_there, fold_more}
+use Rattle.store_tables.proofs.ValueLemmas.{values_of}
+use Rattle.store_core.specs.Migrating.{FillsStays, RunsOn, stays_filled}
+use Rattle.store_core.proofs.FactsLemmasOfDesk.{take_all}
+use Rattle.store_core.proofs.MigrationLemmas.{filled_only}
+
+pub and_then : {X E P Q : Type 0} (r : Result X E) → (P → Q) → OnOk r P → OnOk r Q
+and_then (Ok x) f h = f h
+and_then (Err e) f h = h
+
+pub always : {X E P : Type 0} (r : Result X E) → P → OnOk r P
+always (Ok x) p = p
+always (Err e) p = tt
+
+pub at_each : {X E : Type 0} {P : E → Type 0} (r : Result X E) → ((e : E) → P e) → IfErr r P
+at_each (Ok x) each = tt
+at_each (Err e) each = each e
+
+pub keeps_on : (a b c : State) → KeepsBase a b → KeepsBase b c → KeepsBase a c
+keeps_on a b c one two d o =
+    let last = two d o in
+    let first = one last.0 last.1 in
+    (first.0, first.1, last.2 ∙ first.2)
+
+-- where they hold what they held
+pub stays_on : {X : Type 0} (x : X) (a b : State) → ((c : Contents) → HoldsNow c a → HoldsNow c b)
+    → ((c : Contents) → HoldsNow c a → KeepsBase a b) → WasClean a b
+    → (let r : Result X StoreFault = Ok x in RunsOn a b r)
+stays_on x a b holds keeps clean = record {
+  holds = λ c h. (c, holds c h);
+  keeps = keeps;
+  clean = clean;
+}
+
+-- a query, a change, and one after the other
+pub looks_on : {X : Type 0} (a b : State) (r : Result X StoreFault) → Looks a b r → RunsOn a b r
+looks_on a b r looks = record {
+  holds = λ c h. and_then r (λ k. (c, k)) (looks.makes c h);
+  keeps = λ c h. looks.keeps (desk_is_there c a h);
+  clean = looks.clean;
+}
+
+pub does_on : {X : Type 0} (change : Contents → Contents) (a b : State) (r : Result X StoreFault)
+    → Does change a b r → RunsOn a b r
+does_on change a b r does = record {
+  holds = λ c h. and_then r (λ k. (change c, k)) (does.makes c h);
+  keeps = λ c h. does.keeps;
+  clean = does.clean;
+}
+
+pub runs_then : {X Y : Type 0} (x : X) (a b c : State) (r : Result Y StoreFault)
+    → RunsOn a b (Ok x) → RunsOn b c r → RunsOn a c r
+runs_then x a b c r one two = record {
+  holds = λ d h. let it = one.holds d h in two.holds it.0 it.1;
+  keeps = λ d h. let it = one.holds d h in keeps_on a b c (one.keeps d h) (two.keeps it.0 it.1);
+  clean = λ d. one.clean (two.clean d);
+}
+
+-- a fault is one of whatever was asked for
+pub runs_failed : {X Y : Type 0} (e f : StoreFault) (a b : State)
+    → (let r : Result X StoreFault = Err e in RunsOn a b r)
+    → (let r : Result Y StoreFault = Err f in RunsOn a b r)
+runs_failed e f a b on =
+    record { holds = λ c h. tt; keeps = on.keeps; clean = on.clean }
+
+-- over tables that hold values, a list is read or refused
+pub inside_refused : {K V : Type 0} (t : TableOf K V) (a b : State) → WasClean a b
+    → (e : StoreFault)
+    → (let r : Result ⊤ StoreFault = Err e in FailsIn t.tree t.terms t.IsValue a b r)
+    → (c : Contents) → HoldsNow c a → HasCleanDisk b → e ≡ Refused
+inside_refused t a b clean e fails c holds now =
+    let r : Result ⊤ StoreFault = Err e in
+    refuses t (record a { committed = a.now }) b clean r fails c
+    (λ d o. let it = holds d o in (it.0, it.0)) now
+
+-- nor is the version another than a number
+pub version_valued : (c : Contents) (db : Database) → Tables c db → (r : Row) → Has (db.trees 0) r
+    → IsNumberRow (shows version_shown [] r)
+version_valued c db t r has = elim (subst (λ rows. Has rows r) t.meta has) [
+  | inl same ↦ subst (λ row. IsNumberRow (shows version_shown [] row)) (sym same)
+      (record { wide = omega arith; number = (c.version, refl, (values_of c t.values).version) })
+  | inr none ↦ absurd none
+]
+
+refused : (e : StoreFault) → e ≢ WrongVersion → (e ≡ Mismatch → ⊥) → e ≡ Refused
+refused WrongVersion version mismatch = absurd (version refl)
+refused Mismatch version mismatch = absurd (mismatch refl)
+refused Refused version mismatch = refl
+
+-- where what a mismatch comes of can't be
+pub no_mismatch : {X Y : Type 0} (r : Result X StoreFault) → IfErr r (λ e. e ≢ WrongVersion)
+    → IfErr r (λ e. e ≡ Mismatch → Y) → (Y → ⊥) → IfErr r (λ e. e ≡ Refused)
+no_mismatch (Ok x) version mismatch never = tt
+no_mismatch (Err e) version mismatch never = refused e version (λ wrong. never (mismatch wrong))
+
+-- ---- a loop that fills in stays
+
+-- whose steps go well
+abbrev pub FillsInto : (Desk → List ℕ) → State → State → Type 0
+FillsInto numbers a b = let done : Result ⊤ StoreFault = Ok tt in FillsStays numbers a b done
+
+pub fills_more : (ids : List ℕ) (i : ℕ) (a b c : State) → i < length ids
+    → FillsInto (λ desk. take i ids) a b → FillsInto (λ desk. get_or ids i 0 ∷ []) b c
+    → FillsInto (λ desk. take (i + 1) ids) a c
+fills_more ids i a b c low so_far one desk desk_is due d dated entries h =
+    let id = get_or ids i 0 in
+    let f = stays_filled desk in
+    let now = fold f d (take i ids) in
+    let only = filled_only desk (take i ids) d in
+    subst (λ e. HoldsNow e c) (sym (fold_more f d ids i id low (get_or_default ids i 0 id low)))
+    (one desk desk_is due now (ap (λ (e : Contents). e.dated) only ∙ dated)
+    (ap (λ (e : Contents). e.entries) only ∙ entries)
+    (so_far desk desk_is due d dated entries h))
+
+pub fills_all : (ids : List ℕ) (i : ℕ) (a b : State) → length ids ≤ i
+    → FillsInto (λ desk. take i ids) a b → FillsInto (λ desk. ids) a b
+fills_all ids i a b high so_far desk desk_is due d dated entries h =
+    subst (λ ns. HoldsNow (fold (stays_filled desk) d ns) b) (take_all i ids high)
+    (so_far desk desk_is due d dated entries h)

@@ -1,0 +1,129 @@
+//! The version of the tables, which are brought to the present one.
+ghost use Rattle.std.specs.Prelude.{◌≡◌, ◌≢◌, [], IfErr, IfOk, IfSome, None, OnOk, Some};
+ghost use Rattle.sqlite.specs.Held.{state};
+ghost use Rattle.sqlite.specs.State.{HasCleanDisk};
+ghost use Rattle.store_tables.specs.Calls.{Inside, Makes, ShowsRowsOf, WasClean};
+ghost use Rattle.store_tables.specs.Contents.{Contents};
+ghost use Rattle.store_tables.specs.Making.{BlamesMeta, Fresh, IsKnown, IsOfMeta, Made};
+ghost use Rattle.store_tables.specs.Making.{ShowsVersion, WrongInside};
+ghost use Rattle.store_tables.specs.Mismatches.{MismatchesInMeta};
+ghost use Rattle.store_tables.specs.Queries.{version_shown};
+ghost use Rattle.store_tables.specs.Stands.{HasTables, HoldsNow, KeepsBase};
+ghost use Rattle.store_tables.specs.Tables.{desk_schema};
+ghost use Rattle.store_tables.specs.declared.fault.StoreFault.{StoreFault};
+ghost use Rattle.store_core.specs.Migrating.{BringsUp, IsBlamed, RefusesOn, RunsOn};
+
+use crate::migration::migrate;
+use sqlite::{Alter, Row, Transaction};
+use std::alloc::Global;
+use store_tables::StoreFault;
+use store_tables::reads::version::version_in;
+use store_tables::transaction::run;
+
+/// The rows of the version.
+fn version_rows<S: Alter>(tx: &mut Transaction<'_, S>) -> Result<Vec<Row>, StoreFault>
+    ensures same_reference { tx.new.conn.ghost_name ≡ tx.old.conn.ghost_name }
+    ensures none { Made desk_schema (state S.Store tx.old.conn.now) →
+        HasCleanDisk (state S.Store tx.new.conn.now) → IfOk result (λ rows. rows.items ≡ []) }
+    ensures one { Inside (λ c rows. ShowsVersion c.version rows.items)
+        (state S.Store tx.old.conn.now) (state S.Store tx.new.conn.now) result }
+    ensures made { Made desk_schema (state S.Store tx.old.conn.now) →
+        OnOk result (Made desk_schema (state S.Store tx.new.conn.now)) }
+    ensures there { Makes (λ c. c)
+        (state S.Store tx.old.conn.now) (state S.Store tx.new.conn.now) result }
+    ensures keeps { HasTables (state S.Store tx.old.conn.now) →
+        KeepsBase (state S.Store tx.old.conn.now) (state S.Store tx.new.conn.now) }
+    ensures honest { WasClean (state S.Store tx.old.conn.now) (state S.Store tx.new.conn.now) }
+    ensures of_table { ShowsRowsOf 0 version_shown (λ rows. rows.items)
+        (state S.Store tx.old.conn.now) (state S.Store tx.new.conn.now) result }
+    ensures fault { IfErr result (λ e. e ≡ StoreFault.Refused) }
+{
+    match tx.query_all("SELECT version FROM meta", &[]) {
+        Ok(rows) => Ok(rows),
+        Err(_) => Err(StoreFault::Refused),
+    }
+}
+
+/// The version that the tables hold, or none where `meta` has no row.
+fn read_version<S: Alter>(tx: &mut Transaction<'_, S>) -> Result<Option<u32>, StoreFault>
+    ensures same_reference { tx.new.conn.ghost_name ≡ tx.old.conn.ghost_name }
+    ensures none { Made desk_schema (state S.Store tx.old.conn.now) →
+        HasCleanDisk (state S.Store tx.new.conn.now) → IfOk result (λ v. v ≡ None) }
+    ensures refused { Made desk_schema (state S.Store tx.old.conn.now) →
+        HasCleanDisk (state S.Store tx.new.conn.now) →
+        IfErr result (λ e. e ≡ StoreFault.Refused) }
+    ensures one { Inside (λ c v. v ≡ Some c.version)
+        (state S.Store tx.old.conn.now) (state S.Store tx.new.conn.now) result }
+    ensures made { Made desk_schema (state S.Store tx.old.conn.now) →
+        OnOk result (Made desk_schema (state S.Store tx.new.conn.now)) }
+    ensures there { Makes (λ c. c)
+        (state S.Store tx.old.conn.now) (state S.Store tx.new.conn.now) result }
+    ensures keeps { HasTables (state S.Store tx.old.conn.now) →
+        KeepsBase (state S.Store tx.old.conn.now) (state S.Store tx.new.conn.now) }
+    ensures honest { WasClean (state S.Store tx.old.conn.now) (state S.Store tx.new.conn.now) }
+    ensures refuses { RefusesOn
+        (state S.Store tx.old.conn.now) (state S.Store tx.new.conn.now) result }
+    ensures mismatch { MismatchesInMeta
+        (state S.Store tx.old.conn.now) (state S.Store tx.new.conn.now) result }
+    ensures of_meta { HasTables (state S.Store tx.old.conn.now) →
+        HasCleanDisk (state S.Store tx.new.conn.now) →
+        IfOk result (λ v. IfSome v (IsOfMeta (state S.Store tx.old.conn.now))) }
+    ensures fault { IfErr result (λ e. e ≢ StoreFault.WrongVersion) }
+{
+    let rows = version_rows(tx)?;
+    version_in(rows.as_slice())
+}
+
+/// Writes the present version, 2, into new tables.
+fn add_version<S: Alter>(tx: &mut Transaction<'_, S>) -> Result<(), StoreFault>
+    ensures same_reference { tx.new.conn.ghost_name ≡ tx.old.conn.ghost_name }
+    ensures fresh { Made desk_schema (state S.Store tx.old.conn.now) →
+        OnOk result (Fresh (state S.Store tx.new.conn.now)) }
+    ensures keeps { KeepsBase (state S.Store tx.old.conn.now) (state S.Store tx.new.conn.now) }
+    ensures honest { WasClean (state S.Store tx.old.conn.now) (state S.Store tx.new.conn.now) }
+    ensures fault { IfErr result (λ e. e ≡ StoreFault.Refused) }
+{
+    let _ = run(tx, "INSERT INTO meta (one, version) VALUES (1, 2)", &[])?;
+    Ok(())
+}
+
+/// Brings the tables to the present version: those that are new, and those of version 1, whose
+/// stays are filled in. `WrongVersion` where they are of another one.
+pub(crate) fn bring_up<S: Alter>(
+    alloc: Global,
+    tx: &mut Transaction<'_, S>,
+) -> Result<(), StoreFault>
+    ensures same_reference { tx.new.conn.ghost_name ≡ tx.old.conn.ghost_name }
+    ensures fresh { Made desk_schema (state S.Store tx.old.conn.now) →
+        OnOk result (Fresh (state S.Store tx.new.conn.now)) }
+    ensures there { (c : Contents) → c.version ≢ 1 →
+        HoldsNow c (state S.Store tx.old.conn.now) →
+        OnOk result (HoldsNow c (state S.Store tx.new.conn.now)) }
+    ensures brings { BringsUp
+        (state S.Store tx.old.conn.now) (state S.Store tx.new.conn.now) result }
+    ensures on { RunsOn (state S.Store tx.old.conn.now) (state S.Store tx.new.conn.now) result }
+    ensures keeps_new { Made desk_schema (state S.Store tx.old.conn.now) →
+        KeepsBase (state S.Store tx.old.conn.now) (state S.Store tx.new.conn.now) }
+    ensures known { Inside (λ c done. IsKnown c.version)
+        (state S.Store tx.old.conn.now) (state S.Store tx.new.conn.now) result }
+    ensures wrong { WrongInside
+        (state S.Store tx.old.conn.now) (state S.Store tx.new.conn.now) result }
+    ensures refused { Made desk_schema (state S.Store tx.old.conn.now) →
+        HasCleanDisk (state S.Store tx.new.conn.now) →
+        IfErr result (λ e. e ≡ StoreFault.Refused) }
+    ensures refuses { (c : Contents) → IsKnown c.version →
+        HoldsNow c (state S.Store tx.old.conn.now) → HasCleanDisk (state S.Store tx.new.conn.now) →
+        IfErr result (λ e. e ≡ StoreFault.Refused) }
+    ensures mismatch { IfErr result (λ e. e ≡ StoreFault.Mismatch →
+        HasTables (state S.Store tx.old.conn.now) → HasCleanDisk (state S.Store tx.new.conn.now) →
+        IsBlamed (state S.Store tx.old.conn.now)) }
+    ensures blames { BlamesMeta
+        (state S.Store tx.old.conn.now) (state S.Store tx.new.conn.now) result }
+{
+    match read_version(tx)? {
+        None => add_version(tx),
+        Some(1) => migrate(alloc, tx),
+        Some(2) => Ok(()),
+        Some(_) => Err(StoreFault::WrongVersion),
+    }
+}
