@@ -1,4 +1,7 @@
 //! A course: tables, settings and commands, with what they answer and leave in memory.
+//!
+//! What owns much is given back by `drop`, whose proof stands once; at the end of its scope it
+//! would be taken apart for each function's own proof.
 
 use crate::asks::{Ask, asks_of};
 use crate::desks::attached;
@@ -94,7 +97,6 @@ pub(crate) fn outcome<S: Backend>(
 ) -> Result<String, Failure> {
     let outcome = desk.execute(alloc, ask.0, ask.1.as_str(), &ask.2);
     let text = outcome_text(alloc, &outcome);
-    // an outcome is taken apart once, and not at each exit
     drop(outcome);
     Ok(text?)
 }

@@ -1,4 +1,7 @@
 //! Due moments in the tables.
+//!
+//! What owns much is given back by `drop`, whose proof stands once; at the end of its scope it
+//! would be taken apart for each function's own proof.
 
 use crate::changes::number;
 use crate::course::{Course, outcome};

@@ -1,4 +1,7 @@
 //! Runs of commands on files.
+//!
+//! What owns much is given back by `drop`, whose proof stands once; at the end of its scope it
+//! would be taken apart for each function's own proof.
 
 use crate::course::{Course, UNAVAILABLE, outcome, rows_after};
 use crate::disks::{given_back, opened, tables_of};

@@ -1,4 +1,7 @@
 //! Cases of lists that are made by lot: what comes of their commands.
+//!
+//! What owns much is given back by `drop`, whose proof stands once; at the end of its scope it
+//! would be taken apart for each function's own proof.
 
 use crate::ASKED;
 use crate::changes::number;

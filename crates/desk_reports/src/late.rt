@@ -1,4 +1,7 @@
 //! The requests that are late.
+//!
+//! What owns much is given back by `drop`, whose proof stands once; at the end of its scope it
+//! would be taken apart for each function's own proof.
 ghost use Rattle.std.specs.Prelude.{◌≡◌, IfOk, option_and_then};
 ghost use Rattle.desk_model.specs.Readings.Overdue as overdue;
 ghost use Rattle.desk_reports.specs.Rows.{WatchesRise, late_by, late_line_shown, late_lines_shown};

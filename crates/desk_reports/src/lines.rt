@@ -1,4 +1,7 @@
 //! The lines of a queue's list.
+//!
+//! What owns much is given back by `drop`, whose proof stands once; at the end of its scope it
+//! would be taken apart for each function's own proof.
 ghost use Rattle.std.specs.Prelude.{◌≡◌, IfOk};
 ghost use Rattle.desk_reports.specs.Rows.{WatchesRise, line_shown, line_with, lines_shown};
 

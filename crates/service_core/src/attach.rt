@@ -1,4 +1,7 @@
 //! Settings are attached to tables.
+//!
+//! What owns much is given back by `drop`, whose proof stands once; at the end of its scope it
+//! would be taken apart for each function's own proof.
 ghost use Rattle.std.specs.Prelude.{◌≡◌, ◌&&◌, ◌≢◌, false, map, true, IfErr, IfOk, Ok, OnOk, OnErr};
 ghost use Rattle.desk_model.specs.Known as known;
 ghost use Rattle.store_tables.specs.Calls.{Leaves, OnlyRefuses, Spares, Tells, WasClean};

@@ -1,4 +1,7 @@
 //! One command on the desk.
+//!
+//! What owns much is given back by `drop`, whose proof stands once; at the end of its scope it
+//! would be taken apart for each function's own proof.
 ghost use Rattle.std.specs.Prelude.{◌≡◌, true, IfErr, IfOk, OnErr, OnOk};
 ghost use Rattle.desk_model.specs.Plan.{told_of};
 ghost use Rattle.desk_model.specs.Refusals.{names_its_right};

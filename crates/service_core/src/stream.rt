@@ -1,4 +1,7 @@
 //! A list of requests that is written row by row.
+//!
+//! What owns much is given back by `drop`, whose proof stands once; at the end of its scope it
+//! would be taken apart for each function's own proof.
 ghost use Rattle.std.specs.Prelude.{◌≡◌, false};
 ghost use Rattle.desk_model.specs.Desk as desks;
 ghost use Rattle.desk_model.specs.Step.{facts_of};

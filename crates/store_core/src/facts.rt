@@ -1,4 +1,7 @@
 //! The facts of a command: what it looks at on the desk that the tables stand for.
+//!
+//! What owns much is given back by `drop`, whose proof stands once; at the end of its scope it
+//! would be taken apart for each function's own proof.
 ghost use Rattle.std.specs.Prelude.{◌≡◌, ◌≢◌, IfErr, false, length};
 ghost use Rattle.sqlite.specs.Held.{state};
 ghost use Rattle.desk_model.specs.Facts as facts;

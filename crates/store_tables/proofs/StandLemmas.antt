@@ -29,7 +29,7 @@ use Rattle.sqlite.specs.Schema.{Schema}
 use Rattle.store_tables.specs.Tables.{desk_schema, no_schema}
 use Rattle.store_tables.specs.Stands.{Tables, Stand, HoldsNow, Within, Rests, GoesBack, KeepsBase}
 use Rattle.store_tables.specs.Stands.{Ran}
-use Rattle.store_tables.specs.Stands.{FirstHoldsNow, FirstStand, FirstTables}
+use Rattle.store_tables.specs.Stands.{FirstStand, FirstTables}
 
 pub never_both : (r : Result Compiled CompileError) (c : Compiled) → IsPlain r → r ≡ Ok c
     → c.returning ≡ None
@@ -161,12 +161,6 @@ pub begins : {S : Type 0} (g : Ghosts S) (old tx : Held S) (d : Contents)
     → tx ≡ record old { in_transaction = true } → Stand d (state g old) → Within d d (state g tx)
 begins g old tx d is stand = subst (λ h. Within d d (state g h)) (sym is) (λ c o. let t =
     stand c o in (t.0, t.1, refl))
-
-pub begins_first : {S : Type 0} (g : Ghosts S) (old tx : Held S) (d : Contents)
-    → tx ≡ record old { in_transaction = true } → FirstStand d (state g old)
-    → FirstHoldsNow d (state g tx)
-begins_first g old tx d is stand = subst (λ h. FirstHoldsNow d (state g h)) (sym is) (λ c o.
-    ((stand c o).0, refl))
 
 fold_last : {A X : Type 0} (f : A → X → A) (a : A) (xs : List X) (x : X)
     → fold f a (xs ++ x ∷ []) ≡ f (fold f a xs) x

@@ -1,5 +1,5 @@
 -- How far the tables are made.
-use Rattle.std.specs.Prelude.{◌≡◌, ◌⊎◌, ℕ, pos, IfErr, IfOk, List, [], ◌∷◌, IsTrue}
+use Rattle.std.specs.Prelude.{◌≡◌, ◌⊎◌, ℕ, pos, IfErr, List, [], ◌∷◌, IsTrue}
 use Rattle.std.specs.Prelude.{Err, OnErr, OnOk, Result, true}
 use Rattle.std.specs.List.{AllByRecursion}
 use Rattle.sqlite.specs.Order.{Row, column}
@@ -13,7 +13,7 @@ use Rattle.store_tables.specs.Contents.{Contents, no_contents}
 use Rattle.store_tables.specs.Picked.{shows}
 use Rattle.store_tables.specs.Queries.{version_shown}
 use Rattle.store_tables.specs.Spelling.{count_value}
-use Rattle.store_tables.specs.Stands.{HasTables, HoldsNow, Stand, StandsFor}
+use Rattle.store_tables.specs.Stands.{HasTables, HoldsNow, StandsFor}
 use Rattle.store_tables.specs.Tables.{no_schema}
 use Rattle.store_tables.specs.declared.fault.StoreFault.{StoreFault}
 use Rattle.store_tables.specs.declared.fault.StoreFault.TheVariants.{Refused, WrongVersion}
@@ -79,18 +79,7 @@ MakesDesk old new result =
     → OnOk result (StandsFor empty_desk new) × OnErr result (IsBlank new)
     × (HasCleanDisk new → IfErr result (λ e. e ≡ Refused))
 
--- it goes well only over a known version, and is the wrong version only over another
-abbrev pub NeedsVersion : {X : Type 0} → State → State → Result X StoreFault → Type 0
-NeedsVersion old new result =
-    (c : Contents) → Stand c old → HasCleanDisk new
-    → IfOk result (λ done. IsKnown c.version)
-    × IfErr result (λ e. e ≡ WrongVersion → ¬ IsKnown c.version)
-
 -- where there is no table it is refused, and there is none still
 abbrev pub RefusesBlank : {X : Type 0} → State → State → Result X StoreFault → Type 0
 RefusesBlank old new result =
     IsBlank old → IsBlank new × (HasCleanDisk new → result ≡ Err Refused)
-
--- both of these of the version
-abbrev pub TellsVersion : {X : Type 0} → State → State → Result X StoreFault → Type 0
-TellsVersion old new result = NeedsVersion old new result × BlamesMeta old new result

@@ -100,8 +100,3 @@ FirstStand c s =
 abbrev pub FirstStandsFor : Desk → State → Type 0
 FirstStandsFor desk s =
     (due : RequestRow → Option ℕ) × FirstStand (first_contents_of due desk) s
-
--- in a transaction the six tables hold this, whatever the last commit left
-abbrev pub FirstHoldsNow : Contents → State → Type 0
-FirstHoldsNow c s =
-    HasCleanDisk s → IsTrue s.is_open → FirstTables c s.now × (s.in_transaction ≡ true)
