@@ -121,7 +121,7 @@ reading_step s ask desk answer is reads free told =
     (subst (λ (d : Desk). Steps s ask.at ask.caller ask.command desk (Ok answer) d)
     (unchanged s ask desk reads) (done s ask desk answer free told))
 
--- one that is refused, maybe for want of memory
+-- one that is refused, maybe out of memory
 pub refused_step : (s : Settings) (ask : Ask) (desk : Desk) (refusal : Refusal) → IsDesk desk
     → (refusal ≢ Unavailable → guard s ask.at ask.caller ask.command desk ≡ Some refusal)
     → IsStep s ask desk (Err refusal) desk

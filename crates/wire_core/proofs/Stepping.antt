@@ -73,7 +73,7 @@ faulty s at message place fault bytes tables placed told =
       refl,
     ))
 
--- the same, once its reply is put: then the fault isn't the want of memory
+-- the same, once its reply is put: then the fault isn't that it was out of memory
 pub told_without_memory : (s : Settings) (at : ℕ) (message : Message) (place : Place)
     (fault : CommandFault) (h : Bool) (put : Result ⊤ AllocError) (bytes : List ℕ) (tables : State)
     → place_of message.target ≡ Some place → h ≡ is_head message

@@ -15,7 +15,7 @@ Sent = ℕ × List ℕ
 abbrev pub Replied : Type 0
 Replied = Result (List ℕ) ServeFault
 
--- the bytes of the reply, after the step of the message; or nothing is done for want of memory
+-- the bytes of the reply, after the step of the message; or nothing is done where it was out of memory
 abbrev pub IsReplyTo : Settings → Sent → Desk → Replied → Desk → Type 0
 IsReplyTo settings sent old (Ok bytes) new =
     (left : Option (List ℕ)) × StreamSteps settings sent.0 (Some sent.1) left old bytes new

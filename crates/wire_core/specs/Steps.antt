@@ -16,7 +16,7 @@ use Rattle.route_core.specs.declared.fault.CommandFault.{CommandFault}
 use Rattle.service_core.specs.TableSteps.{IsStep, LeadsOn, ask_by}
 use Rattle.wire_core.specs.Replies.{fault_reply, is_head, outcome_reply, stream_reply}
 
--- nothing is done for want of memory, and the reply says so
+-- out of memory nothing is done, and the reply says so
 abbrev pub LeavesOut : Bool → Desk → List ℕ → Desk → Type 0
 LeavesOut head_only old bytes new =
     (bytes ≡ bytes_of (unavailable head_only)) × (new ≡ old)

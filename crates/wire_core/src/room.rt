@@ -110,8 +110,8 @@ fn put(alloc: Global, reply: &Reply, room: &mut Vec<u8>) -> Result<(), AllocErro
     }
 }
 
-/// Puts the reply that tells why a stream has no message into the room, or the one that nothing was
-/// done for want of memory.
+/// Puts the reply that tells why a stream has no message into the room; where that was out of
+/// memory, the one that nothing was done.
 pub(crate) fn put_stream_fault(alloc: Global, fault: WireFault, room: &mut Vec<u8>)
     requires empty { room.old.items ≡ [] }
     requires room { 512 ≤ vec_capacity room.old }
@@ -139,7 +139,7 @@ fn put_stream_reply(alloc: Global, fault: WireFault, room: &mut Vec<u8>) -> Resu
     }
 }
 
-/// Puts the reply that nothing was done for want of memory into the room.
+/// Puts the reply into the room that nothing was done, since it was out of memory.
 pub(crate) fn put_unavailable(head_only: bool, room: &mut Vec<u8>)
     requires empty { room.old.items ≡ [] }
     requires room { 512 ≤ vec_capacity room.old }

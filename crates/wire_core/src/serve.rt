@@ -21,10 +21,10 @@ use stream_core::{CountedReader, CountedWriter};
 /// Reads one message, does what it asks for at the moment, in minutes since 1970-01-01 00:00 UTC,
 /// and writes one reply. Nothing after the message is read, and at most 73,728 bytes are.
 ///
-/// Where a step isn't made for want of memory the reply is `refused 16 Unavailable`, for which no
-/// memory is needed; so `NoMemory` is never answered. `Read` where a read failed: nothing is
-/// written, and nothing is done. `Write` where a write failed: a part of the reply went out, which
-/// lacks a byte or more, and what the message asked for stands.
+/// Where a step is out of memory nothing is done and the reply is `refused 16 Unavailable`, for
+/// which no memory is needed; so `NoMemory` is never answered. `Read` where a read failed: nothing
+/// is written, and nothing is done. `Write` where a write failed: a part of the reply went out,
+/// which lacks a byte or more, and what the message asked for stands.
 ///
 /// A head is read a byte at a time, so a reader that asks a system each time should stand behind a
 /// buffer.

@@ -25,8 +25,8 @@ use service_core::{Desk, SHORT_TEXT};
 use std::alloc::{AllocError, Global};
 use store_core::Backend;
 
-/// Does what a message asks for and puts its reply into the room, or puts the reply there that
-/// nothing was done for want of memory.
+/// Does what a message asks for and puts its reply into the room. Where that is out of memory,
+/// nothing is done and the reply says so.
 pub(crate) fn answer_message<S: Backend>(
     alloc: Global,
     message: &Message,
