@@ -1,7 +1,7 @@
 //! Files that no run left so.
 
 use crate::course::Course;
-use crate::disks::{Disks, closed, disks, given_back, holding, opened};
+use crate::disks::{Disks, closed, disks, disks_with, given_back, holding, opened};
 use crate::failure::Failure;
 use crate::runs::{Found, Run, Way, found_on, run_on, way_of};
 use sqlite::Files;
@@ -40,7 +40,7 @@ fn with_text(alloc: Global) -> Result<Disks, Failure> {
 /// Files of a run of all commands that was closed, and so left all in the database file; with half
 /// of that file, or with the log of a run of none.
 fn of_runs(alloc: Global, way: &Way<'_>, words: &str) -> Result<Disks, Failure> {
-    let Files { log, db } = ended(alloc, way);
+    let Files { log, db } = ended(alloc, way)?;
     match words {
         "half" => {
             let db = half(alloc, &db)?;
@@ -73,10 +73,11 @@ fn log_of_none(alloc: Global) -> Fuse<Memory> {
 }
 
 /// The files of a run of all commands, closed.
-fn ended(alloc: Global, way: &Way<'_>) -> Disks {
-    let Run { files, .. } = run_on(alloc, way, disks(alloc, u64::MAX, u64::MAX));
+fn ended(alloc: Global, way: &Way<'_>) -> Result<Disks, Failure> {
+    let begun = disks_with(alloc, way.begin.as_slice(), u64::MAX, u64::MAX)?;
+    let Run { files, .. } = run_on(alloc, way, begun);
     match opened(alloc, files) {
-        Ok(store) => closed(store),
-        Err(disks) => disks,
+        Ok(store) => Ok(closed(store)),
+        Err(disks) => Ok(disks),
     }
 }

@@ -35,7 +35,7 @@ abbrev pub ComesToStand : Settings → State → State → Type 0
 ComesToStand settings old new =
     (desk : Desk) → IsDesk desk → StoodFor desk old → StandsDue settings desk new
 
--- the settings know each name of whatever desk the tables stood for, or lack one
+-- whether the settings know each name of whatever desk the tables stood for
 abbrev pub ToldKnown : Settings → State → State → Bool → Type 0
 ToldKnown settings old new known =
     (desk : Desk) → IsDesk desk → StoodFor desk old → HasCleanDisk new
@@ -67,6 +67,11 @@ pub record IsNotMade (old new : State) (fault : StoreFault) : Type 0 where
   -- the version is told to be wrong only where it isn't a known one
   pub version : (c : Contents) → EitherStand c old → HasCleanDisk new → fault ≡ WrongVersion
       → ¬ IsKnown c.version
+  -- over values of a known version nothing can be wrong, but that the store or memory refused
+  pub fails : (c : Contents) → IsKnown c.version → EitherStand c old → HasCleanDisk new
+      → fault ≡ Refused
+  -- a disk that is clean afterwards was clean before
+  pub honest : WasClean old new
 
 -- a fault of attaching settings to tables
 pub record FailsToAttach (settings : Settings) (old new : State) (fault : AttachFault) : Type 0
@@ -80,7 +85,8 @@ pub record FailsToAttach (settings : Settings) (old new : State) (fault : Attach
     -- over tables that hold values nothing else can be wrong, but that the store or memory refused
     pub fails : FailsOver old new fault
 
--- the same of tables that were made first, where any were missing
+-- the same of tables that were first made, where any were missing, and brought to the present
+-- version
 pub record IsNotAttached (settings : Settings) (old new : State) (fault : AttachFault) : Type 0
   where
     -- what tables of another version than 1 held they hold still

@@ -77,8 +77,8 @@ pub(crate) fn ended<W: Write>(status: u8, output: &CountedWriter<'_, W>) -> u8
 }
 
 /// The desk over the tables of a store, with the settings of a text. Tables that are missing are
-/// made, and those of version 1 brought to the present one; those that are there keep their rows,
-/// with the due moments by these settings.
+/// made, and those of version 1 are brought to the present one. Tables that are there keep their
+/// rows, but for the due moments, which become those by these settings.
 ///
 /// Where there is none, a line tells the fault, and the exit status is the error: 3 for one of the
 /// settings, and 4 for one of the store or of attaching, or where the write of that line failed.
@@ -132,7 +132,8 @@ pub(crate) fn open<S: Backend, W: Write>(
     }
 }
 
-/// Makes the tables that are missing, and attaches the settings.
+/// Makes the tables that are missing, brings those of version 1 to the present one, and attaches
+/// the settings.
 fn open_tables<S: Backend, W: Write>(
     alloc: Global,
     store: Store<S>,

@@ -23,7 +23,8 @@ is_same_moment None None = true
 is_same_moment (Some a) (Some b) = a == b
 is_same_moment a b = false
 
--- the stays of the request of that number, of stays that stand beside the numbers of theirs
+-- the stays of the request of that number, among stays that each stand beside the number of their
+-- request
 abbrev pub stays_among : List (ℕ × Stay) → ℕ → List Stay
 stays_among all id = map (λ p. p.1) (filter (λ p. p.0 == id) all)
 
@@ -62,7 +63,7 @@ abbrev pub AreRenewed : Settings → State → State → Type 0
 AreRenewed settings old new =
     (desk : Desk) → IsDesk desk → StandsFor desk old → StandsDue settings desk new
 
--- the stays of all requests of a desk, by their numbers
+-- the stays of all requests of a desk, each with the number of its request
 abbrev pub all_stays : Desk → List (ℕ × Stay)
 all_stays desk = map request_stay (stays desk)
 

@@ -31,7 +31,7 @@ impl<S: Backend> Desk<S> {
     /// Answers `Store` where a row is no value of its type, or the store or memory refuses it, and
     /// otherwise `UnknownName` where the settings lack a name of the tables; the store is given
     /// back with either, and tables whose rows are values of their types are as they were. Of an
-    /// entry only the one who made it is looked at.
+    /// entry only the one who made it is looked at, and of a stay all but its number.
     pub fn attach(
         alloc: Global,
         store: Store<S>,

@@ -8,7 +8,7 @@ ghost use Rattle.desk_reports.specs.Rows.{QueuesRise};
 ghost use Rattle.service_core.specs.Renewing as renewing;
 ghost use Rattle.service_core.specs.Renewing.{AreApart, AreRenewedFrom, StaysRise};
 
-use crate::stays::{apart, stays_at};
+use crate::stays::{apart, stays_among};
 use desk_core::{QueueRow, RequestRow, due_of};
 use desk_reports::queue_named;
 use hours_core::{Minute, Stay};
@@ -41,7 +41,7 @@ pub(crate) fn renew<S: Backend>(
     }
 }
 
-/// The due moments of which these rows have others, by the number of the request.
+/// The due moment of each of these rows that keeps another one, with the number of its request.
 fn renewals(
     alloc: Global,
     settings: &Settings,
@@ -57,7 +57,7 @@ fn renewals(
     renewals_by(alloc, settings, queues, numbers, stays, dated)
 }
 
-/// The same, by stays in the order of their requests' numbers, which stand beside them.
+/// The same, by stays in the order of their requests' numbers; `numbers` has that number for each.
 fn renewals_by(
     alloc: Global,
     settings: &Settings,
@@ -73,7 +73,8 @@ fn renewals_by(
 {
     let mut dues = Vec::new(alloc);
     for (row, kept) in dated {
-        let due = due_by(settings, queues, stays_at(numbers, stays, row.id), row);
+        let own = stays_among(numbers, stays, row.id);
+        let due = due_with(settings, queues, own, row);
         if !is_same_moment(&due, kept) {
             dues.push((row.id, due))?;
         }
@@ -82,7 +83,7 @@ fn renewals_by(
 }
 
 /// When a request with these stays is due, of queues in the order of their names.
-fn due_by(
+fn due_with(
     settings: &Settings,
     queues: &[QueueRow],
     stays: &[Stay],

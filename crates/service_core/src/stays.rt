@@ -1,4 +1,4 @@
-//! The stays of each request, of those of all.
+//! The stays of one request, among the stays of all.
 ghost use Rattle.std.specs.Prelude.{◌≡◌, ℕ, length, List, IfOk};
 ghost use Rattle.hours_core.specs.declared.stay.Stay as stay;
 ghost use Rattle.service_core.specs.Renewing as renewing;
@@ -20,9 +20,9 @@ pub(crate) fn apart(
     Ok((numbers, stays))
 }
 
-/// The stays of the request of that number, of stays in the order of their requests' numbers, which
-/// stand beside them.
-pub(crate) fn stays_at<'s>(numbers: &[u32], stays: &'s [Stay], id: u32) -> &'s [Stay]
+/// The stays of the request of that number. All stays are in the order of their requests' numbers;
+/// `numbers` has that number for each.
+pub(crate) fn stays_among<'s>(numbers: &[u32], stays: &'s [Stay], id: u32) -> &'s [Stay]
     requires { length numbers.now ≡ length stays.now }
     ensures { (all : List (ℕ × stay.Stay)) → StaysRise all → AreApart all numbers.now stays.now
         → result.now ≡ renewing.stays_among all id }

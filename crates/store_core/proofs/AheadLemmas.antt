@@ -21,7 +21,7 @@ use Rattle.store_tables.specs.Contents.{request_rows}
 use Rattle.store_tables.specs.Dated.{Dated, dated_by, id_of}
 use Rattle.store_tables.specs.Kept.{itself}
 use Rattle.store_tables.specs.Orders.{by_dated_id, by_due, by_id}
-use Rattle.store_tables.specs.Picked.{AreNumbersOf}
+use Rattle.store_tables.specs.Picked.{AreParts}
 use Rattle.store_tables.specs.Selection.{has_number, is_due_before, is_filed_in, number_of}
 use Rattle.store_tables.proofs.LastLemmas.{has_permuted}
 use Rattle.store_core.specs.Rows.{AreDueBefore, dated_rows, rows_numbered}
@@ -101,7 +101,7 @@ their_rows ds rise (x ∷ xs) there =
     (their_rows ds rise xs (λ y has. there y (inr has)))
 
 pub queue_ahead : (due : RequestRow → Option ℕ) (desk : Desk) → IsDesk desk → (name : List ℕ)
-    (ns : List ℕ) → AreNumbersOf number_of by_id (filter (is_filed_in name) (request_rows desk)) ns
+    (ns : List ℕ) → AreParts number_of by_id (filter (is_filed_in name) (request_rows desk)) ns
     → map (dated_by due) (filter (is_filed_in name) (request_rows desk))
     ≡ rows_numbered (dated_rows due desk) ns
 queue_ahead due desk is name ns h =
@@ -121,7 +121,7 @@ queue_ahead due desk is name ns h =
 
 pub overdue_ahead : (due : RequestRow → Option ℕ) (desk : Desk) → IsDesk desk → (at : ℕ)
     (ns : List ℕ)
-    → AreNumbersOf id_of by_due (filter (is_due_before at) (dated_rows due desk)) ns
+    → AreParts id_of by_due (filter (is_due_before at) (dated_rows due desk)) ns
     → (all : List Dated) × AreDueBefore at due desk all
     × (all ≡ rows_numbered (dated_rows due desk) ns)
 overdue_ahead due desk is at ns h =

@@ -19,7 +19,7 @@ use Rattle.store_tables.specs.Contents.{Contents, add_stay, contents_of, first_c
 use Rattle.store_tables.specs.Contents.{history_at, request_rows, requests, set_version}
 use Rattle.store_tables.specs.Dated.{row_of}
 use Rattle.store_tables.specs.Orders.{by_id, by_number}
-use Rattle.store_tables.specs.Picked.{AreNumbersOf, AreOrdered}
+use Rattle.store_tables.specs.Picked.{AreOrdered, AreParts}
 use Rattle.store_tables.specs.Selection.{number_of, tells_of}
 use Rattle.store_tables.specs.Stays.{StayRow, stay_rows}
 use Rattle.store_tables.proofs.DatedLemmas.{rows_dated}
@@ -115,7 +115,7 @@ migrated_alike due desk is =
 
 pub all_numbers : (due : RequestRow → Option ℕ) (desk : Desk) (c : Contents) → IsDesk desk
     → c.dated ≡ (contents_of due desk).dated → (ns : List ℕ)
-    → AreNumbersOf number_of by_id (requests c) ns → ns ≡ ids desk
+    → AreParts number_of by_id (requests c) ns → ns ≡ ids desk
 all_numbers due desk c is same ns h =
     let these : requests c ≡ request_rows desk = ap (map row_of) same ∙ rows_dated due desk in
     let ordered = subst (λ rows. AreOrdered by_id rows h.values) these h.ordered in

@@ -139,8 +139,8 @@ BlamesUnknown old new result =
     → IfErr result (λ e. e ≡ WrongVersion → (n : ℕ) × IsOfMeta old n × ¬ IsKnown n)
 
 -- both of these of the version
-abbrev pub TellsKnown : {X : Type 0} → State → State → Result X StoreFault → Type 0
-TellsKnown old new result = NeedsKnown old new result × BlamesUnknown old new result
+abbrev pub TellsVersion : {X : Type 0} → State → State → Result X StoreFault → Type 0
+TellsVersion old new result = NeedsKnown old new result × BlamesUnknown old new result
 
 -- a row of meta shows no number, or version 1
 abbrev pub IsBlamed : State → Type 0

@@ -197,7 +197,7 @@ fn count_stays(stays: &[Stay]) -> Result<u32, StoreFault>
     }
 }
 
-/// Begins the last of the stays on a request.
+/// Puts the last of the stays of a request, and ends the one before it where it begins.
 fn begin_stay<S: Alter>(
     tx: &mut Transaction<'_, S>,
     id: u32,

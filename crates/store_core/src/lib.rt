@@ -1,6 +1,6 @@
-//! The store of a desk: it makes the tables, reads facts and lists of the desk that they stand for,
-//! and writes changes. The statements on rows stand in `store_tables`, whose `StoreFault` is passed
-//! on. No crate above names a table or a statement.
+//! The store of a desk: it makes the tables and brings them to the present version, reads facts and
+//! lists of the desk that they stand for, and writes changes. The statements on rows stand in
+//! `store_tables`, whose `StoreFault` is passed on. No crate above names a table or a statement.
 #![tactic(auto)]
 
 mod apply;

@@ -191,7 +191,8 @@ impl<S: Backend> Store<S> {
     }
 
     /// The stays of a request, in order, none where there is no such request. `Mismatch` where a
-    /// row is no stay, `Refused` where the store or memory refuses it. The tables stay as they are.
+    /// row is no stay, whose number isn't looked at, `Refused` where the store or memory refuses it.
+    /// The tables stay as they are.
     pub fn stays_of(&mut self, alloc: Global, id: u32) -> Result<Vec<Stay>, StoreFault>
         ensures listed { Tells (λ desk xs. xs.items ≡ stays_at desk id)
             (state_of S.Store self.old) (state_of S.Store self.new) result }
@@ -203,8 +204,8 @@ impl<S: Backend> Store<S> {
     }
 
     /// The stays of all requests, each with the number of its request, in the order of those
-    /// numbers and of each request's stays. `Mismatch` where a row is no stay, `Refused` where the
-    /// store or memory refuses it. The tables stay as they are.
+    /// numbers and of each request's stays. `Mismatch` where a row is no stay, whose number isn't
+    /// looked at, `Refused` where the store or memory refuses it. The tables stay as they are.
     pub fn stays(&mut self, alloc: Global) -> Result<Vec<(u32, Stay)>, StoreFault>
         ensures listed { Tells (λ desk xs. xs.items ≡ map request_stay (stays desk))
             (state_of S.Store self.old) (state_of S.Store self.new) result }

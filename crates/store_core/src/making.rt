@@ -169,7 +169,7 @@ fn make_all<S: Alter>(alloc: Global, tx: &mut Transaction<'_, S>) -> Result<(), 
     bring_up(alloc, tx)
 }
 
-/// Makes the tables in one transaction.
+/// Makes the tables that are missing, and brings them to the present version, in one transaction.
 pub(crate) fn make_schema<S: Alter>(
     alloc: Global,
     conn: &mut Connection<S>,

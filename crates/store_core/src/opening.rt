@@ -6,7 +6,7 @@ ghost use Rattle.store_tables.specs.Making.{IsBlank, MakesDesk, RefusesBlank};
 ghost use Rattle.store_tables.specs.Mismatches.{MismatchesInMeta};
 ghost use Rattle.store_tables.specs.declared.fault.StoreFault.{StoreFault};
 ghost use Rattle.store_core.specs.Migrating.{LeavesEither, LeavesOthers, MigratesDesk};
-ghost use Rattle.store_core.specs.Migrating.{MismatchesInMaking, RefusesKnown, TellsKnown};
+ghost use Rattle.store_core.specs.Migrating.{MismatchesInMaking, RefusesKnown, TellsVersion};
 ghost use Rattle.store_core.specs.Seen.{connection_of, state_of};
 
 use crate::making::make_schema;
@@ -49,10 +49,10 @@ impl<S: Alter> Store<S> {
     /// Makes the tables that are missing and, where there is no version, writes version 2. Of
     /// tables of version 1 it fills in the stays, by the histories, and sets version 2. All is in
     /// one transaction. `WrongVersion` where the tables are of another version, `Mismatch` where
-    /// their version is no number, or a row of a request or of an entry is none in tables of
-    /// version 1, `Refused` where the store or memory refuses it. A fault leaves what there was,
-    /// where there was no table, or the six of version 1, or all. Tables of version 2 stay as they
-    /// are.
+    /// their version is no number, or, in tables of version 1, the number of a request or an entry
+    /// is no value of its type, `Refused` where the store or memory refuses it. A fault leaves the
+    /// tables as they were, where there was none, or the six without that of stays, or all seven.
+    /// Tables of version 2 stay as they are.
     pub fn create_schema(&mut self, alloc: Global) -> Result<(), StoreFault>
         ensures made { MakesDesk (state_of S.Store self.old) (state_of S.Store self.new) result }
         ensures migrated { MigratesDesk
@@ -61,7 +61,7 @@ impl<S: Alter> Store<S> {
         ensures undone { OnErr result
             (LeavesEither (state_of S.Store self.old) (state_of S.Store self.new)) }
         ensures honest { WasClean (state_of S.Store self.old) (state_of S.Store self.new) }
-        ensures version { TellsKnown
+        ensures version { TellsVersion
             (state_of S.Store self.old) (state_of S.Store self.new) result }
         ensures refuses { RefusesKnown
             (state_of S.Store self.old) (state_of S.Store self.new) result }
@@ -72,7 +72,8 @@ impl<S: Alter> Store<S> {
     }
 
     /// The version that the tables hold. `Refused` before `create_schema`, and where the store or
-    /// memory refuses it, `Mismatch` where it is no number. The tables stay as they are.
+    /// memory refuses it, `Mismatch` where it is no number. The tables stay as they are. That holds
+    /// of the seven tables; nothing is said of the six of version 1.
     pub fn version(&mut self) -> Result<u32, StoreFault>
         ensures told { Answers (λ c n. n ≡ c.version)
             (state_of S.Store self.old) (state_of S.Store self.new) result }

@@ -15,7 +15,7 @@ use Rattle.sqlite_rules.proofs.ProbeLemmas.{has_mapped, mapped_has}
 use Rattle.store_tables.specs.Calls.{FailsIn, OnlyRefuses, ReadsRows, WasClean}
 use Rattle.store_tables.specs.Contents.{Contents}
 use Rattle.store_tables.specs.Kept.{Holds}
-use Rattle.store_tables.specs.Picked.{AreNumbersOf, AreOrdered, AreParts, Lists, passes, shows}
+use Rattle.store_tables.specs.Picked.{AreOrdered, AreParts, Lists, passes, shows}
 use Rattle.store_tables.specs.Picked.{Shows}
 use Rattle.store_tables.specs.Queries.{last_id_terms, reads}
 use Rattle.store_tables.specs.Reading.{IsNumberRow, ReadsCount}
@@ -274,7 +274,7 @@ module _ {K V X : Type 0} (t : TableOf K V) (q : NumbersOn t) (values : X → Li
         → ReadsRows ReadsCount IsNumberRow values q.text q.params old new r
         → (c : Contents) → Holding c old → HasCleanDisk new → (cmp : V → V → Ordering)
         → RanksBy t q.test last_id_terms q.order q.params cmp
-        → IfOk r (λ x. AreNumbersOf q.number cmp (filter q.passing (t.list c)) (values x))
+        → IfOk r (λ x. AreParts q.number cmp (filter q.passing (t.list c)) (values x))
     holds_numbers r read c holding now cmp orders = if_ok r
         (λ x it.
         let tables = tables_shown c q.text q.params old new it.0 clean holding now it.1 in
@@ -290,5 +290,5 @@ module _ {K V X : Type 0} (t : TableOf K V) (q : NumbersOn t) (values : X → Li
         → ReadsRows ReadsCount IsNumberRow values q.text q.params old new r
         → (c : Contents) → Stand c old → HasCleanDisk new → (cmp : V → V → Ordering)
         → RanksBy t q.test last_id_terms q.order q.params cmp
-        → IfOk r (λ x. AreNumbersOf q.number cmp (filter q.passing (t.list c)) (values x))
+        → IfOk r (λ x. AreParts q.number cmp (filter q.passing (t.list c)) (values x))
     numbers_in_order r read c stand = holds_numbers r read c (λ d o. (stand d o).0)

@@ -27,7 +27,7 @@ use Rattle.store_tables.specs.Making.{AreEmpty, WasBlank, IsBlank, Made}
 use Rattle.store_tables.specs.Stands.{HasTables}
 use Rattle.sqlite.specs.Schema.{Schema}
 use Rattle.store_tables.specs.Tables.{desk_schema, no_schema}
-use Rattle.store_tables.specs.Stands.{Tables, Stand, HoldsNow, Within, Rests, GoesBack, KeepsBase}
+use Rattle.store_tables.specs.Stands.{Tables, Stand, HoldsNow, Within, GoesBack, KeepsBase}
 use Rattle.store_tables.specs.Stands.{Ran}
 use Rattle.store_tables.specs.Stands.{FirstStand, FirstTables}
 
@@ -55,6 +55,10 @@ was_clean old new P s c = omega (arith, s.clean)
 -- the tables hold this, whatever the last commit left
 abbrev pub Holding : Contents → State → Type 0
 Holding c s = HasCleanDisk s → IsTrue s.is_open → Tables c s.now
+
+-- the last commit left this, so that a rollback goes back to it
+abbrev pub Rests : Contents → State → Type 0
+Rests c s = HasCleanDisk s → IsTrue s.is_open → Tables c s.committed
 
 -- a query that showed rows ran on the tables
 pub tables_shown : (d : Contents) (sql : List ℕ) (params : Row) (old new : State) (rows : List Row)

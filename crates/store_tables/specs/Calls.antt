@@ -9,7 +9,7 @@ use Rattle.desk_model.specs.Desk.{Desk}
 use Rattle.desk_model.specs.IsDesk.{IsDesk}
 use Rattle.store_tables.specs.Contents.{Contents}
 use Rattle.store_tables.specs.Picked.{shows}
-use Rattle.store_tables.specs.Stands.{HasTables, HoldsNow, KeepsBase, Rests, Stand, StandsFor}
+use Rattle.store_tables.specs.Stands.{HasTables, HoldsNow, KeepsBase, Stand, StandsFor}
 use Rattle.store_tables.specs.Tables.{desk_schema}
 use Rattle.store_tables.specs.declared.fault.StoreFault.{StoreFault}
 use Rattle.store_tables.specs.declared.fault.StoreFault.TheVariants.{Mismatch, Refused}
@@ -98,10 +98,6 @@ abbrev pub Makes : {X : Type 0} → (Contents → Contents) → State → State 
     → Type 0
 Makes change old new result =
     (c : Contents) → HoldsNow c old → OnOk result (HoldsNow (change c) new)
-
--- the last commit stays
-abbrev pub RestsOn : State → State → Type 0
-RestsOn old new = (c : Contents) → Rests c old → Rests c new
 
 -- What a statement or a row of them does in a transaction: of whatever the tables hold it makes
 -- `change`, the last commit stays, and a disk that is clean after it was clean before.

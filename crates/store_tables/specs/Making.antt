@@ -54,10 +54,6 @@ WrongInside old new result =
     (c : Contents) → HoldsNow c old → HasCleanDisk new
     → IfErr result (λ e. e ≡ WrongVersion → ¬ IsKnown c.version)
 
--- tables that are there stay as they are
-abbrev pub Stays : State → State → Type 0
-Stays old new = HasTables old → HasTables new × (HasCleanDisk new → new.now ≡ old.now)
-
 -- the number is one that a row of meta shows
 abbrev pub IsOfMeta : State → ℕ → Type 0
 IsOfMeta s n =

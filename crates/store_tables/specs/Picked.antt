@@ -52,10 +52,6 @@ pub record AreParts {X Y : Type 0} (part : X → Y) (cmp : X → X → Ordering)
   pub ordered : AreOrdered cmp xs values
   pub are : ys ≡ map part values
 
--- the numbers of these values, in this order
-abbrev pub AreNumbersOf : {X : Type 0} → (X → ℕ) → (X → X → Ordering) → List X → List ℕ → Type 0
-AreNumbersOf number cmp xs ns = AreParts number cmp xs ns
-
 -- what is shown is the view of these values, in this order
 pub record Lists {X : Type 0} (cmp : X → X → Ordering) (view : X → Row) (xs : List X)
     (rows : List Row) : Type 0 where

@@ -149,7 +149,7 @@ pub record IsEntryRow (row : Row) : Type 0 where
   pub head : IsText (column row 5)
   pub body : IsText (column row 6)
 
--- a row of a stay, which isn't asked for its number
+-- a row of a stay, of which neither the request nor the number is read
 pub record ReadsStay (row : Row) (x : Stay) : Type 0 where
   pub status : column row 2 ≡ Words x.status
   pub from : column row 3 ≡ count_value x.from

@@ -47,10 +47,6 @@ Within now was s =
     HasCleanDisk s → IsTrue s.is_open
     → Tables now s.now × Tables was s.committed × (s.in_transaction ≡ true)
 
--- the last commit left this, so that a rollback goes back to it
-abbrev pub Rests : Contents → State → Type 0
-Rests c s = HasCleanDisk s → IsTrue s.is_open → Tables c s.committed
-
 -- the tables are there, with any rows
 abbrev pub HasTables : State → Type 0
 HasTables s = HasCleanDisk s → IsTrue s.is_open → s.now.schema ≡ desk_schema

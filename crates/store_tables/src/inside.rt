@@ -10,7 +10,7 @@ ghost use Rattle.store_tables.specs.Calls.{Inside, Looks, ReadsRows};
 ghost use Rattle.store_tables.specs.Contents.{requests};
 ghost use Rattle.store_tables.specs.Mismatches.{MismatchesInEntries, MismatchesInNumbers};
 ghost use Rattle.store_tables.specs.Orders.{by_id, by_number};
-ghost use Rattle.store_tables.specs.Picked.{AreNumbersOf, AreOrdered};
+ghost use Rattle.store_tables.specs.Picked.{AreOrdered, AreParts};
 ghost use Rattle.store_tables.specs.Selection.{number_of, tells_of};
 ghost use Rattle.store_tables.specs.Tables.{desk_schema};
 ghost use Rattle.store_tables.specs.declared.fault.StoreFault.{StoreFault};
@@ -68,7 +68,7 @@ fn select_all_inside<T: Stored + Drop, S: Alter>(
 /// the store or memory refuses it.
 pub fn numbers<S: Alter>(alloc: Global, tx: &mut Transaction<'_, S>) -> Result<Vec<u32>, StoreFault>
     ensures same_reference { tx.new.conn.ghost_name ≡ tx.old.conn.ghost_name }
-    ensures listed { Inside (λ c ns. AreNumbersOf number_of by_id (requests c) ns.items)
+    ensures listed { Inside (λ c ns. AreParts number_of by_id (requests c) ns.items)
         (state S.Store tx.old.conn.now) (state S.Store tx.new.conn.now) result }
     ensures mismatch { MismatchesInNumbers
         (state S.Store tx.old.conn.now) (state S.Store tx.new.conn.now) result }

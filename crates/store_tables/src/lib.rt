@@ -1,6 +1,6 @@
 //! The tables of a desk: what their rows say, and a function for each statement that reads or
-//! changes them. `store_core` makes the tables and writes the version into new ones; no other crate
-//! names a table or a statement.
+//! changes them. `store_core` makes the tables, and reads the version or writes it into new ones; no
+//! other crate names a table or a statement.
 #![tactic(auto)]
 
 mod columns;

@@ -6,7 +6,7 @@ ghost use Rattle.store_tables.specs.Contents.{requests};
 ghost use Rattle.store_tables.specs.Dated.{id_of};
 ghost use Rattle.store_tables.specs.Mismatches.{MismatchesInNumbers};
 ghost use Rattle.store_tables.specs.Orders.{by_due, by_id};
-ghost use Rattle.store_tables.specs.Picked.{AreNumbersOf};
+ghost use Rattle.store_tables.specs.Picked.{AreParts};
 ghost use Rattle.store_tables.specs.Selection.{is_due_before, is_filed_in, number_of};
 ghost use Rattle.store_tables.specs.declared.fault.StoreFault.{StoreFault};
 
@@ -27,7 +27,7 @@ pub fn numbers_in<S: Alter>(
     requires { conn.old.in_transaction ≡ false }
     ensures idle { conn.new.in_transaction ≡ false }
     ensures listed { Answers (λ c ns.
-        AreNumbersOf number_of by_id (filter (is_filed_in queue.now) (requests c)) ns.items)
+        AreParts number_of by_id (filter (is_filed_in queue.now) (requests c)) ns.items)
         (state S.Store conn.old) (state S.Store conn.new) result }
     ensures mismatch { MismatchesInNumbers
         (state S.Store conn.old) (state S.Store conn.new) result }
@@ -52,7 +52,7 @@ pub fn numbers_due_before<S: Alter>(
     requires { conn.old.in_transaction ≡ false }
     ensures idle { conn.new.in_transaction ≡ false }
     ensures listed { Answers (λ c ns.
-        AreNumbersOf id_of by_due (filter (is_due_before at) c.dated) ns.items)
+        AreParts id_of by_due (filter (is_due_before at) c.dated) ns.items)
         (state S.Store conn.old) (state S.Store conn.new) result }
     ensures mismatch { MismatchesInNumbers
         (state S.Store conn.old) (state S.Store conn.new) result }

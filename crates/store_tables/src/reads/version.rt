@@ -20,6 +20,7 @@ use sqlite::{Alter, Connection, Row};
 /// number, `Refused` where there are more rows.
 pub fn version_in(rows: &[Row]) -> Result<Option<u32>, StoreFault>
     ensures none { rows.now ≡ [] → result ≡ Ok None }
+    ensures empty { IfOk result (λ v. v ≡ None → rows.now ≡ []) }
     ensures one { (n : ℕ) → ShowsVersion n rows.now → IfOk result (λ v. v ≡ Some n) }
     ensures shown { IfOk result (λ v. IfSome v (λ n.
         (r : _) × Has rows.now r × (column r 0 ≡ count_value n))) }
@@ -38,7 +39,7 @@ pub fn version_in(rows: &[Row]) -> Result<Option<u32>, StoreFault>
     }
 }
 
-/// The rows of `version`.
+/// The rows of `meta`: each shows its version.
 fn rows_version<S: Alter>(conn: &mut Connection<S>) -> Result<Vec<Row>, StoreFault>
     requires { conn.old.in_transaction ≡ false }
     ensures idle { conn.new.in_transaction ≡ false }
@@ -56,8 +57,8 @@ fn rows_version<S: Alter>(conn: &mut Connection<S>) -> Result<Vec<Row>, StoreFau
     }
 }
 
-/// The version that the tables hold. `Refused` where `meta` is missing or has no row, `Mismatch`
-/// where its row shows no number.
+/// The version that the seven tables hold. `Refused` where `meta` is missing or has no row,
+/// `Mismatch` where its row shows no number.
 pub fn version<S: Alter>(conn: &mut Connection<S>) -> Result<u32, StoreFault>
     requires { conn.old.in_transaction ≡ false }
     ensures idle { conn.new.in_transaction ≡ false }

@@ -38,7 +38,7 @@ pub fn put_stay<S: Alter>(
 }
 
 /// Adds stays of the request, numbered from 1 in their order. `Refused` where the store or memory
-/// refuses one, or there are 2^32.
+/// refuses one, or there are 2^32 or more.
 pub fn put_stays<S: Alter>(
     tx: &mut Transaction<'_, S>,
     id: u32,

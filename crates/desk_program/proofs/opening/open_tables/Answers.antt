@@ -73,6 +73,8 @@ returns-in-Err-clause-told g c = (
             );
         blank = λ blank. let made = c.in-Err.ensures.made blank in (made.1, made.2);
         version = λ contents stand clean. (c.in-Err.ensures.version.0 contents stand clean).1;
+        fails = c.in-Err.ensures.refuses;
+        honest = c.in-Err.ensures.honest;
       },
     ),
     refl,

@@ -16,11 +16,11 @@ loop-row-preserved c = λ all rises up parts.
     let s = c.args.settings.now in
     let queues = c.args.queues.now in
     let item = c.loop-row-item.result in
-    let due = c.due_by-due.ensures rises
-    ∙ ap (λ stays. renewing.due_with s queues stays item.0) (c.stays_at.ensures all up parts) in
+    let due = c.due_with-due.ensures rises
+    ∙ ap (λ stays. renewing.due_with s queues stays item.0) (c.stays_among-own.ensures all up parts) in
     let b = not c.is_same_moment.result in
     let pushed : (c.if-not-is_same_moment.dues.items
-    ≡ c.loop-row.dues.items ++ cond b ((item.0.id, c.due_by-due.result) ∷ []) []) =
+    ≡ c.loop-row.dues.items ++ cond b ((item.0.id, c.due_with-due.result) ∷ []) []) =
     elim c.if-not-is_same_moment.branch [
       | then-not-is_same_moment+in_ok-push w ↦
           one_put b _ _ _ (ap not w.if-not-is_same_moment.true)

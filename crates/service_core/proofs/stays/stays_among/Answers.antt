@@ -8,7 +8,7 @@ use Rattle.std.proofs.lemmas.List.Sorted.{IsNonDecreasingBy-drop, IsNonDecreasin
 use Rattle.std.proofs.lemmas.List.Sorted.{IsPartitionPoint-from_clause}
 use Rattle.std.proofs.lemmas.List.Sorted.{IsPartitionedBy-leb, IsPartitionedBy-ltb}
 use Rattle.service_core.proofs.StayLemmas.{stretch_of}
-use Rattle.service_core.proofs.stays.stays_at.Goals as goal
+use Rattle.service_core.proofs.stays.stays_among.Goals as goal
 
 pub returns : goal.returns
 returns c all rise parts =
