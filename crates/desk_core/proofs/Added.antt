@@ -79,6 +79,13 @@ added_by command (OnQueue name conditions change) call facts adds =
 added_by command (OnRequest id besides text conditions change) call facts adds =
     added_on command call facts.request (change call facts) (adds call facts)
 
+-- what a command appends may be added
+pub appended : (s : Settings) (at : ℕ) (caller : List ℕ) (command : Command) (desk : Desk)
+    → AreAdded at caller command
+    (change_by (call s at caller) (facts_of command desk) (plan_of command)).entries
+appended s at caller command desk =
+    added_by command (plan_of command) (call s at caller) (facts_of command desk) (adds command)
+
 -- of entries that may be added some may be added
 some_added : (at : ℕ) (caller : List ℕ) (command : Command) (test : Entry → Bool)
     (entries : List Entry)
@@ -123,8 +130,7 @@ entries_unless None s at caller command desk id before there =
       (
         entries_for before.row.id change.entries,
         entries_changed change before,
-        some_added at caller command _ change.entries
-            (added_by command (plan_of command) (call s at caller) facts (adds command)),
+        some_added at caller command _ change.entries (appended s at caller command desk),
       ),
     )
 

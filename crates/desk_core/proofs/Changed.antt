@@ -91,13 +91,13 @@ requests_after change desk =
     ∙ map-map note (λ r. take (add (give r))) those
 
 -- a part of a request that each of these leaves alone
-left_by_all : {X Y : Type 0} (part : Request → Y) (one : Request → X → Request)
+pub left_by_all : {X Y : Type 0} (part : Request → Y) (one : Request → X → Request)
     → ((r : Request) (x : X) → part (one r x) ≡ part r) → (xs : List X) (r : Request)
     → part (fold one r xs) ≡ part r
 left_by_all part one leaves [] r = refl
 left_by_all part one leaves (x ∷ xs) r = left_by_all part one leaves xs (one r x) ∙ leaves r x
 
-left_at : {Y : Type 0} (part : Request → Y) (id : ℕ) (f : Request → Request)
+pub left_at : {Y : Type 0} (part : Request → Y) (id : ℕ) (f : Request → Request)
     → ((r : Request) → part (f r) ≡ part r) → (r : Request)
     → part (revised_at id f r) ≡ part r
 left_at part id f leaves r =

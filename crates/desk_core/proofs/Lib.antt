@@ -16,6 +16,7 @@ pub mod Goes
 pub mod Identity
 pub mod InView
 pub mod Kept
+pub mod KnownLaw
 pub mod NamedRights
 pub mod NamesLaw
 pub mod Opened

@@ -4,6 +4,7 @@ pub mod Carried
 pub mod Context
 pub mod Decision
 pub mod Histories
+pub mod Known
 pub mod Laws
 pub mod Opened
 pub mod Orders

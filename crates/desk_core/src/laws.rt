@@ -15,6 +15,7 @@ ghost use Rattle.desk_core.specs.Asked.{AsksToWatch, AsksUsualRight, LinksShown}
 ghost use Rattle.desk_core.specs.Bounds.{KeepsEntryLimit, KeepsQueueLimit, KeepsRequestLimit};
 ghost use Rattle.desk_core.specs.Carried.{CarriesStays};
 ghost use Rattle.desk_core.specs.Histories.{KeepsEntriesLaw, KeepsStatusesTold, TellsStatuses};
+ghost use Rattle.desk_core.specs.Known.{KeepsKnown};
 ghost use Rattle.desk_core.specs.Opened.{KeepsOpenedLaw};
 ghost use Rattle.desk_core.specs.Orders.{TellsInOrder};
 ghost use Rattle.desk_core.specs.Shown.{ShowsByList};
@@ -157,6 +158,12 @@ pub fn roles_law()
 pub fn desk_law()
     ensures empty { IsDesk empty_desk }
     ensures step { AtEveryStep KeepsDesk }
+{}
+
+/// Where the settings know each name of a well-formed desk, they know each name of it after any
+/// command: so tables to which they were attached can be attached to them again.
+pub fn known_law()
+    ensures { AtEveryStep KeepsKnown }
 {}
 
 /// Names in order rise by their bytes, and they are the same names.

@@ -2,4 +2,5 @@ pub mod Built
 pub mod Empty
 pub mod Faults
 pub mod Found
+pub mod Sound
 pub mod Zones

@@ -7,4 +7,5 @@ pub mod Named
 pub mod Names
 pub mod Reading
 pub mod Settings
+pub mod Sound
 pub mod Tokens

@@ -7,6 +7,7 @@
 
 mod calendars;
 pub mod fault;
+pub mod laws;
 mod levels;
 mod lifecycles;
 mod limits;

@@ -1,46 +1,49 @@
 -- The persons of each request rise.
-use Rattle.std.proofs.Common.{◌≡◌, ◌∙◌, true, ◌&&◌, [], ◌∷◌, Option, Some, None, refl}
+use Rattle.std.proofs.Common.{◌≡◌, ℕ, Bool, true, ◌&&◌, List, Option, Some, None, refl}
 use Rattle.std.proofs.lemmas.Bool.{and_from, and_parts}
-use Rattle.std.proofs.lemmas.List.Folds.{list_all-append}
 use Rattle.std.specs.List.{list_all}
-use Rattle.desk_model.specs.Change.{applied, entry_put, filed, request_filed, with_entry}
-use Rattle.desk_model.specs.Desk.{Desk}
+use Rattle.desk_model.specs.Change.{applied, entry_put, in_role, with_entry}
+use Rattle.desk_model.specs.Desk.{Desk, Request}
 use Rattle.desk_model.specs.IsDesk.{names_rise, persons_rise}
 use Rattle.desk_model.specs.declared.change.Change.{Change}
 use Rattle.desk_model.specs.declared.rows.RequestRow.{RequestRow}
+use Rattle.desk_model.specs.declared.rows.WatchRole.{WatchRole}
 use Rattle.desk_model.specs.declared.rows.WatchRole.TheVariants.{Requestor, Cc, AdminCc}
-use Rattle.desk_core.proofs.DeskLaw.Stages.{HoldsAtPersons, HoldsAtRow, all_revised}
-use Rattle.desk_core.proofs.DeskLaw.Stages.{all_with_links, by_all, with_links}
+use Rattle.desk_core.proofs.DeskLaw.Stages.{HoldsAtPersons, HoldsAtRow, HoldsOfFiled, all_filed}
+use Rattle.desk_core.proofs.DeskLaw.Stages.{all_revised, all_with_links, by_all, with_links}
 
 at_row : (o : Option RequestRow) → HoldsAtRow persons_rise o
 at_row None = tt
 at_row (Some row) = λ r same rise. rise
 
-at_persons : HoldsAtPersons persons_rise
-at_persons Requestor f keeps r rise =
-    let parts = and_parts (names_rise r.requestors)
-    (names_rise r.cc && names_rise r.admin_cc) rise in
-    and_from (names_rise (f r.requestors)) (names_rise r.cc && names_rise r.admin_cc)
+-- what holds of the persons in each role holds where it is kept in one
+pub in_each_role : (test : List (List ℕ) → Bool) (role : WatchRole)
+    (f : List (List ℕ) → List (List ℕ))
+    → ((names : List (List ℕ)) → test names ≡ true → test (f names) ≡ true)
+    → (r : Request) → (test r.requestors && (test r.cc && test r.admin_cc)) ≡ true
+    → (test (in_role role f r).requestors
+    && (test (in_role role f r).cc && test (in_role role f r).admin_cc)) ≡ true
+in_each_role test Requestor f keeps r all =
+    let parts = and_parts (test r.requestors) (test r.cc && test r.admin_cc) all in
+    and_from (test (f r.requestors)) (test r.cc && test r.admin_cc)
     (keeps r.requestors parts.0) parts.1
-at_persons Cc f keeps r rise =
-    let parts = and_parts (names_rise r.requestors)
-    (names_rise r.cc && names_rise r.admin_cc) rise in
-    let others = and_parts (names_rise r.cc) (names_rise r.admin_cc) parts.1 in
-    and_from (names_rise r.requestors) (names_rise (f r.cc) && names_rise r.admin_cc) parts.0
-    (and_from (names_rise (f r.cc)) (names_rise r.admin_cc) (keeps r.cc others.0) others.1)
-at_persons AdminCc f keeps r rise =
-    let parts = and_parts (names_rise r.requestors)
-    (names_rise r.cc && names_rise r.admin_cc) rise in
-    let others = and_parts (names_rise r.cc) (names_rise r.admin_cc) parts.1 in
-    and_from (names_rise r.requestors) (names_rise r.cc && names_rise (f r.admin_cc)) parts.0
-    (and_from (names_rise r.cc) (names_rise (f r.admin_cc)) others.0 (keeps r.admin_cc others.1))
+in_each_role test Cc f keeps r all =
+    let parts = and_parts (test r.requestors) (test r.cc && test r.admin_cc) all in
+    let others = and_parts (test r.cc) (test r.admin_cc) parts.1 in
+    and_from (test r.requestors) (test (f r.cc) && test r.admin_cc) parts.0
+    (and_from (test (f r.cc)) (test r.admin_cc) (keeps r.cc others.0) others.1)
+in_each_role test AdminCc f keeps r all =
+    let parts = and_parts (test r.requestors) (test r.cc && test r.admin_cc) all in
+    let others = and_parts (test r.cc) (test r.admin_cc) parts.1 in
+    and_from (test r.requestors) (test r.cc && test (f r.admin_cc)) parts.0
+    (and_from (test r.cc) (test (f r.admin_cc)) others.0 (keeps r.admin_cc others.1))
 
-when_filed : (o : Option RequestRow) (desk : Desk) → list_all persons_rise desk.requests ≡ true
-    → list_all persons_rise (request_filed o desk).requests ≡ true
-when_filed None desk rise = rise
-when_filed (Some row) desk rise =
-    list_all-append persons_rise desk.requests (filed row ∷ [])
-    ∙ and_from (list_all persons_rise desk.requests) true rise refl
+at_persons : HoldsAtPersons persons_rise
+at_persons role f keeps r rise = in_each_role names_rise role f keeps r rise
+
+no_persons : (o : Option RequestRow) → HoldsOfFiled persons_rise o
+no_persons None = tt
+no_persons (Some row) = refl
 
 pub persons_after : (change : Change) (desk : Desk) → list_all persons_rise desk.requests ≡ true
     → list_all persons_rise (applied change desk).requests ≡ true
@@ -50,4 +53,4 @@ persons_after change desk rise =
     change.entries
     (with_links change desk)
     (all_with_links persons_rise change desk (at_row change.row) at_persons
-    (when_filed change.filed desk rise))
+    (all_filed persons_rise change.filed desk (no_persons change.filed) rise))

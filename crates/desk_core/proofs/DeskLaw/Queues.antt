@@ -2,7 +2,6 @@
 use Rattle.std.proofs.Common.{◌≡◌, ◌∙◌, ℕ, Bool, true, false, ◌&&◌, ◌||◌, cond}
 use Rattle.std.proofs.Common.{List, [], ◌∷◌, find, Option, Some, None, refl, ap}
 use Rattle.std.proofs.lemmas.Bool.{and_from}
-use Rattle.std.proofs.lemmas.List.Folds.{list_all-append}
 use Rattle.std.specs.List.{list_all}
 use Rattle.std.specs.Option.{is_some}
 use Rattle.std.specs.Str.{bytes_eq}
@@ -16,8 +15,8 @@ use Rattle.desk_model.specs.declared.rows.RequestRow.{RequestRow}
 use Rattle.desk_model.specs.declared.rows.WatchRole.TheVariants.{Requestor, Cc, AdminCc}
 use Rattle.desk_core.proofs.DeskLaw.Fitting.{FilesNext, OpensNamed, OpensNew, StaysInQueue}
 use Rattle.desk_core.proofs.DeskLaw.Fitting.{queue_in}
-use Rattle.desk_core.proofs.DeskLaw.Stages.{HoldsAtPersons, HoldsAtRow, all_revised}
-use Rattle.desk_core.proofs.DeskLaw.Stages.{all_with_links, by_all, queues_after, with_links}
+use Rattle.desk_core.proofs.DeskLaw.Stages.{HoldsAtPersons, HoldsAtRow, HoldsOfFiled, all_filed}
+use Rattle.desk_core.proofs.DeskLaw.Stages.{all_revised, all_with_links, by_all, queues_after, with_links}
 use Rattle.desk_core.proofs.Every.{every_placed, every_so}
 use Rattle.desk_core.proofs.Rising.{is_apart, names_part, placed_rises}
 
@@ -103,14 +102,9 @@ abbrev is_in : List QueueRow → Request → Bool
 is_in queues r = has_queue queues r.row.queue
 
 filed_in : (o : Option RequestRow) (desk : Desk) → FilesNext desk o
-    → list_all (is_in desk.queues) desk.requests ≡ true
-    → list_all (is_in desk.queues) (request_filed o desk).requests ≡ true
-filed_in None desk next all = all
-filed_in (Some row) desk next all =
-    list_all-append (is_in desk.queues) desk.requests (filed row ∷ [])
-    ∙ and_from (list_all (is_in desk.queues) desk.requests)
-    (is_in desk.queues (filed row) && true) all
-    (and_from (is_in desk.queues (filed row)) true next.1 refl)
+    → HoldsOfFiled (is_in desk.queues) o
+filed_in None desk next = tt
+filed_in (Some row) desk next = next.1
 
 at_row : (queues : List QueueRow) (o : Option RequestRow) (queue : List ℕ)
     → queue_in o queue ≡ queue
@@ -142,4 +136,4 @@ each_in_queue change desk next stays all =
     (at_persons queues)
     (every_so (is_in desk.queues) test (request_filed change.filed desk).requests
     (λ r there. stays_open change.queue desk r.row.queue there)
-    (filed_in change.filed desk next all)))
+    (all_filed (is_in desk.queues) change.filed desk (filed_in change.filed desk next) all)))

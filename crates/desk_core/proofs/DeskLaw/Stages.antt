@@ -1,6 +1,8 @@
 -- A change step by step: what it leaves alone, and what holds of each request after it.
-use Rattle.std.proofs.Common.{◌≡◌, ◌∙◌, ℕ, ◌==◌, Bool, true, false, not, cond, List, []}
+use Rattle.std.proofs.Common.{◌≡◌, ◌∙◌, ℕ, ◌==◌, Bool, true, false, not, ◌&&◌, cond, List, []}
 use Rattle.std.proofs.Common.{◌∷◌, ◌++◌, map, filter, fold, Option, Some, None, refl, ap}
+use Rattle.std.proofs.lemmas.Bool.{and_from}
+use Rattle.std.proofs.lemmas.List.Folds.{list_all-append}
 use Rattle.std.specs.List.{list_all}
 use Rattle.desk_model.specs.Change.{applied, entry_put, filed, in_role, link_put}
 use Rattle.desk_model.specs.Change.{link_taken, person_put, person_taken}
@@ -112,6 +114,21 @@ all_set : (test : Request → Bool) (o : Option RequestRow) (desk : Desk) → Ho
 all_set test None desk keeps all = all
 all_set test (Some row) desk keeps all =
     all_revised test row.id (with_row row) desk.requests keeps all
+
+-- the test holds of a request as it is filed
+abbrev pub HoldsOfFiled : (Request → Bool) → Option RequestRow → Type 0
+HoldsOfFiled test None = Unit {0}
+HoldsOfFiled test (Some row) = test (filed row) ≡ true
+
+-- what holds of each request holds of each with the one that is filed
+pub all_filed : (test : Request → Bool) (o : Option RequestRow) (desk : Desk)
+    → HoldsOfFiled test o → list_all test desk.requests ≡ true
+    → list_all test (request_filed o desk).requests ≡ true
+all_filed test None desk one all = all
+all_filed test (Some row) desk one all =
+    list_all-append test desk.requests (filed row ∷ [])
+    ∙ and_from (list_all test desk.requests) (test (filed row) && true) all
+    (and_from (test (filed row)) true one refl)
 
 -- the test holds of a request with other persons, who rise if they did
 abbrev pub HoldsAtPersons : (Request → Bool) → Type 0
