@@ -9,6 +9,7 @@ use Rattle.desk_core.proofs.AsMissing.{hidden_law}
 use Rattle.desk_core.proofs.Depends.{dependency_law}
 use Rattle.desk_core.proofs.DeskLaw.{desk_law}
 use Rattle.desk_core.proofs.DueLaw.{due_law}
+use Rattle.desk_core.proofs.KnownLaw.{known_law}
 use Rattle.desk_core.proofs.Kept.{history_law, owner_law, status_law}
 use Rattle.desk_core.proofs.ViewLaw.{view_law}
 use Rattle.desk_model.specs.Desk.{Desk}
@@ -32,6 +33,7 @@ made s ask desk is =
     record {
       step = inr (refl, refl);
       formed = desk_law s ask.at ask.caller ask.command desk is;
+      known = known_law s ask.at ask.caller ask.command desk is;
       status = status_law s ask.at ask.caller ask.command desk;
       dependency = dependency_law s ask.at ask.caller ask.command desk;
       due =
@@ -51,6 +53,7 @@ left s ask desk is =
     record {
       step = inl (refl, refl);
       formed = is;
+      known = λ sound known. known;
       status = λ id before was. (before, was, λ differs. absurd (differs refl));
       dependency = λ id before was. (before, was, λ differs. absurd (differs refl));
       due = tt;

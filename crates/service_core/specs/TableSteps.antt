@@ -7,6 +7,7 @@ use Rattle.desk_model.specs.declared.command.Command.{Command}
 use Rattle.desk_model.specs.declared.refusal.Refusal.TheVariants.{Unavailable}
 use Rattle.desk_model.specs.Desk.{Desk}
 use Rattle.desk_model.specs.IsDesk.{IsDesk}
+use Rattle.desk_core.specs.Known.{KnownLaw}
 use Rattle.desk_core.specs.Laws.{DependencyLaw, DueLaw, HiddenLaw, HistoryLaw, OwnerLaw}
 use Rattle.desk_core.specs.Laws.{StatusLaw, ViewLaw}
 use Rattle.desk_model.specs.Step.{Ask, Outcome, RunsBy, Steps}
@@ -18,6 +19,7 @@ pub record IsStep (settings : Settings) (ask : Ask) (old : Desk) (outcome : Outc
     Type 0 where
   pub step : Steps settings ask.at ask.caller ask.command old outcome new
   pub formed : IsDesk new
+  pub known : KnownLaw settings old new
   pub status : StatusLaw settings ask.caller ask.command old new
   pub dependency : DependencyLaw settings old new
   pub due : IfOk outcome (DueLaw settings old)
