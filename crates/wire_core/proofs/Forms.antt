@@ -15,14 +15,8 @@ use Rattle.wire_core.specs.Replies.{fault_reply, outcome_reply, stream_reply}
 
 pub outcome_form : (head_only : Bool) (outcome : Outcome)
     → IsReply (outcome_reply head_only outcome)
-outcome_form h (Ok answer.Done) = record { code = refl; allow = refl }
 outcome_form h (Ok (answer.Created id)) = record { code = refl; allow = refl }
-outcome_form h (Ok (answer.Queues queues)) = record { code = refl; allow = refl }
-outcome_form h (Ok (answer.Shown shown)) = record { code = refl; allow = refl }
-outcome_form h (Ok (answer.Listed requests)) = record { code = refl; allow = refl }
-outcome_form h (Ok (answer.History entries)) = record { code = refl; allow = refl }
-outcome_form h (Ok (answer.Late requests)) = record { code = refl; allow = refl }
-outcome_form h (Ok (answer.Workload loads)) = record { code = refl; allow = refl }
+outcome_form h (Ok other) = record { code = refl; allow = refl }
 outcome_form h (Err refusal.UnknownCaller) = record { code = refl; allow = refl }
 outcome_form h (Err refusal.BadMoment) = record { code = refl; allow = refl }
 outcome_form h (Err refusal.BadText) = record { code = refl; allow = refl }

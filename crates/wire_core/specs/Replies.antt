@@ -28,15 +28,10 @@ is_head message = bytes_eq message.method (codes "HEAD")
 
 -- ---- what came of a command
 
+-- a request that was filed, or any other answer
 abbrev pub code_of_answer : Answer → ℕ
-code_of_answer answer.Done = 200
 code_of_answer (answer.Created id) = 201
-code_of_answer (answer.Queues queues) = 200
-code_of_answer (answer.Shown shown) = 200
-code_of_answer (answer.Listed requests) = 200
-code_of_answer (answer.History entries) = 200
-code_of_answer (answer.Late requests) = 200
-code_of_answer (answer.Workload loads) = 200
+code_of_answer other = 200
 
 abbrev pub code_of_refusal : Refusal → ℕ
 code_of_refusal refusal.UnknownCaller = 403

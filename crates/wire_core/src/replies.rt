@@ -44,18 +44,13 @@ fn code_of(outcome: &Result<Answer, Refusal>) -> u16
     }
 }
 
+/// 201 where a request was filed, and 200 for any other answer.
 fn code_of_answer(answer: &Answer) -> u16
     ensures { result ≡ replies.code_of_answer answer.now }
 {
     match answer {
         Answer::Created(_) => 201,
-        Answer::Done
-        | Answer::Queues(_)
-        | Answer::Shown(_)
-        | Answer::Listed(_)
-        | Answer::History(_)
-        | Answer::Late(_)
-        | Answer::Workload(_) => 200,
+        _ => 200,
     }
 }
 
