@@ -7,6 +7,9 @@ use Rattle.sqlite.specs.State.{State, HasCleanDisk}
 use Rattle.sqlite.specs.Store.{Ghosts}
 use Rattle.settings_core.specs.declared.fault.SettingsFault.{SettingsFault}
 use Rattle.settings_core.specs.declared.settings.Settings.{Settings}
+use Rattle.settings_core.specs.Reading.{IsSettingsOf}
+use Rattle.settings_core.proofs.Sound.{sound}
+use Rattle.desk_core.proofs.KnownLaw.{known_law}
 use Rattle.desk_model.specs.declared.command.Command.{Command}
 use Rattle.desk_model.specs.declared.refusal.Refusal.{Refusal}
 use Rattle.desk_model.specs.declared.refusal.Refusal.TheVariants.{Unavailable}
@@ -55,6 +58,26 @@ pub not_stepped : (s : Settings) (ask : Ask) (failed : Bool) (tables : State)
 not_stepped s ask failed tables desk formed stands clean =
     (desk, (inl (Err Unavailable, inl (refl, refl), refl, refl), formed), stands)
 
+-- settings that a text states know each name of the desk to which a step leads
+known_by_step : (s : Settings) (text : List ℕ) (ask : Ask) (old new : Desk) (outcome : Outcome)
+    → IsSettingsOf text s → IsDesk old → is_known s old ≡ true
+    → Steps s ask.at ask.caller ask.command old outcome new → is_known s new ≡ true
+known_by_step s text ask old new outcome stated formed known (inl same) =
+    subst (λ (d : Desk). is_known s d ≡ true) (sym same.1) known
+known_by_step s text ask old new outcome stated formed known (inr done) =
+    subst (λ (d : Desk). is_known s d ≡ true) (sym done.1)
+    (known_law s ask.at ask.caller ask.command old formed (sound text s stated) known)
+
+-- and so of the desk to which a command leads
+known_after : (s : Settings) (text : List ℕ) (ask : Ask) (failed : Bool) (line : List ℕ)
+    (status : ℕ) (old new : Desk) → IsSettingsOf text s → IsDesk old → is_known s old ≡ true
+    → TakesStep s ask failed line status old new → is_known s new ≡ true
+known_after s text ask failed line status old new stated formed known takes =
+    elim takes.0 [
+      | inl told ↦ known_by_step s text ask old new told.0 stated formed known told.1
+      | inr cut ↦ known_by_step s text ask old new (Ok cut.0) stated formed known cut.1
+    ]
+
 -- the tables were opened, and the command was done
 pub done_once_opened : (s : Settings) (text : List ℕ) (ask : Ask) (failed : Bool)
     (old mid new : State) (line : List ℕ) (status : ℕ) → IsOpened text old s mid
@@ -62,17 +85,26 @@ pub done_once_opened : (s : Settings) (text : List ℕ) (ask : Ask) (failed : Bo
     → IsDone s ask failed old new line status
 done_once_opened s text ask failed old mid new line status is honest leads desk formed (inl stand)
     clean =
-    let led = leads desk formed (is.renewed desk formed stand) clean in
-    (led.0, is.known desk formed stand (honest clean), led.1, led.2)
+    let known = is.known desk formed stand (honest clean) in
+    let led = leads desk formed (is.renewed desk formed stand) clean in (
+      led.0,
+      known,
+      led.1,
+      led.2,
+      known_after s text ask failed line status desk led.0 is.stated formed known led.1,
+    )
 done_once_opened s text ask failed old mid new line status is honest leads desk formed (inr none)
     clean =
     let begins : StandsDue s desk mid =
     subst (λ (d : Desk). StandsDue s d mid) (sym none.1) (is.made none.0) in
+    let known : is_known s desk ≡ true =
+    subst (λ (d : Desk). is_known s d ≡ true) (sym none.1) (knows_empty s) in
     let led = leads desk formed begins clean in (
       led.0,
-      subst (λ (d : Desk). is_known s d ≡ true) (sym none.1) (knows_empty s),
+      known,
       led.1,
       led.2,
+      known_after s text ask failed line status desk led.0 is.stated formed known led.1,
     )
 
 -- the tables weren't opened, and the fault is told

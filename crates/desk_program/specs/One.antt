@@ -71,12 +71,13 @@ BeginsWith desk tables = StoodFor desk tables ⊎ (IsBlank tables × (desk ≡ e
 
 -- The command was done, and a write of its text failed or not: whatever desk the tables begin with,
 -- the settings know its names, and the tables stand afterwards for the desk to which one step leads,
--- with its due moments.
+-- with its due moments. The settings know the names of that desk too.
 abbrev pub IsDone : Settings → Ask → Bool → State → State → List ℕ → ℕ → Type 0
 IsDone settings ask failed old new line status =
     (desk : Desk) → IsDesk desk → BeginsWith desk old → HasCleanDisk new
     → (after : Desk) × (is_known settings desk ≡ true)
     × TakesStep settings ask failed line status desk after × StandsDue settings after new
+    × (is_known settings after ≡ true)
 
 -- ---- what is printed, and the status
 
