@@ -161,7 +161,8 @@ pub fn desk_law()
 {}
 
 /// Where the settings know each name of a well-formed desk, they know each name of it after any
-/// command: so tables to which they were attached can be attached to them again.
+/// command: so tables to which they were attached can be attached to them again. No lifecycle of
+/// the settings may have a fault for it, and none has where a text states them.
 pub fn known_law()
     ensures { AtEveryStep KeepsKnown }
 {}

@@ -1,6 +1,7 @@
 -- The lifecycles of settings that a text states have no fault.
 use Rattle.std.proofs.Common.{◌≡◌, ◌∙◌, ℕ, Bool, true, false, cond, List, [], ◌∷◌, ◌++◌}
-use Rattle.std.proofs.Common.{Option, Some, None, append-nil, find, refl, sym, subst, if◌then◌else◌, is_some, codes}
+use Rattle.std.proofs.Common.{Option, Some, None, append-nil, find, refl, sym, subst, is_some}
+use Rattle.std.proofs.Common.{codes, if◌then◌else◌}
 use Rattle.std.specs.Option.{option_map, option_or}
 use Rattle.std.specs.Str.{bytes_eq}
 use Rattle.toml.specs.Data.{Members, no_members, member, get_member}

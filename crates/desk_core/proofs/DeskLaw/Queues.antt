@@ -16,7 +16,8 @@ use Rattle.desk_model.specs.declared.rows.WatchRole.TheVariants.{Requestor, Cc, 
 use Rattle.desk_core.proofs.DeskLaw.Fitting.{FilesNext, OpensNamed, OpensNew, StaysInQueue}
 use Rattle.desk_core.proofs.DeskLaw.Fitting.{queue_in}
 use Rattle.desk_core.proofs.DeskLaw.Stages.{HoldsAtPersons, HoldsAtRow, HoldsOfFiled, all_filed}
-use Rattle.desk_core.proofs.DeskLaw.Stages.{all_revised, all_with_links, by_all, queues_after, with_links}
+use Rattle.desk_core.proofs.DeskLaw.Stages.{all_revised, all_with_links, by_all, queues_after}
+use Rattle.desk_core.proofs.DeskLaw.Stages.{with_links}
 use Rattle.desk_core.proofs.Every.{every_placed, every_so}
 use Rattle.desk_core.proofs.Rising.{is_apart, names_part, placed_rises}
 
