@@ -1,6 +1,7 @@
 -- Every step leaves a known desk known.
 use Rattle.std.proofs.Common.{◌≡◌, ◌∙◌, ℕ, ◌==◌, Bool, true, false, ◌&&◌, cond, List, [], ◌∷◌}
-use Rattle.std.proofs.Common.{◌++◌, find, filter, fold, map, not, Option, Some, None, refl, ap, subst}
+use Rattle.std.proofs.Common.{◌++◌, find, filter, fold, map, not, Option, Some, None, refl, ap}
+use Rattle.std.proofs.Common.{subst}
 use Rattle.std.proofs.lemmas.Bool.{and_from, and_parts, cond-false}
 use Rattle.std.proofs.lemmas.List.Folds.{list_all-append}
 use Rattle.std.proofs.lemmas.Slice.Eq.{bytes_eq-Decides}
@@ -10,8 +11,8 @@ use Rattle.std.specs.Str.{bytes_eq}
 use Rattle.settings_core.specs.Settings.{knows}
 use Rattle.settings_core.specs.Sound.{AreSound}
 use Rattle.settings_core.specs.declared.settings.Settings.{Settings}
-use Rattle.desk_model.specs.Change.{applied, in_role, queue_put, request_filed, with_entry, with_row}
-use Rattle.desk_model.specs.Change.{without_name}
+use Rattle.desk_model.specs.Change.{applied, in_role, queue_put, request_filed, with_entry}
+use Rattle.desk_model.specs.Change.{with_row, without_name}
 use Rattle.desk_model.specs.Commands.{plan_of}
 use Rattle.desk_model.specs.Desk.{Desk, Request, empty_desk, has_lower_name, placed, queue_at}
 use Rattle.desk_model.specs.Desk.{revised_at}

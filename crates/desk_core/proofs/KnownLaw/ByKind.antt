@@ -1,5 +1,6 @@
 -- What the change of a command that isn't refused brings is known, by the kind of the command.
-use Rattle.std.proofs.Common.{◌≡◌, ◌∙◌, ℕ, ◌+◌, ◌==◌, Bool, true, false, not, ◌&&◌, ◌||◌, List, [], ◌∷◌, ◌++◌}
+use Rattle.std.proofs.Common.{◌≡◌, ◌∙◌, ℕ, ◌+◌, ◌==◌, Bool, true, false, not, ◌&&◌, ◌||◌, List, []}
+use Rattle.std.proofs.Common.{◌∷◌, ◌++◌}
 use Rattle.std.proofs.Common.{find, fold, length, Option, Some, None, unwrap_or, refl, ap, subst}
 use Rattle.std.proofs.Common.{if◌then◌else◌}
 use Rattle.std.proofs.lemmas.Bool.{and_from, and_parts, or_left, or_right}
@@ -250,7 +251,8 @@ rows call desk caller all (Untake id) = λ r there same none.
 rows call desk caller all (Give id person) = λ r there same none.
     let parts = parts_known call.settings desk r.row
     (every_found _ _ desk.requests r all there) in
-    row_known call.settings desk (take.with_owner (Some person) r.row) parts.0 parts.1 (holding (knows call.settings person) none.0)
+    row_known call.settings desk (take.with_owner (Some person) r.row) parts.0 parts.1
+    (holding (knows call.settings person) none.0)
 rows call desk caller all (Reply id text) = λ r there same none.
     let s = call.settings in
     let facts = besides_on Nothing id desk in
@@ -269,7 +271,8 @@ rows call desk caller all (Reply id text) = λ r there same none.
 rows call desk caller all (SetLevel id level) = λ r there same none.
     let parts = parts_known call.settings desk r.row
     (every_found _ _ desk.requests r all there) in
-    row_known call.settings desk (set_level.with_level level r.row) parts.0 (holding (knows_level call.settings level) none.0)
+    row_known call.settings desk (set_level.with_level level r.row) parts.0
+    (holding (knows_level call.settings level) none.0)
     parts.2
 rows call desk caller all other = λ r there same none. tt
 
