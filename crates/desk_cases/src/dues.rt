@@ -74,6 +74,7 @@ fn shown<S: Backend>(
 ) -> Result<String, Failure> {
     let show = Command::Show { id };
     let outcome = desk.execute(alloc, at, caller, &show);
+    drop(show);
     let text = outcome_text(alloc, &outcome);
     drop(outcome);
     Ok(text?)

@@ -124,7 +124,24 @@ fn run_line<S: Backend + Drop>(
         failed,
         store,
     } = ended;
+    match tell_ended(rt, line, status, failed, writer.taken.as_slice()) {
+        Ok(()) => Ok(store),
+        Err(failure) => {
+            drop(store);
+            Err(failure)
+        }
+    }
+}
+
+/// Writes how a command ended, and what it wrote.
+fn tell_ended(
+    rt: &HostRuntime,
+    line: &str,
+    status: u8,
+    failed: bool,
+    taken: &[u8],
+) -> Result<(), Failure> {
     println!(rt; "{line}: status {status}, failed {failed}")?;
-    println!(rt; "{}", str::from_utf8(writer.taken.as_slice()).unwrap_or(""))?;
-    Ok(store)
+    println!(rt; "{}", str::from_utf8(taken).unwrap_or(""))?;
+    Ok(())
 }

@@ -93,8 +93,24 @@ fn applied<S: Backend>(
     rest: &str,
 ) -> Result<Result<(), StoreFault>, Failure> {
     let change = change_of(alloc, call, rest)?;
-    let stays = stays_with(alloc, store, &change)?;
-    Ok(store.apply(&Change { stays, ..change }))
+    match stays_with(alloc, store, &change) {
+        Ok(stays) => Ok(apply_with(store, change, stays)),
+        Err(failure) => {
+            drop(change);
+            Err(failure)
+        }
+    }
+}
+
+fn apply_with<S: Backend>(
+    store: &mut Store<S>,
+    change: Change,
+    stays: Sequence<Stay>,
+) -> Result<(), StoreFault> {
+    let change = Change { stays, ..change };
+    let done = store.apply(&change);
+    drop(change);
+    done
 }
 
 /// The stays of the request that the change's first entry is about, with those that the entries begin.
