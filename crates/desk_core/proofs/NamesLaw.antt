@@ -6,7 +6,7 @@ use Rattle.std.specs.Cmp.Lexicographic.{same_text, texts_ties}
 use Rattle.std.specs.Ordering.{is_eq, match_ordering}
 use Rattle.std.specs.Str.{bytes_eq}
 use Rattle.std.specs.declared.cmp.Ordering.TheVariants.{Less, Equal, Greater}
-use Rattle.desk_model.specs.IsDesk.{names_rise}
+use Rattle.desk_model.specs.Names.{names_rise}
 use Rattle.desk_model.specs.Names.{in_order, text_order, with_name}
 use Rattle.desk_core.proofs.Rising.{all_named_rise}
 use Rattle.text_core.specs.Texts.{is_among}

@@ -1,5 +1,5 @@
--- Each reading tells of the caller's view what it tells of the desk, and each due moment in it is
--- right: a line for each reading.
+-- Each reading tells of the caller's view what it tells of the desk, each due moment in it is
+-- right, and it lists what it tells in order: a line for each reading.
 use Rattle.std.proofs.Common.{◌≡◌, true}
 use Rattle.std.specs.Prelude.{⊤}
 use Rattle.desk_model.specs.Commands.{plan_of}
@@ -14,9 +14,12 @@ use Rattle.desk_core.proofs.Readings.Queues as queues
 use Rattle.desk_core.proofs.Readings.Show as show
 use Rattle.desk_core.proofs.Readings.Workload as workload
 pub mod History
+pub mod LateOrder
+pub mod LinkOrder
 pub mod Listing
 pub mod Overdue
 pub mod Owed
+pub mod Placed
 pub mod Queues
 pub mod Show
 pub mod Told

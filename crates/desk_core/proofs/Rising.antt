@@ -14,7 +14,9 @@ use Rattle.std.specs.declared.cmp.Ordering.{Ordering}
 use Rattle.std.specs.declared.cmp.Ordering.TheVariants.{Less, Equal, Greater}
 use Rattle.desk_model.specs.Change.{without_name}
 use Rattle.desk_model.specs.Desk.{placed}
-use Rattle.desk_model.specs.IsDesk.{are_numbered, comes_first, is_rising, names_rise}
+use Rattle.desk_model.specs.IsDesk.{are_numbered}
+use Rattle.desk_model.specs.Names.{names_rise}
+use Rattle.desk_model.specs.Rising.{comes_first, is_rising}
 use Rattle.desk_model.specs.Names.{text_order, with_name}
 
 -- one that comes after y is placed in a list before which y comes

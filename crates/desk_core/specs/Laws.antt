@@ -17,7 +17,7 @@ use Rattle.desk_model.specs.Lifecycles.{lifecycle_of, reopening_of, right_of}
 use Rattle.desk_model.specs.Links.{has_link, link}
 use Rattle.desk_model.specs.Rights.{is_shown}
 use Rattle.desk_model.specs.Step.{answer_of}
-use Rattle.desk_model.specs.Readings.{dues_told}
+use Rattle.desk_model.specs.Readings.{IsInOrder, dues_told}
 use Rattle.desk_model.specs.Refusals.{number_of}
 use Rattle.desk_model.specs.Rights.{holds_on, may_show}
 use Rattle.desk_model.specs.Step.{Outcome, desk_after, outcome_of}
@@ -168,6 +168,11 @@ abbrev pub PlainDueLaw : Settings → Desk → Type 0
 PlainDueLaw settings desk =
     IgnoreNone settings → (request : Request)
     → due_on settings desk request ≡ plain_due_on settings desk request
+
+-- The orders law: what a command answers on a well-formed desk is in order.
+abbrev pub TellsInOrder : Settings → ℕ → List ℕ → Command → Desk → Type 0
+TellsInOrder settings at caller command desk =
+    IsDesk desk → IsInOrder (answer_of settings at caller command desk)
 
 -- A reading command leaves the desk as it was.
 abbrev pub LeavesTheDesk : Settings → ℕ → List ℕ → Command → Desk → Type 0

@@ -7,6 +7,5 @@ pub mod Histories
 pub mod Known
 pub mod Laws
 pub mod Opened
-pub mod Orders
 pub mod Shown
 pub mod Stays

@@ -15,7 +15,9 @@ ghost use Rattle.desk_model.specs.Rights as rights;
 ghost use Rattle.desk_core.specs.Context.{call_of};
 ghost use Rattle.desk_core.specs.Decision.{Accepts, FollowsPlan, Refuses};
 
-use desk_model::{Change, Command, Entry, EntryKind, Facts, Refusal, SeenRequest, sees_queue};
+use desk_model::{
+    Change, Command, Entry, EntryKind, Facts, Refusal, SeenRequest, Topic, sees_queue,
+};
 use hours_core::{END, Minute};
 use rights_core::{Roles, right};
 use settings_core::Settings;
@@ -141,17 +143,27 @@ impl<'c> Context<'c> {
             Command::Link { kind, other, .. } => self.link(*kind, *other),
             Command::Unlink { kind, other, .. } => self.unlink(*kind, *other),
             Command::SetLevel { level, .. } => self.set_level(level),
-            Command::Queues => Ok(Change::no_change(self.alloc)),
-            Command::Show { .. } => self.read(),
-            Command::List { .. } => self.read_queue(),
-            Command::History { .. } => self.read(),
-            Command::Overdue => Ok(Change::no_change(self.alloc)),
-            Command::Workload => Ok(Change::no_change(self.alloc)),
+            _ => self.read(command),
         }
     }
 
-    /// Shows the request: nothing changes.
-    fn read(&self) -> Result<Change, Refusal>
+    /// Lets a command read, where the caller may see what it is about: nothing changes.
+    fn read(&self, command: &Command) -> Result<Change, Refusal>
+        requires { IsReading command.now }
+        ensures { Decides result
+            (conditions_by (call_of self.now) self.now.facts.now (plan_of command.now))
+            (change_by (call_of self.now) self.now.facts.now (plan_of command.now)) }
+    {
+        match command.topic() {
+            Some(Topic::Desk) => Ok(Change::no_change(self.alloc)),
+            Some(Topic::Queue(_)) => self.read_queue(),
+            Some(Topic::Request(_)) => self.read_request(),
+            None => unreachable!(),
+        }
+    }
+
+    /// Lets a command read of the request, where the caller may show it: nothing changes.
+    fn read_request(&self) -> Result<Change, Refusal>
         ensures ok { IfOk result (λ change. (change ≡ no_change)
             × (is_missing (call_of self.now) self.now.facts.now.request ≡ false)) }
         ensures err { IfErr result (λ refusal. (refusal ≡ Refusal.NotFound)
@@ -161,7 +173,7 @@ impl<'c> Context<'c> {
         Ok(Change::no_change(self.alloc))
     }
 
-    /// Lists the requests of the queue, where the caller may see it: nothing changes.
+    /// Lets a command read of the queue, where the caller may see it: nothing changes.
     fn read_queue(&self) -> Result<Change, Refusal>
         ensures ok { IfOk result (λ change. (change ≡ no_change)
             × (is_unseen (call_of self.now) self.now.facts.now.queue ≡ false)) }

@@ -14,6 +14,6 @@ pub use beforehand::refused_beforehand;
 pub use decision::decide;
 pub use desk_model::{
     Answer, Change, Command, Dependency, Entry, EntryKind, Facts, LateLine, Line, LinkKind,
-    LinkRow, Links, Load, QueueRow, Refusal, RequestRow, Scope, SeenRequest, Shown, Turn,
+    LinkRow, Links, Load, QueueRow, Refusal, RequestRow, Scope, SeenRequest, Shown, Topic, Turn,
     WatchRole, Watcher, due_of, is_kind, is_role, may_show, sees_queue,
 };

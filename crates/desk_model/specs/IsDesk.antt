@@ -1,24 +1,15 @@
 -- A desk as commands make it and keep it.
 use Rattle.std.specs.Prelude.{◌≡◌, ℕ, ◌+◌, ◌==◌, Bool, true, ◌&&◌, List, [], ◌∷◌, map, is_some}
 use Rattle.std.specs.List.{list_all}
-use Rattle.std.specs.Ordering.{is_lt}
 use Rattle.text_core.specs.Form.{is_name}
 use Rattle.settings_core.specs.declared.settings.Settings.{Settings}
 use Rattle.desk_model.specs.Desk.{Desk, Request, has_lower_name, queue_at, request_at}
 use Rattle.desk_model.specs.Links.{is_lower_link}
-use Rattle.desk_model.specs.Names.{text_order}
+use Rattle.desk_model.specs.Names.{names_rise}
+use Rattle.desk_model.specs.Rising.{is_rising}
 use Rattle.desk_model.specs.Step.{desk_after}
 use Rattle.desk_model.specs.declared.command.Command.{Command}
 use Rattle.desk_model.specs.declared.rows.LinkRow.{LinkRow}
-
-abbrev pub comes_first : {X : Type 0} → (X → X → Bool) → X → List X → Bool
-comes_first comes_before x [] = true
-comes_first comes_before x (y ∷ ys) = comes_before x y
-
--- each comes before the next
-abbrev pub is_rising : {X : Type 0} → (X → X → Bool) → List X → Bool
-is_rising comes_before [] = true
-is_rising comes_before (x ∷ xs) = comes_first comes_before x xs && is_rising comes_before xs
 
 -- these are the numbers from this one on
 abbrev pub are_numbered : ℕ → List ℕ → Bool
@@ -27,9 +18,6 @@ are_numbered next (n ∷ ns) = n == next && are_numbered (next + 1) ns
 
 abbrev pub ids : Desk → List ℕ
 ids desk = map (λ r. r.row.id) desk.requests
-
-abbrev pub names_rise : List (List ℕ) → Bool
-names_rise names = is_rising (λ a b. is_lt (text_order a b)) names
 
 abbrev pub persons_rise : Request → Bool
 persons_rise r = names_rise r.requestors && (names_rise r.cc && names_rise r.admin_cc)

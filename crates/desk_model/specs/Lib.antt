@@ -15,6 +15,7 @@ pub mod Plan
 pub mod Readings
 pub mod Refusals
 pub mod Rights
+pub mod Rising
 pub mod Scope
 pub mod Stays
 pub mod Step

@@ -1,7 +1,7 @@
 -- What there is to a command: what it looks at, its conditions in their order, and its change, or
 -- what it tells where it only reads.
 use Rattle.std.specs.Prelude.{ℕ, Bool, true, false, not}
-use Rattle.std.specs.Prelude.{List, [], ◌∷◌, Option, Some, None}
+use Rattle.std.specs.Prelude.{List, [], ◌∷◌, Option, Some, None, is_some}
 use Rattle.std.specs.Option.{option_map_or}
 use Rattle.text_core.specs.Form.{is_text}
 use Rattle.settings_core.specs.declared.settings.Settings.{Settings}
@@ -161,10 +161,14 @@ abbrev pub answer_of_request : Option Request → (Request → Answer) → Answe
 answer_of_request None made = answer.Done
 answer_of_request (Some request) made = made request
 
+-- what a plan that reads is about
+abbrev pub topic_of : Plan → Option Topic
+topic_of (Reads topic answer) = Some topic
+topic_of (OnQueue name conditions change) = None
+topic_of (OnRequest id besides text conditions change) = None
+
 abbrev pub is_reading : Plan → Bool
-is_reading (Reads topic answer) = true
-is_reading (OnQueue name conditions change) = false
-is_reading (OnRequest id besides text conditions change) = false
+is_reading plan = is_some (topic_of plan)
 
 -- the requests that a plan names: the one that it is on, and the other end of a link
 abbrev pub named_besides : Besides → List ℕ

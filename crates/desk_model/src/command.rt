@@ -1,14 +1,15 @@
 //! The commands of the desk.
 
 ghost use Rattle.std.specs.Prelude.{◌≡◌};
+ghost use Rattle.std.specs.Option.{option_map};
 ghost use Rattle.desk_model.specs.Commands.{plan_of};
 ghost use Rattle.desk_model.specs.Desk.{Desk};
-ghost use Rattle.desk_model.specs.Plan.{is_bad_text, is_reading, text_of};
-ghost use Rattle.desk_model.specs.Scope.{seen_in};
+ghost use Rattle.desk_model.specs.Plan.{is_bad_text, is_reading, text_of, topic_of};
+ghost use Rattle.desk_model.specs.Scope.{seen_in, topic_named};
 ghost use Rattle.desk_model.specs.Step.{facts_of};
 
 use crate::rows::{LinkKind, LinkRow, WatchRole};
-use crate::scope::Scope;
+use crate::scope::{Scope, Topic};
 use text_core::{Text, Texts, is_text};
 
 /// What a caller asks of the desk. Names and texts are as they were given: a command may be refused
@@ -111,32 +112,39 @@ pub enum Command {
 }
 
 impl Command {
+    /// What the command is about, if it only reads.
+    pub fn topic(&self) -> Option<Topic<'_>>
+        ensures { option_map topic_named result ≡ topic_of (plan_of self.now) }
+    {
+        match self {
+            Command::OpenQueue { .. } => None,
+            Command::Create { .. } => None,
+            Command::SetStatus { .. } => None,
+            Command::Take { .. } => None,
+            Command::Steal { .. } => None,
+            Command::Untake { .. } => None,
+            Command::Give { .. } => None,
+            Command::Reply { .. } => None,
+            Command::Comment { .. } => None,
+            Command::Watch { .. } => None,
+            Command::Unwatch { .. } => None,
+            Command::Link { .. } => None,
+            Command::Unlink { .. } => None,
+            Command::SetLevel { .. } => None,
+            Command::Queues => Some(Topic::Desk),
+            Command::Show { id } => Some(Topic::Request(*id)),
+            Command::List { queue } => Some(Topic::Queue(queue)),
+            Command::History { id } => Some(Topic::Request(*id)),
+            Command::Overdue => Some(Topic::Desk),
+            Command::Workload => Some(Topic::Desk),
+        }
+    }
+
     /// Whether the command only reads.
     pub fn is_reading(&self) -> bool
         ensures { result ≡ is_reading (plan_of self.now) }
     {
-        match self {
-            Command::OpenQueue { .. } => false,
-            Command::Create { .. } => false,
-            Command::SetStatus { .. } => false,
-            Command::Take { .. } => false,
-            Command::Steal { .. } => false,
-            Command::Untake { .. } => false,
-            Command::Give { .. } => false,
-            Command::Reply { .. } => false,
-            Command::Comment { .. } => false,
-            Command::Watch { .. } => false,
-            Command::Unwatch { .. } => false,
-            Command::Link { .. } => false,
-            Command::Unlink { .. } => false,
-            Command::SetLevel { .. } => false,
-            Command::Queues => true,
-            Command::Show { .. } => true,
-            Command::List { .. } => true,
-            Command::History { .. } => true,
-            Command::Overdue => true,
-            Command::Workload => true,
-        }
+        self.topic().is_some()
     }
 
     /// Whether the command comes with a text that isn't of its form.

@@ -32,5 +32,5 @@ pub use rights::{is_role, may_show, sees_queue};
 pub use rows::{
     Entry, EntryKind, LinkKind, LinkRow, QueueRow, RequestRow, Turn, WatchRole, Watcher,
 };
-pub use scope::Scope;
+pub use scope::{Scope, Topic};
 pub use stays::stays_of;

@@ -1,7 +1,18 @@
-//! Which part of the desk a command looks at.
+//! Which part of the desk a command is about, and which it looks at.
 
 use crate::rows::LinkRow;
 use text_core::Text;
+
+/// What a command that only reads is about.
+#[derive(Drop)]
+pub enum Topic<'c> {
+    /// The whole desk.
+    Desk,
+    /// The queue of that name.
+    Queue(&'c Text),
+    /// The request with that number.
+    Request(u32),
+}
 
 /// What a command looks at on a desk before it is decided.
 #[derive(Drop)]

@@ -6,7 +6,7 @@ use Rattle.std.specs.List.Sorted.{IsNonDecreasingBy}
 use Rattle.std.specs.Str.{bytes_eq}
 use Rattle.settings_core.specs.declared.settings.Settings.{Settings}
 use Rattle.desk_model.specs.Desk.{has_lower_name}
-use Rattle.desk_model.specs.IsDesk.{is_rising}
+use Rattle.desk_model.specs.Rising.{is_rising}
 use Rattle.desk_model.specs.Lifecycles.{is_inactive, lifecycle_of}
 use Rattle.desk_model.specs.Readings.Overdue.{line_if_late}
 use Rattle.desk_model.specs.Readings.Workload.{load_of, loads, owners}

@@ -1,5 +1,6 @@
 //! What commands that read answer, of the tables.
 ghost use Rattle.std.specs.Prelude.{◌≡◌, ℕ, IfErr, filter};
+ghost use Rattle.desk_model.specs.Commands.{IsReading};
 ghost use Rattle.desk_model.specs.Rights as rights;
 ghost use Rattle.desk_model.specs.declared.facts.Facts.{Facts};
 ghost use Rattle.store_tables.specs.Calls.{Spares, Tells};
@@ -20,7 +21,7 @@ use store_core::{Backend, Store};
 use text_core::{Sequence, Text};
 
 /// What a command that reads answers, with its facts. `Unavailable` where memory or the store
-/// refused, and for a command that changes the desk. The tables stay as they are.
+/// refused. The tables stay as they are.
 pub(crate) fn read<S: Backend>(
     alloc: Global,
     store: &mut Store<S>,
@@ -30,6 +31,7 @@ pub(crate) fn read<S: Backend>(
     command: &Command,
     facts: &Facts,
 ) -> Result<Answer, Refusal>
+    requires { IsReading command.now }
     ensures told { AnswersDue settings.now (ask_by at caller.now command.now) facts.now
         (state_of S.Store store.old) (state_of S.Store store.new) result }
     ensures kept { Spares (state_of S.Store store.old) (state_of S.Store store.new) }
@@ -42,7 +44,7 @@ pub(crate) fn read<S: Backend>(
         Command::History { .. } => history(alloc, store, settings, caller, facts),
         Command::Overdue => overdue(alloc, store, settings, at, caller),
         Command::Workload => workload(alloc, store, settings, at, caller),
-        _ => Err(Refusal::Unavailable),
+        _ => unreachable!(),
     }
 }
 

@@ -22,7 +22,9 @@ use Rattle.desk_model.specs.declared.rows.WatchRole.{WatchRole}
 use Rattle.desk_model.specs.declared.rows.WatchRole.TheVariants.{Requestor, Cc, AdminCc}
 use Rattle.desk_model.specs.Desk.{Desk, Request}
 use Rattle.desk_model.specs.Facts.{dependency_links}
-use Rattle.desk_model.specs.IsDesk.{is_rising, names_rise, persons_rise}
+use Rattle.desk_model.specs.IsDesk.{persons_rise}
+use Rattle.desk_model.specs.Names.{names_rise}
+use Rattle.desk_model.specs.Rising.{is_rising}
 use Rattle.desk_model.specs.Links as desk
 use Rattle.desk_model.specs.Links.{is_kind, is_lower_link, kind_number}
 use Rattle.desk_model.specs.Names.{text_order}

@@ -12,7 +12,7 @@ use Rattle.std.proofs.lemmas.Cmp.{nat_cmp_total, on_total, then_total, nat_list_
 use Rattle.desk_model.specs.declared.rows.Entry.{Entry}
 use Rattle.desk_model.specs.declared.rows.LinkRow.{LinkRow}
 use Rattle.desk_model.specs.Desk.{has_lower_name}
-use Rattle.desk_model.specs.IsDesk.{is_rising}
+use Rattle.desk_model.specs.Rising.{is_rising}
 use Rattle.store_tables.specs.Dated.{Dated}
 use Rattle.store_tables.specs.Kept.{itself}
 use Rattle.store_tables.specs.Picked.{AreOrdered}

@@ -22,7 +22,8 @@ use Rattle.desk_model.specs.declared.rows.Watcher.{Watcher}
 use Rattle.desk_model.specs.declared.rows.WatchRole.{WatchRole}
 use Rattle.desk_model.specs.declared.rows.WatchRole.TheVariants.{Requestor, Cc, AdminCc}
 use Rattle.desk_model.specs.Desk.{Desk, Request}
-use Rattle.desk_model.specs.IsDesk.{IsDesk, are_numbered, has_its_entries, names_rise}
+use Rattle.desk_model.specs.IsDesk.{IsDesk, are_numbered, has_its_entries}
+use Rattle.desk_model.specs.Names.{names_rise}
 use Rattle.desk_model.specs.IsDesk.{persons_rise}
 use Rattle.desk_model.specs.Links.{is_lower_link, kind_number}
 use Rattle.desk_model.specs.Names.{text_order}

@@ -23,7 +23,9 @@ use Rattle.desk_model.specs.Commands.Watch.{persons_in}
 use Rattle.desk_model.specs.Commands.Create.{requestor}
 use Rattle.desk_model.specs.Desk.{Desk, Request, revised_at}
 use Rattle.desk_model.specs.Facts.{seen_request}
-use Rattle.desk_model.specs.IsDesk.{are_numbered, comes_first, names_rise}
+use Rattle.desk_model.specs.IsDesk.{are_numbered}
+use Rattle.desk_model.specs.Names.{names_rise}
+use Rattle.desk_model.specs.Rising.{comes_first}
 use Rattle.desk_model.specs.Names.{text_order, with_name}
 use Rattle.desk_model.specs.Watchers.{is_watching, watcher, watchers_of}
 use Rattle.store_tables.specs.Contents.{watchers}

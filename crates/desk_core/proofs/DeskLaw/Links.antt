@@ -12,7 +12,7 @@ use Rattle.std.specs.declared.cmp.Ordering.{Ordering}
 use Rattle.std.specs.declared.cmp.Ordering.TheVariants.{Less, Equal, Greater}
 use Rattle.desk_model.specs.Change.{applied, link_put, link_taken}
 use Rattle.desk_model.specs.Desk.{Desk, Request, request_at}
-use Rattle.desk_model.specs.IsDesk.{is_rising}
+use Rattle.desk_model.specs.Rising.{is_rising}
 use Rattle.desk_model.specs.Links.{is_kind, is_link, is_lower_link, kind_number}
 use Rattle.desk_model.specs.declared.change.Change.{Change}
 use Rattle.desk_model.specs.declared.rows.LinkKind.{LinkKind}

@@ -4,7 +4,8 @@ use Rattle.std.proofs.lemmas.Bool.{and_from, and_parts}
 use Rattle.std.specs.List.{list_all}
 use Rattle.desk_model.specs.Change.{applied, entry_put, in_role, with_entry}
 use Rattle.desk_model.specs.Desk.{Desk, Request}
-use Rattle.desk_model.specs.IsDesk.{names_rise, persons_rise}
+use Rattle.desk_model.specs.IsDesk.{persons_rise}
+use Rattle.desk_model.specs.Names.{names_rise}
 use Rattle.desk_model.specs.declared.change.Change.{Change}
 use Rattle.desk_model.specs.declared.rows.RequestRow.{RequestRow}
 use Rattle.desk_model.specs.declared.rows.WatchRole.{WatchRole}

@@ -8,7 +8,7 @@ use Rattle.std.specs.Str.{bytes_eq}
 use Rattle.text_core.specs.Form.{is_name}
 use Rattle.desk_model.specs.Change.{applied, entry_put, filed, queue_put, request_filed, with_entry}
 use Rattle.desk_model.specs.Desk.{Desk, Request, has_lower_name, placed, queue_at}
-use Rattle.desk_model.specs.IsDesk.{is_rising}
+use Rattle.desk_model.specs.Rising.{is_rising}
 use Rattle.desk_model.specs.declared.change.Change.{Change}
 use Rattle.desk_model.specs.declared.rows.QueueRow.{QueueRow}
 use Rattle.desk_model.specs.declared.rows.RequestRow.{RequestRow}

@@ -8,7 +8,7 @@ use Rattle.desk_model.specs.Change.{applied, entry_put, filed, in_role, link_put
 use Rattle.desk_model.specs.Change.{link_taken, person_put, person_taken}
 use Rattle.desk_model.specs.Change.{queue_put, request_filed, row_set, with_row}
 use Rattle.desk_model.specs.Desk.{Desk, Request, placed, revised_at}
-use Rattle.desk_model.specs.IsDesk.{names_rise}
+use Rattle.desk_model.specs.Names.{names_rise}
 use Rattle.desk_model.specs.Links.{is_link, is_lower_link}
 use Rattle.desk_model.specs.declared.change.Change.{Change}
 use Rattle.desk_model.specs.declared.rows.LinkRow.{LinkRow}

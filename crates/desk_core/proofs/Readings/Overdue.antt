@@ -1,4 +1,4 @@
--- Late requests are told alike of the desk and of the caller's view.
+-- Late requests are told alike of the desk and of the caller's view, in order.
 use Rattle.std.proofs.Common.{ℕ, Bool, true, false, cond, List, [], ◌∷◌, fold, Option}
 use Rattle.std.proofs.Common.{Some, None, ◌-◌, ap, sym}
 use Rattle.std.specs.Prelude.{filter_map, nat_lt, IfSome, option_and_then}
@@ -15,7 +15,9 @@ use Rattle.desk_model.specs.Told as reports
 use Rattle.desk_model.specs.declared.answer.Answer.TheVariants as answer
 use Rattle.desk_model.specs.declared.answer.LateLine.{LateLine}
 use Rattle.desk_model.specs.declared.rows.RequestRow.{RequestRow}
+use Rattle.desk_core.proofs.Readings.LateOrder.{overdue_in_order}
 use Rattle.desk_core.proofs.Readings.Owed.{IsRight}
+use Rattle.desk_core.proofs.Readings.Placed.{all_at_place}
 use Rattle.desk_core.proofs.Readings.Told.{told_due, told_in_view}
 use Rattle.desk_core.specs.Laws.{IsDue}
 
@@ -31,15 +33,6 @@ all_made {X} {Y} P made (x ∷ xs) all =
         → AllByRecursion P (cons_option o (filter_map made xs))
     by None one rest = rest
     by (Some y) one rest = (one, rest)
-
-pub all_at_place : {X : Type 0} (P : X → Type 0) (lower : X → X → Bool) (xs : List X) (x : X) → P x
-    → AllByRecursion P xs → AllByRecursion P (placed lower xs x)
-all_at_place P lower [] x one all = (one, tt)
-all_at_place P lower (y ∷ ys) x one all =
-    elim (lower x y) as (λ b. AllByRecursion P (cond b (x ∷ y ∷ ys) (y ∷ placed lower ys x))) [
-      | true ↦ (one, all)
-      | false ↦ (all.0, all_at_place P lower ys x one all.1)
-    ]
 
 all_placed : {X : Type 0} (P : X → Type 0) (lower : X → X → Bool) (acc xs : List X)
     → AllByRecursion P acc → AllByRecursion P xs → AllByRecursion P (fold (placed lower) acc xs)
@@ -84,4 +77,5 @@ right = record {
       (λ t. IfSome (late_line call.at t) (IsDueAt s desk))
       (λ t is. line_due s desk call.at t.row t.due is) ts
       (told_due s call.caller desk is))))));
+  ordered = overdue_in_order;
 }

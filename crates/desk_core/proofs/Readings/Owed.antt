@@ -1,5 +1,5 @@
--- What a reading owes: it tells of the caller's view what it tells of the desk, and each due moment
--- in it is right.
+-- What a reading owes: it tells of the caller's view what it tells of the desk, each due moment in
+-- it is right, and it lists what it tells in order.
 use Rattle.std.proofs.Common.{◌≡◌, true, Some}
 use Rattle.std.specs.List.{All}
 use Rattle.desk_model.specs.Desk.{Desk, Request, request_at}
@@ -9,7 +9,7 @@ use Rattle.desk_model.specs.Plan.{Call, Topic, OneQueue, OneRequest, WholeDesk}
 use Rattle.desk_model.specs.Rights.{may_show}
 use Rattle.desk_model.specs.View.{view}
 use Rattle.desk_model.specs.declared.answer.Answer.{Answer}
-use Rattle.desk_model.specs.Readings.{dues_told}
+use Rattle.desk_model.specs.Readings.{IsInOrder, dues_told}
 use Rattle.desk_core.specs.Laws.{IsDue}
 
 -- where it isn't refused, it tells of the view what it tells of the desk
@@ -29,3 +29,4 @@ pub record IsRight (topic : Topic) (answer : Call → Desk → Answer) : Type 0 
   pub alike : TellsAlike topic answer
   pub due : (call : Call) (desk : Desk) → IsDesk desk
       → All (IsDue call.settings desk) (dues_told (answer call desk))
+  pub ordered : (call : Call) (desk : Desk) → IsDesk desk → IsInOrder (answer call desk)

@@ -1,4 +1,4 @@
--- A request is shown alike on the desk and on the caller's view.
+-- A request is shown alike on the desk and on the caller's view, its people and its links in order.
 use Rattle.std.proofs.Common.{◌≡◌, ◌∙◌, ℕ, ◌==◌, Bool, true, ◌&&◌, List, [], filter, map}
 use Rattle.std.proofs.Common.{Option, Some, None, refl, ap, ap₂, sym}
 use Rattle.std.specs.List.{All}
@@ -10,9 +10,10 @@ use Rattle.settings_core.specs.declared.settings.Settings.{Settings}
 use Rattle.desk_model.specs.Desk.{Desk, Request, request_at}
 use Rattle.desk_model.specs.Due.{due_of, due_on}
 use Rattle.desk_model.specs.Facts.{seen_request}
-use Rattle.desk_model.specs.IsDesk.{IsDesk}
+use Rattle.desk_model.specs.IsDesk.{IsDesk, persons_rise}
 use Rattle.desk_model.specs.Links.{is_kind}
-use Rattle.desk_model.specs.Plan.{OneRequest, answer_of_request}
+use Rattle.desk_model.specs.Names.{names_rise}
+use Rattle.desk_model.specs.Plan.{Call, OneRequest, answer_of_request}
 use Rattle.desk_model.specs.Readings.Show as show
 use Rattle.desk_model.specs.Readings.Show.{linked_from, linked_to, links_of, shown_of}
 use Rattle.desk_model.specs.Rights.{is_shown, may_show}
@@ -25,11 +26,13 @@ use Rattle.desk_model.specs.declared.rows.LinkKind.TheVariants.{DependsOn, Membe
 use Rattle.desk_model.specs.declared.rows.LinkRow.{LinkRow}
 use Rattle.desk_model.specs.declared.rows.QueueRow.{QueueRow}
 use Rattle.desk_model.proofs.StayLemmas.{stays_told}
+use Rattle.desk_core.proofs.Every.{every_found}
 use Rattle.desk_core.proofs.Goes.{number_found}
 use Rattle.desk_core.proofs.InView.{filter_within, found_in_view, queue_in_view, shown_in_view}
 use Rattle.desk_core.proofs.InView.{shown_there}
+use Rattle.desk_core.proofs.Readings.LinkOrder.{links_in_order}
 use Rattle.desk_core.proofs.Readings.Owed.{IsRight}
-use Rattle.desk_model.specs.Readings.{dues_told}
+use Rattle.desk_model.specs.Readings.{IsInOrder, dues_told}
 use Rattle.desk_core.specs.Laws.{IsDue}
 
 -- a filter of the view's links is one of the desk's links, where it tests alike and keeps only
@@ -129,6 +132,24 @@ due_of_shown s caller desk id (Some r) there =
     All-cons (IsDue s desk) (r.row.id, due_on s desk r) []
     (r, ap (request_at desk) (number_found desk id r there) ∙ there, refl) (All-nil (IsDue s desk))
 
+shown_of_request : (call : Call) (desk : Desk) (id : ℕ) (o : Option Request) → IsDesk desk
+    → request_at desk id ≡ o
+    → IsInOrder (answer_of_request o
+    (λ r. answer.Shown (shown_of call.settings call.caller desk r)))
+shown_of_request call desk id None is there = tt
+shown_of_request call desk id (Some r) is there =
+    let rise : persons_rise r ≡ true =
+    every_found persons_rise (λ x. x.row.id == id) desk.requests r is.persons there in
+    let parts = and_parts (names_rise r.requestors)
+    (names_rise r.cc && names_rise r.admin_cc) rise in
+    let others = and_parts (names_rise r.cc) (names_rise r.admin_cc) parts.1 in
+    record {
+      requestors = parts.0;
+      cc = others.0;
+      admin_cc = others.1;
+      links = links_in_order call.settings call.caller desk r.row.id is;
+    }
+
 pub right : (id : ℕ) → IsRight (OneRequest id) (show.told id)
 right id = record {
   alike = λ call desk r is there may.
@@ -142,4 +163,5 @@ right id = record {
       (λ x. answer.Shown (shown_of s caller seen x)))
       (sym (found_in_view s caller desk id r is there may));
   due = λ call desk is. due_of_shown call.settings call.caller desk id (request_at desk id) refl;
+  ordered = λ call desk is. shown_of_request call desk id (request_at desk id) is refl;
 }

@@ -1,4 +1,5 @@
--- What the reports tell of is told alike of the caller's view, and each due moment in it is right.
+-- What the reports tell of is told alike of the caller's view, each due moment in it is right, and
+-- it is in the order of the numbers.
 use Rattle.std.proofs.Common.{◌≡◌, ◌∙◌, ℕ, ◌==◌, ◌&&◌, ◌||◌, Bool, true, false, cond}
 use Rattle.std.proofs.Common.{List, [], ◌∷◌, filter, find, map, Option, Some, refl, ap, ap₂}
 use Rattle.std.specs.List.{All, AllByRecursion, list_any}
@@ -15,12 +16,15 @@ use Rattle.desk_model.specs.Due.{due_on}
 use Rattle.desk_model.specs.Facts.{seen_request}
 use Rattle.desk_model.specs.IsDesk.{IsDesk}
 use Rattle.desk_model.specs.Rights.{may_show}
+use Rattle.desk_model.specs.Rising.{is_rising}
 use Rattle.desk_model.specs.Told.{Told, told, told_in, told_on}
 use Rattle.desk_model.specs.View.{as_seen, has_shown, view}
 use Rattle.desk_model.specs.declared.rows.QueueRow.{QueueRow}
 use Rattle.desk_model.proofs.StayLemmas.{stays_told}
 use Rattle.desk_core.proofs.EachRequest.{found_each}
 use Rattle.desk_core.proofs.InView.{queue_kept}
+use Rattle.desk_core.proofs.Rising.{by, filtered_rises, mapped_rises, numbered_rise}
+use Rattle.desk_core.proofs.Rising.{numbers_go_on}
 use Rattle.desk_core.specs.Laws.{IsDue}
 
 abbrev shows : Settings → List ℕ → Request → Bool
@@ -99,3 +103,14 @@ told_due s caller desk is =
     (All-weaker (λ r. find (λ x. x.row.id == r.row.id) desk.requests ≡ Some r)
     (λ r. IsDue s desk (r.row.id, due_on s desk r)) (λ r there. (r, there, refl)) desk.requests
     (found_each 1 desk.requests is.requests)))
+
+-- the requests that are told of rise by their numbers
+pub told_rise : (s : Settings) (caller : List ℕ) (desk : Desk) → IsDesk desk
+    → is_rising (by (λ (t : Told). t.row.id)) (told s caller desk) ≡ true
+told_rise s caller desk is =
+    let kept = filter (λ r. may_show s caller (seen_request r)) desk.requests in
+    mapped_rises (by (λ (t : Told). t.row.id)) (told_on s desk) kept
+    ∙ filtered_rises (by (λ (r : Request). r.row.id))
+    (λ r. may_show s caller (seen_request r)) desk.requests
+    (numbers_go_on (λ (r : Request). r.row.id))
+    (numbered_rise (λ (r : Request). r.row.id) 1 desk.requests is.requests)

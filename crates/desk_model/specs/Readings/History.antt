@@ -1,5 +1,5 @@
 -- Tells the history of a request, without the comments that the caller may not see.
-use Rattle.std.specs.Prelude.{ℕ, Bool, true, false, not, ◌||◌, List, filter}
+use Rattle.std.specs.Prelude.{ℕ, Bool, true, false, not, ◌||◌, nat_lt, List, filter}
 use Rattle.settings_core.specs.declared.settings.Settings.{Settings}
 use Rattle.desk_model.specs.Desk.{Desk, Request, request_at}
 use Rattle.desk_model.specs.Facts.{seen_request}
@@ -23,6 +23,9 @@ is_told settings caller request entry =
 -- the entries of a request that the caller is told of, with their own numbers
 abbrev pub entries_told : Settings → List ℕ → Request → List Entry
 entries_told settings caller request = filter (is_told settings caller request) request.entries
+
+abbrev pub has_lower_number : Entry → Entry → Bool
+has_lower_number a b = nat_lt a.number b.number
 
 abbrev pub told : ℕ → Call → Desk → Answer
 told id call desk =

@@ -1,12 +1,14 @@
 -- Shows a request: its row, its people, when it is due, and its links with requests that the caller
 -- may show.
-use Rattle.std.specs.Prelude.{ℕ, ◌==◌, Bool, ◌&&◌, List, filter, map}
+use Rattle.std.specs.Prelude.{◌≡◌, ℕ, ◌==◌, Bool, true, ◌&&◌, nat_lt, List, filter, map}
 use Rattle.settings_core.specs.declared.settings.Settings.{Settings}
 use Rattle.desk_model.specs.Desk.{Desk, Request, request_at}
 use Rattle.desk_model.specs.Due.{due_on}
 use Rattle.desk_model.specs.Links.{is_kind}
+use Rattle.desk_model.specs.Names.{names_rise}
 use Rattle.desk_model.specs.Plan.{Call, Plan, OneRequest, Reads, answer_of_request}
 use Rattle.desk_model.specs.Rights.{is_shown}
+use Rattle.desk_model.specs.Rising.{is_rising}
 use Rattle.desk_model.specs.declared.answer.Answer.{Answer}
 use Rattle.desk_model.specs.declared.answer.Answer.TheVariants as answer
 use Rattle.desk_model.specs.declared.answer.Links.{Links}
@@ -58,6 +60,25 @@ shown_of settings caller desk request =
       due = due_on settings desk request;
       links = links_of settings caller desk request.row.id;
     }
+
+abbrev pub numbers_rise : List ℕ → Bool
+numbers_rise numbers = is_rising nat_lt numbers
+
+-- the numbers of the linked requests rise in each list
+pub record LinksRise (links : Links) : Type 0 where
+  pub depends_on : numbers_rise links.depends_on ≡ true
+  pub depended_on_by : numbers_rise links.depended_on_by ≡ true
+  pub member_of : numbers_rise links.member_of ≡ true
+  pub has_member : numbers_rise links.has_member ≡ true
+  pub refers_to : numbers_rise links.refers_to ≡ true
+  pub referred_to_by : numbers_rise links.referred_to_by ≡ true
+
+-- the persons of each role rise by their bytes, and the links by their numbers
+pub record ShownRises (shown : shown.Shown) : Type 0 where
+  pub requestors : names_rise shown.requestors ≡ true
+  pub cc : names_rise shown.cc ≡ true
+  pub admin_cc : names_rise shown.admin_cc ≡ true
+  pub links : LinksRise shown.links
 
 abbrev pub told : ℕ → Call → Desk → Answer
 told id call desk =

@@ -1,7 +1,7 @@
 -- Tells of each owner how many of the requests that the caller may show aren't inactive, and how
 -- many of those are late.
 use Rattle.std.specs.Prelude.{ℕ, Bool, ◌&&◌, List, [], filter, fold, length, map, Option}
-use Rattle.std.specs.Ordering.{is_eq}
+use Rattle.std.specs.Ordering.{is_eq, is_lt}
 use Rattle.std.specs.Option.{option_cmp}
 use Rattle.std.specs.BTreeSet.{insert_key}
 use Rattle.std.specs.declared.cmp.Ordering.{Ordering}
@@ -17,6 +17,9 @@ use Rattle.desk_model.specs.declared.answer.Load.{Load}
 -- nobody before everybody, and then by the bytes of the names
 abbrev pub owner_order : Option (List ℕ) → Option (List ℕ) → Ordering
 owner_order = option_cmp text_order
+
+abbrev pub has_first_owner : Load → Load → Bool
+has_first_owner a b = is_lt (owner_order a.owner b.owner)
 
 abbrev pub is_owned_by : Option (List ℕ) → Told → Bool
 is_owned_by owner request = is_eq (owner_order owner request.row.owner)
