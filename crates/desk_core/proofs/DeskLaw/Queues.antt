@@ -1,12 +1,12 @@
 -- The queues rise and have names, and the queue of each request is there.
-use Rattle.std.proofs.Common.{◌≡◌, ◌∙◌, ℕ, Bool, true, false, ◌&&◌, ◌||◌, cond}
+use Rattle.std.proofs.Common.{◌≡◌, ◌∙◌, ℕ, Bool, true, false, ◌||◌, cond}
 use Rattle.std.proofs.Common.{List, [], ◌∷◌, find, Option, Some, None, refl, ap}
 use Rattle.std.proofs.lemmas.Bool.{and_from}
 use Rattle.std.specs.List.{list_all}
 use Rattle.std.specs.Option.{is_some}
 use Rattle.std.specs.Str.{bytes_eq}
 use Rattle.text_core.specs.Form.{is_name}
-use Rattle.desk_model.specs.Change.{applied, entry_put, filed, queue_put, request_filed, with_entry}
+use Rattle.desk_model.specs.Change.{applied, entry_put, queue_put, request_filed, with_entry}
 use Rattle.desk_model.specs.Desk.{Desk, Request, has_lower_name, placed, queue_at}
 use Rattle.desk_model.specs.Rising.{is_rising}
 use Rattle.desk_model.specs.declared.change.Change.{Change}

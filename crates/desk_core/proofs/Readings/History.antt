@@ -1,5 +1,5 @@
 -- A history is told alike on the desk and on the caller's view, in the order of its numbers.
-use Rattle.std.proofs.Common.{◌≡◌, ◌∙◌, ℕ, ◌==◌, Bool, true, List, map, Option, Some, None, refl}
+use Rattle.std.proofs.Common.{◌≡◌, ◌∙◌, ℕ, ◌==◌, true, List, map, Option, Some, None, refl}
 use Rattle.std.proofs.Common.{ap, sym}
 use Rattle.std.specs.List.{All, list_all}
 use Rattle.std.proofs.lemmas.Bool.{and_parts}
