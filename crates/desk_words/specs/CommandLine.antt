@@ -37,9 +37,9 @@ with_named a None = a
 with_named a (Some s) = with_subcommand a s.top
 
 -- a command with the subcommands of these names
-abbrev pub of_names : App → List Text → App
-of_names a [] = a
-of_names a (name ∷ names) = of_names (with_named a (subcommand name)) names
+abbrev pub with_names : App → List Text → App
+with_names a [] = a
+with_names a (name ∷ names) = with_names (with_named a (subcommand name)) names
 
 -- the command line with one subcommand, or the whole where none is given
 abbrev pub only_or_whole : Option App → App

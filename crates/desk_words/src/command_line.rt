@@ -9,7 +9,7 @@ ghost use Rattle.desk_words.specs.Subcommands as subcommands;
 ghost use Rattle.desk_words.specs.CommandLine as command_line;
 ghost use Rattle.desk_words.specs.CommandLine.{Is, IsNamed, root};
 
-use crate::subcommands::{NAMES, subcommand};
+use crate::subcommands::{queues, readings, requests, subcommand};
 use clap::{Arg, ArgAction, Command as App};
 use std::alloc::{AllocError, Global};
 
@@ -40,14 +40,20 @@ fn only_or_whole<'a>(alloc: Global, sub: Option<App<'a>>) -> Result<App<'a>, All
 fn whole<'a>(alloc: Global) -> Result<App<'a>, AllocError>
     ensures { IfOk result (Is command_line.whole) }
 {
-    of_names(alloc, &NAMES)
+    let command = with_names(alloc, root_command(alloc), &queues::NAMES)?;
+    let command = with_names(alloc, command, &requests::NAMES)?;
+    with_names(alloc, command, &readings::NAMES)
 }
 
-/// The command line with the subcommands of these names.
-fn of_names<'a>(alloc: Global, names: &[&'a str]) -> Result<App<'a>, AllocError>
-    ensures { IfOk result (Is (command_line.of_names root (map (λ s. s.now) names.entry.now))) }
+/// The command with the subcommands of these names.
+fn with_names<'a>(
+    alloc: Global,
+    mut command: App<'a>,
+    names: &[&'a str],
+) -> Result<App<'a>, AllocError>
+    ensures { (a : clap.App) → Is a command.entry
+        → IfOk result (Is (command_line.with_names a (map (λ s. s.now) names.entry.now))) }
 {
-    let mut command = root_command(alloc);
     for name in names {
         command = with_named(command, subcommand(alloc, name)?)?;
     }

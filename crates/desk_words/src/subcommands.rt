@@ -14,33 +14,9 @@ use clap::{ArgMatches, Command as App};
 use desk_model::Command;
 use std::alloc::{AllocError, Global};
 
-mod queues;
-mod readings;
-mod requests;
-
-/// The names of the subcommands.
-pub(crate) const NAMES: [&str; 20] = [
-    "queue",
-    "create",
-    "status",
-    "resolve",
-    "level",
-    "take",
-    "steal",
-    "untake",
-    "give",
-    "watch",
-    "unwatch",
-    "correspond",
-    "comment",
-    "link",
-    "queues",
-    "show",
-    "ls",
-    "history",
-    "overdue",
-    "workload",
-];
+pub(crate) mod queues;
+pub(crate) mod readings;
+pub(crate) mod requests;
 
 /// The subcommand of this name, if there is one.
 pub(crate) fn subcommand<'a>(alloc: Global, name: &str) -> Result<Option<App<'a>>, AllocError>

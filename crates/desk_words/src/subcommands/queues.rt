@@ -10,6 +10,9 @@ use clap::{ArgMatches, Command as App};
 use desk_model::Command;
 use std::alloc::{AllocError, Global};
 
+/// The names of the subcommands on queues.
+pub(crate) const NAMES: [&str; 2] = ["queue", "create"];
+
 /// The subcommand on queues of this name, if there is one.
 #[tactic(auto, unfolding(crate::specs::Subcommands::on_queues))]
 pub(crate) fn on_queues<'a>(alloc: Global, name: &str) -> Result<Option<App<'a>>, AllocError>

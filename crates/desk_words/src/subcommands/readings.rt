@@ -11,6 +11,9 @@ use clap::{ArgMatches, Command as App};
 use desk_model::Command;
 use std::alloc::{AllocError, Global};
 
+/// The names of the subcommands that read.
+pub(crate) const NAMES: [&str; 6] = ["queues", "show", "ls", "history", "overdue", "workload"];
+
 /// The subcommand of this name that reads, if there is one.
 #[tactic(auto, unfolding(crate::specs::Subcommands::readings))]
 pub(crate) fn reading<'a>(alloc: Global, name: &str) -> Result<Option<App<'a>>, AllocError>

@@ -15,6 +15,22 @@ use clap::{ArgMatches, Command as App};
 use desk_model::Command;
 use std::alloc::{AllocError, Global};
 
+/// The names of the subcommands on a request.
+pub(crate) const NAMES: [&str; 12] = [
+    "status",
+    "resolve",
+    "level",
+    "take",
+    "steal",
+    "untake",
+    "give",
+    "watch",
+    "unwatch",
+    "correspond",
+    "comment",
+    "link",
+];
+
 /// The subcommand on a request of this name, if there is one.
 pub(crate) fn on_requests<'a>(alloc: Global, name: &str) -> Result<Option<App<'a>>, AllocError>
     ensures { IfOk result (IsNamed (among subcommands.on_requests name.now)) }
