@@ -22,6 +22,7 @@ use text_core::{Sequence, Text};
 
 /// What a command that reads answers, with its facts. `Unavailable` where memory or the store
 /// refused. The tables stay as they are.
+#[tactic(auto, using(crate::proofs::Stepping::asked_as, crate::proofs::Stepping::due_as))]
 pub(crate) fn read<S: Backend>(
     alloc: Global,
     store: &mut Store<S>,
