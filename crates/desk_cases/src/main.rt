@@ -36,6 +36,7 @@
 //! Cases that aren't UTF-8 write nothing. A call or a command that isn't understood ends all.
 #![tactic(auto)]
 
+mod asking;
 mod asks;
 mod changes;
 mod course;

@@ -132,6 +132,7 @@ fn served_after<S: Backend>(
 /// | `endless` | each followed by bytes that never end, and told how often they were read |
 /// | `made N` | N turns of messages made of them: how many had which code; then the first |
 /// | `many N` | N times over, in one list: how many had which code |
+/// | `asked` | each read by one call, and told by another what it asks for |
 ///
 /// `each_read_fails` and `each_write_fails` let the first fail after each number of calls in turn
 /// (`each.rt`).
@@ -146,6 +147,7 @@ fn manner_of(line: &str) -> Result<Manner, Failure> {
         "endless" => Ok(Manner::Endless),
         "made" => Ok(Manner::Made(count)),
         "many" => Ok(Manner::Many(count)),
+        "asked" => Ok(Manner::Asked),
         _ => Err(Failure::BadLine),
     }
 }

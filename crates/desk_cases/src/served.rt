@@ -1,5 +1,6 @@
 //! Messages that are served on a desk, in one of several manners.
 
+use crate::asking::answer_asked;
 use crate::failure::Failure;
 use crate::loopback::answer_by_loopback;
 use crate::made::{answer_made, answer_many};
@@ -40,6 +41,8 @@ pub(crate) enum Manner {
     Made(u32),
     /// So many times over, in one list.
     Many(u32),
+    /// One after the other, each read by one call and told by another what it asks for.
+    Asked,
 }
 
 /// When a reader or a writer fails: after how many calls, and whether the writer's call fails or
@@ -87,6 +90,7 @@ pub(crate) fn served<S: Backend>(
         Manner::Endless => before_others(rt.alloc(), sent, desk),
         Manner::Made(turns) => answer_made(rt.alloc(), sent, turns, desk),
         Manner::Many(times) => answer_many(rt.alloc(), sent, times, desk),
+        Manner::Asked => answer_asked(rt.alloc(), sent, desk),
     }
 }
 

@@ -10,7 +10,7 @@ use crate::expansion::{Named, expanded};
 use crate::failure::Failure;
 use crate::stores::opened;
 use crate::streams::Faltering;
-use desk_program::{OneEnded, run_one_whole};
+use desk_program::{OneEnded, run_one, run_one_whole};
 use sqlite::{Connection, FileStore};
 use sqlite_disk::Disk;
 use std::str;
@@ -24,7 +24,9 @@ pub(crate) const SINGLES: &str = "$$\n";
 /// one on those that the statements make. Each is written with its status and whether a write
 /// failed, and then its text and a line feed. A line `writer_fails N` states that the first one's
 /// writer takes a byte at a time, and fails after N writes; a line `on_file PATH` that the tables
-/// are in that file, which is opened anew for each command.
+/// are in that file, which is opened anew for each command. A line `alone` states that each is run
+/// on tables of its own that the statements make, by the call that lets them go, and
+/// `alone_on_file PATH` that this is done on the tables in that file.
 pub(crate) fn run_case(
     rt: &HostRuntime,
     named: &[Named<'_>],
@@ -35,10 +37,73 @@ pub(crate) fn run_case(
     let case = str::from_utf8(case.as_slice()).unwrap_or("");
     let (before, commands) = case.split_once(SINGLES).ok_or(Failure::BadLine)?;
     let (statements, settings) = before.split_once(ASKED).ok_or(Failure::BadLine)?;
-    match streams.trim_end().strip_prefix("on_file ") {
-        Some(path) => run_on_file(rt, settings, path, commands),
-        None => run_in_memory(rt, statements, settings, commands, streams),
+    let streams = streams.trim_end();
+    if let Some(path) = streams.strip_prefix("on_file ") {
+        return run_on_file(rt, settings, path, commands);
     }
+    if let Some(path) = streams.strip_prefix("alone_on_file ") {
+        return run_each_on_file(rt, settings, path, commands);
+    }
+    if streams == "alone" {
+        return run_each_alone(rt, statements, settings, commands);
+    }
+    run_in_memory(rt, statements, settings, commands, streams)
+}
+
+/// Runs each command on tables of its own, which the statements make.
+fn run_each_alone(
+    rt: &HostRuntime,
+    statements: &str,
+    settings: &str,
+    commands: &str,
+) -> Result<(), Failure> {
+    for line in commands.lines() {
+        let store = opened(rt.alloc(), statements)?;
+        run_alone(rt, settings, store, line)?;
+    }
+    Ok(())
+}
+
+/// Runs each command on the tables in a file, which are let go after it.
+fn run_each_on_file(
+    rt: &HostRuntime,
+    settings: &str,
+    path: &str,
+    commands: &str,
+) -> Result<(), Failure> {
+    for line in commands.lines() {
+        let store = Store::adopt(Connection::open(rt, path)?);
+        run_alone(rt, settings, store, line)?;
+    }
+    Ok(())
+}
+
+/// Runs the command of a line `MOMENT CALLER WORDS ..`, lets its store go, and writes it with its
+/// status, and then its text and a line feed.
+fn run_alone<S: Backend + Drop>(
+    rt: &HostRuntime,
+    settings: &str,
+    store: Store<S>,
+    line: &str,
+) -> Result<(), Failure> {
+    let words = words_of(rt.alloc(), line)?;
+    let [at, caller, command @ ..] = words.as_slice() else {
+        return Err(Failure::BadLine);
+    };
+    let at = number(at.as_str())?;
+    let mut text = Vec::new(rt.alloc());
+    let status = run_one(
+        rt.alloc(),
+        settings.as_bytes(),
+        store,
+        caller.as_str(),
+        at,
+        command,
+        &mut text,
+    );
+    println!(rt; "{line}: status {status}")?;
+    println!(rt; "{}", str::from_utf8(text.as_slice()).unwrap_or(""))?;
+    Ok(())
 }
 
 fn run_in_memory(
@@ -87,7 +152,7 @@ fn write_that_fails(streams: &str) -> Result<u32, Failure> {
     if streams.is_empty() {
         return Ok(u32::MAX);
     }
-    let count = streams.trim_end().strip_prefix("writer_fails ");
+    let count = streams.strip_prefix("writer_fails ");
     number(count.ok_or(Failure::BadLine)?)
 }
 
