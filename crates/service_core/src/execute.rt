@@ -12,7 +12,7 @@ ghost use Rattle.service_core.specs.TableSteps.{StepsOn, ask_by};
 ghost use Rattle.service_core.specs.Seen.{settings_of, tables_of};
 
 use crate::desk::Desk;
-use crate::reading;
+use crate::queues;
 use desk_core::{Answer, Change, Command, Facts, Refusal, decide, refused_beforehand};
 use desk_lists::unavailable;
 use settings_core::Settings;
@@ -142,7 +142,7 @@ fn carry_out<S: Backend>(
     ensures honest { WasClean (state_of S.Store store.old) (state_of S.Store store.new) }
 {
     if command.is_reading() {
-        reading::read(alloc, store, settings, at, caller, command, facts)
+        queues::read(alloc, store, settings, at, caller, command, facts)
     } else {
         write(store, change)
     }
