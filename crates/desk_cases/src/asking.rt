@@ -5,8 +5,9 @@
 
 use crate::failure::Failure;
 use crate::served::Sent;
-use desk_core::{Answer, Command, Refusal};
-use service_core::{Desk, answer_text, refusal_text};
+use crate::telling::text_of;
+use desk_core::Command;
+use service_core::Desk;
 use std::alloc::Global;
 use store_core::Backend;
 use wire_core::{Message, command_of, read_message};
@@ -84,14 +85,6 @@ fn put_outcome<S: Backend>(
     let told = told?;
     text.extend_from_slice(told.as_bytes())?;
     Ok(())
-}
-
-/// The text of what came of a command.
-fn text_of(alloc: Global, outcome: &Result<Answer, Refusal>) -> Result<String, Failure> {
-    match outcome {
-        Ok(answer) => Ok(answer_text(alloc, answer)?),
-        Err(refusal) => Ok(refusal_text(alloc, refusal)?),
-    }
 }
 
 /// Adds a fault as the program tells it.

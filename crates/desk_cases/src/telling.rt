@@ -4,6 +4,7 @@ use crate::asks::Ask;
 use crate::failure::Failure;
 use desk_core::{Answer, Refusal};
 use service_core::{AttachFault, Desk, answer_text, refusal_text};
+use std::alloc::Global;
 use store_core::{Backend, Store, StoreFault};
 
 /// Writes that the settings are attached and what comes of each command, all asked at once.
@@ -26,12 +27,17 @@ fn tell_outcomes(rt: &HostRuntime, outcomes: &[Result<Answer, Refusal>]) -> Resu
 }
 
 fn tell_outcome(rt: &HostRuntime, outcome: &Result<Answer, Refusal>) -> Result<(), Failure> {
-    let text = match outcome {
-        Ok(answer) => answer_text(rt.alloc(), answer)?,
-        Err(refusal) => refusal_text(rt.alloc(), refusal)?,
-    };
+    let text = text_of(rt.alloc(), outcome)?;
     print!(rt; "{}", text.as_str())?;
     Ok(())
+}
+
+/// The text of what came of a command.
+pub(crate) fn text_of(alloc: Global, outcome: &Result<Answer, Refusal>) -> Result<String, Failure> {
+    match outcome {
+        Ok(answer) => Ok(answer_text(alloc, answer)?),
+        Err(refusal) => Ok(refusal_text(alloc, refusal)?),
+    }
 }
 
 /// Writes why the settings can't be attached, and how many rows the store lists that is given back.

@@ -10,6 +10,7 @@ use Rattle.settings_core.specs.declared.settings.Settings.{Settings}
 use Rattle.service_core.specs.declared.fault.AttachFault.{AttachFault}
 use Rattle.store_core.specs.Due.{StandsDue}
 use Rattle.store_core.specs.Migrating.{EitherStand, LeavesOthers}
+use Rattle.store_tables.proofs.Spared.{stands, stands_for}
 use Rattle.store_tables.specs.Calls.{WasClean}
 use Rattle.store_tables.specs.Contents.{Contents, contents_of, first_contents_of}
 use Rattle.store_tables.specs.Making.{IsBlank, IsKnown}
@@ -63,10 +64,10 @@ pub made_not_attached : (s : Settings) (old mid new : State) (fault : AttachFaul
     → FailsToAttach s mid new fault → IsNotAttached s old new fault
 made_not_attached s old mid new fault kept on honest made version fails =
     record {
-      kept = λ c other stand. fails.kept c (kept c other stand);
+      kept = λ c other stand. stands fails.kept c (kept c other stand);
       first =
           λ desk formed stand.
-          left desk (brought old mid kept on desk formed (inr stand));
+          stands_for fails.kept desk (brought old mid kept on desk formed (inr stand));
       honest = λ clean. honest (fails.honest clean);
       unknown =
           λ e desk formed stand clean.
@@ -76,9 +77,6 @@ made_not_attached s old mid new fault kept on honest made version fails =
           λ desk formed stand clean.
           let it = brought old mid kept on desk formed (inr stand) in
           fails.fails (contents_of it.0 desk) it.1 clean;
-      made = λ blank. left empty_desk (made blank);
+      made = λ blank. stands_for fails.kept empty_desk (made blank);
       version = λ c stand clean. version c stand (fails.honest clean);
     }
-  where
-    left : (desk : Desk) → StandsFor desk mid → StandsFor desk new
-    left desk stand = (stand.0, fails.kept (contents_of stand.0 desk) stand.1)

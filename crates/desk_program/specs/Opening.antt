@@ -15,7 +15,7 @@ use Rattle.service_core.specs.declared.fault.AttachFault.{AttachFault}
 use Rattle.service_core.specs.declared.fault.AttachFault.TheVariants.{Store, UnknownName}
 use Rattle.store_core.specs.Due.{StandsDue}
 use Rattle.store_core.specs.Migrating.{EitherStand, LeavesEither, LeavesOthers}
-use Rattle.store_tables.specs.Calls.{Leaves, WasClean}
+use Rattle.store_tables.specs.Calls.{Spares, WasClean}
 use Rattle.store_tables.specs.Contents.{Contents}
 use Rattle.store_tables.specs.Making.{IsBlank, IsKnown}
 use Rattle.store_tables.specs.Stands.{FirstStandsFor, Stand, StandsFor}
@@ -76,8 +76,8 @@ pub record IsNotMade (old new : State) (fault : StoreFault) : Type 0 where
 -- a fault of attaching settings to tables
 pub record FailsToAttach (settings : Settings) (old new : State) (fault : AttachFault) : Type 0
   where
-    -- what the tables held they hold still
-    pub kept : Leaves old new
+    -- the tables are as they were, whatever rows they have
+    pub kept : Spares old new
     -- a disk that is clean afterwards was clean before
     pub honest : WasClean old new
     -- a name is told to be unknown only where the settings lack one of the desk

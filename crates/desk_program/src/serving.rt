@@ -1,7 +1,7 @@
 //! A server, which answers connections one after the other.
 ghost use Rattle.std.specs.Prelude.{◌≡◌};
 ghost use Rattle.service_core.specs.Seen.{settings_of, tables_of};
-ghost use Rattle.store_tables.specs.Calls.{WasClean};
+ghost use Rattle.store_tables.specs.Calls.{Lasts, WasClean};
 ghost use Rattle.desk_program.specs.Serving.{AnswersOne, IsEnded};
 
 use service_core::Desk;
@@ -31,6 +31,7 @@ pub fn serve_on<K: Clock, S: Backend>(
     ensures ended { IsEnded (settings_of S.Store desk.old) count result
         (tables_of S.Store desk.old) (tables_of S.Store desk.new) }
     ensures honest { WasClean (tables_of S.Store desk.old) (tables_of S.Store desk.new) }
+    ensures lasts { Lasts (tables_of S.Store desk.old) (tables_of S.Store desk.new) }
     ensures same { settings_of S.Store desk.new ≡ settings_of S.Store desk.old }
 {
     for _connection in 0..count {
@@ -55,6 +56,7 @@ fn serve_stream<S: Backend>(alloc: Global, stream: &TcpStream, moment: u32, desk
     ensures one { AnswersOne (settings_of S.Store desk.old)
         (tables_of S.Store desk.old) (tables_of S.Store desk.new) }
     ensures honest { WasClean (tables_of S.Store desk.old) (tables_of S.Store desk.new) }
+    ensures lasts { Lasts (tables_of S.Store desk.old) (tables_of S.Store desk.new) }
     ensures same { settings_of S.Store desk.new ≡ settings_of S.Store desk.old }
 {
     let mut output = stream;
@@ -78,6 +80,7 @@ fn answer<R: Read, W: Write, S: Backend>(
     ensures one { AnswersOne (settings_of S.Store desk.old)
         (tables_of S.Store desk.old) (tables_of S.Store desk.new) }
     ensures honest { WasClean (tables_of S.Store desk.old) (tables_of S.Store desk.new) }
+    ensures lasts { Lasts (tables_of S.Store desk.old) (tables_of S.Store desk.new) }
     ensures same { settings_of S.Store desk.new ≡ settings_of S.Store desk.old }
 {
     let _served = serve_one(alloc, reader, writer, moment, desk);

@@ -21,7 +21,8 @@ use Rattle.desk_model.specs.Step.{answer_of}
 use Rattle.desk_model.specs.Step.{Ask, Outcome, Steps, call, desk_unless, effect, facts_of, guard}
 use Rattle.desk_model.specs.Step.{outcome_unless}
 use Rattle.store_core.proofs.WritableByKind.{change_writable}
-use Rattle.store_tables.specs.Calls.{Leaves}
+use Rattle.store_tables.proofs.Spared.{joined, stands}
+use Rattle.store_tables.specs.Calls.{Spares}
 use Rattle.store_tables.specs.Contents.{Contents, contents_of}
 use Rattle.store_tables.specs.Stands.{Stand}
 use Rattle.store_core.specs.Due.{due_of_row}
@@ -131,11 +132,11 @@ refused_step s ask desk refusal is refuses =
 -- ---- on tables
 
 pub unavailable_on : (s : Settings) (ask : Ask) (refusal : Refusal) (old new : State)
-    → refusal ≡ Unavailable → Leaves old new → StepsOn s ask (Err refusal) old new
+    → refusal ≡ Unavailable → Spares old new → StepsOn s ask (Err refusal) old new
 unavailable_on s ask refusal old new same kept desk is stand clean = (
   desk,
   lawful s ask desk (Err refusal) desk is (inl (ap Err same, refl)),
-  kept (contents_of (due_of_row s desk) desk) stand,
+  stands kept (contents_of (due_of_row s desk) desk) stand,
 )
 
 pub refused_seeing : (facts : Facts) (s : Settings) (ask : Ask) (refusal : Refusal)
@@ -161,18 +162,18 @@ refused_on s ask refusal tables always desk is stand clean = (
 
 pub read_where : (facts : Facts) (change : Change) (s : Settings) (ask : Ask) (outcome : Outcome)
     (old new : State) → IsReading ask.command → AnswersDue s ask facts old new outcome
-    → IfErr outcome (λ refusal. refusal ≡ Unavailable) → Leaves old new
+    → IfErr outcome (λ refusal. refusal ≡ Unavailable) → Spares old new
     → CarriesOut facts change s ask outcome old new
 read_where facts change s ask (Ok answer) old new so told fault kept desk is holds stand clean =
     let decided = parts facts change s ask desk holds in (
       desk,
       reading_step s ask desk answer is so decided.1 (told desk is stand clean decided.0),
-      kept (contents_of (due_of_row s desk) desk) stand,
+      stands kept (contents_of (due_of_row s desk) desk) stand,
     )
 read_where facts change s ask (Err refusal) old new so told fault kept desk is holds stand clean = (
   desk,
   lawful s ask desk (Err refusal) desk is (inl (ap Err fault, refl)),
-  kept (contents_of (due_of_row s desk) desk) stand,
+  stands kept (contents_of (due_of_row s desk) desk) stand,
 )
 
 -- what is told of any due moments is told of the desk's
@@ -201,7 +202,7 @@ pub written_where : (facts : Facts) (change : Change) (s : Settings) (ask : Ask)
     (old new : State) → is_reading (plan_of ask.command) ≡ false
     → IfOk outcome (λ answer. answer ≡ told_of change)
     → OnOk outcome (Writes change old new)
-    → IfErr outcome (λ refusal. refusal ≡ Unavailable) → OnErr outcome (Leaves old new)
+    → IfErr outcome (λ refusal. refusal ≡ Unavailable) → OnErr outcome (Spares old new)
     → CarriesOut facts change s ask outcome old new
 written_where facts change s ask (Ok answer) old new so told writes fault kept desk is holds stand
     clean =
@@ -225,7 +226,7 @@ written_where facts change s ask (Err refusal) old new so told writes fault kept
     stand clean = (
       desk,
       lawful s ask desk (Err refusal) desk is (inl (ap Err fault, refl)),
-      kept (contents_of (due_of_row s desk) desk) stand,
+      stands kept (contents_of (due_of_row s desk) desk) stand,
     )
 
 pub decided_seeing : (facts : Facts) (change : Change) (s : Settings) (ask : Ask)
@@ -239,13 +240,13 @@ pub decided_seeing : (facts : Facts) (change : Change) (s : Settings) (ask : Ask
 decided_seeing facts change s ask outcome old new accepts made carries desk is seen =
     carries desk is (decide_so facts change s ask desk seen (accepts desk seen).0 made)
 
--- what leaves the tables leaves them at a fault
-pub left_by : {A E : Type 0} (r : Result A E) (old new : State) → Leaves old new
-    → OnErr r (Leaves old new)
-left_by (Ok a) old new left = tt
-left_by (Err e) old new left = left
+-- what spares the tables spares them at a fault
+pub spared_by : {A E : Type 0} (r : Result A E) (old new : State) → Spares old new
+    → OnErr r (Spares old new)
+spared_by (Ok a) old new kept = tt
+spared_by (Err e) old new kept = kept
 
-pub left_after : {X E : Type 0} (r : Result X E) (old mid new : State)
-    → Leaves old mid → OnErr r (Leaves mid new) → OnErr r (Leaves old new)
-left_after (Ok x) old mid new first then = tt
-left_after (Err e) old mid new first then = λ c stand. then c (first c stand)
+pub spared_after : {X E : Type 0} (r : Result X E) (old mid new : State)
+    → Spares old mid → OnErr r (Spares mid new) → OnErr r (Spares old new)
+spared_after (Ok x) old mid new first then = tt
+spared_after (Err e) old mid new first then = joined first then

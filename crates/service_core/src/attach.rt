@@ -4,7 +4,7 @@
 //! would be taken apart for each function's own proof.
 ghost use Rattle.std.specs.Prelude.{◌≡◌, ◌&&◌, ◌≢◌, false, map, true, IfErr, IfOk, Ok, OnOk, OnErr};
 ghost use Rattle.desk_model.specs.Known as known;
-ghost use Rattle.store_tables.specs.Calls.{Leaves, OnlyRefuses, Spares, Tells, WasClean};
+ghost use Rattle.store_tables.specs.Calls.{Lasts, OnlyRefuses, Spares, Tells, WasClean};
 ghost use Rattle.store_tables.specs.Contents.{watchers};
 ghost use Rattle.store_tables.specs.Dated.{row_of};
 ghost use Rattle.store_core.specs.Seen.{state_of};
@@ -30,8 +30,8 @@ impl<S: Backend> Desk<S> {
     ///
     /// Answers `Store` where a row is no value of its type, or the store or memory refuses it, and
     /// otherwise `UnknownName` where the settings lack a name of the tables; the store is given
-    /// back with either, and tables whose rows are values of their types are as they were. Of an
-    /// entry only the one who made it is looked at, and of a stay all but its number.
+    /// back with either, and the tables are as they were, whatever rows they have. Of an entry only
+    /// the one who made it is looked at, and of a stay all but its number.
     pub fn attach(
         alloc: Global,
         store: Store<S>,
@@ -46,8 +46,10 @@ impl<S: Backend> Desk<S> {
             AreRenewed settings (state_of S.Store store) (tables_of S.Store desk)) }
         ensures honest { IfOk result (λ desk.
             WasClean (state_of S.Store store) (tables_of S.Store desk)) }
+        ensures lasts { IfOk result (λ desk.
+            Lasts (state_of S.Store store) (tables_of S.Store desk)) }
         ensures given_back { IfErr result (λ back.
-            Leaves (state_of S.Store store) (state_of S.Store back.1)) }
+            Spares (state_of S.Store store) (state_of S.Store back.1)) }
         ensures fault { IfErr result (λ back.
             FailsOver (state_of S.Store store) (state_of S.Store back.1) back.0) }
         ensures honest_fault { IfErr result (λ back.
@@ -69,7 +71,7 @@ impl<S: Backend> Desk<S> {
 }
 
 /// Whether the settings know each name of the tables. Where they do, the due moments of the tables
-/// are renewed; else, and on a fault, tables whose rows are values of their types stay as they are.
+/// are renewed; else, and on a fault, the tables stay as they are, whatever rows they have.
 #[tactic(auto, using(store_tables::proofs::Spared::joined, store_tables::proofs::Spared::stands))]
 fn renew_known<S: Backend>(
     alloc: Global,
@@ -81,8 +83,9 @@ fn renew_known<S: Backend>(
     ensures renewed { result ≡ Ok true
         → AreRenewed settings.now (state_of S.Store store.old) (state_of S.Store store.new) }
     ensures left { result ≢ Ok true
-        → Leaves (state_of S.Store store.old) (state_of S.Store store.new) }
+        → Spares (state_of S.Store store.old) (state_of S.Store store.new) }
     ensures honest { WasClean (state_of S.Store store.old) (state_of S.Store store.new) }
+    ensures lasts { Lasts (state_of S.Store store.old) (state_of S.Store store.new) }
     ensures fault { OnlyRefuses
         (state_of S.Store store.old) (state_of S.Store store.new) result }
 {

@@ -5,7 +5,7 @@
 ghost use Rattle.std.specs.Prelude.{◌≡◌, true, IfErr, IfOk, OnErr, OnOk};
 ghost use Rattle.desk_model.specs.Plan.{told_of};
 ghost use Rattle.desk_model.specs.Refusals.{names_its_right};
-ghost use Rattle.store_tables.specs.Calls.{Leaves, WasClean};
+ghost use Rattle.store_tables.specs.Calls.{Lasts, Spares, WasClean};
 ghost use Rattle.store_core.specs.Seen.{state_of};
 ghost use Rattle.service_core.specs.Decided.{CarriesOut, StepsSeeing, Writes};
 ghost use Rattle.service_core.specs.TableSteps.{StepsOn, ask_by};
@@ -24,7 +24,7 @@ impl<S: Backend> Desk<S> {
     /// the refusal that is called for. A change is written in one transaction.
     ///
     /// `Unavailable` may come in place of any answer, where memory or the store refused. After a
-    /// refusal tables whose rows are values of their types are as they were.
+    /// refusal the tables are as they were, whatever rows they have.
     pub fn execute(
         &mut self,
         alloc: Global,
@@ -36,9 +36,10 @@ impl<S: Backend> Desk<S> {
             (ask_by at caller.now command.now) result
             (tables_of S.Store self.old) (tables_of S.Store self.new) }
         ensures refused { OnErr result
-            (Leaves (tables_of S.Store self.old) (tables_of S.Store self.new)) }
+            (Spares (tables_of S.Store self.old) (tables_of S.Store self.new)) }
         ensures named { IfErr result (λ refusal. names_its_right refusal ≡ true) }
         ensures honest { WasClean (tables_of S.Store self.old) (tables_of S.Store self.new) }
+        ensures lasts { Lasts (tables_of S.Store self.old) (tables_of S.Store self.new) }
         ensures same { settings_of S.Store self.new ≡ settings_of S.Store self.old }
     {
         step(alloc, &mut self.store, &self.settings, at, caller, command)
@@ -46,6 +47,7 @@ impl<S: Backend> Desk<S> {
 }
 
 /// One command on the desk of these tables. What every desk refuses costs no look at them.
+#[tactic(auto, using(store_tables::proofs::Lasting::same))]
 fn step<S: Backend>(
     alloc: Global,
     store: &mut Store<S>,
@@ -57,9 +59,10 @@ fn step<S: Backend>(
     ensures step { StepsOn settings.now (ask_by at caller.now command.now) result
         (state_of S.Store store.old) (state_of S.Store store.new) }
     ensures refused { OnErr result
-        (Leaves (state_of S.Store store.old) (state_of S.Store store.new)) }
+        (Spares (state_of S.Store store.old) (state_of S.Store store.new)) }
     ensures named { IfErr result (λ refusal. names_its_right refusal ≡ true) }
     ensures honest { WasClean (state_of S.Store store.old) (state_of S.Store store.new) }
+    ensures lasts { Lasts (state_of S.Store store.old) (state_of S.Store store.new) }
 {
     match refused_beforehand(settings, at, caller, command) {
         Some(refusal) => Err(refusal),
@@ -80,9 +83,10 @@ fn look_and_step<S: Backend>(
     ensures step { StepsOn settings.now (ask_by at caller.now command.now) result
         (state_of S.Store store.old) (state_of S.Store store.new) }
     ensures refused { OnErr result
-        (Leaves (state_of S.Store store.old) (state_of S.Store store.new)) }
+        (Spares (state_of S.Store store.old) (state_of S.Store store.new)) }
     ensures named { IfErr result (λ refusal. names_its_right refusal ≡ true) }
     ensures honest { WasClean (state_of S.Store store.old) (state_of S.Store store.new) }
+    ensures lasts { Lasts (state_of S.Store store.old) (state_of S.Store store.new) }
 {
     match store.facts_for(alloc, command) {
         Ok(facts) => {
@@ -95,6 +99,7 @@ fn look_and_step<S: Backend>(
 }
 
 /// One command with its facts.
+#[tactic(auto, using(store_tables::proofs::Lasting::same))]
 fn decided<S: Backend>(
     alloc: Global,
     store: &mut Store<S>,
@@ -107,9 +112,10 @@ fn decided<S: Backend>(
     ensures step { StepsSeeing facts.now settings.now (ask_by at caller.now command.now) result
         (state_of S.Store store.old) (state_of S.Store store.new) }
     ensures refused { OnErr result
-        (Leaves (state_of S.Store store.old) (state_of S.Store store.new)) }
+        (Spares (state_of S.Store store.old) (state_of S.Store store.new)) }
     ensures named { IfErr result (λ refusal. names_its_right refusal ≡ true) }
     ensures honest { WasClean (state_of S.Store store.old) (state_of S.Store store.new) }
+    ensures lasts { Lasts (state_of S.Store store.old) (state_of S.Store store.new) }
 {
     match decide(alloc, settings, at, caller, facts, command) {
         Ok(change) => {
@@ -137,9 +143,10 @@ fn carry_out<S: Backend>(
         (ask_by at caller.now command.now) result
         (state_of S.Store store.old) (state_of S.Store store.new) }
     ensures refused { OnErr result
-        (Leaves (state_of S.Store store.old) (state_of S.Store store.new)) }
+        (Spares (state_of S.Store store.old) (state_of S.Store store.new)) }
     ensures named { IfErr result (λ refusal. names_its_right refusal ≡ true) }
     ensures honest { WasClean (state_of S.Store store.old) (state_of S.Store store.new) }
+    ensures lasts { Lasts (state_of S.Store store.old) (state_of S.Store store.new) }
 {
     if command.is_reading() {
         reading::read(alloc, store, settings, at, caller, command, facts)
@@ -154,8 +161,9 @@ fn write<S: Backend>(store: &mut Store<S>, change: &Change) -> Result<Answer, Re
     ensures done { OnOk result
         (Writes change.now (state_of S.Store store.old) (state_of S.Store store.new)) }
     ensures undone { OnErr result
-        (Leaves (state_of S.Store store.old) (state_of S.Store store.new)) }
+        (Spares (state_of S.Store store.old) (state_of S.Store store.new)) }
     ensures honest { WasClean (state_of S.Store store.old) (state_of S.Store store.new) }
+    ensures lasts { Lasts (state_of S.Store store.old) (state_of S.Store store.new) }
     ensures fault { IfErr result (λ refusal. refusal ≡ Refusal.Unavailable) }
 {
     match store.apply(change) {

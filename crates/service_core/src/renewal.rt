@@ -1,7 +1,7 @@
 //! The due moments that tables keep are renewed by the settings that are attached.
 ghost use Rattle.std.specs.Prelude.{◌≡◌, ℕ, length, IfErr, IfOk, List, OnErr, OnOk};
 ghost use Rattle.hours_core.specs.declared.stay.Stay as stay;
-ghost use Rattle.store_tables.specs.Calls.{Leaves, WasClean};
+ghost use Rattle.store_tables.specs.Calls.{Lasts, Spares, WasClean};
 ghost use Rattle.store_tables.specs.declared.fault.StoreFault.{StoreFault};
 ghost use Rattle.store_core.specs.Seen.{state_of};
 ghost use Rattle.desk_reports.specs.Rows.{QueuesRise};
@@ -18,8 +18,9 @@ use store_core::{Backend, Store, StoreFault};
 
 /// Writes the due moment of each of these requests for which the tables keep another one: all of
 /// them, or none. They are those of the tables, and so are the queues and the stays, beside which
-/// the numbers of their requests stand. On a fault tables whose rows are values of their types stay
-/// as they are.
+/// the numbers of their requests stand. On a fault the tables stay as they are, whatever
+/// rows they have.
+#[tactic(auto, using(store_tables::proofs::Lasting::same))]
 pub(crate) fn renew<S: Backend>(
     alloc: Global,
     store: &mut Store<S>,
@@ -31,8 +32,9 @@ pub(crate) fn renew<S: Backend>(
     ensures renewed { OnOk result (AreRenewedFrom settings.now queues.now stays.items dated.now
         (state_of S.Store store.old) (state_of S.Store store.new)) }
     ensures left { OnErr result
-        (Leaves (state_of S.Store store.old) (state_of S.Store store.new)) }
+        (Spares (state_of S.Store store.old) (state_of S.Store store.new)) }
     ensures honest { WasClean (state_of S.Store store.old) (state_of S.Store store.new) }
+    ensures lasts { Lasts (state_of S.Store store.old) (state_of S.Store store.new) }
     ensures fault { IfErr result (λ e. e ≡ StoreFault.Refused) }
 {
     match renewals(alloc, settings, queues, stays, dated) {

@@ -1,6 +1,6 @@
 //! A list of commands on the desk.
 ghost use Rattle.std.specs.Prelude.{◌≡◌, IfOk, OnErr};
-ghost use Rattle.store_tables.specs.Calls.{WasClean};
+ghost use Rattle.store_tables.specs.Calls.{Lasts, WasClean};
 ghost use Rattle.desk_texts.specs.Short.{AreNamed};
 ghost use Rattle.service_core.specs.TableSteps.{RunsOn, asks_of};
 ghost use Rattle.service_core.specs.Seen.{settings_of, tables_of};
@@ -27,6 +27,7 @@ impl<S: Backend> Desk<S> {
         ensures named { IfOk result (λ outcomes. AreNamed outcomes.items) }
         ensures err { OnErr result (self.new ≡ self.old) }
         ensures honest { WasClean (tables_of S.Store self.old) (tables_of S.Store self.new) }
+        ensures lasts { Lasts (tables_of S.Store self.old) (tables_of S.Store self.new) }
         ensures same { settings_of S.Store self.new ≡ settings_of S.Store self.old }
     {
         let mut outcomes = Vec::with_capacity(alloc, asks.len())?;

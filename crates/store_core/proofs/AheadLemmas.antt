@@ -8,7 +8,6 @@ use Rattle.std.proofs.lemmas.Bool.Decides.{nat_tests}
 use Rattle.std.proofs.lemmas.List.{append-nil, at_drop_all, at_drop_more}
 use Rattle.std.proofs.lemmas.List.Sorted.{IsPermutation-sym}
 use Rattle.std.proofs.lemmas.Option.{get_or_from_slice_get, slice_get_cases, slice_get_within}
-use Rattle.sqlite.specs.State.{State}
 use Rattle.sqlite_rules.specs.Lists.{Has}
 use Rattle.sqlite_rules.proofs.ListLemmas.{all_has, has_filtered}
 use Rattle.sqlite_rules.proofs.ProbeLemmas.{has_mapped, mapped_has}
@@ -16,7 +15,6 @@ use Rattle.sqlite_trees.proofs.ListLemmas.{all_weaker, ascending-filter, filter_
 use Rattle.desk_model.specs.Desk.{Desk}
 use Rattle.desk_model.specs.IsDesk.{IsDesk}
 use Rattle.desk_model.specs.declared.rows.RequestRow.{RequestRow}
-use Rattle.store_tables.specs.Calls.{Spares}
 use Rattle.store_tables.specs.Contents.{request_rows}
 use Rattle.store_tables.specs.Dated.{Dated, dated_by, id_of}
 use Rattle.store_tables.specs.Kept.{itself}
@@ -134,11 +132,3 @@ overdue_ahead due desk is at ns h =
           (λ x has. (has_filtered (is_due_before at) ds x
           (has_permuted h.values late x (IsPermutation-sym _ _ h.ordered.same) has)).0)),
     )
-
--- ---- a read that does nothing
-
-pub unread : (s : State) → Spares s s
-unread s = record {
-  clean = λ clean. clean;
-  left = λ there clean live. (live, refl, inl refl);
-}

@@ -8,7 +8,7 @@ use Rattle.sqlite.specs.Order.{Row}
 use Rattle.sqlite.specs.State.{State, HasCleanDisk}
 use Rattle.sqlite_rules.specs.Lists.{Has}
 use Rattle.desk_model.specs.Desk.{Desk}
-use Rattle.store_tables.specs.Calls.{Does, FailsIn, Looks, WasClean}
+use Rattle.store_tables.specs.Calls.{Does, FailsIn, Lasts, Looks, WasClean}
 use Rattle.store_tables.specs.Contents.{Contents}
 use Rattle.store_tables.specs.Picked.{shows}
 use Rattle.store_tables.specs.Queries.{version_shown}
@@ -17,6 +17,7 @@ use Rattle.store_tables.specs.Stands.{HoldsNow, KeepsBase, Tables}
 use Rattle.store_tables.specs.declared.fault.StoreFault.{StoreFault}
 use Rattle.store_tables.specs.declared.fault.StoreFault.TheVariants.{Mismatch, Refused}
 use Rattle.store_tables.specs.declared.fault.StoreFault.TheVariants.{WrongVersion}
+use Rattle.store_tables.proofs.Lasting.{on}
 use Rattle.store_tables.proofs.RowLemmas.{TableOf, refuses}
 use Rattle.store_tables.proofs.StandLemmas.{desk_is_there, fold_more}
 use Rattle.store_tables.proofs.ValueLemmas.{values_of}
@@ -44,12 +45,13 @@ keeps_on a b c one two d o =
 
 -- where they hold what they held
 pub stays_on : {X : Type 0} (x : X) (a b : State) → ((c : Contents) → HoldsNow c a → HoldsNow c b)
-    → ((c : Contents) → HoldsNow c a → KeepsBase a b) → WasClean a b
+    → ((c : Contents) → HoldsNow c a → KeepsBase a b) → WasClean a b → Lasts a b
     → (let r : Result X StoreFault = Ok x in RunsOn a b r)
-stays_on x a b holds keeps clean = record {
+stays_on x a b holds keeps clean lasts = record {
   holds = λ c h. (c, holds c h);
   keeps = keeps;
   clean = clean;
+  lasts = lasts;
 }
 
 -- a query, a change, and one after the other
@@ -58,6 +60,7 @@ looks_on a b r looks = record {
   holds = λ c h. and_then r (λ k. (c, k)) (looks.makes c h);
   keeps = λ c h. looks.keeps (desk_is_there c a h);
   clean = looks.clean;
+  lasts = looks.lasts;
 }
 
 pub does_on : {X : Type 0} (change : Contents → Contents) (a b : State) (r : Result X StoreFault)
@@ -66,6 +69,7 @@ does_on change a b r does = record {
   holds = λ c h. and_then r (λ k. (change c, k)) (does.makes c h);
   keeps = λ c h. does.keeps;
   clean = does.clean;
+  lasts = does.lasts;
 }
 
 pub runs_then : {X Y : Type 0} (x : X) (a b c : State) (r : Result Y StoreFault)
@@ -74,14 +78,15 @@ runs_then x a b c r one two = record {
   holds = λ d h. let it = one.holds d h in two.holds it.0 it.1;
   keeps = λ d h. let it = one.holds d h in keeps_on a b c (one.keeps d h) (two.keeps it.0 it.1);
   clean = λ d. one.clean (two.clean d);
+  lasts = on two.clean one.lasts two.lasts;
 }
 
 -- a fault is one of whatever was asked for
 pub runs_failed : {X Y : Type 0} (e f : StoreFault) (a b : State)
     → (let r : Result X StoreFault = Err e in RunsOn a b r)
     → (let r : Result Y StoreFault = Err f in RunsOn a b r)
-runs_failed e f a b on =
-    record { holds = λ c h. tt; keeps = on.keeps; clean = on.clean }
+runs_failed e f a b runs =
+    record { holds = λ c h. tt; keeps = runs.keeps; clean = runs.clean; lasts = runs.lasts }
 
 -- over tables that hold values, a list is read or refused
 pub inside_refused : {K V : Type 0} (t : TableOf K V) (a b : State) → WasClean a b

@@ -6,13 +6,14 @@ use Rattle.std.proofs.lemmas.List.Sorted.{IsPermutation-sym, IsPermutation-trans
 use Rattle.sqlite.specs.Effect.{Database}
 use Rattle.sqlite.specs.Order.{Row}
 use Rattle.sqlite.specs.State.{State}
-use Rattle.store_tables.specs.Calls.{Leaves}
+use Rattle.store_tables.specs.Calls.{Lasts, Spares, WasClean}
 use Rattle.store_tables.specs.Contents.{Contents, no_contents}
 use Rattle.store_tables.specs.Kept.{Holds}
 use Rattle.store_tables.specs.Spelling.{version_row}
-use Rattle.store_tables.specs.Stands.{HoldsNow, Stand, StandsFor, Tables}
+use Rattle.store_tables.specs.Stands.{GoesBack, HoldsNow, Stand, StandsFor, Tables}
 use Rattle.store_tables.specs.Values.{AreValues}
 use Rattle.store_tables.proofs.LastLemmas.{has_permuted}
+use Rattle.store_tables.proofs.Spared.{back_spares}
 use Rattle.store_tables.proofs.ValueLemmas.{are_values, values_of}
 use Rattle.store_tables.specs.declared.fault.StoreFault.{StoreFault}
 use Rattle.desk_model.specs.Change.{applied}
@@ -85,8 +86,8 @@ pub empty_stands : {X E : Type 0} (r : Result X E) (s : State) → OnOk r (Stand
 empty_stands (Ok x) s stand = (λ row. None, stand)
 empty_stands (Err e) s stand = tt
 
--- what stays of each contents at a fault stays of all
-pub left_at_fault : {X E : Type 0} (r : Result X E) (old new : State)
-    → ((c : Contents) → Stand c old → OnErr r (Stand c new)) → OnErr r (Leaves old new)
-left_at_fault (Ok x) old new stays = tt
-left_at_fault (Err e) old new stays = stays
+-- what goes back at a fault is spared
+pub spared_at_fault : {X E : Type 0} (r : Result X E) (old new : State) → WasClean old new
+    → Lasts old new → OnErr r (GoesBack old new) → OnErr r (Spares old new)
+spared_at_fault (Ok x) old new clean lasts back = tt
+spared_at_fault (Err e) old new clean lasts back = back_spares clean lasts back

@@ -8,7 +8,7 @@ use Rattle.desk_model.specs.Desk.{Desk}
 use Rattle.desk_model.specs.Facts.{stays_at}
 use Rattle.desk_model.specs.IsDesk.{IsDesk}
 use Rattle.desk_model.specs.declared.rows.RequestRow.{RequestRow}
-use Rattle.store_tables.specs.Calls.{HasBadRow, WasClean}
+use Rattle.store_tables.specs.Calls.{HasBadRow, Lasts, WasClean}
 use Rattle.store_tables.specs.Contents.{Contents, add_stay, contents_of, first_contents_of}
 use Rattle.store_tables.specs.Making.{IsKnown, IsOfMeta}
 use Rattle.store_tables.specs.Queries.{version_shown}
@@ -89,11 +89,13 @@ BringsUp old new result =
     → HoldsNow (first_contents_of due desk) old
     → OnOk result (HoldsNow (contents_of due desk) new)
 
--- whatever the tables hold, they hold something after it, and the last commit stays
+-- whatever the tables hold, they hold something after it, and the last commit stays; the connection
+-- lasts
 pub record RunsOn {X : Type 0} (old new : State) (result : Result X StoreFault) : Type 0 where
   pub holds : (c : Contents) → HoldsNow c old → OnOk result ((d : Contents) × HoldsNow d new)
   pub keeps : (c : Contents) → HoldsNow c old → KeepsBase old new
   pub clean : WasClean old new
+  pub lasts : Lasts old new
 
 -- whatever values the tables hold, the fault is that the store or memory refused it
 abbrev pub RefusesOn : {X : Type 0} → State → State → Result X StoreFault → Type 0

@@ -1,9 +1,8 @@
 //! A change is written, whole or not at all.
 ghost use Rattle.std.specs.Prelude.{◌≡◌, false, IfErr, OnErr, OnOk};
 ghost use Rattle.sqlite.specs.Held.{state};
-ghost use Rattle.store_tables.specs.Calls.{Leaves, WasClean};
-ghost use Rattle.store_tables.specs.Contents.{Contents};
-ghost use Rattle.store_tables.specs.Stands.{Stand};
+ghost use Rattle.store_tables.specs.Calls.{Lasts, Spares, WasClean};
+ghost use Rattle.store_tables.specs.Stands.{GoesBack};
 ghost use Rattle.store_tables.specs.declared.fault.StoreFault.{StoreFault};
 ghost use Rattle.store_core.specs.Applying.{Applies, Writes};
 ghost use Rattle.store_core.specs.Seen.{state_of};
@@ -20,9 +19,10 @@ fn apply_change<S: Alter>(conn: &mut Connection<S>, change: &Change) -> Result<(
     requires { conn.old.in_transaction ≡ false }
     ensures idle { conn.new.in_transaction ≡ false }
     ensures done { Writes change.now (state S.Store conn.old) (state S.Store conn.new) result }
-    ensures undone { (c : Contents) → Stand c (state S.Store conn.old) →
-        OnErr result (Stand c (state S.Store conn.new)) }
+    ensures undone { OnErr result
+        (GoesBack (state S.Store conn.old) (state S.Store conn.new)) }
     ensures honest { WasClean (state S.Store conn.old) (state S.Store conn.new) }
+    ensures lasts { Lasts (state S.Store conn.old) (state S.Store conn.new) }
     ensures fault { IfErr result (λ e. e ≡ StoreFault.Refused) }
 {
     let mut tx = conn.transaction();
@@ -33,16 +33,17 @@ fn apply_change<S: Alter>(conn: &mut Connection<S>, change: &Change) -> Result<(
 impl<S: Alter> Store<S> {
     /// Writes a change, in one transaction. `Refused` where the store refuses a statement: where a
     /// row of the change is there already, where one that it sets or takes out isn't there, or
-    /// where the disk or memory fails. On a fault tables whose rows are values of their types stay
-    /// as they are.
+    /// where the disk or memory fails. On a fault the tables stay as they are, whatever rows they
+    /// have.
     pub fn apply(&mut self, change: &Change) -> Result<(), StoreFault>
         ensures done { Applies change.now
             (state_of S.Store self.old) (state_of S.Store self.new) result }
         ensures rows { Writes change.now
             (state_of S.Store self.old) (state_of S.Store self.new) result }
         ensures undone { OnErr result
-            (Leaves (state_of S.Store self.old) (state_of S.Store self.new)) }
+            (Spares (state_of S.Store self.old) (state_of S.Store self.new)) }
         ensures honest { WasClean (state_of S.Store self.old) (state_of S.Store self.new) }
+        ensures lasts { Lasts (state_of S.Store self.old) (state_of S.Store self.new) }
         ensures fault { IfErr result (λ e. e ≡ StoreFault.Refused) }
     {
         apply_change(&mut self.conn, change)

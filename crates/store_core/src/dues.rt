@@ -1,9 +1,8 @@
 //! Due moments are written, all or none.
 ghost use Rattle.std.specs.Prelude.{◌≡◌, false, IfErr, OnErr};
 ghost use Rattle.sqlite.specs.Held.{state};
-ghost use Rattle.store_tables.specs.Calls.{Leaves, WasClean};
-ghost use Rattle.store_tables.specs.Contents.{Contents};
-ghost use Rattle.store_tables.specs.Stands.{Stand};
+ghost use Rattle.store_tables.specs.Calls.{Lasts, Spares, WasClean};
+ghost use Rattle.store_tables.specs.Stands.{GoesBack};
 ghost use Rattle.store_tables.specs.declared.fault.StoreFault.{StoreFault};
 ghost use Rattle.store_core.specs.Applying.{DatesDesk, WritesDues};
 ghost use Rattle.store_core.specs.Seen.{state_of};
@@ -23,9 +22,10 @@ fn write_dues<S: Alter>(
     requires { conn.old.in_transaction ≡ false }
     ensures idle { conn.new.in_transaction ≡ false }
     ensures done { WritesDues dues.now (state S.Store conn.old) (state S.Store conn.new) result }
-    ensures undone { (c : Contents) → Stand c (state S.Store conn.old) →
-        OnErr result (Stand c (state S.Store conn.new)) }
+    ensures undone { OnErr result
+        (GoesBack (state S.Store conn.old) (state S.Store conn.new)) }
     ensures honest { WasClean (state S.Store conn.old) (state S.Store conn.new) }
+    ensures lasts { Lasts (state S.Store conn.old) (state S.Store conn.new) }
     ensures fault { IfErr result (λ e. e ≡ StoreFault.Refused) }
 {
     let mut tx = conn.transaction();
@@ -37,15 +37,16 @@ impl<S: Alter> Store<S> {
     /// Writes the due moments of requests, each by its number, in order and in one transaction. A
     /// number that no request has is passed over, of a repeated number the last stands, and the
     /// empty list changes nothing. `Refused` where the store refuses a statement, or the disk or
-    /// memory fails. On a fault tables whose rows are values of their types stay as they are.
+    /// memory fails. On a fault the tables stay as they are, whatever rows they have.
     pub fn set_dues(&mut self, dues: &[(u32, Option<Minute>)]) -> Result<(), StoreFault>
         ensures done { DatesDesk dues.now
             (state_of S.Store self.old) (state_of S.Store self.new) result }
         ensures rows { WritesDues dues.now
             (state_of S.Store self.old) (state_of S.Store self.new) result }
         ensures undone { OnErr result
-            (Leaves (state_of S.Store self.old) (state_of S.Store self.new)) }
+            (Spares (state_of S.Store self.old) (state_of S.Store self.new)) }
         ensures honest { WasClean (state_of S.Store self.old) (state_of S.Store self.new) }
+        ensures lasts { Lasts (state_of S.Store self.old) (state_of S.Store self.new) }
         ensures fault { IfErr result (λ e. e ≡ StoreFault.Refused) }
     {
         write_dues(&mut self.conn, dues)

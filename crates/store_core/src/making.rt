@@ -2,7 +2,7 @@
 ghost use Rattle.std.specs.Prelude.{◌≡◌, ◌≢◌, ℕ, false, IfErr, IfOk, OnErr, OnOk, Option};
 ghost use Rattle.sqlite.specs.Held.{state};
 ghost use Rattle.sqlite.specs.State.{HasCleanDisk};
-ghost use Rattle.store_tables.specs.Calls.{WasClean};
+ghost use Rattle.store_tables.specs.Calls.{Lasts, WasClean};
 ghost use Rattle.desk_model.specs.Desk.{Desk};
 ghost use Rattle.desk_model.specs.IsDesk.{IsDesk};
 ghost use Rattle.desk_model.specs.declared.rows.RequestRow.{RequestRow};
@@ -23,6 +23,7 @@ use store_tables::StoreFault;
 use store_tables::transaction::{finish, run};
 
 /// Makes the first three tables where they are missing.
+#[tactic(auto, using(store_tables::proofs::Lasting::on))]
 fn make_first<S: Alter>(tx: &mut Transaction<'_, S>) -> Result<(), StoreFault>
     ensures same_reference { tx.new.conn.ghost_name ≡ tx.old.conn.ghost_name }
     ensures made { Made no_schema (state S.Store tx.old.conn.now) →
@@ -31,6 +32,7 @@ fn make_first<S: Alter>(tx: &mut Transaction<'_, S>) -> Result<(), StoreFault>
         (Unmoved (state S.Store tx.old.conn.now) (state S.Store tx.new.conn.now)) }
     ensures keeps { KeepsBase (state S.Store tx.old.conn.now) (state S.Store tx.new.conn.now) }
     ensures honest { WasClean (state S.Store tx.old.conn.now) (state S.Store tx.new.conn.now) }
+    ensures lasts { Lasts (state S.Store tx.old.conn.now) (state S.Store tx.new.conn.now) }
     ensures fault { IfErr result (λ e. e ≡ StoreFault.Refused) }
 {
     let _ = run(
@@ -57,6 +59,7 @@ fn make_first<S: Alter>(tx: &mut Transaction<'_, S>) -> Result<(), StoreFault>
 }
 
 /// Makes the three tables of what belongs to requests where they are missing.
+#[tactic(auto, using(store_tables::proofs::Lasting::on))]
 fn make_next<S: Alter>(tx: &mut Transaction<'_, S>) -> Result<(), StoreFault>
     ensures same_reference { tx.new.conn.ghost_name ≡ tx.old.conn.ghost_name }
     ensures made { Made request_schema (state S.Store tx.old.conn.now) →
@@ -65,6 +68,7 @@ fn make_next<S: Alter>(tx: &mut Transaction<'_, S>) -> Result<(), StoreFault>
         (Unmoved (state S.Store tx.old.conn.now) (state S.Store tx.new.conn.now)) }
     ensures keeps { KeepsBase (state S.Store tx.old.conn.now) (state S.Store tx.new.conn.now) }
     ensures honest { WasClean (state S.Store tx.old.conn.now) (state S.Store tx.new.conn.now) }
+    ensures lasts { Lasts (state S.Store tx.old.conn.now) (state S.Store tx.new.conn.now) }
     ensures fault { IfErr result (λ e. e ≡ StoreFault.Refused) }
 {
     let _ = run(
@@ -101,6 +105,7 @@ fn make_last<S: Alter>(tx: &mut Transaction<'_, S>) -> Result<(), StoreFault>
         (Grows (state S.Store tx.old.conn.now) (state S.Store tx.new.conn.now)) }
     ensures keeps { KeepsBase (state S.Store tx.old.conn.now) (state S.Store tx.new.conn.now) }
     ensures honest { WasClean (state S.Store tx.old.conn.now) (state S.Store tx.new.conn.now) }
+    ensures lasts { Lasts (state S.Store tx.old.conn.now) (state S.Store tx.new.conn.now) }
     ensures fault { IfErr result (λ e. e ≡ StoreFault.Refused) }
 {
     let _ = run(
@@ -114,6 +119,7 @@ fn make_last<S: Alter>(tx: &mut Transaction<'_, S>) -> Result<(), StoreFault>
 }
 
 /// Makes the tables that are missing.
+#[tactic(auto, using(store_tables::proofs::Lasting::on))]
 fn make_tables<S: Alter>(tx: &mut Transaction<'_, S>) -> Result<(), StoreFault>
     ensures same_reference { tx.new.conn.ghost_name ≡ tx.old.conn.ghost_name }
     ensures made { Made no_schema (state S.Store tx.old.conn.now) →
@@ -122,6 +128,7 @@ fn make_tables<S: Alter>(tx: &mut Transaction<'_, S>) -> Result<(), StoreFault>
         (Grows (state S.Store tx.old.conn.now) (state S.Store tx.new.conn.now)) }
     ensures keeps { KeepsBase (state S.Store tx.old.conn.now) (state S.Store tx.new.conn.now) }
     ensures honest { WasClean (state S.Store tx.old.conn.now) (state S.Store tx.new.conn.now) }
+    ensures lasts { Lasts (state S.Store tx.old.conn.now) (state S.Store tx.new.conn.now) }
     ensures fault { IfErr result (λ e. e ≡ StoreFault.Refused) }
 {
     make_first(tx)?;
@@ -160,6 +167,7 @@ fn make_all<S: Alter>(alloc: Global, tx: &mut Transaction<'_, S>) -> Result<(), 
         HasCleanDisk (state S.Store tx.new.conn.now) →
         IfErr result (λ e. e ≡ StoreFault.Refused) }
     ensures honest { WasClean (state S.Store tx.old.conn.now) (state S.Store tx.new.conn.now) }
+    ensures lasts { Lasts (state S.Store tx.old.conn.now) (state S.Store tx.new.conn.now) }
     ensures mismatch { MismatchesInMaking
         (state S.Store tx.old.conn.now) (state S.Store tx.new.conn.now) result }
     ensures blames { BlamesUnknown
@@ -191,6 +199,7 @@ pub(crate) fn make_schema<S: Alter>(
     ensures back { (c : Contents) → EitherStand c (state S.Store conn.old) →
         OnErr result (GoesBack (state S.Store conn.old) (state S.Store conn.new)) }
     ensures honest { WasClean (state S.Store conn.old) (state S.Store conn.new) }
+    ensures lasts { Lasts (state S.Store conn.old) (state S.Store conn.new) }
     ensures version { NeedsKnown (state S.Store conn.old) (state S.Store conn.new) result }
     ensures refuses { RefusesKnown (state S.Store conn.old) (state S.Store conn.new) result }
     ensures blames { BlamesUnknown (state S.Store conn.old) (state S.Store conn.new) result }

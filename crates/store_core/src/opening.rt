@@ -1,7 +1,7 @@
 //! A store is opened, and its tables are made.
 ghost use Rattle.std.specs.Prelude.{◌≡◌, ◌≢◌, false, IfErr, IfOk, OnErr};
 ghost use Rattle.sqlite.specs.Steps.{over_memory};
-ghost use Rattle.store_tables.specs.Calls.{Answers, WasClean, Spares};
+ghost use Rattle.store_tables.specs.Calls.{Answers, Lasts, Spares, WasClean};
 ghost use Rattle.store_tables.specs.Making.{IsBlank, MakesDesk, RefusesBlank};
 ghost use Rattle.store_tables.specs.Mismatches.{MismatchesInMeta};
 ghost use Rattle.store_tables.specs.declared.fault.StoreFault.{StoreFault};
@@ -61,6 +61,7 @@ impl<S: Alter> Store<S> {
         ensures undone { OnErr result
             (LeavesEither (state_of S.Store self.old) (state_of S.Store self.new)) }
         ensures honest { WasClean (state_of S.Store self.old) (state_of S.Store self.new) }
+        ensures lasts { Lasts (state_of S.Store self.old) (state_of S.Store self.new) }
         ensures version { TellsVersion
             (state_of S.Store self.old) (state_of S.Store self.new) result }
         ensures refuses { RefusesKnown

@@ -162,7 +162,7 @@ impl<'s, S: Alter> RequestRows<'s, S> {
     /// or its due moment is neither a minute nor absent, `Refused` where the store or memory
     /// refuses it, or its number has no row or two; after a fault it is spent, and always `Refused`.
     /// The tables stay as they are.
-    #[tactic(auto, using(crate::proofs::AheadLemmas::unread))]
+    #[tactic(auto, using(store_tables::proofs::Spared::unread))]
     pub fn next(&mut self) -> Result<Option<(RequestRow, Option<Minute>)>, StoreFault>
         ensures same_reference { self.new.store.ghost_name ≡ self.old.store.ghost_name }
         ensures given { self.old.progress ≡ Progress.Reading →
@@ -185,7 +185,7 @@ impl<'s, S: Alter> RequestRows<'s, S> {
     }
 
     /// The row by the number at the place where it stands.
-    #[tactic(auto, using(crate::proofs::AheadLemmas::unread))]
+    #[tactic(auto, using(store_tables::proofs::Spared::unread))]
     fn read(&mut self) -> Result<Option<(RequestRow, Option<Minute>)>, StoreFault>
         requires { self.old.progress ≡ Progress.Reading }
         ensures same_reference { self.new.store.ghost_name ≡ self.old.store.ghost_name }

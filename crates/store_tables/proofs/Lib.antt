@@ -10,6 +10,7 @@ pub mod FirstLemmas
 pub mod FoundLemmas
 pub mod KeptLemmas
 pub mod LastLemmas
+pub mod Lasting
 pub mod Meaning
 pub mod PickedLemmas
 pub mod ReadLemmas

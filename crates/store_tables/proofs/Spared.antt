@@ -1,5 +1,5 @@
 -- What a read spares, whatever rows the tables have.
-use Rattle.std.proofs.Common.{◌≡◌, ◌⊎◌, ◌∙◌, ℕ, List, IsTrue, Ok, ap, inl, inr, subst, sym}
+use Rattle.std.proofs.Common.{◌≡◌, ◌⊎◌, ◌∙◌, ℕ, List, IsTrue, Ok, ap, inl, inr, refl, subst, sym}
 use Rattle.sqlite.specs.Clock.{timed}
 use Rattle.sqlite.specs.Effect.{Database}
 use Rattle.sqlite.specs.Given.{IsPlain}
@@ -8,17 +8,27 @@ use Rattle.sqlite.specs.Order.{Row}
 use Rattle.sqlite.specs.State.{State, HasCleanDisk, IsUnchanged, IsRolledBack, Shown}
 use Rattle.sqlite.specs.State.{FailsToQuery, FailsToShow, IsNotRun}
 use Rattle.sqlite.specs.declared.error.Error.{Error}
-use Rattle.store_tables.specs.Calls.{AreThere, Spares}
+use Rattle.store_tables.specs.Calls.{AreThere, Lasts, Spares, WasClean}
 use Rattle.desk_model.specs.Desk.{Desk}
 use Rattle.store_tables.specs.Contents.{Contents, contents_of}
-use Rattle.store_tables.specs.Stands.{Stand, StandsFor, Tables}
+use Rattle.store_tables.specs.Stands.{GoesBack, Stand, StandsFor, Tables}
 use Rattle.store_tables.specs.Tables.{desk_schema}
+use Rattle.store_tables.proofs.Lasting.{on, same}
 use Rattle.store_tables.proofs.StandLemmas.{failed_was_open, never_both, shown_open, shown_same}
+
+-- what does nothing spares all
+pub unread : (s : State) → Spares s s
+unread s = record {
+  clean = λ clean. clean;
+  lasts = same s;
+  left = λ there clean live. (live, refl, inl refl);
+}
 
 -- what the second call spares of what the first one left
 pub joined : {a b c : State} → Spares a b → Spares b c → Spares a c
 joined {a} {b} {c} first second = record {
   clean = λ clean. first.clean (second.clean clean);
+  lasts = on second.clean first.lasts second.lasts;
   left =
       λ there clean live.
       let middle : AreThere b = λ b_clean b_live.
@@ -57,6 +67,15 @@ stands {old} {new} kept c stand clean live =
       subst (Tables c) (sym it.1) was.1,
     )
 
+-- so is what is as the last commit left it
+pub back_spares : {old new : State} → WasClean old new → Lasts old new → GoesBack old new
+    → Spares old new
+back_spares clean lasts back = record {
+  clean = clean;
+  lasts = lasts;
+  left = λ there now live. let it = back now live in (it.1, it.3, inr it.2);
+}
+
 -- and what stands for a desk stands for it
 pub stands_for : {old new : State} → Spares old new → (desk : Desk) → StandsFor desk old
     → StandsFor desk new
@@ -81,11 +100,13 @@ not_run_left sql params old new e (inr h) live = undone_left old new h.3 live
 
 module _ (sql : List ℕ) (params : Row) (old new : State)
     (plain : IsPlain (understood desk_schema sql)) (clean : HasCleanDisk new → HasCleanDisk old)
+    (lasts : Lasts old new)
   where
     pub shown_spares : (rows : List Row) → (HasCleanDisk new → Shown sql params old new rows)
         → Spares old new
     shown_spares rows shown = record {
       clean = clean;
+      lasts = lasts;
       left =
           λ there now live.
           let h = shown now in
@@ -108,5 +129,6 @@ module _ (sql : List ℕ) (params : Row) (old new : State)
         → Spares old new
     failed_spares e fails = record {
       clean = clean;
+      lasts = lasts;
       left = λ there now live. failed_left e there now live (fails now);
     }

@@ -20,14 +20,14 @@ use Rattle.sqlite.specs.Held.{Held, state}
 use Rattle.std.proofs.Common.{OnOk, OnErr, [], ◌∷◌, ◌++◌, ◌+◌, ◌<◌, length, take, get_or}
 use Rattle.std.proofs.lemmas.List.{take_more}
 use Rattle.std.specs.Prelude.{fold}
-use Rattle.store_tables.specs.Calls.{Looks}
+use Rattle.store_tables.specs.Calls.{Lasts, Looks}
 use Rattle.store_tables.specs.Contents.{Contents}
 use Rattle.store_tables.specs.declared.fault.StoreFault.TheVariants.{Refused}
 use Rattle.store_tables.specs.Making.{AreEmpty, WasBlank, IsBlank, Made}
 use Rattle.store_tables.specs.Stands.{HasTables}
 use Rattle.sqlite.specs.Schema.{Schema}
 use Rattle.store_tables.specs.Tables.{desk_schema, no_schema}
-use Rattle.store_tables.specs.Stands.{Tables, Stand, HoldsNow, Within, GoesBack, KeepsBase}
+use Rattle.store_tables.specs.Stands.{Tables, Stand, GoesOn, HoldsNow, GoesBack, KeepsBase}
 use Rattle.store_tables.specs.Stands.{Ran}
 use Rattle.store_tables.specs.Stands.{FirstStand, FirstTables}
 
@@ -98,10 +98,6 @@ module _ {S : Type 0} (g : Ghosts S) (sql : List ℕ) (params : Row) (old new : 
     | inr it ↦ (clean c, it.2.0.was_open, it.2.0.committed_is)
   ]
 
-pub kept_rests : (d : Contents) (old new : State) → KeepsBase old new → Rests d old → Rests d new
-kept_rests d old new keeps rests c o = let it = keeps c o in
-    subst (Tables d) (sym it.2) (rests it.0 it.1)
-
 pub committed_stands : (now : Contents) (old new : State)
     → (HasCleanDisk new → HasCleanDisk old) → (HasCleanDisk new
     → Shows old new old.now old.now false) → HoldsNow now old → Stand now new
@@ -115,13 +111,13 @@ pub undone_back : (old new : State) → (HasCleanDisk new → HasCleanDisk old)
 undone_back old new clean undone c o =
     let it = undone c in (clean c, it.was_open o, (it.undone o).0, (it.undone o).1)
 
-pub uncommitted_back : (now : Contents) (old new : State) (e : Error)
+pub uncommitted_back : (old new : State) (e : Error)
     → (HasCleanDisk new → HasCleanDisk old) → (HasCleanDisk new → FailsToCommit old new e)
-    → HoldsNow now old → GoesBack old new
-uncommitted_back now old new e clean fails holds c o = elim (fails c) [
+    → GoesOn old → GoesBack old new
+uncommitted_back old new e clean fails goes c o = elim (fails c) [
   | inl failed ↦ undone_back old new clean (λ _. failed.3) c o
-  | inr late ↦ absurd (let before = holds (clean c) late.2.0.was_open in let e : true ≡ false =
-      sym before.1 ∙ late.1 in cc)
+  | inr late ↦ absurd (let e : true ≡ false =
+      sym (goes (clean c) late.2.0.was_open) ∙ late.1 in cc)
 ]
 
 -- and so is what was done before, while the last commit stayed
@@ -147,24 +143,28 @@ back_first d old new rests back c o =
     let was = rests it.0 it.1 in
     (subst (FirstTables d) (sym it.2) was, subst (FirstTables d) (sym it.3) was)
 
--- the two parts of what holds in a transaction
-pub held : (now was : Contents) (s : State) → Within now was s → HoldsNow now s
-held now was s within c o = let it = within c o in (it.0, it.2)
+-- a transaction begins, whatever rows the tables have
+pub begins_on : {S : Type 0} (g : Ghosts S) (old tx : Held S)
+    → tx ≡ record old { in_transaction = true } → GoesOn (state g tx)
+begins_on g old tx is = subst (λ h. GoesOn (state g h)) (sym is) (λ c o. refl)
 
-pub rested : (now was : Contents) (s : State) → Within now was s → Rests was s
-rested now was s within c o = (within c o).1
+-- where the tables hold values in a transaction, it goes on
+pub holding_on : (c : Contents) (s : State) → HoldsNow c s → GoesOn s
+holding_on c s holds clean live = (holds clean live).1
 
-pub uncommitted_stands : (now was : Contents) (old new : State) (e : Error)
-    → (HasCleanDisk new → HasCleanDisk old) → (HasCleanDisk new → FailsToCommit old new e)
-    → Within now was old → Stand was new
-uncommitted_stands now was old new e clean fails within =
-    back_stands was old new (rested now was old within)
-    (uncommitted_back now old new e clean fails (held now was old within))
+-- from its begin on, up to an end that goes back
+pub begun_back : {S X E : Type 0} (g : Ghosts S) (old tx : Held S) (mid end : State)
+    (r : Result X E) → tx ≡ record old { in_transaction = true } → KeepsBase (state g tx) mid
+    → OnErr r (GoesBack mid end) → OnErr r (GoesBack (state g old) end)
+begun_back g old tx mid end (Ok x) is keeps back = tt
+begun_back g old tx mid end (Err e) is keeps back =
+    subst (λ h. GoesBack (state g h) end → GoesBack (state g old) end) (sym is) (λ b. b)
+    (back_on (state g tx) mid end keeps back)
 
 pub begins : {S : Type 0} (g : Ghosts S) (old tx : Held S) (d : Contents)
-    → tx ≡ record old { in_transaction = true } → Stand d (state g old) → Within d d (state g tx)
-begins g old tx d is stand = subst (λ h. Within d d (state g h)) (sym is) (λ c o. let t =
-    stand c o in (t.0, t.1, refl))
+    → tx ≡ record old { in_transaction = true } → Stand d (state g old) → HoldsNow d (state g tx)
+begins g old tx d is stand = subst (λ h. HoldsNow d (state g h)) (sym is)
+    (λ c o. ((stand c o).0, refl))
 
 fold_last : {A X : Type 0} (f : A → X → A) (a : A) (xs : List X) (x : X)
     → fold f a (xs ++ x ∷ []) ≡ f (fold f a xs) x
@@ -252,6 +252,7 @@ shown_keeps sql params old new rows plain clean has shown c o =
 -- so a query in a transaction leaves what the tables hold, and the last commit
 module _ (sql : List ℕ) (params : Row) (old new : State)
     (plain : IsPlain (understood desk_schema sql)) (clean : HasCleanDisk new → HasCleanDisk old)
+    (lasts : Lasts old new)
   where
     pub shown_looks : {X : Type 0} (x : X) (rows : List Row)
         → (HasCleanDisk new → Shown sql params old new rows)
@@ -262,7 +263,13 @@ module _ (sql : List ℕ) (params : Row) (old new : State)
           let before = holds (clean d) (shown_open sql params old new rows h) in
           same_holds c old new (shown_same sql params old new rows plain before.0.schema h) before;
       keeps = λ has. shown_keeps sql params old new rows plain clean has shown;
+      goes_on = λ has goes d o.
+          let h = shown d in
+          let was_open = shown_open sql params old new rows h in
+          (shown_same sql params old new rows plain (has (clean d) was_open) h).0.mode
+          ∙ goes (clean d) was_open;
       clean = clean;
+      lasts = lasts;
     }
 
     pub failed_looks : {X : Type 0} (e : Error)
@@ -271,15 +278,16 @@ module _ (sql : List ℕ) (params : Row) (old new : State)
     failed_looks e fails = record {
       makes = λ c holds. tt;
       keeps = λ has. failed_keeps sql params old new e plain clean has fails;
+      goes_on = λ has goes. tt;
       clean = clean;
+      lasts = lasts;
     }
 
--- a transaction that is dropped leaves what stood before it
-pub dropped_stands : (d : Contents) (a b end : State) → Within d d a → KeepsBase a b
-    → (HasCleanDisk end → HasCleanDisk b) → (HasCleanDisk end → IsRolledBack b end) → Stand d end
-dropped_stands d a b end within keeps clean undone =
-    back_stands d a end (rested d d a within) (back_on a b end keeps
-    (undone_back b end clean undone))
+-- a transaction that is dropped goes back to what was before it
+pub dropped_back : (a b end : State) → KeepsBase a b
+    → (HasCleanDisk end → HasCleanDisk b) → (HasCleanDisk end → IsRolledBack b end)
+    → GoesBack a end
+dropped_back a b end keeps clean undone = back_on a b end keeps (undone_back b end clean undone)
 
 pub desk_is_there : (c : Contents) (s : State) → HoldsNow c s → HasTables s
 desk_is_there c s holds clean live = (holds clean live).0.schema
@@ -310,10 +318,3 @@ steps sql params old new count now next ran clean makes holds c o =
     let it = ran c in
     let before = holds (clean c) it.shown.was_open in
     (makes before.0 it.runs, it.shown.mode)
-
--- while the last commit stays, it goes on beside what the tables come to hold
-pub within_next : (now next was : Contents) (old new : State) → KeepsBase old new
-    → Within now was old → HoldsNow next new → Within next was new
-within_next now next was old new keeps within holds c o =
-    let it = holds c o in
-    (it.0, kept_rests was old new keeps (rested now was old within) c o, it.1)

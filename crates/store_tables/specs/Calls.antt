@@ -1,7 +1,8 @@
 -- What calls over the tables answer, and what they leave.
-use Rattle.std.specs.Prelude.{◌≡◌, ◌≢◌, ◌⊎◌, ℕ, [], IfErr, IfOk, IsTrue, List, OnOk, Result}
+use Rattle.std.specs.Prelude.{◌≡◌, ◌≢◌, ◌≤◌, ◌⊎◌, ℕ, [], IfErr, IfOk, IsTrue, List, OnOk, Result}
 use Rattle.std.specs.List.{AllZip}
 use Rattle.sqlite.specs.Order.{Row}
+use Rattle.sqlite_disk.specs.Disk.{MoreFaults}
 use Rattle.sqlite.specs.State.{State, HasCleanDisk, Shown}
 use Rattle.sqlite.specs.Term.{Term}
 use Rattle.sqlite_rules.specs.Lists.{Has}
@@ -9,15 +10,11 @@ use Rattle.desk_model.specs.Desk.{Desk}
 use Rattle.desk_model.specs.IsDesk.{IsDesk}
 use Rattle.store_tables.specs.Contents.{Contents}
 use Rattle.store_tables.specs.Picked.{shows}
-use Rattle.store_tables.specs.Stands.{HasTables, HoldsNow, KeepsBase, Stand, StandsFor}
+use Rattle.store_tables.specs.Stands.{GoesOn, HasTables, HoldsNow, KeepsBase, Stand, StandsFor}
 use Rattle.store_tables.specs.Tables.{desk_schema}
 use Rattle.store_tables.specs.declared.fault.StoreFault.{StoreFault}
 use Rattle.store_tables.specs.declared.fault.StoreFault.TheVariants.{Mismatch, Refused}
 use Rattle.store_tables.specs.declared.fault.StoreFault.TheVariants.{WrongVersion}
-
--- what the tables hold before the call, they hold after it
-abbrev pub Leaves : State → State → Type 0
-Leaves old new = (c : Contents) → Stand c old → Stand c new
 
 -- the tables are there, in the transaction and in the last commit, whatever rows they have
 abbrev pub AreThere : State → Type 0
@@ -25,10 +22,17 @@ AreThere s =
     HasCleanDisk s → IsTrue s.is_open
     → (s.now.schema ≡ desk_schema) × (s.committed.schema ≡ desk_schema)
 
+-- The connection lasts: no fault of the disk is forgotten, and only one shuts what was open.
+pub record Lasts (old new : State) : Type 0 where
+  pub counts : old.faults ≤ new.faults
+  pub closes : HasCleanDisk new → IsTrue old.is_open
+      → IsTrue new.is_open ⊎ MoreFaults old.faults new.faults
+
 -- Whatever rows they have, the last commit stays, and the tables show what they showed or what it
--- has.
+-- has. The connection lasts.
 pub record Spares (old new : State) : Type 0 where
   pub clean : HasCleanDisk new → HasCleanDisk old
+  pub lasts : Lasts old new
   pub left : AreThere old → HasCleanDisk new → IsTrue new.is_open
       → IsTrue old.is_open × (new.committed ≡ old.committed)
       × ((new.now ≡ old.now) ⊎ (new.now ≡ old.committed))
@@ -100,19 +104,25 @@ Makes change old new result =
     (c : Contents) → HoldsNow c old → OnOk result (HoldsNow (change c) new)
 
 -- What a statement or a row of them does in a transaction: of whatever the tables hold it makes
--- `change`, the last commit stays, and a disk that is clean after it was clean before.
+-- `change`. Whatever rows they have, the last commit stays, and the transaction goes on where
+-- nothing is refused. A disk that is clean after it was clean before, and the connection lasts.
 pub record Does {X : Type 0} (change : Contents → Contents) (old new : State)
     (result : Result X StoreFault) : Type 0 where
   pub makes : Makes change old new result
   pub keeps : KeepsBase old new
+  pub goes_on : GoesOn old → OnOk result (GoesOn new)
   pub clean : WasClean old new
+  pub lasts : Lasts old new
 
--- What a query does there: the tables hold what they held, the last commit stays where the tables
--- are there, and a disk that is clean after it was clean before.
+-- What a query does there: the tables hold what they held. Where they are there, with any rows,
+-- the last commit stays, and the transaction goes on where nothing is refused. A disk that is clean
+-- after it was clean before, and the connection lasts.
 pub record Looks {X : Type 0} (old new : State) (result : Result X StoreFault) : Type 0 where
   pub makes : Makes (λ c. c) old new result
   pub keeps : HasTables old → KeepsBase old new
+  pub goes_on : HasTables old → GoesOn old → OnOk result (GoesOn new)
   pub clean : WasClean old new
+  pub lasts : Lasts old new
 
 -- what is answered there is so of whatever the tables hold
 abbrev pub Inside : {X : Type 0} → (Contents → X → Type 0) → State → State → Result X StoreFault

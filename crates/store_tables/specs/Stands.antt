@@ -41,11 +41,9 @@ abbrev pub HoldsNow : Contents → State → Type 0
 HoldsNow c s =
     HasCleanDisk s → IsTrue s.is_open → Tables c s.now × (s.in_transaction ≡ true)
 
--- in a transaction the tables hold the first, and those of the last commit the second
-abbrev pub Within : Contents → Contents → State → Type 0
-Within now was s =
-    HasCleanDisk s → IsTrue s.is_open
-    → Tables now s.now × Tables was s.committed × (s.in_transaction ≡ true)
+-- in a transaction that goes on, whatever rows the tables have
+abbrev pub GoesOn : State → Type 0
+GoesOn s = HasCleanDisk s → IsTrue s.is_open → s.in_transaction ≡ true
 
 -- the tables are there, with any rows
 abbrev pub HasTables : State → Type 0

@@ -3,10 +3,10 @@ ghost use Rattle.std.specs.Prelude.{◌≡◌, false, IfOk, IfErr, OnOk, OnErr};
 ghost use Rattle.sqlite.specs.Held.{state};
 ghost use Rattle.sqlite.specs.State.{HasCleanDisk};
 ghost use Rattle.sqlite.specs.Values.{bound};
-ghost use Rattle.store_tables.specs.Calls.{WasClean};
+ghost use Rattle.store_tables.specs.Calls.{Lasts, WasClean};
 ghost use Rattle.store_tables.specs.Contents.{Contents};
-ghost use Rattle.store_tables.specs.Stands.{GoesBack, HoldsNow, KeepsBase, Ran, RanOnAny, Stand};
-ghost use Rattle.store_tables.specs.Stands.{Within};
+ghost use Rattle.store_tables.specs.Stands.{GoesBack, GoesOn, HoldsNow, KeepsBase, Ran, RanOnAny};
+ghost use Rattle.store_tables.specs.Stands.{Stand};
 ghost use Rattle.store_tables.specs.declared.fault.StoreFault.{StoreFault};
 
 use crate::fault::StoreFault;
@@ -15,6 +15,7 @@ use sqlite::{Alter, Transaction};
 
 /// Runs one statement, and tells how many rows it changed. `Refused` where the store or memory
 /// refuses it.
+#[tactic(auto, using(crate::proofs::Lasting::by))]
 pub fn run<S: Alter>(
     tx: &mut Transaction<'_, S>,
     sql: &str,
@@ -26,6 +27,7 @@ pub fn run<S: Alter>(
         (state S.Store tx.old.conn.now) (state S.Store tx.new.conn.now) count) }
     ensures keeps { KeepsBase (state S.Store tx.old.conn.now) (state S.Store tx.new.conn.now) }
     ensures honest { WasClean (state S.Store tx.old.conn.now) (state S.Store tx.new.conn.now) }
+    ensures lasts { Lasts (state S.Store tx.old.conn.now) (state S.Store tx.new.conn.now) }
     ensures fault { IfErr result (λ e. e ≡ StoreFault.Refused) }
 {
     match tx.execute(sql, params) {
@@ -46,6 +48,7 @@ pub(crate) fn run_on_one<S: Alter>(
         (state S.Store tx.old.conn.now) (state S.Store tx.new.conn.now) 1) }
     ensures keeps { KeepsBase (state S.Store tx.old.conn.now) (state S.Store tx.new.conn.now) }
     ensures honest { WasClean (state S.Store tx.old.conn.now) (state S.Store tx.new.conn.now) }
+    ensures lasts { Lasts (state S.Store tx.old.conn.now) (state S.Store tx.new.conn.now) }
     ensures fault { IfErr result (λ e. e ≡ StoreFault.Refused) }
 {
     if run(tx, sql, params)? == 1 {
@@ -67,6 +70,7 @@ pub(crate) fn run_on_any<S: Alter>(
         (state S.Store tx.old.conn.now) (state S.Store tx.new.conn.now)) }
     ensures keeps { KeepsBase (state S.Store tx.old.conn.now) (state S.Store tx.new.conn.now) }
     ensures honest { WasClean (state S.Store tx.old.conn.now) (state S.Store tx.new.conn.now) }
+    ensures lasts { Lasts (state S.Store tx.old.conn.now) (state S.Store tx.new.conn.now) }
     ensures fault { IfErr result (λ e. e ≡ StoreFault.Refused) }
 {
     if run(tx, sql, params)? < 2 {
@@ -77,15 +81,15 @@ pub(crate) fn run_on_any<S: Alter>(
 }
 
 /// Commits. `Refused` where the store refuses it: then what was committed before stays.
+#[tactic(auto, using(crate::proofs::Lasting::by))]
 pub fn finish<S: Alter>(tx: Transaction<'_, S>) -> Result<(), StoreFault>
     ensures ended { tx.exit.0.now.in_transaction ≡ false }
     ensures done { (c : Contents) → HoldsNow c (state S.Store tx.entry.conn.now) →
         OnOk result (Stand c (state S.Store tx.exit.0.now)) }
-    ensures undone { (now was : Contents) → Within now was (state S.Store tx.entry.conn.now) →
-        OnErr result (Stand was (state S.Store tx.exit.0.now)) }
-    ensures back { (c : Contents) → HoldsNow c (state S.Store tx.entry.conn.now) →
+    ensures back { GoesOn (state S.Store tx.entry.conn.now) →
         OnErr result (GoesBack (state S.Store tx.entry.conn.now) (state S.Store tx.exit.0.now)) }
     ensures honest { WasClean (state S.Store tx.entry.conn.now) (state S.Store tx.exit.0.now) }
+    ensures lasts { Lasts (state S.Store tx.entry.conn.now) (state S.Store tx.exit.0.now) }
     ensures fault { IfErr result (λ e. e ≡ StoreFault.Refused) }
 {
     match tx.commit() {

@@ -1,7 +1,7 @@
 //! A list of messages, served one after the other.
 ghost use Rattle.std.specs.Prelude.{◌≡◌, IfOk, OnErr};
 ghost use Rattle.service_core.specs.Seen.{settings_of, tables_of};
-ghost use Rattle.store_tables.specs.Calls.{WasClean};
+ghost use Rattle.store_tables.specs.Calls.{Lasts, WasClean};
 ghost use Rattle.wire_core.specs.Runs.{RepliesOn, RunsMessagesOn, all_replied, all_sent, replied_of};
 
 use crate::fault::ServeFault;
@@ -27,6 +27,7 @@ pub fn serve_list<S: Backend>(
         (tables_of S.Store desk.old) (tables_of S.Store desk.new)) }
     ensures err { OnErr result (desk.new ≡ desk.old) }
     ensures honest { WasClean (tables_of S.Store desk.old) (tables_of S.Store desk.new) }
+    ensures lasts { Lasts (tables_of S.Store desk.old) (tables_of S.Store desk.new) }
     ensures same { settings_of S.Store desk.new ≡ settings_of S.Store desk.old }
 {
     let mut replies = Vec::with_capacity(alloc, messages.len())?;
@@ -47,6 +48,7 @@ fn serve_bytes<S: Backend>(
     ensures reply { RepliesOn (settings_of S.Store desk.old) (moment, bytes.now)
         (replied_of result) (tables_of S.Store desk.old) (tables_of S.Store desk.new) }
     ensures honest { WasClean (tables_of S.Store desk.old) (tables_of S.Store desk.new) }
+    ensures lasts { Lasts (tables_of S.Store desk.old) (tables_of S.Store desk.new) }
     ensures same { settings_of S.Store desk.new ≡ settings_of S.Store desk.old }
 {
     let mut stream = bytes;

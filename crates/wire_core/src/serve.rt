@@ -4,7 +4,7 @@ ghost use Rattle.stream_core.specs.Seen.{HaveOneReader, HaveOneWriter, has_write
 ghost use Rattle.stream_core.specs.Seen.{left_in};
 ghost use Rattle.stream_core.specs.Streams.{ConsumesAtMost};
 ghost use Rattle.service_core.specs.Seen.{settings_of, tables_of};
-ghost use Rattle.store_tables.specs.Calls.{WasClean};
+ghost use Rattle.store_tables.specs.Calls.{Lasts, WasClean};
 ghost use Rattle.wire_core.specs.Served.{IsSent, IsServed};
 ghost use Rattle.wire_core.specs.Steps.{StreamStepsOn};
 
@@ -42,6 +42,7 @@ pub fn serve_one<R: Read, W: Write, S: Backend>(
     ensures untouched { result ≡ Err ServeFault.Read → desk.new ≡ desk.old }
     ensures taken { ConsumesAtMost (R.remaining reader.old) (R.remaining reader.new) 73728 }
     ensures honest { WasClean (tables_of S.Store desk.old) (tables_of S.Store desk.new) }
+    ensures lasts { Lasts (tables_of S.Store desk.old) (tables_of S.Store desk.new) }
     ensures same { settings_of S.Store desk.new ≡ settings_of S.Store desk.old }
 {
     let mut reader = CountedReader::new(reader);
@@ -71,6 +72,7 @@ fn send<W: Write>(output: &mut CountedWriter<'_, W>, bytes: &[u8]) -> Result<(),
 /// The bytes of the reply to the message with which a reader's stream begins, after what it asks
 /// for is done. There is room for a short reply before a byte is read: `NoMemory` where there
 /// isn't, and `Read` where a read failed; nothing is done then.
+#[tactic(auto, using(store_tables::proofs::Lasting::same))]
 pub(crate) fn answer<R: Read, S: Backend>(
     alloc: Global,
     reader: &mut CountedReader<'_, R>,
@@ -86,6 +88,7 @@ pub(crate) fn answer<R: Read, S: Backend>(
     ensures taken { ConsumesAtMost (left_in R.remaining reader.old)
         (left_in R.remaining reader.new) 73728 }
     ensures honest { WasClean (tables_of S.Store desk.old) (tables_of S.Store desk.new) }
+    ensures lasts { Lasts (tables_of S.Store desk.old) (tables_of S.Store desk.new) }
     ensures same { settings_of S.Store desk.new ≡ settings_of S.Store desk.old }
 {
     let Ok(mut room) = Vec::with_capacity(alloc, SHORT_REPLY) else {

@@ -12,7 +12,7 @@ ghost use Rattle.route_core.specs.Commands as commands;
 ghost use Rattle.route_core.specs.Places as places;
 ghost use Rattle.service_core.specs.Seen.{settings_of, tables_of};
 ghost use Rattle.service_core.specs.TableSteps.{ask_by};
-ghost use Rattle.store_tables.specs.Calls.{WasClean};
+ghost use Rattle.store_tables.specs.Calls.{Lasts, WasClean};
 ghost use Rattle.wire_core.specs.Replies as replies;
 ghost use Rattle.wire_core.specs.Steps.{CommandStepsOn, IsDoneOn, MessageStepsOn, StaysOn};
 
@@ -39,6 +39,7 @@ pub(crate) fn answer_message<S: Backend>(
     ensures step { MessageStepsOn (settings_of S.Store desk.old) moment message.now room.new.items
         (tables_of S.Store desk.old) (tables_of S.Store desk.new) }
     ensures honest { WasClean (tables_of S.Store desk.old) (tables_of S.Store desk.new) }
+    ensures lasts { Lasts (tables_of S.Store desk.old) (tables_of S.Store desk.new) }
     ensures same { settings_of S.Store desk.new ≡ settings_of S.Store desk.old }
 {
     match reply_to(alloc, message, moment, desk, room) {
@@ -49,6 +50,7 @@ pub(crate) fn answer_message<S: Backend>(
 
 /// Does what a message asks for, and puts its reply into the room. Out of memory nothing is done,
 /// and nothing is put.
+#[tactic(auto, using(store_tables::proofs::Lasting::same))]
 fn reply_to<S: Backend>(
     alloc: Global,
     message: &Message,
@@ -65,6 +67,7 @@ fn reply_to<S: Backend>(
         × StaysOn (settings_of S.Store desk.old)
         (tables_of S.Store desk.old) (tables_of S.Store desk.new)) }
     ensures honest { WasClean (tables_of S.Store desk.old) (tables_of S.Store desk.new) }
+    ensures lasts { Lasts (tables_of S.Store desk.old) (tables_of S.Store desk.new) }
     ensures same { settings_of S.Store desk.new ≡ settings_of S.Store desk.old }
 {
     match place_of(alloc, message.target.as_slice()) {
@@ -75,6 +78,7 @@ fn reply_to<S: Backend>(
 }
 
 /// The same at the place to which the message's target leads.
+#[tactic(auto, using(store_tables::proofs::Lasting::same))]
 fn reply_at<S: Backend>(
     alloc: Global,
     place: Place,
@@ -93,6 +97,7 @@ fn reply_at<S: Backend>(
         × StaysOn (settings_of S.Store desk.old)
         (tables_of S.Store desk.old) (tables_of S.Store desk.new)) }
     ensures honest { WasClean (tables_of S.Store desk.old) (tables_of S.Store desk.new) }
+    ensures lasts { Lasts (tables_of S.Store desk.old) (tables_of S.Store desk.new) }
     ensures same { settings_of S.Store desk.new ≡ settings_of S.Store desk.old }
 {
     let head_only = is_head(message);
@@ -108,6 +113,7 @@ fn reply_at<S: Backend>(
 
 /// Does a command by a caller at a moment, and puts the reply with what came of it into the room.
 /// A change is made only once there is room for its text.
+#[tactic(auto, using(store_tables::proofs::Lasting::same))]
 fn do_command<S: Backend>(
     alloc: Global,
     at: u32,
@@ -126,6 +132,7 @@ fn do_command<S: Backend>(
         × StaysOn (settings_of S.Store desk.old)
         (tables_of S.Store desk.old) (tables_of S.Store desk.new)) }
     ensures honest { WasClean (tables_of S.Store desk.old) (tables_of S.Store desk.new) }
+    ensures lasts { Lasts (tables_of S.Store desk.old) (tables_of S.Store desk.new) }
     ensures same { settings_of S.Store desk.new ≡ settings_of S.Store desk.old }
 {
     match Vec::with_capacity(alloc, SHORT_TEXT) {

@@ -1,5 +1,6 @@
 -- each connection is one more
 use Rattle.std.proofs.Common.{◌∙◌, inl, inr, refl, rules}
+use Rattle.store_tables.proofs.Lasting.{on, same as lasting}
 use Rattle.service_core.specs.Seen.{settings_of, tables_of}
 use Rattle.desk_program.proofs.Connections.{none_answered, one_more}
 use Rattle.desk_program.proofs.serving.serve_on.Goals as goal
@@ -10,6 +11,7 @@ loop-connection-init g c =
       many = none_answered (settings_of g.S.Store c.args.desk.now)
           (tables_of g.S.Store c.args.desk.now);
       honest = λ clean. clean;
+      lasts = lasting (tables_of g.S.Store c.args.desk.now);
       same = refl;
     }
 
@@ -25,6 +27,7 @@ loop-connection-preserved g c =
           (tables_of g.S.Store c.serve_stream.new.desk) so_far.same so_far.many step.honest
           step.one;
       honest = λ clean. so_far.honest (step.honest clean);
+      lasts = on step.honest so_far.lasts step.lasts;
       same = step.same ∙ so_far.same;
     }
 

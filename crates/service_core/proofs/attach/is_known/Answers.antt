@@ -2,7 +2,7 @@ use Rattle.std.proofs.Common.{◌∙◌, ◌&&◌, ◌≡◌, Err, ap, ap₂, ma
 use Rattle.std.specs.Prelude.{⊤}
 use Rattle.store_tables.specs.Dated.{row_of}
 use Rattle.store_tables.proofs.RefusalLemmas.{watchers_refuse}
-use Rattle.store_tables.proofs.Spared.{stands, stands_for}
+use Rattle.store_tables.proofs.Spared.{joined, stands, stands_for}
 use Rattle.store_core.specs.Seen.{state_of}
 use Rattle.service_core.specs.Attaching.{knows_rows}
 use Rattle.service_core.proofs.attach.is_known.Goals as goal
@@ -27,3 +27,8 @@ returns-in_err-watchers-clause-fault g c d stand =
     (state_of g.S.Store c.watchers.new.self) c.watchers.ensures.kept.clean
     {X = ⊤} (Err c.in_err-watchers.field-0.0) c.in_err-watchers.ensures.mismatch d
     (stands c.knows_histories.ensures.kept d (stands c.read_links.ensures.kept d stand)))
+
+pub returns-in_err-watchers-clause-kept : goal.returns-in_err-watchers-clause-kept
+returns-in_err-watchers-clause-kept g c =
+    joined (joined c.read_links.ensures.kept c.knows_histories.ensures.kept)
+    c.watchers.ensures.kept

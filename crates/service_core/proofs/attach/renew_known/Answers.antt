@@ -5,12 +5,10 @@ use Rattle.desk_reports.specs.Rows.{QueuesRise}
 use Rattle.store_core.specs.Seen.{state_of}
 use Rattle.store_tables.specs.Contents.{contents_of}
 use Rattle.store_tables.proofs.RefusalLemmas.{dated_refuse, queues_refuse, stays_refuse}
+use Rattle.store_tables.proofs.Lasting.{on}
 use Rattle.store_tables.proofs.Spared.{joined, stands, stands_for}
 use Rattle.service_core.proofs.KnownLemmas.{known_of_dated}
 use Rattle.service_core.proofs.attach.renew_known.Goals as goal
-
-pub returns-in_err-dated-clause-left : goal.returns-in_err-dated-clause-left
-returns-in_err-dated-clause-left g c other = stands c.dated_requests.ensures.kept
 
 pub returns-in_err-dated-clause-fault : goal.returns-in_err-dated-clause-fault
 returns-in_err-dated-clause-fault g c =
@@ -18,10 +16,6 @@ returns-in_err-dated-clause-fault g c =
     rw is (dated_refuse (state_of g.S.Store c.args.store.now)
     (state_of g.S.Store c.dated_requests.new.self) c.dated_requests.ensures.kept.clean
     {X = ⊤} (Err c.in_err-dated.field-0.0) c.in_err-dated.ensures.mismatch)
-
-pub returns-in_err-queues-clause-left : goal.returns-in_err-queues-clause-left
-returns-in_err-queues-clause-left g c other =
-    stands (joined c.dated_requests.ensures.kept c.queues.ensures.kept)
 
 pub returns-in_err-queues-clause-fault : goal.returns-in_err-queues-clause-fault
 returns-in_err-queues-clause-fault g c d stand =
@@ -32,11 +26,6 @@ returns-in_err-queues-clause-fault g c d stand =
     {X = ⊤} (Err c.in_err-queues.field-0.0) c.in_err-queues.ensures.mismatch d
     (stands c.dated_requests.ensures.kept d stand))
 
-pub returns-in_err-stays-clause-left : goal.returns-in_err-stays-clause-left
-returns-in_err-stays-clause-left g c other =
-    stands (joined (joined c.dated_requests.ensures.kept c.queues.ensures.kept)
-    c.stays.ensures.kept)
-
 pub returns-in_err-stays-clause-fault : goal.returns-in_err-stays-clause-fault
 returns-in_err-stays-clause-fault g c d stand =
     let is : c.from_residual-in_err-stays.result ≡ Err c.in_err-stays.field-0.0 =
@@ -45,11 +34,6 @@ returns-in_err-stays-clause-fault g c d stand =
     (state_of g.S.Store c.stays.new.self) c.stays.ensures.kept.clean
     {X = ⊤} (Err c.in_err-stays.field-0.0) c.in_err-stays.ensures.mismatch d
     (stands (joined c.dated_requests.ensures.kept c.queues.ensures.kept) d stand))
-
-pub returns-in_err-is_known-clause-left : goal.returns-in_err-is_known-clause-left
-returns-in_err-is_known-clause-left g c other =
-    stands (joined (joined (joined c.dated_requests.ensures.kept c.queues.ensures.kept)
-    c.stays.ensures.kept) c.is_known.ensures.kept)
 
 pub returns-then-not-branch-clause-told : goal.returns-then-not-branch-clause-told
 returns-then-not-branch-clause-told g c desk is stand clean =
@@ -70,16 +54,10 @@ returns-then-not-branch-clause-told g c desk is stand clean =
     clean)
     ∙ c.if-not-branch.true
 
-pub returns-then-not-branch-clause-left : goal.returns-then-not-branch-clause-left
-returns-then-not-branch-clause-left g c other =
-    stands (joined (joined (joined c.dated_requests.ensures.kept c.queues.ensures.kept)
-    c.stays.ensures.kept) c.is_known.ensures.kept)
-
 pub returns-in_err-renew-clause-left : goal.returns-in_err-renew-clause-left
-returns-in_err-renew-clause-left g c other d stand =
-    c.in_err-renew.ensures.left d
-    (stands (joined (joined (joined c.dated_requests.ensures.kept c.queues.ensures.kept)
-    c.stays.ensures.kept) c.is_known.ensures.kept) d stand)
+returns-in_err-renew-clause-left g c other =
+    joined (joined (joined (joined c.dated_requests.ensures.kept c.queues.ensures.kept)
+    c.stays.ensures.kept) c.is_known.ensures.kept) c.in_err-renew.ensures.left
 
 pub returns-clause-told : goal.returns-clause-told
 returns-clause-told g c desk is stand clean =
@@ -119,3 +97,37 @@ returns-clause-renewed g c known desk is stand clean live =
     c.in_ok-renew.ensures.renewed desk is stand.0 these all those
     (stands (joined (joined (joined c.dated_requests.ensures.kept c.queues.ensures.kept)
     c.stays.ensures.kept) c.is_known.ensures.kept) (contents_of stand.0 desk) stand.1) clean live
+
+pub returns-in_err-renew-clause-lasts : goal.returns-in_err-renew-clause-lasts
+returns-in_err-renew-clause-lasts g c =
+    let known = joined (joined (joined c.dated_requests.ensures.kept c.queues.ensures.kept)
+    c.stays.ensures.kept) c.is_known.ensures.kept in
+    on c.renew.ensures.honest known.lasts c.renew.ensures.lasts
+
+pub returns-clause-lasts : goal.returns-clause-lasts
+returns-clause-lasts g c =
+    let known = joined (joined (joined c.dated_requests.ensures.kept c.queues.ensures.kept)
+    c.stays.ensures.kept) c.is_known.ensures.kept in
+    on c.renew.ensures.honest known.lasts c.renew.ensures.lasts
+
+pub returns-in_err-stays-clause-left : goal.returns-in_err-stays-clause-left
+returns-in_err-stays-clause-left g c other =
+    joined (joined c.dated_requests.ensures.kept c.queues.ensures.kept) c.stays.ensures.kept
+
+pub returns-in_err-is_known-clause-left : goal.returns-in_err-is_known-clause-left
+returns-in_err-is_known-clause-left g c other =
+    joined (joined (joined c.dated_requests.ensures.kept c.queues.ensures.kept)
+    c.stays.ensures.kept) c.is_known.ensures.kept
+
+pub returns-in_err-is_known-clause-fault : goal.returns-in_err-is_known-clause-fault
+returns-in_err-is_known-clause-fault g c d stand =
+    let is : c.from_residual-in_err-is_known.result ≡ Err c.in_err-is_known.field-0.0 =
+    search rules in
+    rw is (c.in_err-is_known.ensures.fault d
+    (stands (joined (joined c.dated_requests.ensures.kept c.queues.ensures.kept)
+    c.stays.ensures.kept) d stand))
+
+pub returns-then-not-branch-clause-left : goal.returns-then-not-branch-clause-left
+returns-then-not-branch-clause-left g c other =
+    joined (joined (joined c.dated_requests.ensures.kept c.queues.ensures.kept)
+    c.stays.ensures.kept) c.is_known.ensures.kept

@@ -1,6 +1,5 @@
 -- what is read, or written, of a command makes its step
 use Rattle.std.proofs.Common.{◌∙◌, sym}
-use Rattle.store_tables.proofs.Spared.{stands}
 use Rattle.service_core.specs.TableSteps.{ask_by}
 use Rattle.service_core.proofs.Stepping.{read_where, written_where}
 use Rattle.store_core.specs.Seen.{state_of}
@@ -12,7 +11,7 @@ returns-then-is_reading-clause-done g c =
     (ask_by c.args.at c.args.caller.now c.args.command.now) c.read.result
     (state_of g.S.Store c.args.store.now) (state_of g.S.Store c.read.new.store)
     (sym c.is_reading.ensures ∙ c.if-is_reading.true) c.read.ensures.told
-    c.read.ensures.fault (stands c.read.ensures.kept)
+    c.read.ensures.fault c.read.ensures.kept
 
 pub returns-else-is_reading-clause-done : goal.returns-else-is_reading-clause-done
 returns-else-is_reading-clause-done g c =

@@ -1,6 +1,6 @@
 use Rattle.std.proofs.Common.{◌∙◌, ap, filter}
 use Rattle.std.proofs.lemmas.Result.{IfOk-at_ok}
-use Rattle.store_tables.proofs.Spared.{stands_for}
+use Rattle.store_tables.proofs.Spared.{joined, stands_for}
 use Rattle.service_core.specs.Shown.{is_shown_at}
 use Rattle.service_core.specs.declared.links.End.TheVariants.{Source, Target}
 use Rattle.service_core.proofs.Linked.{links_are}
@@ -25,3 +25,18 @@ returns-clause-told g c desk is stand clean =
     c.in_ok-links.ensures
     ∙ links_are c.args.settings.now c.args.caller.now desk c.args.id _ _
     (c.as_slice-3.ensures.value ∙ targets) (c.as_slice-4.ensures.value ∙ sources)
+
+pub returns-in_err-sources-clause-kept : goal.returns-in_err-sources-clause-kept
+returns-in_err-sources-clause-kept g c =
+    joined (joined (joined c.links_from.ensures.kept c.shown_at.ensures.kept)
+    c.links_to.ensures.kept) c.shown_at-2.ensures.kept
+
+pub returns-in_err-links-clause-kept : goal.returns-in_err-links-clause-kept
+returns-in_err-links-clause-kept g c =
+    joined (joined (joined c.links_from.ensures.kept c.shown_at.ensures.kept)
+    c.links_to.ensures.kept) c.shown_at-2.ensures.kept
+
+pub returns-clause-kept : goal.returns-clause-kept
+returns-clause-kept g c =
+    joined (joined (joined c.links_from.ensures.kept c.shown_at.ensures.kept)
+    c.links_to.ensures.kept) c.shown_at-2.ensures.kept

@@ -1,5 +1,6 @@
 use Rattle.sqlite.specs.Held.{state}
 use Rattle.store_tables.specs.Contents.{first_contents_of}
+use Rattle.store_tables.proofs.Lasting.{on}
 use Rattle.store_tables.proofs.ReadingLemmas.{if_err}
 use Rattle.store_core.proofs.MakeLemmas.{blamed_before, grown_there, holds_grown, of_meta_before}
 use Rattle.store_core.proofs.making.make_all.Goals as goal
@@ -32,3 +33,7 @@ returns-clause-blames g c has clean =
       it.2,
     ))
     (c.bring_up.ensures.blames (grown_there old middle grown has) clean)
+
+pub returns-clause-lasts : goal.returns-clause-lasts
+returns-clause-lasts g c =
+    on c.bring_up.ensures.on.clean c.make_tables.ensures.lasts c.bring_up.ensures.on.lasts

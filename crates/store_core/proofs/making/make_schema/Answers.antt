@@ -1,8 +1,10 @@
-use Rattle.std.proofs.Common.{◌≡◌, Err, OnOk, rules, subst}
+use Rattle.std.proofs.Common.{◌≡◌, Err, OnOk, rules, subst, sym}
 use Rattle.sqlite.specs.Held.{state}
 use Rattle.sqlite.specs.State.{HasCleanDisk}
+use Rattle.store_tables.specs.Calls.{Lasts}
 use Rattle.store_tables.specs.Contents.{contents_of, first_contents_of}
 use Rattle.store_tables.specs.Stands.{Stand}
+use Rattle.store_tables.proofs.Lasting.{by, through}
 use Rattle.store_tables.proofs.StandLemmas.{was_clean}
 use Rattle.store_core.proofs.MakeLemmas.{begins_blamed, begins_either, begins_of_meta, begins_there}
 use Rattle.store_core.proofs.MakeLemmas.{first_either, stand_either}
@@ -52,3 +54,23 @@ returns-clause-brings g c desk is due stand =
     let same : c.finish.new.tx.0 ≡ c.conn-2-1.given.0 = search rules in
     subst (λ h. OnOk c.finish.result (Stand last (state g.S.Store h))) same
     (c.finish.ensures.done last (c.in_ok-make_all.ensures.brings desk is due holds))
+
+pub returns-in_err-make_all-clause-lasts : goal.returns-in_err-make_all-clause-lasts
+returns-in_err-make_all-clause-lasts g c =
+    let old = c.args.conn.now in
+    let same : c.conn-1.given.0 ≡ c.drop-tx.new.self.0 = search rules in
+    subst (λ h. Lasts (state g.S.Store old) (state g.S.Store h)) (sym same)
+    (through g.S.Store old c.transaction-tx.result.conn.now
+    (state g.S.Store c.make_all.new.tx.conn.now) (state g.S.Store c.drop-tx.new.self.0)
+    c.transaction-tx.ensures.begun c.make_all.ensures.honest c.make_all.ensures.lasts
+    (was_clean _ _ _ c.drop-tx.ensures.survives) (by c.drop-tx.ensures.survives))
+
+pub returns-clause-lasts : goal.returns-clause-lasts
+returns-clause-lasts g c =
+    let old = c.args.conn.now in
+    let same : c.finish.new.tx.0 ≡ c.conn-2-1.given.0 = search rules in
+    subst (λ h. Lasts (state g.S.Store old) (state g.S.Store h)) same
+    (through g.S.Store old c.transaction-tx.result.conn.now
+    (state g.S.Store c.make_all.new.tx.conn.now) (state g.S.Store c.finish.new.tx.0)
+    c.transaction-tx.ensures.begun c.make_all.ensures.honest c.make_all.ensures.lasts
+    c.finish.ensures.honest c.finish.ensures.lasts)

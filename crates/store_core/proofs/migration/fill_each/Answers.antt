@@ -1,7 +1,18 @@
-use Rattle.std.proofs.Common.{length, rules, ◌<◌, ◌≤◌}
+use Rattle.std.proofs.Common.{length, refl, rules, ◌<◌, ◌≤◌}
 use Rattle.sqlite.specs.Held.{state}
-use Rattle.store_core.proofs.RunLemmas.{fills_all, fills_more, runs_then}
+use Rattle.store_tables.proofs.Lasting.{same}
+use Rattle.store_core.proofs.RunLemmas.{fills_all, fills_more, runs_then, stays_on}
 use Rattle.store_core.proofs.migration.fill_each.Goals as goal
+
+pub loop-id-init : goal.loop-id-init
+loop-id-init g c =
+    let old = state g.S.Store c.args.tx.now.conn.now in
+    record {
+      same = refl;
+      fills = λ desk formed due d dated entries holds. holds;
+      on = stays_on tt old old (λ d holds. holds) (λ d holds clean live. (clean, live, refl))
+          (λ clean. clean) (same old);
+    }
 
 pub loop-id-preserved : goal.loop-id-preserved
 loop-id-preserved g c =

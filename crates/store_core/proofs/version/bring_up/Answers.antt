@@ -1,6 +1,7 @@
 use Rattle.std.proofs.Common.{◌≡◌, ◌∙◌, ℕ, inl, Err, None, Option, Some, rules, sym}
 use Rattle.sqlite.specs.Held.{state}
 use Rattle.store_tables.specs.Contents.{first_contents_of}
+use Rattle.store_tables.proofs.Lasting.{on}
 use Rattle.store_tables.proofs.StandLemmas.{desk_is_there}
 use Rattle.store_core.proofs.MakeLemmas.{first_blamed}
 use Rattle.store_core.proofs.RunLemmas.{always, at_each, keeps_on, runs_then, stays_on}
@@ -29,6 +30,8 @@ returns-in-None-clause-on g c =
       keeps = λ d holds. keeps_on old middle new
           (c.read_version.ensures.keeps (desk_is_there d old holds)) c.add_version.ensures.keeps;
       clean = λ clean. c.read_version.ensures.honest (c.add_version.ensures.honest clean);
+      lasts = on c.add_version.ensures.honest c.read_version.ensures.lasts
+          c.add_version.ensures.lasts;
     }
 
 pub returns-in-Some-eq1-clause-brings : goal.returns-in-Some-eq1-clause-brings
@@ -44,7 +47,7 @@ returns-in-Some-eq1-clause-on g c =
     runs_then c.in_ok-read_version.field-0 old middle new c.migrate.result
     (stays_on c.in_ok-read_version.field-0 old middle c.in_ok-read_version.ensures.there
     (λ d holds. c.read_version.ensures.keeps (desk_is_there d old holds))
-    c.read_version.ensures.honest) c.migrate.ensures.on
+    c.read_version.ensures.honest c.read_version.ensures.lasts) c.migrate.ensures.on
 
 pub returns-in-Some-eq1-clause-mismatch : goal.returns-in-Some-eq1-clause-mismatch
 returns-in-Some-eq1-clause-mismatch g c =
@@ -60,4 +63,4 @@ returns-in-Some-eq2-clause-on g c =
     stays_on tt old (state g.S.Store c.read_version.new.tx.conn.now)
     c.in_ok-read_version.ensures.there
     (λ d holds. c.read_version.ensures.keeps (desk_is_there d old holds))
-    c.read_version.ensures.honest
+    c.read_version.ensures.honest c.read_version.ensures.lasts

@@ -1,5 +1,6 @@
 -- each message goes on with the run
 use Rattle.std.proofs.Common.{◌≡◌, ◌∙◌, ◌<◌, ◌++◌, ◌∷◌, [], length, refl, rules}
+use Rattle.store_tables.proofs.Lasting.{on, same as lasting}
 use Rattle.service_core.specs.Seen.{settings_of, tables_of}
 use Rattle.wire_core.specs.Runs.{all_replied}
 use Rattle.wire_core.proofs.Serving.{all_run, run_begins, run_on}
@@ -14,6 +15,7 @@ loop-message-init g c =
           (run_begins (settings_of g.S.Store c.args.desk.now)
           (tables_of g.S.Store c.args.desk.now));
       honest = λ clean. clean;
+      lasts = lasting (tables_of g.S.Store c.args.desk.now);
       same = refl;
       room = search rules;
       count = search rules;
@@ -38,6 +40,7 @@ loop-message-preserved g c =
           low pushed so_far.same c.message-item.is c.as_slice.ensures.value so_far.run
           step.honest step.reply;
       honest = λ clean. so_far.honest (step.honest clean);
+      lasts = on step.honest so_far.lasts step.lasts;
       same = step.same ∙ so_far.same;
       room = search rules;
       count = search rules;

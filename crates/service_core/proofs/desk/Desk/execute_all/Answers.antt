@@ -1,5 +1,6 @@
 -- each step goes on with the run
 use Rattle.std.proofs.Common.{◌≡◌, ◌∙◌, ◌<◌, ◌++◌, ◌∷◌, [], length, refl, rules, subst, sym}
+use Rattle.store_tables.proofs.Lasting.{on, same as lasting}
 use Rattle.desk_texts.specs.Short.{AreNamed}
 use Rattle.service_core.specs.Seen.{settings_of, tables_of}
 use Rattle.service_core.proofs.Running.{all_asked, named_more, run_begins, run_on}
@@ -15,6 +16,7 @@ loop-ask-init g c =
           (tables_of g.S.Store c.args.self.now));
       named = rw none tt;
       honest = λ clean. clean;
+      lasts = lasting (tables_of g.S.Store c.args.self.now);
       same = refl;
       room = search rules;
       count = search rules;
@@ -42,6 +44,7 @@ loop-ask-preserved g c =
           subst AreNamed (sym pushed)
           (named_more c.loop-ask.outcomes.items c.execute-outcome.result so_far.named step.named);
       honest = λ clean. so_far.honest (step.honest clean);
+      lasts = on step.honest so_far.lasts step.lasts;
       same = step.same ∙ so_far.same;
       room = search rules;
       count = search rules;

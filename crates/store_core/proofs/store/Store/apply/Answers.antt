@@ -2,7 +2,7 @@ use Rattle.sqlite.specs.Held.{state}
 use Rattle.desk_model.specs.Change.{applied}
 use Rattle.store_tables.specs.Contents.{contents_of}
 use Rattle.store_core.specs.Written.{dues_after, written}
-use Rattle.store_core.proofs.StandsAlike.{done_alike, left_at_fault}
+use Rattle.store_core.proofs.StandsAlike.{done_alike, spared_at_fault}
 use Rattle.store_core.proofs.WrittenDesk.{written_alike}
 use Rattle.store_core.proofs.store.Store.apply.Goals as goal
 
@@ -18,4 +18,5 @@ pub returns-clause-undone : goal.returns-clause-undone
 returns-clause-undone g c =
     let old = state g.S.Store c.args.self.now.conn in
     let new = state g.S.Store c.apply_change.new.conn in
-    left_at_fault c.apply_change.result old new c.apply_change.ensures.undone
+    spared_at_fault c.apply_change.result old new c.apply_change.ensures.honest
+    c.apply_change.ensures.lasts c.apply_change.ensures.undone

@@ -3,7 +3,7 @@ use Rattle.sqlite.specs.Held.{state}
 use Rattle.store_tables.specs.Contents.{contents_of}
 use Rattle.store_tables.specs.Stands.{Stand}
 use Rattle.store_tables.proofs.DatedLemmas.{dues_on_desk}
-use Rattle.store_core.proofs.StandsAlike.{left_at_fault}
+use Rattle.store_core.proofs.StandsAlike.{spared_at_fault}
 use Rattle.store_core.proofs.store.Store.set_dues.Goals as goal
 
 pub returns-clause-done : goal.returns-clause-done
@@ -16,4 +16,5 @@ pub returns-clause-undone : goal.returns-clause-undone
 returns-clause-undone g c =
     let old = state g.S.Store c.args.self.now.conn in
     let new = state g.S.Store c.write_dues.new.conn in
-    left_at_fault c.write_dues.result old new c.write_dues.ensures.undone
+    spared_at_fault c.write_dues.result old new c.write_dues.ensures.honest
+    c.write_dues.ensures.lasts c.write_dues.ensures.undone

@@ -4,6 +4,7 @@ use Rattle.sqlite.specs.State.{HasCleanDisk}
 use Rattle.store_tables.specs.Queries.{version_shown, version_text}
 use Rattle.store_tables.proofs.BlankLemmas.{fails_blank, shows_nothing}
 use Rattle.store_tables.proofs.ReadingLemmas.{table_rows}
+use Rattle.store_tables.proofs.Lasting.{by}
 use Rattle.store_tables.proofs.StandLemmas.{shown_tables, was_clean}
 use Rattle.store_tables.proofs.Statements.{version_is}
 use Rattle.store_tables.proofs.VersionLemmas.{shows_version}
@@ -45,10 +46,12 @@ pub returns-in-Ok-clause-kept : goal.returns-in-Ok-clause-kept
 returns-in-Ok-clause-kept g c =
     shown_spares version_text [] (state g.S.Store c.args.conn.now)
     (state g.S.Store c.query_all.new.self) version_is.plain
-    (was_clean _ _ _ c.query_all.ensures.survives) c.in-Ok.rows.items c.in-Ok.ensures.ok
+    (was_clean _ _ _ c.query_all.ensures.survives) (by c.query_all.ensures.survives)
+    c.in-Ok.rows.items c.in-Ok.ensures.ok
 
 pub returns-in-Err-clause-kept : goal.returns-in-Err-clause-kept
 returns-in-Err-clause-kept g c =
     failed_spares version_text [] (state g.S.Store c.args.conn.now)
     (state g.S.Store c.query_all.new.self) version_is.plain
-    (was_clean _ _ _ c.query_all.ensures.survives) c.in-Err.field-0 c.in-Err.ensures.err
+    (was_clean _ _ _ c.query_all.ensures.survives) (by c.query_all.ensures.survives)
+    c.in-Err.field-0 c.in-Err.ensures.err

@@ -22,7 +22,8 @@ returns-clause-put g c =
       c.words-2.ensures.bound,
       c.words-3.ensures.bound,
     ) at c.run_on_one.ensures.ran)
-    c.run_on_one.ensures.honest c.run_on_one.ensures.keeps
+    c.run_on_one.ensures.honest c.run_on_one.ensures.lasts
+    c.run_on_one.ensures.keeps
     (λ now. adds_entry now row old new 1 (record {
       wide = omega arith;
       id = c.number.ensures.value;

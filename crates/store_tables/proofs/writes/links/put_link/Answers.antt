@@ -14,7 +14,8 @@ returns-clause-put g c =
     let new = state g.S.Store c.run_on_one.new.tx.conn.now in
     does_one c.run_on_one.result add_link_text (link_columns row) old new (λ now. add_link now row)
     (rw (c.number.ensures.bound, c.link_kind.ensures, c.number-2.ensures.bound) at c.run_on_one.ensures.ran)
-    c.run_on_one.ensures.honest c.run_on_one.ensures.keeps
+    c.run_on_one.ensures.honest c.run_on_one.ensures.lasts
+    c.run_on_one.ensures.keeps
     (λ now. adds_link now row old new 1 (record {
       wide = omega arith;
       source = c.number.ensures.value;

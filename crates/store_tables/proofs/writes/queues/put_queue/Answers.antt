@@ -14,7 +14,8 @@ returns-clause-put g c =
     let new = state g.S.Store c.run_on_one.new.tx.conn.now in
     does_one c.run_on_one.result add_queue_text (queue_columns row) old new (λ now. add_queue now row)
     (rw (c.words.ensures.bound, c.words-2.ensures.bound, c.nullable.ensures.bound) at c.run_on_one.ensures.ran)
-    c.run_on_one.ensures.honest c.run_on_one.ensures.keeps
+    c.run_on_one.ensures.honest c.run_on_one.ensures.lasts
+    c.run_on_one.ensures.keeps
     (λ now. adds_queue now row old new 1 (record {
       wide = omega arith;
       name = c.words.ensures.value;

@@ -14,5 +14,6 @@ returns-clause-put g c =
     let new = state g.S.Store c.run_on_one.new.tx.conn.now in
     does_one c.run_on_one.result add_request_text (dated_shown (row, due)) old new (λ now. add_request now row due)
     (rw c.shown.ensures.bound at c.run_on_one.ensures.ran)
-    c.run_on_one.ensures.honest c.run_on_one.ensures.keeps
+    c.run_on_one.ensures.honest c.run_on_one.ensures.lasts
+    c.run_on_one.ensures.keeps
     (λ now. adds_request now row due old new 1 c.shown.ensures.value)

@@ -17,5 +17,6 @@ returns-clause-set g c =
     does_any c.run_on_any.result set_due_text (count_value id ∷ or_null count_value due ∷ []) old new
     (λ now. set_due now id due)
     (rw (c.number.ensures.bound, c.nullable_minute.ensures.bound) at c.run_on_any.ensures.ran)
-    c.run_on_any.ensures.honest c.run_on_any.ensures.keeps
+    c.run_on_any.ensures.honest c.run_on_any.ensures.lasts
+    c.run_on_any.ensures.keeps
     (λ now count. sets_due_of_any now id due old new count c.nullable_minute.ensures.value)

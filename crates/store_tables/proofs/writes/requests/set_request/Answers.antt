@@ -14,5 +14,6 @@ returns-clause-set g c =
     let new = state g.S.Store c.run_on_one.new.tx.conn.now in
     does_one c.run_on_one.result set_request_text (dated_shown (row, due)) old new (λ now. set_request now row due)
     (rw c.shown.ensures.bound at c.run_on_one.ensures.ran)
-    c.run_on_one.ensures.honest c.run_on_one.ensures.keeps
+    c.run_on_one.ensures.honest c.run_on_one.ensures.lasts
+    c.run_on_one.ensures.keeps
     (λ now. sets_request now row due old new c.shown.ensures.value)

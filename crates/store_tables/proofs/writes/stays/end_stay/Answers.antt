@@ -22,5 +22,6 @@ returns-clause-ended g c =
       c.number-2.ensures.bound,
       c.minute.ensures.bound,
     ) at c.run_on_one.ensures.ran)
-    c.run_on_one.ensures.honest c.run_on_one.ensures.keeps
+    c.run_on_one.ensures.honest c.run_on_one.ensures.lasts
+    c.run_on_one.ensures.keeps
     (λ now. ends_stay now id place until old new c.minute.ensures.value)

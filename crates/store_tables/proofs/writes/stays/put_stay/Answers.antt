@@ -21,7 +21,8 @@ returns-clause-put g c =
       c.minute.ensures.bound,
       c.nullable_minute.ensures.bound,
     ) at c.run_on_one.ensures.ran)
-    c.run_on_one.ensures.honest c.run_on_one.ensures.keeps
+    c.run_on_one.ensures.honest c.run_on_one.ensures.lasts
+    c.run_on_one.ensures.keeps
     (λ now. adds_stay now row old new 1 (record {
       wide = omega arith;
       request = c.number.ensures.value;

@@ -11,5 +11,6 @@ returns-clause-set g c =
     let old = state g.S.Store c.args.tx.now.conn.now in
     let new = state g.S.Store c.run_on_one.new.tx.conn.now in
     does_one c.run_on_one.result set_version_text [] old new (λ now. set_version now 2)
-    c.run_on_one.ensures.ran c.run_on_one.ensures.honest c.run_on_one.ensures.keeps
+    c.run_on_one.ensures.ran c.run_on_one.ensures.honest c.run_on_one.ensures.lasts
+    c.run_on_one.ensures.keeps
     (λ now. sets_version now old new)

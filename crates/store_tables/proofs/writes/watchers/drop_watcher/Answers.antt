@@ -13,5 +13,6 @@ returns-clause-dropped g c =
     let new = state g.S.Store c.run_on_one.new.tx.conn.now in
     does_one c.run_on_one.result drop_watcher_text (watcher_columns row) old new (λ now. drop_watcher now row)
     (rw (c.number.ensures.bound, c.role.ensures, c.words.ensures.bound) at c.run_on_one.ensures.ran)
-    c.run_on_one.ensures.honest c.run_on_one.ensures.keeps
+    c.run_on_one.ensures.honest c.run_on_one.ensures.lasts
+    c.run_on_one.ensures.keeps
     (λ now. drops_watcher now row old new)
