@@ -1,5 +1,5 @@
 -- The replies to outcomes and faults have the form of a reply.
-use Rattle.std.proofs.Common.{◌≡◌, Bool, true, false, Option, Some, None, Ok, Err, refl, is_some}
+use Rattle.std.proofs.Common.{◌≡◌, Bool, true, Option, Ok, Err, refl, is_some}
 use Rattle.std.proofs.Common.{◌≤◌, length, arith, lit<}
 use Rattle.desk_model.specs.Step.{Outcome}
 use Rattle.desk_model.specs.declared.answer.Answer.TheVariants as answer

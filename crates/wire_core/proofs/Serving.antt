@@ -1,5 +1,5 @@
 -- What stands after a reply was written, and after a list of messages.
-use Rattle.std.proofs.Common.{◌≡◌, ◌∙◌, ◌<◌, ◌≤◌, ◌+◌, inl, inr, ℕ, Bool, true, false, List, [], ◌∷◌, ◌++◌}
+use Rattle.std.proofs.Common.{◌≡◌, ◌∙◌, ◌<◌, ◌≤◌, ◌+◌, inl, inr, ℕ, false, List, [], ◌∷◌, ◌++◌}
 use Rattle.std.proofs.Common.{Option, Result, Ok, Err, refl, ap, sym, subst, length, map, take}
 use Rattle.std.proofs.Common.{get_or}
 use Rattle.std.proofs.lemmas.List.{map-append, take_more}
@@ -15,7 +15,7 @@ use Rattle.store_tables.specs.Calls.{WasClean}
 use Rattle.wire_core.specs.Runs.{IsReplyTo, Replied, RepliesOn, RunsMessages, RunsMessagesOn, Sent}
 use Rattle.wire_core.specs.Runs.{all_replied, all_sent, replied_of, sent_of}
 use Rattle.wire_core.specs.Served.{IsSent, IsServed}
-use Rattle.wire_core.specs.Steps.{CommandSteps, LeavesOut, MessageSteps, ReadSteps, StreamSteps}
+use Rattle.wire_core.specs.Steps.{CommandSteps, ReadSteps, StreamSteps}
 use Rattle.wire_core.specs.Steps.{StaysOn, StreamStepsOn}
 use Rattle.wire_core.specs.declared.fault.ServeFault.{ServeFault}
 use Rattle.wire_core.specs.declared.fault.ServeFault.TheVariants.{NoMemory, Read, Write}

@@ -1,5 +1,5 @@
 -- Which reply each outcome and each fault has.
-use Rattle.std.specs.Prelude.{◌≡◌, ◌≢◌, ◌⊎◌, ℕ, Bool, false, List, ◌++◌, Option, Some, None, Ok, Err, codes, decimal}
+use Rattle.std.specs.Prelude.{◌≡◌, ◌≢◌, ◌⊎◌, ℕ, Bool, false, List, ◌++◌, Option, None, Ok, Err, codes, decimal}
 use Rattle.std.specs.Str.{bytes_eq}
 use Rattle.desk_model.specs.Step.{Outcome}
 use Rattle.desk_model.specs.declared.answer.Answer.{Answer}

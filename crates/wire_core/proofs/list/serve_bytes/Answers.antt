@@ -1,5 +1,5 @@
 -- the reply is that to these bytes
-use Rattle.std.proofs.Common.{◌≡◌, Option, Some, List, rules}
+use Rattle.std.proofs.Common.{rules}
 use Rattle.service_core.specs.Seen.{settings_of, tables_of}
 use Rattle.wire_core.proofs.Stepping.{replied}
 use Rattle.wire_core.proofs.list.serve_bytes.Goals as goal

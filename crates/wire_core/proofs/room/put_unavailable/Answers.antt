@@ -1,6 +1,6 @@
 -- there is room for the reply
-use Rattle.std.proofs.Common.{◌≡◌, ◌≤◌, ◌+◌, length, arith, rules}
-use Rattle.std.specs.Vec.{vec_capacity, vec_len}
+use Rattle.std.proofs.Common.{◌≡◌, ◌≤◌, length, arith, rules}
+use Rattle.std.specs.Vec.{vec_len}
 use Rattle.wire_core.proofs.Forms.{unavailable_short}
 use Rattle.wire_core.proofs.room.put_unavailable.Goals as goal
 

@@ -6,7 +6,7 @@ use Rattle.route_core.specs.Commands.{command_at}
 use Rattle.route_core.specs.declared.fault.CommandFault.{CommandFault}
 use Rattle.service_core.specs.Seen.{settings_of, tables_of}
 use Rattle.wire_core.specs.Steps.{CommandStepsOn}
-use Rattle.wire_core.proofs.Stepping.{faulty, told_without_memory}
+use Rattle.wire_core.proofs.Stepping.{told_without_memory}
 use Rattle.wire_core.proofs.step.reply_at.Goals as goal
 
 pub returns-in-Ok-clause-ok : goal.returns-in-Ok-clause-ok
