@@ -2,6 +2,9 @@
 //!
 //! The first word names the call; the words after it are read as those of a command. An empty line,
 //! or one that begins with `#`, is written as it stands.
+//!
+//! What owns much is given back by `drop`, whose proof stands once; at the end of its scope it
+//! would be taken apart for each function's own proof.
 
 mod forms;
 mod lifecycles;
@@ -18,15 +21,28 @@ use std::io;
 /// Writes each line with its answer.
 pub fn run(rt: &HostRuntime, cases: &str) -> io::Result<()> {
     let mut lifecycle = None;
+    let written = write_answers(rt, cases, &mut lifecycle);
+    drop(lifecycle);
+    written
+}
+
+fn write_answers(
+    rt: &HostRuntime,
+    cases: &str,
+    lifecycle: &mut Option<Lifecycle>,
+) -> io::Result<()> {
     for line in cases.lines() {
-        if line.is_empty() || line.starts_with('#') {
-            println!(rt; "{line}")?;
-        } else {
-            let answer = answer_to(rt.alloc(), &mut lifecycle, line)?;
-            println!(rt; "{line} => {answer}")?;
-        }
+        write_answer(rt, line, lifecycle)?;
     }
     Ok(())
+}
+
+fn write_answer(rt: &HostRuntime, line: &str, lifecycle: &mut Option<Lifecycle>) -> io::Result<()> {
+    if line.is_empty() || line.starts_with('#') {
+        return println!(rt; "{line}");
+    }
+    let answer = answer_to(rt.alloc(), lifecycle, line)?;
+    println!(rt; "{line} => {answer}")
 }
 
 /// The answer to a line. Questions about a lifecycle are about the one that was built last.

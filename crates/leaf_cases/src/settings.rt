@@ -3,6 +3,9 @@
 //!
 //! The text `built_in` alone stands for the settings without a text. A line `%COUNT LINE` of a text
 //! stands for that many lines, in which `#` is a number from 0 on, and `+` the one after it.
+//!
+//! What owns much is given back by `drop`, whose proof stands once; at the end of its scope it
+//! would be taken apart for each function's own proof.
 
 mod changed;
 mod expanded;
@@ -36,17 +39,30 @@ pub fn run(rt: &HostRuntime, cases: &str) -> io::Result<()> {
 /// Writes what a text is read as, and the answers to the questions.
 fn answer(rt: &HostRuntime, text: &str, questions: &str) -> io::Result<()> {
     let text = expanded(rt.alloc(), text)?;
-    match read(rt, text.as_str()) {
+    let written = write_answers(rt, text.as_str(), questions);
+    drop(text);
+    written
+}
+
+fn write_answers(rt: &HostRuntime, text: &str, questions: &str) -> io::Result<()> {
+    match read(rt, text) {
         Ok(settings) => {
-            println!(rt; "settings")?;
-            for question in questions.lines() {
-                questions::ask(rt, &settings, question)?;
-                changed::ask(rt, text.as_str(), question)?;
-            }
-            Ok(())
+            let asked = ask_each(rt, &settings, text, questions);
+            drop(settings);
+            asked
         }
         Err(fault) => tell(rt, fault),
     }
+}
+
+/// Asks each question of the settings that were read, and of the changed text.
+fn ask_each(rt: &HostRuntime, settings: &Settings, text: &str, questions: &str) -> io::Result<()> {
+    println!(rt; "settings")?;
+    for question in questions.lines() {
+        questions::ask(rt, settings, question)?;
+        changed::ask(rt, text, question)?;
+    }
+    Ok(())
 }
 
 fn read(rt: &HostRuntime, text: &str) -> Result<Settings, SettingsFault> {
