@@ -1,9 +1,11 @@
 //! A server over a file of tables, on the loopback.
+ghost use Rattle.std.specs.Prelude.{◌≡◌, false};
+
 use crate::files::read_settings;
 use desk_program::{Serving, open_desk, serve_on, tell_input_fault, tell_store_fault};
 use service_core::Desk;
 use sqlite::Connection;
-use std::io;
+use std::io::{self, Write};
 use std::net::TcpListener;
 use store_core::{Backend, Store, StoreFault};
 
@@ -25,14 +27,30 @@ fn serve_tables(rt: &HostRuntime, serving: &Serving<'_>, settings: &[u8]) -> u8 
     let Ok(tables) = Connection::open(rt, serving.tables) else {
         return tell_store_fault(StoreFault::Refused, &mut output);
     };
-    match open_desk(rt.alloc(), Store::adopt(tables), settings, &mut output) {
+    let (status, tables) = serve_over(rt, serving, settings, tables, &mut output);
+    if let Some(tables) = tables {
+        let _closed = tables.close();
+    }
+    status
+}
+
+/// Serves the desk over these tables, and gives them back, if there was a desk.
+fn serve_over<S: Backend + Drop, W: Write>(
+    rt: &HostRuntime,
+    serving: &Serving<'_>,
+    settings: &[u8],
+    tables: Connection<S>,
+    output: &mut W,
+) -> (u8, Option<Connection<S>>)
+    requires { tables.in_transaction ≡ false }
+{
+    match open_desk(rt.alloc(), Store::adopt(tables), settings, output) {
         Ok(mut desk) => {
             let status = listen(rt, serving, &mut desk);
             let (store, _) = desk.detach();
-            let _closed = store.release().close();
-            status
+            (status, Some(store.release()))
         }
-        Err(status) => status,
+        Err(status) => (status, None),
     }
 }
 

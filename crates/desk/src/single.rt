@@ -1,9 +1,11 @@
 //! One command on a file of tables.
+ghost use Rattle.std.specs.Prelude.{◌≡◌, false};
+
 use crate::files::read_settings;
 use desk_program::{OneCommand, OneEnded, run_one_whole, tell_input_fault, tell_store_fault};
 use sqlite::Connection;
-use std::io;
-use store_core::{Store, StoreFault};
+use std::io::{self, Write};
+use store_core::{Backend, Store, StoreFault};
 
 /// Reads the settings, opens the tables, runs the command and closes the tables.
 pub fn run_single(rt: &HostRuntime, asked: &OneCommand<'_>) -> u8 {
@@ -20,16 +22,29 @@ fn run_on_file(rt: &HostRuntime, asked: &OneCommand<'_>, settings: &[u8]) -> u8 
     let Ok(tables) = Connection::open(rt, asked.tables) else {
         return tell_store_fault(StoreFault::Refused, &mut output);
     };
-    let store = Store::adopt(tables);
+    let (status, tables) = run_over(rt, asked, settings, tables, &mut output);
+    let _closed = tables.close();
+    status
+}
+
+/// Runs the command over these tables, and gives them back.
+fn run_over<S: Backend, W: Write>(
+    rt: &HostRuntime,
+    asked: &OneCommand<'_>,
+    settings: &[u8],
+    tables: Connection<S>,
+    output: &mut W,
+) -> (u8, Connection<S>)
+    requires { tables.in_transaction ≡ false }
+{
     let OneEnded { status, store, .. } = run_one_whole(
         rt.alloc(),
         settings,
-        store,
+        Store::adopt(tables),
         asked.caller,
         asked.at,
         asked.words,
-        &mut output,
+        output,
     );
-    let _closed = store.release().close();
-    status
+    (status, store.release())
 }
