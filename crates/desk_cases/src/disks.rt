@@ -1,10 +1,10 @@
-//! Stores over files in memory that can stop. No store is let go: its files are taken back from it.
+//! Files in memory that can stop. They are taken back from each connection.
 
 use crate::failure::Failure;
 use sqlite::{Connection, FileStore, Files, Options};
 use sqlite_disk::{Crash, Disk, Fuse, Memory};
 use std::alloc::Global;
-use store_core::Store;
+use store_core::Backend;
 
 /// A database file and its log, each of which stops after a number of calls.
 pub(crate) type Disks = Files<Fuse<Memory>>;
@@ -42,70 +42,73 @@ fn kept(alloc: Global, bytes: &[u8]) -> Result<Memory, Failure> {
     Ok(memory)
 }
 
+/// What is done on a connection to files.
+///
+/// It is said for any store: a function over one kind of files alone is dear to prove.
+pub(crate) trait Visit {
+    /// Does it, and gives the connection back.
+    fn on<S: Backend>(&mut self, alloc: Global, conn: Connection<S>) -> Connection<S>;
+}
+
+/// Runs statements, as far as they go.
+#[derive(Clone, Copy)]
+pub(crate) struct Statements<'s>(pub(crate) &'s str);
+
+impl Visit for Statements<'_> {
+    fn on<S: Backend>(&mut self, _: Global, conn: Connection<S>) -> Connection<S> {
+        let mut conn = conn;
+        let _ = conn.execute_batch(self.0);
+        conn
+    }
+}
+
+/// How files are left.
+#[derive(Clone, Copy, PartialEq, Eq)]
+pub(crate) enum End {
+    /// As they are.
+    Left,
+    /// Closed: all that was committed is in the database file.
+    Closed,
+}
+
+/// Opens the files, where they can be opened, and gives them back after the visit.
+pub(crate) fn visit<D: Disk + Drop, V: Visit>(
+    alloc: Global,
+    files: Files<D>,
+    visitor: &mut V,
+    end: End,
+) -> Files<D> {
+    if !files.may_be_used() {
+        return files;
+    }
+    match Connection::open_files(alloc, files, Options::new(1)) {
+        Ok(conn) => ended(visitor.on(alloc, conn), end),
+        Err((_, left)) => left.into_files(),
+    }
+}
+
+/// The files under a connection.
+pub(crate) fn ended<D: Disk + Drop>(conn: Connection<FileStore<D>>, end: End) -> Files<D> {
+    if end == End::Left {
+        return conn.into_store().close();
+    }
+    match conn.close_files() {
+        Ok(files) => files,
+        Err((_, tables)) => tables.close(),
+    }
+}
+
 /// The bytes of the database file in which statements leave their tables; none without statements.
 pub(crate) fn tables_of(alloc: Global, statements: &str) -> Result<Vec<u8>, Failure> {
     if statements.is_empty() {
         return Ok(Vec::new(alloc));
     }
-    let files = made(alloc, statements);
+    let files = disks(alloc, u64::MAX, u64::MAX);
+    let files = visit(alloc, files, &mut Statements(statements), End::Closed);
     let bytes = files.db.inner().bytes();
     let mut copy = Vec::new(alloc);
     copy.extend_from_slice(bytes)?;
     Ok(copy)
-}
-
-/// The files that statements leave.
-fn made(alloc: Global, statements: &str) -> Disks {
-    match opened(alloc, disks(alloc, u64::MAX, u64::MAX)) {
-        Ok(store) => made_in(store, statements),
-        Err(files) => files,
-    }
-}
-
-fn made_in<D: Disk + Drop>(store: Store<FileStore<D>>, statements: &str) -> Files<D> {
-    let mut conn = store.release();
-    let _ = conn.execute_batch(statements);
-    match adopted(conn) {
-        Ok(store) => closed(store),
-        Err(files) => files,
-    }
-}
-
-/// The store over the files. They are given back where they can't be opened.
-pub(crate) fn opened<D: Disk + Drop>(
-    alloc: Global,
-    files: Files<D>,
-) -> Result<Store<FileStore<D>>, Files<D>> {
-    if !files.may_be_used() {
-        return Err(files);
-    }
-    match Connection::open_files(alloc, files, Options::new(1)) {
-        Ok(conn) => adopted(conn),
-        Err((_, left)) => Err(left.into_files()),
-    }
-}
-
-fn adopted<D: Disk + Drop>(
-    conn: Connection<FileStore<D>>,
-) -> Result<Store<FileStore<D>>, Files<D>> {
-    if conn.is_autocommit() {
-        Ok(Store::adopt(conn))
-    } else {
-        Err(conn.into_store().close())
-    }
-}
-
-/// The files under a store, as they are.
-pub(crate) fn given_back<D: Disk + Drop>(store: Store<FileStore<D>>) -> Files<D> {
-    store.release().into_store().close()
-}
-
-/// The files under a store that is closed: all that was committed is in the database file.
-pub(crate) fn closed<D: Disk + Drop>(store: Store<FileStore<D>>) -> Files<D> {
-    match store.release().close_files() {
-        Ok(files) => files,
-        Err((_, tables)) => tables.close(),
-    }
 }
 
 /// The files as the machine finds them that failed: what wasn't synced is lost.

@@ -4,12 +4,12 @@
 //! would be taken apart for each function's own proof.
 
 use crate::course::{Course, UNAVAILABLE, outcome, rows_after};
-use crate::disks::{given_back, opened, tables_of};
+use crate::disks::{End, Visit, tables_of, visit};
 use crate::failure::Failure;
 use crate::rows::rows_of;
 use service_core::Desk;
 use settings_core::Settings;
-use sqlite::{FileStore, Files};
+use sqlite::{Connection, Files};
 use sqlite_disk::Disk;
 use std::alloc::Global;
 use store_core::{Backend, Store};
@@ -59,28 +59,41 @@ pub(crate) fn way_of<'c>(alloc: Global, course: &'c Course<'c>) -> Result<Way<'c
 
 /// Opens the files, and runs the commands that didn't make what is found.
 pub(crate) fn run_on<D: Disk + Drop>(alloc: Global, way: &Way<'_>, files: Files<D>) -> Run<D> {
-    match opened(alloc, files) {
-        Ok(store) => run_in(alloc, way, store),
-        Err(files) => Run {
-            files,
-            found: Found::Refused,
-            reached: Some(0),
-        },
+    let mut running = Running {
+        way,
+        found: Found::Refused,
+        reached: Some(0),
+    };
+    let files = visit(alloc, files, &mut running, End::Left);
+    Run {
+        files,
+        found: running.found,
+        reached: running.reached,
     }
 }
 
-fn run_in<D: Disk + Drop>(alloc: Global, way: &Way<'_>, store: Store<FileStore<D>>) -> Run<D> {
-    let mut store = store;
-    let found = found_in(alloc, way, &mut store);
-    let from = match found {
-        Found::After(count) => count,
-        _ => 0,
-    };
-    let (store, reached) = follow(alloc, way.course, store, from);
-    Run {
-        files: given_back(store),
-        found,
-        reached,
+/// A run on a connection: what is found there, and how many commands are answered.
+#[derive(Drop)]
+struct Running<'w, 'c> {
+    way: &'w Way<'c>,
+    found: Found,
+    reached: Option<usize>,
+}
+
+impl Visit for Running<'_, '_> {
+    fn on<S: Backend>(&mut self, alloc: Global, conn: Connection<S>) -> Connection<S> {
+        if !conn.is_autocommit() {
+            return conn;
+        }
+        let mut store = Store::adopt(conn);
+        self.found = found_in(alloc, self.way, &mut store);
+        let from = match self.found {
+            Found::After(count) => count,
+            _ => 0,
+        };
+        let (store, reached) = follow(alloc, self.way.course, store, from);
+        self.reached = reached;
+        store.release()
     }
 }
 

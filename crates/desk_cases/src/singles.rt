@@ -5,7 +5,7 @@
 
 use crate::ASKED;
 use crate::changes::number;
-use crate::disks::closed;
+use crate::disks::{End, ended};
 use crate::expansion::{Named, expanded};
 use crate::failure::Failure;
 use crate::stores::opened;
@@ -143,7 +143,7 @@ fn run_and_close<D: Disk + Drop>(
     line: &str,
 ) -> Result<(), Failure> {
     let store = run_line(rt, settings, store, line, u32::MAX)?;
-    drop(closed(store));
+    drop(ended(store.release(), End::Closed));
     Ok(())
 }
 

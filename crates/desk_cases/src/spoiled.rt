@@ -1,12 +1,13 @@
 //! Files that no run left so.
 
 use crate::course::Course;
-use crate::disks::{Disks, closed, disks, disks_with, given_back, holding, opened};
+use crate::disks::{Disks, End, Statements, Visit, disks, disks_with, holding, visit};
 use crate::failure::Failure;
 use crate::runs::{Found, Run, Way, found_on, run_on, way_of};
-use sqlite::Files;
+use sqlite::{Connection, Files};
 use sqlite_disk::{Fuse, Memory};
 use std::alloc::Global;
+use store_core::{Backend, Store};
 
 /// Opens such files, and tells that they are refused, or what is found.
 pub(crate) fn run(rt: &HostRuntime, course: &Course<'_>, words: &str) -> Result<(), Failure> {
@@ -60,24 +61,31 @@ fn half(alloc: Global, db: &Fuse<Memory>) -> Result<Fuse<Memory>, Failure> {
     holding(alloc, first)
 }
 
-/// The log of a run that opened new files.
+/// The log of a run that made the tables in new files.
 fn log_of_none(alloc: Global) -> Fuse<Memory> {
-    let Files { log, db: _ } = match opened(alloc, disks(alloc, u64::MAX, u64::MAX)) {
-        Ok(mut store) => {
-            let _ = store.create_schema(alloc);
-            given_back(store)
-        }
-        Err(disks) => disks,
-    };
+    let files = disks(alloc, u64::MAX, u64::MAX);
+    let Files { log, db: _ } = visit(alloc, files, &mut Schema, End::Left);
     log
+}
+
+/// Makes the tables.
+#[derive(Clone, Copy)]
+struct Schema;
+
+impl Visit for Schema {
+    fn on<S: Backend>(&mut self, alloc: Global, conn: Connection<S>) -> Connection<S> {
+        if !conn.is_autocommit() {
+            return conn;
+        }
+        let mut store = Store::adopt(conn);
+        let _ = store.create_schema(alloc);
+        store.release()
+    }
 }
 
 /// The files of a run of all commands, closed.
 fn ended(alloc: Global, way: &Way<'_>) -> Result<Disks, Failure> {
     let begun = disks_with(alloc, way.begin.as_slice(), u64::MAX, u64::MAX)?;
     let Run { files, .. } = run_on(alloc, way, begun);
-    match opened(alloc, files) {
-        Ok(store) => Ok(closed(store)),
-        Err(disks) => Ok(disks),
-    }
+    Ok(visit(alloc, files, &mut Statements(""), End::Closed))
 }

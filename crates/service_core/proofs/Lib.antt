@@ -9,3 +9,4 @@ pub mod StayLemmas
 pub mod WrittenAlike
 pub mod Linked
 pub mod Told
+pub mod SightLemmas

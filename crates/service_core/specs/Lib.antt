@@ -5,5 +5,6 @@ pub mod Fault
 pub mod Renewing
 pub mod Seen
 pub mod Shown
+pub mod Sight
 pub mod Streaming
 pub mod TableSteps

@@ -9,9 +9,11 @@ mod execute;
 pub mod fault;
 mod known;
 mod links;
+mod queues;
 mod reading;
 mod renewal;
 mod run;
+mod sight;
 mod stays;
 mod stream;
 

@@ -1,7 +1,6 @@
 //! What commands that read answer, of the tables.
 ghost use Rattle.std.specs.Prelude.{◌≡◌, ℕ, IfErr, filter};
 ghost use Rattle.desk_model.specs.Commands.{IsReading};
-ghost use Rattle.desk_model.specs.Rights as rights;
 ghost use Rattle.desk_model.specs.declared.facts.Facts.{Facts};
 ghost use Rattle.store_tables.specs.Calls.{Spares, Tells};
 ghost use Rattle.store_core.specs.Seen.{state_of};
@@ -10,9 +9,8 @@ ghost use Rattle.service_core.specs.Shown as shown;
 ghost use Rattle.service_core.specs.TableSteps.{ask_by};
 
 use crate::links::links_of;
-use desk_core::{
-    Answer, Command, Entry, Facts, Links, QueueRow, Refusal, SeenRequest, Shown, due_of, sees_queue,
-};
+use crate::queues::queues;
+use desk_core::{Answer, Command, Entry, Facts, Links, Refusal, SeenRequest, Shown, due_of};
 use desk_lists::or_unavailable;
 use hours_core::Minute;
 use settings_core::Settings;
@@ -47,32 +45,6 @@ pub(crate) fn read<S: Backend>(
         Command::Workload => workload(alloc, store, settings, at, caller),
         _ => unreachable!(),
     }
-}
-
-/// The queues that the caller may see. `Unavailable` where memory or the store refused. The tables
-/// stay as they are.
-fn queues<S: Backend>(
-    alloc: Global,
-    store: &mut Store<S>,
-    settings: &Settings,
-    caller: &str,
-) -> Result<Answer, Refusal>
-    ensures told { (at : ℕ) (facts : Facts)
-        → Answers settings.now (ask_by at caller.now Command.Queues) facts
-        (state_of S.Store store.old) (state_of S.Store store.new) result }
-    ensures kept { Spares (state_of S.Store store.old) (state_of S.Store store.new) }
-    ensures fault { IfErr result (λ refusal. refusal ≡ Refusal.Unavailable) }
-{
-    let queues = or_unavailable(store.queues(alloc))?;
-    Ok(Answer::Queues(queues_seen(settings, caller, queues)))
-}
-
-/// Those of the queues that the caller may see.
-fn queues_seen(settings: &Settings, caller: &str, mut queues: Vec<QueueRow>) -> Sequence<QueueRow>
-    ensures { result ≡ filter (rights.sees_queue settings.now caller.now) queues.items }
-{
-    queues.retain(|queue| sees_queue(settings, caller, queue));
-    Sequence::from(queues)
 }
 
 /// The request that a command sees, as it is shown to the caller. `Unavailable` where memory or the

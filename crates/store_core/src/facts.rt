@@ -4,6 +4,7 @@
 //! would be taken apart for each function's own proof.
 ghost use Rattle.std.specs.Prelude.{◌≡◌, ◌≢◌, IfErr, false, length};
 ghost use Rattle.sqlite.specs.Held.{state};
+ghost use Rattle.desk_model.specs.Desk as desk_at;
 ghost use Rattle.desk_model.specs.Facts as facts;
 ghost use Rattle.desk_model.specs.Links.{has_link};
 ghost use Rattle.desk_model.specs.Plan.{Dependencies, besides_on};
@@ -41,6 +42,20 @@ impl<S: Alter> Store<S> {
         ensures fault { IfErr result (λ e. e ≢ StoreFault.WrongVersion) }
     {
         facts_in(alloc, &mut self.conn, command.scope())
+    }
+
+    /// The queue with that name, or none, by one read. `Mismatch` where the row is no queue,
+    /// `Refused` where the store or memory refuses it, or the name has two rows. The tables stay as
+    /// they are.
+    pub fn queue_named(&mut self, name: &Text) -> Result<Option<QueueRow>, StoreFault>
+        ensures told { Tells (λ desk queue. queue ≡ desk_at.queue_at desk name.now)
+            (state_of S.Store self.old) (state_of S.Store self.new) result }
+        ensures kept { Spares (state_of S.Store self.old) (state_of S.Store self.new) }
+        ensures refuses { OnlyRefuses
+            (state_of S.Store self.old) (state_of S.Store self.new) result }
+        ensures fault { IfErr result (λ e. e ≢ StoreFault.WrongVersion) }
+    {
+        queue_at(&mut self.conn, name)
     }
 }
 

@@ -11,7 +11,8 @@ pub struct Parts {
     first: i64,
     changes: Vec<(i64, i64)>,
     rule: Option<Text>,
-    week: [Intervals; 7],
+    /// The intervals of each of the seven days, from Sunday on.
+    week: Vec<Intervals>,
     holidays: Vec<u32>,
     years: (i64, i64),
     ignored: Texts,
@@ -19,16 +20,12 @@ pub struct Parts {
 }
 
 /// A week without intervals.
-fn closed(alloc: Global) -> Result<[Intervals; 7], AllocError> {
-    Ok([
-        Intervals::from(Vec::new(alloc)),
-        Intervals::from(Vec::new(alloc)),
-        Intervals::from(Vec::new(alloc)),
-        Intervals::from(Vec::new(alloc)),
-        Intervals::from(Vec::new(alloc)),
-        Intervals::from(Vec::new(alloc)),
-        Intervals::from(Vec::new(alloc)),
-    ])
+fn closed(alloc: Global) -> Result<Vec<Intervals>, AllocError> {
+    let mut week = Vec::new(alloc);
+    for _ in 0..7 {
+        week.push(Intervals::from(Vec::new(alloc)))?;
+    }
+    Ok(week)
 }
 
 impl Parts {
@@ -155,7 +152,8 @@ impl Parts {
 
     /// The calendar of the parts. Writes how many spans it has, or the fault.
     pub fn build(&self, rt: &(impl AllocGlobal + Print)) -> Result<Option<Calendar>, Failure> {
-        match self.calendar(rt.alloc()) {
+        let week = self.week.as_slice().as_array().ok_or(Failure::BadLine)?;
+        match self.calendar(rt.alloc(), week) {
             Ok(calendar) => {
                 println!(rt; "build: {} spans", calendar.spans())?;
                 Ok(Some(calendar))
@@ -167,7 +165,7 @@ impl Parts {
         }
     }
 
-    fn calendar(&self, alloc: Global) -> Result<Calendar, HoursFault> {
+    fn calendar(&self, alloc: Global, week: &[Intervals; 7]) -> Result<Calendar, HoursFault> {
         let zone = match &self.rule {
             Some(rule) => Zone::by_rule(alloc, rule.as_str(), self.years)?,
             None => Zone::build(alloc, self.first, self.changes.as_slice())?,
@@ -175,7 +173,7 @@ impl Parts {
         Calendar::build(
             alloc,
             zone,
-            &self.week,
+            week,
             self.holidays.as_slice(),
             self.years,
         )
@@ -211,7 +209,7 @@ fn range(word: &str) -> Result<(i64, i64), Failure> {
 }
 
 /// The intervals of each day from Sunday on, as `540-720,780-1080`, or `-` for none.
-fn week(alloc: Global, rest: &str) -> Result<[Intervals; 7], Failure> {
+fn week(alloc: Global, rest: &str) -> Result<Vec<Intervals>, Failure> {
     let mut week = closed(alloc)?;
     for (day, word) in week.iter_mut().zip(rest.split(' ')) {
         *day = intervals(alloc, word)?;

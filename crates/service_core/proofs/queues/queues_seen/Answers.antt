@@ -1,6 +1,6 @@
 use Rattle.std.proofs.Common.{◌∙◌, rules}
 use Rattle.std.proofs.lemmas.Fn.{filter_same}
-use Rattle.service_core.proofs.reading.queues_seen.Goals as goal
+use Rattle.service_core.proofs.queues.queues_seen.Goals as goal
 
 pub returns : goal.returns
 returns c =
