@@ -63,9 +63,23 @@ impl Change {
     ) -> Result<Change, AllocError>
         ensures { IfOk result (λ change. change ≡ dated settings.now facts.now self) }
     {
-        let stays = self.stays_put(alloc, &facts.stays)?;
-        let due = self.due_in(settings, &facts.queue, stays.as_slice());
-        Ok(Change { due, stays, ..self })
+        match self.stays_put(alloc, &facts.stays) {
+            Ok(stays) => {
+                let due = self.due_in(settings, &facts.queue, stays.as_slice());
+                Ok(self.with(due, stays))
+            }
+            Err(error) => {
+                drop(self);
+                Err(error)
+            }
+        }
+    }
+
+    /// The change with this moment and these stays.
+    fn with(self, due: Option<Minute>, stays: Sequence<Stay>) -> Change
+        ensures { result ≡ record self { due = due; stays = stays } }
+    {
+        Change { due, stays, ..self }
     }
 
     /// The stays of the request whose row the change puts, where these are those before it; none

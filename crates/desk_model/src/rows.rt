@@ -89,7 +89,7 @@ pub struct Watcher {
 }
 
 /// How a request is linked with another one.
-#[derive(Clone, Copy, Debug, PartialEq, Eq)]
+#[derive(Clone, Copy, Debug, PartialEq, Eq, PartialOrd, Ord)]
 pub enum LinkKind {
     DependsOn,
     MemberOf,
@@ -97,7 +97,7 @@ pub enum LinkKind {
 }
 
 /// A link of a request, the source, with another one.
-#[derive(Clone, Copy, Debug, PartialEq, Eq)]
+#[derive(Clone, Copy, Debug, PartialEq, Eq, PartialOrd, Ord)]
 pub struct LinkRow {
     pub source: u32,
     pub kind: LinkKind,

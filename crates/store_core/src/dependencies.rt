@@ -17,7 +17,6 @@ use store_tables::reads::requests_by_key::request_numbered;
 use text_core::Sequence;
 
 /// What a request depends on.
-#[tactic(auto, using(store_tables::proofs::Spared::joined, store_tables::proofs::Spared::stands))]
 pub(crate) fn dependencies_of<S: Alter>(
     alloc: Global,
     conn: &mut Connection<S>,
@@ -37,7 +36,6 @@ pub(crate) fn dependencies_of<S: Alter>(
 }
 
 /// What the links lead to.
-#[tactic(auto, using(store_tables::proofs::Spared::joined, store_tables::proofs::Spared::stands))]
 fn dependencies_by<S: Alter>(
     alloc: Global,
     conn: &mut Connection<S>,
@@ -92,7 +90,6 @@ fn push_dependency(all: &mut Vec<Dependency>, one: Dependency) -> Result<(), Sto
 }
 
 /// What a request is to one that depends on it, if it and its queue are there.
-#[tactic(auto, using(store_tables::proofs::Spared::joined, store_tables::proofs::Spared::stands))]
 fn dependency_at<S: Alter>(
     conn: &mut Connection<S>,
     id: u32,

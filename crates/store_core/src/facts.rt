@@ -104,7 +104,6 @@ fn facts_of_queue<S: Alter>(
 }
 
 /// Of a command that changes a queue: the queue and both counts.
-#[tactic(auto, using(store_tables::proofs::Spared::joined, store_tables::proofs::Spared::stands))]
 fn facts_on_queue<S: Alter>(
     alloc: Global,
     conn: &mut Connection<S>,
@@ -152,7 +151,6 @@ fn count_requests<S: Alter>(conn: &mut Connection<S>) -> Result<u32, StoreFault>
 }
 
 /// Of a command on a request: the request, its stays and its queue.
-#[tactic(auto, using(store_tables::proofs::Spared::joined, store_tables::proofs::Spared::stands))]
 fn facts_on<S: Alter>(alloc: Global, conn: &mut Connection<S>, id: u32) -> Result<Facts, StoreFault>
     requires { conn.old.in_transaction ≡ false }
     ensures idle { conn.new.in_transaction ≡ false }
@@ -170,7 +168,6 @@ fn facts_on<S: Alter>(alloc: Global, conn: &mut Connection<S>, id: u32) -> Resul
 }
 
 /// Of a move: what the request depends on too, which is nothing where it isn't there.
-#[tactic(auto, using(store_tables::proofs::Spared::joined, store_tables::proofs::Spared::stands))]
 fn facts_of_move<S: Alter>(
     alloc: Global,
     conn: &mut Connection<S>,
@@ -199,7 +196,6 @@ fn facts_of_move<S: Alter>(
 }
 
 /// Of a link: the request at its other end too, and whether it is there.
-#[tactic(auto, using(store_tables::proofs::Spared::joined, store_tables::proofs::Spared::stands))]
 fn facts_of_link<S: Alter>(
     alloc: Global,
     conn: &mut Connection<S>,

@@ -55,7 +55,6 @@ pub(crate) fn queue_of<S: Alter>(
 }
 
 /// The request with that number, with its people and the number of its entries, or none.
-#[tactic(auto, using(store_tables::proofs::Spared::joined, store_tables::proofs::Spared::stands))]
 pub(crate) fn seen_request_at<S: Alter>(
     alloc: Global,
     conn: &mut Connection<S>,

@@ -38,7 +38,6 @@ impl<S: Alter> Store<S> {
     }
 }
 
-#[tactic(auto, using(store_tables::proofs::Spared::joined, store_tables::proofs::Spared::stands))]
 fn is_shown_to<S: Alter>(
     alloc: Global,
     conn: &mut Connection<S>,

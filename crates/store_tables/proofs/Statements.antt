@@ -74,7 +74,7 @@ pub all_from_is : Selects all_from_text (reads 6 source_test three_shown three_o
 unfolding understood everything
 all_from_is = record { is = refl; plain = (refl, refl); unlisted = refl }
 
-pub all_to_is : Selects all_to_text (reads 6 target_test three_shown three_order)
+pub all_to_is : Selects all_to_text (reads 6 target_test three_shown id_order)
     (codes "source" ∷ codes "kind" ∷ codes "target" ∷ [])
 unfolding understood everything
 all_to_is = record { is = refl; plain = (refl, refl); unlisted = refl }

@@ -223,8 +223,7 @@ abbrev pub source_test : List Term
 source_test = eq (col 1 1) (col 0 0) ∷ []
 
 abbrev pub all_to_text : List ℕ
-all_to_text =
-    codes "SELECT source, kind, target FROM link WHERE target = ?1 ORDER BY source, kind, target"
+all_to_text = codes "SELECT source, kind, target FROM link WHERE target = ?1 ORDER BY rowid"
 
 abbrev pub target_test : List Term
 target_test = eq (col 1 3) (col 0 0) ∷ []

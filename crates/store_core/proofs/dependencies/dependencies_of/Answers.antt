@@ -1,6 +1,6 @@
 use Rattle.store_tables.specs.Contents.{contents_of}
 use Rattle.store_tables.proofs.ReadingLemmas.{if_ok}
-use Rattle.store_tables.proofs.Spared.{stands_for}
+use Rattle.store_tables.proofs.Spared.{joined, stands, stands_for}
 use Rattle.store_core.proofs.FactsLemmasOfDesk.{dependencies_are}
 use Rattle.store_core.proofs.dependencies.dependencies_of.Goals as goal
 
@@ -12,3 +12,11 @@ returns-clause-told g c desk is stand clean =
     (c.dependencies_by.ensures.kept.clean clean)))
     (rw c.as_slice.ensures.value at
     (c.dependencies_by.ensures.told desk is (stands_for c.links_of_kind.ensures.kept desk stand) clean))
+
+pub returns-clause-kept : goal.returns-clause-kept
+returns-clause-kept g c =
+    joined c.links_of_kind.ensures.kept c.dependencies_by.ensures.kept
+
+pub returns-clause-refuses : goal.returns-clause-refuses
+returns-clause-refuses g c d stand =
+    c.dependencies_by.ensures.refuses d (stands c.links_of_kind.ensures.kept d stand)

@@ -1,7 +1,7 @@
-use Rattle.std.proofs.Common.{◌∙◌}
+use Rattle.std.proofs.Common.{◌≡◌, ◌∙◌, Err, rules}
 use Rattle.store_tables.specs.Contents.{contents_of}
 use Rattle.store_tables.proofs.DatedLemmas.{rows_dated}
-use Rattle.store_tables.proofs.Spared.{stands_for}
+use Rattle.store_tables.proofs.Spared.{joined, stands, stands_for}
 use Rattle.store_core.proofs.FactsLemmasOfDesk.{no_dependency, some_dependency}
 use Rattle.store_core.proofs.dependencies.dependency_at.Goals as goal
 
@@ -19,3 +19,18 @@ returns-in_ok-queue-in-Some-clause-told g c desk is stand clean =
     (rw (c.in-Some.is, rows_dated stand.0 desk) at (c.in_ok-request_numbered.ensures.found (contents_of stand.0 desk) stand.1
     (c.queue_at.ensures.kept.clean clean)))
     (c.in_ok-queue-in-Some.ensures.told desk is first clean)
+
+pub returns-in_err-queue-in-Some-clause-kept : goal.returns-in_err-queue-in-Some-clause-kept
+returns-in_err-queue-in-Some-clause-kept g c =
+    joined c.request_numbered.ensures.kept c.queue_at.ensures.kept
+
+pub returns-in_err-queue-in-Some-clause-refuses : goal.returns-in_err-queue-in-Some-clause-refuses
+returns-in_err-queue-in-Some-clause-refuses g c d stand =
+    let is : (c.from_residual-in_err-queue-in-Some.result
+    ≡ Err c.in_err-queue-in-Some.field-0.0) = search rules in
+    rw is (c.in_err-queue-in-Some.ensures.refuses d
+    (stands c.request_numbered.ensures.kept d stand))
+
+pub returns-in_ok-queue-in-Some-clause-kept : goal.returns-in_ok-queue-in-Some-clause-kept
+returns-in_ok-queue-in-Some-clause-kept g c =
+    joined c.request_numbered.ensures.kept c.queue_at.ensures.kept

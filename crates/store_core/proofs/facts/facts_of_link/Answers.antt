@@ -23,3 +23,16 @@ returns-in_err-facts-clause-refuses g c d stand =
     let is : c.from_residual-in_err-facts.result ≡ Err c.in_err-facts.field-0.0 = search rules in
     rw is (c.in_err-facts.ensures.refuses d
     (stands c.seen_request_at.ensures.kept d (stands c.is_there.ensures.kept d stand)))
+
+pub returns-in_err-other-clause-kept : goal.returns-in_err-other-clause-kept
+returns-in_err-other-clause-kept g c =
+    joined c.is_there.ensures.kept c.seen_request_at.ensures.kept
+
+pub returns-in_err-other-clause-refuses : goal.returns-in_err-other-clause-refuses
+returns-in_err-other-clause-refuses g c d stand =
+    let is : c.from_residual-in_err-other.result ≡ Err c.in_err-other.field-0.0 = search rules in
+    rw is (c.in_err-other.ensures.refuses d (stands c.is_there.ensures.kept d stand))
+
+pub returns-clause-kept : goal.returns-clause-kept
+returns-clause-kept g c =
+    joined (joined c.is_there.ensures.kept c.seen_request_at.ensures.kept) c.facts_on.ensures.kept

@@ -1,5 +1,5 @@
 use Rattle.std.proofs.Common.{◌∙◌, rules}
-use Rattle.store_tables.proofs.Spared.{stands_for}
+use Rattle.store_tables.proofs.Spared.{joined, stands, stands_for}
 use Rattle.store_core.proofs.FactsLemmasOfDesk.{absent_facts, move_facts}
 use Rattle.store_core.proofs.facts.facts_of_move.Goals as goal
 
@@ -15,3 +15,15 @@ returns-in-Ok-clause-told g c desk is stand clean =
     ∙ move_facts desk c.args.id _ _
     (c.in_ok-facts.ensures.told desk is stand (c.dependencies_of.ensures.kept.clean clean))
     (c.in-Ok.ensures.told desk is first clean)
+
+pub returns-in-Ok-clause-kept : goal.returns-in-Ok-clause-kept
+returns-in-Ok-clause-kept g c =
+    joined c.facts_on.ensures.kept c.dependencies_of.ensures.kept
+
+pub returns-in-Err-clause-kept : goal.returns-in-Err-clause-kept
+returns-in-Err-clause-kept g c =
+    joined c.facts_on.ensures.kept c.dependencies_of.ensures.kept
+
+pub returns-in-Err-clause-refuses : goal.returns-in-Err-clause-refuses
+returns-in-Err-clause-refuses g c d stand =
+    c.in-Err.ensures.refuses d (stands c.facts_on.ensures.kept d stand)

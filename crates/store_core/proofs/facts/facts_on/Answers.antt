@@ -24,3 +24,16 @@ returns-in_err-queue-clause-refuses g c d stand =
     let is : c.from_residual-in_err-queue.result ≡ Err c.in_err-queue.field-0.0 = search rules in
     rw is (c.in_err-queue.ensures.refuses d
     (stands c.stays_if.ensures.kept d (stands c.seen_request_at.ensures.kept d stand)))
+
+pub returns-in_err-stays-clause-kept : goal.returns-in_err-stays-clause-kept
+returns-in_err-stays-clause-kept g c =
+    joined c.seen_request_at.ensures.kept c.stays_if.ensures.kept
+
+pub returns-in_err-stays-clause-refuses : goal.returns-in_err-stays-clause-refuses
+returns-in_err-stays-clause-refuses g c d stand =
+    let is : c.from_residual-in_err-stays.result ≡ Err c.in_err-stays.field-0.0 = search rules in
+    rw is (c.in_err-stays.ensures.refuses d (stands c.seen_request_at.ensures.kept d stand))
+
+pub returns-clause-kept : goal.returns-clause-kept
+returns-clause-kept g c =
+    joined (joined c.seen_request_at.ensures.kept c.stays_if.ensures.kept) c.queue_of.ensures.kept

@@ -44,3 +44,22 @@ pub returns-in_ok-seen_request-in-Some-clause-kept :
 returns-in_ok-seen_request-in-Some-clause-kept g c =
     joined (joined c.request_numbered.ensures.kept c.last_number.ensures.kept)
     c.watchers_of.ensures.kept
+
+pub returns-in_err-entry_count-in-Some-clause-kept :
+    goal.returns-in_err-entry_count-in-Some-clause-kept
+returns-in_err-entry_count-in-Some-clause-kept g c =
+    joined c.request_numbered.ensures.kept c.last_number.ensures.kept
+
+pub returns-in_err-entry_count-in-Some-clause-refuses :
+    goal.returns-in_err-entry_count-in-Some-clause-refuses
+returns-in_err-entry_count-in-Some-clause-refuses g c d stand =
+    let is : (c.from_residual-in_err-entry_count-in-Some.result
+    ≡ Err c.in_err-entry_count-in-Some.field-0.0) = search rules in
+    rw is (c.in_err-entry_count-in-Some.ensures.refuses d
+    (stands c.request_numbered.ensures.kept d stand))
+
+pub returns-in_err-watchers-in-Some-clause-kept :
+    goal.returns-in_err-watchers-in-Some-clause-kept
+returns-in_err-watchers-in-Some-clause-kept g c =
+    joined (joined c.request_numbered.ensures.kept c.last_number.ensures.kept)
+    c.watchers_of.ensures.kept

@@ -1,28 +1,41 @@
-use Rattle.std.proofs.Common.{[], ◌∷◌}
-use Rattle.sqlite.specs.Held.{state}
+use Rattle.std.proofs.Common.{◌≡◌, ◌∙◌, ◌+◌, IsSorted, List, ap, refl, slice_index_or}
+use Rattle.std.proofs.lemmas.List.Sorted.{IsPermutation-trans}
+use Rattle.std.specs.Ordering.{is_lt, nat_cmp, ordering_then}
+use Rattle.desk_model.specs.Links.{kind_number}
+use Rattle.desk_model.specs.contracts.rows.LinkKindOrd.TheImpl.{ghosts as kinds}
+use Rattle.desk_model.specs.contracts.rows.LinkRowOrd.TheImpl.{ghosts as links}
+use Rattle.desk_model.specs.declared.rows.LinkKind.{LinkKind}
+use Rattle.desk_model.specs.declared.rows.LinkKind.TheVariants.{DependsOn, MemberOf, RefersTo}
+use Rattle.desk_model.specs.declared.rows.LinkRow.{LinkRow}
 use Rattle.store_tables.specs.Orders.{by_link}
-use Rattle.store_tables.specs.Queries.{target_test}
-use Rattle.store_tables.specs.Spelling.{count_value}
-use Rattle.store_tables.proofs.EachQuery.{links_in}
-use Rattle.store_tables.proofs.EachTable.{link_table}
-use Rattle.store_tables.proofs.RowLemmas.{fails, reads_in_order}
-use Rattle.store_tables.proofs.TestLemmas.{link_order_is}
 use Rattle.store_tables.proofs.reads.lists_links.links_to.Goals as goal
 
-pub select_all-requires-clause-plain : goal.select_all-requires-clause-plain
-select_all-requires-clause-plain g c = (links_in c.args.target).means.plain
+-- the order of the type's values is that of their numbers
+kinds_alike : (a b : LinkKind) → nat_cmp (kind_number a) (kind_number b) ≡ kinds.cmp a b
+kinds_alike DependsOn DependsOn = refl
+kinds_alike DependsOn MemberOf = refl
+kinds_alike DependsOn RefersTo = refl
+kinds_alike MemberOf DependsOn = refl
+kinds_alike MemberOf MemberOf = refl
+kinds_alike MemberOf RefersTo = refl
+kinds_alike RefersTo DependsOn = refl
+kinds_alike RefersTo MemberOf = refl
+kinds_alike RefersTo RefersTo = refl
+
+links_alike : (a b : LinkRow) → by_link a b ≡ links.cmp a b
+links_alike a b =
+    ap (λ kind. ordering_then (nat_cmp a.source b.source)
+    (ordering_then kind (nat_cmp a.target b.target))) (kinds_alike a.kind b.kind)
+
+sorted_alike : (xs : List LinkRow) → IsSorted links.cmp xs → IsSorted by_link xs
+sorted_alike xs sorted k x low high =
+    ap is_lt (links_alike (slice_index_or xs (k + 1) x) (slice_index_or xs k x))
+    ∙ sorted k x low high
 
 pub returns-clause-listed : goal.returns-clause-listed
-returns-clause-listed g c d stand clean =
-    reads_in_order link_table (links_in c.args.target) (λ xs. xs.items) (state g.S.Store
-    c.args.conn.now) (state g.S.Store c.select_all.new.conn)
-    c.select_all.ensures.kept.clean c.select_all.result (rw c.number.ensures.bound at
-    c.select_all.ensures.read) d stand clean
-    by_link (link_order_is target_test (count_value c.args.target ∷ []))
-
-pub returns-clause-mismatch : goal.returns-clause-mismatch
-returns-clause-mismatch g c =
-    fails link_table (links_in c.args.target) (λ xs. xs.items) (state g.S.Store c.args.conn.now)
-    (state g.S.Store c.select_all.new.conn)
-    c.select_all.ensures.kept.clean c.select_all.result (rw c.number.ensures.bound at
-    c.select_all.ensures.read)
+returns-clause-listed g c d stand clean = record {
+  same =
+      IsPermutation-trans _ _ _ (c.in_ok-links.ensures.listed d stand clean)
+      c.sort_unstable.ensures.permutation;
+  sorted = sorted_alike _ c.sort_unstable.ensures.sorted;
+}
