@@ -5,12 +5,12 @@
 mod files;
 mod server;
 mod single;
+mod tables;
 
 use desk_program::{one_command_of, run_script_counted, serving_of};
-use server::serve;
-use single::run_single;
 use std::process::ExitCode;
 use std::{env, io};
+use tables::Job;
 
 /// The exit status of words that the program doesn't know.
 const BAD_WORDS: u8 = 2;
@@ -49,10 +49,10 @@ fn run(rt: &HostRuntime, words: &[String]) -> u8 {
 /// Runs what has a file of tables: a server or one command. No words are both.
 fn run_on_tables(rt: &HostRuntime, words: &[String]) -> u8 {
     if let Some(serving) = serving_of(words) {
-        return serve(rt, &serving);
+        return tables::run(rt, Job::Serve(&serving));
     }
     match one_command_of(words) {
-        Some(asked) => run_single(rt, &asked),
+        Some(asked) => tables::run(rt, Job::Run(&asked)),
         None => refuse(rt),
     }
 }

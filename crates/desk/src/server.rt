@@ -1,41 +1,18 @@
-//! A server over a file of tables, on the loopback.
+//! A server over tables, on the loopback.
 ghost use Rattle.std.specs.Prelude.{◌≡◌, false};
 
-use crate::files::read_settings;
-use desk_program::{Serving, open_desk, serve_on, tell_input_fault, tell_store_fault};
+use desk_program::{Serving, open_desk, serve_on};
 use service_core::Desk;
 use sqlite::Connection;
-use std::io::{self, Write};
+use std::io::Write;
 use std::net::TcpListener;
-use store_core::{Backend, Store, StoreFault};
+use store_core::{Backend, Store};
 
 /// The exit status where the port can't be listened on, or a write failed.
 const NO_NETWORK: u8 = 4;
 
-/// Reads the settings, opens the tables and answers the connections.
-pub fn serve(rt: &HostRuntime, serving: &Serving<'_>) -> u8 {
-    match read_settings(rt, serving.settings) {
-        Ok(settings) => serve_tables(rt, serving, settings.as_slice()),
-        Err(fault) => tell_input_fault(fault, &mut io::writer(rt)),
-    }
-}
-
-/// Opens the tables, serves the desk on them, and closes them. Each change is committed by then:
-/// closing only copies it from the log into the file, so its fault is passed over.
-fn serve_tables(rt: &HostRuntime, serving: &Serving<'_>, settings: &[u8]) -> u8 {
-    let mut output = io::writer(rt);
-    let Ok(tables) = Connection::open(rt, serving.tables) else {
-        return tell_store_fault(StoreFault::Refused, &mut output);
-    };
-    let (status, tables) = serve_over(rt, serving, settings, tables, &mut output);
-    if let Some(tables) = tables {
-        let _closed = tables.close();
-    }
-    status
-}
-
 /// Serves the desk over these tables, and gives them back, if there was a desk.
-fn serve_over<S: Backend + Drop, W: Write>(
+pub fn serve_over<S: Backend + Drop, W: Write>(
     rt: &HostRuntime,
     serving: &Serving<'_>,
     settings: &[u8],

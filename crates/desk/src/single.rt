@@ -1,34 +1,13 @@
-//! One command on a file of tables.
+//! One command on tables.
 ghost use Rattle.std.specs.Prelude.{◌≡◌, false};
 
-use crate::files::read_settings;
-use desk_program::{OneCommand, OneEnded, run_one_whole, tell_input_fault, tell_store_fault};
+use desk_program::{OneCommand, OneEnded, run_one_whole};
 use sqlite::Connection;
-use std::io::{self, Write};
-use store_core::{Backend, Store, StoreFault};
-
-/// Reads the settings, opens the tables, runs the command and closes the tables.
-pub fn run_single(rt: &HostRuntime, asked: &OneCommand<'_>) -> u8 {
-    match read_settings(rt, asked.settings) {
-        Ok(settings) => run_on_file(rt, asked, settings.as_slice()),
-        Err(fault) => tell_input_fault(fault, &mut io::writer(rt)),
-    }
-}
-
-/// Runs the command on the file of tables. What it changed is committed before its answer is
-/// written; closing only copies it from the log into the file, so its fault is passed over.
-fn run_on_file(rt: &HostRuntime, asked: &OneCommand<'_>, settings: &[u8]) -> u8 {
-    let mut output = io::writer(rt);
-    let Ok(tables) = Connection::open(rt, asked.tables) else {
-        return tell_store_fault(StoreFault::Refused, &mut output);
-    };
-    let (status, tables) = run_over(rt, asked, settings, tables, &mut output);
-    let _closed = tables.close();
-    status
-}
+use std::io::Write;
+use store_core::{Backend, Store};
 
 /// Runs the command over these tables, and gives them back.
-fn run_over<S: Backend, W: Write>(
+pub fn run_over<S: Backend, W: Write>(
     rt: &HostRuntime,
     asked: &OneCommand<'_>,
     settings: &[u8],

@@ -3,6 +3,7 @@
 //! What owns much is given back by `drop`, whose proof stands once; at the end of its scope it
 //! would be taken apart for each function's own proof.
 
+use crate::calls::execute;
 use crate::failure::Failure;
 use crate::served::Sent;
 use crate::telling::text_of;
@@ -79,7 +80,7 @@ fn put_outcome<S: Backend>(
 ) -> Result<(), Failure> {
     let line = format!(in alloc; "{caller}: ")?;
     text.extend_from_slice(line.as_bytes())?;
-    let outcome = desk.execute(alloc, at, caller, command);
+    let outcome = execute(alloc, desk, at, caller, command);
     let told = text_of(alloc, &outcome);
     drop(outcome);
     let told = told?;

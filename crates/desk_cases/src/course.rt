@@ -4,6 +4,7 @@
 //! would be taken apart for each function's own proof.
 
 use crate::asks::{Ask, asks_of};
+use crate::calls::execute;
 use crate::desks::attached;
 use crate::failure::Failure;
 use crate::rows::rows_of;
@@ -95,7 +96,7 @@ pub(crate) fn outcome<S: Backend>(
     desk: &mut Desk<S>,
     ask: &Ask,
 ) -> Result<String, Failure> {
-    let outcome = desk.execute(alloc, ask.0, ask.1.as_str(), &ask.2);
+    let outcome = execute(alloc, desk, ask.0, ask.1.as_str(), &ask.2);
     let text = outcome_text(alloc, &outcome);
     drop(outcome);
     Ok(text?)

@@ -1,10 +1,14 @@
 //! Cases of a desk over tables.
+//!
+//! What owns much is given back by `drop`, whose proof stands once; at the end of its scope it
+//! would be taken apart for each function's own proof.
 
 use crate::asks::asks_of;
+use crate::calls;
 use crate::failure::Failure;
 use crate::stores::adopted;
 use crate::telling::{tell_given_back, tell_run};
-use service_core::Desk;
+use service_core::{AttachFault, Desk};
 use settings_core::Settings;
 use sqlite::MemStore;
 use std::alloc::Global;
@@ -17,11 +21,19 @@ pub(crate) fn run_case(
     settings: &str,
     commands: &str,
 ) -> Result<(), Failure> {
-    let settings = Settings::read(rt.alloc(), settings.as_bytes())?;
-    let store = opened(rt.alloc(), statements)?;
-    match Desk::attach(rt.alloc(), store, settings) {
-        Ok(mut desk) => ask_all(rt, &mut desk, commands),
-        Err((fault, mut store)) => tell_given_back(rt, fault, &mut store),
+    match attach(rt.alloc(), statements, settings)? {
+        Ok(desk) => {
+            let mut desk = desk;
+            let told = ask_all(rt, &mut desk, commands);
+            drop(desk);
+            told
+        }
+        Err((fault, store)) => {
+            let mut store = store;
+            let told = tell_given_back(rt, fault, &mut store);
+            drop(store);
+            told
+        }
     }
 }
 
@@ -31,11 +43,28 @@ pub(crate) fn attached(
     statements: &str,
     settings: &str,
 ) -> Result<Desk<MemStore>, Failure> {
-    let settings = Settings::read(alloc, settings.as_bytes())?;
-    let store = opened(alloc, statements)?;
-    match Desk::attach(alloc, store, settings) {
+    match attach(alloc, statements, settings)? {
         Ok(desk) => Ok(desk),
-        Err(_) => Err(Failure::Settings),
+        Err((_, store)) => {
+            drop(store);
+            Err(Failure::Settings)
+        }
+    }
+}
+
+/// What comes of attaching the settings to the tables that the statements make.
+fn attach(
+    alloc: Global,
+    statements: &str,
+    settings: &str,
+) -> Result<Result<Desk<MemStore>, (AttachFault, Store<MemStore>)>, Failure> {
+    let settings = Settings::read(alloc, settings.as_bytes())?;
+    match opened(alloc, statements) {
+        Ok(store) => Ok(calls::attach(alloc, store, settings)),
+        Err(failure) => {
+            drop(settings);
+            Err(failure)
+        }
     }
 }
 

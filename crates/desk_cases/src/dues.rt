@@ -3,6 +3,8 @@
 //! What owns much is given back by `drop`, whose proof stands once; at the end of its scope it
 //! would be taken apart for each function's own proof.
 
+use crate::asks::Ask;
+use crate::calls::{attach, execute};
 use crate::changes::number;
 use crate::course::{Course, outcome};
 use crate::desks::attached;
@@ -11,7 +13,6 @@ use crate::stores::tell;
 use desk_core::{Command, RequestRow};
 use hours_core::{Minute, minute_text};
 use service_core::{Desk, outcome_text};
-use sqlite::MemStore;
 use std::alloc::Global;
 use store_core::{Backend, Store, StoreFault};
 
@@ -26,28 +27,61 @@ type Dated = (RequestRow, Option<Minute>);
 pub(crate) fn run(rt: &HostRuntime, course: &Course<'_>, caller: &str) -> Result<(), Failure> {
     let mut desk = attached(rt.alloc(), course.statements, course.settings)?;
     for ask in course.asks.iter() {
-        let _ = outcome(rt.alloc(), &mut desk, ask)?;
-        desk = told(rt, desk, ask.0, caller)?;
+        desk = told_after(rt, desk, ask, caller)?;
     }
+    drop(desk);
     Ok(())
 }
 
-/// Writes both due moments of each request, and gives a desk over the tables back.
-fn told(
+/// Asks a command, writes both due moments of each request, and gives a desk over the tables back.
+fn told_after<S: Backend + Drop>(
     rt: &HostRuntime,
-    desk: Desk<MemStore>,
+    desk: Desk<S>,
+    ask: &Ask,
+    caller: &str,
+) -> Result<Desk<S>, Failure> {
+    let (mut desk, dated) = asked_and_read(rt.alloc(), desk, ask)?;
+    match tell_read(rt, &mut desk, ask.0, caller, dated) {
+        Ok(()) => Ok(desk),
+        Err(failure) => {
+            drop(desk);
+            Err(failure)
+        }
+    }
+}
+
+/// Asks a command, and reads the requests from the tables under the desk.
+fn asked_and_read<S: Backend + Drop>(
+    alloc: Global,
+    desk: Desk<S>,
+    ask: &Ask,
+) -> Result<(Desk<S>, Result<Vec<Dated>, StoreFault>), Failure> {
+    let mut desk = desk;
+    if let Err(failure) = outcome(alloc, &mut desk, ask) {
+        drop(desk);
+        return Err(failure);
+    }
+    let (mut store, settings) = desk.detach();
+    let dated = store.dated_requests(alloc);
+    match attach(alloc, store, settings) {
+        Ok(desk) => Ok((desk, dated)),
+        Err((_, store)) => {
+            drop(store);
+            drop(dated);
+            Err(Failure::Settings)
+        }
+    }
+}
+
+fn tell_read<S: Backend>(
+    rt: &HostRuntime,
+    desk: &mut Desk<S>,
     at: u32,
     caller: &str,
-) -> Result<Desk<MemStore>, Failure> {
-    let (mut store, settings) = desk.detach();
-    let dated = store.dated_requests(rt.alloc());
-    match Desk::attach(rt.alloc(), store, settings) {
-        Ok(mut desk) => {
-            tell_each(rt, &mut desk, at, caller, dated?.as_slice())?;
-            Ok(desk)
-        }
-        Err(_) => Err(Failure::Settings),
-    }
+    dated: Result<Vec<Dated>, StoreFault>,
+) -> Result<(), Failure> {
+    let dated = dated?;
+    tell_each(rt, desk, at, caller, dated.as_slice())
 }
 
 fn tell_each<S: Backend>(
@@ -73,7 +107,7 @@ fn shown<S: Backend>(
     id: u32,
 ) -> Result<String, Failure> {
     let show = Command::Show { id };
-    let outcome = desk.execute(alloc, at, caller, &show);
+    let outcome = execute(alloc, desk, at, caller, &show);
     drop(show);
     let text = outcome_text(alloc, &outcome);
     drop(outcome);

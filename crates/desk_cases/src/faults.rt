@@ -1,9 +1,10 @@
 //! Cases of a script over readers and writers that do less than they could, or fail.
 
+use crate::calls::run_counted;
 use crate::changes::number;
 use crate::failure::Failure;
 use crate::streams::{Endless, Faltering, Slow};
-use desk_program::{Ended, run_script_counted};
+use desk_program::Ended;
 
 /// Runs the script once for each line, which says over what:
 ///
@@ -40,7 +41,7 @@ fn slow(rt: &HostRuntime, line: &str, script: &[u8], fails_at: Option<u32>) -> R
         fails_at,
     };
     let mut written = Vec::new(rt.alloc());
-    let ended = run_script_counted(rt.alloc(), &mut reader, &mut written);
+    let ended = run_counted(rt.alloc(), &mut reader, &mut written);
     tell(rt, line, ended, reader.reads, ended.reads)?;
     tell_written(rt, written.as_slice())
 }
@@ -51,7 +52,7 @@ fn endless(rt: &HostRuntime, line: &str) -> Result<(), Failure> {
         reads: 0,
     };
     let mut written = Vec::new(rt.alloc());
-    let ended = run_script_counted(rt.alloc(), &mut reader, &mut written);
+    let ended = run_counted(rt.alloc(), &mut reader, &mut written);
     tell(rt, line, ended, reader.reads, ended.reads)?;
     tell_written(rt, written.as_slice())
 }
@@ -70,7 +71,7 @@ fn faltering(
         fails,
         writes: 0,
     };
-    let ended = run_script_counted(rt.alloc(), &mut reader, &mut writer);
+    let ended = run_counted(rt.alloc(), &mut reader, &mut writer);
     tell(rt, line, ended, writer.writes, ended.writes)?;
     tell_written(rt, writer.taken.as_slice())
 }

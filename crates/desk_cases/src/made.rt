@@ -1,12 +1,12 @@
 //! Messages made of others: cut short, grown by a byte, with a byte changed, with a line repeated;
 //! and the same messages many times over.
 
+use crate::calls::{serve, serve_all};
 use crate::failure::Failure;
 use crate::served::{Sent, put_reply};
 use service_core::Desk;
 use std::alloc::{AllocError, Global};
 use store_core::Backend;
-use wire_core::{serve_list, serve_one};
 
 /// What a reply begins with, before its code.
 const BEGIN: &[u8] = b"HTTP/1.1 ";
@@ -45,7 +45,7 @@ pub(crate) fn answer_many<S: Backend>(
 ) -> Result<Vec<u8>, Failure> {
     let list = many(alloc, sent, times)?;
     let mut counts = [0u32; 8];
-    for reply in serve_list(alloc, list.as_slice(), desk)? {
+    for reply in serve_all(alloc, list.as_slice(), desk)? {
         match reply {
             Ok(bytes) => count_code(&mut counts, bytes.as_slice()),
             Err(_) => return Err(Failure::Memory),
@@ -140,7 +140,7 @@ fn repeated(alloc: Global, bytes: &[u8], place: usize, times: u8) -> Result<Vec<
 fn reply_to<S: Backend>(alloc: Global, moment: u32, bytes: &[u8], desk: &mut Desk<S>) -> Vec<u8> {
     let mut reader = bytes;
     let mut written = Vec::new(alloc);
-    let _ = serve_one(alloc, &mut reader, &mut written, moment, desk);
+    let _ = serve(alloc, &mut reader, &mut written, moment, desk);
     written
 }
 

@@ -38,6 +38,7 @@
 
 mod asking;
 mod asks;
+mod calls;
 mod changes;
 mod course;
 mod desks;

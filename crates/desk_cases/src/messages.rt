@@ -1,6 +1,7 @@
 //! Cases of messages: bytes that come in at their moments, and the bytes of their replies.
 
 use crate::asks::asks_of;
+use crate::calls::execute_all;
 use crate::changes::number;
 use crate::desks::attached;
 use crate::expansion::{Named, expanded};
@@ -102,10 +103,10 @@ pub(crate) fn replies(
 ) -> Result<Vec<u8>, Failure> {
     let (statements, asked) = before.split_once(ASKED).ok_or(Failure::BadLine)?;
     let (settings, commands) = asked.split_once(COMMANDS).ok_or(Failure::BadLine)?;
-    match attached(rt.alloc(), statements, settings) {
-        Ok(mut desk) => served_after(rt, commands, sent, manner, &mut desk),
-        Err(failure) => Err(failure),
-    }
+    let mut desk = attached(rt.alloc(), statements, settings)?;
+    let replies = served_after(rt, commands, sent, manner, &mut desk);
+    drop(desk);
+    replies
 }
 
 /// The replies to messages on a desk, once the commands are done on it.
@@ -117,7 +118,7 @@ fn served_after<S: Backend>(
     desk: &mut Desk<S>,
 ) -> Result<Vec<u8>, Failure> {
     let asks = asks_of(rt.alloc(), commands)?;
-    let _ = desk.execute_all(rt.alloc(), asks.as_slice())?;
+    let _ = execute_all(rt.alloc(), desk, asks.as_slice())?;
     served(rt, sent, manner, desk)
 }
 

@@ -3,6 +3,7 @@
 //! What owns much is given back by `drop`, whose proof stands once; at the end of its scope it
 //! would be taken apart for each function's own proof.
 
+use crate::calls::attach;
 use crate::course::{Course, UNAVAILABLE, outcome, rows_after};
 use crate::disks::{End, Visit, tables_of, visit};
 use crate::failure::Failure;
@@ -142,7 +143,7 @@ fn follow<S: Backend>(
     let Ok(settings) = Settings::read(alloc, course.settings.as_bytes()) else {
         return (store, None);
     };
-    match Desk::attach(alloc, store, settings) {
+    match attach(alloc, store, settings) {
         Ok(desk) => follow_on(alloc, course, desk, from),
         Err((_, store)) => (store, Some(from)),
     }

@@ -1,6 +1,7 @@
 //! Messages that are served on a desk, in one of several manners.
 
 use crate::asking::answer_asked;
+use crate::calls::{self, serve_all};
 use crate::failure::Failure;
 use crate::loopback::answer_by_loopback;
 use crate::made::{answer_made, answer_many};
@@ -8,7 +9,7 @@ use crate::streams::{Endless, Faltering, Slow};
 use service_core::Desk;
 use std::alloc::{AllocError, Global};
 use store_core::Backend;
-use wire_core::{ServeFault, serve_list, serve_one};
+use wire_core::ServeFault;
 
 /// A message at its moment.
 pub(crate) type Sent = (u32, Vec<u8>);
@@ -100,7 +101,7 @@ fn in_list<S: Backend>(
     desk: &mut Desk<S>,
 ) -> Result<Vec<u8>, Failure> {
     let mut text = Vec::new(alloc);
-    for reply in serve_list(alloc, sent, desk)? {
+    for reply in serve_all(alloc, sent, desk)? {
         match reply {
             Ok(bytes) => put_reply(alloc, &mut text, bytes.as_slice(), Ok(()))?,
             Err(fault) => put_reply(alloc, &mut text, b"", Err(fault))?,
@@ -144,7 +145,7 @@ fn serve<S: Backend>(
     let Some(failing) = failing else {
         let mut reader = message.1.as_slice();
         let mut written = Vec::new(alloc);
-        let ended = serve_one(alloc, &mut reader, &mut written, message.0, desk);
+        let ended = calls::serve(alloc, &mut reader, &mut written, message.0, desk);
         put_reply(alloc, text, written.as_slice(), ended)?;
         return Ok(reader.len());
     };
@@ -159,7 +160,7 @@ fn serve<S: Backend>(
         fails: failing.writer_fails,
         writes: 0,
     };
-    let ended = serve_one(alloc, &mut reader, &mut writer, message.0, desk);
+    let ended = calls::serve(alloc, &mut reader, &mut writer, message.0, desk);
     put_reply(alloc, text, writer.taken.as_slice(), ended)?;
     Ok(reader.bytes.len())
 }
@@ -178,7 +179,7 @@ fn before_others<S: Backend>(
             reads: 0,
         };
         let mut written = Vec::new(alloc);
-        let ended = serve_one(alloc, &mut reader, &mut written, message.0, desk);
+        let ended = calls::serve(alloc, &mut reader, &mut written, message.0, desk);
         put_reply(alloc, &mut text, written.as_slice(), ended)?;
         let few = reader.reads <= MOST_READS;
         text.extend_from_slice(if few { FEW_READS } else { MANY_READS })?;

@@ -39,15 +39,47 @@ pub(crate) fn run_case(
     let (statements, settings) = before.split_once(ASKED).ok_or(Failure::BadLine)?;
     let streams = streams.trim_end();
     if let Some(path) = streams.strip_prefix("on_file ") {
-        return run_on_file(rt, settings, path, commands);
+        return run_on_file(rt, settings, path, commands, false);
     }
     if let Some(path) = streams.strip_prefix("alone_on_file ") {
-        return run_each_on_file(rt, settings, path, commands);
+        return run_on_file(rt, settings, path, commands, true);
     }
     if streams == "alone" {
         return run_each_alone(rt, statements, settings, commands);
     }
     run_in_memory(rt, statements, settings, commands, streams)
+}
+
+/// A line `MOMENT CALLER WORDS ..`, and what it asks for.
+#[derive(Drop)]
+struct Asked<'l> {
+    line: &'l str,
+    at: u32,
+    words: Vec<String>,
+}
+
+fn asked_of<'l>(rt: &HostRuntime, line: &'l str) -> Result<Asked<'l>, Failure> {
+    let words = words_of(rt.alloc(), line)?;
+    match words.as_slice() {
+        [at, _, ..] => {
+            let at = number(at.as_str())?;
+            Ok(Asked { line, at, words })
+        }
+        _ => Err(Failure::BadLine),
+    }
+}
+
+impl Asked<'_> {
+    fn caller(&self) -> &str {
+        match self.words.get(1) {
+            Some(caller) => caller.as_str(),
+            None => "",
+        }
+    }
+
+    fn command(&self) -> &[String] {
+        self.words.as_slice().get(2..).unwrap_or(&[])
+    }
 }
 
 /// Runs each command on tables of its own, which the statements make.
@@ -58,54 +90,37 @@ fn run_each_alone(
     commands: &str,
 ) -> Result<(), Failure> {
     for line in commands.lines() {
+        let asked = asked_of(rt, line)?;
         let store = opened(rt.alloc(), statements)?;
-        run_alone(rt, settings, store, line)?;
+        run_alone(rt, settings, store, &asked)?;
     }
     Ok(())
 }
 
-/// Runs each command on the tables in a file, which are let go after it.
-fn run_each_on_file(
-    rt: &HostRuntime,
-    settings: &str,
-    path: &str,
-    commands: &str,
-) -> Result<(), Failure> {
-    for line in commands.lines() {
-        let store = Store::adopt(Connection::open(rt, path)?);
-        run_alone(rt, settings, store, line)?;
-    }
-    Ok(())
-}
-
-/// Runs the command of a line `MOMENT CALLER WORDS ..`, lets its store go, and writes it with its
-/// status, and then its text and a line feed.
+/// Runs the command, lets its store go, and writes it with its status, and then its text and a line
+/// feed.
 fn run_alone<S: Backend + Drop>(
     rt: &HostRuntime,
     settings: &str,
     store: Store<S>,
-    line: &str,
+    asked: &Asked<'_>,
 ) -> Result<(), Failure> {
-    let words = words_of(rt.alloc(), line)?;
-    let [at, caller, command @ ..] = words.as_slice() else {
-        return Err(Failure::BadLine);
-    };
-    let at = number(at.as_str())?;
     let mut text = Vec::new(rt.alloc());
     let status = run_one(
         rt.alloc(),
         settings.as_bytes(),
         store,
-        caller.as_str(),
-        at,
-        command,
+        asked.caller(),
+        asked.at,
+        asked.command(),
         &mut text,
     );
-    println!(rt; "{line}: status {status}")?;
+    println!(rt; "{}: status {status}", asked.line)?;
     println!(rt; "{}", str::from_utf8(text.as_slice()).unwrap_or(""))?;
     Ok(())
 }
 
+/// Runs each command on the tables that the one before left.
 fn run_in_memory(
     rt: &HostRuntime,
     statements: &str,
@@ -113,38 +128,67 @@ fn run_in_memory(
     commands: &str,
     streams: &str,
 ) -> Result<(), Failure> {
-    let mut store = opened(rt.alloc(), statements)?;
-    let mut fails_at = write_that_fails(streams)?;
+    let fails_at = write_that_fails(streams)?;
+    let mut all = Vec::new(rt.alloc());
     for line in commands.lines() {
-        store = run_line(rt, settings, store, line, fails_at)?;
+        all.push(asked_of(rt, line)?)?;
+    }
+    let store = opened(rt.alloc(), statements)?;
+    run_each(rt, settings, store, all.as_slice(), fails_at)
+}
+
+fn run_each<S: Backend + Drop>(
+    rt: &HostRuntime,
+    settings: &str,
+    store: Store<S>,
+    all: &[Asked<'_>],
+    fails_at: u32,
+) -> Result<(), Failure> {
+    let mut store = store;
+    let mut fails_at = fails_at;
+    for asked in all {
+        let (left, told) = run_whole(rt, settings, store, asked, fails_at);
+        store = left;
+        if let Err(failure) = told {
+            drop(store);
+            return Err(failure);
+        }
         fails_at = u32::MAX;
     }
+    drop(store);
     Ok(())
 }
 
-/// Runs each command over the tables in a file, which is opened for it and closed after it.
+/// Runs each command over the tables in a file, which is opened for it; they are let go after it,
+/// or closed.
 fn run_on_file(
     rt: &HostRuntime,
     settings: &str,
     path: &str,
     commands: &str,
+    lets_go: bool,
 ) -> Result<(), Failure> {
     for line in commands.lines() {
+        let asked = asked_of(rt, line)?;
         let store = Store::adopt(Connection::open(rt, path)?);
-        run_and_close(rt, settings, store, line)?;
+        run_opened(rt, settings, store, &asked, lets_go)?;
     }
     Ok(())
 }
 
-fn run_and_close<D: Disk + Drop>(
+fn run_opened<D: Disk + Drop>(
     rt: &HostRuntime,
     settings: &str,
     store: Store<FileStore<D>>,
-    line: &str,
+    asked: &Asked<'_>,
+    lets_go: bool,
 ) -> Result<(), Failure> {
-    let store = run_line(rt, settings, store, line, u32::MAX)?;
+    if lets_go {
+        return run_alone(rt, settings, store, asked);
+    }
+    let (store, told) = run_whole(rt, settings, store, asked, u32::MAX);
     drop(ended(store.release(), End::Closed));
-    Ok(())
+    told
 }
 
 /// How many writes go well before one fails, as a line states it; no line states one.
@@ -156,46 +200,35 @@ fn write_that_fails(streams: &str) -> Result<u32, Failure> {
     number(count.ok_or(Failure::BadLine)?)
 }
 
-/// Runs the command of a line `MOMENT CALLER WORDS ..`, and gives the store back.
-fn run_line<S: Backend + Drop>(
+/// Runs the command, writes how it ended, and gives the store back.
+fn run_whole<S: Backend>(
     rt: &HostRuntime,
     settings: &str,
     store: Store<S>,
-    line: &str,
+    asked: &Asked<'_>,
     fails_at: u32,
-) -> Result<Store<S>, Failure> {
-    let words = words_of(rt.alloc(), line)?;
-    let [at, caller, command @ ..] = words.as_slice() else {
-        return Err(Failure::BadLine);
-    };
-    let at = number(at.as_str())?;
+) -> (Store<S>, Result<(), Failure>) {
     let mut writer = Faltering {
         taken: Vec::new(rt.alloc()),
         falters_at: fails_at,
         fails: true,
         writes: 0,
     };
-    let ended = run_one_whole(
-        rt.alloc(),
-        settings.as_bytes(),
-        store,
-        caller.as_str(),
-        at,
-        command,
-        &mut writer,
-    );
     let OneEnded {
         status,
         failed,
         store,
-    } = ended;
-    match tell_ended(rt, line, status, failed, writer.taken.as_slice()) {
-        Ok(()) => Ok(store),
-        Err(failure) => {
-            drop(store);
-            Err(failure)
-        }
-    }
+    } = run_one_whole(
+        rt.alloc(),
+        settings.as_bytes(),
+        store,
+        asked.caller(),
+        asked.at,
+        asked.command(),
+        &mut writer,
+    );
+    let told = tell_ended(rt, asked.line, status, failed, writer.taken.as_slice());
+    (store, told)
 }
 
 /// Writes how a command ended, and what it wrote.

@@ -4,14 +4,14 @@
 //! would be taken apart for each function's own proof.
 
 use crate::ASKED;
+use crate::calls::{Outcome, Reply, execute_all, serve_all};
 use crate::changes::number;
 use crate::desks::attached;
 use crate::failure::Failure;
 use crate::lots::{Drawn, Urn, draw, urn_of};
-use desk_core::{Answer, Refusal};
 use service_core::outcome_text;
 use std::alloc::{AllocError, Global};
-use wire_core::{ServeFault, serve_list};
+use wire_core::ServeFault;
 
 /// What stands between settings and the lines of which lists are made.
 pub(crate) const LOTS: &str = "@@\n";
@@ -89,42 +89,29 @@ fn count_list(
 }
 
 /// What comes of the commands, all asked of a new desk at once.
-fn outcomes_of(
-    alloc: Global,
-    settings: &str,
-    list: &Drawn,
-) -> Result<Vec<Result<Answer, Refusal>>, Failure> {
+fn outcomes_of(alloc: Global, settings: &str, list: &Drawn) -> Result<Vec<Outcome>, Failure> {
     let mut desk = attached(alloc, "", settings)?;
-    let outcomes = desk.execute_all(alloc, list.asks.as_slice());
+    let outcomes = execute_all(alloc, &mut desk, list.asks.as_slice());
     drop(desk);
     Ok(outcomes?)
 }
 
 /// The replies to the messages, all sent to a new desk.
-fn replies_to(
-    alloc: Global,
-    settings: &str,
-    list: &Drawn,
-) -> Result<Vec<Result<Vec<u8>, ServeFault>>, Failure> {
+fn replies_to(alloc: Global, settings: &str, list: &Drawn) -> Result<Vec<Reply>, Failure> {
     let mut desk = attached(alloc, "", settings)?;
-    let replies = serve_list(alloc, list.sent.as_slice(), &mut desk);
+    let replies = serve_all(alloc, list.sent.as_slice(), &mut desk);
     drop(desk);
     Ok(replies?)
 }
 
-fn count_outcome(tally: &mut Tally, place: usize, outcome: &Result<Answer, Refusal>) {
+fn count_outcome(tally: &mut Tally, place: usize, outcome: &Outcome) {
     match outcome {
         Ok(_) => raise(tally.accepted.as_mut_slice(), place),
         Err(refusal) => raise(&mut tally.refused, usize::from(refusal.number())),
     }
 }
 
-fn count_reply(
-    alloc: Global,
-    tally: &mut Tally,
-    outcome: &Result<Answer, Refusal>,
-    reply: Option<&Result<Vec<u8>, ServeFault>>,
-) {
+fn count_reply(alloc: Global, tally: &mut Tally, outcome: &Outcome, reply: Option<&Reply>) {
     match is_reply(alloc, outcome, reply) {
         Ok(true) => (),
         Ok(false) => tally.differ = tally.differ.saturating_add(1),
@@ -135,7 +122,7 @@ fn count_reply(
     }
 }
 
-fn lacks_memory(reply: Option<&Result<Vec<u8>, ServeFault>>) -> bool {
+fn lacks_memory(reply: Option<&Reply>) -> bool {
     match reply {
         Some(Ok(bytes)) => bytes.as_slice().starts_with(b"HTTP/1.1 503"),
         Some(Err(ServeFault::NoMemory)) => true,
@@ -151,11 +138,7 @@ fn raise(counts: &mut [u32], place: usize) {
 }
 
 /// Whether the reply has the text of the outcome as its body.
-fn is_reply(
-    alloc: Global,
-    outcome: &Result<Answer, Refusal>,
-    reply: Option<&Result<Vec<u8>, ServeFault>>,
-) -> Result<bool, AllocError> {
+fn is_reply(alloc: Global, outcome: &Outcome, reply: Option<&Reply>) -> Result<bool, AllocError> {
     let text = outcome_text(alloc, outcome)?;
     let text = format!(in alloc; "\r\n\r\n{}", text.as_str())?;
     Ok(match reply {

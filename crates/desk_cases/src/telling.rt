@@ -1,8 +1,8 @@
 //! What is written of a case: the outcomes of its commands, or what is left of its store.
 
 use crate::asks::Ask;
+use crate::calls::{Outcome, execute_all};
 use crate::failure::Failure;
-use desk_core::{Answer, Refusal};
 use service_core::{AttachFault, Desk, answer_text, refusal_text};
 use std::alloc::Global;
 use store_core::{Backend, Store, StoreFault};
@@ -15,25 +15,25 @@ pub(crate) fn tell_run<S: Backend>(
 ) -> Result<(), Failure> {
     let room = desk.settings().max_requests();
     println!(rt; "attach: ok, room for {room} requests")?;
-    let outcomes = desk.execute_all(rt.alloc(), asks)?;
+    let outcomes = execute_all(rt.alloc(), desk, asks)?;
     tell_outcomes(rt, outcomes.as_slice())
 }
 
-fn tell_outcomes(rt: &HostRuntime, outcomes: &[Result<Answer, Refusal>]) -> Result<(), Failure> {
+fn tell_outcomes(rt: &HostRuntime, outcomes: &[Outcome]) -> Result<(), Failure> {
     for outcome in outcomes {
         tell_outcome(rt, outcome)?;
     }
     Ok(())
 }
 
-fn tell_outcome(rt: &HostRuntime, outcome: &Result<Answer, Refusal>) -> Result<(), Failure> {
+fn tell_outcome(rt: &HostRuntime, outcome: &Outcome) -> Result<(), Failure> {
     let text = text_of(rt.alloc(), outcome)?;
     print!(rt; "{}", text.as_str())?;
     Ok(())
 }
 
 /// The text of what came of a command.
-pub(crate) fn text_of(alloc: Global, outcome: &Result<Answer, Refusal>) -> Result<String, Failure> {
+pub(crate) fn text_of(alloc: Global, outcome: &Outcome) -> Result<String, Failure> {
     match outcome {
         Ok(answer) => Ok(answer_text(alloc, answer)?),
         Err(refusal) => Ok(refusal_text(alloc, refusal)?),

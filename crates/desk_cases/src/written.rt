@@ -34,18 +34,21 @@ pub(crate) fn run(
     fails: bool,
 ) -> Result<(), Failure> {
     let mut desk = attached(rt.alloc(), course.statements, course.settings)?;
-    for ask in course.asks.iter() {
-        let _ = outcome(rt.alloc(), &mut desk, ask)?;
-    }
-    try_line(rt, &mut desk, line, fails)
+    let tried = try_after(rt, course, &mut desk, line, fails);
+    drop(desk);
+    tried
 }
 
-fn try_line<S: Backend>(
+fn try_after<S: Backend>(
     rt: &HostRuntime,
+    course: &Course<'_>,
     desk: &mut Desk<S>,
     line: &str,
     fails: bool,
 ) -> Result<(), Failure> {
+    for ask in course.asks.iter() {
+        drop(outcome(rt.alloc(), desk, ask)?);
+    }
     let ask = ask_of(rt.alloc(), line)?;
     try_list(rt, desk, &ask, fails)
 }

@@ -10,7 +10,7 @@ use Rattle.std.specs.Str.{bytes_eq}
 use Rattle.std.specs.declared.cmp.Ordering.{Ordering}
 use Rattle.std.specs.declared.cmp.Ordering.TheVariants.{Less, Equal, Greater}
 use Rattle.desk_model.specs.Desk.{has_lower_name}
-use Rattle.desk_model.specs.IsDesk.{comes_first, is_rising}
+use Rattle.desk_model.specs.Rising.{comes_first, is_rising}
 use Rattle.desk_model.specs.Names.{text_order}
 use Rattle.desk_model.specs.declared.rows.QueueRow.{QueueRow}
 use Rattle.rights_core.specs.People.{holds, knows, no_roles}

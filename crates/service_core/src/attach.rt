@@ -102,7 +102,6 @@ fn renew_known<S: Backend>(
 
 /// Whether the settings know each name of the tables, of which these are the queues and the
 /// requests. The tables stay as they are.
-#[tactic(auto, using(store_tables::proofs::Spared::joined, store_tables::proofs::Spared::stands))]
 fn is_known<S: Backend>(
     alloc: Global,
     store: &mut Store<S>,

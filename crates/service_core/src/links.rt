@@ -33,7 +33,6 @@ impl End {
 
 /// The requests that one is linked with, as far as the caller may show them. `Unavailable` where
 /// memory or the store refused. The tables stay as they are.
-#[tactic(auto, using(store_tables::proofs::Spared::joined))]
 pub(crate) fn links_of<S: Backend>(
     alloc: Global,
     store: &mut Store<S>,

@@ -3,6 +3,7 @@ ghost use Rattle.std.specs.Prelude.{◌≡◌, ℕ, IfErr, IfOk, filter};
 ghost use Rattle.std.specs.Option.{option_to_list};
 ghost use Rattle.desk_model.specs.Desk.{queue_at};
 ghost use Rattle.desk_model.specs.Rights as rights;
+ghost use Rattle.desk_model.specs.declared.command.Command.TheVariants as commands;
 ghost use Rattle.desk_model.specs.declared.facts.Facts.{Facts};
 ghost use Rattle.store_tables.specs.Calls.{Spares, Tells};
 ghost use Rattle.store_core.specs.Seen.{state_of};
@@ -29,7 +30,7 @@ pub(crate) fn queues<S: Backend>(
     caller: &str,
 ) -> Result<Answer, Refusal>
     ensures told { (at : ℕ) (facts : Facts)
-        → Answers settings.now (ask_by at caller.now Command.Queues) facts
+        → Answers settings.now (ask_by at caller.now commands.Queues) facts
         (state_of S.Store store.old) (state_of S.Store store.new) result }
     ensures kept { Spares (state_of S.Store store.old) (state_of S.Store store.new) }
     ensures fault { IfErr result (λ refusal. refusal ≡ Refusal.Unavailable) }
@@ -49,7 +50,7 @@ fn all_seen<S: Backend>(
     caller: &str,
 ) -> Result<Answer, Refusal>
     ensures told { (at : ℕ) (facts : Facts)
-        → Answers settings.now (ask_by at caller.now Command.Queues) facts
+        → Answers settings.now (ask_by at caller.now commands.Queues) facts
         (state_of S.Store store.old) (state_of S.Store store.new) result }
     ensures kept { Spares (state_of S.Store store.old) (state_of S.Store store.new) }
     ensures fault { IfErr result (λ refusal. refusal ≡ Refusal.Unavailable) }

@@ -83,7 +83,6 @@ impl<S: Backend> Desk<S> {
 }
 
 /// Writes the list that a command asks for. What every desk refuses costs no look at the tables.
-#[tactic(auto, using(store_tables::proofs::Spared::joined, store_tables::proofs::Spared::unread))]
 fn stream_from<S: Backend, W: Write>(
     alloc: Global,
     store: &mut Store<S>,
@@ -108,7 +107,6 @@ fn stream_from<S: Backend, W: Write>(
 }
 
 /// Writes the list, if the tables don't refuse it.
-#[tactic(auto, using(store_tables::proofs::Spared::joined, store_tables::proofs::Spared::unread))]
 fn admit_and_put<S: Backend, W: Write>(
     alloc: Global,
     store: &mut Store<S>,
@@ -173,7 +171,6 @@ fn admit_seeing(
 }
 
 /// Writes the list of a command that isn't refused. Another command is `Unavailable`.
-#[tactic(auto, using(store_tables::proofs::Spared::joined, store_tables::proofs::Spared::unread))]
 fn put_list<S: Backend, W: Write>(
     alloc: Global,
     store: &mut Store<S>,

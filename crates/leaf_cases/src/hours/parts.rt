@@ -170,13 +170,7 @@ impl Parts {
             Some(rule) => Zone::by_rule(alloc, rule.as_str(), self.years)?,
             None => Zone::build(alloc, self.first, self.changes.as_slice())?,
         };
-        Calendar::build(
-            alloc,
-            zone,
-            week,
-            self.holidays.as_slice(),
-            self.years,
-        )
+        Calendar::build(alloc, zone, week, self.holidays.as_slice(), self.years)
     }
 }
 

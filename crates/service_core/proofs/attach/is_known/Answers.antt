@@ -32,3 +32,18 @@ pub returns-in_err-watchers-clause-kept : goal.returns-in_err-watchers-clause-ke
 returns-in_err-watchers-clause-kept g c =
     joined (joined c.read_links.ensures.kept c.knows_histories.ensures.kept)
     c.watchers.ensures.kept
+
+pub returns-in_err-histories-clause-kept : goal.returns-in_err-histories-clause-kept
+returns-in_err-histories-clause-kept g c =
+    joined c.read_links.ensures.kept c.knows_histories.ensures.kept
+
+pub returns-in_err-histories-clause-fault : goal.returns-in_err-histories-clause-fault
+returns-in_err-histories-clause-fault g c d stand =
+    let is : c.from_residual-in_err-histories.result ≡ Err c.in_err-histories.field-0.0 =
+    search rules in
+    rw is (c.in_err-histories.ensures.fault d (stands c.read_links.ensures.kept d stand))
+
+pub returns-clause-kept : goal.returns-clause-kept
+returns-clause-kept g c =
+    joined (joined c.read_links.ensures.kept c.knows_histories.ensures.kept)
+    c.watchers.ensures.kept

@@ -40,3 +40,11 @@ pub returns-clause-kept : goal.returns-clause-kept
 returns-clause-kept g c =
     joined (joined (joined c.links_from.ensures.kept c.shown_at.ensures.kept)
     c.links_to.ensures.kept) c.shown_at-2.ensures.kept
+
+pub returns-in_err-targets-clause-kept : goal.returns-in_err-targets-clause-kept
+returns-in_err-targets-clause-kept g c =
+    joined c.links_from.ensures.kept c.shown_at.ensures.kept
+
+pub returns-in_err-to-clause-kept : goal.returns-in_err-to-clause-kept
+returns-in_err-to-clause-kept g c =
+    joined (joined c.links_from.ensures.kept c.shown_at.ensures.kept) c.links_to.ensures.kept

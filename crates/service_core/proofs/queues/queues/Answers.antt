@@ -3,22 +3,16 @@ use Rattle.std.proofs.Common.{◌∙◌, ap, subst, sym}
 use Rattle.desk_model.specs.Rights.{holds_on_queue}
 use Rattle.desk_model.specs.declared.answer.Answer.TheVariants.{Queues}
 use Rattle.rights_core.specs.Right.{see_queue}
-use Rattle.store_core.specs.Seen.{state_of}
 use Rattle.store_tables.proofs.ReadingLemmas.{if_ok}
 use Rattle.service_core.specs.Sight.{IsSight}
 use Rattle.service_core.proofs.SightLemmas.{one_seen}
-use Rattle.service_core.proofs.Stepping.{asked_as}
-use Rattle.service_core.proofs.queues.read.Goals as goal
+use Rattle.service_core.proofs.queues.queues.Goals as goal
 
-pub returns-clause-told : goal.returns-clause-told
-returns-clause-told g c =
+pub returns-in-One-clause-told : goal.returns-in-One-clause-told
+returns-in-One-clause-told g c at facts desk is stand clean =
     let sees = holds_on_queue c.args.settings.now c.args.caller.now see_queue in
-    asked_as c.args.facts.now c.args.settings.now c.args.at c.args.caller.now c.args.command.now _
-    c.one_queue.result (state_of g.S.Store c.args.store.now)
-    (state_of g.S.Store c.one_queue.new.store) c.in-Queues.is
-    (λ desk is stand clean.
     if_ok c.one_queue.result
     (λ answer told seen. told
     ∙ ap Queues (sym (one_seen sees c.in-One.name.now
     (subst (λ s. IsSight s sees) c.in-One.is c.sight_of.ensures) desk.queues is.queues)))
-    (c.one_queue.ensures.told desk is stand clean))
+    (c.one_queue.ensures.told desk is stand clean)

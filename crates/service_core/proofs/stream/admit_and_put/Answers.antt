@@ -2,7 +2,7 @@
 use Rattle.std.proofs.Common.{[]}
 use Rattle.desk_lists.proofs.PrintedLemmas.{prints_none}
 use Rattle.store_core.specs.Due.{due_of_row}
-use Rattle.store_tables.proofs.Spared.{stands}
+use Rattle.store_tables.proofs.Spared.{joined, stands}
 use Rattle.store_tables.specs.Contents.{contents_of}
 use Rattle.stream_core.specs.Seen.{has_write_failed}
 use Rattle.service_core.specs.TableSteps.{ask_by}
@@ -34,3 +34,6 @@ returns-in-Err-clause-streamed g c = (
       (ask_by c.args.at c.args.caller.now c.args.command.now) desk is c.in-Err.refusal
       (c.in-Err.ensures.admitted desk is stand clean),
 )
+
+pub returns-in-Ok-clause-kept : goal.returns-in-Ok-clause-kept
+returns-in-Ok-clause-kept g c = joined c.admit.ensures.kept c.put_list.ensures.kept

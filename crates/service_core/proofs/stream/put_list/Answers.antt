@@ -5,6 +5,7 @@ use Rattle.desk_model.specs.declared.command.Command.TheVariants.{List, Overdue}
 use Rattle.stream_core.specs.Seen.{has_write_failed}
 use Rattle.stream_core.specs.Written.{Prints}
 use Rattle.desk_lists.proofs.PrintedLemmas.{prints_none}
+use Rattle.store_tables.proofs.Spared.{unread}
 use Rattle.store_core.specs.Seen.{state_of}
 use Rattle.service_core.specs.Streaming.{StreamsAdmitted}
 use Rattle.service_core.specs.TableSteps.{ask_by}
@@ -53,3 +54,6 @@ returns-in_default-clause-streamed g c = (
       (ask_by c.args.at c.args.caller.now c.args.command.now) desk is _
       (λ available. absurd (available refl)),
 )
+
+pub returns-in_default-clause-kept : goal.returns-in_default-clause-kept
+returns-in_default-clause-kept g c = unread _
