@@ -104,7 +104,7 @@ pub(crate) fn tables_of(alloc: Global, statements: &str) -> Result<Vec<u8>, Fail
         return Ok(Vec::new(alloc));
     }
     let files = disks(alloc, u64::MAX, u64::MAX);
-    let files = visit(alloc, files, &mut Statements(statements), End::Closed);
+    let files = visit_files(alloc, files, &mut Statements(statements), End::Closed);
     let bytes = files.db.inner().bytes();
     let mut copy = Vec::new(alloc);
     copy.extend_from_slice(bytes)?;

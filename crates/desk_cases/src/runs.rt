@@ -5,7 +5,7 @@
 
 use crate::calls::attach;
 use crate::course::{Course, UNAVAILABLE, outcome, rows_after};
-use crate::disks::{End, Visit, tables_of, visit};
+use crate::disks::{End, Visit, tables_of, visit_files};
 use crate::failure::Failure;
 use crate::rows::rows_of;
 use service_core::Desk;
@@ -65,7 +65,7 @@ pub(crate) fn run_on<D: Disk + Drop>(alloc: Global, way: &Way<'_>, files: Files<
         found: Found::Refused,
         reached: Some(0),
     };
-    let files = visit(alloc, files, &mut running, End::Left);
+    let files = visit_files(alloc, files, &mut running, End::Left);
     Run {
         files,
         found: running.found,

@@ -1,7 +1,7 @@
 //! Files that no run left so.
 
 use crate::course::Course;
-use crate::disks::{Disks, End, Statements, Visit, disks, disks_with, holding, visit};
+use crate::disks::{Disks, End, Statements, Visit, disks, disks_with, holding, visit_files};
 use crate::failure::Failure;
 use crate::runs::{Found, Run, Way, found_on, run_on, way_of};
 use sqlite::{Connection, Files};
@@ -64,7 +64,7 @@ fn half(alloc: Global, db: &Fuse<Memory>) -> Result<Fuse<Memory>, Failure> {
 /// The log of a run that made the tables in new files.
 fn log_of_none(alloc: Global) -> Fuse<Memory> {
     let files = disks(alloc, u64::MAX, u64::MAX);
-    let Files { log, db: _ } = visit(alloc, files, &mut Schema, End::Left);
+    let Files { log, db: _ } = visit_files(alloc, files, &mut Schema, End::Left);
     log
 }
 
@@ -87,5 +87,5 @@ impl Visit for Schema {
 fn ended(alloc: Global, way: &Way<'_>) -> Result<Disks, Failure> {
     let begun = disks_with(alloc, way.begin.as_slice(), u64::MAX, u64::MAX)?;
     let Run { files, .. } = run_on(alloc, way, begun);
-    Ok(visit(alloc, files, &mut Statements(""), End::Closed))
+    Ok(visit_files(alloc, files, &mut Statements(""), End::Closed))
 }
