@@ -72,7 +72,7 @@ pub(crate) enum End {
 }
 
 /// Opens the files, where they can be opened, and gives them back after the visit.
-pub(crate) fn visit<D: Disk + Drop, V: Visit>(
+pub(crate) fn visit_files<D: Disk + Drop, V: Visit>(
     alloc: Global,
     files: Files<D>,
     visitor: &mut V,
