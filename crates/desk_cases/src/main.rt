@@ -1,4 +1,8 @@
-//! Cases of the desk: scripts, the desk over tables, and the tables.
+//! Cases of the desk: scripts, the desk over tables, and the tables; and of the crates below it.
+//!
+//! The standard input may have parts, each under a line `## NAME`. Those of the part `desk` are told
+//! of here, and so are those of an input without parts; the others have a module of their own
+//! (`leaves.rt`).
 //!
 //! A line `=== NAME` begins a case, which goes up to the next such line or the end. Without a line
 //! `---` it is a script, which is run over a desk of its own: what it prints is written, and its
@@ -48,6 +52,7 @@ mod each;
 mod expansion;
 mod failure;
 mod faults;
+mod leaves;
 mod limits;
 mod lists;
 mod loopback;
@@ -73,6 +78,9 @@ use crate::failure::Failure;
 use std::io::Read;
 use std::process::ExitCode;
 
+/// What begins the name of a part.
+const PART: &str = "## ";
+
 /// What begins the name of a case.
 const BEGIN: &str = "=== ";
 
@@ -96,7 +104,25 @@ fn main(rt: HostRuntime) -> ExitCode {
 fn run(rt: &HostRuntime) -> Result<(), Failure> {
     let mut input = Vec::new(rt.alloc());
     rt.reader().read_to_end(&mut input)?;
-    answer_each(rt, str::from_utf8(input.as_slice()).unwrap_or(""))
+    let text = str::from_utf8(input.as_slice()).unwrap_or("");
+    if text.starts_with(PART) {
+        answer_parts(rt, text)
+    } else {
+        answer_each(rt, text)
+    }
+}
+
+fn answer_parts(rt: &HostRuntime, text: &str) -> Result<(), Failure> {
+    for part in text.split(PART) {
+        if let Some((name, cases)) = part.split_once('\n') {
+            println!(rt; "{PART}{name}")?;
+            match name {
+                "desk" => answer_each(rt, cases)?,
+                _ => leaves::run_part(rt, name, cases)?,
+            }
+        }
+    }
+    Ok(())
 }
 
 fn answer_each(rt: &HostRuntime, text: &str) -> Result<(), Failure> {

@@ -1,7 +1,8 @@
 //! Calls of calendars and moments, a line each.
 
-use crate::failure::{Failure, count, halves, moment, number};
-use crate::hours::parts::Parts;
+use crate::failure::Failure;
+use crate::leaves::hours::parts::Parts;
+use crate::leaves::spelling::{count, halves, moment, number};
 use hours_core::{Calendar, Level, Limit, Minute, Probes, Stay, Zone, date_of, minute_text};
 
 /// Writes the line and the answer of the call that it spells.

@@ -10,9 +10,9 @@ mod forms;
 mod lifecycles;
 mod words;
 
-use crate::calls::forms::form_answer;
-use crate::calls::lifecycles::lifecycle_answer;
-use crate::calls::words::{command_answer, words_answer};
+use crate::leaves::calls::forms::form_answer;
+use crate::leaves::calls::lifecycles::lifecycle_answer;
+use crate::leaves::calls::words::{command_answer, words_answer};
 use desk_words::words_of;
 use lifecycle_core::Lifecycle;
 use std::alloc::{AllocError, Global};

@@ -1,6 +1,6 @@
 //! Calls on lifecycles.
 
-use crate::calls::forms::{texts_of, yes_or_no};
+use crate::leaves::calls::forms::{texts_of, yes_or_no};
 use lifecycle_core::{Class, Lifecycle, LifecycleFault, Move, MoveRight, Parts};
 use std::alloc::{AllocError, Global};
 use text_core::{Sequence, Text};

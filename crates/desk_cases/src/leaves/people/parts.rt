@@ -1,6 +1,7 @@
 //! The parts of people, gathered from the lines of a case.
 
-use crate::failure::{Failure, halves};
+use crate::failure::Failure;
+use crate::leaves::spelling::halves;
 use rights_core::{Grant, Group, People, Role, Subject};
 use std::alloc::{AllocError, Global};
 use text_core::{Text, Texts};

@@ -10,8 +10,8 @@
 mod changed;
 mod expanded;
 
-use crate::questions;
-use crate::settings::expanded::expanded;
+use crate::leaves::questions;
+use crate::leaves::settings::expanded::expanded;
 use settings_core::{Settings, SettingsFault};
 use std::io;
 

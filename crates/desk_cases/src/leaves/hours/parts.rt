@@ -1,6 +1,7 @@
 //! The parts of a calendar, gathered from the lines of a case.
 
-use crate::failure::{Failure, halves, minute_of_day, moment, number};
+use crate::failure::Failure;
+use crate::leaves::spelling::{halves, minute_of_day, moment, number};
 use hours_core::{Calendar, HoursFault, Intervals, Level, Minute, Stay, Zone};
 use std::alloc::{AllocError, Global};
 use text_core::{Text, Texts};

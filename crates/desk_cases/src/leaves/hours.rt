@@ -13,8 +13,8 @@ mod asked;
 mod parts;
 
 use crate::failure::Failure;
-use crate::hours::asked::answer;
-use crate::hours::parts::Parts;
+use crate::leaves::hours::asked::answer;
+use crate::leaves::hours::parts::Parts;
 use hours_core::Calendar;
 
 /// Writes each call with its answer.

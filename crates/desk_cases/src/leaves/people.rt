@@ -7,8 +7,8 @@
 mod parts;
 
 use crate::failure::Failure;
-use crate::people::parts::HouseParts;
-use crate::questions::ask_people;
+use crate::leaves::people::parts::HouseParts;
+use crate::leaves::questions::ask_people;
 use rights_core::People;
 
 /// Writes each question with its answer.

@@ -1,36 +1,7 @@
-//! Why the cases end.
+//! What words of these cases spell.
 
+use crate::failure::Failure;
 use hours_core::Minute;
-use std::alloc::{AllocError, AllocFailed};
-use std::io;
-
-/// Why the cases end.
-#[derive(Debug, Drop)]
-pub enum Failure {
-    Io(io::Error),
-    /// Memory was refused.
-    Memory,
-    /// A line isn't understood.
-    BadLine,
-}
-
-impl From<AllocError> for Failure {
-    fn from(_refused: AllocError) -> Failure {
-        Failure::Memory
-    }
-}
-
-impl<T: Drop> From<AllocFailed<T>> for Failure {
-    fn from(_refused: AllocFailed<T>) -> Failure {
-        Failure::Memory
-    }
-}
-
-impl From<io::Error> for Failure {
-    fn from(error: io::Error) -> Failure {
-        Failure::Io(error)
-    }
-}
 
 /// The number that the word spells.
 pub fn number(word: &str) -> Result<i64, Failure> {

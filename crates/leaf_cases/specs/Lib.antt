@@ -1,1 +1,0 @@
--- the cases have no definitions of their own
