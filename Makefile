@@ -23,6 +23,5 @@ install: desk
 
 # Each growth of the proved programs refused in turn, in some minutes. It needs a C compiler.
 sweep: desk
-	cd crates/leaf_cases && rt run < stdin > out/printed
 	cd crates/desk_cases && rt run < stdin > out/printed
 	bench/refused

@@ -1,12 +1,12 @@
-"""Runs the cases of leaves on made input: crates/leaf_cases/out/leaf_cases, which
-"cd crates/leaf_cases && rt run < stdin" makes. Another program is named as the one argument."""
+"""Runs the cases of leaves on made input: crates/desk_cases/out/desk_cases, which
+"cd crates/desk_cases && rt run < stdin" makes. Another program is named as the one argument."""
 import os
 import resource
 import subprocess
 import sys
 
 TOP = os.path.dirname(os.path.dirname(os.path.abspath(__file__)))
-PROGRAM = os.path.join(TOP, "crates", "leaf_cases", "out", "leaf_cases")
+PROGRAM = os.path.join(TOP, "crates", "desk_cases", "out", "desk_cases")
 
 
 def run(text):

@@ -7,7 +7,7 @@ mod server;
 mod single;
 mod tables;
 
-use desk_program::{one_command_of, run_script_counted, serving_of};
+use desk_program::{Memory, one_command_of, run_script_counted, serving_of};
 use std::process::ExitCode;
 use std::{env, io};
 use tables::Job;
@@ -40,7 +40,8 @@ fn words_of(rt: &HostRuntime) -> io::Result<Vec<String>> {
 
 fn run(rt: &HostRuntime, words: &[String]) -> u8 {
     if asks_for_script(words) {
-        run_script_counted(rt.alloc(), &mut rt.reader(), &mut io::writer(rt)).status
+        let mut output = io::writer(rt);
+        run_script_counted(rt.alloc(), &mut rt.reader(), &mut output, Memory::Left).status
     } else {
         run_on_tables(rt, words)
     }

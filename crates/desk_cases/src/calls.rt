@@ -4,7 +4,7 @@
 use crate::asks::Ask;
 use crate::served::Sent;
 use desk_core::{Answer, Command, Refusal};
-use desk_program::{Ended, run_script_counted};
+use desk_program::{Ended, Memory, run_script_counted};
 use service_core::{AttachFault, Desk};
 use settings_core::Settings;
 use std::alloc::{AllocError, Global};
@@ -67,5 +67,5 @@ pub(crate) fn run_counted<R: Read, W: Write>(
     reader: &mut R,
     writer: &mut W,
 ) -> Ended {
-    run_script_counted(alloc, reader, writer)
+    run_script_counted(alloc, reader, writer, Memory::GivenBack)
 }

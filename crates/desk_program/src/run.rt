@@ -16,10 +16,12 @@ ghost use Rattle.desk_program.specs.Script.{LineLeads, line_of};
 
 use crate::fault_lines::{put_attach_fault, put_store_fault, put_unavailable};
 use crate::line::answer_line;
+use crate::script::Memory;
 use service_core::Desk;
 use settings_core::Settings;
 use std::alloc::Global;
 use std::io::Write;
+use std::mem::forget;
 use store_core::{Backend, Store};
 use stream_core::CountedWriter;
 
@@ -35,6 +37,7 @@ pub(crate) fn run_in_memory<W: Write>(
     settings: Settings,
     commands: &str,
     output: &mut CountedWriter<'_, W>,
+    memory: Memory,
 ) -> u8
     ensures same_writer { HaveOneWriter output.new output.old }
     ensures printed { (text : List ℕ)
@@ -42,7 +45,7 @@ pub(crate) fn run_in_memory<W: Write>(
         × Prints W.contents output.old output.new text }
 {
     match Store::open_in_memory(alloc) {
-        Ok(store) => run_in_store(alloc, store, settings, commands, output),
+        Ok(store) => run_in_store(alloc, store, settings, commands, output, memory),
         Err(fault) => {
             drop(settings);
             put_store_fault(output, fault);
@@ -58,6 +61,7 @@ fn run_in_store<S: Backend + Drop, W: Write>(
     settings: Settings,
     commands: &str,
     output: &mut CountedWriter<'_, W>,
+    memory: Memory,
 ) -> u8
     requires clean { HasCleanDisks S.Store }
     requires blank { IsBlank (state_of S.Store store) }
@@ -67,7 +71,7 @@ fn run_in_store<S: Backend + Drop, W: Write>(
         × Prints W.contents output.old output.new text }
 {
     match store.create_schema(alloc) {
-        Ok(()) => run_on_tables(alloc, store, settings, commands, output),
+        Ok(()) => run_on_tables(alloc, store, settings, commands, output, memory),
         Err(fault) => {
             drop(settings);
             drop(store);
@@ -84,6 +88,7 @@ fn run_on_tables<S: Backend + Drop, W: Write>(
     settings: Settings,
     commands: &str,
     output: &mut CountedWriter<'_, W>,
+    memory: Memory,
 ) -> u8
     requires clean { HasCleanDisks S.Store }
     requires empty { StandsFor empty_desk (state_of S.Store store) }
@@ -95,7 +100,7 @@ fn run_on_tables<S: Backend + Drop, W: Write>(
     match Desk::attach(alloc, store, settings) {
         Ok(mut desk) => {
             run_lines(alloc, &mut desk, commands, output);
-            drop(desk);
+            let_go(desk, memory);
             DONE
         }
         Err((fault, store)) => {
@@ -103,6 +108,13 @@ fn run_on_tables<S: Backend + Drop, W: Write>(
             put_attach_fault(output, fault);
             NO_DESK
         }
+    }
+}
+
+fn let_go<S: Backend + Drop>(desk: Desk<S>, memory: Memory) {
+    match memory {
+        Memory::GivenBack => drop(desk),
+        Memory::Left => forget(desk),
     }
 }
 

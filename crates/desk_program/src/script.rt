@@ -24,6 +24,16 @@ const BAD_SETTINGS: u8 = 3;
 /// The exit status where the input has a fault, or a write failed.
 const BAD_INPUT: u8 = 4;
 
+/// What becomes of the memory of a script's desk when the script has ended.
+#[derive(Clone, Copy, Debug, PartialEq, Eq)]
+pub enum Memory {
+    /// It is given back.
+    GivenBack,
+    /// It is left to the process, which ends: to give back the rows of a large desk one by one
+    /// takes time, and serves nobody then.
+    Left,
+}
+
 /// How a script ended, and how often its reader and its writer were called.
 #[derive(Clone, Copy, Debug, PartialEq, Eq)]
 pub struct Ended {
@@ -74,11 +84,16 @@ pub fn run_script<R: Read, W: Write>(alloc: Global, reader: &mut R, writer: &mut
         (R.remaining reader.old) (W.contents writer.old) (W.contents writer.new) ended }
     ensures taken { ConsumesAtMost (R.remaining reader.old) (R.remaining reader.new) 1048577 }
 {
-    run_script_counted(alloc, reader, writer).status
+    run_script_counted(alloc, reader, writer, Memory::GivenBack).status
 }
 
 /// Runs a script as `run_script` does, and counts the reads and the writes.
-pub fn run_script_counted<R: Read, W: Write>(alloc: Global, reader: &mut R, writer: &mut W) -> Ended
+pub fn run_script_counted<R: Read, W: Write>(
+    alloc: Global,
+    reader: &mut R,
+    writer: &mut W,
+    memory: Memory,
+) -> Ended
     ensures ran { RunsScript
         (R.remaining reader.old) (W.contents writer.old) (W.contents writer.new) result }
     ensures taken { ConsumesAtMost (R.remaining reader.old) (R.remaining reader.new) 1048577 }
@@ -86,7 +101,7 @@ pub fn run_script_counted<R: Read, W: Write>(alloc: Global, reader: &mut R, writ
 {
     let mut reader = CountedReader::new(reader);
     let mut output = CountedWriter::new(writer);
-    let status = print_script(alloc, &mut reader, &mut output);
+    let status = print_script(alloc, &mut reader, &mut output, memory);
     Ended::new(status, &reader, &output)
 }
 
@@ -95,6 +110,7 @@ fn print_script<R: Read, W: Write>(
     alloc: Global,
     reader: &mut CountedReader<'_, R>,
     output: &mut CountedWriter<'_, W>,
+    memory: Memory,
 ) -> u8
     ensures same_reader { HaveOneReader reader.new reader.old }
     ensures same_writer { HaveOneWriter output.new output.old }
@@ -106,7 +122,7 @@ fn print_script<R: Read, W: Write>(
     ensures reads { reads_of reader.new ≤ reads_of reader.old + 1048577 }
 {
     match take_input(alloc, reader) {
-        Ok(input) => run_input(alloc, input.as_slice(), output),
+        Ok(input) => run_input(alloc, input.as_slice(), output, memory),
         Err(fault) => {
             put_input_fault(output, fault);
             BAD_INPUT
@@ -115,14 +131,19 @@ fn print_script<R: Read, W: Write>(
 }
 
 /// Runs an input that isn't too long.
-fn run_input<W: Write>(alloc: Global, input: &[u8], output: &mut CountedWriter<'_, W>) -> u8
+fn run_input<W: Write>(
+    alloc: Global,
+    input: &[u8],
+    output: &mut CountedWriter<'_, W>,
+    memory: Memory,
+) -> u8
     ensures same_writer { HaveOneWriter output.new output.old }
     ensures printed { (found : Result form.Script InputFault) × (text : List ℕ)
         × form.IsScriptWithin input.now found × script.IsScriptOutput found text result
         × Prints W.contents output.old output.new text }
 {
     match script_of(input) {
-        Ok(script) => run_commands(alloc, script.settings, script.commands, output),
+        Ok(script) => run_commands(alloc, script.settings, script.commands, output, memory),
         Err(fault) => {
             put_input_fault(output, fault);
             BAD_INPUT
@@ -136,6 +157,7 @@ fn run_commands<W: Write>(
     settings: &[u8],
     commands: &str,
     output: &mut CountedWriter<'_, W>,
+    memory: Memory,
 ) -> u8
     ensures same_writer { HaveOneWriter output.new output.old }
     ensures printed { (given : Result Settings SettingsFault) × (text : List ℕ)
@@ -144,7 +166,7 @@ fn run_commands<W: Write>(
         × Prints W.contents output.old output.new text }
 {
     match read_settings(alloc, settings) {
-        Ok(settings) => run_in_memory(alloc, settings, commands, output),
+        Ok(settings) => run_in_memory(alloc, settings, commands, output, memory),
         Err(fault) => {
             put_settings_fault(output, fault);
             BAD_SETTINGS
