@@ -1,6 +1,6 @@
 //! Grants under their rights and names, so that one is found without a walk over all.
 
-ghost use Rattle.std.specs.Prelude.{◌≡◌, ◌&&◌, ◌||◌, ◌++◌, ◌∷◌, [], ℕ, List, string_bytes};
+ghost use Rattle.std.specs.Prelude.{◌≡◌, ◌&&◌, ◌||◌, ◌++◌, ◌∷◌, [], ℕ, List};
 ghost use Rattle.std.specs.Prelude.{if◌then◌else◌, IfOk, OnOk};
 ghost use Rattle.std.specs.List.{list_any};
 ghost use Rattle.std.specs.Str.{bytes_eq};
@@ -28,7 +28,7 @@ pub(crate) fn by_right(alloc: Global, grants: &[Grant]) -> Result<GrantsByRight,
     let mut kept: GrantsByRight = HashMap::new(alloc);
     for grant in grants {
         let name = subject_name(&grant.subject);
-        put(alloc, &mut kept, grant.right.as_str(), name, grant.clone()?)?;
+        put(alloc, &mut kept, grant.right.as_str(), name, grant)?;
     }
     Ok(kept)
 }
@@ -38,25 +38,30 @@ fn put(
     kept: &mut GrantsByRight,
     right: &str,
     name: &str,
-    grant: Grant,
+    grant: &Grant,
 ) -> Result<(), AllocError>
     ensures { OnOk result ((r n : List ℕ) → words.grants_under kept.new r n
         ≡ (if bytes_eq r right.now && bytes_eq n name.now
-        then words.grants_under kept.old r n ++ grant ∷ []
+        then words.grants_under kept.old r n ++ grant.now ∷ []
         else words.grants_under kept.old r n)) }
 {
     let right = String::from_str(alloc, right)?;
-    let name = String::from_str(alloc, name)?;
-    put_under(kept.entry(right)?.or_default(), name, grant)?;
+    put_under(alloc, kept.entry(right)?.or_default(), name, grant)?;
     Ok(())
 }
 
-fn put_under(kept: &mut GrantsByName, name: String, grant: Grant) -> Result<(), AllocError>
+fn put_under(
+    alloc: Global,
+    kept: &mut GrantsByName,
+    name: &str,
+    grant: &Grant,
+) -> Result<(), AllocError>
     ensures { OnOk result ((q : List ℕ) → words.grants_to kept.new q
-        ≡ (if bytes_eq q (string_bytes name) then words.grants_to kept.old q ++ grant ∷ []
+        ≡ (if bytes_eq q name.now then words.grants_to kept.old q ++ grant.now ∷ []
         else words.grants_to kept.old q)) }
 {
-    kept.entry(name)?.or_default().push(grant)?;
+    let name = String::from_str(alloc, name)?;
+    kept.entry(name)?.or_default().push(grant.clone()?)?;
     Ok(())
 }
 
