@@ -114,22 +114,30 @@ fn standard_calendar(alloc: Global) -> Result<Calendar, HoursFault>
 fn standard_parts(alloc: Global) -> Result<CalendarParts, AllocError>
     ensures { IfOk result (λ p. hours_stated p ≡ spec.standard_stated) }
 {
+    let week = standard_week(alloc)?;
     Ok(CalendarParts {
         offset: 0,
         changes: Vec::new(alloc),
         rule: None,
-        week: [
-            Intervals::from(Vec::new(alloc)),
-            working_day(alloc)?,
-            working_day(alloc)?,
-            working_day(alloc)?,
-            working_day(alloc)?,
-            working_day(alloc)?,
-            Intervals::from(Vec::new(alloc)),
-        ],
+        week,
         holidays: Vec::new(alloc),
         years: YEARS,
     })
+}
+
+/// Monday to Friday from 09:00 to 18:00.
+fn standard_week(alloc: Global) -> Result<[Intervals; 7], AllocError>
+    ensures { IfOk result (λ week. week ≡ spec.standard_stated.week) }
+{
+    Ok([
+        Intervals::from(Vec::new(alloc)),
+        working_day(alloc)?,
+        working_day(alloc)?,
+        working_day(alloc)?,
+        working_day(alloc)?,
+        working_day(alloc)?,
+        Intervals::from(Vec::new(alloc)),
+    ])
 }
 
 /// From 09:00 to 18:00.
