@@ -9,7 +9,7 @@ use std::alloc::AllocError;
 use text_core::Text;
 
 /// A queue, under its name.
-#[derive(Clone, Debug, PartialEq, Eq, Drop)]
+#[derive(Debug, Drop)]
 pub struct QueueRow {
     pub name: Text,
     /// The lifecycle that its requests follow.
@@ -19,14 +19,14 @@ pub struct QueueRow {
 }
 
 /// Whose answer is awaited.
-#[derive(Clone, Copy, Debug, PartialEq, Eq)]
+#[derive(Clone, Copy, Debug)]
 pub enum Turn {
     Desk,
     Requestor,
 }
 
 /// A request, under its number.
-#[derive(Debug, PartialEq, Eq, Drop)]
+#[derive(Debug, Drop)]
 pub struct RequestRow {
     pub id: u32,
     pub queue: Text,
@@ -73,7 +73,7 @@ impl Clone for RequestRow {
 }
 
 /// What a person is to a request besides its owner.
-#[derive(Clone, Copy, Debug, PartialEq, Eq)]
+#[derive(Clone, Copy, Debug)]
 pub enum WatchRole {
     Requestor,
     Cc,
@@ -81,7 +81,7 @@ pub enum WatchRole {
 }
 
 /// A person in a role on a request.
-#[derive(Clone, Debug, PartialEq, Eq, Drop)]
+#[derive(Debug, Drop)]
 pub struct Watcher {
     pub id: u32,
     pub role: WatchRole,
@@ -105,7 +105,7 @@ pub struct LinkRow {
 }
 
 /// What an entry of a history tells.
-#[derive(Clone, Copy, Debug, PartialEq, Eq)]
+#[derive(Clone, Copy, Debug)]
 pub enum EntryKind {
     /// The request was filed: `body` is its first status.
     Create,
@@ -153,7 +153,7 @@ impl EntryKind {
 }
 
 /// An entry of a request's history. The entries of a request are numbered from 1 without gaps.
-#[derive(Clone, Debug, PartialEq, Eq, Drop)]
+#[derive(Debug, Drop)]
 pub struct Entry {
     pub id: u32,
     pub number: u32,

@@ -19,7 +19,7 @@ const MAX_PORT: u32 = 65_535;
 const MAX_CONNECTIONS: u32 = 1_000_000;
 
 /// What a server is asked for.
-#[derive(Clone, Copy, Debug)]
+#[derive(Clone, Copy)]
 pub struct Serving<'w> {
     /// The path of the file of tables.
     pub tables: &'w str,
@@ -107,7 +107,7 @@ fn number_up_to(most: u32, word: &str) -> Option<u32>
 }
 
 /// One command that is asked of a file of tables.
-#[derive(Clone, Copy, Debug)]
+#[derive(Clone, Copy)]
 pub struct OneCommand<'w> {
     /// The path of the file of tables.
     pub tables: &'w str,

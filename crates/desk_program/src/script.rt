@@ -25,7 +25,7 @@ const BAD_SETTINGS: u8 = 3;
 const BAD_INPUT: u8 = 4;
 
 /// What becomes of the memory of a script's desk when the script has ended.
-#[derive(Clone, Copy, Debug, PartialEq, Eq)]
+#[derive(Clone, Copy)]
 pub enum Memory {
     /// It is given back.
     GivenBack,
@@ -35,7 +35,7 @@ pub enum Memory {
 }
 
 /// How a script ended, and how often its reader and its writer were called.
-#[derive(Clone, Copy, Debug, PartialEq, Eq)]
+#[derive(Clone, Copy)]
 pub struct Ended {
     /// The exit status.
     pub status: u8,

@@ -12,7 +12,7 @@ use crate::zone::Zone;
 use std::alloc::Global;
 
 /// Opening hours: the spans of open minutes.
-#[derive(Debug, Drop)]
+#[derive(Drop)]
 pub struct Calendar {
     pub(crate) spans: Spans,
 }

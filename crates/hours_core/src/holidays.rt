@@ -7,7 +7,7 @@ use std::alloc::{AllocError, Global};
 use std::marker::Model;
 
 /// Days, as numbers of days since 1970-01-01, which contracts see as a list that doesn't fall.
-#[derive(Debug, Drop)]
+#[derive(Drop)]
 pub struct Holidays {
     days: Vec<u32>,
 }

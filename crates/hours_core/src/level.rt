@@ -11,7 +11,7 @@ use crate::stay::Stay;
 use text_core::{Text, Texts};
 
 /// How long something may take, in minutes.
-#[derive(Clone, Copy, Debug, PartialEq, Eq)]
+#[derive(Clone, Copy)]
 pub enum Limit {
     /// In minutes of any kind.
     RealMinutes(u32),
@@ -20,7 +20,7 @@ pub enum Limit {
 }
 
 /// How soon a request is to be answered and resolved, by the hours of a calendar.
-#[derive(Debug, Drop)]
+#[derive(Drop)]
 pub struct Level {
     /// The calendar's name.
     pub calendar: Text,

@@ -22,7 +22,7 @@ use std::marker::Model;
 
 /// Opening hours as they are given: in a zone's time by days of the week, from the first to the
 /// last year, but not on holidays.
-#[derive(Debug, Drop)]
+#[derive(Drop)]
 pub struct Schedule {
     zone: Zone,
     week: Vec<Intervals>,

@@ -11,7 +11,7 @@ use std::marker::Model;
 
 /// A run of open minutes, from its start to before its end, and the number of open minutes before
 /// it.
-#[derive(Clone, Copy, Debug)]
+#[derive(Clone, Copy)]
 pub struct Span {
     pub start: u32,
     pub end: u32,
@@ -30,7 +30,7 @@ impl Span {
 /// The runs of open minutes in order, with at least a minute between two of them.
 ///
 /// A span is read only by `read`, which counts.
-#[derive(Debug, Drop)]
+#[derive(Drop)]
 pub struct Spans {
     items: Vec<Span>,
 }
@@ -49,7 +49,7 @@ impl Model for Spans {
 }
 
 /// How many spans were read, up to the greatest `u32`.
-#[derive(Debug, Drop)]
+#[derive(Drop)]
 pub struct Probes {
     count: u32,
 }

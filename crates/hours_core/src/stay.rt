@@ -7,7 +7,7 @@ use crate::moment::{END, Minute};
 use text_core::Text;
 
 /// A time in a status.
-#[derive(Clone, Debug, PartialEq, Eq, Drop)]
+#[derive(Clone, Debug, Drop)]
 pub struct Stay {
     pub status: Text,
     /// When it began.

@@ -15,7 +15,7 @@ use std::marker::Model;
 pub(crate) const MAX_CHANGES: usize = 400;
 
 /// The offset of local time, which contracts see as its first value and its changes.
-#[derive(Debug, Drop)]
+#[derive(Drop)]
 pub struct Zone {
     first: i64,
     changes: Vec<(i64, i64)>,

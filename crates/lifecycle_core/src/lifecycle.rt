@@ -21,7 +21,7 @@ const DELETE_TICKET: &str = "DeleteTicket";
 const MODIFY_TICKET: &str = "ModifyTicket";
 
 /// Which of a lifecycle's three lists a status is in.
-#[derive(Clone, Copy, Debug, PartialEq, Eq)]
+#[derive(Clone, Copy)]
 pub enum Class {
     Initial,
     Active,
@@ -31,7 +31,7 @@ pub enum Class {
 /// The statuses of requests, the moves between them and the rights that these ask for.
 ///
 /// It is seen as the parts that it was built from, which have no fault.
-#[derive(Clone, Debug, Drop)]
+#[derive(Drop)]
 pub struct Lifecycle {
     parts: Parts,
 }

@@ -9,14 +9,14 @@ use text_core::{Sequence, Text, Texts};
 pub const ANY_STATUS: &str = "*";
 
 /// A move of a request from one status to another.
-#[derive(Clone, Debug, Drop)]
+#[derive(Clone, Drop)]
 pub struct Move {
     pub from: Text,
     pub to: Text,
 }
 
 /// The right that a move asks for. Either status may be `ANY_STATUS`.
-#[derive(Clone, Debug, Drop)]
+#[derive(Clone, Drop)]
 pub struct MoveRight {
     pub from: Text,
     pub to: Text,
@@ -24,7 +24,7 @@ pub struct MoveRight {
 }
 
 /// What a lifecycle is built from.
-#[derive(Clone, Debug, Drop)]
+#[derive(Drop)]
 pub struct Parts {
     /// The statuses of requests that nobody works on yet.
     pub initial: Texts,

@@ -27,7 +27,7 @@ const MAX_LINES: usize = 32;
 const LINES_READ: usize = 64;
 
 /// How bytes at the front of a stream stand to a head of at most 32 header lines.
-#[derive(Clone, Copy, PartialEq, Eq)]
+#[derive(Clone, Copy)]
 enum Standing {
     /// They begin with one.
     Whole,

@@ -12,7 +12,7 @@ use std::alloc::{AllocError, Global};
 use text_core::Sequence;
 
 /// The methods that a path has.
-#[derive(Clone, Copy, Debug, PartialEq, Eq)]
+#[derive(Clone, Copy)]
 pub enum Allow {
     Get,
     Post,

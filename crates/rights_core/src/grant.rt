@@ -4,7 +4,7 @@ use crate::role::Role;
 use text_core::Text;
 
 /// Whom a grant is for.
-#[derive(Clone, Debug, Drop)]
+#[derive(Clone, Drop)]
 pub enum Subject {
     /// Every person.
     Everyone,
@@ -17,7 +17,7 @@ pub enum Subject {
 }
 
 /// A right that is given to a subject on one queue, or on all.
-#[derive(Clone, Debug, Drop)]
+#[derive(Clone, Drop)]
 pub struct Grant {
     pub right: Text,
     pub subject: Subject,

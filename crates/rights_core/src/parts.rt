@@ -8,7 +8,7 @@ use std::alloc::{AllocError, Global};
 use text_core::{Sequence, Text, Texts};
 
 /// A group and its members.
-#[derive(Clone, Debug, Drop)]
+#[derive(Clone, Drop)]
 pub struct Group {
     pub name: Text,
     /// The names of persons and of groups. One that is named again counts once.
@@ -16,7 +16,7 @@ pub struct Group {
 }
 
 /// What people are seen as.
-#[derive(Clone, Debug, Drop)]
+#[derive(Drop)]
 pub struct Parts {
     pub persons: Texts,
     pub groups: Sequence<Group>,

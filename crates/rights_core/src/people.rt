@@ -20,7 +20,7 @@ use text_core::{Text, is_among};
 ///
 /// People are seen as the persons, groups and grants that they were built from, which have no
 /// fault.
-#[derive(Debug, Drop)]
+#[derive(Drop)]
 pub struct People {
     parts: Parts,
     memberships: Memberships,

@@ -4,7 +4,7 @@ ghost use Rattle.std.specs.Prelude.{◌≡◌};
 ghost use Rattle.rights_core.specs.People as words;
 
 /// What a person may be to a request.
-#[derive(Clone, Copy, Debug, PartialEq, Eq)]
+#[derive(Clone, Copy)]
 pub enum Role {
     Owner,
     Requestor,
@@ -13,7 +13,7 @@ pub enum Role {
 }
 
 /// Which roles a person has on a request.
-#[derive(Clone, Copy, Debug, PartialEq, Eq)]
+#[derive(Clone, Copy)]
 pub struct Roles {
     pub owner: bool,
     pub requestor: bool,

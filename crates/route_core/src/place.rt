@@ -8,7 +8,7 @@ use message_core::Allow;
 use std::alloc::{AllocError, Global};
 
 /// What is posted to a request.
-#[derive(Clone, Copy, Debug, PartialEq, Eq)]
+#[derive(Clone, Copy)]
 pub enum Act {
     Status,
     Take,
@@ -25,7 +25,7 @@ pub enum Act {
 }
 
 /// Where a path leads.
-#[derive(Clone, Copy, Debug, PartialEq, Eq)]
+#[derive(Clone, Copy)]
 pub enum Place {
     /// `/queues`
     Queues,

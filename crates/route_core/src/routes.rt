@@ -6,7 +6,7 @@ use matchit::{InsertError, Router};
 use std::alloc::{AllocError, Global};
 
 /// A route of the table.
-#[derive(Clone, Copy, Debug, PartialEq, Eq)]
+#[derive(Clone, Copy)]
 pub(crate) enum Route {
     /// `/queues`
     Queues,

@@ -7,7 +7,7 @@ ghost use Rattle.settings_core.specs.Named.{under};
 use text_core::Text;
 
 /// A lifecycle, a calendar or a level under its name.
-#[derive(Debug, Drop)]
+#[derive(Drop)]
 pub struct Named<T> {
     pub name: Text,
     pub value: T,

@@ -29,7 +29,7 @@ use text_core::Sequence;
 use toml::Table;
 
 /// The people, the lifecycles, the calendars, the levels, the tokens and the limits of a desk.
-#[derive(Debug, Drop)]
+#[derive(Drop)]
 pub struct Settings {
     people: People,
     lifecycles: Sequence<Named<Lifecycle>>,

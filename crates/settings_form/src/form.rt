@@ -8,7 +8,7 @@ use self::Item::{Boolean, Integer, Pair, Table, Text};
 use self::Kind::{Many, One};
 
 /// A table of a settings text.
-#[derive(Clone, Copy, Debug)]
+#[derive(Clone, Copy)]
 pub enum Place {
     Top,
     Groups,
@@ -26,7 +26,7 @@ pub enum Place {
 }
 
 /// A form that a text may have to have.
-#[derive(Clone, Copy, Debug)]
+#[derive(Clone, Copy)]
 pub enum TextForm {
     Any,
     Name,
@@ -37,7 +37,7 @@ pub enum TextForm {
 }
 
 /// One value.
-#[derive(Clone, Copy, Debug)]
+#[derive(Clone, Copy)]
 pub enum Item {
     Integer,
     Boolean,
@@ -48,7 +48,7 @@ pub enum Item {
 }
 
 /// What stands at a key: one value, or a list of any number of them.
-#[derive(Clone, Copy, Debug)]
+#[derive(Clone, Copy)]
 pub enum Kind {
     One(Item),
     Many(Item),

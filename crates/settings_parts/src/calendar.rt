@@ -13,7 +13,7 @@ use text_core::Text;
 use toml::Table;
 
 /// The parts that a calendar is built of.
-#[derive(Debug, Drop)]
+#[derive(Drop)]
 pub struct CalendarParts {
     /// The minutes before or after UTC, before all changes.
     pub offset: i64,

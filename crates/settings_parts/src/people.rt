@@ -24,7 +24,7 @@ const PERSON: &str = "person:";
 const GROUP: &str = "group:";
 
 /// A token and the person whom it stands for.
-#[derive(Debug, Drop)]
+#[derive(Drop)]
 pub struct Token {
     pub token: Text,
     pub person: Text,

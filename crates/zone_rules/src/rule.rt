@@ -14,7 +14,7 @@ use std::marker::Model;
 const LAST: u32 = 68_374_080;
 
 /// A rule of local time, which contracts see as what its text says.
-#[derive(Debug, Drop)]
+#[derive(Drop)]
 pub struct Rule {
     zone: TimeZone<'static>,
 }

@@ -11,7 +11,7 @@ use desk_model::{Command, LinkKind};
 
 /// A kind of link as a word names it: by its own name, or by that of its inverse, where the two
 /// requests change places.
-#[derive(Clone, Copy, Debug, PartialEq, Eq)]
+#[derive(Clone, Copy)]
 pub enum NamedKind {
     /// By its own name.
     Plain(LinkKind),
