@@ -9,7 +9,7 @@ use crate::changes::number;
 use crate::course::{Course, outcome};
 use crate::desks::attached;
 use crate::failure::Failure;
-use crate::stores::tell;
+use crate::lists::Line;
 use desk_core::{Command, RequestRow};
 use hours_core::{Minute, minute_text};
 use service_core::{Desk, outcome_text};
@@ -139,26 +139,13 @@ fn print_due(rt: &HostRuntime, due: Option<Minute>) -> Result<(), Failure> {
     Ok(())
 }
 
-/// Writes the due moments of all requests as the tables have them.
-pub(crate) fn list<S: Backend>(
-    rt: &HostRuntime,
-    line: &str,
-    store: &mut Store<S>,
-) -> Result<(), Failure> {
-    match store.dated_requests(rt.alloc()) {
-        Ok(dated) => tell_dated(rt, line, dated.as_slice()),
-        Err(fault) => tell(rt, line, Err(fault)),
-    }
-}
-
-fn tell_dated(rt: &HostRuntime, line: &str, dated: &[Dated]) -> Result<(), Failure> {
-    println!(rt; "{line}:")?;
-    for (request, due) in dated {
-        print!(rt; "  {}: ", request.id)?;
-        print_due(rt, *due)?;
+impl Line for Dated {
+    fn put(&self, rt: &HostRuntime) -> Result<(), Failure> {
+        print!(rt; "  {}: ", self.0.id)?;
+        print_due(rt, self.1)?;
         println!(rt; "")?;
+        Ok(())
     }
-    Ok(())
 }
 
 /// Sets due moments, each by words `ID MOMENT` or `ID -`.

@@ -42,8 +42,8 @@ fn slow(rt: &HostRuntime, line: &str, script: &[u8], fails_at: Option<u32>) -> R
     };
     let mut written = Vec::new(rt.alloc());
     let ended = run_counted(rt.alloc(), &mut reader, &mut written);
-    tell(rt, line, ended, reader.reads, ended.reads)?;
-    tell_written(rt, written.as_slice())
+    let calls = (reader.reads, ended.reads);
+    tell(rt, line, ended, calls, written.as_slice())
 }
 
 fn endless(rt: &HostRuntime, line: &str) -> Result<(), Failure> {
@@ -53,8 +53,8 @@ fn endless(rt: &HostRuntime, line: &str) -> Result<(), Failure> {
     };
     let mut written = Vec::new(rt.alloc());
     let ended = run_counted(rt.alloc(), &mut reader, &mut written);
-    tell(rt, line, ended, reader.reads, ended.reads)?;
-    tell_written(rt, written.as_slice())
+    let calls = (reader.reads, ended.reads);
+    tell(rt, line, ended, calls, written.as_slice())
 }
 
 fn faltering(
@@ -72,28 +72,25 @@ fn faltering(
         writes: 0,
     };
     let ended = run_counted(rt.alloc(), &mut reader, &mut writer);
-    tell(rt, line, ended, writer.writes, ended.writes)?;
-    tell_written(rt, writer.taken.as_slice())
+    let calls = (writer.writes, ended.writes);
+    tell(rt, line, ended, calls, writer.taken.as_slice())
 }
 
-/// Writes how the script ended, how often the stream was called, and how often by the program's
-/// count.
+/// Writes how the script ended, how often the stream was called and how often by the program's
+/// count; then what the script wrote, and a line feed.
 fn tell(
     rt: &HostRuntime,
     line: &str,
     ended: Ended,
-    calls: u32,
-    counted: u64,
+    calls: (u32, u64),
+    written: &[u8],
 ) -> Result<(), Failure> {
     let status = ended.status;
     let failed = ended.failed;
-    println!(rt; "{line}: status {status}, failed {failed}, {calls} calls, {counted} counted")?;
-    Ok(())
-}
-
-/// Writes what the script wrote, and a line feed.
-fn tell_written(rt: &HostRuntime, written: &[u8]) -> Result<(), Failure> {
+    let (calls, counted) = calls;
     let text = str::from_utf8(written).unwrap_or("");
-    println!(rt; "{text}")?;
+    println!(rt;
+        "{line}: status {status}, failed {failed}, {calls} calls, {counted} counted\n{text}"
+    )?;
     Ok(())
 }

@@ -14,28 +14,94 @@ use text_core::Text;
 /// What stands where there is nothing to tell.
 const NONE: &str = "-";
 
-pub fn queues<S: Backend>(
+/// A row, which is written as a line.
+pub(crate) trait Line {
+    fn put(&self, rt: &HostRuntime) -> Result<(), Failure>;
+}
+
+/// Writes a call with the rows that it read, a line each, or with its fault.
+pub(crate) fn tell_rows<T: Line + Drop>(
     rt: &HostRuntime,
     line: &str,
-    store: &mut Store<S>,
+    read: Result<Vec<T>, StoreFault>,
 ) -> Result<(), Failure> {
-    match store.queues(rt.alloc()) {
-        Ok(rows) => tell_queues(rt, line, rows.as_slice()),
+    match read {
+        Ok(rows) => put_rows(rt, line, rows.as_slice()),
         Err(fault) => tell(rt, line, Err(fault)),
     }
 }
 
-fn tell_queues(rt: &HostRuntime, line: &str, rows: &[QueueRow]) -> Result<(), Failure> {
+fn put_rows<T: Line>(rt: &HostRuntime, line: &str, rows: &[T]) -> Result<(), Failure> {
     println!(rt; "{line}:")?;
     for row in rows {
-        let level = optional(&row.level);
-        println!(rt;
-            "  {} {} {level}",
-            row.name.as_str(),
-            row.lifecycle.as_str()
-        )?;
+        row.put(rt)?;
     }
     Ok(())
+}
+
+impl Line for QueueRow {
+    fn put(&self, rt: &HostRuntime) -> Result<(), Failure> {
+        let level = optional(&self.level);
+        println!(rt;
+            "  {} {} {level}",
+            self.name.as_str(),
+            self.lifecycle.as_str()
+        )?;
+        Ok(())
+    }
+}
+
+impl Line for RequestRow {
+    fn put(&self, rt: &HostRuntime) -> Result<(), Failure> {
+        let id = self.id;
+        let queue = self.queue.as_str();
+        let status = self.status.as_str();
+        let owner = optional(&self.owner);
+        let level = optional(&self.level);
+        let turn = turn(self.turn);
+        let since = self.since.get();
+        println!(rt; "  {id} {queue} {status} {owner} {level} {turn} {since}")?;
+        Ok(())
+    }
+}
+
+impl Line for Watcher {
+    fn put(&self, rt: &HostRuntime) -> Result<(), Failure> {
+        let id = self.id;
+        let role = role(self.role);
+        println!(rt; "  {id} {role} {}", self.person.as_str())?;
+        Ok(())
+    }
+}
+
+impl Line for LinkRow {
+    fn put(&self, rt: &HostRuntime) -> Result<(), Failure> {
+        let source = self.source;
+        let kind = kind(self.kind);
+        let target = self.target;
+        println!(rt; "  {source} {kind} {target}")?;
+        Ok(())
+    }
+}
+
+impl Line for Entry {
+    fn put(&self, rt: &HostRuntime) -> Result<(), Failure> {
+        let number = self.number;
+        println!(rt; "  {number} {} {}", self.actor.as_str(), self.body.as_str())?;
+        Ok(())
+    }
+}
+
+impl Line for Stay {
+    fn put(&self, rt: &HostRuntime) -> Result<(), Failure> {
+        let status = self.status.as_str();
+        let from = self.from.get();
+        match self.until {
+            Some(until) => println!(rt; "  {status} {from} {}", until.get())?,
+            None => println!(rt; "  {status} {from} {NONE}")?,
+        }
+        Ok(())
+    }
 }
 
 /// The requests, or those of a queue.
@@ -46,85 +112,10 @@ pub fn requests<S: Backend>(
     queue: &str,
 ) -> Result<(), Failure> {
     if queue.is_empty() {
-        return tell_requests(rt, line, store.requests(rt.alloc()));
+        return tell_rows(rt, line, store.requests(rt.alloc()));
     }
     let queue = Text::new(rt.alloc(), queue)?;
-    tell_requests(rt, line, store.requests_of(rt.alloc(), &queue))
-}
-
-fn tell_requests(
-    rt: &HostRuntime,
-    line: &str,
-    read: Result<Vec<RequestRow>, StoreFault>,
-) -> Result<(), Failure> {
-    match read {
-        Ok(rows) => put_requests(rt, line, rows.as_slice()),
-        Err(fault) => tell(rt, line, Err(fault)),
-    }
-}
-
-fn put_requests(rt: &HostRuntime, line: &str, rows: &[RequestRow]) -> Result<(), Failure> {
-    println!(rt; "{line}:")?;
-    for row in rows {
-        request(rt, row)?;
-    }
-    Ok(())
-}
-
-fn request(rt: &HostRuntime, row: &RequestRow) -> Result<(), Failure> {
-    let id = row.id;
-    let queue = row.queue.as_str();
-    let status = row.status.as_str();
-    let owner = optional(&row.owner);
-    let level = optional(&row.level);
-    let turn = turn(row.turn);
-    let since = row.since.get();
-    println!(rt; "  {id} {queue} {status} {owner} {level} {turn} {since}")?;
-    Ok(())
-}
-
-pub fn watchers<S: Backend>(
-    rt: &HostRuntime,
-    line: &str,
-    store: &mut Store<S>,
-) -> Result<(), Failure> {
-    match store.watchers(rt.alloc()) {
-        Ok(rows) => tell_watchers(rt, line, rows.as_slice()),
-        Err(fault) => tell(rt, line, Err(fault)),
-    }
-}
-
-fn tell_watchers(rt: &HostRuntime, line: &str, rows: &[Watcher]) -> Result<(), Failure> {
-    println!(rt; "{line}:")?;
-    for row in rows {
-        let id = row.id;
-        let role = role(row.role);
-        println!(rt; "  {id} {role} {}", row.person.as_str())?;
-    }
-    Ok(())
-}
-
-/// The links that were read.
-pub fn links(
-    rt: &HostRuntime,
-    line: &str,
-    read: Result<Vec<LinkRow>, StoreFault>,
-) -> Result<(), Failure> {
-    match read {
-        Ok(rows) => tell_links(rt, line, rows.as_slice()),
-        Err(fault) => tell(rt, line, Err(fault)),
-    }
-}
-
-fn tell_links(rt: &HostRuntime, line: &str, rows: &[LinkRow]) -> Result<(), Failure> {
-    println!(rt; "{line}:")?;
-    for row in rows {
-        let source = row.source;
-        let kind = kind(row.kind);
-        let target = row.target;
-        println!(rt; "  {source} {kind} {target}")?;
-    }
-    Ok(())
+    tell_rows(rt, line, store.requests_of(rt.alloc(), &queue))
 }
 
 /// The entries of a request.
@@ -134,19 +125,7 @@ pub fn entries<S: Backend>(
     store: &mut Store<S>,
     id: &str,
 ) -> Result<(), Failure> {
-    match store.entries_of(rt.alloc(), number(id)?) {
-        Ok(rows) => tell_entries(rt, line, rows.as_slice()),
-        Err(fault) => tell(rt, line, Err(fault)),
-    }
-}
-
-fn tell_entries(rt: &HostRuntime, line: &str, rows: &[Entry]) -> Result<(), Failure> {
-    println!(rt; "{line}:")?;
-    for row in rows {
-        let number = row.number;
-        println!(rt; "  {number} {} {}", row.actor.as_str(), row.body.as_str())?;
-    }
-    Ok(())
+    tell_rows(rt, line, store.entries_of(rt.alloc(), number(id)?))
 }
 
 /// The stays of a request in its statuses.
@@ -156,28 +135,7 @@ pub fn stays<S: Backend>(
     store: &mut Store<S>,
     id: &str,
 ) -> Result<(), Failure> {
-    match store.stays_of(rt.alloc(), number(id)?) {
-        Ok(rows) => tell_stays(rt, line, rows.as_slice()),
-        Err(fault) => tell(rt, line, Err(fault)),
-    }
-}
-
-fn tell_stays(rt: &HostRuntime, line: &str, rows: &[Stay]) -> Result<(), Failure> {
-    println!(rt; "{line}:")?;
-    for row in rows {
-        tell_stay(rt, row)?;
-    }
-    Ok(())
-}
-
-fn tell_stay(rt: &HostRuntime, stay: &Stay) -> Result<(), Failure> {
-    let status = stay.status.as_str();
-    let from = stay.from.get();
-    match stay.until {
-        Some(until) => println!(rt; "  {status} {from} {}", until.get())?,
-        None => println!(rt; "  {status} {from} {NONE}")?,
-    }
-    Ok(())
+    tell_rows(rt, line, store.stays_of(rt.alloc(), number(id)?))
 }
 
 /// What a move of a request looks at: its status, how many entries it has, and the statuses of what

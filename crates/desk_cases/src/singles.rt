@@ -115,8 +115,9 @@ fn run_alone<S: Backend + Drop>(
         asked.command(),
         &mut text,
     );
-    println!(rt; "{}: status {status}", asked.line)?;
-    println!(rt; "{}", str::from_utf8(text.as_slice()).unwrap_or(""))?;
+    let line = asked.line;
+    let text = str::from_utf8(text.as_slice()).unwrap_or("");
+    println!(rt; "{line}: status {status}\n{text}")?;
     Ok(())
 }
 
@@ -239,7 +240,7 @@ fn tell_ended(
     failed: bool,
     taken: &[u8],
 ) -> Result<(), Failure> {
-    println!(rt; "{line}: status {status}, failed {failed}")?;
-    println!(rt; "{}", str::from_utf8(taken).unwrap_or(""))?;
+    let text = str::from_utf8(taken).unwrap_or("");
+    println!(rt; "{line}: status {status}, failed {failed}\n{text}")?;
     Ok(())
 }

@@ -3,7 +3,7 @@
 use crate::changes::{change_of, number};
 use crate::dues;
 use crate::failure::Failure;
-use crate::lists::{entries, facts, facts_for, links, queues, requests, stays, watchers};
+use crate::lists::{entries, facts, facts_for, requests, stays, tell_rows};
 use desk_core::Change;
 use desk_model::stays::stays_after;
 use hours_core::Stay;
@@ -43,13 +43,13 @@ pub(crate) fn adopted(alloc: Global, statements: &str) -> Result<Store<MemStore>
 fn answer<S: Backend>(rt: &HostRuntime, store: &mut Store<S>, line: &str) -> Result<(), Failure> {
     let (call, rest) = line.split_once(' ').unwrap_or((line, ""));
     match call {
-        "queues" => queues(rt, line, store),
+        "queues" => tell_rows(rt, line, store.queues(rt.alloc())),
         "requests" => requests(rt, line, store, rest),
-        "watchers" => watchers(rt, line, store),
-        "links" => links(rt, line, store.links(rt.alloc())),
+        "watchers" => tell_rows(rt, line, store.watchers(rt.alloc())),
+        "links" => tell_rows(rt, line, store.links(rt.alloc())),
         "entries" => entries(rt, line, store, rest),
         "stays" => stays(rt, line, store, rest),
-        "dues" => dues::list(rt, line, store),
+        "dues" => tell_rows(rt, line, store.dated_requests(rt.alloc())),
         _ => answer_on_some(rt, store, line, call, rest),
     }
 }
@@ -64,8 +64,8 @@ fn answer_on_some<S: Backend>(
 ) -> Result<(), Failure> {
     match call {
         "version" => version(rt, line, store),
-        "links_from" => links(rt, line, store.links_from(rt.alloc(), number(rest)?)),
-        "links_to" => links(rt, line, store.links_to(rt.alloc(), number(rest)?)),
+        "links_from" => tell_rows(rt, line, store.links_from(rt.alloc(), number(rest)?)),
+        "links_to" => tell_rows(rt, line, store.links_to(rt.alloc(), number(rest)?)),
         "facts" => facts(rt, line, store, rest),
         "facts_for" => facts_for(rt, line, store, rest),
         _ => tell(rt, line, written(rt.alloc(), store, call, rest)?),

@@ -3,7 +3,7 @@
 use crate::leaves::calls::forms::{texts_of, yes_or_no};
 use lifecycle_core::{Class, Lifecycle, LifecycleFault, Move, MoveRight, Parts};
 use std::alloc::{AllocError, Global};
-use text_core::{Sequence, Text};
+use text_core::{Sequence, Text, Texts};
 
 /// What is answered where a call is none.
 const NO_CALL: &str = "no such call";
@@ -88,18 +88,37 @@ fn class_name(class: Option<Class>) -> &'static str {
 /// create, those for creation, the moves, each as `new>open`, and the rights, each as
 /// `new>open:ModifyTicket`.
 fn parts_of(alloc: Global, words: &[String]) -> Result<Option<Parts>, AllocError> {
-    let [initial, active, inactive, on_create, create, moves, rights] = words else {
+    let Some(words) = words.as_array() else {
         return Ok(None);
     };
-    Ok(Some(Parts {
-        initial: texts_of(alloc, initial.as_str())?,
-        active: texts_of(alloc, active.as_str())?,
-        inactive: texts_of(alloc, inactive.as_str())?,
-        on_create: Text::new(alloc, on_create.as_str())?,
-        create: texts_of(alloc, create.as_str())?,
-        moves: moves_of(alloc, moves.as_str())?,
-        rights: rights_of(alloc, rights.as_str())?,
-    }))
+    let mut parts = no_parts(alloc);
+    fill(alloc, words, &mut parts)?;
+    Ok(Some(parts))
+}
+
+fn no_parts(alloc: Global) -> Parts {
+    Parts {
+        initial: Texts::from(Vec::new(alloc)),
+        active: Texts::from(Vec::new(alloc)),
+        inactive: Texts::from(Vec::new(alloc)),
+        on_create: Text::from(String::new(alloc)),
+        create: Texts::from(Vec::new(alloc)),
+        moves: Sequence::from(Vec::new(alloc)),
+        rights: Sequence::from(Vec::new(alloc)),
+    }
+}
+
+/// Puts each part in its place, so that no more than these are taken apart where memory is refused.
+fn fill(alloc: Global, words: &[String; 7], parts: &mut Parts) -> Result<(), AllocError> {
+    let [initial, active, inactive, on_create, create, moves, rights] = words;
+    parts.initial = texts_of(alloc, initial.as_str())?;
+    parts.active = texts_of(alloc, active.as_str())?;
+    parts.inactive = texts_of(alloc, inactive.as_str())?;
+    parts.on_create = Text::new(alloc, on_create.as_str())?;
+    parts.create = texts_of(alloc, create.as_str())?;
+    parts.moves = moves_of(alloc, moves.as_str())?;
+    parts.rights = rights_of(alloc, rights.as_str())?;
+    Ok(())
 }
 
 fn moves_of(alloc: Global, line: &str) -> Result<Sequence<Move>, AllocError> {
