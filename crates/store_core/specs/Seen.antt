@@ -5,7 +5,7 @@ use Rattle.sqlite.specs.Store.{Ghosts}
 use Rattle.store_core.specs.declared.store.Store.{Store}
 
 abbrev pub connection_of : {S : Type 0} (g : Ghosts S) → Store S g → Held S
-connection_of g store = store.conn
+connection_of g store = store.tables.conn
 
 abbrev pub state_of : {S : Type 0} (g : Ghosts S) → Store S g → State
 state_of g store = state g (connection_of g store)

@@ -1,31 +1,30 @@
 //! A change is written, whole or not at all.
-ghost use Rattle.std.specs.Prelude.{◌≡◌, false, IfErr, OnErr, OnOk};
-ghost use Rattle.sqlite.specs.Held.{state};
+ghost use Rattle.std.specs.Prelude.{◌≡◌, IfErr, OnErr, OnOk};
 ghost use Rattle.store_tables.specs.Calls.{Lasts, Spares, WasClean};
 ghost use Rattle.store_tables.specs.Stands.{GoesBack};
 ghost use Rattle.store_tables.specs.declared.fault.StoreFault.{StoreFault};
 ghost use Rattle.store_core.specs.Applying.{Applies, Writes};
 ghost use Rattle.store_core.specs.Seen.{state_of};
+ghost use Rattle.store_tables.specs.Seen.{seen};
 
 use crate::change::write_change;
 use crate::store::Store;
 use desk_core::Change;
-use sqlite::{Alter, Connection};
+use sqlite::Alter;
 use store_tables::StoreFault;
 use store_tables::transaction::finish;
+use store_tables::Tables;
 
 /// Writes a change in one transaction: all of it, or none.
-fn apply_change<S: Alter>(conn: &mut Connection<S>, change: &Change) -> Result<(), StoreFault>
-    requires { conn.old.in_transaction ≡ false }
-    ensures idle { conn.new.in_transaction ≡ false }
-    ensures done { Writes change.now (state S.Store conn.old) (state S.Store conn.new) result }
+fn apply_change<S: Alter>(tables: &mut Tables<S>, change: &Change) -> Result<(), StoreFault>
+    ensures done { Writes change.now (seen S.Store tables.old) (seen S.Store tables.new) result }
     ensures undone { OnErr result
-        (GoesBack (state S.Store conn.old) (state S.Store conn.new)) }
-    ensures honest { WasClean (state S.Store conn.old) (state S.Store conn.new) }
-    ensures lasts { Lasts (state S.Store conn.old) (state S.Store conn.new) }
+        (GoesBack (seen S.Store tables.old) (seen S.Store tables.new)) }
+    ensures honest { WasClean (seen S.Store tables.old) (seen S.Store tables.new) }
+    ensures lasts { Lasts (seen S.Store tables.old) (seen S.Store tables.new) }
     ensures fault { IfErr result (λ e. e ≡ StoreFault.Refused) }
 {
-    let mut tx = conn.transaction();
+    let mut tx = tables.conn.transaction();
     write_change(&mut tx, change)?;
     finish(tx)
 }
@@ -46,6 +45,6 @@ impl<S: Alter> Store<S> {
         ensures lasts { Lasts (state_of S.Store self.old) (state_of S.Store self.new) }
         ensures fault { IfErr result (λ e. e ≡ StoreFault.Refused) }
     {
-        apply_change(&mut self.conn, change)
+        apply_change(&mut self.tables, change)
     }
 }

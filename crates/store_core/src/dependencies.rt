@@ -1,58 +1,55 @@
 //! What a request depends on, of its links and the rows that they lead to.
-ghost use Rattle.std.specs.Prelude.{◌++◌, ◌∷◌, ◌≡◌, ◌≢◌, IfErr, OnOk, [], false};
+ghost use Rattle.std.specs.Prelude.{◌++◌, ◌∷◌, ◌≡◌, ◌≢◌, IfErr, OnOk, []};
 ghost use Rattle.std.specs.List.{flat_map};
-ghost use Rattle.sqlite.specs.Held.{state};
 ghost use Rattle.desk_model.specs.Facts as facts;
 ghost use Rattle.store_tables.specs.declared.fault.StoreFault.{StoreFault};
 ghost use Rattle.store_tables.specs.Calls.{OnlyRefuses, Spares, Tells};
 ghost use Rattle.store_core.specs.Found as found;
+ghost use Rattle.store_tables.specs.Seen.{seen};
 
 use crate::seen_request::queue_at;
 use desk_core::{Dependency, LinkKind, LinkRow, QueueRow, RequestRow};
-use sqlite::{Alter, Connection};
+use sqlite::Alter;
 use std::alloc::Global;
 use store_tables::StoreFault;
 use store_tables::reads::links_by_key::links_of_kind;
 use store_tables::reads::requests_by_key::request_numbered;
 use text_core::Sequence;
+use store_tables::Tables;
 
 /// What a request depends on.
 pub(crate) fn dependencies_of<S: Alter>(
     alloc: Global,
-    conn: &mut Connection<S>,
+    tables: &mut Tables<S>,
     id: u32,
 ) -> Result<Sequence<Dependency>, StoreFault>
-    requires { conn.old.in_transaction ≡ false }
-    ensures idle { conn.new.in_transaction ≡ false }
     ensures told { Tells (λ desk all. all ≡ facts.dependencies_of desk id)
-        (state S.Store conn.old) (state S.Store conn.new) result }
-    ensures kept { Spares (state S.Store conn.old) (state S.Store conn.new) }
+        (seen S.Store tables.old) (seen S.Store tables.new) result }
+    ensures kept { Spares (seen S.Store tables.old) (seen S.Store tables.new) }
     ensures refuses { OnlyRefuses
-        (state S.Store conn.old) (state S.Store conn.new) result }
+        (seen S.Store tables.old) (seen S.Store tables.new) result }
     ensures fault { IfErr result (λ e. e ≢ StoreFault.WrongVersion) }
 {
-    let links = links_of_kind(alloc, conn, id, LinkKind::DependsOn)?;
-    dependencies_by(alloc, conn, links.as_slice())
+    let links = links_of_kind(alloc, tables, id, LinkKind::DependsOn)?;
+    dependencies_by(alloc, tables, links.as_slice())
 }
 
 /// What the links lead to.
 fn dependencies_by<S: Alter>(
     alloc: Global,
-    conn: &mut Connection<S>,
+    tables: &mut Tables<S>,
     links: &[LinkRow],
 ) -> Result<Sequence<Dependency>, StoreFault>
-    requires { conn.old.in_transaction ≡ false }
-    ensures idle { conn.new.in_transaction ≡ false }
     ensures told { Tells (λ desk all. all ≡ flat_map (found.dependency_by desk) links.now)
-        (state S.Store conn.old) (state S.Store conn.new) result }
-    ensures kept { Spares (state S.Store conn.old) (state S.Store conn.new) }
+        (seen S.Store tables.old) (seen S.Store tables.new) result }
+    ensures kept { Spares (seen S.Store tables.old) (seen S.Store tables.new) }
     ensures refuses { OnlyRefuses
-        (state S.Store conn.old) (state S.Store conn.new) result }
+        (seen S.Store tables.old) (seen S.Store tables.new) result }
     ensures fault { IfErr result (λ e. e ≢ StoreFault.WrongVersion) }
 {
     let mut all = Vec::new(alloc);
     for link in links {
-        put_dependency(&mut all, conn, link)?;
+        put_dependency(&mut all, tables, link)?;
     }
     Ok(Sequence::from(all))
 }
@@ -60,20 +57,18 @@ fn dependencies_by<S: Alter>(
 /// What a link leads to, at the end of the others.
 fn put_dependency<S: Alter>(
     all: &mut Vec<Dependency>,
-    conn: &mut Connection<S>,
+    tables: &mut Tables<S>,
     link: &LinkRow,
 ) -> Result<(), StoreFault>
-    requires { conn.old.in_transaction ≡ false }
-    ensures idle { conn.new.in_transaction ≡ false }
     ensures told { Tells (λ desk done.
         all.new.items ≡ all.old.items ++ found.dependency_by desk link.now)
-        (state S.Store conn.old) (state S.Store conn.new) result }
-    ensures kept { Spares (state S.Store conn.old) (state S.Store conn.new) }
+        (seen S.Store tables.old) (seen S.Store tables.new) result }
+    ensures kept { Spares (seen S.Store tables.old) (seen S.Store tables.new) }
     ensures refuses { OnlyRefuses
-        (state S.Store conn.old) (state S.Store conn.new) result }
+        (seen S.Store tables.old) (seen S.Store tables.new) result }
     ensures fault { IfErr result (λ e. e ≢ StoreFault.WrongVersion) }
 {
-    match dependency_at(conn, link.target)? {
+    match dependency_at(tables, link.target)? {
         None => Ok(()),
         Some(dependency) => push_dependency(all, dependency),
     }
@@ -91,22 +86,20 @@ fn push_dependency(all: &mut Vec<Dependency>, one: Dependency) -> Result<(), Sto
 
 /// What a request is to one that depends on it, if it and its queue are there.
 fn dependency_at<S: Alter>(
-    conn: &mut Connection<S>,
+    tables: &mut Tables<S>,
     id: u32,
 ) -> Result<Option<Dependency>, StoreFault>
-    requires { conn.old.in_transaction ≡ false }
-    ensures idle { conn.new.in_transaction ≡ false }
     ensures told { Tells (λ desk one. one ≡ found.dependency_at desk id)
-        (state S.Store conn.old) (state S.Store conn.new) result }
-    ensures kept { Spares (state S.Store conn.old) (state S.Store conn.new) }
+        (seen S.Store tables.old) (seen S.Store tables.new) result }
+    ensures kept { Spares (seen S.Store tables.old) (seen S.Store tables.new) }
     ensures refuses { OnlyRefuses
-        (state S.Store conn.old) (state S.Store conn.new) result }
+        (seen S.Store tables.old) (seen S.Store tables.new) result }
     ensures fault { IfErr result (λ e. e ≢ StoreFault.WrongVersion) }
 {
-    match request_numbered(conn, id)? {
+    match request_numbered(tables, id)? {
         None => Ok(None),
         Some(row) => {
-            let queue = queue_at(conn, &row.queue)?;
+            let queue = queue_at(tables, &row.queue)?;
             Ok(dependency_of(row, queue))
         }
     }

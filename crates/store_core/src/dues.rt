@@ -1,34 +1,33 @@
 //! Due moments are written, all or none.
-ghost use Rattle.std.specs.Prelude.{◌≡◌, false, IfErr, OnErr};
-ghost use Rattle.sqlite.specs.Held.{state};
+ghost use Rattle.std.specs.Prelude.{◌≡◌, IfErr, OnErr};
 ghost use Rattle.store_tables.specs.Calls.{Lasts, Spares, WasClean};
 ghost use Rattle.store_tables.specs.Stands.{GoesBack};
 ghost use Rattle.store_tables.specs.declared.fault.StoreFault.{StoreFault};
 ghost use Rattle.store_core.specs.Applying.{DatesDesk, WritesDues};
 ghost use Rattle.store_core.specs.Seen.{state_of};
+ghost use Rattle.store_tables.specs.Seen.{seen};
 
 use crate::store::Store;
 use hours_core::Minute;
-use sqlite::{Alter, Connection};
+use sqlite::Alter;
 use store_tables::StoreFault;
 use store_tables::transaction::finish;
 use store_tables::writes::requests::set_dues;
+use store_tables::Tables;
 
 /// Writes due moments in one transaction: all of them, or none.
 fn write_dues<S: Alter>(
-    conn: &mut Connection<S>,
+    tables: &mut Tables<S>,
     dues: &[(u32, Option<Minute>)],
 ) -> Result<(), StoreFault>
-    requires { conn.old.in_transaction ≡ false }
-    ensures idle { conn.new.in_transaction ≡ false }
-    ensures done { WritesDues dues.now (state S.Store conn.old) (state S.Store conn.new) result }
+    ensures done { WritesDues dues.now (seen S.Store tables.old) (seen S.Store tables.new) result }
     ensures undone { OnErr result
-        (GoesBack (state S.Store conn.old) (state S.Store conn.new)) }
-    ensures honest { WasClean (state S.Store conn.old) (state S.Store conn.new) }
-    ensures lasts { Lasts (state S.Store conn.old) (state S.Store conn.new) }
+        (GoesBack (seen S.Store tables.old) (seen S.Store tables.new)) }
+    ensures honest { WasClean (seen S.Store tables.old) (seen S.Store tables.new) }
+    ensures lasts { Lasts (seen S.Store tables.old) (seen S.Store tables.new) }
     ensures fault { IfErr result (λ e. e ≡ StoreFault.Refused) }
 {
-    let mut tx = conn.transaction();
+    let mut tx = tables.conn.transaction();
     set_dues(&mut tx, dues)?;
     finish(tx)
 }
@@ -49,6 +48,6 @@ impl<S: Alter> Store<S> {
         ensures lasts { Lasts (state_of S.Store self.old) (state_of S.Store self.new) }
         ensures fault { IfErr result (λ e. e ≡ StoreFault.Refused) }
     {
-        write_dues(&mut self.conn, dues)
+        write_dues(&mut self.tables, dues)
     }
 }

@@ -2,8 +2,7 @@
 //!
 //! What owns much is given back by `drop`, whose proof stands once; at the end of its scope it
 //! would be taken apart for each function's own proof.
-ghost use Rattle.std.specs.Prelude.{◌≡◌, ◌≢◌, IfErr, false, length};
-ghost use Rattle.sqlite.specs.Held.{state};
+ghost use Rattle.std.specs.Prelude.{◌≡◌, ◌≢◌, IfErr, length};
 ghost use Rattle.desk_model.specs.Desk as desk_at;
 ghost use Rattle.desk_model.specs.Facts as facts;
 ghost use Rattle.desk_model.specs.Links.{has_link};
@@ -14,6 +13,7 @@ ghost use Rattle.store_tables.specs.declared.fault.StoreFault.{StoreFault};
 ghost use Rattle.store_tables.specs.Calls.{OnlyRefuses, Spares, Tells};
 ghost use Rattle.store_core.specs.Found as found;
 ghost use Rattle.store_core.specs.Seen.{state_of};
+ghost use Rattle.store_tables.specs.Seen.{seen};
 
 use crate::dependencies::dependencies_of;
 use crate::seen_request::{queue_at, queue_of, seen_request_at};
@@ -21,13 +21,14 @@ use crate::stays::stays_if;
 use crate::store::Store;
 use desk_core::{Command, Dependency, Facts, LinkRow, QueueRow, Scope, SeenRequest};
 use hours_core::Stay;
-use sqlite::{Alter, Connection};
+use sqlite::Alter;
 use std::alloc::Global;
 use store_tables::StoreFault;
 use store_tables::reads::links_by_key::link_like;
 use store_tables::reads::queue_count::queue_count;
 use store_tables::reads::requests_by_key::last_id;
 use text_core::{Sequence, Text};
+use store_tables::Tables;
 
 impl<S: Alter> Store<S> {
     /// What a command looks at on the desk. `Mismatch` where a row is no value of its type,
@@ -41,7 +42,7 @@ impl<S: Alter> Store<S> {
             (state_of S.Store self.old) (state_of S.Store self.new) result }
         ensures fault { IfErr result (λ e. e ≢ StoreFault.WrongVersion) }
     {
-        facts_in(alloc, &mut self.conn, command.scope())
+        facts_in(alloc, &mut self.tables, command.scope())
     }
 
     /// The queue with that name, or none, by one read. `Mismatch` where the row is no queue,
@@ -55,138 +56,124 @@ impl<S: Alter> Store<S> {
             (state_of S.Store self.old) (state_of S.Store self.new) result }
         ensures fault { IfErr result (λ e. e ≢ StoreFault.WrongVersion) }
     {
-        queue_at(&mut self.conn, name)
+        queue_at(&mut self.tables, name)
     }
 }
 
 /// What is seen of a desk in a scope.
 fn facts_in<S: Alter>(
     alloc: Global,
-    conn: &mut Connection<S>,
+    tables: &mut Tables<S>,
     scope: Scope<'_>,
 ) -> Result<Facts, StoreFault>
-    requires { conn.old.in_transaction ≡ false }
-    ensures idle { conn.new.in_transaction ≡ false }
     ensures told { Tells (λ desk facts. facts ≡ seen_in scope.entry desk)
-        (state S.Store conn.old) (state S.Store conn.new) result }
-    ensures kept { Spares (state S.Store conn.old) (state S.Store conn.new) }
+        (seen S.Store tables.old) (seen S.Store tables.new) result }
+    ensures kept { Spares (seen S.Store tables.old) (seen S.Store tables.new) }
     ensures refuses { OnlyRefuses
-        (state S.Store conn.old) (state S.Store conn.new) result }
+        (seen S.Store tables.old) (seen S.Store tables.new) result }
     ensures fault { IfErr result (λ e. e ≢ StoreFault.WrongVersion) }
 {
     match scope {
         Scope::Nothing => Ok(no_facts(alloc)),
-        Scope::QueueAlone(name) => facts_of_queue(alloc, conn, name),
-        Scope::Queue(name) => facts_on_queue(alloc, conn, name),
-        Scope::Request(id) => facts_on(alloc, conn, id),
-        Scope::Dependencies(id) => facts_of_move(alloc, conn, id),
-        Scope::Link(link) => facts_of_link(alloc, conn, link),
+        Scope::QueueAlone(name) => facts_of_queue(alloc, tables, name),
+        Scope::Queue(name) => facts_on_queue(alloc, tables, name),
+        Scope::Request(id) => facts_on(alloc, tables, id),
+        Scope::Dependencies(id) => facts_of_move(alloc, tables, id),
+        Scope::Link(link) => facts_of_link(alloc, tables, link),
     }
 }
 
 /// Of a reading of a queue: the queue alone.
 fn facts_of_queue<S: Alter>(
     alloc: Global,
-    conn: &mut Connection<S>,
+    tables: &mut Tables<S>,
     name: &Text,
 ) -> Result<Facts, StoreFault>
-    requires { conn.old.in_transaction ≡ false }
-    ensures idle { conn.new.in_transaction ≡ false }
     ensures told { Tells (λ desk seen. seen ≡ facts.facts_of_queue desk name.now)
-        (state S.Store conn.old) (state S.Store conn.new) result }
-    ensures kept { Spares (state S.Store conn.old) (state S.Store conn.new) }
+        (seen S.Store tables.old) (seen S.Store tables.new) result }
+    ensures kept { Spares (seen S.Store tables.old) (seen S.Store tables.new) }
     ensures refuses { OnlyRefuses
-        (state S.Store conn.old) (state S.Store conn.new) result }
+        (seen S.Store tables.old) (seen S.Store tables.new) result }
     ensures fault { IfErr result (λ e. e ≢ StoreFault.WrongVersion) }
 {
-    let queue = queue_at(conn, name)?;
+    let queue = queue_at(tables, name)?;
     Ok(counted(alloc, queue, 0, 0))
 }
 
 /// Of a command that changes a queue: the queue and both counts.
 fn facts_on_queue<S: Alter>(
     alloc: Global,
-    conn: &mut Connection<S>,
+    tables: &mut Tables<S>,
     name: &Text,
 ) -> Result<Facts, StoreFault>
-    requires { conn.old.in_transaction ≡ false }
-    ensures idle { conn.new.in_transaction ≡ false }
     ensures told { Tells (λ desk seen. seen ≡ facts.facts_on_queue desk name.now)
-        (state S.Store conn.old) (state S.Store conn.new) result }
-    ensures kept { Spares (state S.Store conn.old) (state S.Store conn.new) }
+        (seen S.Store tables.old) (seen S.Store tables.new) result }
+    ensures kept { Spares (seen S.Store tables.old) (seen S.Store tables.new) }
     ensures refuses { OnlyRefuses
-        (state S.Store conn.old) (state S.Store conn.new) result }
+        (seen S.Store tables.old) (seen S.Store tables.new) result }
     ensures fault { IfErr result (λ e. e ≢ StoreFault.WrongVersion) }
 {
-    let queue_count = count_queues(conn)?;
-    let request_count = count_requests(conn)?;
-    let queue = queue_at(conn, name)?;
+    let queue_count = count_queues(tables)?;
+    let request_count = count_requests(tables)?;
+    let queue = queue_at(tables, name)?;
     Ok(counted(alloc, queue, queue_count, request_count))
 }
 
 /// How many queues there are.
-fn count_queues<S: Alter>(conn: &mut Connection<S>) -> Result<u32, StoreFault>
-    requires { conn.old.in_transaction ≡ false }
-    ensures idle { conn.new.in_transaction ≡ false }
+fn count_queues<S: Alter>(tables: &mut Tables<S>) -> Result<u32, StoreFault>
     ensures told { Tells (λ desk n. n ≡ length desk.queues)
-        (state S.Store conn.old) (state S.Store conn.new) result }
-    ensures kept { Spares (state S.Store conn.old) (state S.Store conn.new) }
+        (seen S.Store tables.old) (seen S.Store tables.new) result }
+    ensures kept { Spares (seen S.Store tables.old) (seen S.Store tables.new) }
     ensures fault { IfErr result (λ e. e ≡ StoreFault.Refused) }
 {
-    queue_count(conn)
+    queue_count(tables)
 }
 
 /// How many requests there are: the last number, since the numbers have no gaps.
-fn count_requests<S: Alter>(conn: &mut Connection<S>) -> Result<u32, StoreFault>
-    requires { conn.old.in_transaction ≡ false }
-    ensures idle { conn.new.in_transaction ≡ false }
+fn count_requests<S: Alter>(tables: &mut Tables<S>) -> Result<u32, StoreFault>
     ensures told { Tells (λ desk n. n ≡ length desk.requests)
-        (state S.Store conn.old) (state S.Store conn.new) result }
-    ensures kept { Spares (state S.Store conn.old) (state S.Store conn.new) }
+        (seen S.Store tables.old) (seen S.Store tables.new) result }
+    ensures kept { Spares (seen S.Store tables.old) (seen S.Store tables.new) }
     ensures refuses { OnlyRefuses
-        (state S.Store conn.old) (state S.Store conn.new) result }
+        (seen S.Store tables.old) (seen S.Store tables.new) result }
     ensures fault { IfErr result (λ e. e ≢ StoreFault.WrongVersion) }
 {
-    last_id(conn)
+    last_id(tables)
 }
 
 /// Of a command on a request: the request, its stays and its queue.
-fn facts_on<S: Alter>(alloc: Global, conn: &mut Connection<S>, id: u32) -> Result<Facts, StoreFault>
-    requires { conn.old.in_transaction ≡ false }
-    ensures idle { conn.new.in_transaction ≡ false }
+fn facts_on<S: Alter>(alloc: Global, tables: &mut Tables<S>, id: u32) -> Result<Facts, StoreFault>
     ensures told { Tells (λ desk seen. seen ≡ facts.facts_on_request desk id)
-        (state S.Store conn.old) (state S.Store conn.new) result }
-    ensures kept { Spares (state S.Store conn.old) (state S.Store conn.new) }
+        (seen S.Store tables.old) (seen S.Store tables.new) result }
+    ensures kept { Spares (seen S.Store tables.old) (seen S.Store tables.new) }
     ensures refuses { OnlyRefuses
-        (state S.Store conn.old) (state S.Store conn.new) result }
+        (seen S.Store tables.old) (seen S.Store tables.new) result }
     ensures fault { IfErr result (λ e. e ≢ StoreFault.WrongVersion) }
 {
-    let request = seen_request_at(alloc, conn, id)?;
-    let stays = stays_if(alloc, conn, id, request.is_some())?;
-    let queue = queue_of(conn, &request)?;
+    let request = seen_request_at(alloc, tables, id)?;
+    let stays = stays_if(alloc, tables, id, request.is_some())?;
+    let queue = queue_of(tables, &request)?;
     Ok(filed(alloc, queue, request, stays))
 }
 
 /// Of a move: what the request depends on too, which is nothing where it isn't there.
 fn facts_of_move<S: Alter>(
     alloc: Global,
-    conn: &mut Connection<S>,
+    tables: &mut Tables<S>,
     id: u32,
 ) -> Result<Facts, StoreFault>
-    requires { conn.old.in_transaction ≡ false }
-    ensures idle { conn.new.in_transaction ≡ false }
     ensures told { Tells (λ desk seen. seen ≡ besides_on Dependencies id desk)
-        (state S.Store conn.old) (state S.Store conn.new) result }
-    ensures kept { Spares (state S.Store conn.old) (state S.Store conn.new) }
+        (seen S.Store tables.old) (seen S.Store tables.new) result }
+    ensures kept { Spares (seen S.Store tables.old) (seen S.Store tables.new) }
     ensures refuses { OnlyRefuses
-        (state S.Store conn.old) (state S.Store conn.new) result }
+        (seen S.Store tables.old) (seen S.Store tables.new) result }
     ensures fault { IfErr result (λ e. e ≢ StoreFault.WrongVersion) }
 {
-    let facts = facts_on(alloc, conn, id)?;
+    let facts = facts_on(alloc, tables, id)?;
     if facts.request.is_none() {
         return Ok(facts);
     }
-    match dependencies_of(alloc, conn, id) {
+    match dependencies_of(alloc, tables, id) {
         Ok(dependencies) => Ok(with_dependencies(facts, dependencies)),
         Err(fault) => {
             drop(facts);
@@ -198,36 +185,32 @@ fn facts_of_move<S: Alter>(
 /// Of a link: the request at its other end too, and whether it is there.
 fn facts_of_link<S: Alter>(
     alloc: Global,
-    conn: &mut Connection<S>,
+    tables: &mut Tables<S>,
     link: LinkRow,
 ) -> Result<Facts, StoreFault>
-    requires { conn.old.in_transaction ≡ false }
-    ensures idle { conn.new.in_transaction ≡ false }
     ensures told { Tells (λ desk seen. seen ≡ seen_in (Scope.Link link) desk)
-        (state S.Store conn.old) (state S.Store conn.new) result }
-    ensures kept { Spares (state S.Store conn.old) (state S.Store conn.new) }
+        (seen S.Store tables.old) (seen S.Store tables.new) result }
+    ensures kept { Spares (seen S.Store tables.old) (seen S.Store tables.new) }
     ensures refuses { OnlyRefuses
-        (state S.Store conn.old) (state S.Store conn.new) result }
+        (seen S.Store tables.old) (seen S.Store tables.new) result }
     ensures fault { IfErr result (λ e. e ≢ StoreFault.WrongVersion) }
 {
-    let is_linked = is_there(conn, link)?;
-    let other = seen_request_at(alloc, conn, link.target)?;
-    let facts = facts_on(alloc, conn, link.source)?;
+    let is_linked = is_there(tables, link)?;
+    let other = seen_request_at(alloc, tables, link.target)?;
+    let facts = facts_on(alloc, tables, link.source)?;
     Ok(with_link(facts, other, is_linked))
 }
 
 /// Whether the link is there.
-fn is_there<S: Alter>(conn: &mut Connection<S>, link: LinkRow) -> Result<bool, StoreFault>
-    requires { conn.old.in_transaction ≡ false }
-    ensures idle { conn.new.in_transaction ≡ false }
+fn is_there<S: Alter>(tables: &mut Tables<S>, link: LinkRow) -> Result<bool, StoreFault>
     ensures told { Tells (λ desk there. there ≡ has_link desk link)
-        (state S.Store conn.old) (state S.Store conn.new) result }
-    ensures kept { Spares (state S.Store conn.old) (state S.Store conn.new) }
+        (seen S.Store tables.old) (seen S.Store tables.new) result }
+    ensures kept { Spares (seen S.Store tables.old) (seen S.Store tables.new) }
     ensures refuses { OnlyRefuses
-        (state S.Store conn.old) (state S.Store conn.new) result }
+        (seen S.Store tables.old) (seen S.Store tables.new) result }
     ensures fault { IfErr result (λ e. e ≢ StoreFault.WrongVersion) }
 {
-    let found = link_like(conn, link)?;
+    let found = link_like(tables, link)?;
     Ok(found.is_some())
 }
 

@@ -16,7 +16,7 @@ impl<S: Alter> Store<S> {
             ≡ limited limit (connection_of S.Store self.old) }
         ensures kept { Spares (state_of S.Store self.old) (state_of S.Store self.new) }
     {
-        self.conn.set_step_limit(steps_of(limit));
+        self.tables.conn.set_step_limit(steps_of(limit));
     }
 }
 

@@ -31,7 +31,7 @@ impl<S: Backend> Store<S> {
             (state_of S.Store self.old) (state_of S.Store self.new) result }
         ensures kept { Spares (state_of S.Store self.old) (state_of S.Store self.new) }
     {
-        reads::queues::queues(alloc, &mut self.conn)
+        reads::queues::queues(alloc, &mut self.tables)
     }
 
     /// The requests, in the order of their numbers. `Mismatch` where a row is no request, `Refused`
@@ -43,7 +43,7 @@ impl<S: Backend> Store<S> {
             (state_of S.Store self.old) (state_of S.Store self.new) result }
         ensures kept { Spares (state_of S.Store self.old) (state_of S.Store self.new) }
     {
-        reads::lists_requests::requests(alloc, &mut self.conn)
+        reads::lists_requests::requests(alloc, &mut self.tables)
     }
 
     /// The requests of a queue, in the order of their numbers. `Mismatch` where a row is no
@@ -60,7 +60,7 @@ impl<S: Backend> Store<S> {
             (state_of S.Store self.old) (state_of S.Store self.new) result }
         ensures kept { Spares (state_of S.Store self.old) (state_of S.Store self.new) }
     {
-        reads::lists_requests::requests_of(alloc, &mut self.conn, queue)
+        reads::lists_requests::requests_of(alloc, &mut self.tables, queue)
     }
 
     /// The requests, in the order of their numbers, each with the due moment that the tables keep.
@@ -76,7 +76,7 @@ impl<S: Backend> Store<S> {
             (state_of S.Store self.old) (state_of S.Store self.new) result }
         ensures kept { Spares (state_of S.Store self.old) (state_of S.Store self.new) }
     {
-        reads::dated_requests::dated_requests(alloc, &mut self.conn)
+        reads::dated_requests::dated_requests(alloc, &mut self.tables)
     }
 
     /// The requests of a queue, in the order of their numbers, each with the due moment that the
@@ -93,7 +93,7 @@ impl<S: Backend> Store<S> {
             (state_of S.Store self.old) (state_of S.Store self.new) result }
         ensures kept { Spares (state_of S.Store self.old) (state_of S.Store self.new) }
     {
-        reads::dated_requests::dated_of(alloc, &mut self.conn, queue)
+        reads::dated_requests::dated_of(alloc, &mut self.tables, queue)
     }
 
     /// The requests that are due before that moment, each with its due moment: by due moment, and
@@ -111,7 +111,7 @@ impl<S: Backend> Store<S> {
             (state_of S.Store self.old) (state_of S.Store self.new) result }
         ensures kept { Spares (state_of S.Store self.old) (state_of S.Store self.new) }
     {
-        reads::dated_requests::dated_before(alloc, &mut self.conn, at)
+        reads::dated_requests::dated_before(alloc, &mut self.tables, at)
     }
 
     /// The links, in the order of source, kind and target. `Mismatch` where a row is no link,
@@ -123,7 +123,7 @@ impl<S: Backend> Store<S> {
             (state_of S.Store self.old) (state_of S.Store self.new) result }
         ensures kept { Spares (state_of S.Store self.old) (state_of S.Store self.new) }
     {
-        reads::lists_links::links(alloc, &mut self.conn)
+        reads::lists_links::links(alloc, &mut self.tables)
     }
 
     /// The links that lead from a request, in the order of kind and target. `Mismatch`
@@ -136,7 +136,7 @@ impl<S: Backend> Store<S> {
             (state_of S.Store self.old) (state_of S.Store self.new) result }
         ensures kept { Spares (state_of S.Store self.old) (state_of S.Store self.new) }
     {
-        reads::lists_links::links_from(alloc, &mut self.conn, source)
+        reads::lists_links::links_from(alloc, &mut self.tables, source)
     }
 
     /// The links that lead to a request, in the order of source and kind. `Mismatch`
@@ -149,7 +149,7 @@ impl<S: Backend> Store<S> {
             (state_of S.Store self.old) (state_of S.Store self.new) result }
         ensures kept { Spares (state_of S.Store self.old) (state_of S.Store self.new) }
     {
-        reads::lists_links::links_to(alloc, &mut self.conn, target)
+        reads::lists_links::links_to(alloc, &mut self.tables, target)
     }
 
     /// The watchers, in the order of request, role and person. `Mismatch` where a row is no
@@ -161,7 +161,7 @@ impl<S: Backend> Store<S> {
             (state_of S.Store self.old) (state_of S.Store self.new) result }
         ensures kept { Spares (state_of S.Store self.old) (state_of S.Store self.new) }
     {
-        reads::lists_watchers::watchers(alloc, &mut self.conn)
+        reads::lists_watchers::watchers(alloc, &mut self.tables)
     }
 
     /// The watchers who are that person, in the order of request and role. `Mismatch` where a row
@@ -174,7 +174,7 @@ impl<S: Backend> Store<S> {
             (state_of S.Store self.old) (state_of S.Store self.new) result }
         ensures kept { Spares (state_of S.Store self.old) (state_of S.Store self.new) }
     {
-        reads::watches_by_person::watches_of(alloc, &mut self.conn, person)
+        reads::watches_by_person::watches_of(alloc, &mut self.tables, person)
     }
 
     /// The entries of a request, from the first, none where there is no such request. `Mismatch`
@@ -187,7 +187,7 @@ impl<S: Backend> Store<S> {
             (state_of S.Store self.old) (state_of S.Store self.new) result }
         ensures kept { Spares (state_of S.Store self.old) (state_of S.Store self.new) }
     {
-        reads::lists_entries::entries_of(alloc, &mut self.conn, id)
+        reads::lists_entries::entries_of(alloc, &mut self.tables, id)
     }
 
     /// The stays of a request, in order, none where there is no such request. `Mismatch` where a
@@ -200,7 +200,7 @@ impl<S: Backend> Store<S> {
             (state_of S.Store self.old) (state_of S.Store self.new) result }
         ensures kept { Spares (state_of S.Store self.old) (state_of S.Store self.new) }
     {
-        reads::stays::stays_of(alloc, &mut self.conn, id)
+        reads::stays::stays_of(alloc, &mut self.tables, id)
     }
 
     /// The stays of all requests, each with the number of its request, in the order of those
@@ -213,7 +213,7 @@ impl<S: Backend> Store<S> {
             (state_of S.Store self.old) (state_of S.Store self.new) result }
         ensures kept { Spares (state_of S.Store self.old) (state_of S.Store self.new) }
     {
-        reads::stays::stays(alloc, &mut self.conn)
+        reads::stays::stays(alloc, &mut self.tables)
     }
 
     /// Who made each entry, one name an entry, in no order that matters. `Mismatch` where one is no
@@ -225,6 +225,6 @@ impl<S: Backend> Store<S> {
             (state_of S.Store self.old) (state_of S.Store self.new) result }
         ensures kept { Spares (state_of S.Store self.old) (state_of S.Store self.new) }
     {
-        reads::actors::actors(alloc, &mut self.conn)
+        reads::actors::actors(alloc, &mut self.tables)
     }
 }

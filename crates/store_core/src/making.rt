@@ -1,5 +1,5 @@
 //! Making the tables, in a transaction.
-ghost use Rattle.std.specs.Prelude.{◌≡◌, ◌≢◌, ℕ, false, IfErr, IfOk, OnErr, OnOk, Option};
+ghost use Rattle.std.specs.Prelude.{◌≡◌, ◌≢◌, ℕ, IfErr, IfOk, OnErr, OnOk, Option};
 ghost use Rattle.sqlite.specs.Held.{state};
 ghost use Rattle.sqlite.specs.State.{HasCleanDisk};
 ghost use Rattle.store_tables.specs.Calls.{Lasts, WasClean};
@@ -15,12 +15,14 @@ ghost use Rattle.store_tables.specs.declared.fault.StoreFault.{StoreFault};
 ghost use Rattle.store_core.specs.Migrating.{BlamesUnknown, EitherHolds, EitherStand, Grows};
 ghost use Rattle.store_core.specs.Migrating.{MismatchesInMaking, NeedsKnown, RefusesKnown};
 ghost use Rattle.store_core.specs.Migrating.{Unmoved};
+ghost use Rattle.store_tables.specs.Seen.{seen};
 
 use crate::version::bring_up;
-use sqlite::{Alter, Connection, Transaction};
+use sqlite::{Alter, Transaction};
 use std::alloc::Global;
 use store_tables::StoreFault;
 use store_tables::transaction::{finish, run};
+use store_tables::Tables;
 
 /// Makes the first three tables where they are missing.
 #[tactic(auto, using(store_tables::proofs::Lasting::on))]
@@ -180,33 +182,31 @@ fn make_all<S: Alter>(alloc: Global, tx: &mut Transaction<'_, S>) -> Result<(), 
 /// Makes the tables that are missing, and brings them to the present version, in one transaction.
 pub(crate) fn make_schema<S: Alter>(
     alloc: Global,
-    conn: &mut Connection<S>,
+    tables: &mut Tables<S>,
 ) -> Result<(), StoreFault>
-    requires { conn.old.in_transaction ≡ false }
-    ensures idle { conn.new.in_transaction ≡ false }
-    ensures made { IsBlank (state S.Store conn.old) →
-        OnOk result (Stand no_contents (state S.Store conn.new)) }
-    ensures unmade { IsBlank (state S.Store conn.old) →
-        OnErr result (IsBlank (state S.Store conn.new)) }
-    ensures refused { IsBlank (state S.Store conn.old) →
-        HasCleanDisk (state S.Store conn.new) →
+    ensures made { IsBlank (seen S.Store tables.old) →
+        OnOk result (Stand no_contents (seen S.Store tables.new)) }
+    ensures unmade { IsBlank (seen S.Store tables.old) →
+        OnErr result (IsBlank (seen S.Store tables.new)) }
+    ensures refused { IsBlank (seen S.Store tables.old) →
+        HasCleanDisk (seen S.Store tables.new) →
         IfErr result (λ e. e ≡ StoreFault.Refused) }
-    ensures kept { (c : Contents) → c.version ≢ 1 → Stand c (state S.Store conn.old) →
-        OnOk result (Stand c (state S.Store conn.new)) }
+    ensures kept { (c : Contents) → c.version ≢ 1 → Stand c (seen S.Store tables.old) →
+        OnOk result (Stand c (seen S.Store tables.new)) }
     ensures brings { (desk : Desk) → IsDesk desk → (due : RequestRow → Option ℕ) →
-        FirstStand (first_contents_of due desk) (state S.Store conn.old) →
-        OnOk result (Stand (contents_of due desk) (state S.Store conn.new)) }
-    ensures back { (c : Contents) → EitherStand c (state S.Store conn.old) →
-        OnErr result (GoesBack (state S.Store conn.old) (state S.Store conn.new)) }
-    ensures honest { WasClean (state S.Store conn.old) (state S.Store conn.new) }
-    ensures lasts { Lasts (state S.Store conn.old) (state S.Store conn.new) }
-    ensures version { NeedsKnown (state S.Store conn.old) (state S.Store conn.new) result }
-    ensures refuses { RefusesKnown (state S.Store conn.old) (state S.Store conn.new) result }
-    ensures blames { BlamesUnknown (state S.Store conn.old) (state S.Store conn.new) result }
+        FirstStand (first_contents_of due desk) (seen S.Store tables.old) →
+        OnOk result (Stand (contents_of due desk) (seen S.Store tables.new)) }
+    ensures back { (c : Contents) → EitherStand c (seen S.Store tables.old) →
+        OnErr result (GoesBack (seen S.Store tables.old) (seen S.Store tables.new)) }
+    ensures honest { WasClean (seen S.Store tables.old) (seen S.Store tables.new) }
+    ensures lasts { Lasts (seen S.Store tables.old) (seen S.Store tables.new) }
+    ensures version { NeedsKnown (seen S.Store tables.old) (seen S.Store tables.new) result }
+    ensures refuses { RefusesKnown (seen S.Store tables.old) (seen S.Store tables.new) result }
+    ensures blames { BlamesUnknown (seen S.Store tables.old) (seen S.Store tables.new) result }
     ensures mismatch { MismatchesInMaking
-        (state S.Store conn.old) (state S.Store conn.new) result }
+        (seen S.Store tables.old) (seen S.Store tables.new) result }
 {
-    let mut tx = conn.transaction();
+    let mut tx = tables.conn.transaction();
     make_all(alloc, &mut tx)?;
     finish(tx)
 }

@@ -13,7 +13,7 @@ use crate::making::make_schema;
 use crate::store::Store;
 use sqlite::{Alter, Connection, MemStore};
 use std::alloc::Global;
-use store_tables::{StoreFault, reads};
+use store_tables::{StoreFault, Tables, reads};
 
 impl Store<MemStore> {
     /// A store in memory, without tables. `Refused` where out of memory.
@@ -22,7 +22,7 @@ impl Store<MemStore> {
         ensures fault { IfErr result (λ e. e ≡ StoreFault.Refused) }
     {
         match Connection::open_in_memory(alloc) {
-            Ok(conn) => Ok(Store { conn, ahead: None }),
+            Ok(conn) => Ok(Store::adopt(conn)),
             Err(_) => Err(StoreFault::Refused),
         }
     }
@@ -35,7 +35,10 @@ impl<S: Alter> Store<S> {
         requires { conn.in_transaction ≡ false }
         ensures { connection_of S.Store result ≡ conn }
     {
-        Store { conn, ahead: None }
+        Store {
+            tables: Tables { conn },
+            ahead: None,
+        }
     }
 
     /// The connection under the store, with its tables as they are. Takes no memory.
@@ -43,7 +46,7 @@ impl<S: Alter> Store<S> {
         ensures same { result ≡ connection_of S.Store self }
         ensures idle { result.in_transaction ≡ false }
     {
-        self.conn
+        self.tables.conn
     }
 
     /// Makes the tables that are missing and, where there is no version, writes version 2. Of
@@ -69,7 +72,7 @@ impl<S: Alter> Store<S> {
         ensures mismatch { MismatchesInMaking
             (state_of S.Store self.old) (state_of S.Store self.new) result }
     {
-        make_schema(alloc, &mut self.conn)
+        make_schema(alloc, &mut self.tables)
     }
 
     /// The version that the tables hold. `Refused` before `create_schema`, and where the store or
@@ -85,6 +88,6 @@ impl<S: Alter> Store<S> {
         ensures fault { IfErr result (λ e. e ≢ StoreFault.WrongVersion) }
         ensures kept { Spares (state_of S.Store self.old) (state_of S.Store self.new) }
     {
-        reads::version::version(&mut self.conn)
+        reads::version::version(&mut self.tables)
     }
 }

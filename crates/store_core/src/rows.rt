@@ -83,7 +83,7 @@ impl<S: Alter> Store<S> {
             (state_of S.Store self.old) (state_of S.Store self.new) result }
         ensures kept { Spares (state_of S.Store self.old) (state_of S.Store self.new) }
     {
-        let numbers = numbers_in(alloc, &mut self.conn, name)?;
+        let numbers = numbers_in(alloc, &mut self.tables, name)?;
         self.ahead = Some(Sequence::from(numbers));
         Ok(())
     }
@@ -97,7 +97,7 @@ impl<S: Alter> Store<S> {
             (state_of S.Store self.old) (state_of S.Store self.new) result }
         ensures kept { Spares (state_of S.Store self.old) (state_of S.Store self.new) }
     {
-        let numbers = numbers_due_before(alloc, &mut self.conn, at)?;
+        let numbers = numbers_due_before(alloc, &mut self.tables, at)?;
         self.ahead = Some(Sequence::from(numbers));
         Ok(())
     }
@@ -125,7 +125,7 @@ impl<S: Alter> Store<S> {
         ensures fault { IfErr result (λ e. e ≢ StoreFault.WrongVersion) }
         ensures same_numbers { self.new.ahead ≡ self.old.ahead }
     {
-        match dated_numbered(&mut self.conn, id)? {
+        match dated_numbered(&mut self.tables, id)? {
             Some(row) => Ok(row),
             None => Err(StoreFault::Refused),
         }

@@ -1,14 +1,14 @@
 //! A request with its people and the number of its entries, of its rows.
-ghost use Rattle.std.specs.Prelude.{◌++◌, ◌∷◌, ◌≡◌, ◌≢◌, IfErr, IfOk, OnOk, [], false};
-ghost use Rattle.sqlite.specs.Held.{state};
+ghost use Rattle.std.specs.Prelude.{◌++◌, ◌∷◌, ◌≡◌, ◌≢◌, IfErr, IfOk, OnOk, []};
 ghost use Rattle.desk_model.specs.Desk.{queue_at};
 ghost use Rattle.desk_model.specs.Facts as facts;
 ghost use Rattle.store_tables.specs.declared.fault.StoreFault.{StoreFault};
 ghost use Rattle.store_tables.specs.Calls.{OnlyRefuses, Spares, Tells};
 ghost use Rattle.store_core.specs.Found as found;
+ghost use Rattle.store_tables.specs.Seen.{seen};
 
 use desk_core::{QueueRow, RequestRow, SeenRequest, WatchRole, Watcher, is_role};
-use sqlite::{Alter, Connection};
+use sqlite::Alter;
 use std::alloc::Global;
 use store_tables::StoreFault;
 use store_tables::reads::entries_by_key::last_number;
@@ -16,40 +16,37 @@ use store_tables::reads::queues::queue_named;
 use store_tables::reads::requests_by_key::request_numbered;
 use store_tables::reads::watchers_by_key::watchers_of;
 use text_core::{Text, Texts};
+use store_tables::Tables;
 
 /// The queue with that name, or none.
 pub(crate) fn queue_at<S: Alter>(
-    conn: &mut Connection<S>,
+    tables: &mut Tables<S>,
     name: &Text,
 ) -> Result<Option<QueueRow>, StoreFault>
-    requires { conn.old.in_transaction ≡ false }
-    ensures idle { conn.new.in_transaction ≡ false }
     ensures told { Tells (λ desk q. q ≡ queue_at desk name.now)
-        (state S.Store conn.old) (state S.Store conn.new) result }
-    ensures kept { Spares (state S.Store conn.old) (state S.Store conn.new) }
+        (seen S.Store tables.old) (seen S.Store tables.new) result }
+    ensures kept { Spares (seen S.Store tables.old) (seen S.Store tables.new) }
     ensures refuses { OnlyRefuses
-        (state S.Store conn.old) (state S.Store conn.new) result }
+        (seen S.Store tables.old) (seen S.Store tables.new) result }
     ensures fault { IfErr result (λ e. e ≢ StoreFault.WrongVersion) }
 {
-    queue_named(conn, name)
+    queue_named(tables, name)
 }
 
 /// The queue that a request is filed in, or none.
 pub(crate) fn queue_of<S: Alter>(
-    conn: &mut Connection<S>,
+    tables: &mut Tables<S>,
     request: &Option<SeenRequest>,
 ) -> Result<Option<QueueRow>, StoreFault>
-    requires { conn.old.in_transaction ≡ false }
-    ensures idle { conn.new.in_transaction ≡ false }
     ensures told { Tells (λ desk q. q ≡ found.queue_by desk request.now)
-        (state S.Store conn.old) (state S.Store conn.new) result }
-    ensures kept { Spares (state S.Store conn.old) (state S.Store conn.new) }
+        (seen S.Store tables.old) (seen S.Store tables.new) result }
+    ensures kept { Spares (seen S.Store tables.old) (seen S.Store tables.new) }
     ensures refuses { OnlyRefuses
-        (state S.Store conn.old) (state S.Store conn.new) result }
+        (seen S.Store tables.old) (seen S.Store tables.new) result }
     ensures fault { IfErr result (λ e. e ≢ StoreFault.WrongVersion) }
 {
     match request {
-        Some(request) => queue_at(conn, &request.row.queue),
+        Some(request) => queue_at(tables, &request.row.queue),
         None => Ok(None),
     }
 }
@@ -57,23 +54,21 @@ pub(crate) fn queue_of<S: Alter>(
 /// The request with that number, with its people and the number of its entries, or none.
 pub(crate) fn seen_request_at<S: Alter>(
     alloc: Global,
-    conn: &mut Connection<S>,
+    tables: &mut Tables<S>,
     id: u32,
 ) -> Result<Option<SeenRequest>, StoreFault>
-    requires { conn.old.in_transaction ≡ false }
-    ensures idle { conn.new.in_transaction ≡ false }
     ensures told { Tells (λ desk request. request ≡ facts.seen_request_at desk id)
-        (state S.Store conn.old) (state S.Store conn.new) result }
-    ensures kept { Spares (state S.Store conn.old) (state S.Store conn.new) }
+        (seen S.Store tables.old) (seen S.Store tables.new) result }
+    ensures kept { Spares (seen S.Store tables.old) (seen S.Store tables.new) }
     ensures refuses { OnlyRefuses
-        (state S.Store conn.old) (state S.Store conn.new) result }
+        (seen S.Store tables.old) (seen S.Store tables.new) result }
     ensures fault { IfErr result (λ e. e ≢ StoreFault.WrongVersion) }
 {
-    match request_numbered(conn, id)? {
+    match request_numbered(tables, id)? {
         None => Ok(None),
         Some(row) => {
-            let entry_count = last_number(conn, id)?;
-            let watchers = watchers_of(alloc, conn, id)?;
+            let entry_count = last_number(tables, id)?;
+            let watchers = watchers_of(alloc, tables, id)?;
             let seen_request = seen_request_of(alloc, row, watchers.as_slice(), entry_count)?;
             Ok(Some(seen_request))
         }

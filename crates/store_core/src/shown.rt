@@ -1,19 +1,20 @@
 //! Whether a request may be shown, by its row and its watchers alone.
 ghost use Rattle.std.specs.Prelude.{◌≡◌, ◌≢◌, IfErr, false};
-ghost use Rattle.sqlite.specs.Held.{state};
 ghost use Rattle.desk_model.specs.Rights as rights;
 ghost use Rattle.store_tables.specs.declared.fault.StoreFault.{StoreFault};
 ghost use Rattle.store_tables.specs.Calls.{OnlyRefuses, Spares, Tells};
 ghost use Rattle.store_core.specs.Seen.{state_of};
+ghost use Rattle.store_tables.specs.Seen.{seen};
 
 use crate::store::Store;
 use desk_core::may_show;
 use settings_core::Settings;
-use sqlite::{Alter, Connection};
+use sqlite::Alter;
 use std::alloc::Global;
 use store_tables::StoreFault;
 use store_tables::reads::requests_by_key::request_numbered;
 use store_tables::reads::watchers_by_key::watchers_of;
+use store_tables::Tables;
 
 impl<S: Alter> Store<S> {
     /// Whether the request with that number is there and the person may show it, by two reads.
@@ -34,31 +35,29 @@ impl<S: Alter> Store<S> {
             (state_of S.Store self.old) (state_of S.Store self.new) result }
         ensures fault { IfErr result (λ e. e ≢ StoreFault.WrongVersion) }
     {
-        is_shown_to(alloc, &mut self.conn, settings, person, id)
+        is_shown_to(alloc, &mut self.tables, settings, person, id)
     }
 }
 
 fn is_shown_to<S: Alter>(
     alloc: Global,
-    conn: &mut Connection<S>,
+    tables: &mut Tables<S>,
     settings: &Settings,
     person: &str,
     id: u32,
 ) -> Result<bool, StoreFault>
-    requires { conn.old.in_transaction ≡ false }
-    ensures idle { conn.new.in_transaction ≡ false }
     ensures told { Tells (λ desk shown. shown
         ≡ rights.is_shown settings.now person.now desk id)
-        (state S.Store conn.old) (state S.Store conn.new) result }
-    ensures kept { Spares (state S.Store conn.old) (state S.Store conn.new) }
+        (seen S.Store tables.old) (seen S.Store tables.new) result }
+    ensures kept { Spares (seen S.Store tables.old) (seen S.Store tables.new) }
     ensures refuses { OnlyRefuses
-        (state S.Store conn.old) (state S.Store conn.new) result }
+        (seen S.Store tables.old) (seen S.Store tables.new) result }
     ensures fault { IfErr result (λ e. e ≢ StoreFault.WrongVersion) }
 {
-    match request_numbered(conn, id)? {
+    match request_numbered(tables, id)? {
         None => Ok(false),
         Some(row) => {
-            let watchers = watchers_of(alloc, conn, id)?;
+            let watchers = watchers_of(alloc, tables, id)?;
             Ok(may_show(settings, person, &row, watchers.as_slice()))
         }
     }

@@ -9,7 +9,9 @@ pub mod inside;
 mod query;
 pub mod reads;
 mod stored;
+pub mod tables;
 pub mod transaction;
 pub mod writes;
 
 pub use fault::StoreFault;
+pub use tables::Tables;

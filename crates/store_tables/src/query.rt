@@ -1,8 +1,7 @@
 //! A query, and the values that its rows show.
-ghost use Rattle.std.specs.Prelude.{◌≡◌, ◌≢◌, false, option_to_list, IfOk, IfErr};
+ghost use Rattle.std.specs.Prelude.{◌≡◌, ◌≢◌, option_to_list, IfOk, IfErr};
 ghost use Rattle.std.specs.List.{AllZip};
 ghost use Rattle.sqlite.specs.Given.{IsPlain};
-ghost use Rattle.sqlite.specs.Held.{state};
 ghost use Rattle.sqlite.specs.Listing.{understood};
 ghost use Rattle.sqlite.specs.State.{HasCleanDisk, Shown};
 ghost use Rattle.sqlite.specs.Values.{bound};
@@ -11,30 +10,30 @@ ghost use Rattle.store_tables.specs.Calls.{ReadsRows, Spares};
 ghost use Rattle.store_tables.specs.Reading.{IsNumberRow, ReadsNumber};
 ghost use Rattle.store_tables.specs.Tables.{desk_schema};
 ghost use Rattle.store_tables.specs.declared.fault.StoreFault.{StoreFault};
+ghost use Rattle.store_tables.specs.Seen.{seen};
 
 use crate::columns::number_at;
 use crate::fault::StoreFault;
 use crate::stored::Stored;
+use crate::tables::Tables;
 use sqlite::types::ValueRef;
-use sqlite::{Alter, Connection, Row};
+use sqlite::{Alter, Row};
 use std::alloc::Global;
 
 /// All rows of a query that is known to read alone. `Refused` where the store or memory refuses it.
 pub(crate) fn select<S: Alter>(
-    conn: &mut Connection<S>,
+    tables: &mut Tables<S>,
     sql: &str,
     params: &[ValueRef<'_>],
 ) -> Result<Vec<Row>, StoreFault>
-    requires plain { IsPlain (understood desk_schema sql.now) }
-    requires idle { conn.old.in_transaction ≡ false }
-    ensures idle { conn.new.in_transaction ≡ false }
-    ensures shown { HasCleanDisk (state S.Store conn.new) → IfOk result (λ rows.
-        Shown sql.now (bound params.now) (state S.Store conn.old) (state S.Store conn.new)
+    requires { IsPlain (understood desk_schema sql.now) }
+    ensures shown { HasCleanDisk (seen S.Store tables.new) → IfOk result (λ rows.
+        Shown sql.now (bound params.now) (seen S.Store tables.old) (seen S.Store tables.new)
         rows.items) }
-    ensures kept { Spares (state S.Store conn.old) (state S.Store conn.new) }
+    ensures kept { Spares (seen S.Store tables.old) (seen S.Store tables.new) }
     ensures fault { IfErr result (λ e. e ≡ StoreFault.Refused) }
 {
-    match conn.query_all(sql, params) {
+    match tables.conn.query_all(sql, params) {
         Ok(rows) => Ok(rows),
         Err(_) => Err(StoreFault::Refused),
     }
@@ -44,36 +43,32 @@ pub(crate) fn select<S: Alter>(
 /// where the store or memory refuses it.
 pub(crate) fn select_all<T: Stored + Drop, S: Alter>(
     alloc: Global,
-    conn: &mut Connection<S>,
+    tables: &mut Tables<S>,
     sql: &str,
     params: &[ValueRef<'_>],
 ) -> Result<Vec<T>, StoreFault>
-    requires plain { IsPlain (understood desk_schema sql.now) }
-    requires idle { conn.old.in_transaction ≡ false }
-    ensures idle { conn.new.in_transaction ≡ false }
+    requires { IsPlain (understood desk_schema sql.now) }
     ensures read { ReadsRows T.Stored.reads T.Stored.is_value (λ xs. xs.items)
-        sql.now (bound params.now) (state S.Store conn.old) (state S.Store conn.new) result }
-    ensures kept { Spares (state S.Store conn.old) (state S.Store conn.new) }
+        sql.now (bound params.now) (seen S.Store tables.old) (seen S.Store tables.new) result }
+    ensures kept { Spares (seen S.Store tables.old) (seen S.Store tables.new) }
 {
-    let rows = select(conn, sql, params)?;
+    let rows = select(tables, sql, params)?;
     read_all(alloc, rows.as_slice())
 }
 
 /// The one value that a query shows, or none. `Mismatch` where its row shows none, `Refused` where
 /// the store or memory refuses it, or there are more rows.
 pub(crate) fn select_one<T: Stored + Drop, S: Alter>(
-    conn: &mut Connection<S>,
+    tables: &mut Tables<S>,
     sql: &str,
     params: &[ValueRef<'_>],
 ) -> Result<Option<T>, StoreFault>
-    requires plain { IsPlain (understood desk_schema sql.now) }
-    requires idle { conn.old.in_transaction ≡ false }
-    ensures idle { conn.new.in_transaction ≡ false }
+    requires { IsPlain (understood desk_schema sql.now) }
     ensures read { ReadsRows T.Stored.reads T.Stored.is_value option_to_list
-        sql.now (bound params.now) (state S.Store conn.old) (state S.Store conn.new) result }
-    ensures kept { Spares (state S.Store conn.old) (state S.Store conn.new) }
+        sql.now (bound params.now) (seen S.Store tables.old) (seen S.Store tables.new) result }
+    ensures kept { Spares (seen S.Store tables.old) (seen S.Store tables.new) }
 {
-    let rows = select(conn, sql, params)?;
+    let rows = select(tables, sql, params)?;
     read_one(rows.as_slice())
 }
 

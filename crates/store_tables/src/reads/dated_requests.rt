@@ -1,19 +1,20 @@
 //! The requests with their due moments, which no other read looks at.
-ghost use Rattle.std.specs.Prelude.{◌≡◌, ◌≢◌, IfErr, false, filter, option_to_list};
-ghost use Rattle.sqlite.specs.Held.{state};
+ghost use Rattle.std.specs.Prelude.{◌≡◌, ◌≢◌, IfErr, filter, option_to_list};
 ghost use Rattle.store_tables.specs.Calls.{Answers, OnlyRefuses, Spares};
 ghost use Rattle.store_tables.specs.Mismatches.{MismatchesInDated};
 ghost use Rattle.store_tables.specs.Orders.{by_dated_id, by_due};
 ghost use Rattle.store_tables.specs.Picked.{AreOrdered};
 ghost use Rattle.store_tables.specs.Selection.{has_number, is_dated_in, is_due_before};
 ghost use Rattle.store_tables.specs.declared.fault.StoreFault.{StoreFault};
+ghost use Rattle.store_tables.specs.Seen.{seen};
 
 use crate::columns::{number, words};
 use crate::fault::StoreFault;
 use crate::query::{select_all, select_one};
+use crate::tables::Tables;
 use desk_model::RequestRow;
 use hours_core::Minute;
-use sqlite::{Alter, Connection};
+use sqlite::Alter;
 use std::alloc::Global;
 use text_core::Text;
 
@@ -21,19 +22,17 @@ use text_core::Text;
 /// due moment is neither a minute nor absent, `Refused` where the store or memory refuses it.
 pub fn dated_requests<S: Alter>(
     alloc: Global,
-    conn: &mut Connection<S>,
+    tables: &mut Tables<S>,
 ) -> Result<Vec<(RequestRow, Option<Minute>)>, StoreFault>
-    requires { conn.old.in_transaction ≡ false }
-    ensures idle { conn.new.in_transaction ≡ false }
     ensures listed { Answers (λ c xs. AreOrdered by_dated_id c.dated xs.items)
-        (state S.Store conn.old) (state S.Store conn.new) result }
+        (seen S.Store tables.old) (seen S.Store tables.new) result }
     ensures mismatch { MismatchesInDated
-        (state S.Store conn.old) (state S.Store conn.new) result }
-    ensures kept { Spares (state S.Store conn.old) (state S.Store conn.new) }
+        (seen S.Store tables.old) (seen S.Store tables.new) result }
+    ensures kept { Spares (seen S.Store tables.old) (seen S.Store tables.new) }
 {
     select_all(
         alloc,
-        conn,
+        tables,
         "SELECT id, queue, subject, status, owner, level, created, opened, turn, since, due FROM \
         request ORDER BY id",
         &[],
@@ -45,21 +44,19 @@ pub fn dated_requests<S: Alter>(
 /// refuses it.
 pub fn dated_of<S: Alter>(
     alloc: Global,
-    conn: &mut Connection<S>,
+    tables: &mut Tables<S>,
     queue: &Text,
 ) -> Result<Vec<(RequestRow, Option<Minute>)>, StoreFault>
-    requires { conn.old.in_transaction ≡ false }
-    ensures idle { conn.new.in_transaction ≡ false }
     ensures listed { Answers (λ c xs.
         AreOrdered by_dated_id (filter (is_dated_in queue.now) c.dated) xs.items)
-        (state S.Store conn.old) (state S.Store conn.new) result }
+        (seen S.Store tables.old) (seen S.Store tables.new) result }
     ensures mismatch { MismatchesInDated
-        (state S.Store conn.old) (state S.Store conn.new) result }
-    ensures kept { Spares (state S.Store conn.old) (state S.Store conn.new) }
+        (seen S.Store tables.old) (seen S.Store tables.new) result }
+    ensures kept { Spares (seen S.Store tables.old) (seen S.Store tables.new) }
 {
     select_all(
         alloc,
-        conn,
+        tables,
         "SELECT id, queue, subject, status, owner, level, created, opened, turn, since, due FROM \
         request WHERE queue = ?1 ORDER BY id",
         &[words(queue)],
@@ -71,20 +68,18 @@ pub fn dated_of<S: Alter>(
 /// or memory refuses it.
 pub fn dated_before<S: Alter>(
     alloc: Global,
-    conn: &mut Connection<S>,
+    tables: &mut Tables<S>,
     at: u32,
 ) -> Result<Vec<(RequestRow, Option<Minute>)>, StoreFault>
-    requires { conn.old.in_transaction ≡ false }
-    ensures idle { conn.new.in_transaction ≡ false }
     ensures listed { Answers (λ c xs. AreOrdered by_due (filter (is_due_before at) c.dated) xs.items)
-        (state S.Store conn.old) (state S.Store conn.new) result }
+        (seen S.Store tables.old) (seen S.Store tables.new) result }
     ensures mismatch { MismatchesInDated
-        (state S.Store conn.old) (state S.Store conn.new) result }
-    ensures kept { Spares (state S.Store conn.old) (state S.Store conn.new) }
+        (seen S.Store tables.old) (seen S.Store tables.new) result }
+    ensures kept { Spares (seen S.Store tables.old) (seen S.Store tables.new) }
 {
     select_all(
         alloc,
-        conn,
+        tables,
         "SELECT id, queue, subject, status, owner, level, created, opened, turn, since, due FROM \
         request WHERE due < ?1 ORDER BY due, id",
         &[number(at)],
@@ -95,20 +90,18 @@ pub fn dated_before<S: Alter>(
 /// or its due moment is neither a minute nor absent, `Refused` where the store or memory refuses
 /// it, or there are two.
 pub fn dated_numbered<S: Alter>(
-    conn: &mut Connection<S>,
+    tables: &mut Tables<S>,
     id: u32,
 ) -> Result<Option<(RequestRow, Option<Minute>)>, StoreFault>
-    requires { conn.old.in_transaction ≡ false }
-    ensures idle { conn.new.in_transaction ≡ false }
     ensures found { Answers (λ c r. option_to_list r ≡ filter (has_number id) c.dated)
-        (state S.Store conn.old) (state S.Store conn.new) result }
-    ensures kept { Spares (state S.Store conn.old) (state S.Store conn.new) }
+        (seen S.Store tables.old) (seen S.Store tables.new) result }
+    ensures kept { Spares (seen S.Store tables.old) (seen S.Store tables.new) }
     ensures refuses { OnlyRefuses
-        (state S.Store conn.old) (state S.Store conn.new) result }
+        (seen S.Store tables.old) (seen S.Store tables.new) result }
     ensures fault { IfErr result (λ e. e ≢ StoreFault.WrongVersion) }
 {
     select_one(
-        conn,
+        tables,
         "SELECT id, queue, subject, status, owner, level, created, opened, turn, since, due FROM \
         request WHERE id = ?1",
         &[number(id)],

@@ -1,40 +1,39 @@
 //! The links from a request, and the link that is like another.
-ghost use Rattle.std.specs.Prelude.{◌≡◌, ◌≢◌, IfErr, false, filter, option_to_list};
-ghost use Rattle.sqlite.specs.Held.{state};
+ghost use Rattle.std.specs.Prelude.{◌≡◌, ◌≢◌, IfErr, filter, option_to_list};
 ghost use Rattle.store_tables.specs.declared.fault.StoreFault.{StoreFault};
 ghost use Rattle.store_tables.specs.Calls.{Answers, OnlyRefuses, Spares};
 ghost use Rattle.store_tables.specs.Orders.{by_target};
 ghost use Rattle.store_tables.specs.Picked.{AreOrdered};
 ghost use Rattle.store_tables.specs.Selection as chosen;
+ghost use Rattle.store_tables.specs.Seen.{seen};
 
 use crate::columns::{link_kind, number};
 use crate::fault::StoreFault;
 use crate::query::{select_all, select_one};
+use crate::tables::Tables;
 use desk_model::{LinkKind, LinkRow};
-use sqlite::{Alter, Connection};
+use sqlite::Alter;
 use std::alloc::Global;
 
 /// The links of a kind from a request, by target. `Mismatch` where a row is no link, `Refused`
 /// where the store or memory refuses it.
 pub fn links_of_kind<S: Alter>(
     alloc: Global,
-    conn: &mut Connection<S>,
+    tables: &mut Tables<S>,
     id: u32,
     kind: LinkKind,
 ) -> Result<Vec<LinkRow>, StoreFault>
-    requires { conn.old.in_transaction ≡ false }
-    ensures idle { conn.new.in_transaction ≡ false }
     ensures listed { Answers (λ c xs.
         AreOrdered by_target (filter (chosen.links_from id kind) c.links) xs.items)
-        (state S.Store conn.old) (state S.Store conn.new) result }
-    ensures kept { Spares (state S.Store conn.old) (state S.Store conn.new) }
+        (seen S.Store tables.old) (seen S.Store tables.new) result }
+    ensures kept { Spares (seen S.Store tables.old) (seen S.Store tables.new) }
     ensures refuses { OnlyRefuses
-        (state S.Store conn.old) (state S.Store conn.new) result }
+        (seen S.Store tables.old) (seen S.Store tables.new) result }
     ensures fault { IfErr result (λ e. e ≢ StoreFault.WrongVersion) }
 {
     select_all(
         alloc,
-        conn,
+        tables,
         "SELECT source, kind, target FROM link WHERE source = ?1 AND kind = ?2 ORDER BY target",
         &[number(id), link_kind(kind)],
     )
@@ -43,20 +42,18 @@ pub fn links_of_kind<S: Alter>(
 /// The link with those ends and of that kind, or none. `Mismatch` where its row is no link,
 /// `Refused` where the store or memory refuses it, or there are two.
 pub fn link_like<S: Alter>(
-    conn: &mut Connection<S>,
+    tables: &mut Tables<S>,
     link: LinkRow,
 ) -> Result<Option<LinkRow>, StoreFault>
-    requires { conn.old.in_transaction ≡ false }
-    ensures idle { conn.new.in_transaction ≡ false }
     ensures found { Answers (λ c l. option_to_list l ≡ filter (chosen.is_link link) c.links)
-        (state S.Store conn.old) (state S.Store conn.new) result }
-    ensures kept { Spares (state S.Store conn.old) (state S.Store conn.new) }
+        (seen S.Store tables.old) (seen S.Store tables.new) result }
+    ensures kept { Spares (seen S.Store tables.old) (seen S.Store tables.new) }
     ensures refuses { OnlyRefuses
-        (state S.Store conn.old) (state S.Store conn.new) result }
+        (seen S.Store tables.old) (seen S.Store tables.new) result }
     ensures fault { IfErr result (λ e. e ≢ StoreFault.WrongVersion) }
 {
     select_one(
-        conn,
+        tables,
         "SELECT source, kind, target FROM link WHERE source = ?1 AND kind = ?2 AND target = ?3",
         &[
             number(link.source),

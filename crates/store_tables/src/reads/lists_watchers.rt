@@ -1,36 +1,32 @@
 //! The watchers of all requests.
-ghost use Rattle.std.specs.Prelude.{◌≡◌, false};
-ghost use Rattle.sqlite.specs.Held.{state};
+ghost use Rattle.std.specs.Prelude.{◌≡◌};
 ghost use Rattle.store_tables.specs.Calls.{Answers, Spares};
 ghost use Rattle.store_tables.specs.Mismatches.{MismatchesInWatchers};
 ghost use Rattle.store_tables.specs.Orders.{by_watcher};
 ghost use Rattle.store_tables.specs.Picked.{AreOrdered};
 ghost use Rattle.store_tables.specs.declared.fault.StoreFault.{StoreFault};
+ghost use Rattle.store_tables.specs.Seen.{seen};
 
 use crate::fault::StoreFault;
 use crate::query::select_all;
+use crate::tables::Tables;
 use desk_model::Watcher;
-use sqlite::{Alter, Connection};
+use sqlite::Alter;
 use std::alloc::Global;
 
 /// The watchers, by request, role and person. `Mismatch` where a row is no watcher,
 /// `Refused` where the store refuses it.
-pub fn watchers<S: Alter>(
-    alloc: Global,
-    conn: &mut Connection<S>,
-) -> Result<Vec<Watcher>, StoreFault>
-    requires { conn.old.in_transaction ≡ false }
-    ensures idle { conn.new.in_transaction ≡ false }
+pub fn watchers<S: Alter>(alloc: Global, tables: &mut Tables<S>) -> Result<Vec<Watcher>, StoreFault>
     ensures listed { Answers (λ c xs.
         AreOrdered by_watcher c.watchers xs.items)
-        (state S.Store conn.old) (state S.Store conn.new) result }
+        (seen S.Store tables.old) (seen S.Store tables.new) result }
     ensures mismatch { MismatchesInWatchers
-        (state S.Store conn.old) (state S.Store conn.new) result }
-    ensures kept { Spares (state S.Store conn.old) (state S.Store conn.new) }
+        (seen S.Store tables.old) (seen S.Store tables.new) result }
+    ensures kept { Spares (seen S.Store tables.old) (seen S.Store tables.new) }
 {
     select_all(
         alloc,
-        conn,
+        tables,
         "SELECT request, role, person FROM watcher ORDER BY request, role, person",
         &[],
     )

@@ -1,6 +1,5 @@
 //! The numbers of some requests: those of a queue, and those that are due before a moment.
-ghost use Rattle.std.specs.Prelude.{◌≡◌, false, filter};
-ghost use Rattle.sqlite.specs.Held.{state};
+ghost use Rattle.std.specs.Prelude.{◌≡◌, filter};
 ghost use Rattle.store_tables.specs.Calls.{Answers, Spares};
 ghost use Rattle.store_tables.specs.Contents.{requests};
 ghost use Rattle.store_tables.specs.Dated.{id_of};
@@ -9,11 +8,13 @@ ghost use Rattle.store_tables.specs.Orders.{by_due, by_id};
 ghost use Rattle.store_tables.specs.Picked.{AreParts};
 ghost use Rattle.store_tables.specs.Selection.{is_due_before, is_filed_in, number_of};
 ghost use Rattle.store_tables.specs.declared.fault.StoreFault.{StoreFault};
+ghost use Rattle.store_tables.specs.Seen.{seen};
 
 use crate::columns::{number, words};
 use crate::fault::StoreFault;
 use crate::query::select_all;
-use sqlite::{Alter, Connection};
+use crate::tables::Tables;
+use sqlite::Alter;
 use std::alloc::Global;
 use text_core::Text;
 
@@ -21,21 +22,19 @@ use text_core::Text;
 /// `Refused` where the store or memory refuses it.
 pub fn numbers_in<S: Alter>(
     alloc: Global,
-    conn: &mut Connection<S>,
+    tables: &mut Tables<S>,
     queue: &Text,
 ) -> Result<Vec<u32>, StoreFault>
-    requires { conn.old.in_transaction ≡ false }
-    ensures idle { conn.new.in_transaction ≡ false }
     ensures listed { Answers (λ c ns.
         AreParts number_of by_id (filter (is_filed_in queue.now) (requests c)) ns.items)
-        (state S.Store conn.old) (state S.Store conn.new) result }
+        (seen S.Store tables.old) (seen S.Store tables.new) result }
     ensures mismatch { MismatchesInNumbers
-        (state S.Store conn.old) (state S.Store conn.new) result }
-    ensures kept { Spares (state S.Store conn.old) (state S.Store conn.new) }
+        (seen S.Store tables.old) (seen S.Store tables.new) result }
+    ensures kept { Spares (seen S.Store tables.old) (seen S.Store tables.new) }
 {
     select_all(
         alloc,
-        conn,
+        tables,
         "SELECT id FROM request WHERE queue = ?1 ORDER BY id",
         &[words(queue)],
     )
@@ -46,21 +45,19 @@ pub fn numbers_in<S: Alter>(
 /// refuses it.
 pub fn numbers_due_before<S: Alter>(
     alloc: Global,
-    conn: &mut Connection<S>,
+    tables: &mut Tables<S>,
     at: u32,
 ) -> Result<Vec<u32>, StoreFault>
-    requires { conn.old.in_transaction ≡ false }
-    ensures idle { conn.new.in_transaction ≡ false }
     ensures listed { Answers (λ c ns.
         AreParts id_of by_due (filter (is_due_before at) c.dated) ns.items)
-        (state S.Store conn.old) (state S.Store conn.new) result }
+        (seen S.Store tables.old) (seen S.Store tables.new) result }
     ensures mismatch { MismatchesInNumbers
-        (state S.Store conn.old) (state S.Store conn.new) result }
-    ensures kept { Spares (state S.Store conn.old) (state S.Store conn.new) }
+        (seen S.Store tables.old) (seen S.Store tables.new) result }
+    ensures kept { Spares (seen S.Store tables.old) (seen S.Store tables.new) }
 {
     select_all(
         alloc,
-        conn,
+        tables,
         "SELECT id FROM request WHERE due < ?1 ORDER BY due, id",
         &[number(at)],
     )

@@ -1,42 +1,41 @@
 //! The stays of a request, and those of all.
-ghost use Rattle.std.specs.Prelude.{◌≡◌, ◌≢◌, IfErr, false, filter};
-ghost use Rattle.sqlite.specs.Held.{state};
+ghost use Rattle.std.specs.Prelude.{◌≡◌, ◌≢◌, IfErr, filter};
 ghost use Rattle.store_tables.specs.Calls.{Answers, OnlyRefuses, Spares};
 ghost use Rattle.store_tables.specs.Mismatches.{MismatchesInStays};
 ghost use Rattle.store_tables.specs.Orders.{by_stay, by_stay_number};
 ghost use Rattle.store_tables.specs.Picked.{AreParts};
 ghost use Rattle.store_tables.specs.Stays.{is_of, request_stay, stay_of};
 ghost use Rattle.store_tables.specs.declared.fault.StoreFault.{StoreFault};
+ghost use Rattle.store_tables.specs.Seen.{seen};
 
 use crate::columns::number;
 use crate::fault::StoreFault;
 use crate::query::select_all;
+use crate::tables::Tables;
 use hours_core::Stay;
-use sqlite::{Alter, Connection};
+use sqlite::Alter;
 use std::alloc::Global;
 
 /// The stays of a request, by number. `Mismatch` where a row is no stay, `Refused` where the store
 /// or memory refuses it.
 pub fn stays_of<S: Alter>(
     alloc: Global,
-    conn: &mut Connection<S>,
+    tables: &mut Tables<S>,
     id: u32,
 ) -> Result<Vec<Stay>, StoreFault>
-    requires { conn.old.in_transaction ≡ false }
-    ensures idle { conn.new.in_transaction ≡ false }
     ensures listed { Answers (λ c xs.
         AreParts stay_of by_stay_number (filter (is_of id) c.stays) xs.items)
-        (state S.Store conn.old) (state S.Store conn.new) result }
+        (seen S.Store tables.old) (seen S.Store tables.new) result }
     ensures mismatch { MismatchesInStays
-        (state S.Store conn.old) (state S.Store conn.new) result }
-    ensures kept { Spares (state S.Store conn.old) (state S.Store conn.new) }
+        (seen S.Store tables.old) (seen S.Store tables.new) result }
+    ensures kept { Spares (seen S.Store tables.old) (seen S.Store tables.new) }
     ensures refuses { OnlyRefuses
-        (state S.Store conn.old) (state S.Store conn.new) result }
+        (seen S.Store tables.old) (seen S.Store tables.new) result }
     ensures fault { IfErr result (λ e. e ≢ StoreFault.WrongVersion) }
 {
     select_all(
         alloc,
-        conn,
+        tables,
         "SELECT request, number, status, begun, ended FROM stay WHERE request = ?1 \
         ORDER BY number",
         &[number(id)],
@@ -47,19 +46,17 @@ pub fn stays_of<S: Alter>(
 /// no stay, `Refused` where the store or memory refuses it.
 pub fn stays<S: Alter>(
     alloc: Global,
-    conn: &mut Connection<S>,
+    tables: &mut Tables<S>,
 ) -> Result<Vec<(u32, Stay)>, StoreFault>
-    requires { conn.old.in_transaction ≡ false }
-    ensures idle { conn.new.in_transaction ≡ false }
     ensures listed { Answers (λ c xs. AreParts request_stay by_stay c.stays xs.items)
-        (state S.Store conn.old) (state S.Store conn.new) result }
+        (seen S.Store tables.old) (seen S.Store tables.new) result }
     ensures mismatch { MismatchesInStays
-        (state S.Store conn.old) (state S.Store conn.new) result }
-    ensures kept { Spares (state S.Store conn.old) (state S.Store conn.new) }
+        (seen S.Store tables.old) (seen S.Store tables.new) result }
+    ensures kept { Spares (seen S.Store tables.old) (seen S.Store tables.new) }
 {
     select_all(
         alloc,
-        conn,
+        tables,
         "SELECT request, number, status, begun, ended FROM stay ORDER BY request, number",
         &[],
     )

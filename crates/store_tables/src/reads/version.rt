@@ -1,20 +1,21 @@
 //! The version that the tables hold.
-ghost use Rattle.std.specs.Prelude.{◌≡◌, ◌≢◌, ℕ, [], false, IfErr, IfOk, IfSome, None, Ok};
+ghost use Rattle.std.specs.Prelude.{◌≡◌, ◌≢◌, ℕ, [], IfErr, IfOk, IfSome, None, Ok};
 ghost use Rattle.std.specs.Prelude.{Some};
 ghost use Rattle.sqlite.specs.Order.{column};
 ghost use Rattle.sqlite_rules.specs.Lists.{Has};
 ghost use Rattle.store_tables.specs.Mismatches.{MismatchesInMeta};
 ghost use Rattle.store_tables.specs.Spelling.{count_value};
-ghost use Rattle.sqlite.specs.Held.{state};
 ghost use Rattle.store_tables.specs.Calls.{Answers, ShowsRowsOf, Spares};
 ghost use Rattle.store_tables.specs.Making.{RefusesBlank, ShowsVersion};
 ghost use Rattle.store_tables.specs.Queries.{version_shown};
 ghost use Rattle.store_tables.specs.Reading.{IsNumberRow};
 ghost use Rattle.store_tables.specs.declared.fault.StoreFault.{StoreFault};
+ghost use Rattle.store_tables.specs.Seen.{seen};
 
 use crate::columns::number_at;
 use crate::fault::StoreFault;
-use sqlite::{Alter, Connection, Row};
+use crate::tables::Tables;
+use sqlite::{Alter, Row};
 
 /// The version that the rows show, or none where there is no row. `Mismatch` where the row shows no
 /// number, `Refused` where there are more rows.
@@ -40,18 +41,16 @@ pub fn version_in(rows: &[Row]) -> Result<Option<u32>, StoreFault>
 }
 
 /// The rows of `meta`: each shows its version.
-fn rows_version<S: Alter>(conn: &mut Connection<S>) -> Result<Vec<Row>, StoreFault>
-    requires { conn.old.in_transaction ≡ false }
-    ensures idle { conn.new.in_transaction ≡ false }
+fn rows_version<S: Alter>(tables: &mut Tables<S>) -> Result<Vec<Row>, StoreFault>
     ensures shown { Answers (λ c rows. ShowsVersion c.version rows.items)
-        (state S.Store conn.old) (state S.Store conn.new) result }
-    ensures kept { Spares (state S.Store conn.old) (state S.Store conn.new) }
-    ensures blank { RefusesBlank (state S.Store conn.old) (state S.Store conn.new) result }
+        (seen S.Store tables.old) (seen S.Store tables.new) result }
+    ensures kept { Spares (seen S.Store tables.old) (seen S.Store tables.new) }
+    ensures blank { RefusesBlank (seen S.Store tables.old) (seen S.Store tables.new) result }
     ensures of_table { ShowsRowsOf 0 version_shown (λ rows. rows.items)
-        (state S.Store conn.old) (state S.Store conn.new) result }
+        (seen S.Store tables.old) (seen S.Store tables.new) result }
     ensures fault { IfErr result (λ e. e ≡ StoreFault.Refused) }
 {
-    match conn.query_all("SELECT version FROM meta", &[]) {
+    match tables.conn.query_all("SELECT version FROM meta", &[]) {
         Ok(rows) => Ok(rows),
         Err(_) => Err(StoreFault::Refused),
     }
@@ -59,18 +58,16 @@ fn rows_version<S: Alter>(conn: &mut Connection<S>) -> Result<Vec<Row>, StoreFau
 
 /// The version that the seven tables hold. `Refused` where `meta` is missing or has no row,
 /// `Mismatch` where its row shows no number.
-pub fn version<S: Alter>(conn: &mut Connection<S>) -> Result<u32, StoreFault>
-    requires { conn.old.in_transaction ≡ false }
-    ensures idle { conn.new.in_transaction ≡ false }
+pub fn version<S: Alter>(tables: &mut Tables<S>) -> Result<u32, StoreFault>
     ensures told { Answers (λ c n. n ≡ c.version)
-        (state S.Store conn.old) (state S.Store conn.new) result }
-    ensures kept { Spares (state S.Store conn.old) (state S.Store conn.new) }
-    ensures blank { RefusesBlank (state S.Store conn.old) (state S.Store conn.new) result }
+        (seen S.Store tables.old) (seen S.Store tables.new) result }
+    ensures kept { Spares (seen S.Store tables.old) (seen S.Store tables.new) }
+    ensures blank { RefusesBlank (seen S.Store tables.old) (seen S.Store tables.new) result }
     ensures mismatch { MismatchesInMeta
-        (state S.Store conn.old) (state S.Store conn.new) result }
+        (seen S.Store tables.old) (seen S.Store tables.new) result }
     ensures fault { IfErr result (λ e. e ≢ StoreFault.WrongVersion) }
 {
-    let rows = rows_version(conn)?;
+    let rows = rows_version(tables)?;
     match version_in(rows.as_slice())? {
         Some(n) => Ok(n),
         None => Err(StoreFault::Refused),

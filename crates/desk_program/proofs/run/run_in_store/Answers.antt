@@ -8,7 +8,7 @@ returns-in-Err-clause-printed g c = (
   store_fault_text c.in-Err.fault,
   inr (
     inl (ap store_fault_text ((c.in-Err.ensures.made c.requires.blank).2
-        (c.requires.clean c.create_schema.new.self.conn))),
+        (c.requires.clean c.create_schema.new.self.tables.conn))),
     refl,
   ),
   c.put_store_fault.ensures.printed,

@@ -29,7 +29,7 @@ loop-line-preserved g c =
     let new = tables_of g.S.Store c.run_line.new.desk in
     let leads = subst (λ (s : Settings). LineLeads s (line_of c.in-Some.line.now) here.0 old new)
     c.loop-line.invariant.settings here.1 in
-    let clean = c.requires.clean c.run_line.new.desk.store.conn in
+    let clean = c.requires.clean c.run_line.new.desk.store.tables.conn in
     let after = leads so_far.1 so_far.2 so_far.3 clean in
     let text = so_far.0 ++ here.0 in
     let more = print_one_more settings all i c.in-Some.line.now turn so_far.1 after.0
@@ -65,7 +65,7 @@ returns-then-failed-clause-printed g c =
     let new = tables_of g.S.Store c.run_line.new.desk in
     let leads = subst (λ (s : Settings). LineLeads s (line_of c.in-Some.line.now) here.0 old new)
     c.loop-line.invariant.settings here.1 in
-    let clean = c.requires.clean c.run_line.new.desk.store.conn in
+    let clean = c.requires.clean c.run_line.new.desk.store.tables.conn in
     let after = leads so_far.1 so_far.2 so_far.3 clean in
     let more = print_one_more settings all i c.in-Some.line.now turn so_far.1 after.0
     so_far.0 here.0 so_far.4 after.1.0 in

@@ -33,6 +33,6 @@ returns-in-Err-clause-printed g c = (
   not_attached c.args.settings c.args.commands.now c.in-Err.fault
       (state_of g.S.Store c.args.store) (state_of g.S.Store c.in-Err.store)
       c.in-Err.ensures.unknown c.in-Err.ensures.fault c.requires.empty
-      (c.requires.clean c.in-Err.store.conn),
+      (c.requires.clean c.in-Err.store.tables.conn),
   c.put_attach_fault.ensures.printed,
 )

@@ -9,7 +9,7 @@ use Rattle.store_core.proofs.apply.apply_change.Goals as goal
 
 pub returns-clause-done : goal.returns-clause-done
 returns-clause-done g c d stand =
-    let begun = begins g.S.Store c.args.conn.now c.transaction-tx.result.conn.now d
+    let begun = begins g.S.Store c.args.tables.now.conn c.transaction-tx.result.conn.now d
     c.transaction-tx.ensures.begun stand in
     let last = written c.args.change.now d in
     let same : c.finish.new.tx.0 ≡ c.conn-2-1.given.0 = search rules in
@@ -18,7 +18,7 @@ returns-clause-done g c d stand =
 
 pub returns-clause-undone : goal.returns-clause-undone
 returns-clause-undone g c =
-    let old = c.args.conn.now in
+    let old = c.args.tables.now.conn in
     let tx = c.transaction-tx.result.conn.now in
     let begun = c.transaction-tx.ensures.begun in
     let did = c.in_ok-write_change.ensures.made in
@@ -30,7 +30,7 @@ returns-clause-undone g c =
 
 pub returns-in_err-write_change-clause-lasts : goal.returns-in_err-write_change-clause-lasts
 returns-in_err-write_change-clause-lasts g c =
-    let old = c.args.conn.now in
+    let old = c.args.tables.now.conn in
     let did = c.in_err-write_change.ensures.made in
     let same : c.conn-1.given.0 ≡ c.drop-tx.new.self.0 = search rules in
     subst (λ h. Lasts (state g.S.Store old) (state g.S.Store h)) (sym same)
@@ -41,7 +41,7 @@ returns-in_err-write_change-clause-lasts g c =
 
 pub returns-clause-lasts : goal.returns-clause-lasts
 returns-clause-lasts g c =
-    let old = c.args.conn.now in
+    let old = c.args.tables.now.conn in
     let did = c.in_ok-write_change.ensures.made in
     let same : c.finish.new.tx.0 ≡ c.conn-2-1.given.0 = search rules in
     subst (λ h. Lasts (state g.S.Store old) (state g.S.Store h)) same

@@ -1,5 +1,5 @@
 -- what the links so far lead to
-use Rattle.std.proofs.Common.{◌≡◌, false, take}
+use Rattle.std.proofs.Common.{◌≡◌, take}
 use Rattle.std.specs.List.{flat_map}
 use Rattle.sqlite.specs.Held.{state}
 use Rattle.sqlite.specs.State.{HasCleanDisk}
@@ -12,9 +12,8 @@ use Rattle.store_core.proofs.dependencies.dependencies_by.Given as goal
 
 abbrev pub invariant-loop-link : goal.invariant-loop-link
 invariant-loop-link g l =
-    let old = state g.S.Store l.fn.conn in
-    let now = state g.S.Store l.conn in record {
-      idle : l.conn.in_transaction ≡ false;
+    let old = state g.S.Store l.fn.tables.conn in
+    let now = state g.S.Store l.tables.conn in record {
       told :
           (desk : Desk) → IsDesk desk → StandsFor desk old → HasCleanDisk now
           → l.all.items ≡ flat_map (dependency_by desk) (take l.link-index l.links);

@@ -9,7 +9,7 @@ use Rattle.store_core.proofs.dues.write_dues.Goals as goal
 
 pub returns-clause-done : goal.returns-clause-done
 returns-clause-done g c d stand =
-    let begun = begins g.S.Store c.args.conn.now c.transaction-tx.result.conn.now d
+    let begun = begins g.S.Store c.args.tables.now.conn c.transaction-tx.result.conn.now d
     c.transaction-tx.ensures.begun stand in
     let last = fold set_each_due d c.args.dues.now in
     let same : c.finish.new.tx.0 ≡ c.conn-2-1.given.0 = search rules in
@@ -18,7 +18,7 @@ returns-clause-done g c d stand =
 
 pub returns-clause-undone : goal.returns-clause-undone
 returns-clause-undone g c =
-    let old = c.args.conn.now in
+    let old = c.args.tables.now.conn in
     let tx = c.transaction-tx.result.conn.now in
     let begun = c.transaction-tx.ensures.begun in
     let did = c.in_ok-set_dues.ensures.set in
@@ -30,7 +30,7 @@ returns-clause-undone g c =
 
 pub returns-in_err-set_dues-clause-lasts : goal.returns-in_err-set_dues-clause-lasts
 returns-in_err-set_dues-clause-lasts g c =
-    let old = c.args.conn.now in
+    let old = c.args.tables.now.conn in
     let did = c.in_err-set_dues.ensures.set in
     let same : c.conn-1.given.0 ≡ c.drop-tx.new.self.0 = search rules in
     subst (λ h. Lasts (state g.S.Store old) (state g.S.Store h)) (sym same)
@@ -41,7 +41,7 @@ returns-in_err-set_dues-clause-lasts g c =
 
 pub returns-clause-lasts : goal.returns-clause-lasts
 returns-clause-lasts g c =
-    let old = c.args.conn.now in
+    let old = c.args.tables.now.conn in
     let did = c.in_ok-set_dues.ensures.set in
     let same : c.finish.new.tx.0 ≡ c.conn-2-1.given.0 = search rules in
     subst (λ h. Lasts (state g.S.Store old) (state g.S.Store h)) same

@@ -18,9 +18,9 @@ returns-in_err-make_all-clause-blames g c has clean =
     (subst (λ h. HasCleanDisk (state g.S.Store h)) same clean) in
     let tx = c.transaction-tx.result.conn.now in
     let begun = c.transaction-tx.ensures.begun in
-    let there = begins_there g.S.Store c.args.conn.now tx begun has in
+    let there = begins_there g.S.Store c.args.tables.now.conn tx begun has in
     rw is (λ e. let it = c.in_err-make_all.ensures.blames there middle e in
-    (it.0, begins_of_meta g.S.Store c.args.conn.now tx begun it.0 it.1, it.2))
+    (it.0, begins_of_meta g.S.Store c.args.tables.now.conn tx begun it.0 it.1, it.2))
 
 pub returns-in_err-make_all-clause-mismatch : goal.returns-in_err-make_all-clause-mismatch
 returns-in_err-make_all-clause-mismatch g c =
@@ -31,13 +31,13 @@ returns-in_err-make_all-clause-mismatch g c =
     rw is (λ wrong has clean.
     let middle = was_clean _ _ _ c.drop-tx.ensures.survives
     (subst (λ h. HasCleanDisk (state g.S.Store h)) same clean) in
-    begins_blamed g.S.Store c.args.conn.now tx begun
+    begins_blamed g.S.Store c.args.tables.now.conn tx begun
     (c.in_err-make_all.ensures.mismatch wrong
-    (begins_there g.S.Store c.args.conn.now tx begun has) middle))
+    (begins_there g.S.Store c.args.tables.now.conn tx begun has) middle))
 
 pub returns-clause-kept : goal.returns-clause-kept
 returns-clause-kept g c d other stand =
-    let old = c.args.conn.now in
+    let old = c.args.tables.now.conn in
     let holds = begins_either g.S.Store old c.transaction-tx.result.conn.now
     c.transaction-tx.ensures.begun d (stand_either d (state g.S.Store old) stand) in
     let same : c.finish.new.tx.0 ≡ c.conn-2-1.given.0 = search rules in
@@ -46,7 +46,7 @@ returns-clause-kept g c d other stand =
 
 pub returns-clause-brings : goal.returns-clause-brings
 returns-clause-brings g c desk is due stand =
-    let old = c.args.conn.now in
+    let old = c.args.tables.now.conn in
     let first = first_contents_of due desk in
     let last = contents_of due desk in
     let holds = begins_either g.S.Store old c.transaction-tx.result.conn.now
@@ -57,7 +57,7 @@ returns-clause-brings g c desk is due stand =
 
 pub returns-in_err-make_all-clause-lasts : goal.returns-in_err-make_all-clause-lasts
 returns-in_err-make_all-clause-lasts g c =
-    let old = c.args.conn.now in
+    let old = c.args.tables.now.conn in
     let same : c.conn-1.given.0 ≡ c.drop-tx.new.self.0 = search rules in
     subst (λ h. Lasts (state g.S.Store old) (state g.S.Store h)) (sym same)
     (through g.S.Store old c.transaction-tx.result.conn.now
@@ -67,7 +67,7 @@ returns-in_err-make_all-clause-lasts g c =
 
 pub returns-clause-lasts : goal.returns-clause-lasts
 returns-clause-lasts g c =
-    let old = c.args.conn.now in
+    let old = c.args.tables.now.conn in
     let same : c.finish.new.tx.0 ≡ c.conn-2-1.given.0 = search rules in
     subst (λ h. Lasts (state g.S.Store old) (state g.S.Store h)) same
     (through g.S.Store old c.transaction-tx.result.conn.now

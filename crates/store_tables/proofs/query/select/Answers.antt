@@ -7,14 +7,14 @@ use Rattle.store_tables.proofs.query.select.Goals as goal
 
 pub returns-in-Ok-clause-kept : goal.returns-in-Ok-clause-kept
 returns-in-Ok-clause-kept g c =
-    shown_spares c.args.sql.now (bound c.args.params.now) (state g.S.Store c.args.conn.now)
-    (state g.S.Store c.query_all.new.self) c.requires.plain
+    shown_spares c.args.sql.now (bound c.args.params.now) (state g.S.Store c.args.tables.now.conn)
+    (state g.S.Store c.query_all.new.self) c.requires
     (was_clean _ _ _ c.query_all.ensures.survives) (by c.query_all.ensures.survives)
     c.in-Ok.rows.items c.in-Ok.ensures.ok
 
 pub returns-in-Err-clause-kept : goal.returns-in-Err-clause-kept
 returns-in-Err-clause-kept g c =
-    failed_spares c.args.sql.now (bound c.args.params.now) (state g.S.Store c.args.conn.now)
-    (state g.S.Store c.query_all.new.self) c.requires.plain
+    failed_spares c.args.sql.now (bound c.args.params.now) (state g.S.Store c.args.tables.now.conn)
+    (state g.S.Store c.query_all.new.self) c.requires
     (was_clean _ _ _ c.query_all.ensures.survives) (by c.query_all.ensures.survives)
     c.in-Err.field-0 c.in-Err.ensures.err

@@ -7,7 +7,7 @@ use Rattle.store_core.proofs.store.Store.create_schema.Goals as goal
 
 pub returns-clause-made : goal.returns-clause-made
 returns-clause-made g c blank = (
-  empty_stands c.make_schema.result (state g.S.Store c.make_schema.new.conn)
+  empty_stands c.make_schema.result (state g.S.Store c.make_schema.new.tables.conn)
       (c.make_schema.ensures.made blank),
   c.make_schema.ensures.unmade blank,
   c.make_schema.ensures.refused blank,
@@ -15,8 +15,8 @@ returns-clause-made g c blank = (
 
 pub returns-clause-migrated : goal.returns-clause-migrated
 returns-clause-migrated g c desk is due stand =
-    let old = state g.S.Store c.args.self.now.conn in
-    let new = state g.S.Store c.make_schema.new.conn in
+    let old = state g.S.Store c.args.self.now.tables.conn in
+    let new = state g.S.Store c.make_schema.new.tables.conn in
     let first = first_contents_of due desk in (
       c.make_schema.ensures.brings desk is due stand,
       at_fault c.make_schema.result (back_first first old new (λ d o. (stand d o).1))
@@ -25,13 +25,13 @@ returns-clause-migrated g c desk is due stand =
 
 pub returns-clause-kept : goal.returns-clause-kept
 returns-clause-kept g c d other stand =
-    let old = state g.S.Store c.args.self.now.conn in
-    let new = state g.S.Store c.make_schema.new.conn in
+    let old = state g.S.Store c.args.self.now.tables.conn in
+    let new = state g.S.Store c.make_schema.new.tables.conn in
     either_way c.make_schema.result (c.make_schema.ensures.kept d other stand)
     (at_fault c.make_schema.result (back_stands d old new (λ e o. (stand e o).1))
     (c.make_schema.ensures.back d (stand_either d old stand)))
 
 pub returns-clause-undone : goal.returns-clause-undone
 returns-clause-undone g c =
-    left_either c.make_schema.result (state g.S.Store c.args.self.now.conn)
-    (state g.S.Store c.make_schema.new.conn) c.make_schema.ensures.back
+    left_either c.make_schema.result (state g.S.Store c.args.self.now.tables.conn)
+    (state g.S.Store c.make_schema.new.tables.conn) c.make_schema.ensures.back

@@ -8,13 +8,13 @@ use Rattle.store_core.proofs.store.Store.set_dues.Goals as goal
 
 pub returns-clause-done : goal.returns-clause-done
 returns-clause-done g c desk due stand =
-    let new = state g.S.Store c.write_dues.new.conn in
+    let new = state g.S.Store c.write_dues.new.tables.conn in
     subst (λ d. OnOk c.write_dues.result (Stand d new)) (dues_on_desk c.args.dues.now due desk)
     (c.write_dues.ensures.done (contents_of due desk) stand)
 
 pub returns-clause-undone : goal.returns-clause-undone
 returns-clause-undone g c =
-    let old = state g.S.Store c.args.self.now.conn in
-    let new = state g.S.Store c.write_dues.new.conn in
+    let old = state g.S.Store c.args.self.now.tables.conn in
+    let new = state g.S.Store c.write_dues.new.tables.conn in
     spared_at_fault c.write_dues.result old new c.write_dues.ensures.honest
     c.write_dues.ensures.lasts c.write_dues.ensures.undone

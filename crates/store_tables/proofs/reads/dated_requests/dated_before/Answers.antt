@@ -9,13 +9,13 @@ use Rattle.store_tables.proofs.RowLemmas.{fails, reads_in_order}
 use Rattle.store_tables.proofs.TestLemmas.{due_order_is}
 use Rattle.store_tables.proofs.reads.dated_requests.dated_before.Goals as goal
 
-pub select_all-requires-clause-plain : goal.select_all-requires-clause-plain
-select_all-requires-clause-plain g c = (dated_due_before c.args.at).means.plain
+pub select_all-requires : goal.select_all-requires
+select_all-requires g c = (dated_due_before c.args.at).means.plain
 
 pub returns-clause-listed : goal.returns-clause-listed
 returns-clause-listed g c d stand clean =
     reads_in_order dated_table (dated_due_before c.args.at) (λ xs. xs.items) (state g.S.Store
-    c.args.conn.now) (state g.S.Store c.select_all.new.conn)
+    c.args.tables.now.conn) (state g.S.Store c.select_all.new.tables.conn)
     c.select_all.ensures.kept.clean c.select_all.result (rw c.number.ensures.bound at
     c.select_all.ensures.read) d stand clean
     by_due (due_order_is before_test dated_shown_terms (count_value c.args.at ∷ []))
@@ -23,6 +23,6 @@ returns-clause-listed g c d stand clean =
 pub returns-clause-mismatch : goal.returns-clause-mismatch
 returns-clause-mismatch g c =
     fails dated_table (dated_due_before c.args.at) (λ xs. xs.items) (state g.S.Store
-    c.args.conn.now) (state g.S.Store c.select_all.new.conn)
+    c.args.tables.now.conn) (state g.S.Store c.select_all.new.tables.conn)
     c.select_all.ensures.kept.clean c.select_all.result (rw c.number.ensures.bound at
     c.select_all.ensures.read)

@@ -7,13 +7,13 @@ use Rattle.sqlite.specs.Term.{col}
 use Rattle.std.proofs.Common.{[], ◌∷◌}
 use Rattle.store_tables.proofs.reads.entries_by_key.rows_last_number.Goals as goal
 
-pub select-requires-clause-plain : goal.select-requires-clause-plain
-select-requires-clause-plain g c = last_number_is.plain
+pub select-requires : goal.select-requires
+select-requires g c = last_number_is.plain
 
 pub returns-clause-shown : goal.returns-clause-shown
 returns-clause-shown g c d stand clean =
-    let old = state g.S.Store c.args.conn.now in
-    let new = state g.S.Store c.select.new.conn in
+    let old = state g.S.Store c.args.tables.now.conn in
+    let new = state g.S.Store c.select.new.tables.conn in
     if_ok c.select.result
     (λ rows. shows_last_number d c.args.id old new c.select.ensures.kept.clean stand clean
     rows.items)
@@ -21,8 +21,8 @@ returns-clause-shown g c d stand clean =
 
 pub returns-clause-of_table : goal.returns-clause-of_table
 returns-clause-of_table g c has clean =
-    let old = state g.S.Store c.args.conn.now in
-    let new = state g.S.Store c.select.new.conn in
+    let old = state g.S.Store c.args.tables.now.conn in
+    let new = state g.S.Store c.select.new.tables.conn in
     if_ok c.select.result
     (λ rows. last_rows last_number_text (count_value c.args.id ∷ []) 8 request_test (col 1 2)
     last_number_is

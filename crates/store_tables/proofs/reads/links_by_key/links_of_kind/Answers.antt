@@ -9,13 +9,13 @@ use Rattle.store_tables.proofs.RowLemmas.{only_refuses, reads_in_order}
 use Rattle.store_tables.proofs.TestLemmas.{target_order_is}
 use Rattle.store_tables.proofs.reads.links_by_key.links_of_kind.Goals as goal
 
-pub select_all-requires-clause-plain : goal.select_all-requires-clause-plain
-select_all-requires-clause-plain g c = (links_by_kind c.args.id c.args.kind).means.plain
+pub select_all-requires : goal.select_all-requires
+select_all-requires g c = (links_by_kind c.args.id c.args.kind).means.plain
 
 pub returns-clause-listed : goal.returns-clause-listed
 returns-clause-listed g c d stand clean =
     reads_in_order link_table (links_by_kind c.args.id c.args.kind) (λ xs. xs.items) (state
-    g.S.Store c.args.conn.now) (state g.S.Store c.select_all.new.conn)
+    g.S.Store c.args.tables.now.conn) (state g.S.Store c.select_all.new.tables.conn)
     c.select_all.ensures.kept.clean c.select_all.result (rw (
       c.number.ensures.bound,
       c.link_kind.ensures,
@@ -26,7 +26,7 @@ returns-clause-listed g c d stand clean =
 pub returns-clause-refuses : goal.returns-clause-refuses
 returns-clause-refuses g c =
     only_refuses link_table (links_by_kind c.args.id c.args.kind) (λ xs. xs.items) (state
-    g.S.Store c.args.conn.now) (state g.S.Store c.select_all.new.conn)
+    g.S.Store c.args.tables.now.conn) (state g.S.Store c.select_all.new.tables.conn)
     c.select_all.ensures.kept.clean c.select_all.result (rw (
       c.number.ensures.bound,
       c.link_kind.ensures,

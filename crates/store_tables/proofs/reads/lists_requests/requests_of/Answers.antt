@@ -9,13 +9,13 @@ use Rattle.store_tables.proofs.RowLemmas.{fails, reads_in_order}
 use Rattle.store_tables.proofs.TestLemmas.{id_order_is}
 use Rattle.store_tables.proofs.reads.lists_requests.requests_of.Goals as goal
 
-pub select_all-requires-clause-plain : goal.select_all-requires-clause-plain
-select_all-requires-clause-plain g c = (requests_in c.args.queue.now).means.plain
+pub select_all-requires : goal.select_all-requires
+select_all-requires g c = (requests_in c.args.queue.now).means.plain
 
 pub returns-clause-listed : goal.returns-clause-listed
 returns-clause-listed g c d stand clean =
     reads_in_order request_table (requests_in c.args.queue.now) (λ xs. xs.items) (state g.S.Store
-    c.args.conn.now) (state g.S.Store c.select_all.new.conn)
+    c.args.tables.now.conn) (state g.S.Store c.select_all.new.tables.conn)
     c.select_all.ensures.kept.clean c.select_all.result (rw c.words.ensures.bound at
     c.select_all.ensures.read) d stand clean
     by_id (id_order_is filed_test request_shown_terms (Words c.args.queue.now ∷ []))
@@ -23,6 +23,6 @@ returns-clause-listed g c d stand clean =
 pub returns-clause-mismatch : goal.returns-clause-mismatch
 returns-clause-mismatch g c =
     fails request_table (requests_in c.args.queue.now) (λ xs. xs.items) (state g.S.Store
-    c.args.conn.now) (state g.S.Store c.select_all.new.conn)
+    c.args.tables.now.conn) (state g.S.Store c.select_all.new.tables.conn)
     c.select_all.ensures.kept.clean c.select_all.result (rw c.words.ensures.bound at
     c.select_all.ensures.read)

@@ -17,8 +17,8 @@ returns-clause-greatest g c d stand clean =
 
 pub returns-clause-refuses : goal.returns-clause-refuses
 returns-clause-refuses g c =
-    let old = state g.S.Store c.args.conn.now in
-    let new = state g.S.Store c.rows_last_id.new.conn in
+    let old = state g.S.Store c.args.tables.now.conn in
+    let new = state g.S.Store c.rows_last_id.new.tables.conn in
     last_id_refuses old new c.rows_last_id.ensures.kept.clean c.read_number.result
     (fails_in 3 last_id_terms IsNumberRow old new c.in_ok-rows.rows.items c.read_number.result
     c.in_ok-rows.ensures.of_table (rw c.as_slice.ensures.value at c.read_number.ensures.mismatch)

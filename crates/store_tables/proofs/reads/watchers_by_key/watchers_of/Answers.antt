@@ -6,13 +6,13 @@ use Rattle.store_tables.proofs.RowLemmas.{only_refuses, reads_in_order}
 use Rattle.store_tables.proofs.TestLemmas.{role_order_is}
 use Rattle.store_tables.proofs.reads.watchers_by_key.watchers_of.Goals as goal
 
-pub select_all-requires-clause-plain : goal.select_all-requires-clause-plain
-select_all-requires-clause-plain g c = (watchers_on c.args.id).means.plain
+pub select_all-requires : goal.select_all-requires
+select_all-requires g c = (watchers_on c.args.id).means.plain
 
 pub returns-clause-listed : goal.returns-clause-listed
 returns-clause-listed g c d stand clean =
     reads_in_order watcher_table (watchers_on c.args.id) (λ xs. xs.items) (state g.S.Store
-    c.args.conn.now) (state g.S.Store c.select_all.new.conn)
+    c.args.tables.now.conn) (state g.S.Store c.select_all.new.tables.conn)
     c.select_all.ensures.kept.clean c.select_all.result (rw c.number.ensures.bound at
     c.select_all.ensures.read) d stand clean
     by_role (role_order_is c.args.id)
@@ -20,7 +20,7 @@ returns-clause-listed g c d stand clean =
 pub returns-clause-refuses : goal.returns-clause-refuses
 returns-clause-refuses g c =
     only_refuses watcher_table (watchers_on c.args.id) (λ xs. xs.items) (state g.S.Store
-    c.args.conn.now) (state g.S.Store c.select_all.new.conn)
+    c.args.tables.now.conn) (state g.S.Store c.select_all.new.tables.conn)
     c.select_all.ensures.kept.clean c.select_all.result (rw c.number.ensures.bound at
     c.select_all.ensures.read)
 

@@ -1,0 +1,11 @@
+//! Tables over a connection.
+ghost use Rattle.std.specs.Prelude.{◌≡◌, false};
+
+use sqlite::{Alter, Connection};
+
+/// Tables over a connection that is in no transaction.
+#[derive(Drop)]
+pub struct Tables<S: Alter> {
+    pub conn: Connection<S>,
+    ghost idle: { conn.in_transaction ≡ false },
+}
