@@ -11,9 +11,8 @@ use crate::change::write_change;
 use crate::store::Store;
 use desk_core::Change;
 use sqlite::Alter;
-use store_tables::StoreFault;
 use store_tables::transaction::finish;
-use store_tables::Tables;
+use store_tables::{StoreFault, Tables};
 
 /// Writes a change in one transaction: all of it, or none.
 fn apply_change<S: Alter>(tables: &mut Tables<S>, change: &Change) -> Result<(), StoreFault>

@@ -10,10 +10,9 @@ ghost use Rattle.store_tables.specs.Seen.{seen};
 use crate::store::Store;
 use hours_core::Minute;
 use sqlite::Alter;
-use store_tables::StoreFault;
 use store_tables::transaction::finish;
 use store_tables::writes::requests::set_dues;
-use store_tables::Tables;
+use store_tables::{StoreFault, Tables};
 
 /// Writes due moments in one transaction: all of them, or none.
 fn write_dues<S: Alter>(

@@ -20,9 +20,8 @@ ghost use Rattle.store_tables.specs.Seen.{seen};
 use crate::version::bring_up;
 use sqlite::{Alter, Transaction};
 use std::alloc::Global;
-use store_tables::StoreFault;
 use store_tables::transaction::{finish, run};
-use store_tables::Tables;
+use store_tables::{StoreFault, Tables};
 
 /// Makes the first three tables where they are missing.
 #[tactic(auto, using(store_tables::proofs::Lasting::on))]
@@ -180,10 +179,7 @@ fn make_all<S: Alter>(alloc: Global, tx: &mut Transaction<'_, S>) -> Result<(), 
 }
 
 /// Makes the tables that are missing, and brings them to the present version, in one transaction.
-pub(crate) fn make_schema<S: Alter>(
-    alloc: Global,
-    tables: &mut Tables<S>,
-) -> Result<(), StoreFault>
+pub(crate) fn make_schema<S: Alter>(alloc: Global, tables: &mut Tables<S>) -> Result<(), StoreFault>
     ensures made { IsBlank (seen S.Store tables.old) →
         OnOk result (Stand no_contents (seen S.Store tables.new)) }
     ensures unmade { IsBlank (seen S.Store tables.old) →

@@ -11,10 +11,9 @@ use desk_core::may_show;
 use settings_core::Settings;
 use sqlite::Alter;
 use std::alloc::Global;
-use store_tables::StoreFault;
 use store_tables::reads::requests_by_key::request_numbered;
 use store_tables::reads::watchers_by_key::watchers_of;
-use store_tables::Tables;
+use store_tables::{StoreFault, Tables};
 
 impl<S: Alter> Store<S> {
     /// Whether the request with that number is there and the person may show it, by two reads.

@@ -9,9 +9,8 @@ ghost use Rattle.store_tables.specs.Seen.{seen};
 use hours_core::Stay;
 use sqlite::Alter;
 use std::alloc::Global;
-use store_tables::{StoreFault, reads};
+use store_tables::{StoreFault, Tables, reads};
 use text_core::Sequence;
-use store_tables::Tables;
 
 /// The stays of a request, in order.
 fn stays_on<S: Alter>(

@@ -1,5 +1,5 @@
-//! Reading: one query each, on a connection without an open transaction. `Refused` where the store
-//! or memory refuses it. The tables stay as they are.
+//! Reading: one query each. `Refused` where the store or memory refuses it. The tables stay as they
+//! are.
 
 pub mod actors;
 pub mod dated_requests;

@@ -11,7 +11,6 @@ loop-link-preserved g c =
     let so_far = c.loop-link.invariant in
     let put = c.put_dependency.ensures in
     record {
-      idle = put.idle;
       told =
           λ desk is stand clean.
           flat_map_more (dependency_by desk) c.args.links.now c.loop-link.link-index _ _ _ low

@@ -1,7 +1,5 @@
-use Rattle.std.proofs.Common.{◌≡◌, OnOk, OnErr, fold, rules, subst, sym}
+use Rattle.std.proofs.Common.{fold}
 use Rattle.sqlite.specs.Held.{state}
-use Rattle.store_tables.specs.Calls.{Lasts}
-use Rattle.store_tables.specs.Stands.{GoesBack, Stand}
 use Rattle.store_tables.proofs.Lasting.{by, through}
 use Rattle.store_tables.proofs.StandLemmas.{begins, begins_on, begun_back, was_clean}
 use Rattle.store_tables.specs.Contents.{set_each_due}
@@ -12,9 +10,7 @@ returns-clause-done g c d stand =
     let begun = begins g.S.Store c.args.tables.now.conn c.transaction-tx.result.conn.now d
     c.transaction-tx.ensures.begun stand in
     let last = fold set_each_due d c.args.dues.now in
-    let same : c.finish.new.tx.0 ≡ c.conn-2-1.given.0 = search rules in
-    subst (λ h. OnOk c.finish.result (Stand last (state g.S.Store h))) same
-    (c.finish.ensures.done last (c.in_ok-set_dues.ensures.set.makes d begun))
+    c.finish.ensures.done last (c.in_ok-set_dues.ensures.set.makes d begun)
 
 pub returns-clause-undone : goal.returns-clause-undone
 returns-clause-undone g c =
@@ -22,30 +18,24 @@ returns-clause-undone g c =
     let tx = c.transaction-tx.result.conn.now in
     let begun = c.transaction-tx.ensures.begun in
     let did = c.in_ok-set_dues.ensures.set in
-    let same : c.finish.new.tx.0 ≡ c.conn-2-1.given.0 = search rules in
-    subst (λ h. OnErr c.finish.result (GoesBack (state g.S.Store old) (state g.S.Store h))) same
-    (begun_back g.S.Store old tx (state g.S.Store c.set_dues.new.tx.conn.now)
+    begun_back g.S.Store old tx (state g.S.Store c.set_dues.new.tx.conn.now)
     (state g.S.Store c.finish.new.tx.0) c.finish.result begun did.keeps
-    (c.finish.ensures.back (did.goes_on (begins_on g.S.Store old tx begun))))
+    (c.finish.ensures.back (did.goes_on (begins_on g.S.Store old tx begun)))
 
 pub returns-in_err-set_dues-clause-lasts : goal.returns-in_err-set_dues-clause-lasts
 returns-in_err-set_dues-clause-lasts g c =
     let old = c.args.tables.now.conn in
     let did = c.in_err-set_dues.ensures.set in
-    let same : c.conn-1.given.0 ≡ c.drop-tx.new.self.0 = search rules in
-    subst (λ h. Lasts (state g.S.Store old) (state g.S.Store h)) (sym same)
-    (through g.S.Store old c.transaction-tx.result.conn.now
+    through g.S.Store old c.transaction-tx.result.conn.now
     (state g.S.Store c.set_dues.new.tx.conn.now) (state g.S.Store c.drop-tx.new.self.0)
     c.transaction-tx.ensures.begun did.clean did.lasts
-    (was_clean _ _ _ c.drop-tx.ensures.survives) (by c.drop-tx.ensures.survives))
+    (was_clean _ _ _ c.drop-tx.ensures.survives) (by c.drop-tx.ensures.survives)
 
 pub returns-clause-lasts : goal.returns-clause-lasts
 returns-clause-lasts g c =
     let old = c.args.tables.now.conn in
     let did = c.in_ok-set_dues.ensures.set in
-    let same : c.finish.new.tx.0 ≡ c.conn-2-1.given.0 = search rules in
-    subst (λ h. Lasts (state g.S.Store old) (state g.S.Store h)) same
-    (through g.S.Store old c.transaction-tx.result.conn.now
+    through g.S.Store old c.transaction-tx.result.conn.now
     (state g.S.Store c.set_dues.new.tx.conn.now) (state g.S.Store c.finish.new.tx.0)
     c.transaction-tx.ensures.begun did.clean did.lasts c.finish.ensures.honest
-    c.finish.ensures.lasts)
+    c.finish.ensures.lasts

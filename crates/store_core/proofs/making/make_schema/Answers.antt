@@ -1,9 +1,6 @@
-use Rattle.std.proofs.Common.{◌≡◌, Err, OnOk, rules, subst, sym}
+use Rattle.std.proofs.Common.{◌≡◌, Err, rules}
 use Rattle.sqlite.specs.Held.{state}
-use Rattle.sqlite.specs.State.{HasCleanDisk}
-use Rattle.store_tables.specs.Calls.{Lasts}
 use Rattle.store_tables.specs.Contents.{contents_of, first_contents_of}
-use Rattle.store_tables.specs.Stands.{Stand}
 use Rattle.store_tables.proofs.Lasting.{by, through}
 use Rattle.store_tables.proofs.StandLemmas.{was_clean}
 use Rattle.store_core.proofs.MakeLemmas.{begins_blamed, begins_either, begins_of_meta, begins_there}
@@ -13,9 +10,7 @@ use Rattle.store_core.proofs.making.make_schema.Goals as goal
 pub returns-in_err-make_all-clause-blames : goal.returns-in_err-make_all-clause-blames
 returns-in_err-make_all-clause-blames g c has clean =
     let is : c.from_residual.result ≡ Err c.in_err-make_all.field-0.0 = search rules in
-    let same : c.conn-1.given.0 ≡ c.drop-tx.new.self.0 = search rules in
-    let middle = was_clean _ _ _ c.drop-tx.ensures.survives
-    (subst (λ h. HasCleanDisk (state g.S.Store h)) same clean) in
+    let middle = was_clean _ _ _ c.drop-tx.ensures.survives clean in
     let tx = c.transaction-tx.result.conn.now in
     let begun = c.transaction-tx.ensures.begun in
     let there = begins_there g.S.Store c.args.tables.now.conn tx begun has in
@@ -25,12 +20,10 @@ returns-in_err-make_all-clause-blames g c has clean =
 pub returns-in_err-make_all-clause-mismatch : goal.returns-in_err-make_all-clause-mismatch
 returns-in_err-make_all-clause-mismatch g c =
     let is : c.from_residual.result ≡ Err c.in_err-make_all.field-0.0 = search rules in
-    let same : c.conn-1.given.0 ≡ c.drop-tx.new.self.0 = search rules in
     let tx = c.transaction-tx.result.conn.now in
     let begun = c.transaction-tx.ensures.begun in
     rw is (λ wrong has clean.
-    let middle = was_clean _ _ _ c.drop-tx.ensures.survives
-    (subst (λ h. HasCleanDisk (state g.S.Store h)) same clean) in
+    let middle = was_clean _ _ _ c.drop-tx.ensures.survives clean in
     begins_blamed g.S.Store c.args.tables.now.conn tx begun
     (c.in_err-make_all.ensures.mismatch wrong
     (begins_there g.S.Store c.args.tables.now.conn tx begun has) middle))
@@ -40,9 +33,7 @@ returns-clause-kept g c d other stand =
     let old = c.args.tables.now.conn in
     let holds = begins_either g.S.Store old c.transaction-tx.result.conn.now
     c.transaction-tx.ensures.begun d (stand_either d (state g.S.Store old) stand) in
-    let same : c.finish.new.tx.0 ≡ c.conn-2-1.given.0 = search rules in
-    subst (λ h. OnOk c.finish.result (Stand d (state g.S.Store h))) same
-    (c.finish.ensures.done d (c.in_ok-make_all.ensures.there d other holds))
+    c.finish.ensures.done d (c.in_ok-make_all.ensures.there d other holds)
 
 pub returns-clause-brings : goal.returns-clause-brings
 returns-clause-brings g c desk is due stand =
@@ -51,26 +42,20 @@ returns-clause-brings g c desk is due stand =
     let last = contents_of due desk in
     let holds = begins_either g.S.Store old c.transaction-tx.result.conn.now
     c.transaction-tx.ensures.begun first (first_either first (state g.S.Store old) stand) in
-    let same : c.finish.new.tx.0 ≡ c.conn-2-1.given.0 = search rules in
-    subst (λ h. OnOk c.finish.result (Stand last (state g.S.Store h))) same
-    (c.finish.ensures.done last (c.in_ok-make_all.ensures.brings desk is due holds))
+    c.finish.ensures.done last (c.in_ok-make_all.ensures.brings desk is due holds)
 
 pub returns-in_err-make_all-clause-lasts : goal.returns-in_err-make_all-clause-lasts
 returns-in_err-make_all-clause-lasts g c =
     let old = c.args.tables.now.conn in
-    let same : c.conn-1.given.0 ≡ c.drop-tx.new.self.0 = search rules in
-    subst (λ h. Lasts (state g.S.Store old) (state g.S.Store h)) (sym same)
-    (through g.S.Store old c.transaction-tx.result.conn.now
+    through g.S.Store old c.transaction-tx.result.conn.now
     (state g.S.Store c.make_all.new.tx.conn.now) (state g.S.Store c.drop-tx.new.self.0)
     c.transaction-tx.ensures.begun c.make_all.ensures.honest c.make_all.ensures.lasts
-    (was_clean _ _ _ c.drop-tx.ensures.survives) (by c.drop-tx.ensures.survives))
+    (was_clean _ _ _ c.drop-tx.ensures.survives) (by c.drop-tx.ensures.survives)
 
 pub returns-clause-lasts : goal.returns-clause-lasts
 returns-clause-lasts g c =
     let old = c.args.tables.now.conn in
-    let same : c.finish.new.tx.0 ≡ c.conn-2-1.given.0 = search rules in
-    subst (λ h. Lasts (state g.S.Store old) (state g.S.Store h)) same
-    (through g.S.Store old c.transaction-tx.result.conn.now
+    through g.S.Store old c.transaction-tx.result.conn.now
     (state g.S.Store c.make_all.new.tx.conn.now) (state g.S.Store c.finish.new.tx.0)
     c.transaction-tx.ensures.begun c.make_all.ensures.honest c.make_all.ensures.lasts
-    c.finish.ensures.honest c.finish.ensures.lasts)
+    c.finish.ensures.honest c.finish.ensures.lasts
