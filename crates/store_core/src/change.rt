@@ -29,7 +29,6 @@ fn open_queue<S: Alter>(
     ensures same_reference { tx.new.conn.ghost_name ≡ tx.old.conn.ghost_name }
     ensures opened { Does (queue_added queue.now)
         (state S.Store tx.old.conn.now) (state S.Store tx.new.conn.now) result }
-    ensures fault { IfErr result (λ e. e ≡ StoreFault.Refused) }
 {
     match queue {
         Some(row) => put_queue(tx, row),
@@ -46,7 +45,6 @@ fn file_request<S: Alter>(
     ensures same_reference { tx.new.conn.ghost_name ≡ tx.old.conn.ghost_name }
     ensures filed { Does (request_added filed.now due)
         (state S.Store tx.old.conn.now) (state S.Store tx.new.conn.now) result }
-    ensures fault { IfErr result (λ e. e ≡ StoreFault.Refused) }
 {
     match filed {
         Some(row) => put_request(tx, row, due),
@@ -63,7 +61,6 @@ fn revise_request<S: Alter>(
     ensures same_reference { tx.new.conn.ghost_name ≡ tx.old.conn.ghost_name }
     ensures set { Does (request_set row.now due)
         (state S.Store tx.old.conn.now) (state S.Store tx.new.conn.now) result }
-    ensures fault { IfErr result (λ e. e ≡ StoreFault.Refused) }
 {
     match row {
         Some(row) => set_request(tx, row, due),
@@ -76,7 +73,6 @@ fn link<S: Alter>(tx: &mut Transaction<'_, S>, linked: &Option<LinkRow>) -> Resu
     ensures same_reference { tx.new.conn.ghost_name ≡ tx.old.conn.ghost_name }
     ensures linked { Does (link_added linked.now)
         (state S.Store tx.old.conn.now) (state S.Store tx.new.conn.now) result }
-    ensures fault { IfErr result (λ e. e ≡ StoreFault.Refused) }
 {
     match linked {
         Some(row) => put_link(tx, row),
@@ -92,7 +88,6 @@ fn unlink<S: Alter>(
     ensures same_reference { tx.new.conn.ghost_name ≡ tx.old.conn.ghost_name }
     ensures unlinked { Does (link_dropped unlinked.now)
         (state S.Store tx.old.conn.now) (state S.Store tx.new.conn.now) result }
-    ensures fault { IfErr result (λ e. e ≡ StoreFault.Refused) }
 {
     match unlinked {
         Some(row) => drop_link(tx, row),
@@ -106,7 +101,6 @@ fn write_rows<S: Alter>(tx: &mut Transaction<'_, S>, change: &Change) -> Result<
     ensures made { Does (λ c. request_set change.now.row (change.now.due)
         (request_added change.now.filed (change.now.due) (queue_added change.now.queue c)))
         (state S.Store tx.old.conn.now) (state S.Store tx.new.conn.now) result }
-    ensures fault { IfErr result (λ e. e ≡ StoreFault.Refused) }
 {
     open_queue(tx, &change.queue)?;
     file_request(tx, &change.filed, change.due)?;
@@ -119,7 +113,6 @@ fn write_persons<S: Alter>(tx: &mut Transaction<'_, S>, change: &Change) -> Resu
     ensures made { Does (λ c. fold without_watcher (fold add_watcher c change.now.put)
         change.now.taken)
         (state S.Store tx.old.conn.now) (state S.Store tx.new.conn.now) result }
-    ensures fault { IfErr result (λ e. e ≡ StoreFault.Refused) }
 {
     put_watchers(tx, change.put.as_slice())?;
     drop_watchers(tx, change.taken.as_slice())
@@ -130,7 +123,6 @@ fn write_links<S: Alter>(tx: &mut Transaction<'_, S>, change: &Change) -> Result
     ensures same_reference { tx.new.conn.ghost_name ≡ tx.old.conn.ghost_name }
     ensures made { Does (λ c. link_dropped change.now.unlinked (link_added change.now.linked c))
         (state S.Store tx.old.conn.now) (state S.Store tx.new.conn.now) result }
-    ensures fault { IfErr result (λ e. e ≡ StoreFault.Refused) }
 {
     link(tx, &change.linked)?;
     unlink(tx, &change.unlinked)
@@ -156,7 +148,6 @@ fn end_before<S: Alter>(
     ensures same_reference { tx.new.conn.ghost_name ≡ tx.old.conn.ghost_name }
     ensures ended { Does (spec.stay_ended id number until)
         (state S.Store tx.old.conn.now) (state S.Store tx.new.conn.now) result }
-    ensures fault { IfErr result (λ e. e ≡ StoreFault.Refused) }
 {
     if number == 0 {
         Ok(())
@@ -175,7 +166,6 @@ fn put_last<S: Alter>(
     ensures same_reference { tx.new.conn.ghost_name ≡ tx.old.conn.ghost_name }
     ensures put { Does (spec.stay_put id number (option_copied last.entry))
         (state S.Store tx.old.conn.now) (state S.Store tx.new.conn.now) result }
-    ensures fault { IfErr result (λ e. e ≡ StoreFault.Refused) }
 {
     match last {
         None => Ok(()),
@@ -206,7 +196,6 @@ fn begin_stay<S: Alter>(
     ensures same_reference { tx.new.conn.ghost_name ≡ tx.old.conn.ghost_name }
     ensures begun { Does (spec.stay_put id (length stays.now) (spec.last_of stays.now))
         (state S.Store tx.old.conn.now) (state S.Store tx.new.conn.now) result }
-    ensures fault { IfErr result (λ e. e ≡ StoreFault.Refused) }
 {
     let count = count_stays(stays)?;
     put_last(tx, id, count, stays.last())
@@ -217,7 +206,6 @@ fn write_stay<S: Alter>(tx: &mut Transaction<'_, S>, change: &Change) -> Result<
     ensures same_reference { tx.new.conn.ghost_name ≡ tx.old.conn.ghost_name }
     ensures made { Does (spec.stay_begun (spec.begun_on change.now.entries) change.now.stays)
         (state S.Store tx.old.conn.now) (state S.Store tx.new.conn.now) result }
-    ensures fault { IfErr result (λ e. e ≡ StoreFault.Refused) }
 {
     match begun_on(change.entries.as_slice()) {
         Some(id) => begin_stay(tx, id, change.stays.as_slice()),
@@ -231,7 +219,6 @@ fn write_history<S: Alter>(tx: &mut Transaction<'_, S>, change: &Change) -> Resu
     ensures made { Does (λ c. spec.stay_begun (spec.begun_on change.now.entries) change.now.stays
         (fold add_entry c change.now.entries))
         (state S.Store tx.old.conn.now) (state S.Store tx.new.conn.now) result }
-    ensures fault { IfErr result (λ e. e ≡ StoreFault.Refused) }
 {
     put_entries(tx, change.entries.as_slice())?;
     write_stay(tx, change)
@@ -245,7 +232,6 @@ pub(crate) fn write_change<S: Alter>(
     ensures same_reference { tx.new.conn.ghost_name ≡ tx.old.conn.ghost_name }
     ensures made { Does (written change.now)
         (state S.Store tx.old.conn.now) (state S.Store tx.new.conn.now) result }
-    ensures fault { IfErr result (λ e. e ≡ StoreFault.Refused) }
 {
     write_rows(tx, change)?;
     write_persons(tx, change)?;

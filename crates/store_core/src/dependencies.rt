@@ -1,9 +1,9 @@
 //! What a request depends on, of its links and the rows that they lead to.
-ghost use Rattle.std.specs.Prelude.{◌++◌, ◌∷◌, ◌≡◌, ◌≢◌, IfErr, OnOk, []};
+ghost use Rattle.std.specs.Prelude.{◌++◌, ◌∷◌, ◌≡◌, IfErr, OnOk, []};
 ghost use Rattle.std.specs.List.{flat_map};
 ghost use Rattle.desk_model.specs.Facts as facts;
 ghost use Rattle.store_tables.specs.declared.fault.StoreFault.{StoreFault};
-ghost use Rattle.store_tables.specs.Calls.{OnlyRefuses, Spares, Tells};
+ghost use Rattle.store_tables.specs.Readings.{OfDesk, Reads};
 ghost use Rattle.store_core.specs.Found as found;
 ghost use Rattle.store_tables.specs.Seen.{seen};
 
@@ -22,12 +22,8 @@ pub(crate) fn dependencies_of<S: Alter>(
     tables: &mut Tables<S>,
     id: u32,
 ) -> Result<Sequence<Dependency>, StoreFault>
-    ensures told { Tells (λ desk all. all ≡ facts.dependencies_of desk id)
+    ensures { Reads (OfDesk (λ desk all. all ≡ facts.dependencies_of desk id))
         (seen S.Store tables.old) (seen S.Store tables.new) result }
-    ensures kept { Spares (seen S.Store tables.old) (seen S.Store tables.new) }
-    ensures refuses { OnlyRefuses
-        (seen S.Store tables.old) (seen S.Store tables.new) result }
-    ensures fault { IfErr result (λ e. e ≢ StoreFault.WrongVersion) }
 {
     let links = links_of_kind(alloc, tables, id, LinkKind::DependsOn)?;
     dependencies_by(alloc, tables, links.as_slice())
@@ -39,12 +35,8 @@ fn dependencies_by<S: Alter>(
     tables: &mut Tables<S>,
     links: &[LinkRow],
 ) -> Result<Sequence<Dependency>, StoreFault>
-    ensures told { Tells (λ desk all. all ≡ flat_map (found.dependency_by desk) links.now)
+    ensures { Reads (OfDesk (λ desk all. all ≡ flat_map (found.dependency_by desk) links.now))
         (seen S.Store tables.old) (seen S.Store tables.new) result }
-    ensures kept { Spares (seen S.Store tables.old) (seen S.Store tables.new) }
-    ensures refuses { OnlyRefuses
-        (seen S.Store tables.old) (seen S.Store tables.new) result }
-    ensures fault { IfErr result (λ e. e ≢ StoreFault.WrongVersion) }
 {
     let mut all = Vec::new(alloc);
     for link in links {
@@ -59,13 +51,9 @@ fn put_dependency<S: Alter>(
     tables: &mut Tables<S>,
     link: &LinkRow,
 ) -> Result<(), StoreFault>
-    ensures told { Tells (λ desk done.
-        all.new.items ≡ all.old.items ++ found.dependency_by desk link.now)
+    ensures { Reads (OfDesk (λ desk done.
+        all.new.items ≡ all.old.items ++ found.dependency_by desk link.now))
         (seen S.Store tables.old) (seen S.Store tables.new) result }
-    ensures kept { Spares (seen S.Store tables.old) (seen S.Store tables.new) }
-    ensures refuses { OnlyRefuses
-        (seen S.Store tables.old) (seen S.Store tables.new) result }
-    ensures fault { IfErr result (λ e. e ≢ StoreFault.WrongVersion) }
 {
     match dependency_at(tables, link.target)? {
         None => Ok(()),
@@ -88,12 +76,8 @@ fn dependency_at<S: Alter>(
     tables: &mut Tables<S>,
     id: u32,
 ) -> Result<Option<Dependency>, StoreFault>
-    ensures told { Tells (λ desk one. one ≡ found.dependency_at desk id)
+    ensures { Reads (OfDesk (λ desk one. one ≡ found.dependency_at desk id))
         (seen S.Store tables.old) (seen S.Store tables.new) result }
-    ensures kept { Spares (seen S.Store tables.old) (seen S.Store tables.new) }
-    ensures refuses { OnlyRefuses
-        (seen S.Store tables.old) (seen S.Store tables.new) result }
-    ensures fault { IfErr result (λ e. e ≢ StoreFault.WrongVersion) }
 {
     match request_numbered(tables, id)? {
         None => Ok(None),

@@ -11,6 +11,7 @@ ghost use Rattle.desk_model.specs.Scope.{seen_in};
 ghost use Rattle.desk_model.specs.Step.{facts_of};
 ghost use Rattle.store_tables.specs.declared.fault.StoreFault.{StoreFault};
 ghost use Rattle.store_tables.specs.Calls.{OnlyRefuses, Spares, Tells};
+ghost use Rattle.store_tables.specs.Readings.{Blames, OfDesk, Reads};
 ghost use Rattle.store_core.specs.Found as found;
 ghost use Rattle.store_core.specs.Seen.{state_of};
 ghost use Rattle.store_tables.specs.Seen.{seen};
@@ -40,6 +41,7 @@ impl<S: Alter> Store<S> {
         ensures refuses { OnlyRefuses
             (state_of S.Store self.old) (state_of S.Store self.new) result }
         ensures fault { IfErr result (λ e. e ≢ StoreFault.WrongVersion) }
+        ensures blames { Blames (state_of S.Store self.old) (state_of S.Store self.new) result }
     {
         facts_in(alloc, &mut self.tables, command.scope())
     }
@@ -54,6 +56,7 @@ impl<S: Alter> Store<S> {
         ensures refuses { OnlyRefuses
             (state_of S.Store self.old) (state_of S.Store self.new) result }
         ensures fault { IfErr result (λ e. e ≢ StoreFault.WrongVersion) }
+        ensures blames { Blames (state_of S.Store self.old) (state_of S.Store self.new) result }
     {
         queue_at(&mut self.tables, name)
     }
@@ -65,12 +68,8 @@ fn facts_in<S: Alter>(
     tables: &mut Tables<S>,
     scope: Scope<'_>,
 ) -> Result<Facts, StoreFault>
-    ensures told { Tells (λ desk facts. facts ≡ seen_in scope.entry desk)
+    ensures { Reads (OfDesk (λ desk facts. facts ≡ seen_in scope.entry desk))
         (seen S.Store tables.old) (seen S.Store tables.new) result }
-    ensures kept { Spares (seen S.Store tables.old) (seen S.Store tables.new) }
-    ensures refuses { OnlyRefuses
-        (seen S.Store tables.old) (seen S.Store tables.new) result }
-    ensures fault { IfErr result (λ e. e ≢ StoreFault.WrongVersion) }
 {
     match scope {
         Scope::Nothing => Ok(no_facts(alloc)),
@@ -88,12 +87,8 @@ fn facts_of_queue<S: Alter>(
     tables: &mut Tables<S>,
     name: &Text,
 ) -> Result<Facts, StoreFault>
-    ensures told { Tells (λ desk seen. seen ≡ facts.facts_of_queue desk name.now)
+    ensures { Reads (OfDesk (λ desk seen. seen ≡ facts.facts_of_queue desk name.now))
         (seen S.Store tables.old) (seen S.Store tables.new) result }
-    ensures kept { Spares (seen S.Store tables.old) (seen S.Store tables.new) }
-    ensures refuses { OnlyRefuses
-        (seen S.Store tables.old) (seen S.Store tables.new) result }
-    ensures fault { IfErr result (λ e. e ≢ StoreFault.WrongVersion) }
 {
     let queue = queue_at(tables, name)?;
     Ok(counted(alloc, queue, 0, 0))
@@ -105,12 +100,8 @@ fn facts_on_queue<S: Alter>(
     tables: &mut Tables<S>,
     name: &Text,
 ) -> Result<Facts, StoreFault>
-    ensures told { Tells (λ desk seen. seen ≡ facts.facts_on_queue desk name.now)
+    ensures { Reads (OfDesk (λ desk seen. seen ≡ facts.facts_on_queue desk name.now))
         (seen S.Store tables.old) (seen S.Store tables.new) result }
-    ensures kept { Spares (seen S.Store tables.old) (seen S.Store tables.new) }
-    ensures refuses { OnlyRefuses
-        (seen S.Store tables.old) (seen S.Store tables.new) result }
-    ensures fault { IfErr result (λ e. e ≢ StoreFault.WrongVersion) }
 {
     let queue_count = count_queues(tables)?;
     let request_count = count_requests(tables)?;
@@ -120,34 +111,24 @@ fn facts_on_queue<S: Alter>(
 
 /// How many queues there are.
 fn count_queues<S: Alter>(tables: &mut Tables<S>) -> Result<u32, StoreFault>
-    ensures told { Tells (λ desk n. n ≡ length desk.queues)
+    ensures { Reads (OfDesk (λ desk n. n ≡ length desk.queues))
         (seen S.Store tables.old) (seen S.Store tables.new) result }
-    ensures kept { Spares (seen S.Store tables.old) (seen S.Store tables.new) }
-    ensures fault { IfErr result (λ e. e ≡ StoreFault.Refused) }
 {
     queue_count(tables)
 }
 
 /// How many requests there are: the last number, since the numbers have no gaps.
 fn count_requests<S: Alter>(tables: &mut Tables<S>) -> Result<u32, StoreFault>
-    ensures told { Tells (λ desk n. n ≡ length desk.requests)
+    ensures { Reads (OfDesk (λ desk n. n ≡ length desk.requests))
         (seen S.Store tables.old) (seen S.Store tables.new) result }
-    ensures kept { Spares (seen S.Store tables.old) (seen S.Store tables.new) }
-    ensures refuses { OnlyRefuses
-        (seen S.Store tables.old) (seen S.Store tables.new) result }
-    ensures fault { IfErr result (λ e. e ≢ StoreFault.WrongVersion) }
 {
     last_id(tables)
 }
 
 /// Of a command on a request: the request, its stays and its queue.
 fn facts_on<S: Alter>(alloc: Global, tables: &mut Tables<S>, id: u32) -> Result<Facts, StoreFault>
-    ensures told { Tells (λ desk seen. seen ≡ facts.facts_on_request desk id)
+    ensures { Reads (OfDesk (λ desk seen. seen ≡ facts.facts_on_request desk id))
         (seen S.Store tables.old) (seen S.Store tables.new) result }
-    ensures kept { Spares (seen S.Store tables.old) (seen S.Store tables.new) }
-    ensures refuses { OnlyRefuses
-        (seen S.Store tables.old) (seen S.Store tables.new) result }
-    ensures fault { IfErr result (λ e. e ≢ StoreFault.WrongVersion) }
 {
     let request = seen_request_at(alloc, tables, id)?;
     let stays = stays_if(alloc, tables, id, request.is_some())?;
@@ -161,12 +142,8 @@ fn facts_of_move<S: Alter>(
     tables: &mut Tables<S>,
     id: u32,
 ) -> Result<Facts, StoreFault>
-    ensures told { Tells (λ desk seen. seen ≡ besides_on Dependencies id desk)
+    ensures { Reads (OfDesk (λ desk seen. seen ≡ besides_on Dependencies id desk))
         (seen S.Store tables.old) (seen S.Store tables.new) result }
-    ensures kept { Spares (seen S.Store tables.old) (seen S.Store tables.new) }
-    ensures refuses { OnlyRefuses
-        (seen S.Store tables.old) (seen S.Store tables.new) result }
-    ensures fault { IfErr result (λ e. e ≢ StoreFault.WrongVersion) }
 {
     let facts = facts_on(alloc, tables, id)?;
     if facts.request.is_none() {
@@ -187,12 +164,8 @@ fn facts_of_link<S: Alter>(
     tables: &mut Tables<S>,
     link: LinkRow,
 ) -> Result<Facts, StoreFault>
-    ensures told { Tells (λ desk seen. seen ≡ seen_in (Scope.Link link) desk)
+    ensures { Reads (OfDesk (λ desk seen. seen ≡ seen_in (Scope.Link link) desk))
         (seen S.Store tables.old) (seen S.Store tables.new) result }
-    ensures kept { Spares (seen S.Store tables.old) (seen S.Store tables.new) }
-    ensures refuses { OnlyRefuses
-        (seen S.Store tables.old) (seen S.Store tables.new) result }
-    ensures fault { IfErr result (λ e. e ≢ StoreFault.WrongVersion) }
 {
     let is_linked = is_there(tables, link)?;
     let other = seen_request_at(alloc, tables, link.target)?;
@@ -202,12 +175,8 @@ fn facts_of_link<S: Alter>(
 
 /// Whether the link is there.
 fn is_there<S: Alter>(tables: &mut Tables<S>, link: LinkRow) -> Result<bool, StoreFault>
-    ensures told { Tells (λ desk there. there ≡ has_link desk link)
+    ensures { Reads (OfDesk (λ desk there. there ≡ has_link desk link))
         (seen S.Store tables.old) (seen S.Store tables.new) result }
-    ensures kept { Spares (seen S.Store tables.old) (seen S.Store tables.new) }
-    ensures refuses { OnlyRefuses
-        (seen S.Store tables.old) (seen S.Store tables.new) result }
-    ensures fault { IfErr result (λ e. e ≢ StoreFault.WrongVersion) }
 {
     let found = link_like(tables, link)?;
     Ok(found.is_some())

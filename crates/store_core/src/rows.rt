@@ -3,10 +3,11 @@
 ghost use Rattle.std.specs.Prelude.{◌+◌, ◌<◌, ◌≡◌, ◌≢◌, ◌^◌, ◌∷◌, [], Err, IfErr, IfOk, IsSome};
 ghost use Rattle.std.specs.Prelude.{None, Ok, filter, slice_get};
 ghost use Rattle.std.specs.Borrow.{RestsIfErr, sem};
-ghost use Rattle.store_tables.specs.Calls.{Answers, OnlyRefuses, Spares};
+ghost use Rattle.store_tables.specs.Calls.{OnlyRefuses, Spares};
 ghost use Rattle.store_tables.specs.Mismatches.{MismatchesInNumbers};
 ghost use Rattle.store_tables.specs.Selection.{has_number};
 ghost use Rattle.store_tables.specs.declared.fault.StoreFault.{StoreFault};
+ghost use Rattle.store_tables.specs.Readings.{Reads};
 ghost use Rattle.store_core.specs.Ahead.{Begins, GivesNext, HasAhead, IsRefused};
 ghost use Rattle.store_core.specs.Ahead.{numbers_ahead, progress_after};
 ghost use Rattle.store_core.specs.Rows.{AreDueBefore, AreFiledIn, TellsDated};
@@ -117,12 +118,8 @@ impl<S: Alter> Store<S> {
     /// its due moment is neither a minute nor absent, `Refused` where the store or memory refuses
     /// it, or there is none or more than one.
     fn dated_request(&mut self, id: u32) -> Result<(RequestRow, Option<Minute>), StoreFault>
-        ensures found { Answers (λ c row. filter (has_number id) c.dated ≡ row ∷ [])
+        ensures read { Reads (λ c row. filter (has_number id) c.dated ≡ row ∷ [])
             (state_of S.Store self.old) (state_of S.Store self.new) result }
-        ensures kept { Spares (state_of S.Store self.old) (state_of S.Store self.new) }
-        ensures refuses { OnlyRefuses
-            (state_of S.Store self.old) (state_of S.Store self.new) result }
-        ensures fault { IfErr result (λ e. e ≢ StoreFault.WrongVersion) }
         ensures same_numbers { self.new.ahead ≡ self.old.ahead }
     {
         match dated_numbered(&mut self.tables, id)? {

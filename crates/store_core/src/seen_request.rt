@@ -1,9 +1,9 @@
 //! A request with its people and the number of its entries, of its rows.
-ghost use Rattle.std.specs.Prelude.{◌++◌, ◌∷◌, ◌≡◌, ◌≢◌, IfErr, IfOk, OnOk, []};
+ghost use Rattle.std.specs.Prelude.{◌++◌, ◌∷◌, ◌≡◌, IfErr, IfOk, OnOk, []};
 ghost use Rattle.desk_model.specs.Desk.{queue_at};
 ghost use Rattle.desk_model.specs.Facts as facts;
 ghost use Rattle.store_tables.specs.declared.fault.StoreFault.{StoreFault};
-ghost use Rattle.store_tables.specs.Calls.{OnlyRefuses, Spares, Tells};
+ghost use Rattle.store_tables.specs.Readings.{OfDesk, Reads};
 ghost use Rattle.store_core.specs.Found as found;
 ghost use Rattle.store_tables.specs.Seen.{seen};
 
@@ -22,12 +22,8 @@ pub(crate) fn queue_at<S: Alter>(
     tables: &mut Tables<S>,
     name: &Text,
 ) -> Result<Option<QueueRow>, StoreFault>
-    ensures told { Tells (λ desk q. q ≡ queue_at desk name.now)
+    ensures { Reads (OfDesk (λ desk q. q ≡ queue_at desk name.now))
         (seen S.Store tables.old) (seen S.Store tables.new) result }
-    ensures kept { Spares (seen S.Store tables.old) (seen S.Store tables.new) }
-    ensures refuses { OnlyRefuses
-        (seen S.Store tables.old) (seen S.Store tables.new) result }
-    ensures fault { IfErr result (λ e. e ≢ StoreFault.WrongVersion) }
 {
     queue_named(tables, name)
 }
@@ -37,12 +33,8 @@ pub(crate) fn queue_of<S: Alter>(
     tables: &mut Tables<S>,
     request: &Option<SeenRequest>,
 ) -> Result<Option<QueueRow>, StoreFault>
-    ensures told { Tells (λ desk q. q ≡ found.queue_by desk request.now)
+    ensures { Reads (OfDesk (λ desk q. q ≡ found.queue_by desk request.now))
         (seen S.Store tables.old) (seen S.Store tables.new) result }
-    ensures kept { Spares (seen S.Store tables.old) (seen S.Store tables.new) }
-    ensures refuses { OnlyRefuses
-        (seen S.Store tables.old) (seen S.Store tables.new) result }
-    ensures fault { IfErr result (λ e. e ≢ StoreFault.WrongVersion) }
 {
     match request {
         Some(request) => queue_at(tables, &request.row.queue),
@@ -56,12 +48,8 @@ pub(crate) fn seen_request_at<S: Alter>(
     tables: &mut Tables<S>,
     id: u32,
 ) -> Result<Option<SeenRequest>, StoreFault>
-    ensures told { Tells (λ desk request. request ≡ facts.seen_request_at desk id)
+    ensures { Reads (OfDesk (λ desk request. request ≡ facts.seen_request_at desk id))
         (seen S.Store tables.old) (seen S.Store tables.new) result }
-    ensures kept { Spares (seen S.Store tables.old) (seen S.Store tables.new) }
-    ensures refuses { OnlyRefuses
-        (seen S.Store tables.old) (seen S.Store tables.new) result }
-    ensures fault { IfErr result (λ e. e ≢ StoreFault.WrongVersion) }
 {
     match request_numbered(tables, id)? {
         None => Ok(None),

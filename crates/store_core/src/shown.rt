@@ -3,6 +3,7 @@ ghost use Rattle.std.specs.Prelude.{◌≡◌, ◌≢◌, IfErr, false};
 ghost use Rattle.desk_model.specs.Rights as rights;
 ghost use Rattle.store_tables.specs.declared.fault.StoreFault.{StoreFault};
 ghost use Rattle.store_tables.specs.Calls.{OnlyRefuses, Spares, Tells};
+ghost use Rattle.store_tables.specs.Readings.{Blames, OfDesk, Reads};
 ghost use Rattle.store_core.specs.Seen.{state_of};
 ghost use Rattle.store_tables.specs.Seen.{seen};
 
@@ -33,6 +34,7 @@ impl<S: Alter> Store<S> {
         ensures refuses { OnlyRefuses
             (state_of S.Store self.old) (state_of S.Store self.new) result }
         ensures fault { IfErr result (λ e. e ≢ StoreFault.WrongVersion) }
+        ensures blames { Blames (state_of S.Store self.old) (state_of S.Store self.new) result }
     {
         is_shown_to(alloc, &mut self.tables, settings, person, id)
     }
@@ -45,13 +47,9 @@ fn is_shown_to<S: Alter>(
     person: &str,
     id: u32,
 ) -> Result<bool, StoreFault>
-    ensures told { Tells (λ desk shown. shown
-        ≡ rights.is_shown settings.now person.now desk id)
+    ensures { Reads (OfDesk (λ desk shown. shown
+        ≡ rights.is_shown settings.now person.now desk id))
         (seen S.Store tables.old) (seen S.Store tables.new) result }
-    ensures kept { Spares (seen S.Store tables.old) (seen S.Store tables.new) }
-    ensures refuses { OnlyRefuses
-        (seen S.Store tables.old) (seen S.Store tables.new) result }
-    ensures fault { IfErr result (λ e. e ≢ StoreFault.WrongVersion) }
 {
     match request_numbered(tables, id)? {
         None => Ok(false),

@@ -1,8 +1,8 @@
 //! The stays of a request, as the tables keep them.
-ghost use Rattle.std.specs.Prelude.{◌≡◌, ◌≢◌, IfErr};
+ghost use Rattle.std.specs.Prelude.{◌≡◌};
 ghost use Rattle.desk_model.specs.Facts.{stays_at};
 ghost use Rattle.store_tables.specs.declared.fault.StoreFault.{StoreFault};
-ghost use Rattle.store_tables.specs.Calls.{OnlyRefuses, Spares, Tells};
+ghost use Rattle.store_tables.specs.Readings.{OfDesk, Reads};
 ghost use Rattle.store_core.specs.Found as found;
 ghost use Rattle.store_tables.specs.Seen.{seen};
 
@@ -18,12 +18,8 @@ fn stays_on<S: Alter>(
     tables: &mut Tables<S>,
     id: u32,
 ) -> Result<Sequence<Stay>, StoreFault>
-    ensures told { Tells (λ desk stays. stays ≡ stays_at desk id)
+    ensures { Reads (OfDesk (λ desk stays. stays ≡ stays_at desk id))
         (seen S.Store tables.old) (seen S.Store tables.new) result }
-    ensures kept { Spares (seen S.Store tables.old) (seen S.Store tables.new) }
-    ensures refuses { OnlyRefuses
-        (seen S.Store tables.old) (seen S.Store tables.new) result }
-    ensures fault { IfErr result (λ e. e ≢ StoreFault.WrongVersion) }
 {
     let stays = reads::stays::stays_of(alloc, tables, id)?;
     Ok(Sequence::from(stays))
@@ -36,12 +32,8 @@ pub(crate) fn stays_if<S: Alter>(
     id: u32,
     is_there: bool,
 ) -> Result<Sequence<Stay>, StoreFault>
-    ensures told { Tells (λ desk stays. stays ≡ found.stays_if is_there (stays_at desk id))
+    ensures { Reads (OfDesk (λ desk stays. stays ≡ found.stays_if is_there (stays_at desk id)))
         (seen S.Store tables.old) (seen S.Store tables.new) result }
-    ensures kept { Spares (seen S.Store tables.old) (seen S.Store tables.new) }
-    ensures refuses { OnlyRefuses
-        (seen S.Store tables.old) (seen S.Store tables.new) result }
-    ensures fault { IfErr result (λ e. e ≢ StoreFault.WrongVersion) }
 {
     if is_there {
         stays_on(alloc, tables, id)

@@ -1,7 +1,7 @@
 -- The tables of a desk, each told once: where it lies, how it keeps its values, and what is read.
-use Rattle.std.proofs.Common.{◌≡◌, ◌∷◌, [], ℕ, ℤ, List, arith, map, refl, subst}
+use Rattle.std.proofs.Common.{◌≡◌, ◌∷◌, [], ℕ, ℤ, List, arith, inl, inr, map, refl, subst}
 use Rattle.std.proofs.Common.{sym}
-use Rattle.sqlite.specs.Order.{column}
+use Rattle.sqlite.specs.Order.{Row, column}
 use Rattle.sqlite_rules.proofs.ProbeLemmas.{has_mapped}
 use Rattle.desk_model.specs.declared.rows.Entry.{Entry}
 use Rattle.desk_model.specs.declared.rows.LinkRow.{LinkRow}
@@ -11,6 +11,7 @@ use Rattle.desk_model.specs.declared.rows.Watcher.{Watcher}
 use Rattle.store_tables.specs.Contents.{requests}
 use Rattle.store_tables.specs.Dated.{Dated, dated_row, dated_shown, row_of}
 use Rattle.store_tables.specs.Kept.{filed, itself, value_of}
+use Rattle.store_tables.specs.Picked.{shows}
 use Rattle.store_tables.specs.Queries.{actor_shown, dated_shown_terms, entry_shown_terms}
 use Rattle.store_tables.specs.Queries.{queue_shown}
 use Rattle.store_tables.specs.Queries.{last_id_terms, last_number_terms, request_shown_terms}
@@ -49,6 +50,24 @@ queue_table = record {
   same = λ params r. refl;
   kept = λ c db t. t.queues;
   valid = λ c db t. (values_of c t.values).queues;
+  bad = λ db it. inl it;
+}
+
+-- a row of a request with its due moment is one of a request
+pub is_request : (r : Row) → IsDatedRow (shows dated_shown_terms [] r)
+    → IsRequestRow (shows request_shown_terms [] r)
+is_request r is = record {
+  wide = omega arith;
+  id = is.request.id;
+  queue = is.request.queue;
+  subject = is.request.subject;
+  status = is.request.status;
+  owner = is.request.owner;
+  level = is.request.level;
+  created = is.request.created;
+  opened = is.request.opened;
+  turn = is.request.turn;
+  since = is.request.since;
 }
 
 abbrev pub request_table : TableOf Dated RequestRow
@@ -66,6 +85,7 @@ request_table = record {
   same = λ params r. refl;
   kept = undated;
   valid = λ c db t. rows_valid c (values_of c t.values);
+  bad = λ db it. inr (inl (it.0, it.1, λ is. it.2 (is_request it.0 is)));
 }
 
 -- the same table, with the due moments
@@ -84,6 +104,7 @@ dated_table = record {
   same = λ params r. refl;
   kept = λ c db t. t.requests;
   valid = λ c db t. (values_of c t.values).dated;
+  bad = λ db it. inr (inl it);
 }
 
 abbrev pub watcher_table : TableOf (ℤ × Watcher) Watcher
@@ -101,6 +122,7 @@ watcher_table = record {
   same = λ params r. refl;
   kept = λ c db t. t.watchers;
   valid = λ c db t. (values_of c t.values).watchers;
+  bad = λ db it. inr (inr (inl it));
 }
 
 abbrev pub link_table : TableOf (ℤ × LinkRow) LinkRow
@@ -118,6 +140,7 @@ link_table = record {
   same = λ params r. refl;
   kept = λ c db t. t.links;
   valid = λ c db t. (values_of c t.values).links;
+  bad = λ db it. inr (inr (inr (inl it)));
 }
 
 abbrev pub entry_table : TableOf (ℤ × Entry) Entry
@@ -135,6 +158,7 @@ entry_table = record {
   same = λ params r. refl;
   kept = λ c db t. t.entries;
   valid = λ c db t. (values_of c t.values).entries;
+  bad = λ db it. inr (inr (inr (inr (inl it))));
 }
 
 -- those who made the entries: one column of that table
@@ -158,6 +182,10 @@ actor_table = record {
         wide = omega arith;
         text = ((values_of c t.values).entries e.0 e.1).actor;
       });
+  bad = λ db it. inr (inr (inr (inr (inl (it.0, it.1, λ is. it.2 (record {
+      wide = omega arith;
+      text = is.actor;
+    }))))));
 }
 
 -- the numbers of requests: one column of that table
@@ -181,6 +209,10 @@ id_table = record {
         wide = omega arith;
         number = (rows_valid c (values_of c t.values) r.0 r.1).id;
       });
+  bad = λ db it. inr (inl (it.0, it.1, λ is. it.2 (record {
+      wide = omega arith;
+      number = is.request.id;
+    })));
 }
 
 -- the numbers of entries: one column of theirs
@@ -204,6 +236,10 @@ place_table = record {
         wide = omega arith;
         number = ((values_of c t.values).entries e.0 e.1).number;
       });
+  bad = λ db it. inr (inr (inr (inr (inl (it.0, it.1, λ is. it.2 (record {
+      wide = omega arith;
+      number = is.number;
+    }))))));
 }
 
 -- the stays, of whose rows only parts are read
@@ -222,4 +258,5 @@ stay_table = record {
   same = λ params r. refl;
   kept = λ c db t. t.stays;
   valid = λ c db t. (values_of c t.values).stays;
+  bad = λ db it. inr (inr (inr (inr (inr it))));
 }

@@ -14,6 +14,7 @@ pub mod Lasting
 pub mod Meaning
 pub mod PickedLemmas
 pub mod ReadLemmas
+pub mod ReadOn
 pub mod ReadingLemmas
 pub mod RefusalLemmas
 pub mod RowLemmas

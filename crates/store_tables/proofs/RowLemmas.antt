@@ -2,7 +2,7 @@
 -- shown here is so of each.
 use Rattle.std.proofs.Common.{◌≡◌, ◌≢◌, ℕ, Bool, List, [], ◌∷◌, filter, map, IsPermutation}
 use Rattle.std.proofs.Common.{Option, Ok, Err, Result, IfOk, IfErr, Ordering}
-use Rattle.std.proofs.Common.{ap, ap₂, refl, subst, sym, ◌∙◌}
+use Rattle.std.proofs.Common.{ap, ap₂, inl, refl, subst, sym, ◌∙◌}
 use Rattle.std.specs.List.{AllZip}
 use Rattle.std.specs.Option.{option_to_list}
 use Rattle.sqlite.specs.Effect.{Database}
@@ -12,13 +12,15 @@ use Rattle.sqlite.specs.State.{State, HasCleanDisk, Shown}
 use Rattle.sqlite.specs.Term.{Term}
 use Rattle.sqlite_rules.specs.Lists.{Has}
 use Rattle.sqlite_rules.proofs.ProbeLemmas.{has_mapped, mapped_has}
-use Rattle.store_tables.specs.Calls.{FailsIn, OnlyRefuses, ReadsRows, WasClean}
+use Rattle.store_tables.specs.Calls.{FailsIn, HasBadRow, OnlyRefuses, ReadsRows, Spares}
+use Rattle.store_tables.specs.Calls.{WasClean}
 use Rattle.store_tables.specs.Contents.{Contents}
 use Rattle.store_tables.specs.Kept.{Holds}
 use Rattle.store_tables.specs.Picked.{AreOrdered, AreParts, Lists, passes, shows}
 use Rattle.store_tables.specs.Picked.{Shows}
 use Rattle.store_tables.specs.Queries.{last_id_terms, reads}
 use Rattle.store_tables.specs.Reading.{IsNumberRow, ReadsCount}
+use Rattle.store_tables.specs.Readings.{Blames, HasBadRows, Reads}
 use Rattle.store_tables.specs.Spelling.{count_value}
 use Rattle.store_tables.specs.Stands.{Stand, Tables}
 use Rattle.store_tables.specs.declared.fault.StoreFault.{StoreFault}
@@ -69,6 +71,7 @@ pub record TableOf (K V : Type 0) : Type 1 where
   pub kept : (c : Contents) (db : Database) → Tables c db → Holds row value (list c) (db.trees tree)
   pub valid : (c : Contents) (db : Database) → Tables c db → (x : V) → Has (list c) x
       → IsValue (view x)
+  pub bad : (db : Database) → HasBadRow tree terms IsValue db → HasBadRows db
 
 -- the rows of a query are in the order of their values
 abbrev pub RanksBy : {K V : Type 0} → TableOf K V → List Term → List Term → List Term → Row
@@ -94,23 +97,41 @@ refused WrongVersion version mismatch = absurd (version refl)
 refused Mismatch version mismatch = absurd (mismatch refl)
 refused Refused version mismatch = refl
 
--- over tables that hold values there is no bad row, so a read is refused or answered
+-- where nothing of what a mismatch comes of can be
+pub only_refused : {X : Type 0} {P : Type 0} (r : Result X StoreFault)
+    → IfErr r (λ e. e ≢ WrongVersion) → (P → ⊥) → IfErr r (λ e. e ≡ Mismatch → P)
+    → IfErr r (λ e. e ≡ Refused)
+only_refused (Ok x) known never mismatch = tt
+only_refused (Err e) known never mismatch = refused e known (λ wrong. never (mismatch wrong))
+
+-- tables that hold values have no bad row
+pub no_bad : {K V : Type 0} (t : TableOf K V) (c : Contents) (db : Database) → Tables c db
+    → HasBadRow t.tree t.terms t.IsValue db → ⊥
+no_bad t c db tables bad =
+    let held = t.kept c db tables in
+    let k = has_mapped t.row held.kept bad.0 (subst (λ rs. Has rs bad.0) held.spelt bad.1) in
+    bad.2 (subst t.IsValue (sym (ap (shows t.terms []) k.2 ∙ t.shown [] k.0))
+    (t.valid c db tables (t.value k.0) (has_permuted (map t.value held.kept) (t.list c)
+    (t.value k.0) held.same (mapped_has t.value held.kept k.0 k.1))))
+
+-- so a read is refused or answered
 pub refuses : {K V X : Type 0} (t : TableOf K V) (old new : State) → WasClean old new
     → (r : Result X StoreFault) → FailsIn t.tree t.terms t.IsValue old new r → OnlyRefuses old new r
 refuses t old new clean (Ok x) fails c stand now = tt
 refuses t old new clean (Err e) fails c stand now =
     refused e fails.0 (λ wrong.
     let bad = fails.1 wrong (λ d o. (stand d o).0.schema) now in
-    bad.1.2 (each (stand (clean now) bad.0).0 bad.1.0 bad.1.1))
-  where
-    each : Tables c old.now → (r : Row) → Has (old.now.trees t.tree) r
-        → t.IsValue (shows t.terms [] r)
-    each tables r has =
-        let held = t.kept c old.now tables in
-        let k = has_mapped t.row held.kept r (subst (λ rs. Has rs r) held.spelt has) in
-        subst t.IsValue (sym (ap (shows t.terms []) k.2 ∙ t.shown [] k.0))
-        (t.valid c old.now tables (t.value k.0) (has_permuted (map t.value held.kept) (t.list c)
-        (t.value k.0) held.same (mapped_has t.value held.kept k.0 k.1)))
+    no_bad t c old.now (stand (clean now) bad.0).0 bad.1)
+
+-- a mismatch that comes of a bad row of one table comes of one
+pub blames_of : {K V X : Type 0} (t : TableOf K V) (old new : State) (r : Result X StoreFault)
+    → FailsIn t.tree t.terms t.IsValue old new r → Blames old new r
+blames_of t old new (Ok x) fails = record { known = tt; mismatch = tt }
+blames_of t old new (Err e) fails = record {
+  known = fails.0;
+  mismatch = λ wrong there clean.
+      let bad = fails.1 wrong (λ d o. (there d o).0) clean in (bad.0, inl (t.bad old.now bad.1));
+}
 
 -- what was read of rows is a part of each value that they show
 parts_are : {V Y : Type 0} (view : V → Row) (part : V → Y) (Reads : Row → Y → Type 0)
@@ -162,90 +183,107 @@ fails_of text params tree test terms order means same Reads IsValue values old n
       (at.0, (at.1, at.2, λ value. it.4 (subst IsValue (sym (at.3 ∙ same at.1)) value))),
 )
 
-module _ {K V X : Type 0} (t : TableOf K V) (q : QueryOn t) (values : X → List V) (old new : State)
-    (clean : HasCleanDisk new → HasCleanDisk old)
+module _ {K V X : Type 0} (t : TableOf K V) (q : QueryOn t) {old new : State}
+    {r : Result X StoreFault} (clean : HasCleanDisk new → HasCleanDisk old)
   where
-    -- a mismatch comes of a row of the table
-    pub fails : (r : Result X StoreFault)
-        → ReadsRows t.Reads t.IsValue values q.text q.params old new r
+    -- whatever part of a row is read
+    pub parts_fail : {Y : Type 0} {ReadsPart : Row → Y → Type 0} {values : X → List Y}
+        → ReadsRows ReadsPart t.IsValue values q.text q.params old new r
         → FailsIn t.tree t.terms t.IsValue old new r
-    fails = fails_of q.text q.params t.tree q.test t.terms q.order q.means (t.same q.params) t.Reads
-        t.IsValue values old new clean
+    parts_fail {ReadsPart = ReadsPart} {values = values} =
+        fails_of q.text q.params t.tree q.test t.terms q.order q.means (t.same q.params) ReadsPart
+        t.IsValue values old new clean r
 
-    pub only_refuses : (r : Result X StoreFault)
-        → ReadsRows t.Reads t.IsValue values q.text q.params old new r → OnlyRefuses old new r
-    only_refuses r h = refuses t old new clean r (fails r h)
-
-    module _ (result : Result X StoreFault)
-        (read : ReadsRows t.Reads t.IsValue values q.text q.params old new result) (c : Contents)
-        (stand : Stand c old) (now : HasCleanDisk new)
-      where
-        -- a list in any order is what passes of the table
-        pub reads_passing : IfOk result (λ x. IsPermutation (filter q.passing (t.list c)) (values x))
-        reads_passing = if_ok result
-            (λ x it. all_shown t.view t.Reads t.back (filter q.passing (t.list c)) it.0 (values x)
-            (passing_shown t q old new clean c stand now it.0 it.1) it.2) (read.read now)
-
--- whatever part of a row is read
-pub parts_fail : {K V X Y : Type 0} (t : TableOf K V) (q : QueryOn t) (old new : State)
-    (clean : HasCleanDisk new → HasCleanDisk old) (Reads : Row → Y → Type 0) (values : X → List Y)
-    (r : Result X StoreFault)
-    → ReadsRows Reads t.IsValue values q.text q.params old new r
-    → FailsIn t.tree t.terms t.IsValue old new r
-parts_fail t q old new clean Reads values r h =
-    fails_of q.text q.params t.tree q.test t.terms q.order q.means (t.same q.params) Reads t.IsValue
-    values old new clean r h
+    pub fails : {values : X → List V} → ReadsRows t.Reads t.IsValue values q.text q.params old new r
+        → FailsIn t.tree t.terms t.IsValue old new r
+    fails = parts_fail
 
 -- A list in an order is what passes of the table, in that order.
-module _ {K V : Type 0} (t : TableOf K V) (q : QueryOn t) (old new : State)
-    (clean : HasCleanDisk new → HasCleanDisk old) (cmp : V → V → Ordering)
-    (orders : RanksBy t q.test t.terms q.order q.params cmp)
-    (c : Contents) (holding : Holding c old) (now : HasCleanDisk new)
-  where
-    lists_shown : (rows : List Row) → Shown q.text q.params old new rows
-        → Lists cmp t.view (filter q.passing (t.list c)) rows
-    lists_shown rows h =
-        let tables = tables_shown c q.text q.params old new rows clean holding now h in
-        lists_values t.row t.value t.view t.tree q.test t.terms q.order q.params (t.list c)
-        (old.now.trees t.tree) rows q.passing q.tests (t.shown q.params) (t.kept c old.now tables)
-        (picked_by q.text q.params old new tables.schema t.tree q.test t.terms q.order q.means rows
-        h) cmp orders
+lists_shown : {K V : Type 0} (t : TableOf K V) (q : QueryOn t) (cmp : V → V → Ordering)
+    → RanksBy t q.test t.terms q.order q.params cmp → (old new : State)
+    → (HasCleanDisk new → HasCleanDisk old) → (c : Contents) → Holding c old → HasCleanDisk new
+    → (rows : List Row) → Shown q.text q.params old new rows
+    → Lists cmp t.view (filter q.passing (t.list c)) rows
+lists_shown t q cmp orders old new clean c holding now rows h =
+    let tables = tables_shown c q.text q.params old new rows clean holding now h in
+    lists_values t.row t.value t.view t.tree q.test t.terms q.order q.params (t.list c)
+    (old.now.trees t.tree) rows q.passing q.tests (t.shown q.params) (t.kept c old.now tables)
+    (picked_by q.text q.params old new tables.schema t.tree q.test t.terms q.order q.means rows h)
+    cmp orders
 
-    pub holds_in_order : {X : Type 0} (values : X → List V) (result : Result X StoreFault)
-        → ReadsRows t.Reads t.IsValue values q.text q.params old new result
-        → IfOk result (λ x. AreOrdered cmp (filter q.passing (t.list c)) (values x))
-    holds_in_order values result read = if_ok result
+module _ {K V X : Type 0} (t : TableOf K V) (q : QueryOn t) (cmp : V → V → Ordering)
+    (orders : RanksBy t q.test t.terms q.order q.params cmp) {old new : State}
+    {r : Result X StoreFault} (clean : HasCleanDisk new → HasCleanDisk old)
+  where
+    pub holds_in_order : {values : X → List V}
+        → ReadsRows t.Reads t.IsValue values q.text q.params old new r
+        → (c : Contents) → Holding c old → HasCleanDisk new
+        → IfOk r (λ x. AreOrdered cmp (filter q.passing (t.list c)) (values x))
+    holds_in_order {values} read c holding now = if_ok r
         (λ x it. all_read t.view t.Reads t.back cmp (filter q.passing (t.list c)) it.0 (values x)
-        (lists_shown it.0 it.1) it.2) (read.read now)
+        (lists_shown t q cmp orders old new clean c holding now it.0 it.1) it.2) (read.read now)
 
     -- and so is a part of each
-    pub parts_in_order : {X Y : Type 0} (part : V → Y) (Reads : Row → Y → Type 0)
-        → ((a : V) (b : Y) → Reads (t.view a) b → b ≡ part a) → (values : X → List Y)
-        → (result : Result X StoreFault)
-        → ReadsRows Reads t.IsValue values q.text q.params old new result
-        → IfOk result (λ x. AreParts part cmp (filter q.passing (t.list c)) (values x))
-    parts_in_order part Reads back values result read = if_ok result
-        (λ x it. parts_of t.view part Reads back cmp (filter q.passing (t.list c)) it.0 (values x)
-        (lists_shown it.0 it.1) it.2) (read.read now)
+    pub holds_parts : {Y : Type 0} {part : V → Y} {ReadsPart : Row → Y → Type 0}
+        {values : X → List Y} → ((a : V) (b : Y) → ReadsPart (t.view a) b → b ≡ part a)
+        → ReadsRows ReadsPart t.IsValue values q.text q.params old new r
+        → (c : Contents) → Holding c old → HasCleanDisk new
+        → IfOk r (λ x. AreParts part cmp (filter q.passing (t.list c)) (values x))
+    holds_parts {part = part} {ReadsPart = ReadsPart} {values = values} back read c holding now =
+        if_ok r (λ x it. parts_of t.view part ReadsPart back cmp (filter q.passing (t.list c)) it.0
+        (values x) (lists_shown t q cmp orders old new clean c holding now it.0 it.1) it.2)
+        (read.read now)
 
-pub reads_in_order : {K V X : Type 0} (t : TableOf K V) (q : QueryOn t) (values : X → List V)
-    (old new : State) (clean : HasCleanDisk new → HasCleanDisk old) (result : Result X StoreFault)
-    → ReadsRows t.Reads t.IsValue values q.text q.params old new result → (c : Contents)
-    → Stand c old → HasCleanDisk new → (cmp : V → V → Ordering)
-    → RanksBy t q.test t.terms q.order q.params cmp
-    → IfOk result (λ x. AreOrdered cmp (filter q.passing (t.list c)) (values x))
-reads_in_order t q values old new clean result read c stand now cmp orders =
-    holds_in_order t q old new clean cmp orders c (λ d o. (stand d o).0) now values result read
+-- ---- readings outside of a transaction
 
--- the one value, or none, is
-pub reads_one : {K V : Type 0} (t : TableOf K V) (q : QueryOn t) (old new : State)
-    → (HasCleanDisk new → HasCleanDisk old) → (result : Result (Option V) StoreFault)
-    → ReadsRows t.Reads t.IsValue option_to_list q.text q.params old new result → (c : Contents)
-    → Stand c old → HasCleanDisk new
-    → IfOk result (λ x. option_to_list x ≡ filter q.passing (t.list c))
-reads_one t q old new clean result read c stand now = if_ok result
-    (λ x it. one_read t.view t.Reads t.back (filter q.passing (t.list c)) it.0 x
-    (passing_shown t q old new clean c stand now it.0 it.1) it.2) (read.read now)
+-- the one value, or none, is what passes of the table
+pub finds : {K V : Type 0} (t : TableOf K V) (q : QueryOn t) {old new : State}
+    {r : Result (Option V) StoreFault} → Spares old new
+    → ReadsRows t.Reads t.IsValue option_to_list q.text q.params old new r
+    → Reads (λ c x. option_to_list x ≡ filter q.passing (t.list c)) old new r
+finds t q {old} {new} {r} kept read = record {
+  told = λ c stand now. if_ok r
+      (λ x it. one_read t.view t.Reads t.back (filter q.passing (t.list c)) it.0 x
+      (passing_shown t q old new kept.clean c stand now it.0 it.1) it.2) (read.read now);
+  kept = kept;
+  blames = blames_of t old new r (fails t q kept.clean read);
+}
+
+-- a list in any order is what passes of the table
+pub lists_any : {K V X : Type 0} (t : TableOf K V) (q : QueryOn t) {old new : State}
+    {r : Result X StoreFault} {values : X → List V} → Spares old new
+    → ReadsRows t.Reads t.IsValue values q.text q.params old new r
+    → Reads (λ c x. IsPermutation (filter q.passing (t.list c)) (values x)) old new r
+lists_any t q {old} {new} {r} {values} kept read = record {
+  told = λ c stand now. if_ok r
+      (λ x it. all_shown t.view t.Reads t.back (filter q.passing (t.list c)) it.0 (values x)
+      (passing_shown t q old new kept.clean c stand now it.0 it.1) it.2) (read.read now);
+  kept = kept;
+  blames = blames_of t old new r (fails t q kept.clean read);
+}
+
+module _ {K V X : Type 0} (t : TableOf K V) (q : QueryOn t) (cmp : V → V → Ordering)
+    (orders : RanksBy t q.test t.terms q.order q.params cmp) {old new : State}
+    {r : Result X StoreFault} (kept : Spares old new)
+  where
+    pub lists : {values : X → List V}
+        → ReadsRows t.Reads t.IsValue values q.text q.params old new r
+        → Reads (λ c x. AreOrdered cmp (filter q.passing (t.list c)) (values x)) old new r
+    lists read = record {
+      told = λ c stand. holds_in_order t q cmp orders kept.clean read c (λ d o. (stand d o).0);
+      kept = kept;
+      blames = blames_of t old new r (fails t q kept.clean read);
+    }
+
+    pub lists_parts : {Y : Type 0} {part : V → Y} {ReadsPart : Row → Y → Type 0}
+        {values : X → List Y} → ((a : V) (b : Y) → ReadsPart (t.view a) b → b ≡ part a)
+        → ReadsRows ReadsPart t.IsValue values q.text q.params old new r
+        → Reads (λ c x. AreParts part cmp (filter q.passing (t.list c)) (values x)) old new r
+    lists_parts back read = record {
+      told = λ c stand. holds_parts t q cmp orders kept.clean back read c (λ d o. (stand d o).0);
+      kept = kept;
+      blames = blames_of t old new r (parts_fail t q kept.clean read);
+    }
 
 -- A query on the table of requests that shows their numbers alone.
 pub record NumbersOn {K V : Type 0} (t : TableOf K V) : Type 0 where
@@ -260,22 +298,23 @@ pub record NumbersOn {K V : Type 0} (t : TableOf K V) : Type 0 where
   pub passing : V → Bool
   pub tests : (k : K) → passes test params (t.row k) ≡ passing (t.value k)
 
-module _ {K V X : Type 0} (t : TableOf K V) (q : NumbersOn t) (values : X → List ℕ)
-    (old new : State) (clean : HasCleanDisk new → HasCleanDisk old)
+module _ {K V X : Type 0} (t : TableOf K V) (q : NumbersOn t) {values : X → List ℕ}
+    {old new : State} {r : Result X StoreFault}
   where
-    pub numbers_fail : (r : Result X StoreFault)
+    pub numbers_fail : (HasCleanDisk new → HasCleanDisk old)
         → ReadsRows ReadsCount IsNumberRow values q.text q.params old new r
         → FailsIn t.tree last_id_terms IsNumberRow old new r
-    numbers_fail = fails_of q.text q.params t.tree q.test last_id_terms q.order q.means
-        (λ r. refl) ReadsCount IsNumberRow values old new clean
+    numbers_fail clean = fails_of q.text q.params t.tree q.test last_id_terms q.order q.means
+        (λ r. refl) ReadsCount IsNumberRow values old new clean r
 
     -- the numbers of what passes of the table, in an order
-    pub holds_numbers : (r : Result X StoreFault)
-        → ReadsRows ReadsCount IsNumberRow values q.text q.params old new r
-        → (c : Contents) → Holding c old → HasCleanDisk new → (cmp : V → V → Ordering)
+    pub holds_numbers : (cmp : V → V → Ordering)
         → RanksBy t q.test last_id_terms q.order q.params cmp
+        → (HasCleanDisk new → HasCleanDisk old)
+        → ReadsRows ReadsCount IsNumberRow values q.text q.params old new r
+        → (c : Contents) → Holding c old → HasCleanDisk new
         → IfOk r (λ x. AreParts q.number cmp (filter q.passing (t.list c)) (values x))
-    holds_numbers r read c holding now cmp orders = if_ok r
+    holds_numbers cmp orders clean read c holding now = if_ok r
         (λ x it.
         let tables = tables_shown c q.text q.params old new it.0 clean holding now it.1 in
         let view = λ (v : V). count_value (q.number v) ∷ [] in
@@ -286,9 +325,14 @@ module _ {K V X : Type 0} (t : TableOf K V) (q : NumbersOn t) (values : X → Li
         (picked_by q.text q.params old new tables.schema t.tree q.test last_id_terms q.order q.means
         it.0 it.1) cmp orders) it.2) (read.read now)
 
-    pub numbers_in_order : (r : Result X StoreFault)
-        → ReadsRows ReadsCount IsNumberRow values q.text q.params old new r
-        → (c : Contents) → Stand c old → HasCleanDisk new → (cmp : V → V → Ordering)
+    -- outside of a transaction, with what is blamed of the numbers' table
+    pub lists_numbers : (cmp : V → V → Ordering)
         → RanksBy t q.test last_id_terms q.order q.params cmp
-        → IfOk r (λ x. AreParts q.number cmp (filter q.passing (t.list c)) (values x))
-    numbers_in_order r read c stand = holds_numbers r read c (λ d o. (stand d o).0)
+        → (FailsIn t.tree last_id_terms IsNumberRow old new r → Blames old new r) → Spares old new
+        → ReadsRows ReadsCount IsNumberRow values q.text q.params old new r
+        → Reads (λ c x. AreParts q.number cmp (filter q.passing (t.list c)) (values x)) old new r
+    lists_numbers cmp orders blames kept read = record {
+      told = λ c stand. holds_numbers cmp orders kept.clean read c (λ d o. (stand d o).0);
+      kept = kept;
+      blames = blames (numbers_fail kept.clean read);
+    }

@@ -24,23 +24,26 @@ unread s = record {
   left = λ there clean live. (live, refl, inl refl);
 }
 
+-- tables that are there are there still
+pub there_still : {a b : State} → Spares a b → AreThere a → AreThere b
+there_still kept there clean live =
+    let at = kept.left there clean live in
+    let was = there (kept.clean clean) at.0 in (
+      elim at.2 [
+        | inl now ↦ ap (λ (d : Database). d.schema) now ∙ was.0
+        | inr back ↦ ap (λ (d : Database). d.schema) back ∙ was.1
+      ],
+      ap (λ (d : Database). d.schema) at.1 ∙ was.1,
+    )
+
 -- what the second call spares of what the first one left
 pub joined : {a b c : State} → Spares a b → Spares b c → Spares a c
-joined {a} {b} {c} first second = record {
+joined first second = record {
   clean = λ clean. first.clean (second.clean clean);
   lasts = on second.clean first.lasts second.lasts;
   left =
       λ there clean live.
-      let middle : AreThere b = λ b_clean b_live.
-      let at = first.left there b_clean b_live in
-      let was = there (first.clean b_clean) at.0 in (
-        elim at.2 [
-          | inl now ↦ ap (λ (d : Database). d.schema) now ∙ was.0
-          | inr back ↦ ap (λ (d : Database). d.schema) back ∙ was.1
-        ],
-        ap (λ (d : Database). d.schema) at.1 ∙ was.1,
-      ) in
-      let last = second.left middle clean live in
+      let last = second.left (there_still first there) clean live in
       let at = first.left there (second.clean clean) last.0 in (
         at.0,
         last.1 ∙ at.1,

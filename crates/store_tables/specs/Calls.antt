@@ -1,6 +1,7 @@
 -- What calls over the tables answer, and what they leave.
 use Rattle.std.specs.Prelude.{◌≡◌, ◌≢◌, ◌≤◌, ◌⊎◌, ℕ, [], IfErr, IfOk, IsTrue, List, OnOk, Result}
 use Rattle.std.specs.List.{AllZip}
+use Rattle.sqlite.specs.Effect.{Database}
 use Rattle.sqlite.specs.Order.{Row}
 use Rattle.sqlite_disk.specs.Disk.{MoreFaults}
 use Rattle.sqlite.specs.State.{State, HasCleanDisk, Shown}
@@ -60,23 +61,23 @@ ShowsRowsOf tree terms rows old new result =
     × (r : Row) × Has (old.now.trees tree) r × (row ≡ shows terms [] r))
 
 -- these columns of a row of that tree are no value of the type
-abbrev pub HasBadRow : ℕ → List Term → (Row → Type 0) → State → Type 0
-HasBadRow tree terms IsValue s =
-    (r : Row) × Has (s.now.trees tree) r × ¬ IsValue (shows terms [] r)
+abbrev pub HasBadRow : ℕ → List Term → (Row → Type 0) → Database → Type 0
+HasBadRow tree terms IsValue db =
+    (r : Row) × Has (db.trees tree) r × ¬ IsValue (shows terms [] r)
 
 -- a mismatch comes only of a bad row
 abbrev pub MismatchesIn : {X : Type 0} → ℕ → List Term → (Row → Type 0) → State → State
     → Result X StoreFault → Type 0
 MismatchesIn tree terms IsValue old new result =
     IfErr result (λ e. e ≡ Mismatch → HasTables old → HasCleanDisk new
-    → HasBadRow tree terms IsValue old)
+    → HasBadRow tree terms IsValue old.now)
 
 -- no fault is of the version, and a mismatch comes only of a bad row in an open store
 abbrev pub FailsIn : {X : Type 0} → ℕ → List Term → (Row → Type 0) → State → State
     → Result X StoreFault → Type 0
 FailsIn tree terms IsValue old new result =
     IfErr result (λ e. (e ≢ WrongVersion) × (e ≡ Mismatch → HasTables old → HasCleanDisk new
-    → IsTrue old.is_open × HasBadRow tree terms IsValue old))
+    → IsTrue old.is_open × HasBadRow tree terms IsValue old.now))
 
 -- What a query reads: the values are those that its rows show, one for each; a mismatch comes only
 -- of a row that shows none, and no fault is of the version.
@@ -103,9 +104,21 @@ abbrev pub Makes : {X : Type 0} → (Contents → Contents) → State → State 
 Makes change old new result =
     (c : Contents) → HoldsNow c old → OnOk result (HoldsNow (change c) new)
 
+-- What running a statement in a transaction leaves, whatever rows the tables have: how it ran, the
+-- last commit stays, a disk that is clean after it was clean before, and the connection lasts. A
+-- fault is that the store or memory refused it.
+pub record Runs {X : Type 0} (P : X → Type 0) (old new : State) (result : Result X StoreFault) :
+    Type 0 where
+  pub ran : HasCleanDisk new → IfOk result P
+  pub keeps : KeepsBase old new
+  pub clean : WasClean old new
+  pub lasts : Lasts old new
+  pub refused : IfErr result (λ e. e ≡ Refused)
+
 -- What a statement or a row of them does in a transaction: of whatever the tables hold it makes
 -- `change`. Whatever rows they have, the last commit stays, and the transaction goes on where
--- nothing is refused. A disk that is clean after it was clean before, and the connection lasts.
+-- nothing is refused. A disk that is clean after it was clean before, and the connection lasts. A
+-- fault is that the store or memory refused it.
 pub record Does {X : Type 0} (change : Contents → Contents) (old new : State)
     (result : Result X StoreFault) : Type 0 where
   pub makes : Makes change old new result
@@ -113,6 +126,7 @@ pub record Does {X : Type 0} (change : Contents → Contents) (old new : State)
   pub goes_on : GoesOn old → OnOk result (GoesOn new)
   pub clean : WasClean old new
   pub lasts : Lasts old new
+  pub refused : IfErr result (λ e. e ≡ Refused)
 
 -- What a query does there: the tables hold what they held. Where they are there, with any rows,
 -- the last commit stays, and the transaction goes on where nothing is refused. A disk that is clean

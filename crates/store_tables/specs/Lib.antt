@@ -9,6 +9,7 @@ pub mod Orders
 pub mod Picked
 pub mod Queries
 pub mod Reading
+pub mod Readings
 pub mod Seen
 pub mod Selection
 pub mod Spelling

@@ -1,12 +1,10 @@
 //! A transaction: one statement in it, and its end.
-ghost use Rattle.std.specs.Prelude.{◌≡◌, false, IfOk, IfErr, OnOk, OnErr};
+ghost use Rattle.std.specs.Prelude.{◌≡◌, false, IfErr, OnOk, OnErr};
 ghost use Rattle.sqlite.specs.Held.{state};
-ghost use Rattle.sqlite.specs.State.{HasCleanDisk};
 ghost use Rattle.sqlite.specs.Values.{bound};
-ghost use Rattle.store_tables.specs.Calls.{Lasts, WasClean};
+ghost use Rattle.store_tables.specs.Calls.{Lasts, Runs, WasClean};
 ghost use Rattle.store_tables.specs.Contents.{Contents};
-ghost use Rattle.store_tables.specs.Stands.{GoesBack, GoesOn, HoldsNow, KeepsBase, Ran, RanOnAny};
-ghost use Rattle.store_tables.specs.Stands.{Stand};
+ghost use Rattle.store_tables.specs.Stands.{GoesBack, GoesOn, HoldsNow, Ran, RanOnAny, Stand};
 ghost use Rattle.store_tables.specs.declared.fault.StoreFault.{StoreFault};
 
 use crate::fault::StoreFault;
@@ -22,13 +20,9 @@ pub fn run<S: Alter>(
     params: &[ValueRef<'_>],
 ) -> Result<usize, StoreFault>
     ensures same_reference { tx.new.conn.ghost_name ≡ tx.old.conn.ghost_name }
-    ensures ran { HasCleanDisk (state S.Store tx.new.conn.now) → IfOk result (λ count.
-        Ran sql.now (bound params.now)
-        (state S.Store tx.old.conn.now) (state S.Store tx.new.conn.now) count) }
-    ensures keeps { KeepsBase (state S.Store tx.old.conn.now) (state S.Store tx.new.conn.now) }
-    ensures honest { WasClean (state S.Store tx.old.conn.now) (state S.Store tx.new.conn.now) }
-    ensures lasts { Lasts (state S.Store tx.old.conn.now) (state S.Store tx.new.conn.now) }
-    ensures fault { IfErr result (λ e. e ≡ StoreFault.Refused) }
+    ensures runs { Runs (λ count. Ran sql.now (bound params.now)
+        (state S.Store tx.old.conn.now) (state S.Store tx.new.conn.now) count)
+        (state S.Store tx.old.conn.now) (state S.Store tx.new.conn.now) result }
 {
     match tx.execute(sql, params) {
         Ok(count) => Ok(count),
@@ -43,13 +37,9 @@ pub(crate) fn run_on_one<S: Alter>(
     params: &[ValueRef<'_>],
 ) -> Result<(), StoreFault>
     ensures same_reference { tx.new.conn.ghost_name ≡ tx.old.conn.ghost_name }
-    ensures ran { HasCleanDisk (state S.Store tx.new.conn.now) → IfOk result (λ done.
-        Ran sql.now (bound params.now)
-        (state S.Store tx.old.conn.now) (state S.Store tx.new.conn.now) 1) }
-    ensures keeps { KeepsBase (state S.Store tx.old.conn.now) (state S.Store tx.new.conn.now) }
-    ensures honest { WasClean (state S.Store tx.old.conn.now) (state S.Store tx.new.conn.now) }
-    ensures lasts { Lasts (state S.Store tx.old.conn.now) (state S.Store tx.new.conn.now) }
-    ensures fault { IfErr result (λ e. e ≡ StoreFault.Refused) }
+    ensures runs { Runs (λ done. Ran sql.now (bound params.now)
+        (state S.Store tx.old.conn.now) (state S.Store tx.new.conn.now) 1)
+        (state S.Store tx.old.conn.now) (state S.Store tx.new.conn.now) result }
 {
     if run(tx, sql, params)? == 1 {
         Ok(())
@@ -65,13 +55,9 @@ pub(crate) fn run_on_any<S: Alter>(
     params: &[ValueRef<'_>],
 ) -> Result<(), StoreFault>
     ensures same_reference { tx.new.conn.ghost_name ≡ tx.old.conn.ghost_name }
-    ensures ran { HasCleanDisk (state S.Store tx.new.conn.now) → IfOk result (λ done.
-        RanOnAny sql.now (bound params.now)
-        (state S.Store tx.old.conn.now) (state S.Store tx.new.conn.now)) }
-    ensures keeps { KeepsBase (state S.Store tx.old.conn.now) (state S.Store tx.new.conn.now) }
-    ensures honest { WasClean (state S.Store tx.old.conn.now) (state S.Store tx.new.conn.now) }
-    ensures lasts { Lasts (state S.Store tx.old.conn.now) (state S.Store tx.new.conn.now) }
-    ensures fault { IfErr result (λ e. e ≡ StoreFault.Refused) }
+    ensures runs { Runs (λ done. RanOnAny sql.now (bound params.now)
+        (state S.Store tx.old.conn.now) (state S.Store tx.new.conn.now))
+        (state S.Store tx.old.conn.now) (state S.Store tx.new.conn.now) result }
 {
     if run(tx, sql, params)? < 2 {
         Ok(())

@@ -1,9 +1,9 @@
 //! The requests with their due moments, which no other read looks at.
-ghost use Rattle.std.specs.Prelude.{◌≡◌, ◌≢◌, IfErr, filter, option_to_list};
-ghost use Rattle.store_tables.specs.Calls.{Answers, OnlyRefuses, Spares};
+ghost use Rattle.std.specs.Prelude.{◌≡◌, filter, option_to_list};
 ghost use Rattle.store_tables.specs.Mismatches.{MismatchesInDated};
 ghost use Rattle.store_tables.specs.Orders.{by_dated_id, by_due};
 ghost use Rattle.store_tables.specs.Picked.{AreOrdered};
+ghost use Rattle.store_tables.specs.Readings.{Reads};
 ghost use Rattle.store_tables.specs.Selection.{has_number, is_dated_in, is_due_before};
 ghost use Rattle.store_tables.specs.declared.fault.StoreFault.{StoreFault};
 ghost use Rattle.store_tables.specs.Seen.{seen};
@@ -24,11 +24,10 @@ pub fn dated_requests<S: Alter>(
     alloc: Global,
     tables: &mut Tables<S>,
 ) -> Result<Vec<(RequestRow, Option<Minute>)>, StoreFault>
-    ensures listed { Answers (λ c xs. AreOrdered by_dated_id c.dated xs.items)
+    ensures read { Reads (λ c xs. AreOrdered by_dated_id c.dated xs.items)
         (seen S.Store tables.old) (seen S.Store tables.new) result }
     ensures mismatch { MismatchesInDated
         (seen S.Store tables.old) (seen S.Store tables.new) result }
-    ensures kept { Spares (seen S.Store tables.old) (seen S.Store tables.new) }
 {
     select_all(
         alloc,
@@ -47,12 +46,11 @@ pub fn dated_of<S: Alter>(
     tables: &mut Tables<S>,
     queue: &Text,
 ) -> Result<Vec<(RequestRow, Option<Minute>)>, StoreFault>
-    ensures listed { Answers (λ c xs.
+    ensures read { Reads (λ c xs.
         AreOrdered by_dated_id (filter (is_dated_in queue.now) c.dated) xs.items)
         (seen S.Store tables.old) (seen S.Store tables.new) result }
     ensures mismatch { MismatchesInDated
         (seen S.Store tables.old) (seen S.Store tables.new) result }
-    ensures kept { Spares (seen S.Store tables.old) (seen S.Store tables.new) }
 {
     select_all(
         alloc,
@@ -71,11 +69,10 @@ pub fn dated_before<S: Alter>(
     tables: &mut Tables<S>,
     at: u32,
 ) -> Result<Vec<(RequestRow, Option<Minute>)>, StoreFault>
-    ensures listed { Answers (λ c xs. AreOrdered by_due (filter (is_due_before at) c.dated) xs.items)
+    ensures read { Reads (λ c xs. AreOrdered by_due (filter (is_due_before at) c.dated) xs.items)
         (seen S.Store tables.old) (seen S.Store tables.new) result }
     ensures mismatch { MismatchesInDated
         (seen S.Store tables.old) (seen S.Store tables.new) result }
-    ensures kept { Spares (seen S.Store tables.old) (seen S.Store tables.new) }
 {
     select_all(
         alloc,
@@ -93,12 +90,8 @@ pub fn dated_numbered<S: Alter>(
     tables: &mut Tables<S>,
     id: u32,
 ) -> Result<Option<(RequestRow, Option<Minute>)>, StoreFault>
-    ensures found { Answers (λ c r. option_to_list r ≡ filter (has_number id) c.dated)
+    ensures { Reads (λ c r. option_to_list r ≡ filter (has_number id) c.dated)
         (seen S.Store tables.old) (seen S.Store tables.new) result }
-    ensures kept { Spares (seen S.Store tables.old) (seen S.Store tables.new) }
-    ensures refuses { OnlyRefuses
-        (seen S.Store tables.old) (seen S.Store tables.new) result }
-    ensures fault { IfErr result (λ e. e ≢ StoreFault.WrongVersion) }
 {
     select_one(
         tables,

@@ -1,9 +1,9 @@
 //! The links from a request, and the link that is like another.
-ghost use Rattle.std.specs.Prelude.{◌≡◌, ◌≢◌, IfErr, filter, option_to_list};
+ghost use Rattle.std.specs.Prelude.{◌≡◌, filter, option_to_list};
 ghost use Rattle.store_tables.specs.declared.fault.StoreFault.{StoreFault};
-ghost use Rattle.store_tables.specs.Calls.{Answers, OnlyRefuses, Spares};
 ghost use Rattle.store_tables.specs.Orders.{by_target};
 ghost use Rattle.store_tables.specs.Picked.{AreOrdered};
+ghost use Rattle.store_tables.specs.Readings.{Reads};
 ghost use Rattle.store_tables.specs.Selection as chosen;
 ghost use Rattle.store_tables.specs.Seen.{seen};
 
@@ -23,13 +23,9 @@ pub fn links_of_kind<S: Alter>(
     id: u32,
     kind: LinkKind,
 ) -> Result<Vec<LinkRow>, StoreFault>
-    ensures listed { Answers (λ c xs.
+    ensures { Reads (λ c xs.
         AreOrdered by_target (filter (chosen.links_from id kind) c.links) xs.items)
         (seen S.Store tables.old) (seen S.Store tables.new) result }
-    ensures kept { Spares (seen S.Store tables.old) (seen S.Store tables.new) }
-    ensures refuses { OnlyRefuses
-        (seen S.Store tables.old) (seen S.Store tables.new) result }
-    ensures fault { IfErr result (λ e. e ≢ StoreFault.WrongVersion) }
 {
     select_all(
         alloc,
@@ -45,12 +41,8 @@ pub fn link_like<S: Alter>(
     tables: &mut Tables<S>,
     link: LinkRow,
 ) -> Result<Option<LinkRow>, StoreFault>
-    ensures found { Answers (λ c l. option_to_list l ≡ filter (chosen.is_link link) c.links)
+    ensures { Reads (λ c l. option_to_list l ≡ filter (chosen.is_link link) c.links)
         (seen S.Store tables.old) (seen S.Store tables.new) result }
-    ensures kept { Spares (seen S.Store tables.old) (seen S.Store tables.new) }
-    ensures refuses { OnlyRefuses
-        (seen S.Store tables.old) (seen S.Store tables.new) result }
-    ensures fault { IfErr result (λ e. e ≢ StoreFault.WrongVersion) }
 {
     select_one(
         tables,

@@ -1,9 +1,9 @@
 //! The entries of a request.
-ghost use Rattle.std.specs.Prelude.{◌≡◌, filter};
-ghost use Rattle.store_tables.specs.Calls.{Answers, Spares};
+ghost use Rattle.std.specs.Prelude.{filter};
 ghost use Rattle.store_tables.specs.Mismatches.{MismatchesInEntries};
 ghost use Rattle.store_tables.specs.Orders.{by_number};
 ghost use Rattle.store_tables.specs.Picked.{AreOrdered};
+ghost use Rattle.store_tables.specs.Readings.{Reads};
 ghost use Rattle.store_tables.specs.Selection.{tells_of};
 ghost use Rattle.store_tables.specs.declared.fault.StoreFault.{StoreFault};
 ghost use Rattle.store_tables.specs.Seen.{seen};
@@ -23,12 +23,11 @@ pub fn entries_of<S: Alter>(
     tables: &mut Tables<S>,
     id: u32,
 ) -> Result<Vec<Entry>, StoreFault>
-    ensures listed { Answers (λ c xs.
+    ensures read { Reads (λ c xs.
         AreOrdered by_number (filter (tells_of id) c.entries) xs.items)
         (seen S.Store tables.old) (seen S.Store tables.new) result }
     ensures mismatch { MismatchesInEntries
         (seen S.Store tables.old) (seen S.Store tables.new) result }
-    ensures kept { Spares (seen S.Store tables.old) (seen S.Store tables.new) }
 {
     select_all(
         alloc,

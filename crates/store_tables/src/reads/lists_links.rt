@@ -1,9 +1,9 @@
 //! The links, those from a request and those to it.
-ghost use Rattle.std.specs.Prelude.{◌≡◌, filter, IsPermutation};
-ghost use Rattle.store_tables.specs.Calls.{Answers, Spares};
+ghost use Rattle.std.specs.Prelude.{filter, IsPermutation};
 ghost use Rattle.store_tables.specs.Mismatches.{MismatchesInLinks};
 ghost use Rattle.store_tables.specs.Orders.{by_link};
 ghost use Rattle.store_tables.specs.Picked.{AreOrdered};
+ghost use Rattle.store_tables.specs.Readings.{Reads};
 ghost use Rattle.store_tables.specs.Selection.{ends_at, starts_at};
 ghost use Rattle.store_tables.specs.declared.fault.StoreFault.{StoreFault};
 ghost use Rattle.store_tables.specs.Seen.{seen};
@@ -19,12 +19,11 @@ use std::alloc::Global;
 /// The links, by source, kind and target. `Mismatch` where a row is no link, `Refused` where the
 /// store refuses it.
 pub fn links<S: Alter>(alloc: Global, tables: &mut Tables<S>) -> Result<Vec<LinkRow>, StoreFault>
-    ensures listed { Answers (λ c xs.
+    ensures read { Reads (λ c xs.
         AreOrdered by_link c.links xs.items)
         (seen S.Store tables.old) (seen S.Store tables.new) result }
     ensures mismatch { MismatchesInLinks
         (seen S.Store tables.old) (seen S.Store tables.new) result }
-    ensures kept { Spares (seen S.Store tables.old) (seen S.Store tables.new) }
 {
     select_all(
         alloc,
@@ -41,12 +40,11 @@ pub fn links_from<S: Alter>(
     tables: &mut Tables<S>,
     source: u32,
 ) -> Result<Vec<LinkRow>, StoreFault>
-    ensures listed { Answers (λ c xs.
+    ensures read { Reads (λ c xs.
         AreOrdered by_link (filter (starts_at source) c.links) xs.items)
         (seen S.Store tables.old) (seen S.Store tables.new) result }
     ensures mismatch { MismatchesInLinks
         (seen S.Store tables.old) (seen S.Store tables.new) result }
-    ensures kept { Spares (seen S.Store tables.old) (seen S.Store tables.new) }
 {
     select_all(
         alloc,
@@ -63,12 +61,11 @@ pub fn links_to<S: Alter>(
     tables: &mut Tables<S>,
     target: u32,
 ) -> Result<Vec<LinkRow>, StoreFault>
-    ensures listed { Answers (λ c xs.
+    ensures read { Reads (λ c xs.
         AreOrdered by_link (filter (ends_at target) c.links) xs.items)
         (seen S.Store tables.old) (seen S.Store tables.new) result }
     ensures mismatch { MismatchesInLinks
         (seen S.Store tables.old) (seen S.Store tables.new) result }
-    ensures kept { Spares (seen S.Store tables.old) (seen S.Store tables.new) }
 {
     let mut links = links_ending(alloc, tables, target)?;
     links.sort_unstable();
@@ -82,11 +79,10 @@ fn links_ending<S: Alter>(
     tables: &mut Tables<S>,
     target: u32,
 ) -> Result<Vec<LinkRow>, StoreFault>
-    ensures listed { Answers (λ c xs. IsPermutation (filter (ends_at target) c.links) xs.items)
+    ensures read { Reads (λ c xs. IsPermutation (filter (ends_at target) c.links) xs.items)
         (seen S.Store tables.old) (seen S.Store tables.new) result }
     ensures mismatch { MismatchesInLinks
         (seen S.Store tables.old) (seen S.Store tables.new) result }
-    ensures kept { Spares (seen S.Store tables.old) (seen S.Store tables.new) }
 {
     select_all(
         alloc,

@@ -1,10 +1,10 @@
 //! The requests, and those of a queue.
-ghost use Rattle.std.specs.Prelude.{◌≡◌, filter};
-ghost use Rattle.store_tables.specs.Calls.{Answers, Spares};
+ghost use Rattle.std.specs.Prelude.{filter};
 ghost use Rattle.store_tables.specs.Contents.{requests as rows_of};
 ghost use Rattle.store_tables.specs.Mismatches.{MismatchesInRequests};
 ghost use Rattle.store_tables.specs.Orders.{by_id};
 ghost use Rattle.store_tables.specs.Picked.{AreOrdered};
+ghost use Rattle.store_tables.specs.Readings.{Reads};
 ghost use Rattle.store_tables.specs.Selection.{is_filed_in};
 ghost use Rattle.store_tables.specs.declared.fault.StoreFault.{StoreFault};
 ghost use Rattle.store_tables.specs.Seen.{seen};
@@ -24,12 +24,11 @@ pub fn requests<S: Alter>(
     alloc: Global,
     tables: &mut Tables<S>,
 ) -> Result<Vec<RequestRow>, StoreFault>
-    ensures listed { Answers (λ c xs.
+    ensures read { Reads (λ c xs.
         AreOrdered by_id (rows_of c) xs.items)
         (seen S.Store tables.old) (seen S.Store tables.new) result }
     ensures mismatch { MismatchesInRequests
         (seen S.Store tables.old) (seen S.Store tables.new) result }
-    ensures kept { Spares (seen S.Store tables.old) (seen S.Store tables.new) }
 {
     select_all(
         alloc,
@@ -47,12 +46,11 @@ pub fn requests_of<S: Alter>(
     tables: &mut Tables<S>,
     queue: &Text,
 ) -> Result<Vec<RequestRow>, StoreFault>
-    ensures listed { Answers (λ c xs.
+    ensures read { Reads (λ c xs.
         AreOrdered by_id (filter (is_filed_in queue.now) (rows_of c)) xs.items)
         (seen S.Store tables.old) (seen S.Store tables.new) result }
     ensures mismatch { MismatchesInRequests
         (seen S.Store tables.old) (seen S.Store tables.new) result }
-    ensures kept { Spares (seen S.Store tables.old) (seen S.Store tables.new) }
 {
     select_all(
         alloc,

@@ -1,10 +1,9 @@
 //! The watchers of all requests.
-ghost use Rattle.std.specs.Prelude.{◌≡◌};
-ghost use Rattle.store_tables.specs.Calls.{Answers, Spares};
 ghost use Rattle.store_tables.specs.Mismatches.{MismatchesInWatchers};
 ghost use Rattle.store_tables.specs.Orders.{by_watcher};
 ghost use Rattle.store_tables.specs.Picked.{AreOrdered};
 ghost use Rattle.store_tables.specs.declared.fault.StoreFault.{StoreFault};
+ghost use Rattle.store_tables.specs.Readings.{Reads};
 ghost use Rattle.store_tables.specs.Seen.{seen};
 
 use crate::fault::StoreFault;
@@ -17,12 +16,11 @@ use std::alloc::Global;
 /// The watchers, by request, role and person. `Mismatch` where a row is no watcher,
 /// `Refused` where the store refuses it.
 pub fn watchers<S: Alter>(alloc: Global, tables: &mut Tables<S>) -> Result<Vec<Watcher>, StoreFault>
-    ensures listed { Answers (λ c xs.
+    ensures read { Reads (λ c xs.
         AreOrdered by_watcher c.watchers xs.items)
         (seen S.Store tables.old) (seen S.Store tables.new) result }
     ensures mismatch { MismatchesInWatchers
         (seen S.Store tables.old) (seen S.Store tables.new) result }
-    ensures kept { Spares (seen S.Store tables.old) (seen S.Store tables.new) }
 {
     select_all(
         alloc,

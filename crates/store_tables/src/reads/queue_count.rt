@@ -3,6 +3,7 @@ ghost use Rattle.std.specs.Prelude.{◌∷◌, ◌≡◌, IfErr, [], length};
 ghost use Rattle.sqlite_sql.specs.Aggregate.{count};
 ghost use Rattle.store_tables.specs.declared.fault.StoreFault.{StoreFault};
 ghost use Rattle.store_tables.specs.Calls.{Answers, Spares};
+ghost use Rattle.store_tables.specs.Readings.{Reads};
 ghost use Rattle.store_tables.specs.Seen.{seen};
 
 use crate::fault::StoreFault;
@@ -22,10 +23,8 @@ fn rows_count<S: Alter>(tables: &mut Tables<S>) -> Result<Vec<Row>, StoreFault>
 
 /// How many queues there are. `Refused` where the store or memory refuses it, or there are 2^32.
 pub fn queue_count<S: Alter>(tables: &mut Tables<S>) -> Result<u32, StoreFault>
-    ensures counted { Answers (λ c n. n ≡ length c.queues)
+    ensures { Reads (λ c n. n ≡ length c.queues)
         (seen S.Store tables.old) (seen S.Store tables.new) result }
-    ensures kept { Spares (seen S.Store tables.old) (seen S.Store tables.new) }
-    ensures fault { IfErr result (λ e. e ≡ StoreFault.Refused) }
 {
     let rows = rows_count(tables)?;
     match read_number(rows.as_slice()) {

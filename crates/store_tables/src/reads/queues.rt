@@ -1,9 +1,9 @@
 //! The queues, and the queue of a name.
-ghost use Rattle.std.specs.Prelude.{◌≡◌, ◌≢◌, IfErr, filter, option_to_list};
-ghost use Rattle.store_tables.specs.Calls.{Answers, OnlyRefuses, Spares};
+ghost use Rattle.std.specs.Prelude.{◌≡◌, filter, option_to_list};
 ghost use Rattle.store_tables.specs.Mismatches.{MismatchesInQueues};
 ghost use Rattle.store_tables.specs.Orders.{by_name};
 ghost use Rattle.store_tables.specs.Picked.{AreOrdered};
+ghost use Rattle.store_tables.specs.Readings.{Reads};
 ghost use Rattle.store_tables.specs.Selection.{is_named};
 ghost use Rattle.store_tables.specs.declared.fault.StoreFault.{StoreFault};
 ghost use Rattle.store_tables.specs.Seen.{seen};
@@ -19,11 +19,10 @@ use text_core::Text;
 
 /// The queues, by name. `Mismatch` where a row is no queue, `Refused` where the store refuses it.
 pub fn queues<S: Alter>(alloc: Global, tables: &mut Tables<S>) -> Result<Vec<QueueRow>, StoreFault>
-    ensures listed { Answers (λ c xs. AreOrdered by_name c.queues xs.items)
+    ensures read { Reads (λ c xs. AreOrdered by_name c.queues xs.items)
         (seen S.Store tables.old) (seen S.Store tables.new) result }
     ensures mismatch { MismatchesInQueues
         (seen S.Store tables.old) (seen S.Store tables.new) result }
-    ensures kept { Spares (seen S.Store tables.old) (seen S.Store tables.new) }
 {
     select_all(
         alloc,
@@ -39,14 +38,10 @@ pub fn queue_named<S: Alter>(
     tables: &mut Tables<S>,
     name: &Text,
 ) -> Result<Option<QueueRow>, StoreFault>
-    ensures found { Answers (λ c q. option_to_list q ≡ filter (is_named name.now) c.queues)
+    ensures read { Reads (λ c q. option_to_list q ≡ filter (is_named name.now) c.queues)
         (seen S.Store tables.old) (seen S.Store tables.new) result }
     ensures mismatch { MismatchesInQueues
         (seen S.Store tables.old) (seen S.Store tables.new) result }
-    ensures kept { Spares (seen S.Store tables.old) (seen S.Store tables.new) }
-    ensures refuses { OnlyRefuses
-        (seen S.Store tables.old) (seen S.Store tables.new) result }
-    ensures fault { IfErr result (λ e. e ≢ StoreFault.WrongVersion) }
 {
     select_one(
         tables,

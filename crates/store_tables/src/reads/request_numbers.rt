@@ -1,11 +1,11 @@
 //! The numbers of some requests: those of a queue, and those that are due before a moment.
-ghost use Rattle.std.specs.Prelude.{◌≡◌, filter};
-ghost use Rattle.store_tables.specs.Calls.{Answers, Spares};
+ghost use Rattle.std.specs.Prelude.{filter};
 ghost use Rattle.store_tables.specs.Contents.{requests};
 ghost use Rattle.store_tables.specs.Dated.{id_of};
 ghost use Rattle.store_tables.specs.Mismatches.{MismatchesInNumbers};
 ghost use Rattle.store_tables.specs.Orders.{by_due, by_id};
 ghost use Rattle.store_tables.specs.Picked.{AreParts};
+ghost use Rattle.store_tables.specs.Readings.{Reads};
 ghost use Rattle.store_tables.specs.Selection.{is_due_before, is_filed_in, number_of};
 ghost use Rattle.store_tables.specs.declared.fault.StoreFault.{StoreFault};
 ghost use Rattle.store_tables.specs.Seen.{seen};
@@ -25,12 +25,11 @@ pub fn numbers_in<S: Alter>(
     tables: &mut Tables<S>,
     queue: &Text,
 ) -> Result<Vec<u32>, StoreFault>
-    ensures listed { Answers (λ c ns.
+    ensures read { Reads (λ c ns.
         AreParts number_of by_id (filter (is_filed_in queue.now) (requests c)) ns.items)
         (seen S.Store tables.old) (seen S.Store tables.new) result }
     ensures mismatch { MismatchesInNumbers
         (seen S.Store tables.old) (seen S.Store tables.new) result }
-    ensures kept { Spares (seen S.Store tables.old) (seen S.Store tables.new) }
 {
     select_all(
         alloc,
@@ -48,12 +47,11 @@ pub fn numbers_due_before<S: Alter>(
     tables: &mut Tables<S>,
     at: u32,
 ) -> Result<Vec<u32>, StoreFault>
-    ensures listed { Answers (λ c ns.
+    ensures read { Reads (λ c ns.
         AreParts id_of by_due (filter (is_due_before at) c.dated) ns.items)
         (seen S.Store tables.old) (seen S.Store tables.new) result }
     ensures mismatch { MismatchesInNumbers
         (seen S.Store tables.old) (seen S.Store tables.new) result }
-    ensures kept { Spares (seen S.Store tables.old) (seen S.Store tables.new) }
 {
     select_all(
         alloc,

@@ -1,10 +1,11 @@
 //! The request of a number, and the last number.
-ghost use Rattle.std.specs.Prelude.{◌≡◌, ◌≢◌, IfErr, filter, option_to_list};
+ghost use Rattle.std.specs.Prelude.{◌≡◌, IfErr, filter, option_to_list};
 ghost use Rattle.store_tables.specs.declared.fault.StoreFault.{StoreFault};
 ghost use Rattle.store_tables.specs.Queries.{last_id_terms};
-ghost use Rattle.store_tables.specs.Calls.{Answers, OnlyRefuses, ShowsRowsOf, Spares};
+ghost use Rattle.store_tables.specs.Calls.{Answers, ShowsRowsOf, Spares};
 ghost use Rattle.store_tables.specs.Contents.{requests};
 ghost use Rattle.store_tables.specs.Picked.{IsGreatest, ShowsGreatest};
+ghost use Rattle.store_tables.specs.Readings.{Reads};
 ghost use Rattle.store_tables.specs.Selection.{is_numbered, number_of};
 ghost use Rattle.store_tables.specs.Seen.{seen};
 
@@ -21,13 +22,9 @@ pub fn request_numbered<S: Alter>(
     tables: &mut Tables<S>,
     id: u32,
 ) -> Result<Option<RequestRow>, StoreFault>
-    ensures found { Answers (λ c r. option_to_list r ≡
+    ensures { Reads (λ c r. option_to_list r ≡
         filter (is_numbered id) (requests c))
         (seen S.Store tables.old) (seen S.Store tables.new) result }
-    ensures kept { Spares (seen S.Store tables.old) (seen S.Store tables.new) }
-    ensures refuses { OnlyRefuses
-        (seen S.Store tables.old) (seen S.Store tables.new) result }
-    ensures fault { IfErr result (λ e. e ≢ StoreFault.WrongVersion) }
 {
     select_one(
         tables,
@@ -56,12 +53,8 @@ fn rows_last_id<S: Alter>(tables: &mut Tables<S>) -> Result<Vec<Row>, StoreFault
 /// The greatest number of a request, 0 where there is none. `Mismatch` where the row shows no
 /// number, `Refused` where the store or memory refuses it.
 pub fn last_id<S: Alter>(tables: &mut Tables<S>) -> Result<u32, StoreFault>
-    ensures greatest { Answers (λ c n. IsGreatest number_of (requests c) n)
+    ensures { Reads (λ c n. IsGreatest number_of (requests c) n)
         (seen S.Store tables.old) (seen S.Store tables.new) result }
-    ensures kept { Spares (seen S.Store tables.old) (seen S.Store tables.new) }
-    ensures refuses { OnlyRefuses
-        (seen S.Store tables.old) (seen S.Store tables.new) result }
-    ensures fault { IfErr result (λ e. e ≢ StoreFault.WrongVersion) }
 {
     let rows = rows_last_id(tables)?;
     read_number(rows.as_slice())

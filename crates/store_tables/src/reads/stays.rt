@@ -1,11 +1,11 @@
 //! The stays of a request, and those of all.
-ghost use Rattle.std.specs.Prelude.{◌≡◌, ◌≢◌, IfErr, filter};
-ghost use Rattle.store_tables.specs.Calls.{Answers, OnlyRefuses, Spares};
+ghost use Rattle.std.specs.Prelude.{filter};
 ghost use Rattle.store_tables.specs.Mismatches.{MismatchesInStays};
 ghost use Rattle.store_tables.specs.Orders.{by_stay, by_stay_number};
 ghost use Rattle.store_tables.specs.Picked.{AreParts};
 ghost use Rattle.store_tables.specs.Stays.{is_of, request_stay, stay_of};
 ghost use Rattle.store_tables.specs.declared.fault.StoreFault.{StoreFault};
+ghost use Rattle.store_tables.specs.Readings.{Reads};
 ghost use Rattle.store_tables.specs.Seen.{seen};
 
 use crate::columns::number;
@@ -23,15 +23,11 @@ pub fn stays_of<S: Alter>(
     tables: &mut Tables<S>,
     id: u32,
 ) -> Result<Vec<Stay>, StoreFault>
-    ensures listed { Answers (λ c xs.
+    ensures read { Reads (λ c xs.
         AreParts stay_of by_stay_number (filter (is_of id) c.stays) xs.items)
         (seen S.Store tables.old) (seen S.Store tables.new) result }
     ensures mismatch { MismatchesInStays
         (seen S.Store tables.old) (seen S.Store tables.new) result }
-    ensures kept { Spares (seen S.Store tables.old) (seen S.Store tables.new) }
-    ensures refuses { OnlyRefuses
-        (seen S.Store tables.old) (seen S.Store tables.new) result }
-    ensures fault { IfErr result (λ e. e ≢ StoreFault.WrongVersion) }
 {
     select_all(
         alloc,
@@ -48,11 +44,10 @@ pub fn stays<S: Alter>(
     alloc: Global,
     tables: &mut Tables<S>,
 ) -> Result<Vec<(u32, Stay)>, StoreFault>
-    ensures listed { Answers (λ c xs. AreParts request_stay by_stay c.stays xs.items)
+    ensures read { Reads (λ c xs. AreParts request_stay by_stay c.stays xs.items)
         (seen S.Store tables.old) (seen S.Store tables.new) result }
     ensures mismatch { MismatchesInStays
         (seen S.Store tables.old) (seen S.Store tables.new) result }
-    ensures kept { Spares (seen S.Store tables.old) (seen S.Store tables.new) }
 {
     select_all(
         alloc,

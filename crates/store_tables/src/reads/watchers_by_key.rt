@@ -1,9 +1,9 @@
 //! The watchers of a request.
-ghost use Rattle.std.specs.Prelude.{◌≡◌, ◌≢◌, IfErr, filter};
+ghost use Rattle.std.specs.Prelude.{filter};
 ghost use Rattle.store_tables.specs.declared.fault.StoreFault.{StoreFault};
-ghost use Rattle.store_tables.specs.Calls.{Answers, OnlyRefuses, Spares};
 ghost use Rattle.store_tables.specs.Orders.{by_role};
 ghost use Rattle.store_tables.specs.Picked.{AreOrdered};
+ghost use Rattle.store_tables.specs.Readings.{Reads};
 ghost use Rattle.store_tables.specs.Selection.{watches};
 ghost use Rattle.store_tables.specs.Seen.{seen};
 
@@ -22,12 +22,8 @@ pub fn watchers_of<S: Alter>(
     tables: &mut Tables<S>,
     id: u32,
 ) -> Result<Vec<Watcher>, StoreFault>
-    ensures listed { Answers (λ c xs. AreOrdered by_role (filter (watches id) c.watchers) xs.items)
+    ensures { Reads (λ c xs. AreOrdered by_role (filter (watches id) c.watchers) xs.items)
         (seen S.Store tables.old) (seen S.Store tables.new) result }
-    ensures kept { Spares (seen S.Store tables.old) (seen S.Store tables.new) }
-    ensures refuses { OnlyRefuses
-        (seen S.Store tables.old) (seen S.Store tables.new) result }
-    ensures fault { IfErr result (λ e. e ≢ StoreFault.WrongVersion) }
 {
     select_all(
         alloc,

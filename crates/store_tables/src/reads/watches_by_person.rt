@@ -1,9 +1,9 @@
 //! The watchers who are one person.
-ghost use Rattle.std.specs.Prelude.{◌≡◌, filter};
-ghost use Rattle.store_tables.specs.Calls.{Answers, Spares};
+ghost use Rattle.std.specs.Prelude.{filter};
 ghost use Rattle.store_tables.specs.Mismatches.{MismatchesInWatchers};
 ghost use Rattle.store_tables.specs.Orders.{by_standing};
 ghost use Rattle.store_tables.specs.Picked.{AreOrdered};
+ghost use Rattle.store_tables.specs.Readings.{Reads};
 ghost use Rattle.store_tables.specs.Selection.{is_of_person};
 ghost use Rattle.store_tables.specs.declared.fault.StoreFault.{StoreFault};
 ghost use Rattle.store_tables.specs.Seen.{seen};
@@ -23,12 +23,11 @@ pub fn watches_of<S: Alter>(
     tables: &mut Tables<S>,
     person: &str,
 ) -> Result<Vec<Watcher>, StoreFault>
-    ensures listed { Answers (λ c xs.
+    ensures read { Reads (λ c xs.
         AreOrdered by_standing (filter (is_of_person person.now) c.watchers) xs.items)
         (seen S.Store tables.old) (seen S.Store tables.new) result }
     ensures mismatch { MismatchesInWatchers
         (seen S.Store tables.old) (seen S.Store tables.new) result }
-    ensures kept { Spares (seen S.Store tables.old) (seen S.Store tables.new) }
 {
     select_all(
         alloc,

@@ -1,9 +1,8 @@
 //! Entries that are added to a history.
-ghost use Rattle.std.specs.Prelude.{◌≡◌, fold, IfErr};
+ghost use Rattle.std.specs.Prelude.{◌≡◌, fold};
 ghost use Rattle.sqlite.specs.Held.{state};
 ghost use Rattle.store_tables.specs.Calls.{Does};
 ghost use Rattle.store_tables.specs.Contents.{add_entry};
-ghost use Rattle.store_tables.specs.declared.fault.StoreFault.{StoreFault};
 
 use crate::columns::{entry_kind, minute, number, words};
 use crate::fault::StoreFault;
@@ -19,7 +18,6 @@ pub(crate) fn put_entry<S: Alter>(
     ensures same_reference { tx.new.conn.ghost_name ≡ tx.old.conn.ghost_name }
     ensures put { Does (λ c. add_entry c row.now)
         (state S.Store tx.old.conn.now) (state S.Store tx.new.conn.now) result }
-    ensures fault { IfErr result (λ e. e ≡ StoreFault.Refused) }
 {
     run_on_one(
         tx,
@@ -42,7 +40,6 @@ pub fn put_entries<S: Alter>(tx: &mut Transaction<'_, S>, rows: &[Entry]) -> Res
     ensures same_reference { tx.new.conn.ghost_name ≡ tx.old.conn.ghost_name }
     ensures put { Does (λ c. fold add_entry c rows.now)
         (state S.Store tx.old.conn.now) (state S.Store tx.new.conn.now) result }
-    ensures fault { IfErr result (λ e. e ≡ StoreFault.Refused) }
 {
     for row in rows {
         put_entry(tx, row)?;

@@ -1,6 +1,6 @@
 //! A request's row that is added, or set in the place of another, with its due moment; the due
 //! moment alone.
-ghost use Rattle.std.specs.Prelude.{◌≡◌, fold, IfErr};
+ghost use Rattle.std.specs.Prelude.{◌≡◌, fold};
 ghost use Rattle.sqlite.specs.Held.{state};
 ghost use Rattle.sqlite.specs.Values.{bound};
 ghost use Rattle.store_tables.specs.Calls.{Does};
@@ -8,7 +8,6 @@ ghost use Rattle.store_tables.specs.Contents.{add_request, set_due as with_due};
 ghost use Rattle.store_tables.specs.Contents.{set_each_due, set_request as with_row};
 ghost use Rattle.store_tables.specs.Dated.{dated_shown};
 ghost use Rattle.store_tables.specs.Reading.{IsDatedRow};
-ghost use Rattle.store_tables.specs.declared.fault.StoreFault.{StoreFault};
 
 use crate::columns::{minute, nullable, nullable_minute, number, turn, words};
 use crate::fault::StoreFault;
@@ -47,7 +46,6 @@ pub fn put_request<S: Alter>(
     ensures same_reference { tx.new.conn.ghost_name ≡ tx.old.conn.ghost_name }
     ensures put { Does (λ c. add_request c row.now due)
         (state S.Store tx.old.conn.now) (state S.Store tx.new.conn.now) result }
-    ensures fault { IfErr result (λ e. e ≡ StoreFault.Refused) }
 {
     run_on_one(
         tx,
@@ -67,7 +65,6 @@ pub fn set_request<S: Alter>(
     ensures same_reference { tx.new.conn.ghost_name ≡ tx.old.conn.ghost_name }
     ensures set { Does (λ c. with_row c row.now due)
         (state S.Store tx.old.conn.now) (state S.Store tx.new.conn.now) result }
-    ensures fault { IfErr result (λ e. e ≡ StoreFault.Refused) }
 {
     run_on_one(
         tx,
@@ -87,7 +84,6 @@ pub fn set_due<S: Alter>(
     ensures same_reference { tx.new.conn.ghost_name ≡ tx.old.conn.ghost_name }
     ensures set { Does (λ c. with_due c id due)
         (state S.Store tx.old.conn.now) (state S.Store tx.new.conn.now) result }
-    ensures fault { IfErr result (λ e. e ≡ StoreFault.Refused) }
 {
     run_on_any(
         tx,
@@ -105,7 +101,6 @@ pub fn set_dues<S: Alter>(
     ensures same_reference { tx.new.conn.ghost_name ≡ tx.old.conn.ghost_name }
     ensures set { Does (λ c. fold set_each_due c dues.now)
         (state S.Store tx.old.conn.now) (state S.Store tx.new.conn.now) result }
-    ensures fault { IfErr result (λ e. e ≡ StoreFault.Refused) }
 {
     for due in dues {
         set_due(tx, due.0, due.1)?;

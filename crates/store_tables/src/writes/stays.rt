@@ -1,10 +1,9 @@
 //! Stays that are added, and one that comes to its end.
-ghost use Rattle.std.specs.Prelude.{◌≡◌, fold, IfErr};
+ghost use Rattle.std.specs.Prelude.{◌≡◌, fold};
 ghost use Rattle.sqlite.specs.Held.{state};
 ghost use Rattle.store_tables.specs.Calls.{Does};
 ghost use Rattle.store_tables.specs.Contents.{add_stay, end_stay as with_stay_ended};
 ghost use Rattle.store_tables.specs.Stays.{stay_row, stay_rows};
-ghost use Rattle.store_tables.specs.declared.fault.StoreFault.{StoreFault};
 
 use crate::columns::{minute, nullable_minute, number, words};
 use crate::fault::StoreFault;
@@ -22,7 +21,6 @@ pub fn put_stay<S: Alter>(
     ensures same_reference { tx.new.conn.ghost_name ≡ tx.old.conn.ghost_name }
     ensures put { Does (λ c. add_stay c (stay_row id place stay.now))
         (state S.Store tx.old.conn.now) (state S.Store tx.new.conn.now) result }
-    ensures fault { IfErr result (λ e. e ≡ StoreFault.Refused) }
 {
     run_on_one(
         tx,
@@ -47,7 +45,6 @@ pub fn put_stays<S: Alter>(
     ensures same_reference { tx.new.conn.ghost_name ≡ tx.old.conn.ghost_name }
     ensures put { Does (λ c. fold add_stay c (stay_rows id stays.now))
         (state S.Store tx.old.conn.now) (state S.Store tx.new.conn.now) result }
-    ensures fault { IfErr result (λ e. e ≡ StoreFault.Refused) }
 {
     let mut place = 0u32;
     for stay in stays {
@@ -71,7 +68,6 @@ pub fn end_stay<S: Alter>(
     ensures same_reference { tx.new.conn.ghost_name ≡ tx.old.conn.ghost_name }
     ensures ended { Does (λ c. with_stay_ended c id place until)
         (state S.Store tx.old.conn.now) (state S.Store tx.new.conn.now) result }
-    ensures fault { IfErr result (λ e. e ≡ StoreFault.Refused) }
 {
     run_on_one(
         tx,

@@ -1,9 +1,8 @@
 //! The version that is written.
-ghost use Rattle.std.specs.Prelude.{◌≡◌, IfErr};
+ghost use Rattle.std.specs.Prelude.{◌≡◌};
 ghost use Rattle.sqlite.specs.Held.{state};
 ghost use Rattle.store_tables.specs.Calls.{Does};
 ghost use Rattle.store_tables.specs.Contents.{set_version as with_version};
-ghost use Rattle.store_tables.specs.declared.fault.StoreFault.{StoreFault};
 
 use crate::fault::StoreFault;
 use crate::transaction::run_on_one;
@@ -15,7 +14,6 @@ pub fn set_version<S: Alter>(tx: &mut Transaction<'_, S>) -> Result<(), StoreFau
     ensures same_reference { tx.new.conn.ghost_name ≡ tx.old.conn.ghost_name }
     ensures set { Does (λ c. with_version c 2)
         (state S.Store tx.old.conn.now) (state S.Store tx.new.conn.now) result }
-    ensures fault { IfErr result (λ e. e ≡ StoreFault.Refused) }
 {
     run_on_one(tx, "UPDATE meta SET version = 2", &[])
 }

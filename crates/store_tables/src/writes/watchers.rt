@@ -1,9 +1,8 @@
 //! A person that is put into a role on a request, or taken out of it.
-ghost use Rattle.std.specs.Prelude.{◌≡◌, fold, IfErr};
+ghost use Rattle.std.specs.Prelude.{◌≡◌, fold};
 ghost use Rattle.sqlite.specs.Held.{state};
 ghost use Rattle.store_tables.specs.Calls.{Does};
 ghost use Rattle.store_tables.specs.Contents.{add_watcher, drop_watcher as without_watcher};
-ghost use Rattle.store_tables.specs.declared.fault.StoreFault.{StoreFault};
 
 use crate::columns::{number, role, words};
 use crate::fault::StoreFault;
@@ -19,7 +18,6 @@ pub(crate) fn put_watcher<S: Alter>(
     ensures same_reference { tx.new.conn.ghost_name ≡ tx.old.conn.ghost_name }
     ensures put { Does (λ c. add_watcher c row.now)
         (state S.Store tx.old.conn.now) (state S.Store tx.new.conn.now) result }
-    ensures fault { IfErr result (λ e. e ≡ StoreFault.Refused) }
 {
     run_on_one(
         tx,
@@ -36,7 +34,6 @@ pub(crate) fn drop_watcher<S: Alter>(
     ensures same_reference { tx.new.conn.ghost_name ≡ tx.old.conn.ghost_name }
     ensures dropped { Does (λ c. without_watcher c row.now)
         (state S.Store tx.old.conn.now) (state S.Store tx.new.conn.now) result }
-    ensures fault { IfErr result (λ e. e ≡ StoreFault.Refused) }
 {
     run_on_one(
         tx,
@@ -53,7 +50,6 @@ pub fn put_watchers<S: Alter>(
     ensures same_reference { tx.new.conn.ghost_name ≡ tx.old.conn.ghost_name }
     ensures put { Does (λ c. fold add_watcher c rows.now)
         (state S.Store tx.old.conn.now) (state S.Store tx.new.conn.now) result }
-    ensures fault { IfErr result (λ e. e ≡ StoreFault.Refused) }
 {
     for row in rows {
         put_watcher(tx, row)?;
@@ -69,7 +65,6 @@ pub fn drop_watchers<S: Alter>(
     ensures same_reference { tx.new.conn.ghost_name ≡ tx.old.conn.ghost_name }
     ensures dropped { Does (λ c. fold without_watcher c rows.now)
         (state S.Store tx.old.conn.now) (state S.Store tx.new.conn.now) result }
-    ensures fault { IfErr result (λ e. e ≡ StoreFault.Refused) }
 {
     for row in rows {
         drop_watcher(tx, row)?;

@@ -1,6 +1,6 @@
-use Rattle.store_tables.specs.Contents.{contents_of}
+use Rattle.store_tables.proofs.ReadOn.{telling}
+use Rattle.store_core.specs.Found.{counted}
 use Rattle.store_core.proofs.facts.count_queues.Goals as goal
 
-pub returns-clause-told : goal.returns-clause-told
-returns-clause-told g c desk is stand clean =
-    c.queue_count.ensures.counted (contents_of stand.0 desk) stand.1 clean
+pub returns : goal.returns
+returns g c = telling (λ d n counted desk of. rw of.same at counted) c.queue_count.ensures

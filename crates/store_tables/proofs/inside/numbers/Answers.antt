@@ -1,5 +1,4 @@
 use Rattle.std.proofs.Common.{[]}
-use Rattle.sqlite.specs.Held.{state}
 use Rattle.store_tables.specs.Contents.{requests}
 use Rattle.store_tables.specs.Orders.{by_id}
 use Rattle.store_tables.specs.Queries.{last_id_terms}
@@ -16,15 +15,11 @@ select_all_inside-requires g c = all_numbers.means.plain
 pub returns-clause-listed : goal.returns-clause-listed
 returns-clause-listed g c d holds clean =
     rw (every (requests d)) at
-    (holds_numbers request_table all_numbers (λ xs. xs.items) (state g.S.Store
-    c.args.tx.now.conn.now) (state g.S.Store c.select_all_inside.new.tx.conn.now)
-    c.select_all_inside.ensures.looks.clean c.select_all_inside.result
-    c.select_all_inside.ensures.read d (λ k o. (holds k o).0) clean
-    by_id (id_order_is [] last_id_terms []))
+    (holds_numbers request_table all_numbers by_id (id_order_is [] last_id_terms [])
+    c.select_all_inside.ensures.looks.clean c.select_all_inside.ensures.read d
+    (λ k o. (holds k o).0) clean)
 
 pub returns-clause-mismatch : goal.returns-clause-mismatch
 returns-clause-mismatch g c =
-    numbers_fail request_table all_numbers (λ xs. xs.items) (state g.S.Store
-    c.args.tx.now.conn.now) (state g.S.Store c.select_all_inside.new.tx.conn.now)
-    c.select_all_inside.ensures.looks.clean c.select_all_inside.result
+    numbers_fail request_table all_numbers c.select_all_inside.ensures.looks.clean
     c.select_all_inside.ensures.read

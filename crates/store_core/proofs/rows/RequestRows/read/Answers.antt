@@ -1,5 +1,6 @@
 use Rattle.std.proofs.Common.{◌∙◌, sym}
 use Rattle.store_tables.specs.Contents.{contents_of}
+use Rattle.store_tables.proofs.ReadOn.{blames_none}
 use Rattle.store_core.specs.Ahead.{numbers_ahead}
 use Rattle.store_core.specs.Rows.{dated_rows}
 use Rattle.store_core.proofs.AheadLemmas.{no_more, one_more}
@@ -15,5 +16,9 @@ returns-in-Ok-clause-given g c desk is due stand clean =
     one_more (dated_rows due desk) (numbers_ahead g.S.Store c.args.self.now.store.now)
     (numbers_ahead g.S.Store c.dated_request.new.self) c.args.self.now.at c.in-Some.id c.in-Ok.row
     (sym c.number_ahead.ensures.number ∙ c.in-Some.is)
-    (c.in-Ok.ensures.found (contents_of due desk) stand clean)
+    (c.in-Ok.ensures.read.told (contents_of due desk) stand clean)
     (rw c.dated_request.ensures.same_numbers)
+
+pub returns-in-Err-clause-refuses : goal.returns-in-Err-clause-refuses
+returns-in-Err-clause-refuses g c =
+    blames_none c.in-Err.ensures.read.kept.clean c.in-Err.ensures.read.blames

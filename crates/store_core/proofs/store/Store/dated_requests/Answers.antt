@@ -9,4 +9,4 @@ pub returns-clause-listed : goal.returns-clause-listed
 returns-clause-listed g c desk is due stand clean =
     if_ok c.dated_requests.result
     (λ xs. the_dated (dated_rows due desk) xs.items (dated_rise due desk is))
-    (c.dated_requests.ensures.listed (contents_of due desk) stand clean)
+    (c.dated_requests.ensures.read.told (contents_of due desk) stand clean)

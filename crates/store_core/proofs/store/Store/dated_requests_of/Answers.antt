@@ -18,4 +18,4 @@ returns-clause-listed g c desk is due stand clean =
     (ascending-filter (λ (a b : Dated). by_dated_id a b ≡ Less) filed (dated_rows due desk)
     (dated_rise due desk is)) h
     ∙ filter-map filed (dated_by due) (request_rows desk))
-    (c.dated_of.ensures.listed (contents_of due desk) stand clean)
+    (c.dated_of.ensures.read.told (contents_of due desk) stand clean)

@@ -10,7 +10,7 @@ pub returns-clause-ahead : goal.returns-clause-ahead
 returns-clause-ahead g c desk is due stand clean =
     let name = c.args.name.now in
     let read = rw (rows_dated due desk) at
-    (c.in_ok-numbers.ensures.listed (contents_of due desk) stand clean) in (
+    (c.in_ok-numbers.ensures.read.told (contents_of due desk) stand clean) in (
       map (dated_by due) (filter (is_filed_in name) (request_rows desk)),
       refl,
       rw (c.from.ensures) (queue_ahead due desk is name _ read),

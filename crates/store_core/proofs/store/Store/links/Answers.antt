@@ -7,4 +7,4 @@ use Rattle.store_core.proofs.store.Store.links.Goals as goal
 pub returns-clause-listed : goal.returns-clause-listed
 returns-clause-listed g c desk is stand clean =
     if_ok c.links.result (λ xs. the_links desk.links xs.items (links_rise desk is))
-    (c.links.ensures.listed (contents_of stand.0 desk) stand.1 clean)
+    (c.links.ensures.read.told (contents_of stand.0 desk) stand.1 clean)

@@ -16,4 +16,4 @@ returns-clause-listed g c desk is stand clean =
     (λ xs. the_links (filter test desk.links) xs.items
     (ascending-filter (λ (a b : LinkRow). by_link a b ≡ Less) test desk.links
     (links_rise desk is)))
-    (c.links_to.ensures.listed (contents_of stand.0 desk) stand.1 clean)
+    (c.links_to.ensures.read.told (contents_of stand.0 desk) stand.1 clean)

@@ -10,4 +10,4 @@ returns-clause-listed g c desk is stand clean =
     if_ok c.requests.result
     (λ xs. the_requests (request_rows desk) xs.items (requests_rise desk is))
     (rw (rows_dated stand.0 desk) at
-    (c.requests.ensures.listed (contents_of stand.0 desk) stand.1 clean))
+    (c.requests.ensures.read.told (contents_of stand.0 desk) stand.1 clean))

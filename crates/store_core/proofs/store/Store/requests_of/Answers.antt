@@ -18,4 +18,4 @@ returns-clause-listed g c desk is stand clean =
     (ascending-filter (λ (a b : RequestRow). by_id a b ≡ Less) filed (request_rows desk)
     (requests_rise desk is)))
     (rw (rows_dated stand.0 desk) at
-    (c.requests_of.ensures.listed (contents_of stand.0 desk) stand.1 clean))
+    (c.requests_of.ensures.read.told (contents_of stand.0 desk) stand.1 clean))

@@ -6,4 +6,4 @@ use Rattle.store_core.proofs.store.Store.stays_of.Goals as goal
 pub returns-clause-listed : goal.returns-clause-listed
 returns-clause-listed g c desk is stand clean =
     if_ok c.stays_of.result (λ xs. the_stays_of desk is c.args.id xs.items)
-    (c.stays_of.ensures.listed (contents_of stand.0 desk) stand.1 clean)
+    (c.stays_of.ensures.read.told (contents_of stand.0 desk) stand.1 clean)

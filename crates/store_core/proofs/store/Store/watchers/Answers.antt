@@ -7,4 +7,4 @@ use Rattle.store_core.proofs.store.Store.watchers.Goals as goal
 pub returns-clause-listed : goal.returns-clause-listed
 returns-clause-listed g c desk is stand clean =
     if_ok c.watchers.result (λ xs. the_watchers (watchers desk) xs.items (watchers_rise desk is))
-    (c.watchers.ensures.listed (contents_of stand.0 desk) stand.1 clean)
+    (c.watchers.ensures.read.told (contents_of stand.0 desk) stand.1 clean)

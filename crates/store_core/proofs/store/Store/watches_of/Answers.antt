@@ -12,4 +12,4 @@ returns-clause-listed g c desk is stand clean =
     if_ok c.watches_of.result
     (λ xs. the_watches (filter (is_of_person person) (watchers desk)) xs.items
     (watches_rise desk is person))
-    (c.watches_of.ensures.listed (contents_of stand.0 desk) stand.1 clean)
+    (c.watches_of.ensures.read.told (contents_of stand.0 desk) stand.1 clean)

@@ -8,9 +8,11 @@ use Rattle.desk_model.specs.declared.rows.LinkKind.{LinkKind}
 use Rattle.desk_model.specs.declared.rows.LinkKind.TheVariants.{DependsOn, MemberOf, RefersTo}
 use Rattle.desk_model.specs.declared.rows.LinkRow.{LinkRow}
 use Rattle.store_tables.specs.Orders.{by_link}
+use Rattle.store_tables.proofs.ReadOn.{giving}
 use Rattle.store_tables.proofs.reads.lists_links.links_to.Goals as goal
 
 -- the order of the type's values is that of their numbers
+
 kinds_alike : (a b : LinkKind) → nat_cmp (kind_number a) (kind_number b) ≡ kinds.cmp a b
 kinds_alike DependsOn DependsOn = refl
 kinds_alike DependsOn MemberOf = refl
@@ -32,10 +34,9 @@ sorted_alike xs sorted k x low high =
     ap is_lt (links_alike (slice_index_or xs (k + 1) x) (slice_index_or xs k x))
     ∙ sorted k x low high
 
-pub returns-clause-listed : goal.returns-clause-listed
-returns-clause-listed g c d stand clean = record {
-  same =
-      IsPermutation-trans _ _ _ (c.in_ok-links.ensures.listed d stand clean)
-      c.sort_unstable.ensures.permutation;
-  sorted = sorted_alike _ c.sort_unstable.ensures.sorted;
-}
+pub returns-clause-read : goal.returns-clause-read
+returns-clause-read g c =
+    giving (λ d same. record {
+      same = IsPermutation-trans _ _ _ same c.sort_unstable.ensures.permutation;
+      sorted = sorted_alike _ c.sort_unstable.ensures.sorted;
+    }) c.in_ok-links.ensures.read

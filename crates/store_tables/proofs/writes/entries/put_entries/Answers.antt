@@ -1,5 +1,4 @@
 use Rattle.std.proofs.Common.{length, rules, ◌<◌, ◌≤◌}
-use Rattle.sqlite.specs.Held.{state}
 use Rattle.store_tables.specs.Contents.{add_entry}
 use Rattle.store_tables.proofs.StepLemmas.{does_all, does_more}
 use Rattle.store_tables.proofs.writes.entries.put_entries.Goals as goal
@@ -11,14 +10,11 @@ loop-row-preserved g c =
     let low : i < length rows = search rules in
     record {
       same = search rules;
-      done = does_more tt add_entry rows i (state g.S.Store c.args.tx.now.conn.now)
-          (state g.S.Store c.loop-row.tx.conn.now) (state g.S.Store c.put_entry.new.tx.conn.now)
-          c.row-item.result low c.row-item.is c.loop-row.invariant.done
+      done = does_more add_entry rows low c.row-item.is c.loop-row.invariant.done
           c.in_ok-put_entry.ensures.put;
     }
 
 pub returns-clause-put : goal.returns-clause-put
 returns-clause-put g c =
     let high : length c.args.rows.now ≤ c.loop-row.row-index = search rules in
-    does_all tt add_entry c.args.rows.now c.loop-row.row-index (state g.S.Store c.args.tx.now.conn.now)
-    (state g.S.Store c.loop-row.tx.conn.now) high c.loop-row.invariant.done
+    does_all add_entry c.args.rows.now high c.loop-row.invariant.done

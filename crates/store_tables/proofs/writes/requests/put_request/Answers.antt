@@ -1,7 +1,3 @@
-use Rattle.sqlite.specs.Held.{state}
-use Rattle.store_tables.specs.Contents.{add_request}
-use Rattle.store_tables.specs.Queries.{add_request_text}
-use Rattle.store_tables.specs.Dated.{dated_shown}
 use Rattle.store_tables.proofs.StepLemmas.{does_one}
 use Rattle.store_tables.proofs.TableLemmas.{adds_request}
 use Rattle.store_tables.proofs.writes.requests.put_request.Goals as goal
@@ -10,10 +6,5 @@ pub returns-clause-put : goal.returns-clause-put
 returns-clause-put g c =
     let row = c.args.row.now in
     let due = c.args.due in
-    let old = state g.S.Store c.args.tx.now.conn.now in
-    let new = state g.S.Store c.run_on_one.new.tx.conn.now in
-    does_one c.run_on_one.result add_request_text (dated_shown (row, due)) old new (λ now. add_request now row due)
-    (rw c.shown.ensures.bound at c.run_on_one.ensures.ran)
-    c.run_on_one.ensures.honest c.run_on_one.ensures.lasts
-    c.run_on_one.ensures.keeps
-    (λ now. adds_request now row due old new 1 c.shown.ensures.value)
+    does_one (rw c.shown.ensures.bound at c.run_on_one.ensures.runs)
+    (λ now. adds_request now row due _ _ 1 c.shown.ensures.value)

@@ -1,5 +1,4 @@
 use Rattle.std.proofs.Common.{length, rules, ◌<◌, ◌≤◌}
-use Rattle.sqlite.specs.Held.{state}
 use Rattle.store_tables.specs.Contents.{set_each_due}
 use Rattle.store_tables.proofs.StepLemmas.{does_all, does_more}
 use Rattle.store_tables.proofs.writes.requests.set_dues.Goals as goal
@@ -11,14 +10,11 @@ loop-due-preserved g c =
     let low : i < length rows = search rules in
     record {
       same = search rules;
-      done = does_more tt set_each_due rows i (state g.S.Store c.args.tx.now.conn.now)
-          (state g.S.Store c.loop-due.tx.conn.now) (state g.S.Store c.set_due.new.tx.conn.now)
-          c.due-item.result low c.due-item.is c.loop-due.invariant.done
+      done = does_more set_each_due rows low c.due-item.is c.loop-due.invariant.done
           c.in_ok-set_due.ensures.set;
     }
 
 pub returns-clause-set : goal.returns-clause-set
 returns-clause-set g c =
     let high : length c.args.dues.now ≤ c.loop-due.due-index = search rules in
-    does_all tt set_each_due c.args.dues.now c.loop-due.due-index (state g.S.Store c.args.tx.now.conn.now)
-    (state g.S.Store c.loop-due.tx.conn.now) high c.loop-due.invariant.done
+    does_all set_each_due c.args.dues.now high c.loop-due.invariant.done

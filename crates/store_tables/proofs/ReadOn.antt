@@ -1,0 +1,128 @@
+-- Readings, one after another.
+use Rattle.std.proofs.Common.{◌≡◌, ◌⊎◌, Err, IfErr, IfOk, inl, inr, IsTrue, Ok, refl, Result}
+use Rattle.std.proofs.Common.{subst}
+use Rattle.sqlite.specs.Effect.{Database}
+use Rattle.sqlite.specs.State.{State, HasCleanDisk}
+use Rattle.desk_model.specs.Desk.{Desk}
+use Rattle.store_tables.specs.Calls.{AreThere, OnlyRefuses, Spares, Tells, WasClean}
+use Rattle.store_tables.specs.Contents.{Contents, contents_of}
+use Rattle.store_tables.specs.Readings.{Blames, HasBadRows, OfDesk, Reads}
+use Rattle.store_tables.specs.Stands.{Tables}
+use Rattle.store_tables.specs.declared.fault.StoreFault.{StoreFault}
+use Rattle.store_tables.specs.declared.fault.StoreFault.TheVariants.{Refused}
+use Rattle.store_tables.proofs.EachTable.{dated_table, entry_table, link_table, queue_table}
+use Rattle.store_tables.proofs.EachTable.{stay_table, watcher_table}
+use Rattle.store_tables.proofs.ReadingLemmas.{if_err, if_ok}
+use Rattle.store_tables.proofs.RowLemmas.{no_bad, only_refused}
+use Rattle.store_tables.proofs.Spared.{joined, stands, there_still}
+
+bad_before : {a b : State} → Spares a b → AreThere a → HasCleanDisk b
+    → IsTrue b.is_open × (HasBadRows b.now ⊎ HasBadRows b.committed)
+    → IsTrue a.is_open × (HasBadRows a.now ⊎ HasBadRows a.committed)
+bad_before {a} kept there clean bad =
+    let it = kept.left there clean bad.0 in (
+      it.0,
+      elim bad.1 [
+        | inl now ↦ elim it.2 [
+          | inl same ↦ inl (subst HasBadRows same now)
+          | inr back ↦ inr (subst HasBadRows back now)
+        ]
+        | inr last ↦ inr (subst HasBadRows it.1 last)
+      ],
+    )
+
+-- a fault is one of whatever was asked
+pub failed : {X Y : Type 0} {P : Contents → X → Type 0} {Q : Contents → Y → Type 0} {a b : State}
+    {e : StoreFault} → Reads P a b (Err e) → Reads Q a b (Err e)
+failed it = record {
+  told = λ c stand clean. tt;
+  kept = it.kept;
+  blames = record { known = it.blames.known; mismatch = it.blames.mismatch };
+}
+
+-- where it is answered as it was
+pub failed_at : {X Y : Type 0} {P : Contents → X → Type 0} {Q : Contents → Y → Type 0} {a b : State}
+    {e : StoreFault} {r : Result Y StoreFault} → Reads P a b (Err e) → r ≡ Err e → Reads Q a b r
+failed_at it is = rw is (failed it)
+
+-- what was read went well, and the answer is made of it, or memory for it is refused
+pub ending : {X Y : Type 0} {P : Contents → X → Type 0} {Q : Contents → Y → Type 0} {a b : State}
+    {x : X} {r : Result Y StoreFault} → IfErr r (λ e. e ≡ Refused)
+    → ((d : Contents) → P d x → IfOk r (Q d)) → Reads P a b (Ok x) → Reads Q a b r
+ending {r = r} fault so it = record {
+  told = λ d stand clean. so d (it.told d stand clean);
+  kept = it.kept;
+  blames = record {
+    known = if_err r (λ e is wrong. cc) fault;
+    mismatch = if_err r (λ e is wrong there clean. absurd (cc)) fault;
+  };
+}
+
+pub refusing : {X Y : Type 0} {P : Contents → X → Type 0} {Q : Contents → Y → Type 0} {a b : State}
+    {x : X} {e : StoreFault} → Reads P a b (Ok x) → e ≡ Refused → Reads Q a b (Err e)
+refusing it is = ending is (λ d p. tt) it
+
+-- two readings, and both answers
+pub then : {X Y : Type 0} {P : Contents → X → Type 0} {Q : Contents → Y → Type 0} {a b c : State}
+    {x : X} {r : Result Y StoreFault} → Reads P a b (Ok x) → Reads Q b c r
+    → Reads (λ d y. P d x × Q d y) a c r
+then {r = r} first second = record {
+  told = λ d stand clean.
+      if_ok r (λ y. λ q. (first.told d stand (second.kept.clean clean), q))
+      (second.told d (stands first.kept d stand) clean);
+  kept = joined first.kept second.kept;
+  blames = record {
+    known = second.blames.known;
+    mismatch = if_err r
+        (λ e blame wrong there clean. bad_before first.kept there (second.kept.clean clean)
+        (blame wrong (there_still first.kept there) clean)) second.blames.mismatch;
+  };
+}
+
+-- what is so of each answer
+pub telling : {X : Type 0} {P Q : Contents → X → Type 0} {a b : State} {r : Result X StoreFault}
+    → ((d : Contents) (x : X) → P d x → Q d x) → Reads P a b r → Reads Q a b r
+telling {r = r} so it = record {
+  told = λ d stand clean. if_ok r (so d) (it.told d stand clean);
+  kept = it.kept;
+  blames = it.blames;
+}
+
+-- another answer is made of the one that was read
+pub giving : {X Y : Type 0} {P : Contents → X → Type 0} {Q : Contents → Y → Type 0} {a b : State}
+    {x : X} {y : Y} → ((d : Contents) → P d x → Q d y) → Reads P a b (Ok x) → Reads Q a b (Ok y)
+giving so it = record {
+  told = λ d stand clean. so d (it.told d stand clean);
+  kept = it.kept;
+  blames = record { known = tt; mismatch = tt };
+}
+
+-- tables that hold values have no bad row
+none_bad : (c : Contents) (db : Database) → Tables c db → HasBadRows db → ⊥
+none_bad c db t bad = elim bad [
+  | inl queue ↦ no_bad queue_table c db t queue
+  | inr (inl request) ↦ no_bad dated_table c db t request
+  | inr (inr (inl watcher)) ↦ no_bad watcher_table c db t watcher
+  | inr (inr (inr (inl link))) ↦ no_bad link_table c db t link
+  | inr (inr (inr (inr (inl entry)))) ↦ no_bad entry_table c db t entry
+  | inr (inr (inr (inr (inr stay)))) ↦ no_bad stay_table c db t stay
+]
+
+-- so the only fault is that the store or memory refused it
+pub blames_none : {X : Type 0} {old new : State} {r : Result X StoreFault} → WasClean old new
+    → Blames old new r → OnlyRefuses old new r
+blames_none {old = old} {r = r} was it c stand clean =
+    only_refused r it.known (λ blame.
+    let bad = blame (λ d o. let t = stand d o in (t.0.schema, t.1.schema)) clean in
+    let t = stand (was clean) bad.0 in
+    elim bad.1 [
+      | inl now ↦ none_bad c old.now t.0 now
+      | inr last ↦ none_bad c old.committed t.1 last
+    ]) it.mismatch
+
+-- what is told of contents is told of the desk whose contents they are
+pub of_desk : {X : Type 0} {P : Desk → X → Type 0} {a b : State} {r : Result X StoreFault}
+    → Reads (OfDesk P) a b r → Tells P a b r
+of_desk {r = r} it desk is stand clean =
+    if_ok r (λ x so. so desk (record { is = is; due = stand.0; same = refl }))
+    (it.told (contents_of stand.0 desk) stand.1 clean)
