@@ -1,7 +1,5 @@
 -- What CREATE TABLE makes.
-use Rattle.std.proofs.Common.{◌≡◌, ◌⊎◌, ℕ, inl, inr, true, false, List, [], ◌∷◌, ◌++◌, None}
-use Rattle.std.proofs.Common.{Err, IfSome, Ok, OnErr, Option, Result, Some, sym, ap, subst, ◌∙◌}
-use Rattle.std.proofs.Common.{refl, arith, length}
+use Rattle.std.proofs.Common.{◌≡◌, ◌⊎◌, ℕ, inl, inr, true, false, List, [], ◌∷◌, ◌++◌, None, Err, IfSome, Ok, OnErr, Option, Result, Some, sym, ap, subst, ◌∙◌, refl, arith, length}
 use Rattle.std.specs.List.{AllByRecursion}
 use Rattle.sqlite.specs.Table.{Table}
 use Rattle.sqlite.specs.Schema.{Schema}
@@ -19,15 +17,15 @@ use Rattle.sqlite.proofs.Callers.{IsPlain, command_of, statement_of, runs_as}
 use Rattle.sqlite_trees.proofs.ListLemmas.{all_both, all-append}
 use Rattle.store_tables.specs.Dated.{dated_columns, id_of}
 use Rattle.store_tables.specs.Kept.{Keeps, Numbers}
-use Rattle.store_tables.specs.Spelling.{entry_columns, link_columns, queue_columns}
-use Rattle.store_tables.specs.Spelling.{stay_columns, watcher_columns}
+use Rattle.store_tables.specs.Spelling.{entry_columns, link_columns, queue_columns, stay_columns, watcher_columns}
 use Rattle.store_tables.specs.Tables.{desk_schema, first_schema}
+use Rattle.store_tables.specs.Calls.{Runs}
 use Rattle.store_tables.specs.Contents.{Contents}
 use Rattle.store_tables.specs.Stands.{FirstStand, GoesBack, HasTables, HoldsNow, Ran, Stand, Tables}
-use Rattle.store_tables.specs.Making.{AreEmpty, IsBlank, IsOfMeta, Made, WasBlank}
+use Rattle.store_tables.specs.declared.fault.StoreFault.{StoreFault}
+use Rattle.store_tables.specs.Making.{AreEmpty, IsOfMeta, Made}
 use Rattle.store_tables.proofs.WriteLemmas.{went, same_value}
-use Rattle.store_core.specs.Migrating.{EitherHolds, EitherStand, EitherTables, Grows, HasEither}
-use Rattle.store_core.specs.Migrating.{IsBlamed, IsGrown, LeavesEither, SixTables, Unmoved}
+use Rattle.store_core.specs.Migrating.{EitherHolds, EitherStand, EitherTables, Grows, HasEither, IsBlamed, IsGrown, LeavesEither, SixTables, Unmoved}
 
 -- what the check computes of the text of a CREATE TABLE
 pub record Creates (base next : Schema) (text : List ℕ) (table : Table) : Type 0 where
@@ -80,13 +78,12 @@ creates base next text table it old new count has none h =
           (all-append (λ (t : Table). new.now.trees t.tree ≡ []) base.tables _ kept (added.2, tt)),
     )
 
-pub makes : (base next : Schema) (text : List ℕ) (table : Table) → Creates base next text table
-    → (old new : State) (count : ℕ) → (HasCleanDisk new → Ran text [] old new count)
-    → (HasCleanDisk new → HasCleanDisk old)
+pub makes : {base next : Schema} {text : List ℕ} {table : Table} → Creates base next text table
+    → {old new : State} {count : ℕ} → Runs (Ran text [] old new) old new (Ok count)
     → Made base old → Made next new
-makes base next text table it old new count ran clean made c o =
-    let r = ran c in
-    let before = made (clean c) r.shown.was_open in
+makes {base} {next} {text} {table} it {old} {new} {count} runs made c o =
+    let r = runs.ran c in
+    let before = made (runs.clean c) r.shown.was_open in
     let done = creates base next text table it old new count before.0 before.1 r.runs in
     (done.0, done.1, r.shown.mode)
 
@@ -102,14 +99,14 @@ idles : (schema : Schema) (text : List ℕ) → Idles schema text → (old new :
 idles schema text it old new count has h =
     (runs_as text [] old new schema has Nothing it.is it.plain count h).0.0.now_is
 
-pub unmoved : (text : List ℕ) → Idles desk_schema text → Idles first_schema text
-    → (old new : State) (count : ℕ) → (HasCleanDisk new → Ran text [] old new count)
-    → (HasCleanDisk new → HasCleanDisk old) → Unmoved old new
-unmoved text all first old new count ran clean has c =
-    let r = ran c in
+pub unmoved : {text : List ℕ} → Idles desk_schema text → Idles first_schema text
+    → {old new : State} {count : ℕ} → Runs (Ran text [] old new) old new (Ok count)
+    → Unmoved old new
+unmoved {text} all first {old} {new} {count} runs has c =
+    let r = runs.ran c in
     let live = r.shown.was_open in (
       live,
-      elim (has (clean c) live) [
+      elim (has (runs.clean c) live) [
         | inl schema ↦ idles desk_schema text all old new count schema r.runs
         | inr schema ↦ idles first_schema text first old new count schema r.runs
       ],
@@ -124,22 +121,21 @@ still_there old new clean stays has c o =
     subst (λ (d : Database). (d.schema ≡ desk_schema) ⊎ (d.schema ≡ first_schema)) (sym it.1)
     (has (clean c) it.0)
 
-pub unmoved_on : (a b c : State) → (HasCleanDisk b → HasCleanDisk a)
-    → (HasCleanDisk c → HasCleanDisk b) → Unmoved a b → Unmoved b c → Unmoved a c
-unmoved_on a b c first last one two has clean =
-    let before = one has (last clean) in
-    let after = two (still_there a b first one has) clean in
+pub unmoved_on : {X Y : Type 0} {P : X → Type 0} {Q : Y → Type 0} {a b c : State} {x : X}
+    {r : Result Y StoreFault} → Runs P a b (Ok x) → Runs Q b c r → Unmoved a b → Unmoved b c → Unmoved a c
+unmoved_on {a = a} {b = b} first last one two has clean =
+    let before = one has (last.clean clean) in
+    let after = two (still_there a b first.clean one has) clean in
     (before.0, after.1 ∙ before.1, after.2)
 
-pub grows : (text : List ℕ) (table : Table) → Creates first_schema desk_schema text table
+pub grows : {text : List ℕ} {table : Table} → Creates first_schema desk_schema text table
     → next_tree first_schema ≡ 10 → Idles desk_schema text
-    → (old new : State) (count : ℕ) → (HasCleanDisk new → Ran text [] old new count)
-    → (HasCleanDisk new → HasCleanDisk old) → Grows old new
-grows text table makes tree all old new count ran clean has c =
-    let r = ran c in
+    → {old new : State} {count : ℕ} → Runs (Ran text [] old new) old new (Ok count) → Grows old new
+grows {text} {table} makes tree all {old} {new} {count} runs has c =
+    let r = runs.ran c in
     let live = r.shown.was_open in (
       live,
-      elim (has (clean c) live) [
+      elim (has (runs.clean c) live) [
         | inl schema ↦ inl (schema, idles desk_schema text all old new count schema r.runs)
         | inr schema ↦
             let it = adds_table first_schema desk_schema text table makes old new count schema
@@ -149,11 +145,11 @@ grows text table makes tree all old new count ran clean has c =
       r.shown.mode,
     )
 
-pub grows_after : (a b c : State) → (HasCleanDisk b → HasCleanDisk a)
-    → (HasCleanDisk c → HasCleanDisk b) → Unmoved a b → Grows b c → Grows a c
-grows_after a b c first last one two has clean =
-    let before = one has (last clean) in
-    let after = two (still_there a b first one has) clean in
+pub grows_after : {X Y : Type 0} {P : X → Type 0} {Q : Y → Type 0} {a b c : State} {x : X}
+    {r : Result Y StoreFault} → Runs P a b (Ok x) → Runs Q b c r → Unmoved a b → Grows b c → Grows a c
+grows_after {a = a} {b = b} {c = c} first last one two has clean =
+    let before = one has (last.clean clean) in
+    let after = two (still_there a b first.clean one has) clean in
     (before.0, subst (λ (d : Database). IsGrown d c.now) before.1 after.1, after.2)
 
 -- ---- what grown tables hold
@@ -245,10 +241,6 @@ module _ {S : Type 0} (g : Ghosts S) (old tx : Held S)
   begins_either c stand =
       subst (λ h. EitherHolds c (state g h)) (sym is) (λ d o. ((stand d o).0, refl))
 
-  -- what goes back to the begun transaction's last commit goes back to that before it
-  pub begins_back : (new : State) → GoesBack (state g tx) new → GoesBack (state g old) new
-  begins_back new back = subst (λ h. GoesBack (state g h) new) is back
-
 pub stand_either : (c : Contents) (s : State) → Stand c s → EitherStand c s
 stand_either c s stand d o = (inl (stand d o).0, inl (stand d o).1)
 
@@ -258,13 +250,6 @@ first_either c s stand d o =
       inr (record { schema = it.0.schema; tables = it.0.tables }),
       inr (record { schema = it.1.schema; tables = it.1.tables }),
     )
-
--- where there was no table, there is none again
-pub back_blank : (old new : State) → WasBlank old → GoesBack old new → IsBlank new
-back_blank old new blank back c o =
-    let it = back c o in
-    let none = blank it.0 it.1 in
-    (ap (λ (d : Database). d.schema) it.2 ∙ none, ap (λ (d : Database). d.schema) it.3 ∙ none)
 
 pub back_either : (c : Contents) (old new : State) → EitherStand c old → GoesBack old new
     → EitherStand c new

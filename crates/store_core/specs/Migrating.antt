@@ -146,7 +146,7 @@ TellsVersion old new result = NeedsKnown old new result × BlamesUnknown old new
 
 -- a row of meta shows no number, or version 1
 abbrev pub IsBlamed : State → Type 0
-IsBlamed s = HasBadRow 0 version_shown IsNumberRow s ⊎ IsOfMeta s 1
+IsBlamed s = HasBadRow 0 version_shown IsNumberRow s.now ⊎ IsOfMeta s 1
 
 -- a mismatch comes only of a row of meta that shows no number, or of tables of version 1
 abbrev pub MismatchesInMaking : {X : Type 0} → State → State → Result X StoreFault → Type 0

@@ -1,8 +1,8 @@
 //! Making the tables, in a transaction.
-ghost use Rattle.std.specs.Prelude.{◌≡◌, ◌≢◌, ℕ, IfErr, IfOk, OnErr, OnOk, Option};
+ghost use Rattle.std.specs.Prelude.{◌≡◌, ◌≢◌, ℕ, IfErr, IfOk, OnErr, OnOk, Option, ⊤};
 ghost use Rattle.sqlite.specs.Held.{state};
 ghost use Rattle.sqlite.specs.State.{HasCleanDisk};
-ghost use Rattle.store_tables.specs.Calls.{Lasts, WasClean};
+ghost use Rattle.store_tables.specs.Calls.{Lasts, Runs, WasClean};
 ghost use Rattle.desk_model.specs.Desk.{Desk};
 ghost use Rattle.desk_model.specs.IsDesk.{IsDesk};
 ghost use Rattle.desk_model.specs.declared.rows.RequestRow.{RequestRow};
@@ -24,17 +24,14 @@ use store_tables::transaction::{finish, run};
 use store_tables::{StoreFault, Tables};
 
 /// Makes the first three tables where they are missing.
-#[tactic(auto, using(store_tables::proofs::Lasting::on))]
 fn make_first<S: Alter>(tx: &mut Transaction<'_, S>) -> Result<(), StoreFault>
     ensures same_reference { tx.new.conn.ghost_name ≡ tx.old.conn.ghost_name }
     ensures made { Made no_schema (state S.Store tx.old.conn.now) →
         OnOk result (Made request_schema (state S.Store tx.new.conn.now)) }
     ensures there { OnOk result
         (Unmoved (state S.Store tx.old.conn.now) (state S.Store tx.new.conn.now)) }
-    ensures keeps { KeepsBase (state S.Store tx.old.conn.now) (state S.Store tx.new.conn.now) }
-    ensures honest { WasClean (state S.Store tx.old.conn.now) (state S.Store tx.new.conn.now) }
-    ensures lasts { Lasts (state S.Store tx.old.conn.now) (state S.Store tx.new.conn.now) }
-    ensures fault { IfErr result (λ e. e ≡ StoreFault.Refused) }
+    ensures runs { Runs (λ done. ⊤)
+        (state S.Store tx.old.conn.now) (state S.Store tx.new.conn.now) result }
 {
     let _ = run(
         tx,
@@ -60,17 +57,14 @@ fn make_first<S: Alter>(tx: &mut Transaction<'_, S>) -> Result<(), StoreFault>
 }
 
 /// Makes the three tables of what belongs to requests where they are missing.
-#[tactic(auto, using(store_tables::proofs::Lasting::on))]
 fn make_next<S: Alter>(tx: &mut Transaction<'_, S>) -> Result<(), StoreFault>
     ensures same_reference { tx.new.conn.ghost_name ≡ tx.old.conn.ghost_name }
     ensures made { Made request_schema (state S.Store tx.old.conn.now) →
         OnOk result (Made first_schema (state S.Store tx.new.conn.now)) }
     ensures there { OnOk result
         (Unmoved (state S.Store tx.old.conn.now) (state S.Store tx.new.conn.now)) }
-    ensures keeps { KeepsBase (state S.Store tx.old.conn.now) (state S.Store tx.new.conn.now) }
-    ensures honest { WasClean (state S.Store tx.old.conn.now) (state S.Store tx.new.conn.now) }
-    ensures lasts { Lasts (state S.Store tx.old.conn.now) (state S.Store tx.new.conn.now) }
-    ensures fault { IfErr result (λ e. e ≡ StoreFault.Refused) }
+    ensures runs { Runs (λ done. ⊤)
+        (state S.Store tx.old.conn.now) (state S.Store tx.new.conn.now) result }
 {
     let _ = run(
         tx,
@@ -104,10 +98,8 @@ fn make_last<S: Alter>(tx: &mut Transaction<'_, S>) -> Result<(), StoreFault>
         OnOk result (Made desk_schema (state S.Store tx.new.conn.now)) }
     ensures grows { OnOk result
         (Grows (state S.Store tx.old.conn.now) (state S.Store tx.new.conn.now)) }
-    ensures keeps { KeepsBase (state S.Store tx.old.conn.now) (state S.Store tx.new.conn.now) }
-    ensures honest { WasClean (state S.Store tx.old.conn.now) (state S.Store tx.new.conn.now) }
-    ensures lasts { Lasts (state S.Store tx.old.conn.now) (state S.Store tx.new.conn.now) }
-    ensures fault { IfErr result (λ e. e ≡ StoreFault.Refused) }
+    ensures runs { Runs (λ done. ⊤)
+        (state S.Store tx.old.conn.now) (state S.Store tx.new.conn.now) result }
 {
     let _ = run(
         tx,
@@ -120,17 +112,14 @@ fn make_last<S: Alter>(tx: &mut Transaction<'_, S>) -> Result<(), StoreFault>
 }
 
 /// Makes the tables that are missing.
-#[tactic(auto, using(store_tables::proofs::Lasting::on))]
 fn make_tables<S: Alter>(tx: &mut Transaction<'_, S>) -> Result<(), StoreFault>
     ensures same_reference { tx.new.conn.ghost_name ≡ tx.old.conn.ghost_name }
     ensures made { Made no_schema (state S.Store tx.old.conn.now) →
         OnOk result (Made desk_schema (state S.Store tx.new.conn.now)) }
     ensures grows { OnOk result
         (Grows (state S.Store tx.old.conn.now) (state S.Store tx.new.conn.now)) }
-    ensures keeps { KeepsBase (state S.Store tx.old.conn.now) (state S.Store tx.new.conn.now) }
-    ensures honest { WasClean (state S.Store tx.old.conn.now) (state S.Store tx.new.conn.now) }
-    ensures lasts { Lasts (state S.Store tx.old.conn.now) (state S.Store tx.new.conn.now) }
-    ensures fault { IfErr result (λ e. e ≡ StoreFault.Refused) }
+    ensures runs { Runs (λ done. ⊤)
+        (state S.Store tx.old.conn.now) (state S.Store tx.new.conn.now) result }
 {
     make_first(tx)?;
     make_next(tx)?;

@@ -1,8 +1,8 @@
 //! The version of the tables, which are brought to the present one.
-ghost use Rattle.std.specs.Prelude.{◌≡◌, ◌≢◌, [], IfErr, IfOk, IfSome, None, OnOk, Some};
+ghost use Rattle.std.specs.Prelude.{◌≡◌, ◌≢◌, [], IfErr, IfOk, IfSome, None, OnOk, Some, ⊤};
 ghost use Rattle.sqlite.specs.Held.{state};
 ghost use Rattle.sqlite.specs.State.{HasCleanDisk};
-ghost use Rattle.store_tables.specs.Calls.{Inside, Lasts, Makes, ShowsRowsOf, WasClean};
+ghost use Rattle.store_tables.specs.Calls.{Inside, Lasts, Makes, Runs, ShowsRowsOf, WasClean};
 ghost use Rattle.store_tables.specs.Contents.{Contents};
 ghost use Rattle.store_tables.specs.Making.{BlamesMeta, Fresh, IsKnown, IsOfMeta, Made};
 ghost use Rattle.store_tables.specs.Making.{ShowsVersion, WrongInside};
@@ -82,10 +82,8 @@ fn add_version<S: Alter>(tx: &mut Transaction<'_, S>) -> Result<(), StoreFault>
     ensures same_reference { tx.new.conn.ghost_name ≡ tx.old.conn.ghost_name }
     ensures fresh { Made desk_schema (state S.Store tx.old.conn.now) →
         OnOk result (Fresh (state S.Store tx.new.conn.now)) }
-    ensures keeps { KeepsBase (state S.Store tx.old.conn.now) (state S.Store tx.new.conn.now) }
-    ensures honest { WasClean (state S.Store tx.old.conn.now) (state S.Store tx.new.conn.now) }
-    ensures lasts { Lasts (state S.Store tx.old.conn.now) (state S.Store tx.new.conn.now) }
-    ensures fault { IfErr result (λ e. e ≡ StoreFault.Refused) }
+    ensures runs { Runs (λ done. ⊤)
+        (state S.Store tx.old.conn.now) (state S.Store tx.new.conn.now) result }
 {
     let _ = run(tx, "INSERT INTO meta (one, version) VALUES (1, 2)", &[])?;
     Ok(())

@@ -1,6 +1,7 @@
 -- Statements in a row: one that changed one row, one after the other, and those of a loop.
 use Rattle.std.proofs.Common.{◌≡◌, ◌+◌, ◌<◌, ◌≤◌, ◌∙◌, ℕ, List, Ok, Err, Result, IfOk, OnOk}
 use Rattle.std.proofs.Common.{ap, fold, get_or, length, refl, subst, sym, take}
+use Rattle.std.specs.Prelude.{⊤}
 use Rattle.std.proofs.lemmas.List.{take_all}
 use Rattle.sqlite.specs.Order.{Row}
 use Rattle.sqlite.specs.State.{State, HasCleanDisk, Executes}
@@ -9,6 +10,7 @@ use Rattle.store_tables.specs.Contents.{Contents}
 use Rattle.store_tables.specs.Stands.{GoesOn, HoldsNow, KeepsBase, Ran, RanOnAny, Tables}
 use Rattle.store_tables.specs.declared.fault.StoreFault.{StoreFault}
 use Rattle.store_tables.proofs.Lasting.{on}
+use Rattle.store_tables.proofs.ReadingLemmas.{if_ok}
 use Rattle.store_tables.proofs.StandLemmas.{fold_more, steps}
 
 if_done : {X E : Type 0} (r : Result X E) (sql : List ℕ) (params : Row) (old new : State)
@@ -74,6 +76,40 @@ kept_on a b c first second clean live =
     let at = second clean live in
     let was = first at.0 at.1 in
     (was.0, was.1, at.2 ∙ was.2)
+
+-- two statements, of which the first went well
+pub runs_both : {X Y : Type 0} {P : X → Type 0} {Q R : Y → Type 0} {a b c : State} {x : X}
+    {r : Result Y StoreFault} → ((y : Y) → Q y → R y) → Runs P a b (Ok x) → Runs Q b c r
+    → Runs R a c r
+runs_both {a = a} {b = b} {c = c} {r = r} so first second = record {
+  ran = λ clean. if_ok r so (second.ran clean);
+  keeps = kept_on a b c first.keeps second.keeps;
+  clean = λ clean. first.clean (second.clean clean);
+  lasts = on second.clean first.lasts second.lasts;
+  refused = second.refused;
+}
+
+-- what it told is not asked for
+pub runs_done : {X Y : Type 0} {P : X → Type 0} {a b : State} {x : X} {y : Y}
+    → Runs P a b (Ok x) → Runs (λ (z : Y). ⊤) a b (Ok y)
+runs_done runs = record {
+  ran = λ clean. tt;
+  keeps = runs.keeps;
+  clean = runs.clean;
+  lasts = runs.lasts;
+  refused = tt;
+}
+
+-- a fault is one of whatever was run, and so it is answered
+pub runs_failed : {X Y : Type 0} {P : X → Type 0} {Q : Y → Type 0} {a b : State} {e : StoreFault}
+    {r : Result Y StoreFault} → Runs P a b (Err e) → r ≡ Err e → Runs Q a b r
+runs_failed runs is = rw is (record {
+  ran = λ clean. tt;
+  keeps = runs.keeps;
+  clean = runs.clean;
+  lasts = runs.lasts;
+  refused = runs.refused;
+})
 
 -- one after the other
 pub does_both : {X Y : Type 0} {first second : Contents → Contents} {a b c : State} {x : X}

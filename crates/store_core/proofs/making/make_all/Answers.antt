@@ -9,7 +9,7 @@ pub returns-clause-brings : goal.returns-clause-brings
 returns-clause-brings g c desk is due holds =
     c.bring_up.ensures.brings desk is due
     (holds_grown (first_contents_of due desk) (state g.S.Store c.args.tx.now.conn.now)
-    (state g.S.Store c.make_tables.new.tx.conn.now) c.make_tables.ensures.honest
+    (state g.S.Store c.make_tables.new.tx.conn.now) c.make_tables.ensures.runs.clean
     c.in_ok-make_tables.ensures.grows holds)
 
 pub returns-clause-mismatch : goal.returns-clause-mismatch
@@ -36,4 +36,4 @@ returns-clause-blames g c has clean =
 
 pub returns-clause-lasts : goal.returns-clause-lasts
 returns-clause-lasts g c =
-    on c.bring_up.ensures.on.clean c.make_tables.ensures.lasts c.bring_up.ensures.on.lasts
+    on c.bring_up.ensures.on.clean c.make_tables.ensures.runs.lasts c.bring_up.ensures.on.lasts

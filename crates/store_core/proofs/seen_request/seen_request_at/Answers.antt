@@ -1,4 +1,4 @@
-use Rattle.std.proofs.Common.{◌∙◌, Some, ap, rules}
+use Rattle.std.proofs.Common.{◌≡◌, Err, ◌∙◌, Some, ap, rules}
 use Rattle.store_tables.proofs.DatedLemmas.{rows_dated}
 use Rattle.store_tables.proofs.ReadOn.{failed_at, giving, refusing, then}
 use Rattle.store_core.proofs.FactsLemmasOfDesk.{none_seen, some_seen}
@@ -30,6 +30,8 @@ returns-in_err-watchers-in-Some g c =
 
 pub returns-in_err-seen_request-in-Some : goal.returns-in_err-seen_request-in-Some
 returns-in_err-seen_request-in-Some g c =
-    failed_at (refusing (then (then c.in_ok-request_numbered.ensures
+    let is : (c.from_residual-in_err-seen_request-in-Some.result
+    ≡ Err c.in_err-seen_request-in-Some.field-0.0) = search rules in
+    rw is (refusing (then (then c.in_ok-request_numbered.ensures
     c.in_ok-entry_count-in-Some.ensures) c.in_ok-watchers-in-Some.ensures)
-    c.in_err-seen_request-in-Some.ensures.fault) (search rules)
+    c.in_err-seen_request-in-Some.ensures.fault)

@@ -25,13 +25,13 @@ returns-in-None-clause-on g c =
       holds = λ d holds. always c.add_version.result (
         d,
         λ clean live. absurd (never_both _ _ c.in-None.is
-            (c.in_ok-read_version.ensures.one d holds (c.add_version.ensures.honest clean))),
+            (c.in_ok-read_version.ensures.one d holds (c.add_version.ensures.runs.clean clean))),
       );
       keeps = λ d holds. keeps_on old middle new
-          (c.read_version.ensures.keeps (desk_is_there d old holds)) c.add_version.ensures.keeps;
-      clean = λ clean. c.read_version.ensures.honest (c.add_version.ensures.honest clean);
-      lasts = on c.add_version.ensures.honest c.read_version.ensures.lasts
-          c.add_version.ensures.lasts;
+          (c.read_version.ensures.keeps (desk_is_there d old holds)) c.add_version.ensures.runs.keeps;
+      clean = λ clean. c.read_version.ensures.honest (c.add_version.ensures.runs.clean clean);
+      lasts = on c.add_version.ensures.runs.clean c.read_version.ensures.lasts
+          c.add_version.ensures.runs.lasts;
     }
 
 pub returns-in-Some-eq1-clause-brings : goal.returns-in-Some-eq1-clause-brings
