@@ -241,6 +241,13 @@ module _ {S : Type 0} (g : Ghosts S) (old tx : Held S)
   begins_either c stand =
       subst (λ h. EitherHolds c (state g h)) (sym is) (λ d o. ((stand d o).0, refl))
 
+-- the tables are there
+pub stand_there : (c : Contents) (s : State) → EitherStand c s → HasEither s
+stand_there c s stand clean live = elim ((stand clean live).0) [
+  | inl t ↦ inl t.schema
+  | inr six ↦ inr six.schema
+]
+
 pub stand_either : (c : Contents) (s : State) → Stand c s → EitherStand c s
 stand_either c s stand d o = (inl (stand d o).0, inl (stand d o).1)
 

@@ -1,6 +1,5 @@
 -- Calls in a transaction, one after another: they hold something still, and the last commit stays.
-use Rattle.std.proofs.Common.{◌≡◌, ◌≢◌, ◌∙◌, ◌+◌, ◌<◌, ◌≤◌, ℕ, List, [], ◌∷◌, length, take}
-use Rattle.std.proofs.Common.{get_or, fold, Ok, Err, IfErr, OnOk, Result, ap, arith, inl, inr, refl, subst, sym}
+use Rattle.std.proofs.Common.{◌≡◌, ◌≢◌, ◌∙◌, ◌+◌, ◌<◌, ◌≤◌, ℕ, List, [], ◌∷◌, length, take, get_or, fold, Ok, Err, IfErr, OnOk, Result, ap, arith, inl, inr, refl, subst, sym}
 use Rattle.std.specs.Prelude.{⊤}
 use Rattle.std.proofs.lemmas.List.{get_or_default}
 use Rattle.sqlite.specs.Effect.{Database}
@@ -8,18 +7,17 @@ use Rattle.sqlite.specs.Order.{Row}
 use Rattle.sqlite.specs.State.{State, HasCleanDisk}
 use Rattle.sqlite_rules.specs.Lists.{Has}
 use Rattle.desk_model.specs.Desk.{Desk}
-use Rattle.store_tables.specs.Calls.{Does, FailsIn, Lasts, Looks, WasClean}
+use Rattle.store_tables.specs.Calls.{Does, FailsIn, Looks, WasClean}
 use Rattle.store_tables.specs.Contents.{Contents}
 use Rattle.store_tables.specs.Picked.{shows}
 use Rattle.store_tables.specs.Queries.{version_shown}
 use Rattle.store_tables.specs.Reading.{IsNumberRow}
-use Rattle.store_tables.specs.Stands.{HoldsNow, KeepsBase, Tables}
+use Rattle.store_tables.specs.Stands.{HasTables, HoldsNow, KeepsBase, Tables}
 use Rattle.store_tables.specs.declared.fault.StoreFault.{StoreFault}
-use Rattle.store_tables.specs.declared.fault.StoreFault.TheVariants.{Mismatch, Refused}
-use Rattle.store_tables.specs.declared.fault.StoreFault.TheVariants.{WrongVersion}
-use Rattle.store_tables.proofs.Lasting.{on}
+use Rattle.store_tables.specs.declared.fault.StoreFault.TheVariants.{Mismatch, Refused, WrongVersion}
+use Rattle.store_tables.proofs.Lasting.{on, same}
 use Rattle.store_tables.proofs.RowLemmas.{TableOf, refuses}
-use Rattle.store_tables.proofs.StandLemmas.{desk_is_there, fold_more}
+use Rattle.store_tables.proofs.StandLemmas.{fold_more}
 use Rattle.store_tables.proofs.ValueLemmas.{values_of}
 use Rattle.store_core.specs.Migrating.{FillsStays, RunsOn, stays_filled}
 use Rattle.store_core.proofs.FactsLemmasOfDesk.{take_all}
@@ -43,50 +41,79 @@ keeps_on a b c one two d o =
     let first = one last.0 last.1 in
     (first.0, first.1, last.2 ∙ first.2)
 
--- where they hold what they held
-pub stays_on : {X : Type 0} (x : X) (a b : State) → ((c : Contents) → HoldsNow c a → HoldsNow c b)
-    → ((c : Contents) → HoldsNow c a → KeepsBase a b) → WasClean a b → Lasts a b
-    → (let r : Result X StoreFault = Ok x in RunsOn a b r)
-stays_on x a b holds keeps clean lasts = record {
-  holds = λ c h. (c, holds c h);
-  keeps = keeps;
-  clean = clean;
-  lasts = lasts;
+-- nothing, a query, and a change
+pub runs_none : {X : Type 0} (x : X) (s : State)
+    → (let r : Result X StoreFault = Ok x in RunsOn s s r)
+runs_none x s = record {
+  holds = λ c h. (c, h);
+  keeps = λ has clean live. (clean, live, refl);
+  goes_on = λ has goes. goes;
+  clean = λ clean. clean;
+  lasts = same s;
 }
 
--- a query, a change, and one after the other
-pub looks_on : {X : Type 0} (a b : State) (r : Result X StoreFault) → Looks a b r → RunsOn a b r
-looks_on a b r looks = record {
+pub looks_on : {X : Type 0} {a b : State} {r : Result X StoreFault} → Looks a b r → RunsOn a b r
+looks_on {r = r} looks = record {
   holds = λ c h. and_then r (λ k. (c, k)) (looks.makes c h);
-  keeps = λ c h. looks.keeps (desk_is_there c a h);
+  keeps = looks.keeps;
+  goes_on = looks.goes_on;
   clean = looks.clean;
   lasts = looks.lasts;
 }
 
-pub does_on : {X : Type 0} (change : Contents → Contents) (a b : State) (r : Result X StoreFault)
+pub does_on : {X : Type 0} {change : Contents → Contents} {a b : State} {r : Result X StoreFault}
     → Does change a b r → RunsOn a b r
-does_on change a b r does = record {
+does_on {change = change} {r = r} does = record {
   holds = λ c h. and_then r (λ k. (change c, k)) (does.makes c h);
-  keeps = λ c h. does.keeps;
+  keeps = λ has. does.keeps;
+  goes_on = λ has. does.goes_on;
   clean = does.clean;
   lasts = does.lasts;
 }
 
-pub runs_then : {X Y : Type 0} (x : X) (a b c : State) (r : Result Y StoreFault)
-    → RunsOn a b (Ok x) → RunsOn b c r → RunsOn a c r
-runs_then x a b c r one two = record {
+-- one after the other, where the first one leaves the tables there
+pub runs_then : {X Y : Type 0} {x : X} {a b c : State} {r : Result Y StoreFault}
+    → RunsOn a b (Ok x) → (HasTables a → HasTables b) → RunsOn b c r → RunsOn a c r
+runs_then {a = a} {b = b} {c = c} one there two = record {
   holds = λ d h. let it = one.holds d h in two.holds it.0 it.1;
-  keeps = λ d h. let it = one.holds d h in keeps_on a b c (one.keeps d h) (two.keeps it.0 it.1);
+  keeps = λ has. keeps_on a b c (one.keeps has) (two.keeps (there has));
+  goes_on = λ has goes. two.goes_on (there has) (one.goes_on has goes);
   clean = λ d. one.clean (two.clean d);
   lasts = on two.clean one.lasts two.lasts;
 }
 
+-- a change that comes last
+pub runs_does : {X Y : Type 0} {x : X} {change : Contents → Contents} {a b c : State}
+    {r : Result Y StoreFault} → RunsOn a b (Ok x) → Does change b c r → RunsOn a c r
+runs_does {change = change} {a = a} {b = b} {c = c} {r = r} one does = record {
+  holds = λ d h. let it = one.holds d h in and_then r (λ k. (change it.0, k)) (does.makes it.0 it.1);
+  keeps = λ has. keeps_on a b c (one.keeps has) does.keeps;
+  goes_on = λ has goes. does.goes_on (one.goes_on has goes);
+  clean = λ d. one.clean (does.clean d);
+  lasts = on does.clean one.lasts does.lasts;
+}
+
+-- where the answer is another, of what went well
+pub runs_as : {X Y : Type 0} {x : X} (y : Y) {a b : State} → RunsOn a b (Ok x)
+    → (let r : Result Y StoreFault = Ok y in RunsOn a b r)
+runs_as y runs = record {
+  holds = runs.holds;
+  keeps = runs.keeps;
+  goes_on = runs.goes_on;
+  clean = runs.clean;
+  lasts = runs.lasts;
+}
+
 -- a fault is one of whatever was asked for
-pub runs_failed : {X Y : Type 0} (e f : StoreFault) (a b : State)
-    → (let r : Result X StoreFault = Err e in RunsOn a b r)
-    → (let r : Result Y StoreFault = Err f in RunsOn a b r)
-runs_failed e f a b runs =
-    record { holds = λ c h. tt; keeps = runs.keeps; clean = runs.clean; lasts = runs.lasts }
+pub on_failed : {X Y : Type 0} {e : StoreFault} {a b : State} {r : Result Y StoreFault}
+    → RunsOn {X = X} a b (Err e) → r ≡ Err e → RunsOn a b r
+on_failed runs is = rw is (record {
+  holds = λ c h. tt;
+  keeps = runs.keeps;
+  goes_on = λ has goes. tt;
+  clean = runs.clean;
+  lasts = runs.lasts;
+})
 
 -- over tables that hold values, a list is read or refused
 pub inside_refused : {K V : Type 0} (t : TableOf K V) (a b : State) → WasClean a b

@@ -13,7 +13,8 @@ use Rattle.store_tables.specs.Contents.{Contents, add_stay, contents_of, first_c
 use Rattle.store_tables.specs.Making.{IsKnown, IsOfMeta}
 use Rattle.store_tables.specs.Queries.{version_shown}
 use Rattle.store_tables.specs.Reading.{IsNumberRow}
-use Rattle.store_tables.specs.Stands.{FirstStand, HoldsNow, KeepsBase, Stand, Tables}
+use Rattle.store_tables.specs.Stands.{FirstStand, GoesOn, HasTables, HoldsNow, KeepsBase, Stand}
+use Rattle.store_tables.specs.Stands.{Tables}
 use Rattle.store_tables.specs.Stands.{with_no_stays}
 use Rattle.store_tables.specs.Stays.{stay_rows}
 use Rattle.store_tables.specs.Tables.{desk_schema, first_schema}
@@ -89,11 +90,12 @@ BringsUp old new result =
     → HoldsNow (first_contents_of due desk) old
     → OnOk result (HoldsNow (contents_of due desk) new)
 
--- whatever the tables hold, they hold something after it, and the last commit stays; the connection
--- lasts
+-- whatever the tables hold, they hold something after it; where they are there, with any rows, the
+-- last commit stays, and the transaction goes on; the connection lasts
 pub record RunsOn {X : Type 0} (old new : State) (result : Result X StoreFault) : Type 0 where
   pub holds : (c : Contents) → HoldsNow c old → OnOk result ((d : Contents) × HoldsNow d new)
-  pub keeps : (c : Contents) → HoldsNow c old → KeepsBase old new
+  pub keeps : HasTables old → KeepsBase old new
+  pub goes_on : HasTables old → GoesOn old → OnOk result (GoesOn new)
   pub clean : WasClean old new
   pub lasts : Lasts old new
 

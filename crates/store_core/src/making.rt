@@ -9,10 +9,10 @@ ghost use Rattle.desk_model.specs.declared.rows.RequestRow.{RequestRow};
 ghost use Rattle.store_tables.specs.Contents.{Contents, contents_of, first_contents_of};
 ghost use Rattle.store_tables.specs.Contents.{no_contents};
 ghost use Rattle.store_tables.specs.Making.{Fresh, IsBlank, IsKnown, Made};
-ghost use Rattle.store_tables.specs.Stands.{FirstStand, GoesBack, HoldsNow, KeepsBase, Stand};
+ghost use Rattle.store_tables.specs.Stands.{FirstStand, GoesBack, GoesOn, HoldsNow, KeepsBase, Stand};
 ghost use Rattle.store_tables.specs.Tables.{desk_schema, first_schema, no_schema, request_schema};
 ghost use Rattle.store_tables.specs.declared.fault.StoreFault.{StoreFault};
-ghost use Rattle.store_core.specs.Migrating.{BlamesUnknown, EitherHolds, EitherStand, Grows};
+ghost use Rattle.store_core.specs.Migrating.{BlamesUnknown, EitherHolds, Grows, HasEither};
 ghost use Rattle.store_core.specs.Migrating.{MismatchesInMaking, NeedsKnown, RefusesKnown};
 ghost use Rattle.store_core.specs.Migrating.{Unmoved};
 ghost use Rattle.store_tables.specs.Seen.{seen};
@@ -139,8 +139,10 @@ fn make_all<S: Alter>(alloc: Global, tx: &mut Transaction<'_, S>) -> Result<(), 
         OnOk result (HoldsNow (contents_of due desk) (state S.Store tx.new.conn.now)) }
     ensures holds { (c : Contents) → EitherHolds c (state S.Store tx.old.conn.now) →
         OnOk result ((d : Contents) × HoldsNow d (state S.Store tx.new.conn.now)) }
-    ensures keeps { (c : Contents) → EitherHolds c (state S.Store tx.old.conn.now) →
+    ensures keeps { HasEither (state S.Store tx.old.conn.now) →
         KeepsBase (state S.Store tx.old.conn.now) (state S.Store tx.new.conn.now) }
+    ensures goes_on { HasEither (state S.Store tx.old.conn.now) →
+        OnOk result (GoesOn (state S.Store tx.new.conn.now)) }
     ensures keeps_none { Made no_schema (state S.Store tx.old.conn.now) →
         KeepsBase (state S.Store tx.old.conn.now) (state S.Store tx.new.conn.now) }
     ensures known { (c : Contents) → EitherHolds c (state S.Store tx.old.conn.now) →
@@ -181,7 +183,7 @@ pub(crate) fn make_schema<S: Alter>(alloc: Global, tables: &mut Tables<S>) -> Re
     ensures brings { (desk : Desk) → IsDesk desk → (due : RequestRow → Option ℕ) →
         FirstStand (first_contents_of due desk) (seen S.Store tables.old) →
         OnOk result (Stand (contents_of due desk) (seen S.Store tables.new)) }
-    ensures back { (c : Contents) → EitherStand c (seen S.Store tables.old) →
+    ensures back { HasEither (seen S.Store tables.old) →
         OnErr result (GoesBack (seen S.Store tables.old) (seen S.Store tables.new)) }
     ensures honest { WasClean (seen S.Store tables.old) (seen S.Store tables.new) }
     ensures lasts { Lasts (seen S.Store tables.old) (seen S.Store tables.new) }

@@ -1,8 +1,9 @@
 //! The stays of tables of version 1 are filled in, in a transaction.
-ghost use Rattle.std.specs.Prelude.{◌≡◌, ◌≢◌, ◌∷◌, [], IfErr, IfOk};
+ghost use Rattle.std.specs.Prelude.{◌≡◌, ◌≢◌, ◌∷◌, [], IfErr, IfOk, OnOk};
 ghost use Rattle.sqlite.specs.Held.{state};
 ghost use Rattle.desk_model.specs.IsDesk.{ids};
 ghost use Rattle.desk_model.specs.Stays as spec;
+ghost use Rattle.store_tables.specs.Stands.{HasTables};
 ghost use Rattle.store_tables.specs.declared.fault.StoreFault.{StoreFault};
 ghost use Rattle.store_core.specs.Migrating.{BringsUp, FillsStays, RefusesOn, RunsOn};
 
@@ -32,6 +33,8 @@ fn fill_one<S: Alter>(alloc: Global, tx: &mut Transaction<'_, S>, id: u32) -> Re
     ensures same_reference { tx.new.conn.ghost_name ≡ tx.old.conn.ghost_name }
     ensures fills { FillsStays (λ desk. id ∷ [])
         (state S.Store tx.old.conn.now) (state S.Store tx.new.conn.now) result }
+    ensures there { HasTables (state S.Store tx.old.conn.now) →
+        OnOk result (HasTables (state S.Store tx.new.conn.now)) }
     ensures on { RunsOn (state S.Store tx.old.conn.now) (state S.Store tx.new.conn.now) result }
     ensures refuses { RefusesOn
         (state S.Store tx.old.conn.now) (state S.Store tx.new.conn.now) result }

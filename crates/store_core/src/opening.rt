@@ -5,7 +5,7 @@ ghost use Rattle.store_tables.specs.Calls.{Answers, Lasts, Spares, WasClean};
 ghost use Rattle.store_tables.specs.Making.{IsBlank, MakesDesk, RefusesBlank};
 ghost use Rattle.store_tables.specs.Mismatches.{MismatchesInMeta};
 ghost use Rattle.store_tables.specs.declared.fault.StoreFault.{StoreFault};
-ghost use Rattle.store_core.specs.Migrating.{LeavesEither, LeavesOthers, MigratesDesk};
+ghost use Rattle.store_core.specs.Migrating.{HasEither, LeavesEither, LeavesOthers, MigratesDesk};
 ghost use Rattle.store_core.specs.Migrating.{MismatchesInMaking, RefusesKnown, TellsVersion};
 ghost use Rattle.store_core.specs.Seen.{connection_of, state_of};
 
@@ -54,8 +54,8 @@ impl<S: Alter> Store<S> {
     /// one transaction. `WrongVersion` where the tables are of another version, `Mismatch` where
     /// their version is no number, or, in tables of version 1, the number of a request or an entry
     /// is no value of its type, `Refused` where the store or memory refuses it. A fault leaves the
-    /// tables as they were, where there was none, or the six without that of stays, or all seven.
-    /// Tables of version 2 stay as they are.
+    /// tables as they were, where there was none, or the six without that of stays, or all seven,
+    /// whatever rows they have. Tables of version 2 stay as they are.
     pub fn create_schema(&mut self, alloc: Global) -> Result<(), StoreFault>
         ensures made { MakesDesk (state_of S.Store self.old) (state_of S.Store self.new) result }
         ensures migrated { MigratesDesk
@@ -63,6 +63,8 @@ impl<S: Alter> Store<S> {
         ensures kept { LeavesOthers (state_of S.Store self.old) (state_of S.Store self.new) }
         ensures undone { OnErr result
             (LeavesEither (state_of S.Store self.old) (state_of S.Store self.new)) }
+        ensures spared { HasEither (state_of S.Store self.old) →
+            OnErr result (Spares (state_of S.Store self.old) (state_of S.Store self.new)) }
         ensures honest { WasClean (state_of S.Store self.old) (state_of S.Store self.new) }
         ensures lasts { Lasts (state_of S.Store self.old) (state_of S.Store self.new) }
         ensures version { TellsVersion

@@ -2,13 +2,13 @@
 ghost use Rattle.std.specs.Prelude.{◌≡◌, ◌≢◌, [], IfErr, IfOk, IfSome, None, OnOk, Some, ⊤};
 ghost use Rattle.sqlite.specs.Held.{state};
 ghost use Rattle.sqlite.specs.State.{HasCleanDisk};
-ghost use Rattle.store_tables.specs.Calls.{Inside, Lasts, Makes, Runs, ShowsRowsOf, WasClean};
+ghost use Rattle.store_tables.specs.Calls.{Inside, Looks, Runs, ShowsRowsOf};
 ghost use Rattle.store_tables.specs.Contents.{Contents};
 ghost use Rattle.store_tables.specs.Making.{BlamesMeta, Fresh, IsKnown, IsOfMeta, Made};
 ghost use Rattle.store_tables.specs.Making.{ShowsVersion, WrongInside};
 ghost use Rattle.store_tables.specs.Mismatches.{MismatchesInMeta};
 ghost use Rattle.store_tables.specs.Queries.{version_shown};
-ghost use Rattle.store_tables.specs.Stands.{HasTables, HoldsNow, KeepsBase};
+ghost use Rattle.store_tables.specs.Stands.{GoesOn, HasTables, HoldsNow};
 ghost use Rattle.store_tables.specs.Tables.{desk_schema};
 ghost use Rattle.store_tables.specs.declared.fault.StoreFault.{StoreFault};
 ghost use Rattle.store_core.specs.Migrating.{BringsUp, IsBlamed, RefusesOn, RunsOn};
@@ -21,7 +21,6 @@ use store_tables::reads::version::version_in;
 use store_tables::transaction::run;
 
 /// The rows of the version.
-#[tactic(auto, using(store_tables::proofs::Lasting::by))]
 fn version_rows<S: Alter>(tx: &mut Transaction<'_, S>) -> Result<Vec<Row>, StoreFault>
     ensures same_reference { tx.new.conn.ghost_name ≡ tx.old.conn.ghost_name }
     ensures none { Made desk_schema (state S.Store tx.old.conn.now) →
@@ -30,12 +29,8 @@ fn version_rows<S: Alter>(tx: &mut Transaction<'_, S>) -> Result<Vec<Row>, Store
         (state S.Store tx.old.conn.now) (state S.Store tx.new.conn.now) result }
     ensures made { Made desk_schema (state S.Store tx.old.conn.now) →
         OnOk result (Made desk_schema (state S.Store tx.new.conn.now)) }
-    ensures there { Makes (λ c. c)
+    ensures looks { Looks
         (state S.Store tx.old.conn.now) (state S.Store tx.new.conn.now) result }
-    ensures keeps { HasTables (state S.Store tx.old.conn.now) →
-        KeepsBase (state S.Store tx.old.conn.now) (state S.Store tx.new.conn.now) }
-    ensures honest { WasClean (state S.Store tx.old.conn.now) (state S.Store tx.new.conn.now) }
-    ensures lasts { Lasts (state S.Store tx.old.conn.now) (state S.Store tx.new.conn.now) }
     ensures of_table { ShowsRowsOf 0 version_shown (λ rows. rows.items)
         (state S.Store tx.old.conn.now) (state S.Store tx.new.conn.now) result }
     ensures fault { IfErr result (λ e. e ≡ StoreFault.Refused) }
@@ -58,12 +53,8 @@ fn read_version<S: Alter>(tx: &mut Transaction<'_, S>) -> Result<Option<u32>, St
         (state S.Store tx.old.conn.now) (state S.Store tx.new.conn.now) result }
     ensures made { Made desk_schema (state S.Store tx.old.conn.now) →
         OnOk result (Made desk_schema (state S.Store tx.new.conn.now)) }
-    ensures there { Makes (λ c. c)
+    ensures looks { Looks
         (state S.Store tx.old.conn.now) (state S.Store tx.new.conn.now) result }
-    ensures keeps { HasTables (state S.Store tx.old.conn.now) →
-        KeepsBase (state S.Store tx.old.conn.now) (state S.Store tx.new.conn.now) }
-    ensures honest { WasClean (state S.Store tx.old.conn.now) (state S.Store tx.new.conn.now) }
-    ensures lasts { Lasts (state S.Store tx.old.conn.now) (state S.Store tx.new.conn.now) }
     ensures refuses { RefusesOn
         (state S.Store tx.old.conn.now) (state S.Store tx.new.conn.now) result }
     ensures mismatch { MismatchesInMeta
@@ -84,6 +75,7 @@ fn add_version<S: Alter>(tx: &mut Transaction<'_, S>) -> Result<(), StoreFault>
         OnOk result (Fresh (state S.Store tx.new.conn.now)) }
     ensures runs { Runs (λ done. ⊤)
         (state S.Store tx.old.conn.now) (state S.Store tx.new.conn.now) result }
+    ensures goes_on { OnOk result (GoesOn (state S.Store tx.new.conn.now)) }
 {
     let _ = run(tx, "INSERT INTO meta (one, version) VALUES (1, 2)", &[])?;
     Ok(())
@@ -104,8 +96,6 @@ pub(crate) fn bring_up<S: Alter>(
     ensures brings { BringsUp
         (state S.Store tx.old.conn.now) (state S.Store tx.new.conn.now) result }
     ensures on { RunsOn (state S.Store tx.old.conn.now) (state S.Store tx.new.conn.now) result }
-    ensures keeps_new { Made desk_schema (state S.Store tx.old.conn.now) →
-        KeepsBase (state S.Store tx.old.conn.now) (state S.Store tx.new.conn.now) }
     ensures known { Inside (λ c done. IsKnown c.version)
         (state S.Store tx.old.conn.now) (state S.Store tx.new.conn.now) result }
     ensures wrong { WrongInside

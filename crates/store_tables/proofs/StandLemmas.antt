@@ -98,27 +98,11 @@ module _ {S : Type 0} (g : Ghosts S) (sql : List ℕ) (params : Row) (old new : 
     | inr it ↦ (clean c, it.2.0.was_open, it.2.0.committed_is)
   ]
 
-pub committed_stands : (now : Contents) (old new : State)
-    → (HasCleanDisk new → HasCleanDisk old) → (HasCleanDisk new
-    → Shows old new old.now old.now false) → HoldsNow now old → Stand now new
-committed_stands now old new clean shows holds c o =
-    let it = shows c in let before = holds (clean c) it.was_open in
-    (subst (Tables now) (sym it.now_is) before.0, subst (Tables now) (sym it.committed_is) before.0)
-
 -- what is undone is as the last commit left it
 pub undone_back : (old new : State) → (HasCleanDisk new → HasCleanDisk old)
     → (HasCleanDisk new → IsRolledBack old new) → GoesBack old new
 undone_back old new clean undone c o =
     let it = undone c in (clean c, it.was_open o, (it.undone o).0, (it.undone o).1)
-
-pub uncommitted_back : (old new : State) (e : Error)
-    → (HasCleanDisk new → HasCleanDisk old) → (HasCleanDisk new → FailsToCommit old new e)
-    → GoesOn old → GoesBack old new
-uncommitted_back old new e clean fails goes c o = elim (fails c) [
-  | inl failed ↦ undone_back old new clean (λ _. failed.3) c o
-  | inr late ↦ absurd (let e : true ≡ false =
-      sym (goes (clean c) late.2.0.was_open) ∙ late.1 in cc)
-]
 
 -- and so is what was done before, while the last commit stayed
 pub back_on : (a b end : State) → KeepsBase a b → GoesBack b end → GoesBack a end
@@ -147,10 +131,6 @@ back_first d old new rests back c o =
 pub begins_on : {S : Type 0} (g : Ghosts S) (old tx : Held S)
     → tx ≡ record old { in_transaction = true } → GoesOn (state g tx)
 begins_on g old tx is = subst (λ h. GoesOn (state g h)) (sym is) (λ c o. refl)
-
--- where the tables hold values in a transaction, it goes on
-pub holding_on : (c : Contents) (s : State) → HoldsNow c s → GoesOn s
-holding_on c s holds clean live = (holds clean live).1
 
 -- from its begin on, up to an end that goes back
 pub begun_back : {S X E : Type 0} (g : Ghosts S) (old tx : Held S) (mid end : State)
@@ -262,6 +242,11 @@ module _ (sql : List ℕ) (params : Row) (old new : State)
           let h = shown d in
           let before = holds (clean d) (shown_open sql params old new rows h) in
           same_holds c old new (shown_same sql params old new rows plain before.0.schema h) before;
+      there = λ has d o.
+          let h = shown d in
+          let was = has (clean d) (shown_open sql params old new rows h) in
+          let same = shown_same sql params old new rows plain was h in
+          ap (λ (e : Database). e.schema) same.0.now_is ∙ was;
       keeps = λ has. shown_keeps sql params old new rows plain clean has shown;
       goes_on = λ has goes d o.
           let h = shown d in
@@ -277,24 +262,15 @@ module _ (sql : List ℕ) (params : Row) (old new : State)
         → Looks {X = X} old new (Err Refused)
     failed_looks e fails = record {
       makes = λ c holds. tt;
+      there = λ has. tt;
       keeps = λ has. failed_keeps sql params old new e plain clean has fails;
       goes_on = λ has goes. tt;
       clean = clean;
       lasts = lasts;
     }
 
--- a transaction that is dropped goes back to what was before it
-pub dropped_back : (a b end : State) → KeepsBase a b
-    → (HasCleanDisk end → HasCleanDisk b) → (HasCleanDisk end → IsRolledBack b end)
-    → GoesBack a end
-dropped_back a b end keeps clean undone = back_on a b end keeps (undone_back b end clean undone)
-
 pub desk_is_there : (c : Contents) (s : State) → HoldsNow c s → HasTables s
 desk_is_there c s holds clean live = (holds clean live).0.schema
-
-pub begins_blank : {S : Type 0} (g : Ghosts S) (old tx : Held S)
-    → tx ≡ record old { in_transaction = true } → IsBlank (state g old) → WasBlank (state g tx)
-begins_blank g old tx is blank = subst (λ h. WasBlank (state g h)) (sym is) (λ c o. (blank c o).1)
 
 pub either_way : {T E P : Type 0} (r : Result T E) → OnOk r P → OnErr r P → P
 either_way (Ok x) p q = p

@@ -90,6 +90,14 @@ new_stay db s = rw (
   cast_moment s.stay.until,
 )
 
+-- whatever rows the tables have, a stay that is added leaves their schema
+pub stay_there : (s : StayRow) (old new : State) → old.now.schema ≡ desk_schema
+    → Executes add_stay_text (stay_columns s) old new (Ok 1) → new.now.schema ≡ desk_schema
+stay_there s old new has h =
+    (adds add_stay_text (stay_columns s) 6 6 add_stay_terms stay
+    (Int (next_rowid (old.now.trees 10)) ∷ stay_columns s) old new 1 add_stay_is refl refl
+    (new_stay old.now.trees s) has h).schema
+
 pub adds_stay : (d : Contents) (s : StayRow) (old new : State) (count : ℕ)
     → IsStayRow (stay_columns s) → Tables d old.now
     → Executes add_stay_text (stay_columns s) old new (Ok count) → Tables (add_stay d s) new.now

@@ -7,7 +7,9 @@ use Rattle.sqlite.specs.Order.{Row}
 use Rattle.sqlite.specs.State.{State, HasCleanDisk, Executes}
 use Rattle.store_tables.specs.Calls.{Does, Runs}
 use Rattle.store_tables.specs.Contents.{Contents}
-use Rattle.store_tables.specs.Stands.{GoesOn, HoldsNow, KeepsBase, Ran, RanOnAny, Tables}
+use Rattle.store_tables.specs.Stands.{GoesOn, HasTables, HoldsNow, KeepsBase, Ran, RanOnAny}
+use Rattle.store_tables.specs.Stands.{Tables}
+use Rattle.store_tables.specs.Tables.{desk_schema}
 use Rattle.store_tables.specs.declared.fault.StoreFault.{StoreFault}
 use Rattle.store_tables.proofs.Lasting.{on}
 use Rattle.store_tables.proofs.ReadingLemmas.{if_ok}
@@ -110,6 +112,16 @@ runs_failed runs is = rw is (record {
   lasts = runs.lasts;
   refused = runs.refused;
 })
+
+-- the tables are there still after one that leaves their schema, with any rows
+pub ran_there : {X : Type 0} (r : Result X StoreFault) {sql : List ℕ} {params : Row}
+    {old new : State} → Runs (λ done. Ran sql params old new 1) old new r
+    → (old.now.schema ≡ desk_schema → Executes sql params old new (Ok 1)
+    → new.now.schema ≡ desk_schema)
+    → HasTables old → OnOk r (HasTables new)
+ran_there (Ok x) runs keeps has = λ clean live.
+    let it = runs.ran clean in keeps (has (runs.clean clean) it.shown.was_open) it.runs
+ran_there (Err e) runs keeps has = tt
 
 -- one after the other
 pub does_both : {X Y : Type 0} {first second : Contents → Contents} {a b c : State} {x : X}

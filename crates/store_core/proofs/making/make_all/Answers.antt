@@ -3,6 +3,8 @@ use Rattle.store_tables.specs.Contents.{first_contents_of}
 use Rattle.store_tables.proofs.Lasting.{on}
 use Rattle.store_tables.proofs.ReadingLemmas.{if_err}
 use Rattle.store_core.proofs.MakeLemmas.{blamed_before, grown_there, holds_grown, of_meta_before}
+use Rattle.store_tables.proofs.StandLemmas.{made_is_there}
+use Rattle.store_core.proofs.RunLemmas.{keeps_on}
 use Rattle.store_core.proofs.making.make_all.Goals as goal
 
 pub returns-clause-brings : goal.returns-clause-brings
@@ -37,3 +39,26 @@ returns-clause-blames g c has clean =
 pub returns-clause-lasts : goal.returns-clause-lasts
 returns-clause-lasts g c =
     on c.bring_up.ensures.on.clean c.make_tables.ensures.runs.lasts c.bring_up.ensures.on.lasts
+
+pub returns-clause-keeps : goal.returns-clause-keeps
+returns-clause-keeps g c has =
+    let old = state g.S.Store c.args.tx.now.conn.now in
+    let middle = state g.S.Store c.make_tables.new.tx.conn.now in
+    keeps_on old middle (state g.S.Store c.bring_up.new.tx.conn.now)
+    c.make_tables.ensures.runs.keeps
+    (c.bring_up.ensures.on.keeps (grown_there old middle c.in_ok-make_tables.ensures.grows has))
+
+pub returns-clause-keeps_none : goal.returns-clause-keeps_none
+returns-clause-keeps_none g c none =
+    let middle = state g.S.Store c.make_tables.new.tx.conn.now in
+    keeps_on (state g.S.Store c.args.tx.now.conn.now) middle
+    (state g.S.Store c.bring_up.new.tx.conn.now) c.make_tables.ensures.runs.keeps
+    (c.bring_up.ensures.on.keeps (made_is_there middle (c.in_ok-make_tables.ensures.made none)))
+
+pub returns-clause-goes_on : goal.returns-clause-goes_on
+returns-clause-goes_on g c has =
+    let old = state g.S.Store c.args.tx.now.conn.now in
+    let middle = state g.S.Store c.make_tables.new.tx.conn.now in
+    let grown = c.in_ok-make_tables.ensures.grows in
+    c.bring_up.ensures.on.goes_on (grown_there old middle grown has)
+    (λ clean live. (grown has clean).2)

@@ -2,9 +2,8 @@ use Rattle.std.proofs.Common.{◌≡◌, Err, rules}
 use Rattle.sqlite.specs.Held.{state}
 use Rattle.store_tables.specs.Contents.{contents_of, first_contents_of}
 use Rattle.store_tables.proofs.Lasting.{by, through}
-use Rattle.store_tables.proofs.StandLemmas.{was_clean}
-use Rattle.store_core.proofs.MakeLemmas.{begins_blamed, begins_either, begins_of_meta, begins_there}
-use Rattle.store_core.proofs.MakeLemmas.{first_either, stand_either}
+use Rattle.store_tables.proofs.StandLemmas.{begun_back, was_clean}
+use Rattle.store_core.proofs.MakeLemmas.{begins_blamed, begins_either, begins_of_meta, begins_there, first_either, stand_either}
 use Rattle.store_core.proofs.making.make_schema.Goals as goal
 
 pub returns-in_err-make_all-clause-blames : goal.returns-in_err-make_all-clause-blames
@@ -59,3 +58,13 @@ returns-clause-lasts g c =
     (state g.S.Store c.make_all.new.tx.conn.now) (state g.S.Store c.finish.new.tx.0)
     c.transaction-tx.ensures.begun c.make_all.ensures.honest c.make_all.ensures.lasts
     c.finish.ensures.honest c.finish.ensures.lasts
+
+pub returns-clause-back : goal.returns-clause-back
+returns-clause-back g c has =
+    let old = c.args.tables.now.conn in
+    let tx = c.transaction-tx.result.conn.now in
+    let begun = c.transaction-tx.ensures.begun in
+    let there = begins_there g.S.Store old tx begun has in
+    begun_back g.S.Store old tx (state g.S.Store c.make_all.new.tx.conn.now)
+    (state g.S.Store c.finish.new.tx.0) c.finish.result begun (c.make_all.ensures.keeps there)
+    (c.finish.ensures.back (c.in_ok-make_all.ensures.goes_on there))

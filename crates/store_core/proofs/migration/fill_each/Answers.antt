@@ -1,7 +1,7 @@
 use Rattle.std.proofs.Common.{length, refl, rules, ◌<◌, ◌≤◌}
 use Rattle.sqlite.specs.Held.{state}
 use Rattle.store_tables.proofs.Lasting.{same}
-use Rattle.store_core.proofs.RunLemmas.{fills_all, fills_more, runs_then, stays_on}
+use Rattle.store_core.proofs.RunLemmas.{fills_all, fills_more, runs_none, runs_then}
 use Rattle.store_core.proofs.migration.fill_each.Goals as goal
 
 pub loop-id-init : goal.loop-id-init
@@ -10,8 +10,8 @@ loop-id-init g c =
     record {
       same = refl;
       fills = λ desk formed due d dated entries holds. holds;
-      on = stays_on tt old old (λ d holds. holds) (λ d holds clean live. (clean, live, refl))
-          (λ clean. clean) (same old);
+      there = λ has. has;
+      on = runs_none tt old;
     }
 
 pub loop-id-preserved : goal.loop-id-preserved
@@ -26,7 +26,8 @@ loop-id-preserved g c =
       same = search rules;
       fills = fills_more ids i old now new low c.loop-id.invariant.fills
           c.in_ok-fill_one.ensures.fills;
-      on = runs_then tt old now new _ c.loop-id.invariant.on c.in_ok-fill_one.ensures.on;
+      there = λ has. c.in_ok-fill_one.ensures.there (c.loop-id.invariant.there has);
+      on = runs_then c.loop-id.invariant.on c.loop-id.invariant.there c.in_ok-fill_one.ensures.on;
     }
 
 pub returns-clause-fills : goal.returns-clause-fills

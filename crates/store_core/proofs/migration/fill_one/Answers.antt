@@ -32,9 +32,8 @@ returns-in_err-entries-clause-refuses g c d holds clean =
 
 pub returns-clause-on : goal.returns-clause-on
 returns-clause-on g c =
-    let old = state g.S.Store c.args.tx.now.conn.now in
-    let middle = state g.S.Store c.entries_of.new.tx.conn.now in
-    let new = state g.S.Store c.put_stays.new.tx.conn.now in
-    runs_then c.in_ok-entries.entries old middle new c.put_stays.result
-    (looks_on old middle _ c.in_ok-entries.ensures.looks)
-    (does_on _ middle new c.put_stays.result c.put_stays.ensures.put)
+    runs_then (looks_on c.in_ok-entries.ensures.looks) c.in_ok-entries.ensures.looks.there
+    (does_on c.put_stays.ensures.put)
+
+pub returns-clause-there : goal.returns-clause-there
+returns-clause-there g c has = c.put_stays.ensures.there (c.in_ok-entries.ensures.looks.there has)

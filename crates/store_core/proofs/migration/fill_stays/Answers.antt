@@ -29,8 +29,5 @@ returns-in_err-ids-clause-refuses g c d holds clean =
 
 pub returns-clause-on : goal.returns-clause-on
 returns-clause-on g c =
-    let old = state g.S.Store c.args.tx.now.conn.now in
-    let middle = state g.S.Store c.numbers.new.tx.conn.now in
-    let new = state g.S.Store c.fill_each.new.tx.conn.now in
-    runs_then c.in_ok-ids.ids old middle new c.fill_each.result
-    (looks_on old middle _ c.in_ok-ids.ensures.looks) c.fill_each.ensures.on
+    runs_then (looks_on c.in_ok-ids.ensures.looks) c.in_ok-ids.ensures.looks.there
+    c.fill_each.ensures.on

@@ -2,7 +2,7 @@ use Rattle.std.proofs.Common.{refl}
 use Rattle.sqlite.specs.Held.{state}
 use Rattle.store_tables.specs.Contents.{first_contents_of}
 use Rattle.store_core.proofs.MigrationLemmas.{migrated_alike}
-use Rattle.store_core.proofs.RunLemmas.{and_then, does_on, runs_then}
+use Rattle.store_core.proofs.RunLemmas.{and_then, runs_does}
 use Rattle.store_core.proofs.StandsAlike.{now_alike}
 use Rattle.store_core.proofs.migration.migrate.Goals as goal
 
@@ -15,9 +15,4 @@ returns-clause-brings g c desk is due holds =
     (c.in_ok-fill_stays.ensures.fills desk is due (first_contents_of due desk) refl refl holds))
 
 pub returns-clause-on : goal.returns-clause-on
-returns-clause-on g c =
-    let old = state g.S.Store c.args.tx.now.conn.now in
-    let middle = state g.S.Store c.fill_stays.new.tx.conn.now in
-    let new = state g.S.Store c.set_version.new.tx.conn.now in
-    runs_then tt old middle new c.set_version.result c.in_ok-fill_stays.ensures.on
-    (does_on _ middle new c.set_version.result c.set_version.ensures.set)
+returns-clause-on g c = runs_does c.in_ok-fill_stays.ensures.on c.set_version.ensures.set

@@ -10,3 +10,6 @@ returns-clause-fresh g c made =
 
 pub returns-clause-runs : goal.returns-clause-runs
 returns-clause-runs g c = runs_done c.in_ok-run.ensures.runs
+
+pub returns-clause-goes_on : goal.returns-clause-goes_on
+returns-clause-goes_on g c clean live = (c.in_ok-run.ensures.runs.ran clean).shown.mode

@@ -2,9 +2,8 @@ use Rattle.std.proofs.Common.{◌≡◌, ◌∙◌, ℕ, inl, Err, None, Option,
 use Rattle.sqlite.specs.Held.{state}
 use Rattle.store_tables.specs.Contents.{first_contents_of}
 use Rattle.store_tables.proofs.Lasting.{on}
-use Rattle.store_tables.proofs.StandLemmas.{desk_is_there}
 use Rattle.store_core.proofs.MakeLemmas.{first_blamed}
-use Rattle.store_core.proofs.RunLemmas.{always, at_each, keeps_on, runs_then, stays_on}
+use Rattle.store_core.proofs.RunLemmas.{always, at_each, keeps_on, looks_on, runs_as, runs_then}
 use Rattle.store_core.proofs.version.bring_up.Goals as goal
 
 never_both : (v : Option ℕ) (n : ℕ) → v ≡ None → v ≡ Some n → ⊥
@@ -18,36 +17,31 @@ returns-in_err-read_version-clause-mismatch g c =
 -- where there is a version, it was read
 pub returns-in-None-clause-on : goal.returns-in-None-clause-on
 returns-in-None-clause-on g c =
-    let old = state g.S.Store c.args.tx.now.conn.now in
-    let middle = state g.S.Store c.read_version.new.tx.conn.now in
-    let new = state g.S.Store c.add_version.new.tx.conn.now in
+    let added = c.add_version.ensures.runs in
+    let read = c.in_ok-read_version.ensures.looks in
     record {
       holds = λ d holds. always c.add_version.result (
         d,
         λ clean live. absurd (never_both _ _ c.in-None.is
-            (c.in_ok-read_version.ensures.one d holds (c.add_version.ensures.runs.clean clean))),
+            (c.in_ok-read_version.ensures.one d holds (added.clean clean))),
       );
-      keeps = λ d holds. keeps_on old middle new
-          (c.read_version.ensures.keeps (desk_is_there d old holds)) c.add_version.ensures.runs.keeps;
-      clean = λ clean. c.read_version.ensures.honest (c.add_version.ensures.runs.clean clean);
-      lasts = on c.add_version.ensures.runs.clean c.read_version.ensures.lasts
-          c.add_version.ensures.runs.lasts;
+      keeps = λ has. keeps_on (state g.S.Store c.args.tx.now.conn.now)
+          (state g.S.Store c.read_version.new.tx.conn.now)
+          (state g.S.Store c.add_version.new.tx.conn.now) (read.keeps has) added.keeps;
+      goes_on = λ has goes. c.add_version.ensures.goes_on;
+      clean = λ clean. read.clean (added.clean clean);
+      lasts = on added.clean read.lasts added.lasts;
     }
 
 pub returns-in-Some-eq1-clause-brings : goal.returns-in-Some-eq1-clause-brings
 returns-in-Some-eq1-clause-brings g c desk is due holds =
     c.migrate.ensures.brings desk is due
-    (c.in_ok-read_version.ensures.there (first_contents_of due desk) holds)
+    (c.in_ok-read_version.ensures.looks.makes (first_contents_of due desk) holds)
 
 pub returns-in-Some-eq1-clause-on : goal.returns-in-Some-eq1-clause-on
 returns-in-Some-eq1-clause-on g c =
-    let old = state g.S.Store c.args.tx.now.conn.now in
-    let middle = state g.S.Store c.read_version.new.tx.conn.now in
-    let new = state g.S.Store c.migrate.new.tx.conn.now in
-    runs_then c.in_ok-read_version.field-0 old middle new c.migrate.result
-    (stays_on c.in_ok-read_version.field-0 old middle c.in_ok-read_version.ensures.there
-    (λ d holds. c.read_version.ensures.keeps (desk_is_there d old holds))
-    c.read_version.ensures.honest c.read_version.ensures.lasts) c.migrate.ensures.on
+    runs_then (looks_on c.in_ok-read_version.ensures.looks) c.in_ok-read_version.ensures.looks.there
+    c.migrate.ensures.on
 
 pub returns-in-Some-eq1-clause-mismatch : goal.returns-in-Some-eq1-clause-mismatch
 returns-in-Some-eq1-clause-mismatch g c =
@@ -58,9 +52,4 @@ returns-in-Some-eq1-clause-mismatch g c =
     (c.in_ok-read_version.ensures.of_meta has (c.migrate.ensures.on.clean clean)))
 
 pub returns-in-Some-eq2-clause-on : goal.returns-in-Some-eq2-clause-on
-returns-in-Some-eq2-clause-on g c =
-    let old = state g.S.Store c.args.tx.now.conn.now in
-    stays_on tt old (state g.S.Store c.read_version.new.tx.conn.now)
-    c.in_ok-read_version.ensures.there
-    (λ d holds. c.read_version.ensures.keeps (desk_is_there d old holds))
-    c.read_version.ensures.honest c.read_version.ensures.lasts
+returns-in-Some-eq2-clause-on g c = runs_as tt (looks_on c.in_ok-read_version.ensures.looks)

@@ -17,7 +17,7 @@ returns-clause-mismatch g c =
 pub returns-clause-refuses : goal.returns-clause-refuses
 returns-clause-refuses g c d holds clean =
     let old = state g.S.Store c.args.tx.now.conn.now in
-    let live = holds (c.version_rows.ensures.honest clean) in
+    let live = holds (c.version_rows.ensures.looks.clean clean) in
     no_mismatch c.version_in.result c.version_in.ensures.fault c.version_in.ensures.mismatch
     (λ it. let at = c.in_ok-rows.ensures.of_table (desk_is_there d old holds) clean it.0
     (rw c.as_slice.ensures.value at it.1) in

@@ -3,8 +3,8 @@ use Rattle.sqlite.specs.Held.{state}
 use Rattle.store_tables.specs.Queries.{version_shown, version_text}
 use Rattle.store_tables.specs.Tables.{desk_schema}
 use Rattle.store_tables.proofs.ReadingLemmas.{table_rows}
-use Rattle.store_tables.proofs.StandLemmas.{failed_keeps, same_holds, same_made, shown_keeps}
-use Rattle.store_tables.proofs.StandLemmas.{shown_open, shown_same, was_clean}
+use Rattle.store_tables.proofs.Lasting.{by}
+use Rattle.store_tables.proofs.StandLemmas.{failed_looks, same_made, shown_looks, shown_open, shown_same, was_clean}
 use Rattle.store_tables.proofs.Statements.{version_is}
 use Rattle.store_tables.proofs.VersionLemmas.{shows_none, shows_version}
 use Rattle.store_core.proofs.version.version_rows.Goals as goal
@@ -35,27 +35,19 @@ returns-in-Ok-clause-made g c made clean live =
     same_made desk_schema old new
     (shown_same version_text [] old new c.in-Ok.rows.items version_is.plain before.0 shown) before
 
-pub returns-in-Ok-clause-there : goal.returns-in-Ok-clause-there
-returns-in-Ok-clause-there g c now holds clean live =
-    let old = state g.S.Store c.args.tx.now.conn.now in
-    let new = state g.S.Store c.query_all.new.self.conn.now in
-    let shown = c.in-Ok.ensures.ok clean in
-    let before = holds (was_clean _ _ _ c.query_all.ensures.survives clean)
-    (shown_open version_text [] old new c.in-Ok.rows.items shown) in
-    same_holds now old new (shown_same version_text [] old new c.in-Ok.rows.items
-    version_is.plain before.0.schema shown) before
+pub returns-in-Ok-clause-looks : goal.returns-in-Ok-clause-looks
+returns-in-Ok-clause-looks g c =
+    shown_looks version_text [] (state g.S.Store c.args.tx.now.conn.now)
+    (state g.S.Store c.query_all.new.self.conn.now) version_is.plain
+    (was_clean _ _ _ c.query_all.ensures.survives) (by c.query_all.ensures.survives)
+    c.in-Ok.rows c.in-Ok.rows.items c.in-Ok.ensures.ok
 
-pub returns-in-Ok-clause-keeps : goal.returns-in-Ok-clause-keeps
-returns-in-Ok-clause-keeps g c has =
-    shown_keeps version_text [] (state g.S.Store c.args.tx.now.conn.now)
-    (state g.S.Store c.query_all.new.self.conn.now) c.in-Ok.rows.items version_is.plain
-    (was_clean _ _ _ c.query_all.ensures.survives) has c.in-Ok.ensures.ok
-
-pub returns-in-Err-clause-keeps : goal.returns-in-Err-clause-keeps
-returns-in-Err-clause-keeps g c has =
-    failed_keeps version_text [] (state g.S.Store c.args.tx.now.conn.now)
-    (state g.S.Store c.query_all.new.self.conn.now) c.in-Err.field-0 version_is.plain
-    (was_clean _ _ _ c.query_all.ensures.survives) has c.in-Err.ensures.err
+pub returns-in-Err-clause-looks : goal.returns-in-Err-clause-looks
+returns-in-Err-clause-looks g c =
+    failed_looks version_text [] (state g.S.Store c.args.tx.now.conn.now)
+    (state g.S.Store c.query_all.new.self.conn.now) version_is.plain
+    (was_clean _ _ _ c.query_all.ensures.survives) (by c.query_all.ensures.survives)
+    c.in-Err.field-0 c.in-Err.ensures.err
 
 pub returns-in-Ok-clause-of_table : goal.returns-in-Ok-clause-of_table
 returns-in-Ok-clause-of_table g c has clean =

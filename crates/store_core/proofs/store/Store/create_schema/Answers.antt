@@ -1,8 +1,8 @@
 use Rattle.sqlite.specs.Held.{state}
 use Rattle.store_tables.specs.Contents.{first_contents_of}
 use Rattle.store_tables.proofs.StandLemmas.{back_first, back_stands, either_way}
-use Rattle.store_core.proofs.MakeLemmas.{at_fault, first_either, left_either, stand_either}
-use Rattle.store_core.proofs.StandsAlike.{empty_stands}
+use Rattle.store_core.proofs.MakeLemmas.{at_fault, first_either, left_either, stand_either, stand_there}
+use Rattle.store_core.proofs.StandsAlike.{empty_stands, spared_at_fault}
 use Rattle.store_core.proofs.store.Store.create_schema.Goals as goal
 
 pub returns-clause-made : goal.returns-clause-made
@@ -20,7 +20,7 @@ returns-clause-migrated g c desk is due stand =
     let first = first_contents_of due desk in (
       c.make_schema.ensures.brings desk is due stand,
       at_fault c.make_schema.result (back_first first old new (λ d o. (stand d o).1))
-          (c.make_schema.ensures.back first (first_either first old stand)),
+          (c.make_schema.ensures.back (stand_there first old (first_either first old stand))),
     )
 
 pub returns-clause-kept : goal.returns-clause-kept
@@ -29,9 +29,16 @@ returns-clause-kept g c d other stand =
     let new = state g.S.Store c.make_schema.new.tables.conn in
     either_way c.make_schema.result (c.make_schema.ensures.kept d other stand)
     (at_fault c.make_schema.result (back_stands d old new (λ e o. (stand e o).1))
-    (c.make_schema.ensures.back d (stand_either d old stand)))
+    (c.make_schema.ensures.back (stand_there d old (stand_either d old stand))))
 
 pub returns-clause-undone : goal.returns-clause-undone
 returns-clause-undone g c =
-    left_either c.make_schema.result (state g.S.Store c.args.self.now.tables.conn)
-    (state g.S.Store c.make_schema.new.tables.conn) c.make_schema.ensures.back
+    let old = state g.S.Store c.args.self.now.tables.conn in
+    left_either c.make_schema.result old (state g.S.Store c.make_schema.new.tables.conn)
+    (λ d stand. c.make_schema.ensures.back (stand_there d old stand))
+
+pub returns-clause-spared : goal.returns-clause-spared
+returns-clause-spared g c has =
+    spared_at_fault c.make_schema.result (state g.S.Store c.args.self.now.tables.conn)
+    (state g.S.Store c.make_schema.new.tables.conn) c.make_schema.ensures.honest
+    c.make_schema.ensures.lasts (c.make_schema.ensures.back has)

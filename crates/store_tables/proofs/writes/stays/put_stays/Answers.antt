@@ -17,6 +17,7 @@ loop-stay-preserved g c =
     record {
       same = search rules;
       place = next;
+      there = λ has. c.in_ok-put_stay.ensures.there (c.loop-stay.invariant.there has);
       done = does_more add_stay (stay_rows id stays) (omega (arith, low, rows_counted id 1 stays))
           (row_at_place id 1 c.in-Some.next stays i x place low c.stay-item.is)
           c.loop-stay.invariant.done c.in_ok-put_stay.ensures.put;
