@@ -1,5 +1,5 @@
 -- What it is that settings are attached to tables.
-use Rattle.std.specs.Prelude.{◌≡◌, ◌⊎◌, Bool, ◌&&◌, List}
+use Rattle.std.specs.Prelude.{◌≡◌, ◌⊎◌, Bool, ◌&&◌, Err, List, Result, ⊤}
 use Rattle.std.specs.List.{list_all}
 use Rattle.sqlite.specs.State.{State, HasCleanDisk}
 use Rattle.settings_core.specs.Settings.{knows}
@@ -10,8 +10,10 @@ use Rattle.desk_model.specs.declared.rows.Watcher.{Watcher}
 use Rattle.desk_model.specs.Desk.{Desk, empty_desk}
 use Rattle.desk_model.specs.IsDesk.{IsDesk}
 use Rattle.desk_model.specs.Known.{is_known, knows_queue, knows_row}
+use Rattle.store_tables.specs.declared.fault.StoreFault.{StoreFault}
 use Rattle.store_tables.specs.declared.fault.StoreFault.TheVariants.{Refused}
 use Rattle.store_tables.specs.Contents.{Contents, actors}
+use Rattle.store_tables.specs.Readings.{Blames}
 use Rattle.store_tables.specs.Stands.{Stand, StandsFor}
 use Rattle.service_core.specs.declared.fault.AttachFault.{AttachFault}
 use Rattle.service_core.specs.declared.fault.AttachFault.TheVariants.{Store, UnknownName}
@@ -27,6 +29,13 @@ abbrev pub FailsOver : State → State → AttachFault → Type 0
 FailsOver old new fault =
     (c : Contents) → Stand c old → HasCleanDisk new
     → (fault ≡ UnknownName) ⊎ (fault ≡ Store Refused)
+
+-- the fault is an unknown name, or one of the store that blames a row only where one is bad
+abbrev pub BlamesBad : State → State → AttachFault → Type 0
+BlamesBad old new fault =
+    (fault ≡ UnknownName)
+    ⊎ ((e : StoreFault) × (fault ≡ Store e)
+    × (let r : Result ⊤ StoreFault = Err e in Blames old new r))
 
 -- ---- what is asked of the rows
 

@@ -4,13 +4,14 @@
 //! would be taken apart for each function's own proof.
 ghost use Rattle.std.specs.Prelude.{◌≡◌, ◌&&◌, ◌≢◌, false, map, true, IfErr, IfOk, Ok, OnOk, OnErr};
 ghost use Rattle.desk_model.specs.Known as known;
-ghost use Rattle.store_tables.specs.Calls.{Lasts, OnlyRefuses, Spares, Tells, WasClean};
+ghost use Rattle.store_tables.specs.Calls.{Lasts, Spares, Tells, WasClean};
 ghost use Rattle.store_tables.specs.Contents.{watchers};
 ghost use Rattle.store_tables.specs.Dated.{row_of};
+ghost use Rattle.store_tables.specs.Readings.{Blames};
 ghost use Rattle.store_core.specs.Seen.{state_of};
 ghost use Rattle.desk_reports.specs.Rows.{QueuesRise};
 ghost use Rattle.service_core.specs.Attaching as attaching;
-ghost use Rattle.service_core.specs.Attaching.{FailsOver, TellsKnown};
+ghost use Rattle.service_core.specs.Attaching.{BlamesBad, FailsOver, TellsKnown};
 ghost use Rattle.service_core.specs.Renewing.{AreRenewed};
 ghost use Rattle.service_core.specs.Seen.{settings_of, tables_of};
 
@@ -52,6 +53,8 @@ impl<S: Backend> Desk<S> {
             Spares (state_of S.Store store) (state_of S.Store back.1)) }
         ensures fault { IfErr result (λ back.
             FailsOver (state_of S.Store store) (state_of S.Store back.1) back.0) }
+        ensures blames { IfErr result (λ back.
+            BlamesBad (state_of S.Store store) (state_of S.Store back.1) back.0) }
         ensures honest_fault { IfErr result (λ back.
             WasClean (state_of S.Store store) (state_of S.Store back.1)) }
     {
@@ -86,7 +89,7 @@ fn renew_known<S: Backend>(
         → Spares (state_of S.Store store.old) (state_of S.Store store.new) }
     ensures honest { WasClean (state_of S.Store store.old) (state_of S.Store store.new) }
     ensures lasts { Lasts (state_of S.Store store.old) (state_of S.Store store.new) }
-    ensures fault { OnlyRefuses
+    ensures fault { Blames
         (state_of S.Store store.old) (state_of S.Store store.new) result }
 {
     let dated = store.dated_requests(alloc)?;
@@ -114,7 +117,7 @@ fn is_known<S: Backend>(
         && attaching.knows_histories settings.now desk))
         (state_of S.Store store.old) (state_of S.Store store.new) result }
     ensures kept { Spares (state_of S.Store store.old) (state_of S.Store store.new) }
-    ensures fault { OnlyRefuses
+    ensures fault { Blames
         (state_of S.Store store.old) (state_of S.Store store.new) result }
 {
     read_links(alloc, store)?;
@@ -127,7 +130,7 @@ fn is_known<S: Backend>(
 /// Reads the links: they have no names, but each has to be one. The tables stay as they are.
 fn read_links<S: Backend>(alloc: Global, store: &mut Store<S>) -> Result<(), StoreFault>
     ensures kept { Spares (state_of S.Store store.old) (state_of S.Store store.new) }
-    ensures fault { OnlyRefuses
+    ensures fault { Blames
         (state_of S.Store store.old) (state_of S.Store store.new) result }
 {
     match store.links(alloc) {
@@ -145,7 +148,7 @@ fn knows_histories<S: Backend>(
     ensures told { Tells (λ desk found. found ≡ attaching.knows_histories settings.now desk)
         (state_of S.Store store.old) (state_of S.Store store.new) result }
     ensures kept { Spares (state_of S.Store store.old) (state_of S.Store store.new) }
-    ensures fault { OnlyRefuses
+    ensures fault { Blames
         (state_of S.Store store.old) (state_of S.Store store.new) result }
 {
     let actors = store.actors(alloc)?;

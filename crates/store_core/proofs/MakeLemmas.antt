@@ -1,5 +1,7 @@
 -- What CREATE TABLE makes.
-use Rattle.std.proofs.Common.{◌≡◌, ◌⊎◌, ℕ, inl, inr, true, false, List, [], ◌∷◌, ◌++◌, None, Err, IfSome, Ok, OnErr, Option, Result, Some, sym, ap, subst, ◌∙◌, refl, arith, length}
+use Rattle.std.proofs.Common.{◌≡◌, ◌⊎◌, ℕ, inl, inr, true, false, List, [], ◌∷◌, ◌++◌, None, Err}
+use Rattle.std.proofs.Common.{IfSome, Ok, OnErr, Option, Result, Some, sym, ap, subst, ◌∙◌, refl}
+use Rattle.std.proofs.Common.{arith, length}
 use Rattle.std.specs.List.{AllByRecursion}
 use Rattle.sqlite.specs.Table.{Table}
 use Rattle.sqlite.specs.Schema.{Schema}
@@ -17,7 +19,8 @@ use Rattle.sqlite.proofs.Callers.{IsPlain, command_of, statement_of, runs_as}
 use Rattle.sqlite_trees.proofs.ListLemmas.{all_both, all-append}
 use Rattle.store_tables.specs.Dated.{dated_columns, id_of}
 use Rattle.store_tables.specs.Kept.{Keeps, Numbers}
-use Rattle.store_tables.specs.Spelling.{entry_columns, link_columns, queue_columns, stay_columns, watcher_columns}
+use Rattle.store_tables.specs.Spelling.{entry_columns, link_columns, queue_columns, stay_columns}
+use Rattle.store_tables.specs.Spelling.{watcher_columns}
 use Rattle.store_tables.specs.Tables.{desk_schema, first_schema}
 use Rattle.store_tables.specs.Calls.{Runs}
 use Rattle.store_tables.specs.Contents.{Contents}
@@ -25,7 +28,8 @@ use Rattle.store_tables.specs.Stands.{FirstStand, GoesBack, HasTables, HoldsNow,
 use Rattle.store_tables.specs.declared.fault.StoreFault.{StoreFault}
 use Rattle.store_tables.specs.Making.{AreEmpty, IsOfMeta, Made}
 use Rattle.store_tables.proofs.WriteLemmas.{went, same_value}
-use Rattle.store_core.specs.Migrating.{EitherHolds, EitherStand, EitherTables, Grows, HasEither, IsBlamed, IsGrown, LeavesEither, SixTables, Unmoved}
+use Rattle.store_core.specs.Migrating.{EitherHolds, EitherStand, EitherTables, Grows, HasEither}
+use Rattle.store_core.specs.Migrating.{IsBlamed, IsGrown, LeavesEither, SixTables, Unmoved}
 
 -- what the check computes of the text of a CREATE TABLE
 pub record Creates (base next : Schema) (text : List ℕ) (table : Table) : Type 0 where
@@ -122,7 +126,8 @@ still_there old new clean stays has c o =
     (has (clean c) it.0)
 
 pub unmoved_on : {X Y : Type 0} {P : X → Type 0} {Q : Y → Type 0} {a b c : State} {x : X}
-    {r : Result Y StoreFault} → Runs P a b (Ok x) → Runs Q b c r → Unmoved a b → Unmoved b c → Unmoved a c
+    {r : Result Y StoreFault} → Runs P a b (Ok x) → Runs Q b c r → Unmoved a b → Unmoved b c
+    → Unmoved a c
 unmoved_on {a = a} {b = b} first last one two has clean =
     let before = one has (last.clean clean) in
     let after = two (still_there a b first.clean one has) clean in
@@ -146,7 +151,8 @@ grows {text} {table} makes tree all {old} {new} {count} runs has c =
     )
 
 pub grows_after : {X Y : Type 0} {P : X → Type 0} {Q : Y → Type 0} {a b c : State} {x : X}
-    {r : Result Y StoreFault} → Runs P a b (Ok x) → Runs Q b c r → Unmoved a b → Grows b c → Grows a c
+    {r : Result Y StoreFault} → Runs P a b (Ok x) → Runs Q b c r → Unmoved a b → Grows b c
+    → Grows a c
 grows_after {a = a} {b = b} {c = c} first last one two has clean =
     let before = one has (last.clean clean) in
     let after = two (still_there a b first.clean one has) clean in

@@ -1,5 +1,7 @@
 -- Calls in a transaction, one after another: they hold something still, and the last commit stays.
-use Rattle.std.proofs.Common.{◌≡◌, ◌≢◌, ◌∙◌, ◌+◌, ◌<◌, ◌≤◌, ℕ, List, [], ◌∷◌, length, take, get_or, fold, Ok, Err, IfErr, OnOk, Result, ap, arith, inl, inr, refl, subst, sym}
+use Rattle.std.proofs.Common.{◌≡◌, ◌≢◌, ◌∙◌, ◌+◌, ◌<◌, ◌≤◌, ℕ, List, [], ◌∷◌, length, take, get_or}
+use Rattle.std.proofs.Common.{fold, Ok, Err, IfErr, OnOk, Result, ap, arith, inl, inr, refl, subst}
+use Rattle.std.proofs.Common.{sym}
 use Rattle.std.specs.Prelude.{⊤}
 use Rattle.std.proofs.lemmas.List.{get_or_default}
 use Rattle.sqlite.specs.Effect.{Database}
@@ -14,7 +16,8 @@ use Rattle.store_tables.specs.Queries.{version_shown}
 use Rattle.store_tables.specs.Reading.{IsNumberRow}
 use Rattle.store_tables.specs.Stands.{HasTables, HoldsNow, KeepsBase, Tables}
 use Rattle.store_tables.specs.declared.fault.StoreFault.{StoreFault}
-use Rattle.store_tables.specs.declared.fault.StoreFault.TheVariants.{Mismatch, Refused, WrongVersion}
+use Rattle.store_tables.specs.declared.fault.StoreFault.TheVariants.{Mismatch, Refused}
+use Rattle.store_tables.specs.declared.fault.StoreFault.TheVariants.{WrongVersion}
 use Rattle.store_tables.proofs.Lasting.{on, same}
 use Rattle.store_tables.proofs.RowLemmas.{TableOf, refuses}
 use Rattle.store_tables.proofs.StandLemmas.{fold_more}
@@ -86,7 +89,8 @@ runs_then {a = a} {b = b} {c = c} one there two = record {
 pub runs_does : {X Y : Type 0} {x : X} {change : Contents → Contents} {a b c : State}
     {r : Result Y StoreFault} → RunsOn a b (Ok x) → Does change b c r → RunsOn a c r
 runs_does {change = change} {a = a} {b = b} {c = c} {r = r} one does = record {
-  holds = λ d h. let it = one.holds d h in and_then r (λ k. (change it.0, k)) (does.makes it.0 it.1);
+  holds = λ d h. let it = one.holds d h in
+      and_then r (λ k. (change it.0, k)) (does.makes it.0 it.1);
   keeps = λ has. keeps_on a b c (one.keeps has) does.keeps;
   goes_on = λ has goes. does.goes_on (one.goes_on has goes);
   clean = λ d. one.clean (does.clean d);

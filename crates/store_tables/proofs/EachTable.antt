@@ -182,10 +182,14 @@ actor_table = record {
         wide = omega arith;
         text = ((values_of c t.values).entries e.0 e.1).actor;
       });
-  bad = λ db it. inr (inr (inr (inr (inl (it.0, it.1, λ is. it.2 (record {
+  bad = λ db it. inr (inr (inr (inr (inl (
+    it.0,
+    it.1,
+    λ is. it.2 (record {
       wide = omega arith;
       text = is.actor;
-    }))))));
+    }),
+  )))));
 }
 
 -- the numbers of requests: one column of that table
@@ -209,10 +213,14 @@ id_table = record {
         wide = omega arith;
         number = (rows_valid c (values_of c t.values) r.0 r.1).id;
       });
-  bad = λ db it. inr (inl (it.0, it.1, λ is. it.2 (record {
+  bad = λ db it. inr (inl (
+    it.0,
+    it.1,
+    λ is. it.2 (record {
       wide = omega arith;
       number = is.request.id;
-    })));
+    }),
+  ));
 }
 
 -- the numbers of entries: one column of theirs
@@ -236,10 +244,14 @@ place_table = record {
         wide = omega arith;
         number = ((values_of c t.values).entries e.0 e.1).number;
       });
-  bad = λ db it. inr (inr (inr (inr (inl (it.0, it.1, λ is. it.2 (record {
+  bad = λ db it. inr (inr (inr (inr (inl (
+    it.0,
+    it.1,
+    λ is. it.2 (record {
       wide = omega arith;
       number = is.number;
-    }))))));
+    }),
+  )))));
 }
 
 -- the stays, of whose rows only parts are read

@@ -1,4 +1,5 @@
 pub mod BackLemmas
+pub mod BlameLemmas
 pub mod BlankLemmas
 pub mod ChangeLemmas
 pub mod CountLemmas
@@ -16,7 +17,6 @@ pub mod PickedLemmas
 pub mod ReadLemmas
 pub mod ReadOn
 pub mod ReadingLemmas
-pub mod RefusalLemmas
 pub mod RowLemmas
 pub mod Spared
 pub mod StandLemmas

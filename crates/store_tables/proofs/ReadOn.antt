@@ -31,19 +31,39 @@ bad_before {a} kept there clean bad =
       ],
     )
 
--- a fault is one of whatever was asked
+-- a fault is one of whatever was asked, and so it is answered
+pub blames_failed : {X Y : Type 0} {a b : State} {e : StoreFault} {r : Result Y StoreFault}
+    → Blames {X = X} a b (Err e) → r ≡ Err e → Blames a b r
+blames_failed it is = rw is (record { known = it.known; mismatch = it.mismatch })
+
+-- what a later reading blames was bad before
+pub blames_after : {X : Type 0} {a b c : State} {r : Result X StoreFault} → Spares a b
+    → WasClean b c → Blames b c r → Blames a c r
+blames_after {r = r} first clean second = record {
+  known = second.known;
+  mismatch = if_err r (λ e blame wrong there now. bad_before first there (clean now)
+      (blame wrong (there_still first there) now)) second.mismatch;
+}
+
 pub failed : {X Y : Type 0} {P : Contents → X → Type 0} {Q : Contents → Y → Type 0} {a b : State}
     {e : StoreFault} → Reads P a b (Err e) → Reads Q a b (Err e)
 failed it = record {
   told = λ c stand clean. tt;
   kept = it.kept;
-  blames = record { known = it.blames.known; mismatch = it.blames.mismatch };
+  blames = blames_failed it.blames refl;
 }
 
--- where it is answered as it was
 pub failed_at : {X Y : Type 0} {P : Contents → X → Type 0} {Q : Contents → Y → Type 0} {a b : State}
     {e : StoreFault} {r : Result Y StoreFault} → Reads P a b (Err e) → r ≡ Err e → Reads Q a b r
 failed_at it is = rw is (failed it)
+
+-- what is refused blames no row
+pub blames_refused : {X : Type 0} {a b : State} (r : Result X StoreFault)
+    → IfErr r (λ e. e ≡ Refused) → Blames a b r
+blames_refused r fault = record {
+  known = if_err r (λ e is wrong. cc) fault;
+  mismatch = if_err r (λ e is wrong there clean. absurd (cc)) fault;
+}
 
 -- what was read went well, and the answer is made of it, or memory for it is refused
 pub ending : {X Y : Type 0} {P : Contents → X → Type 0} {Q : Contents → Y → Type 0} {a b : State}
@@ -52,10 +72,7 @@ pub ending : {X Y : Type 0} {P : Contents → X → Type 0} {Q : Contents → Y 
 ending {r = r} fault so it = record {
   told = λ d stand clean. so d (it.told d stand clean);
   kept = it.kept;
-  blames = record {
-    known = if_err r (λ e is wrong. cc) fault;
-    mismatch = if_err r (λ e is wrong there clean. absurd (cc)) fault;
-  };
+  blames = blames_refused r fault;
 }
 
 pub refusing : {X Y : Type 0} {P : Contents → X → Type 0} {Q : Contents → Y → Type 0} {a b : State}
@@ -71,12 +88,7 @@ then {r = r} first second = record {
       if_ok r (λ y. λ q. (first.told d stand (second.kept.clean clean), q))
       (second.told d (stands first.kept d stand) clean);
   kept = joined first.kept second.kept;
-  blames = record {
-    known = second.blames.known;
-    mismatch = if_err r
-        (λ e blame wrong there clean. bad_before first.kept there (second.kept.clean clean)
-        (blame wrong (there_still first.kept there) clean)) second.blames.mismatch;
-  };
+  blames = blames_after first.kept second.kept.clean second.blames;
 }
 
 -- what is so of each answer

@@ -6,8 +6,7 @@ use Rattle.sqlite.specs.declared.error.Error.{Error}
 use Rattle.sqlite.specs.Effect.{Database}
 use Rattle.sqlite.specs.State.{State, HasCleanDisk, IsUnchanged, IsRolledBack, Shown, ShowsRows}
 use Rattle.sqlite.specs.State.{Executes, FailsToQuery, FailsToShow, IsNotRun, IsTooLate, Survives}
-use Rattle.sqlite.specs.State.{Shows, ExecutesInside}
-use Rattle.sqlite.specs.Steps.{FailsToCommit}
+use Rattle.sqlite.specs.State.{ExecutesInside}
 use Rattle.sqlite.specs.Clock.{timed}
 use Rattle.sqlite_resolve.specs.declared.compiled.Compiled.{Compiled}
 use Rattle.sqlite_resolve.specs.declared.error.CompileError.{CompileError}
@@ -23,7 +22,7 @@ use Rattle.std.specs.Prelude.{fold}
 use Rattle.store_tables.specs.Calls.{Lasts, Looks}
 use Rattle.store_tables.specs.Contents.{Contents}
 use Rattle.store_tables.specs.declared.fault.StoreFault.TheVariants.{Refused}
-use Rattle.store_tables.specs.Making.{AreEmpty, WasBlank, IsBlank, Made}
+use Rattle.store_tables.specs.Making.{AreEmpty, IsBlank, Made}
 use Rattle.store_tables.specs.Stands.{HasTables}
 use Rattle.sqlite.specs.Schema.{Schema}
 use Rattle.store_tables.specs.Tables.{desk_schema, no_schema}

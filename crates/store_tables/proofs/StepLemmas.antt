@@ -1,6 +1,6 @@
 -- Statements in a row: one that changed one row, one after the other, and those of a loop.
 use Rattle.std.proofs.Common.{◌≡◌, ◌+◌, ◌<◌, ◌≤◌, ◌∙◌, ℕ, List, Ok, Err, Result, IfOk, OnOk}
-use Rattle.std.proofs.Common.{ap, fold, get_or, length, refl, subst, sym, take}
+use Rattle.std.proofs.Common.{ap, fold, get_or, length, subst, sym, take}
 use Rattle.std.specs.Prelude.{⊤}
 use Rattle.std.proofs.lemmas.List.{take_all}
 use Rattle.sqlite.specs.Order.{Row}

@@ -129,8 +129,8 @@ pub record Does {X : Type 0} (change : Contents → Contents) (old new : State)
   pub refused : IfErr result (λ e. e ≡ Refused)
 
 -- What a query does there: the tables hold what they held. Where they are there, with any rows,
--- they are there still, the last commit stays, and the transaction goes on where nothing is refused.
--- A disk that is clean after it was clean before, and the connection lasts.
+-- they are there still, the last commit stays, and the transaction goes on where nothing is
+-- refused. A disk that is clean after it was clean before, and the connection lasts.
 pub record Looks {X : Type 0} (old new : State) (result : Result X StoreFault) : Type 0 where
   pub makes : Makes (λ c. c) old new result
   pub there : HasTables old → OnOk result (HasTables new)

@@ -28,7 +28,8 @@ pub record Blames {X : Type 0} (old new : State) (result : Result X StoreFault) 
   pub mismatch : IfErr result (λ e. e ≡ Mismatch → AreThere old → HasCleanDisk new
       → IsTrue old.is_open × (HasBadRows old.now ⊎ HasBadRows old.committed))
 
--- What a reading does: what it answers is so of whatever the tables hold, and they stay as they are.
+-- What a reading does: what it answers is so of whatever the tables hold, they stay as they are,
+-- and a fault blames no row that isn't bad.
 pub record Reads {X : Type 0} (P : Contents → X → Type 0) (old new : State)
     (result : Result X StoreFault) : Type 0 where
   pub told : Answers P old new result

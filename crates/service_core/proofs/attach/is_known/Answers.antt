@@ -1,9 +1,11 @@
-use Rattle.std.proofs.Common.{◌∙◌, ◌&&◌, ◌≡◌, Err, ap, ap₂, map, rules}
+use Rattle.std.proofs.Common.{◌∙◌, ◌&&◌, Err, ap, ap₂, map, rules, Result}
 use Rattle.std.specs.Prelude.{⊤}
 use Rattle.store_tables.specs.Dated.{row_of}
-use Rattle.store_tables.proofs.RefusalLemmas.{watchers_refuse}
-use Rattle.store_tables.proofs.Spared.{joined, stands, stands_for}
+use Rattle.store_tables.proofs.Spared.{joined, stands_for}
 use Rattle.store_core.specs.Seen.{state_of}
+use Rattle.store_tables.specs.declared.fault.StoreFault.{StoreFault}
+use Rattle.store_tables.proofs.BlameLemmas.{watchers_blame}
+use Rattle.store_tables.proofs.ReadOn.{blames_after, blames_failed}
 use Rattle.service_core.specs.Attaching.{knows_rows}
 use Rattle.service_core.proofs.attach.is_known.Goals as goal
 
@@ -20,13 +22,13 @@ returns-clause-told g c rise desk is stand clean =
     (c.in_ok-histories.ensures.told desk is after_links histories_clean)
 
 pub returns-in_err-watchers-clause-fault : goal.returns-in_err-watchers-clause-fault
-returns-in_err-watchers-clause-fault g c d stand =
-    let is : c.from_residual-in_err-watchers.result ≡ Err c.in_err-watchers.field-0.0 =
-    search rules in
-    rw is (watchers_refuse (state_of g.S.Store c.knows_histories.new.store)
-    (state_of g.S.Store c.watchers.new.self) c.watchers.ensures.kept.clean
-    {X = ⊤} (Err c.in_err-watchers.field-0.0) c.in_err-watchers.ensures.mismatch d
-    (stands c.knows_histories.ensures.kept d (stands c.read_links.ensures.kept d stand)))
+returns-in_err-watchers-clause-fault g c =
+    let before = state_of g.S.Store c.knows_histories.new.store in
+    let new = state_of g.S.Store c.watchers.new.self in
+    let result : Result ⊤ StoreFault = Err c.in_err-watchers.field-0.0 in
+    blames_failed (blames_after (joined c.read_links.ensures.kept c.knows_histories.ensures.kept)
+    c.watchers.ensures.kept.clean
+    (watchers_blame before new result c.in_err-watchers.ensures.mismatch)) (search rules)
 
 pub returns-in_err-watchers-clause-kept : goal.returns-in_err-watchers-clause-kept
 returns-in_err-watchers-clause-kept g c =
@@ -38,10 +40,9 @@ returns-in_err-histories-clause-kept g c =
     joined c.read_links.ensures.kept c.knows_histories.ensures.kept
 
 pub returns-in_err-histories-clause-fault : goal.returns-in_err-histories-clause-fault
-returns-in_err-histories-clause-fault g c d stand =
-    let is : c.from_residual-in_err-histories.result ≡ Err c.in_err-histories.field-0.0 =
-    search rules in
-    rw is (c.in_err-histories.ensures.fault d (stands c.read_links.ensures.kept d stand))
+returns-in_err-histories-clause-fault g c =
+    blames_failed (blames_after c.read_links.ensures.kept c.knows_histories.ensures.kept.clean
+    c.in_err-histories.ensures.fault) (search rules)
 
 pub returns-clause-kept : goal.returns-clause-kept
 returns-clause-kept g c =

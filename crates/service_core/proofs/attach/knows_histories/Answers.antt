@@ -1,7 +1,9 @@
-use Rattle.std.proofs.Common.{◌∙◌, ◌≡◌, Err, rules}
+use Rattle.std.proofs.Common.{◌∙◌, Err, rules, Result}
 use Rattle.std.specs.Prelude.{⊤}
-use Rattle.store_tables.proofs.RefusalLemmas.{actors_refuse}
 use Rattle.store_core.specs.Seen.{state_of}
+use Rattle.store_tables.specs.declared.fault.StoreFault.{StoreFault}
+use Rattle.store_tables.proofs.BlameLemmas.{actors_blame}
+use Rattle.store_tables.proofs.ReadOn.{blames_failed}
 use Rattle.service_core.proofs.KnownLemmas.{known_of_actors}
 use Rattle.service_core.proofs.attach.knows_histories.Goals as goal
 
@@ -14,7 +16,7 @@ returns-clause-told g c desk is stand clean =
 
 pub returns-in_err-actors-clause-fault : goal.returns-in_err-actors-clause-fault
 returns-in_err-actors-clause-fault g c =
-    let is : c.from_residual.result ≡ Err c.in_err-actors.field-0.0 = search rules in
-    rw is (actors_refuse (state_of g.S.Store c.args.store.now)
-    (state_of g.S.Store c.actors.new.self) c.actors.ensures.kept.clean
-    {X = ⊤} (Err c.in_err-actors.field-0.0) c.in_err-actors.ensures.mismatch)
+    let old = state_of g.S.Store c.args.store.now in
+    let new = state_of g.S.Store c.actors.new.self in
+    let result : Result ⊤ StoreFault = Err c.in_err-actors.field-0.0 in
+    blames_failed (actors_blame old new result c.in_err-actors.ensures.mismatch) (search rules)

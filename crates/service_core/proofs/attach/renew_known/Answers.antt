@@ -1,39 +1,40 @@
 -- the settings know what was read, and what was read is renewed
-use Rattle.std.proofs.Common.{◌∙◌, ◌≡◌, Err, rules, subst, sym}
+use Rattle.std.proofs.Common.{◌∙◌, ◌≡◌, Err, rules, subst, sym, Result}
 use Rattle.std.specs.Prelude.{⊤}
 use Rattle.desk_reports.specs.Rows.{QueuesRise}
 use Rattle.store_core.specs.Seen.{state_of}
 use Rattle.store_tables.specs.Contents.{contents_of}
-use Rattle.store_tables.proofs.RefusalLemmas.{dated_refuse, queues_refuse, stays_refuse}
 use Rattle.store_tables.proofs.Lasting.{on}
 use Rattle.store_tables.proofs.Spared.{joined, stands, stands_for}
+use Rattle.store_tables.specs.declared.fault.StoreFault.{StoreFault}
+use Rattle.store_tables.proofs.BlameLemmas.{dated_blame, queues_blame, stays_blame}
+use Rattle.store_tables.proofs.ReadOn.{blames_after, blames_failed, blames_refused}
 use Rattle.service_core.proofs.KnownLemmas.{known_of_dated}
 use Rattle.service_core.proofs.attach.renew_known.Goals as goal
 
 pub returns-in_err-dated-clause-fault : goal.returns-in_err-dated-clause-fault
 returns-in_err-dated-clause-fault g c =
-    let is : c.from_residual.result ≡ Err c.in_err-dated.field-0.0 = search rules in
-    rw is (dated_refuse (state_of g.S.Store c.args.store.now)
-    (state_of g.S.Store c.dated_requests.new.self) c.dated_requests.ensures.kept.clean
-    {X = ⊤} (Err c.in_err-dated.field-0.0) c.in_err-dated.ensures.mismatch)
+    let old = state_of g.S.Store c.args.store.now in
+    let new = state_of g.S.Store c.dated_requests.new.self in
+    let result : Result ⊤ StoreFault = Err c.in_err-dated.field-0.0 in
+    blames_failed (dated_blame old new result c.in_err-dated.ensures.mismatch) (search rules)
 
 pub returns-in_err-queues-clause-fault : goal.returns-in_err-queues-clause-fault
-returns-in_err-queues-clause-fault g c d stand =
-    let is : c.from_residual-in_err-queues.result ≡ Err c.in_err-queues.field-0.0 =
-    search rules in
-    rw is (queues_refuse (state_of g.S.Store c.dated_requests.new.self)
-    (state_of g.S.Store c.queues.new.self) c.queues.ensures.kept.clean
-    {X = ⊤} (Err c.in_err-queues.field-0.0) c.in_err-queues.ensures.mismatch d
-    (stands c.dated_requests.ensures.kept d stand))
+returns-in_err-queues-clause-fault g c =
+    let before = state_of g.S.Store c.dated_requests.new.self in
+    let new = state_of g.S.Store c.queues.new.self in
+    let result : Result ⊤ StoreFault = Err c.in_err-queues.field-0.0 in
+    blames_failed (blames_after c.dated_requests.ensures.kept c.queues.ensures.kept.clean
+    (queues_blame before new result c.in_err-queues.ensures.mismatch)) (search rules)
 
 pub returns-in_err-stays-clause-fault : goal.returns-in_err-stays-clause-fault
-returns-in_err-stays-clause-fault g c d stand =
-    let is : c.from_residual-in_err-stays.result ≡ Err c.in_err-stays.field-0.0 =
-    search rules in
-    rw is (stays_refuse (state_of g.S.Store c.queues.new.self)
-    (state_of g.S.Store c.stays.new.self) c.stays.ensures.kept.clean
-    {X = ⊤} (Err c.in_err-stays.field-0.0) c.in_err-stays.ensures.mismatch d
-    (stands (joined c.dated_requests.ensures.kept c.queues.ensures.kept) d stand))
+returns-in_err-stays-clause-fault g c =
+    let before = state_of g.S.Store c.queues.new.self in
+    let new = state_of g.S.Store c.stays.new.self in
+    let result : Result ⊤ StoreFault = Err c.in_err-stays.field-0.0 in
+    blames_failed (blames_after (joined c.dated_requests.ensures.kept c.queues.ensures.kept)
+    c.stays.ensures.kept.clean (stays_blame before new result c.in_err-stays.ensures.mismatch))
+    (search rules)
 
 pub returns-then-not-branch-clause-told : goal.returns-then-not-branch-clause-told
 returns-then-not-branch-clause-told g c desk is stand clean =
@@ -120,12 +121,15 @@ returns-in_err-is_known-clause-left g c other =
     c.stays.ensures.kept) c.is_known.ensures.kept
 
 pub returns-in_err-is_known-clause-fault : goal.returns-in_err-is_known-clause-fault
-returns-in_err-is_known-clause-fault g c d stand =
-    let is : c.from_residual-in_err-is_known.result ≡ Err c.in_err-is_known.field-0.0 =
-    search rules in
-    rw is (c.in_err-is_known.ensures.fault d
-    (stands (joined (joined c.dated_requests.ensures.kept c.queues.ensures.kept)
-    c.stays.ensures.kept) d stand))
+returns-in_err-is_known-clause-fault g c =
+    blames_failed (blames_after (joined (joined c.dated_requests.ensures.kept
+    c.queues.ensures.kept) c.stays.ensures.kept) c.is_known.ensures.kept.clean
+    c.in_err-is_known.ensures.fault) (search rules)
+
+pub returns-in_err-renew-clause-fault : goal.returns-in_err-renew-clause-fault
+returns-in_err-renew-clause-fault g c =
+    let is : c.from_residual-in_err-renew.result ≡ Err c.in_err-renew.field-0.0 = search rules in
+    rw is (blames_refused _ c.in_err-renew.ensures.fault)
 
 pub returns-then-not-branch-clause-left : goal.returns-then-not-branch-clause-left
 returns-then-not-branch-clause-left g c other =

@@ -22,4 +22,5 @@ returns g c =
     c.loop-link.invariant
 
 pub returns-in_err-put_dependency : goal.returns-in_err-put_dependency
-returns-in_err-put_dependency g c = failed_at (then c.loop-link.invariant c.in_err-put_dependency.ensures) (search rules)
+returns-in_err-put_dependency g c =
+    failed_at (then c.loop-link.invariant c.in_err-put_dependency.ensures) (search rules)

@@ -19,4 +19,5 @@ returns-in_ok-queue-in-Some g c =
     (then c.in_ok-request_numbered.ensures c.in_ok-queue-in-Some.ensures)
 
 pub returns-in_err-queue-in-Some : goal.returns-in_err-queue-in-Some
-returns-in_err-queue-in-Some g c = failed_at (then c.in_ok-request_numbered.ensures c.in_err-queue-in-Some.ensures) (search rules)
+returns-in_err-queue-in-Some g c =
+    failed_at (then c.in_ok-request_numbered.ensures c.in_err-queue-in-Some.ensures) (search rules)

@@ -1,5 +1,4 @@
 use Rattle.store_tables.proofs.ReadOn.{telling}
-use Rattle.store_core.specs.Found.{counted}
 use Rattle.store_core.proofs.facts.count_queues.Goals as goal
 
 pub returns : goal.returns

@@ -11,7 +11,8 @@ returns g c =
     (then (then c.in_ok-is_linked.ensures c.in_ok-other.ensures) c.in_ok-facts.ensures)
 
 pub returns-in_err-other : goal.returns-in_err-other
-returns-in_err-other g c = failed_at (then c.in_ok-is_linked.ensures c.in_err-other.ensures) (search rules)
+returns-in_err-other g c =
+    failed_at (then c.in_ok-is_linked.ensures c.in_err-other.ensures) (search rules)
 
 pub returns-in_err-facts : goal.returns-in_err-facts
 returns-in_err-facts g c =

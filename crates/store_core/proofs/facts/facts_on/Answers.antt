@@ -12,7 +12,8 @@ returns g c =
     (then (then c.in_ok-request.ensures c.in_ok-stays.ensures) c.in_ok-queue.ensures)
 
 pub returns-in_err-stays : goal.returns-in_err-stays
-returns-in_err-stays g c = failed_at (then c.in_ok-request.ensures c.in_err-stays.ensures) (search rules)
+returns-in_err-stays g c =
+    failed_at (then c.in_ok-request.ensures c.in_err-stays.ensures) (search rules)
 
 pub returns-in_err-queue : goal.returns-in_err-queue
 returns-in_err-queue g c =

@@ -11,7 +11,8 @@ returns g c =
     (then (then c.in_ok-queue_count.ensures c.in_ok-request_count.ensures) c.in_ok-queue.ensures)
 
 pub returns-in_err-request_count : goal.returns-in_err-request_count
-returns-in_err-request_count g c = failed_at (then c.in_ok-queue_count.ensures c.in_err-request_count.ensures) (search rules)
+returns-in_err-request_count g c =
+    failed_at (then c.in_ok-queue_count.ensures c.in_err-request_count.ensures) (search rules)
 
 pub returns-in_err-queue : goal.returns-in_err-queue
 returns-in_err-queue g c =

@@ -1,7 +1,9 @@
 use Rattle.std.proofs.Common.{rules}
 use Rattle.store_tables.proofs.StepLemmas.{runs_both, runs_done, runs_failed}
 use Rattle.store_core.proofs.MakeLemmas.{makes, unmoved, unmoved_on}
-use Rattle.store_core.proofs.MakeStatements.{meta_first, meta_made, meta_there, queue_first, queue_made, queue_there, request_first, request_made, request_there}
+use Rattle.store_core.proofs.MakeStatements.{meta_first, meta_made, meta_there, queue_first}
+use Rattle.store_core.proofs.MakeStatements.{queue_made, queue_there, request_first, request_made}
+use Rattle.store_core.proofs.MakeStatements.{request_there}
 use Rattle.store_core.proofs.making.make_first.Goals as goal
 
 pub returns-clause-made : goal.returns-clause-made

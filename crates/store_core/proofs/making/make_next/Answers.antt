@@ -1,7 +1,9 @@
 use Rattle.std.proofs.Common.{rules}
 use Rattle.store_tables.proofs.StepLemmas.{runs_both, runs_done, runs_failed}
 use Rattle.store_core.proofs.MakeLemmas.{makes, unmoved, unmoved_on}
-use Rattle.store_core.proofs.MakeStatements.{watcher_first, watcher_made, watcher_there, link_first, link_made, link_there, entry_first, entry_made, entry_there}
+use Rattle.store_core.proofs.MakeStatements.{watcher_first, watcher_made, watcher_there, link_first}
+use Rattle.store_core.proofs.MakeStatements.{link_made, link_there, entry_first, entry_made}
+use Rattle.store_core.proofs.MakeStatements.{entry_there}
 use Rattle.store_core.proofs.making.make_next.Goals as goal
 
 pub returns-clause-made : goal.returns-clause-made
@@ -15,7 +17,8 @@ returns-clause-there g c =
     let two = c.in_ok-run-2.ensures.runs in
     let three = c.in_ok-run-3.ensures.runs in
     unmoved_on (runs_both (λ n ran. ran) one two) three
-    (unmoved_on one two (unmoved watcher_there watcher_first one) (unmoved link_there link_first two))
+    (unmoved_on one two (unmoved watcher_there watcher_first one)
+    (unmoved link_there link_first two))
     (unmoved entry_there entry_first three)
 
 pub returns-clause-runs : goal.returns-clause-runs

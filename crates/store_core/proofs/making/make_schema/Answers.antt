@@ -3,7 +3,8 @@ use Rattle.sqlite.specs.Held.{state}
 use Rattle.store_tables.specs.Contents.{contents_of, first_contents_of}
 use Rattle.store_tables.proofs.Lasting.{by, through}
 use Rattle.store_tables.proofs.StandLemmas.{begun_back, was_clean}
-use Rattle.store_core.proofs.MakeLemmas.{begins_blamed, begins_either, begins_of_meta, begins_there, first_either, stand_either}
+use Rattle.store_core.proofs.MakeLemmas.{begins_blamed, begins_either, begins_of_meta, begins_there}
+use Rattle.store_core.proofs.MakeLemmas.{first_either, stand_either}
 use Rattle.store_core.proofs.making.make_schema.Goals as goal
 
 pub returns-in_err-make_all-clause-blames : goal.returns-in_err-make_all-clause-blames

@@ -1,6 +1,5 @@
 use Rattle.std.proofs.Common.{length, refl, rules, ◌<◌, ◌≤◌}
 use Rattle.sqlite.specs.Held.{state}
-use Rattle.store_tables.proofs.Lasting.{same}
 use Rattle.store_core.proofs.RunLemmas.{fills_all, fills_more, runs_none, runs_then}
 use Rattle.store_core.proofs.migration.fill_each.Goals as goal
 

@@ -21,7 +21,9 @@ returns-in_ok-seen_request-in-Some g c =
     c.in_ok-watchers-in-Some.ensures)
 
 pub returns-in_err-entry_count-in-Some : goal.returns-in_err-entry_count-in-Some
-returns-in_err-entry_count-in-Some g c = failed_at (then c.in_ok-request_numbered.ensures c.in_err-entry_count-in-Some.ensures) (search rules)
+returns-in_err-entry_count-in-Some g c =
+    failed_at (then c.in_ok-request_numbered.ensures c.in_err-entry_count-in-Some.ensures)
+    (search rules)
 
 pub returns-in_err-watchers-in-Some : goal.returns-in_err-watchers-in-Some
 returns-in_err-watchers-in-Some g c =

@@ -20,4 +20,6 @@ returns-in_ok-watchers-in-Some g c =
     (then c.in_ok-request_numbered.ensures c.in_ok-watchers-in-Some.ensures)
 
 pub returns-in_err-watchers-in-Some : goal.returns-in_err-watchers-in-Some
-returns-in_err-watchers-in-Some g c = failed_at (then c.in_ok-request_numbered.ensures c.in_err-watchers-in-Some.ensures) (search rules)
+returns-in_err-watchers-in-Some g c =
+    failed_at (then c.in_ok-request_numbered.ensures c.in_err-watchers-in-Some.ensures)
+    (search rules)

@@ -4,7 +4,8 @@ use Rattle.store_tables.specs.Queries.{version_shown, version_text}
 use Rattle.store_tables.specs.Tables.{desk_schema}
 use Rattle.store_tables.proofs.ReadingLemmas.{table_rows}
 use Rattle.store_tables.proofs.Lasting.{by}
-use Rattle.store_tables.proofs.StandLemmas.{failed_looks, same_made, shown_looks, shown_open, shown_same, was_clean}
+use Rattle.store_tables.proofs.StandLemmas.{failed_looks, same_made, shown_looks, shown_open}
+use Rattle.store_tables.proofs.StandLemmas.{shown_same, was_clean}
 use Rattle.store_tables.proofs.Statements.{version_is}
 use Rattle.store_tables.proofs.VersionLemmas.{shows_none, shows_version}
 use Rattle.store_core.proofs.version.version_rows.Goals as goal

@@ -1,7 +1,8 @@
 use Rattle.sqlite.specs.Held.{state}
 use Rattle.store_tables.specs.Contents.{first_contents_of}
 use Rattle.store_tables.proofs.StandLemmas.{back_first, back_stands, either_way}
-use Rattle.store_core.proofs.MakeLemmas.{at_fault, first_either, left_either, stand_either, stand_there}
+use Rattle.store_core.proofs.MakeLemmas.{at_fault, first_either, left_either, stand_either}
+use Rattle.store_core.proofs.MakeLemmas.{stand_there}
 use Rattle.store_core.proofs.StandsAlike.{empty_stands, spared_at_fault}
 use Rattle.store_core.proofs.store.Store.create_schema.Goals as goal
 

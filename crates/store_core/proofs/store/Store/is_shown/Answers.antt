@@ -5,4 +5,5 @@ pub returns-clause-told : goal.returns-clause-told
 returns-clause-told g c = of_desk c.is_shown_to.ensures
 
 pub returns-clause-refuses : goal.returns-clause-refuses
-returns-clause-refuses g c = blames_none c.is_shown_to.ensures.kept.clean c.is_shown_to.ensures.blames
+returns-clause-refuses g c =
+    blames_none c.is_shown_to.ensures.kept.clean c.is_shown_to.ensures.blames

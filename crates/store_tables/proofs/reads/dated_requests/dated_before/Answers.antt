@@ -13,7 +13,9 @@ select_all-requires g c = (dated_due_before c.args.at).means.plain
 
 pub returns-clause-read : goal.returns-clause-read
 returns-clause-read g c =
-    lists dated_table (dated_due_before c.args.at) by_due (due_order_is before_test dated_shown_terms (count_value c.args.at ∷ [])) c.select_all.ensures.kept (rw c.number.ensures.bound at c.select_all.ensures.read)
+    lists dated_table (dated_due_before c.args.at) by_due (due_order_is before_test
+    dated_shown_terms (count_value c.args.at ∷ [])) c.select_all.ensures.kept
+    (rw c.number.ensures.bound at c.select_all.ensures.read)
 
 pub returns-clause-mismatch : goal.returns-clause-mismatch
 returns-clause-mismatch g c =

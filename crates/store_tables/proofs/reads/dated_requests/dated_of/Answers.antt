@@ -13,7 +13,9 @@ select_all-requires g c = (dated_in_queue c.args.queue.now).means.plain
 
 pub returns-clause-read : goal.returns-clause-read
 returns-clause-read g c =
-    lists dated_table (dated_in_queue c.args.queue.now) by_dated_id (id_order_is filed_test dated_shown_terms (Words c.args.queue.now ∷ [])) c.select_all.ensures.kept (rw c.words.ensures.bound at c.select_all.ensures.read)
+    lists dated_table (dated_in_queue c.args.queue.now) by_dated_id
+    (id_order_is filed_test dated_shown_terms (Words c.args.queue.now ∷ []))
+    c.select_all.ensures.kept (rw c.words.ensures.bound at c.select_all.ensures.read)
 
 pub returns-clause-mismatch : goal.returns-clause-mismatch
 returns-clause-mismatch g c =

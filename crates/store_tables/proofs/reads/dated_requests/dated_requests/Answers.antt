@@ -15,7 +15,8 @@ select_all-requires g c = all_dated.means.plain
 pub returns-clause-read : goal.returns-clause-read
 returns-clause-read g c =
     telling (λ d xs listed. rw (every d.dated) at listed)
-    (lists dated_table all_dated by_dated_id (id_order_is [] dated_shown_terms []) c.select_all.ensures.kept c.select_all.ensures.read)
+    (lists dated_table all_dated by_dated_id (id_order_is [] dated_shown_terms [])
+    c.select_all.ensures.kept c.select_all.ensures.read)
 
 pub returns-clause-mismatch : goal.returns-clause-mismatch
 returns-clause-mismatch g c =

@@ -9,4 +9,5 @@ select_one-requires g c = (link_by_ends c.args.link).means.plain
 pub returns : goal.returns
 returns g c =
     finds link_table (link_by_ends c.args.link) c.select_one.ensures.kept
-    (rw ( c.number.ensures.bound, c.link_kind.ensures, c.number-2.ensures.bound, ) at c.select_one.ensures.read)
+    (rw (c.number.ensures.bound, c.link_kind.ensures, c.number-2.ensures.bound) at
+    c.select_one.ensures.read)

@@ -13,4 +13,7 @@ select_all-requires g c = (links_by_kind c.args.id c.args.kind).means.plain
 
 pub returns : goal.returns
 returns g c =
-    lists link_table (links_by_kind c.args.id c.args.kind) by_target (target_order_is (count_value c.args.id ∷ count_value (kind_number c.args.kind) ∷ [])) c.select_all.ensures.kept (rw ( c.number.ensures.bound, c.link_kind.ensures, ) at c.select_all.ensures.read)
+    lists link_table (links_by_kind c.args.id c.args.kind) by_target
+    (target_order_is (count_value c.args.id ∷ count_value (kind_number c.args.kind) ∷ []))
+    c.select_all.ensures.kept (rw (c.number.ensures.bound, c.link_kind.ensures) at
+    c.select_all.ensures.read)

@@ -10,7 +10,8 @@ select_all-requires g c = (entries_on c.args.id).means.plain
 
 pub returns-clause-read : goal.returns-clause-read
 returns-clause-read g c =
-    lists entry_table (entries_on c.args.id) by_number (number_order_is c.args.id) c.select_all.ensures.kept (rw c.number.ensures.bound at c.select_all.ensures.read)
+    lists entry_table (entries_on c.args.id) by_number (number_order_is c.args.id)
+    c.select_all.ensures.kept (rw c.number.ensures.bound at c.select_all.ensures.read)
 
 pub returns-clause-mismatch : goal.returns-clause-mismatch
 returns-clause-mismatch g c =

@@ -14,7 +14,8 @@ select_all-requires g c = all_links.means.plain
 pub returns-clause-read : goal.returns-clause-read
 returns-clause-read g c =
     telling (λ d xs listed. rw (every d.links) at listed)
-    (lists link_table all_links by_link (link_order_is [] []) c.select_all.ensures.kept c.select_all.ensures.read)
+    (lists link_table all_links by_link (link_order_is [] []) c.select_all.ensures.kept
+    c.select_all.ensures.read)
 
 pub returns-clause-mismatch : goal.returns-clause-mismatch
 returns-clause-mismatch g c =

@@ -8,7 +8,8 @@ select_all-requires g c = (links_in c.args.target).means.plain
 
 pub returns-clause-read : goal.returns-clause-read
 returns-clause-read g c =
-    lists_any link_table (links_in c.args.target) c.select_all.ensures.kept (rw c.number.ensures.bound at c.select_all.ensures.read)
+    lists_any link_table (links_in c.args.target) c.select_all.ensures.kept
+    (rw c.number.ensures.bound at c.select_all.ensures.read)
 
 pub returns-clause-mismatch : goal.returns-clause-mismatch
 returns-clause-mismatch g c =

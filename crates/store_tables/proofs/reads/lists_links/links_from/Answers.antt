@@ -13,7 +13,9 @@ select_all-requires g c = (links_out c.args.source).means.plain
 
 pub returns-clause-read : goal.returns-clause-read
 returns-clause-read g c =
-    lists link_table (links_out c.args.source) by_link (link_order_is source_test (count_value c.args.source ∷ [])) c.select_all.ensures.kept (rw c.number.ensures.bound at c.select_all.ensures.read)
+    lists link_table (links_out c.args.source) by_link (link_order_is source_test
+    (count_value c.args.source ∷ [])) c.select_all.ensures.kept
+    (rw c.number.ensures.bound at c.select_all.ensures.read)
 
 pub returns-clause-mismatch : goal.returns-clause-mismatch
 returns-clause-mismatch g c =

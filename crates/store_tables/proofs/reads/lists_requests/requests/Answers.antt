@@ -16,7 +16,8 @@ select_all-requires g c = all_requests.means.plain
 pub returns-clause-read : goal.returns-clause-read
 returns-clause-read g c =
     telling (λ d xs listed. rw (every (requests d)) at listed)
-    (lists request_table all_requests by_id (id_order_is [] request_shown_terms []) c.select_all.ensures.kept c.select_all.ensures.read)
+    (lists request_table all_requests by_id (id_order_is [] request_shown_terms [])
+    c.select_all.ensures.kept c.select_all.ensures.read)
 
 pub returns-clause-mismatch : goal.returns-clause-mismatch
 returns-clause-mismatch g c =

@@ -13,7 +13,8 @@ select_all-requires g c = all_queues.means.plain
 pub returns-clause-read : goal.returns-clause-read
 returns-clause-read g c =
     telling (λ d xs listed. rw (every d.queues) at listed)
-    (lists queue_table all_queues by_name name_order_is c.select_all.ensures.kept c.select_all.ensures.read)
+    (lists queue_table all_queues by_name name_order_is c.select_all.ensures.kept
+    c.select_all.ensures.read)
 
 pub returns-clause-mismatch : goal.returns-clause-mismatch
 returns-clause-mismatch g c =

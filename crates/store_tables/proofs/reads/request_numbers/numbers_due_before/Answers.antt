@@ -13,7 +13,9 @@ select_all-requires g c = (numbers_before c.args.at).means.plain
 
 pub returns-clause-read : goal.returns-clause-read
 returns-clause-read g c =
-    lists_numbers dated_table (numbers_before c.args.at) by_due (due_order_is before_test last_id_terms (count_value c.args.at ∷ [])) (blames_of id_table _ _ _) c.select_all.ensures.kept (rw c.number.ensures.bound at c.select_all.ensures.read)
+    lists_numbers dated_table (numbers_before c.args.at) by_due
+    (due_order_is before_test last_id_terms (count_value c.args.at ∷ [])) (blames_of id_table _ _ _)
+    c.select_all.ensures.kept (rw c.number.ensures.bound at c.select_all.ensures.read)
 
 pub returns-clause-mismatch : goal.returns-clause-mismatch
 returns-clause-mismatch g c =

@@ -13,7 +13,9 @@ select_all-requires g c = (numbers_of_queue c.args.queue.now).means.plain
 
 pub returns-clause-read : goal.returns-clause-read
 returns-clause-read g c =
-    lists_numbers request_table (numbers_of_queue c.args.queue.now) by_id (id_order_is filed_test last_id_terms (Words c.args.queue.now ∷ [])) (blames_of id_table _ _ _) c.select_all.ensures.kept (rw c.words.ensures.bound at c.select_all.ensures.read)
+    lists_numbers request_table (numbers_of_queue c.args.queue.now) by_id
+    (id_order_is filed_test last_id_terms (Words c.args.queue.now ∷ [])) (blames_of id_table _ _ _)
+    c.select_all.ensures.kept (rw c.words.ensures.bound at c.select_all.ensures.read)
 
 pub returns-clause-mismatch : goal.returns-clause-mismatch
 returns-clause-mismatch g c =

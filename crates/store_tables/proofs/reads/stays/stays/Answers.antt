@@ -14,7 +14,8 @@ select_all-requires g c = all_stays.means.plain
 pub returns-clause-read : goal.returns-clause-read
 returns-clause-read g c =
     telling (λ d xs listed. rw (every d.stays) at listed)
-    (lists_parts stay_table all_stays by_stay stay_order_is c.select_all.ensures.kept request_stay_back
+    (lists_parts stay_table all_stays by_stay stay_order_is c.select_all.ensures.kept
+    request_stay_back
     c.select_all.ensures.read)
 
 pub returns-clause-mismatch : goal.returns-clause-mismatch

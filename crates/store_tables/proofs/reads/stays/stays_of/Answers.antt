@@ -11,7 +11,8 @@ select_all-requires g c = (stays_on c.args.id).means.plain
 
 pub returns-clause-read : goal.returns-clause-read
 returns-clause-read g c =
-    lists_parts stay_table (stays_on c.args.id) by_stay_number (stay_number_order_is c.args.id) c.select_all.ensures.kept stay_back
+    lists_parts stay_table (stays_on c.args.id) by_stay_number (stay_number_order_is c.args.id)
+    c.select_all.ensures.kept stay_back
     (rw c.number.ensures.bound at c.select_all.ensures.read)
 
 pub returns-clause-mismatch : goal.returns-clause-mismatch

@@ -10,4 +10,5 @@ select_all-requires g c = (watchers_on c.args.id).means.plain
 
 pub returns : goal.returns
 returns g c =
-    lists watcher_table (watchers_on c.args.id) by_role (role_order_is c.args.id) c.select_all.ensures.kept (rw c.number.ensures.bound at c.select_all.ensures.read)
+    lists watcher_table (watchers_on c.args.id) by_role (role_order_is c.args.id)
+    c.select_all.ensures.kept (rw c.number.ensures.bound at c.select_all.ensures.read)

@@ -10,7 +10,9 @@ select_all-requires g c = (watches_by c.args.person.now).means.plain
 
 pub returns-clause-read : goal.returns-clause-read
 returns-clause-read g c =
-    lists watcher_table (watches_by c.args.person.now) by_standing (standing_order_is c.args.person.now) c.select_all.ensures.kept (rw c.name.ensures.bound at c.select_all.ensures.read)
+    lists watcher_table (watches_by c.args.person.now) by_standing
+    (standing_order_is c.args.person.now) c.select_all.ensures.kept
+    (rw c.name.ensures.bound at c.select_all.ensures.read)
 
 pub returns-clause-mismatch : goal.returns-clause-mismatch
 returns-clause-mismatch g c =

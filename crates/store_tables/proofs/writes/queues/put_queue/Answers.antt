@@ -6,7 +6,8 @@ use Rattle.store_tables.proofs.writes.queues.put_queue.Goals as goal
 pub returns-clause-put : goal.returns-clause-put
 returns-clause-put g c =
     let row = c.args.row.now in
-    does_one (rw (c.words.ensures.bound, c.words-2.ensures.bound, c.nullable.ensures.bound) at c.run_on_one.ensures.runs)
+    does_one (rw (c.words.ensures.bound, c.words-2.ensures.bound, c.nullable.ensures.bound) at
+    c.run_on_one.ensures.runs)
     (λ now. adds_queue now row _ _ 1 (record {
       wide = omega arith;
       name = c.words.ensures.value;

@@ -27,4 +27,5 @@ pub returns-clause-put : goal.returns-clause-put
 returns-clause-put g c =
     let rows = stay_rows c.args.id c.args.stays.now in
     let high : length c.args.stays.now ≤ c.loop-stay.stay-index = search rules in
-    does_all add_stay rows (omega (arith, high, rows_counted c.args.id 1 c.args.stays.now)) c.loop-stay.invariant.done
+    does_all add_stay rows (omega (arith, high, rows_counted c.args.id 1 c.args.stays.now))
+    c.loop-stay.invariant.done

@@ -6,7 +6,8 @@ use Rattle.store_tables.proofs.writes.watchers.put_watcher.Goals as goal
 pub returns-clause-put : goal.returns-clause-put
 returns-clause-put g c =
     let row = c.args.row.now in
-    does_one (rw (c.number.ensures.bound, c.role.ensures, c.words.ensures.bound) at c.run_on_one.ensures.runs)
+    does_one (rw (c.number.ensures.bound, c.role.ensures, c.words.ensures.bound) at
+    c.run_on_one.ensures.runs)
     (λ now. adds_watcher now row _ _ 1 (record {
       wide = omega arith;
       id = c.number.ensures.value;
