@@ -10,11 +10,11 @@ use Rattle.desk_model.specs.Known.{is_known}
 use Rattle.settings_core.specs.declared.fault.SettingsFault.{SettingsFault}
 use Rattle.settings_core.specs.declared.settings.Settings.{Settings}
 use Rattle.settings_core.specs.Reading.{IsSettingsOf}
-use Rattle.service_core.specs.Attaching.{FailsOver, TellsKnown}
+use Rattle.service_core.specs.Attaching.{BlamesBad, FailsOver, TellsKnown}
 use Rattle.service_core.specs.declared.fault.AttachFault.{AttachFault}
 use Rattle.service_core.specs.declared.fault.AttachFault.TheVariants.{Store, UnknownName}
 use Rattle.store_core.specs.Due.{StandsDue}
-use Rattle.store_core.specs.Migrating.{EitherStand, LeavesEither, LeavesOthers}
+use Rattle.store_core.specs.Migrating.{EitherStand, HasEither, LeavesEither, LeavesOthers}
 use Rattle.store_tables.specs.Calls.{Spares, WasClean}
 use Rattle.store_tables.specs.Contents.{Contents}
 use Rattle.store_tables.specs.Making.{IsBlank, IsKnown}
@@ -60,6 +60,8 @@ pub record IsNotMade (old new : State) (fault : StoreFault) : Type 0 where
   -- what the tables held they hold still
   pub kept : LeavesOthers old new
   pub left : LeavesEither old new
+  -- the seven tables, or the six of version 1, are as they were, whatever rows they have
+  pub spared : HasEither old → Spares old new
   -- those of version 1 stand for their desk still
   pub first : (desk : Desk) → IsDesk desk → FirstStandsFor desk old → FirstStandsFor desk new
   -- where there was no table there is none, and the store or memory refused it
@@ -84,6 +86,8 @@ pub record FailsToAttach (settings : Settings) (old new : State) (fault : Attach
     pub unknown : fault ≡ UnknownName → TellsKnown settings old new false
     -- over tables that hold values nothing else can be wrong, but that the store or memory refused
     pub fails : FailsOver old new fault
+    -- a row is blamed only where one is no value of its type
+    pub blames : BlamesBad old new fault
 
 -- the same of tables that were first made, where any were missing, and brought to the present
 -- version

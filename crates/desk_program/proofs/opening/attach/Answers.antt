@@ -10,6 +10,7 @@ returns-in-Err-clause-told g c = (
     honest = c.in-Err.ensures.honest_fault;
     unknown = c.in-Err.ensures.unknown;
     fails = c.in-Err.ensures.fault;
+    blames = c.in-Err.ensures.blames;
   },
   refl,
   c.put_attach_fault.ensures.printed,

@@ -66,6 +66,7 @@ returns-in-Err-clause-told g c = (
       record {
         kept = c.in-Err.ensures.kept;
         left = c.in-Err.ensures.undone;
+        spared = c.in-Err.ensures.spared;
         first =
             λ desk formed stand. (
               stand.0,
