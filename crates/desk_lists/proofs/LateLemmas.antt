@@ -26,7 +26,7 @@ use Rattle.store_tables.specs.Kept.{itself}
 use Rattle.store_tables.specs.Orders.{by_dated_id, by_due}
 use Rattle.store_tables.specs.Picked.{AreOrdered}
 use Rattle.store_tables.specs.Selection.{is_due_before}
-use Rattle.store_core.proofs.OrderLemmas.{dated_total}
+use Rattle.store_core.proofs.RiseLemmas.{dated_total}
 use Rattle.sorted_lists.proofs.PlacedLemmas.{sort_places}
 use Rattle.sorted_lists.proofs.SortedLemmas.{Apart, Rises}
 

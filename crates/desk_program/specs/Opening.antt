@@ -14,11 +14,11 @@ use Rattle.service_core.specs.Attaching.{BlamesBad, FailsOver, TellsKnown}
 use Rattle.service_core.specs.declared.fault.AttachFault.{AttachFault}
 use Rattle.service_core.specs.declared.fault.AttachFault.TheVariants.{Store, UnknownName}
 use Rattle.store_core.specs.Due.{StandsDue}
-use Rattle.store_core.specs.Migrating.{EitherStand, HasEither, LeavesEither, LeavesOthers}
-use Rattle.store_tables.specs.Calls.{Spares, WasClean}
+use Rattle.store_core.specs.Migrating.{EitherStand, LeavesEither, LeavesOthers}
+use Rattle.store_tables.specs.Calls.{AreLeft, Lasts, Spares, WasClean}
 use Rattle.store_tables.specs.Contents.{Contents}
 use Rattle.store_tables.specs.Making.{IsBlank, IsKnown}
-use Rattle.store_tables.specs.Stands.{FirstStandsFor, Stand, StandsFor}
+use Rattle.store_tables.specs.Stands.{FirstStandsFor, HasEither, Stand, StandsFor}
 use Rattle.store_tables.specs.declared.fault.StoreFault.{StoreFault}
 use Rattle.store_tables.specs.declared.fault.StoreFault.TheVariants.{Refused, WrongVersion}
 use Rattle.stream_core.specs.Written.{IsWritten}
@@ -61,7 +61,7 @@ pub record IsNotMade (old new : State) (fault : StoreFault) : Type 0 where
   pub kept : LeavesOthers old new
   pub left : LeavesEither old new
   -- the seven tables, or the six of version 1, are as they were, whatever rows they have
-  pub spared : HasEither old → Spares old new
+  pub spared : HasEither old → AreLeft old new
   -- those of version 1 stand for their desk still
   pub first : (desk : Desk) → IsDesk desk → FirstStandsFor desk old → FirstStandsFor desk new
   -- where there was no table there is none, and the store or memory refused it
@@ -74,6 +74,8 @@ pub record IsNotMade (old new : State) (fault : StoreFault) : Type 0 where
       → fault ≡ Refused
   -- a disk that is clean afterwards was clean before
   pub honest : WasClean old new
+  -- no fault of the disk is forgotten, and only one shuts what was open
+  pub lasts : Lasts old new
 
 -- a fault of attaching settings to tables
 pub record FailsToAttach (settings : Settings) (old new : State) (fault : AttachFault) : Type 0

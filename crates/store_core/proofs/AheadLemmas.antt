@@ -1,11 +1,9 @@
--- The rows with some numbers are those that had them, and come off one after another.
+-- Rows one at a time: what they begin with, and what comes next.
 use Rattle.std.proofs.Common.{◌≡◌, ◌∙◌, ◌+◌, ◌++◌, ◌∷◌, [], ℕ, List, None, Option, Some, ap, ap₂}
-use Rattle.std.proofs.Common.{append_assoc, arith, cond, drop, false, filter, inl, inr, map, refl}
-use Rattle.std.proofs.Common.{slice_get, subst, sym, true, Less}
-use Rattle.std.specs.Prelude.{◌==◌}
-use Rattle.std.specs.Ordering.{nat_cmp}
+use Rattle.std.proofs.Common.{eq-eqb, append-nil, append_assoc, arith, drop, false, filter, inl}
+use Rattle.std.proofs.Common.{inr, map, refl, slice_get, sym, Less}
 use Rattle.std.proofs.lemmas.Bool.Decides.{nat_tests}
-use Rattle.std.proofs.lemmas.List.{append-nil, at_drop_all, at_drop_more}
+use Rattle.std.proofs.lemmas.List.{at_drop_all, at_drop_more}
 use Rattle.std.proofs.lemmas.List.Sorted.{IsPermutation-sym}
 use Rattle.std.proofs.lemmas.Option.{get_or_from_slice_get, slice_get_cases, slice_get_within}
 use Rattle.sqlite_rules.specs.Lists.{Has}
@@ -15,30 +13,28 @@ use Rattle.sqlite_trees.proofs.ListLemmas.{all_weaker, ascending-filter, filter_
 use Rattle.desk_model.specs.Desk.{Desk}
 use Rattle.desk_model.specs.IsDesk.{IsDesk}
 use Rattle.desk_model.specs.declared.rows.RequestRow.{RequestRow}
-use Rattle.store_tables.specs.Contents.{request_rows}
+use Rattle.store_tables.specs.Contents.{request_rows, contents_of}
 use Rattle.store_tables.specs.Dated.{Dated, dated_by, id_of}
 use Rattle.store_tables.specs.Kept.{itself}
 use Rattle.store_tables.specs.Orders.{by_dated_id, by_due, by_id}
 use Rattle.store_tables.specs.Picked.{AreParts}
 use Rattle.store_tables.specs.Selection.{has_number, is_due_before, is_filed_in, number_of}
-use Rattle.store_tables.proofs.LastLemmas.{has_permuted}
+use Rattle.store_tables.proofs.ReadLemmas.{has_permuted}
 use Rattle.store_core.specs.Rows.{AreDueBefore, dated_rows, rows_numbered}
-use Rattle.store_core.proofs.OrderLemmas.{dated_total, the_requests}
+use Rattle.store_core.proofs.RiseLemmas.{dated_total, the_requests}
 use Rattle.store_core.proofs.RiseLemmas.{dated_rise, requests_rise}
 use Rattle.sorted_lists.proofs.SortedLemmas.{Rises}
+use Rattle.sqlite.specs.State.{HasCleanDisk}
+use Rattle.sqlite.specs.Store.{Ghosts}
+use Rattle.store_tables.specs.Calls.{Spares}
+use Rattle.store_tables.specs.Stands.{Stand}
+use Rattle.store_core.specs.Ahead.{Begins, HasAhead}
+use Rattle.store_core.specs.Seen.{state_of}
+use Rattle.store_core.specs.declared.rows.Progress.TheVariants.{Reading}
+use Rattle.store_core.specs.declared.rows.RequestRows.{RequestRows}
+use Rattle.store_core.specs.declared.store.Store.{Store}
 
 -- ---- what is left of the numbers
-
-drop_more : (ns : List ℕ) (at n : ℕ) → slice_get ns at ≡ Some n → drop at ns ≡ n ∷ drop (at + 1) ns
-drop_more ns at n is =
-    at_drop_more (λ (l : List ℕ). l) ns at n (slice_get_within ns at n is)
-    ∙ ap (λ k. k ∷ drop (at + 1) ns) (get_or_from_slice_get ns at n n is)
-
-drop_past : (ns : List ℕ) (at : ℕ) → slice_get ns at ≡ None → drop at ns ≡ []
-drop_past ns at none = elim (slice_get_cases ns at).1 [
-  | inl it ↦ absurd (let both : Some it.0 ≡ None = sym it.2 ∙ none in cc)
-  | inr it ↦ at_drop_all (λ (l : List ℕ). l) ns at it.0
-]
 
 -- one more row is given
 pub one_more : (dated : List Dated) (ns ms : List ℕ) (at n : ℕ) (row : Dated)
@@ -46,28 +42,21 @@ pub one_more : (dated : List Dated) (ns ms : List ℕ) (at n : ℕ) (row : Dated
     → (all given : List Dated) → all ≡ given ++ rows_numbered dated (drop at ns)
     → all ≡ (given ++ row ∷ []) ++ rows_numbered dated (drop (at + 1) ms)
 one_more dated ns ms at n row is one same all given h =
-    let rest = rows_numbered dated (drop (at + 1) ns) in
-    h ∙ ap (λ ks. given ++ rows_numbered dated ks) (drop_more ns at n is)
-    ∙ ap (λ rows. given ++ (rows ++ rest)) one
-    ∙ sym (append_assoc given (row ∷ []) rest)
-    ∙ ap (λ ks. (given ++ row ∷ []) ++ rows_numbered dated (drop (at + 1) ks)) (sym same)
+    let more : drop at ns ≡ n ∷ drop (at + 1) ns =
+    at_drop_more (λ (l : List ℕ). l) ns at n (slice_get_within ns at n is)
+    ∙ ap (λ k. k ∷ drop (at + 1) ns) (get_or_from_slice_get ns at n n is) in
+    rw (same, append_assoc given (row ∷ []) (rows_numbered dated (drop (at + 1) ns)))
+    (rw (more, one) at h)
 
 -- those so far were all
 pub no_more : (dated : List Dated) (ns : List ℕ) (at : ℕ) → slice_get ns at ≡ None
     → (all given : List Dated) → all ≡ given ++ rows_numbered dated (drop at ns) → all ≡ given
 no_more dated ns at none all given h =
-    h ∙ ap (λ ks. given ++ rows_numbered dated ks) (drop_past ns at none) ∙ append-nil given
+    let past : drop at ns ≡ [] =
+    grind (arith, slice_get_cases ns at, at_drop_all (λ (l : List ℕ). l) ns at) in
+    rw (past, append-nil) at h
 
 -- ---- the rows with the numbers of some rows are those rows
-
-higher : (a b : ℕ) → nat_cmp a b ≡ Less → (b == a) ≡ false
-higher a b low = grind (arith, nat_tests)
-
-lower : (a b : ℕ) → nat_cmp a b ≡ Less → (a == b) ≡ false
-lower a b low = grind (arith, nat_tests)
-
-same_number : (a b : ℕ) → a ≡ b → (b == a) ≡ true
-same_number a b is = grind (arith, nat_tests)
 
 abbrev AllRise : List Dated → Type 0
 AllRise = Rises itself by_dated_id dated_total
@@ -77,19 +66,13 @@ one_numbered : (ds : List Dated) → AllRise ds → (x : Dated) → Has ds x
     → filter (has_number (id_of x)) ds ≡ x ∷ []
 one_numbered [] rise x has = absurd has
 one_numbered (y ∷ ys) rise x (inl same) =
-    let is : id_of x ≡ id_of y = ap id_of same in
-    let rest : filter (has_number (id_of x)) ys ≡ [] =
-    filter_none (has_number (id_of x)) ys
+    let none = filter_none (has_number (id_of x)) ys
     (all_weaker (λ z. by_dated_id y z ≡ Less) (λ z. has_number (id_of x) z ≡ false)
-    (λ z low. ap (λ n. id_of z == n) is ∙ higher (id_of y) (id_of z) low) ys rise.0) in
-    let others = filter (has_number (id_of x)) ys in
-    ap (λ b. cond b (y ∷ others) others) (same_number (id_of x) (id_of y) is)
-    ∙ ap₂ (λ z zs. z ∷ zs) (sym same) rest
+    (λ z low. rw same (grind (arith, nat_tests, low))) ys rise.0) in
+    rw (none, same, eq-eqb (id_of y) (id_of y) refl)
 one_numbered (y ∷ ys) rise x (inr later) =
-    let others = filter (has_number (id_of x)) ys in
-    let low : by_dated_id y x ≡ Less = all_has (λ z. by_dated_id y z ≡ Less) ys x rise.0 later in
-    ap (λ b. cond b (y ∷ others) others) (lower (id_of y) (id_of x) low)
-    ∙ one_numbered ys rise.1 x later
+    let low = all_has (λ z. by_dated_id y z ≡ Less) ys x rise.0 later in
+    grind (arith, nat_tests, one_numbered ys rise.1 x later)
 
 their_rows : (ds : List Dated) → AllRise ds → (xs : List Dated)
     → ((x : Dated) → Has xs x → Has ds x) → rows_numbered ds (map id_of xs) ≡ xs
@@ -111,11 +94,10 @@ queue_ahead due desk is name ns h =
     (requests_rise desk is)) h.ordered in
     let numbers : ns ≡ map id_of (map (dated_by due) filed) =
     h.are ∙ ap (map number_of) values ∙ sym (map-map id_of (dated_by due) filed) in
-    sym (ap (rows_numbered ds) numbers
-    ∙ their_rows ds (dated_rise due desk is) (map (dated_by due) filed)
+    rw numbers (sym (their_rows ds (dated_rise due desk is) (map (dated_by due) filed)
     (λ x has. let it = has_mapped (dated_by due) filed x has in
-    subst (Has ds) (sym it.2) (mapped_has (dated_by due) rows it.0
-    (has_filtered (is_filed_in name) rows it.0 it.1).0)))
+    rw it.2 (mapped_has (dated_by due) rows it.0
+    (has_filtered (is_filed_in name) rows it.0 it.1).0))))
 
 pub overdue_ahead : (due : RequestRow → Option ℕ) (desk : Desk) → IsDesk desk → (at : ℕ)
     (ns : List ℕ)
@@ -132,3 +114,18 @@ overdue_ahead due desk is at ns h =
           (λ x has. (has_filtered (is_due_before at) ds x
           (has_permuted h.values late x (IsPermutation-sym _ _ h.ordered.same) has)).0)),
     )
+
+pub begins : {S : Type 0} (g : Ghosts S)
+    (IsAnswer : (RequestRow → Option ℕ) → Desk → List Dated → Type 0) (old new : Store S g)
+    (rows : RequestRows S g) → rows.store.now ≡ new → rows.at ≡ 0 → rows.progress ≡ Reading
+    → Spares (state_of g old) (state_of g new)
+    → ((desk : Desk) → IsDesk desk → (due : RequestRow → Option ℕ)
+    → Stand (contents_of due desk) (state_of g old) → HasCleanDisk (state_of g new)
+    → HasAhead g IsAnswer new due desk)
+    → Begins g IsAnswer old rows
+begins {S} g IsAnswer old new rows same first reading kept ahead = record {
+  reading = reading;
+  kept = rw same kept;
+  none_yet = λ desk is due stand clean.
+      let it = ahead desk is due stand (rw same at clean) in (it.0, it.1, rw (same, first) it.2);
+}

@@ -1,11 +1,11 @@
 -- The stays that are filled in are those of the desk.
-use Rattle.std.proofs.Common.{◌≡◌, ◌∙◌, ℕ, List, [], ◌∷◌, ◌++◌, map, filter, flat_map, fold}
-use Rattle.std.proofs.Common.{append-nil, Option, Some, None, refl, ap, ap₂, sym, subst}
+use Rattle.std.proofs.Common.{◌≡◌, ◌∙◌, ℕ, List, [], ◌∷◌, ◌++◌, map, filter, flat_map, fold, arith}
+use Rattle.std.proofs.Common.{rules, append-nil, append_assoc, Option, Some, refl, ap}
 use Rattle.std.proofs.Common.{IsPermutation}
 use Rattle.std.specs.List.{All}
-use Rattle.std.specs.Option.{option_map_or}
 use Rattle.std.proofs.lemmas.List.Elements.{All-head, All-tail}
 use Rattle.std.proofs.lemmas.List.Sorted.{IsPermutation-append_right, IsPermutation-middle}
+use Rattle.std.proofs.lemmas.List.Sorted.{IsPermutation-append_comm, IsPermutation-append_left}
 use Rattle.std.proofs.lemmas.List.Sorted.{IsPermutation-refl, IsPermutation-trans}
 use Rattle.sqlite_trees.proofs.ListLemmas.{map-map}
 use Rattle.desk_model.specs.Desk.{Desk, Request, request_at}
@@ -16,17 +16,17 @@ use Rattle.desk_model.specs.declared.rows.Entry.{Entry}
 use Rattle.desk_model.specs.declared.rows.RequestRow.{RequestRow}
 use Rattle.desk_core.proofs.EachRequest.{found_each}
 use Rattle.store_tables.specs.Contents.{Contents, add_stay, contents_of, first_contents_of}
-use Rattle.store_tables.specs.Contents.{history_at, request_rows, requests, set_version}
+use Rattle.store_tables.specs.Contents.{request_rows, requests, set_version}
 use Rattle.store_tables.specs.Dated.{row_of}
 use Rattle.store_tables.specs.Orders.{by_id, by_number}
 use Rattle.store_tables.specs.Picked.{AreOrdered, AreParts}
 use Rattle.store_tables.specs.Selection.{number_of, tells_of}
 use Rattle.store_tables.specs.Stays.{StayRow, stay_rows}
-use Rattle.store_tables.proofs.DatedLemmas.{rows_dated}
+use Rattle.store_tables.proofs.DueLemmas.{rows_dated}
 use Rattle.store_core.specs.Migrating.{stays_filled}
 use Rattle.store_core.specs.Written.{AreAlike}
 use Rattle.store_core.proofs.HistoryLemmas.{the_history}
-use Rattle.store_core.proofs.OrderLemmas.{the_requests}
+use Rattle.store_core.proofs.RiseLemmas.{the_requests}
 use Rattle.store_core.proofs.RiseLemmas.{requests_rise}
 
 -- ---- only the stays change
@@ -71,45 +71,26 @@ all_filled desk (id ∷ numbers) so_far =
     IsPermutation-trans _ _ _ (all_filled desk numbers (fold onto so_far these))
     (IsPermutation-trans _ _ _
     (IsPermutation-append_right others _ _ (all_onto these so_far))
-    (between others these so_far))
-  where
-    between : (xs ys zs : List StayRow) → IsPermutation (xs ++ (ys ++ zs)) ((ys ++ xs) ++ zs)
-    between xs [] zs = IsPermutation-refl _
-    between xs (y ∷ ys) zs =
-        IsPermutation-trans _ _ _ (IsPermutation-middle xs y (ys ++ zs))
-        (IsPermutation-append_right (y ∷ []) _ _ (between xs ys zs))
+    (rw (← append_assoc others these so_far)
+    (IsPermutation-append_left so_far _ _ (IsPermutation-append_comm others these))))
 
 each_at : (desk : Desk) (rs : List Request) → All (λ r. request_at desk r.row.id ≡ Some r) rs
     → flat_map (rows_at desk) (map (λ r. r.row.id) rs)
     ≡ flat_map (λ r. stay_rows r.row.id (stays_of r.entries)) rs
 each_at desk [] found = refl
 each_at desk (r ∷ rs) found =
-    ap₂ ◌++◌
-    (ap (λ (o : Option Request). stay_rows r.row.id (option_map_or (λ x. stays_of x.entries) o []))
-    (All-head (λ x. request_at desk x.row.id ≡ Some x) r rs found))
-    (each_at desk rs (All-tail (λ x. request_at desk x.row.id ≡ Some x) r rs found))
+    let IsFound = λ (x : Request). request_at desk x.row.id ≡ Some x in
+    simp (All-head IsFound r rs found, each_at desk rs (All-tail IsFound r rs found))
 
 -- version 2 of what version 1 held of the desk, with its stays filled in, is what version 2 holds
 pub migrated_alike : (due : RequestRow → Option ℕ) (desk : Desk) → IsDesk desk
     → AreAlike (set_version (fold (stays_filled desk) (first_contents_of due desk) (ids desk)) 2)
     (contents_of due desk)
 migrated_alike due desk is =
-    let first = first_contents_of due desk in
-    let all = filled desk [] (ids desk) in
-    subst (λ c. AreAlike (set_version c 2) (contents_of due desk))
-    (sym (filled_only desk (ids desk) first))
-    (record {
-      version = refl;
-      queues = IsPermutation-refl _;
-      dated = IsPermutation-refl _;
-      watchers = IsPermutation-refl _;
-      links = IsPermutation-refl _;
-      entries = IsPermutation-refl _;
-      stays = subst (IsPermutation all)
-          (append-nil (flat_map (rows_at desk) (ids desk))
-          ∙ each_at desk desk.requests (found_each 1 desk.requests is.requests))
-          (all_filled desk (ids desk) []);
-    })
+    let stays = rw (append-nil, each_at desk desk.requests (found_each 1 desk.requests is.requests))
+    at (all_filled desk (ids desk) []) in
+    rw (filled_only desk (ids desk) (first_contents_of due desk))
+    (search (rules, IsPermutation-refl))
 
 -- ---- what is read
 
@@ -118,24 +99,13 @@ pub all_numbers : (due : RequestRow → Option ℕ) (desk : Desk) (c : Contents)
     → AreParts number_of by_id (requests c) ns → ns ≡ ids desk
 all_numbers due desk c is same ns h =
     let these : requests c ≡ request_rows desk = ap (map row_of) same ∙ rows_dated due desk in
-    let ordered = subst (λ rows. AreOrdered by_id rows h.values) these h.ordered in
+    let ordered = rw these at h.ordered in
     h.are
     ∙ ap (map number_of) (the_requests (request_rows desk) h.values (requests_rise desk is) ordered)
     ∙ map-map number_of (λ (r : Request). r.row) desk.requests
-
-pub told_stays : (desk : Desk) (id : ℕ) → stays_of (history_at desk id) ≡ stays_at desk id
-told_stays desk id = by_found (request_at desk id)
-  where
-    by_found : (o : Option Request)
-        → stays_of (option_map_or (λ r. r.entries) o [])
-        ≡ option_map_or (λ r. stays_of r.entries) o []
-    by_found None = refl
-    by_found (Some r) = refl
 
 pub one_told : (due : RequestRow → Option ℕ) (desk : Desk) (c : Contents) (id : ℕ) → IsDesk desk
     → c.entries ≡ (contents_of due desk).entries → (es : List Entry)
     → AreOrdered by_number (filter (tells_of id) c.entries) es → stays_of es ≡ stays_at desk id
 one_told due desk c id is same es h =
-    ap stays_of (the_history desk is id es
-    (subst (λ all. AreOrdered by_number (filter (tells_of id) all) es) same h))
-    ∙ told_stays desk id
+    ap stays_of (the_history desk is id es (rw same at h)) ∙ grind arith

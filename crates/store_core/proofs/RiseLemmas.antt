@@ -1,51 +1,115 @@
--- The lists of a well-formed desk rise by their keys.
-use Rattle.std.proofs.Common.{◌≡◌, ◌∙◌, ◌+◌, ◌<◌, ◌==◌, ℕ, Bool, true, false, cond, List, [], ◌∷◌}
-use Rattle.std.proofs.Common.{◌++◌, map, filter, flat_map, arith, refl, ap, sym, Ordering, Less}
-use Rattle.std.proofs.Common.{Equal, Greater, Option}
-use Rattle.std.proofs.lemmas.Bool.{and_from, and_parts, eq-eqb, eqb-true}
+-- What rises by its key in a desk, and that what is read in the order of its key is that.
+use Rattle.std.proofs.Common.{Equal, ◌≡◌, ◌∙◌, ◌+◌, ◌<◌, ◌==◌, ℕ, Bool, true, List, [], ◌∷◌, map}
+use Rattle.std.proofs.Common.{eqb-true, is_lt, nat_cmp, filter, flat_map, append-nil, arith, refl}
+use Rattle.std.proofs.Common.{ap, sym, Option, Ordering, Less}
+use Rattle.std.proofs.lemmas.Bool.{and_parts}
 use Rattle.std.proofs.lemmas.Bool.Decides.{nat_tests}
-use Rattle.std.proofs.lemmas.Cmp.{nat_cmp_total, nat_list_cmp_total, tied_itself}
-use Rattle.std.specs.Prelude.{◌&&◌, ◌||◌}
-use Rattle.std.specs.Bool.{nat_lt}
-use Rattle.std.specs.Cmp.Lexicographic.{same_text, slice_cmp}
+use Rattle.std.proofs.lemmas.Cmp.{nat_cmp_total, nat_list_cmp_total, tied_itself, on_total}
+use Rattle.std.proofs.lemmas.Cmp.{then_total}
+use Rattle.std.specs.Cmp.Lexicographic.{same_text}
 use Rattle.std.specs.List.{AllByRecursion, list_all}
-use Rattle.std.specs.Ordering.{is_lt, nat_cmp, on, ordering_then, then_cmp}
+use Rattle.std.specs.Ordering.{on, ordering_then, then_cmp}
 use Rattle.sqlite_trees.specs.Tree.{IsAscending}
-use Rattle.sqlite_trees.proofs.ListLemmas.{all_both, all_of, all_weaker, all-append, all-map}
+use Rattle.sqlite_rules.proofs.ListLemmas.{all_from, has_filtered, test_has}
+use Rattle.sqlite_trees.proofs.ListLemmas.{all_of, all_weaker, all-append, all-map}
 use Rattle.sqlite_trees.proofs.ListLemmas.{ascending-append, ascending-filter, ascending-map}
-use Rattle.sqlite_trees.proofs.ListLemmas.{ascending_weaker}
+use Rattle.sqlite_trees.proofs.ListLemmas.{all_both}
 use Rattle.hours_core.specs.declared.stay.Stay.{Stay}
-use Rattle.desk_model.specs.declared.rows.Entry.{Entry}
-use Rattle.desk_model.specs.declared.rows.LinkRow.{LinkRow}
 use Rattle.desk_model.specs.declared.rows.RequestRow.{RequestRow}
 use Rattle.desk_model.specs.declared.rows.Watcher.{Watcher}
 use Rattle.desk_model.specs.declared.rows.WatchRole.{WatchRole}
 use Rattle.desk_model.specs.declared.rows.WatchRole.TheVariants.{Requestor, Cc, AdminCc}
-use Rattle.desk_model.specs.Desk.{Desk, Request}
-use Rattle.desk_model.specs.IsDesk.{IsDesk, are_numbered, has_its_entries}
-use Rattle.desk_model.specs.Names.{names_rise}
-use Rattle.desk_model.specs.IsDesk.{persons_rise}
-use Rattle.desk_model.specs.Links.{is_lower_link, kind_number}
-use Rattle.desk_model.specs.Names.{text_order}
+use Rattle.desk_model.specs.Desk.{Desk, Request, has_lower_name}
+use Rattle.desk_model.specs.IsDesk.{IsDesk, are_numbered, has_its_entries, persons_rise}
+use Rattle.desk_model.specs.Links.{is_lower_link}
+use Rattle.desk_model.specs.Names.{names_rise, text_order}
 use Rattle.desk_model.specs.Stays.{stays_of}
 use Rattle.desk_model.specs.Watchers.{watcher, watchers_of}
-use Rattle.store_tables.specs.Contents.{entries, request_rows, watchers}
+use Rattle.sorted_lists.proofs.SortedLemmas.{Rises, sorted_same}
+use Rattle.store_tables.specs.Contents.{request_rows, watchers}
 use Rattle.store_tables.specs.Dated.{Dated, dated_by}
 use Rattle.store_tables.specs.Kept.{itself}
-use Rattle.store_tables.specs.Orders.{by_dated_id, by_entry, by_id, by_link, by_standing}
-use Rattle.store_tables.specs.Orders.{by_stay, by_watcher}
+use Rattle.store_tables.specs.Orders.{by_dated_id, by_id, by_link, by_role, by_standing, by_stay}
+use Rattle.store_tables.specs.Orders.{by_stay_number, by_watcher, by_name}
 use Rattle.store_tables.specs.Selection.{is_of_person}
 use Rattle.store_tables.specs.Spelling.{role_number}
 use Rattle.store_tables.specs.Stays.{StayRow, stay_rows, stay_rows_from, stays}
 use Rattle.store_core.specs.Rows.{dated_rows}
-use Rattle.store_core.proofs.OrderLemmas.{all_rise, dated_total, entry_total, id_total, link_total}
-use Rattle.store_core.proofs.OrderLemmas.{standing_total, stay_total, watcher_total}
-use Rattle.sorted_lists.proofs.SortedLemmas.{Rises}
+use Rattle.std.specs.Cmp.{IsTotalOrder}
+use Rattle.desk_model.specs.Rising.{is_rising}
+use Rattle.desk_model.specs.declared.rows.QueueRow.{QueueRow}
+use Rattle.store_tables.specs.Picked.{AreOrdered}
+
+-- where each comes before the next, each comes before all that follow
+module _ {X : Type 0} (lower : X → X → Bool) (cmp : X → X → Ordering) (total : IsTotalOrder cmp)
+    (same : (a b : X) → lower a b ≡ is_lt (cmp a b)) where
+  pub all_rise : (xs : List X) → is_rising lower xs ≡ true → Rises itself cmp total xs
+  all_rise [] rises = tt
+  all_rise (x ∷ []) rises = (tt, tt)
+  all_rise (x ∷ y ∷ ys) rises =
+      let parts = and_parts (lower x y) (is_rising lower (y ∷ ys)) rises in
+      let first : cmp x y ≡ Less = grind (arith, same x y, parts.0) in
+      let rest = all_rise (y ∷ ys) parts.1 in
+      let later = all_weaker (λ z. cmp y z ≡ Less) (λ z. cmp x z ≡ Less)
+      (λ z low. total.trans x y z first low) ys rest.0 in
+      ((first, later), rest)
+
+-- a list ascends by what comes of the order for all that are so
+pub ascending_where : {X : Type 0} (R S : X → X → Type 0) (P : X → Type 0)
+    → ((a b : X) → P a → P b → R a b → S a b) → (xs : List X) → AllByRecursion P xs
+    → IsAscending R xs → IsAscending S xs
+ascending_where R S P so [] ps h = tt
+ascending_where R S P so (x ∷ xs) ps h = (
+  all_both (R x) P (S x) (λ y less p. so x y ps.0 p less) xs h.0 ps.1,
+  ascending_where R S P so xs ps.1 h.1,
+)
+
+-- what is read in the order by which a list rises is that list
+pub the_list : {X : Type 0} {cmp : X → X → Ordering} (total : IsTotalOrder cmp) (xs ys : List X)
+    → Rises itself cmp total xs → AreOrdered cmp xs ys → ys ≡ xs
+the_list {cmp = cmp} total xs ys rises h = sorted_same itself cmp total xs ys rises h.same h.sorted
+
+-- and so it is with what passes a test
+pub the_part : {X : Type 0} {cmp : X → X → Ordering} (total : IsTotalOrder cmp) (test : X → Bool)
+    (xs ys : List X) → Rises itself cmp total xs → AreOrdered cmp (filter test xs) ys
+    → ys ≡ filter test xs
+the_part {cmp = cmp} total test xs ys rises =
+    the_list total (filter test xs) ys (ascending-filter (λ a b. cmp a b ≡ Less) test xs rises)
+
+ruleset totals = (then_total, on_total, nat_cmp_total, nat_list_cmp_total)
+
+pub id_total : IsTotalOrder by_id
+id_total = on_total (λ r. r.id) nat_cmp_total
+
+pub dated_total : IsTotalOrder by_dated_id
+dated_total = on_total (λ p. p.0.id) nat_cmp_total
+
+pub stay_total : IsTotalOrder by_stay
+stay_total = search totals
+
+pub link_total : IsTotalOrder by_link
+link_total = search totals
+
+pub role_total : IsTotalOrder by_role
+role_total = search totals
+
+pub watcher_total : IsTotalOrder by_watcher
+watcher_total = search totals
+
+pub standing_total : IsTotalOrder by_standing
+standing_total = search totals
+
+pub the_queues : (xs ys : List QueueRow) → is_rising has_lower_name xs ≡ true
+    → AreOrdered by_name xs ys → ys ≡ xs
+the_queues xs ys rises =
+    let total : IsTotalOrder by_name = on_total (λ q. q.name) nat_list_cmp_total in
+    the_list total xs ys (all_rise has_lower_name by_name total (λ a b. refl) xs rises)
+
+pub the_requests : (xs ys : List RequestRow) → Rises itself by_id id_total xs
+    → AreOrdered by_id xs ys → ys ≡ xs
+the_requests = the_list id_total
 
 -- ---- numbers from 1 on
-
-less : (m n : ℕ) → m < n → nat_cmp m n ≡ Less
-less m n low = grind (arith, nat_tests)
 
 module _ {X : Type 0} (number : X → ℕ) where
   all_higher : (n : ℕ) (xs : List X) → are_numbered n (map number xs) ≡ true → (m : ℕ) → m < n
@@ -53,25 +117,24 @@ module _ {X : Type 0} (number : X → ℕ) where
   all_higher n [] numbered m low = tt
   all_higher n (x ∷ xs) numbered m low =
       let parts = and_parts (number x == n) (are_numbered (n + 1) (map number xs)) numbered in
-      let is = eqb-true (number x) n parts.0 in (
-        less m (number x) (omega (arith, low, is)),
-        all_higher (n + 1) xs parts.1 m (omega (arith, low)),
-      )
+      (grind (arith, nat_tests, low, parts.0), all_higher (n + 1) xs parts.1 m (omega (arith, low)))
 
   pub numbers_rise : (n : ℕ) (xs : List X) → are_numbered n (map number xs) ≡ true
       → IsAscending (λ a b. nat_cmp (number a) (number b) ≡ Less) xs
   numbers_rise n [] numbered = tt
   numbers_rise n (x ∷ xs) numbered =
       let parts = and_parts (number x == n) (are_numbered (n + 1) (map number xs)) numbered in
-      let is = eqb-true (number x) n parts.0 in (
-        all_higher (n + 1) xs parts.1 (number x) (omega (arith, is)),
-        numbers_rise (n + 1) xs parts.1,
-      )
+      let low : number x < n + 1 = omega (arith, eqb-true (number x) n parts.0) in
+      (all_higher (n + 1) xs parts.1 (number x) low, numbers_rise (n + 1) xs parts.1)
+
+-- the requests of a desk, by their numbers
+pub ids_rise : (desk : Desk) → IsDesk desk
+    → IsAscending (λ a b. nat_cmp a.row.id b.row.id ≡ Less) desk.requests
+ids_rise desk is = numbers_rise (λ (r : Request). r.row.id) 1 desk.requests is.requests
 
 pub requests_rise : (desk : Desk) → IsDesk desk → Rises itself by_id id_total (request_rows desk)
 requests_rise desk is = ascending-map (λ (a b : RequestRow). by_id a b ≡ Less)
-    (λ (r : Request). r.row) desk.requests
-    (numbers_rise (λ (r : Request). r.row.id) 1 desk.requests is.requests)
+    (λ (r : Request). r.row) desk.requests (ids_rise desk is)
 
 pub dated_rise : (due : RequestRow → Option ℕ) (desk : Desk) → IsDesk desk
     → Rises itself by_dated_id dated_total (dated_rows due desk)
@@ -80,48 +143,15 @@ dated_rise due desk is = ascending-map (λ (a b : Dated). by_dated_id a b ≡ Le
 
 -- ---- links
 
-lower_number : (x y : ℕ) → nat_lt x y ≡ is_lt (nat_cmp x y)
-lower_number x y =
-    elim (nat_lt x y) as (λ b. b ≡ is_lt (cond b Less (cond (x == y) Equal Greater))) [
-      | true ↦ refl
-      | false ↦ elim (x == y) as (λ b. false ≡ is_lt (cond b Equal Greater)) [
-        | true ↦ refl
-        | false ↦ refl
-      ]
-    ]
-
-lower_then : (x y : ℕ) (o : Ordering)
-    → (nat_lt x y || (x == y && is_lt o)) ≡ is_lt (ordering_then (nat_cmp x y) o)
-lower_then x y o =
-    elim (nat_lt x y) as (λ b. (b || (x == y && is_lt o))
-    ≡ is_lt (ordering_then (cond b Less (cond (x == y) Equal Greater)) o)) [
-      | true ↦ refl
-      | false ↦ elim (x == y) as (λ b. (b && is_lt o)
-          ≡ is_lt (ordering_then (cond b Equal Greater) o)) [
-            | true ↦ refl
-            | false ↦ refl
-          ]
-    ]
-
-lower_is : (a b : LinkRow) → is_lower_link a b ≡ is_lt (by_link a b)
-lower_is a b =
-    let later = ordering_then (nat_cmp (kind_number a.kind) (kind_number b.kind))
-    (nat_cmp a.target b.target) in
-    ap (λ t. nat_lt a.source b.source || (a.source == b.source
-    && (nat_lt (kind_number a.kind) (kind_number b.kind)
-    || (kind_number a.kind == kind_number b.kind && t)))) (lower_number a.target b.target)
-    ∙ ap (λ t. nat_lt a.source b.source || (a.source == b.source && t))
-    (lower_then (kind_number a.kind) (kind_number b.kind) (nat_cmp a.target b.target))
-    ∙ lower_then a.source b.source later
-
 pub links_rise : (desk : Desk) → IsDesk desk → Rises itself by_link link_total desk.links
-links_rise desk is = all_rise is_lower_link by_link link_total lower_is desk.links is.links
+links_rise desk is =
+    all_rise is_lower_link by_link link_total (λ a b. grind (arith, nat_tests)) desk.links is.links
 
--- ---- lists of the requests, one after another
+-- ---- lists, one after another
 
--- where each list tells its request's number, and the numbers rise, all rises
+-- each of which tells its own number, where the numbers rise
 module _ {X Y : Type 0} (list : X → List Y) (number : X → ℕ) (told : Y → ℕ) where
-  abbrev pub Tells : X → Type 0
+  abbrev Tells : X → Type 0
   Tells x = AllByRecursion (λ y. told y ≡ number x) (list x)
 
   pub all_later : (n : ℕ) (xs : List X) → AllByRecursion (λ x. nat_cmp n (number x) ≡ Less) xs
@@ -129,153 +159,88 @@ module _ {X Y : Type 0} (list : X → List Y) (number : X → ℕ) (told : Y →
   all_later n [] low tells = tt
   all_later n (x ∷ xs) low tells =
       all-append (λ y. nat_cmp n (told y) ≡ Less) (list x) (flat_map list xs)
-      (all_weaker (λ y. told y ≡ number x) (λ y. nat_cmp n (told y) ≡ Less)
-      (λ y is. ap (nat_cmp n) is ∙ low.0) (list x) tells.0)
+      (all_weaker _ _ (λ y is. ap (nat_cmp n) is ∙ low.0) (list x) tells.0)
       (all_later n xs low.1 tells.1)
 
-  pub lists_rise : (R : Y → Y → Type 0)
-      → (apart : (a b : Y) → nat_cmp (told a) (told b) ≡ Less → R a b) → (xs : List X)
-      → IsAscending (λ a b. nat_cmp (number a) (number b) ≡ Less) xs
-      → AllByRecursion Tells xs → AllByRecursion (λ x. IsAscending R (list x)) xs
-      → IsAscending R (flat_map list xs)
-  lists_rise R apart [] rises tells each = tt
-  lists_rise R apart (x ∷ xs) rises tells each =
-      ascending-append R (list x) (flat_map list xs) each.0
-      (lists_rise R apart xs rises.1 tells.1 each.1)
-      (all_weaker (λ y. told y ≡ number x) (λ y. AllByRecursion (R y) (flat_map list xs))
-      (λ y is. all_weaker (λ z. nat_cmp (number x) (told z) ≡ Less) (R y)
-      (λ z low. apart y z (ap (λ n. nat_cmp n (told z)) is ∙ low)) (flat_map list xs)
-      (all_later (number x) xs rises.0 tells.1)) (list x) tells.0)
+  -- where they rise by another key too, all rises by the number and that key
+  lists_rise : (cmp : Y → Y → Ordering) (xs : List X)
+      → IsAscending (λ a b. nat_cmp (number a) (number b) ≡ Less) xs → AllByRecursion Tells xs
+      → AllByRecursion (λ x. IsAscending (λ a b. cmp a b ≡ Less) (list x)) xs
+      → IsAscending (λ a b. then_cmp (on told nat_cmp) cmp a b ≡ Less) (flat_map list xs)
+  lists_rise cmp [] rises tells each = tt
+  lists_rise cmp (x ∷ xs) rises tells each =
+      let R : Y → Y → Type 0 = λ a b. then_cmp (on told nat_cmp) cmp a b ≡ Less in
+      ascending-append R (list x) (flat_map list xs)
+      (ascending_where (λ a b. cmp a b ≡ Less) R (λ y. told y ≡ number x)
+      (λ a b one two low. rw (one, two, tied_itself nat_cmp_total (number x)) low) (list x) tells.0
+      each.0)
+      (lists_rise cmp xs rises.1 tells.1 each.1)
+      (all_weaker (λ y. told y ≡ number x) _ (λ y is.
+      all_weaker (λ z. nat_cmp (number x) (told z) ≡ Less) (R y) (λ z low. rw (is, low))
+      (flat_map list xs) (all_later (number x) xs rises.0 tells.1)) (list x) tells.0)
 
 -- what a test says of all elements, as a fact about each
 pub all_tested : {X : Type 0} (test : X → Bool) (P : X → Type 0) → ((x : X) → test x ≡ true → P x)
     → (xs : List X) → list_all test xs ≡ true → AllByRecursion P xs
-all_tested test P so [] h = tt
-all_tested test P so (x ∷ xs) h =
-    let parts = and_parts (test x) (list_all test xs) h in
-    (so x parts.0, all_tested test P so xs parts.1)
+all_tested test P so xs h = all_from P xs (λ x has. so x (test_has test xs x h has))
 
 -- ---- watchers
 
-tied : (n : ℕ) → nat_cmp n n ≡ Equal
-tied = tied_itself nat_cmp_total
-
-same_role_lower : (id : ℕ) (role : WatchRole) (a b : List ℕ) → slice_cmp nat_cmp a b ≡ Less
-    → by_watcher (watcher id role a) (watcher id role b) ≡ Less
-same_role_lower id role a b low = rw (tied id, tied (role_number role), low)
-
-role_rises : (id : ℕ) (role : WatchRole) (persons : List (List ℕ)) → names_rise persons ≡ true
-    → IsAscending (λ a b. by_watcher a b ≡ Less) (map (watcher id role) persons)
-role_rises id role persons rise =
-    ascending-map (λ a b. by_watcher a b ≡ Less) (watcher id role) persons
-    (ascending_weaker (λ a b. slice_cmp nat_cmp a b ≡ Less)
-    (λ a b. by_watcher (watcher id role a) (watcher id role b) ≡ Less)
-    (same_role_lower id role) persons
-    (all_rise (λ a b. is_lt (text_order a b)) (slice_cmp nat_cmp) nat_list_cmp_total
-    (λ a b. refl) persons rise))
-
-lower_role : (id : ℕ) (one two : WatchRole) → nat_cmp (role_number one) (role_number two) ≡ Less
-    → (first second : List (List ℕ))
-    → AllByRecursion
-    (λ a. AllByRecursion (λ b. by_watcher a b ≡ Less) (map (watcher id two) second))
-    (map (watcher id one) first)
-lower_role id one two low first second =
-    all-map (λ a. AllByRecursion (λ b. by_watcher a b ≡ Less) (map (watcher id two) second))
-    (watcher id one) first
-    (all_of (λ a. AllByRecursion (λ b. by_watcher (watcher id one a) b ≡ Less)
-    (map (watcher id two) second))
-    (λ a. all-map (λ b. by_watcher (watcher id one a) b ≡ Less) (watcher id two) second
-    (all_of (λ b. by_watcher (watcher id one a) (watcher id two b) ≡ Less)
-    (λ b. rw (tied id, low)) second)) first)
-
-both_follow : {A : Type 0} (R : A → A → Type 0) (xs ys zs : List A)
-    → AllByRecursion (λ x. AllByRecursion (R x) ys) xs
-    → AllByRecursion (λ x. AllByRecursion (R x) zs) xs
-    → AllByRecursion (λ x. AllByRecursion (R x) (ys ++ zs)) xs
-both_follow R xs ys zs one two = all_both (λ x. AllByRecursion (R x) ys)
-    (λ x. AllByRecursion (R x) zs) (λ x. AllByRecursion (R x) (ys ++ zs))
-    (λ x h k. all-append (R x) ys zs h k) xs one two
-
-of_request : (r : Request) → persons_rise r ≡ true
-    → IsAscending (λ a b. by_watcher a b ≡ Less) (watchers_of r)
-of_request r rise =
-    let id = r.row.id in
-    let parts = and_parts (names_rise r.requestors) (names_rise r.cc && names_rise r.admin_cc)
-    rise in
-    let later = and_parts (names_rise r.cc) (names_rise r.admin_cc) parts.1 in
-    let R : Watcher → Watcher → Type 0 = λ a b. by_watcher a b ≡ Less in
-    let requestors = map (watcher id Requestor) r.requestors in
-    let cc = map (watcher id Cc) r.cc in
-    let admin_cc = map (watcher id AdminCc) r.admin_cc in
-    ascending-append R requestors (cc ++ admin_cc) (role_rises id Requestor r.requestors parts.0)
-    (ascending-append R cc admin_cc (role_rises id Cc r.cc later.0)
-    (role_rises id AdminCc r.admin_cc later.1) (lower_role id Cc AdminCc refl r.cc r.admin_cc))
-    (both_follow R requestors cc admin_cc (lower_role id Requestor Cc refl r.requestors r.cc)
-    (lower_role id Requestor AdminCc refl r.requestors r.admin_cc))
-
 pub their_own : (r : Request) → AllByRecursion (λ w. w.id ≡ r.row.id) (watchers_of r)
 their_own r =
-    let id = r.row.id in
-    let P : Watcher → Type 0 = λ w. w.id ≡ id in
-    all-append P (map (watcher id Requestor) r.requestors) _
-    (all-map P (watcher id Requestor) r.requestors (all_of _ (λ _. refl) r.requestors))
-    (all-append P (map (watcher id Cc) r.cc) _
-    (all-map P (watcher id Cc) r.cc (all_of _ (λ _. refl) r.cc))
-    (all-map P (watcher id AdminCc) r.admin_cc (all_of _ (λ _. refl) r.admin_cc)))
+    let each = λ (role : WatchRole) (names : List (List ℕ)).
+    all-map (λ (w : Watcher). w.id ≡ r.row.id) (watcher r.row.id role) names
+    (all_of _ (λ _. refl) names) in
+    all-append _ _ _ (each Requestor r.requestors)
+    (all-append _ _ _ (each Cc r.cc) (each AdminCc r.admin_cc))
+
+pub names_ascend : (names : List (List ℕ)) → names_rise names ≡ true
+    → IsAscending (λ a b. text_order a b ≡ Less) names
+names_ascend = all_rise (λ a b. is_lt (text_order a b)) text_order nat_list_cmp_total (λ a b. refl)
+
+-- role by role
+pub watchers_ascend : (r : Request) → persons_rise r ≡ true
+    → IsAscending (λ a b. by_role a b ≡ Less) (watchers_of r)
+watchers_ascend r rise =
+    let first = and_parts (names_rise r.requestors) _ rise in
+    let rest = and_parts (names_rise r.cc) (names_rise r.admin_cc) first.1 in
+    let each = λ (role : WatchRole) (names : List (List ℕ)).
+    all-map (λ (w : Watcher). role_number w.role ≡ role_number role) (watcher r.row.id role) names
+    (all_of _ (λ _. refl) names) in
+    let in_role = λ (role : WatchRole) (names : List (List ℕ)) (rise : names_rise names ≡ true).
+    ascending-map (λ (a b : Watcher). text_order a.person b.person ≡ Less)
+    (watcher r.row.id role) names (names_ascend names rise) in
+    let one = in_role Requestor r.requestors first.0 in
+    let two = in_role Cc r.cc rest.0 in
+    let three = in_role AdminCc r.admin_cc rest.1 in
+    rw append-nil at
+    (lists_rise (λ (p : WatchRole × List (List ℕ)). map (watcher r.row.id p.0) p.1)
+    (λ p. role_number p.0) (λ (w : Watcher). role_number w.role)
+    (λ a b. text_order a.person b.person)
+    ((Requestor, r.requestors) ∷ (Cc, r.cc) ∷ (AdminCc, r.admin_cc) ∷ []) (assumption)
+    (each Requestor r.requestors, (each Cc r.cc, (each AdminCc r.admin_cc, tt))) (assumption))
 
 pub watchers_rise : (desk : Desk) → IsDesk desk
     → Rises itself by_watcher watcher_total (watchers desk)
 watchers_rise desk is =
-    lists_rise watchers_of (λ (r : Request). r.row.id) (λ (w : Watcher). w.id)
-    (λ a b. by_watcher a b ≡ Less) (λ a b low. rw low) desk.requests
-    (numbers_rise (λ (r : Request). r.row.id) 1 desk.requests is.requests)
-    (all_of (λ r. AllByRecursion (λ w. w.id ≡ r.row.id) (watchers_of r)) their_own desk.requests)
-    (all_tested persons_rise (λ r. IsAscending (λ a b. by_watcher a b ≡ Less) (watchers_of r))
-    of_request desk.requests is.persons)
+    lists_rise watchers_of (λ (r : Request). r.row.id) (λ (w : Watcher). w.id) by_role desk.requests
+    (ids_rise desk is) (all_of _ their_own desk.requests)
+    (all_tested persons_rise _ watchers_ascend desk.requests is.persons)
 
 then_tied : (o : Ordering) → ordering_then o Equal ≡ o
-then_tied Less = refl
-then_tied Equal = refl
-then_tied Greater = refl
+then_tied o = grind arith
 
 -- among those of one person the request and the role tell them apart
-same_person : (a b : Watcher) → a.person ≡ b.person → by_watcher a b ≡ by_standing a b
-same_person a b same =
-    let ids = nat_cmp a.id b.id in
-    let roles = nat_cmp (role_number a.role) (role_number b.role) in
-    let tie : slice_cmp nat_cmp a.person b.person ≡ Equal =
-    ap (slice_cmp nat_cmp a.person) (sym same) ∙ tied_itself nat_list_cmp_total a.person in
-    ap (λ o. ordering_then ids (ordering_then roles o)) tie
-    ∙ ap (ordering_then ids) (then_tied roles)
-
-one_person : (person : List ℕ) (ws : List Watcher) → AllByRecursion (λ w. w.person ≡ person) ws
-    → IsAscending (λ a b. by_watcher a b ≡ Less) ws
-    → IsAscending (λ a b. by_standing a b ≡ Less) ws
-one_person person [] own up = tt
-one_person person (w ∷ ws) own up = (
-  all_both (λ (b : Watcher). b.person ≡ person) (λ b. by_watcher w b ≡ Less)
-      (λ b. by_standing w b ≡ Less)
-      (λ b is low. sym (same_person w b (own.0 ∙ sym is)) ∙ low) ws own.1 up.0,
-  one_person person ws own.1 up.1,
-)
-
-their_watches : (person : List ℕ) (ws : List Watcher)
-    → AllByRecursion (λ w. w.person ≡ person) (filter (is_of_person person) ws)
-their_watches person [] = tt
-their_watches person (w ∷ ws) =
-    let P : Watcher → Type 0 = λ w. w.person ≡ person in
-    let others = filter (is_of_person person) ws in
-    elim (is_of_person person w) as (λ b. is_of_person person w ≡ b
-    → AllByRecursion P (cond b (w ∷ others) others)) [
-      | true ↦ λ is. (same_text w.person person (sym is), their_watches person ws)
-      | false ↦ λ is. their_watches person ws
-    ] refl
-
 pub watches_rise : (desk : Desk) → IsDesk desk → (person : List ℕ)
     → Rises itself by_standing standing_total (filter (is_of_person person) (watchers desk))
 watches_rise desk is person =
-    one_person person (filter (is_of_person person) (watchers desk))
-    (their_watches person (watchers desk))
+    let theirs = filter (is_of_person person) (watchers desk) in
+    ascending_where (λ a b. by_watcher a b ≡ Less) (λ a b. by_standing a b ≡ Less)
+    (λ w. w.person ≡ person)
+    (λ a b one two low. rw (one, two, tied_itself nat_list_cmp_total person, then_tied) at low)
+    theirs
+    (all_from (λ w. w.person ≡ person) theirs (λ w has.
+    same_text w.person person (sym (has_filtered (is_of_person person) (watchers desk) w has).1)))
     (ascending-filter (λ a b. by_watcher a b ≡ Less) (is_of_person person) (watchers desk)
     (watchers_rise desk is))
 
@@ -284,42 +249,12 @@ watches_rise desk is person =
 pub own_entries : (r : Request) → has_its_entries r ≡ true
     → AllByRecursion (λ e. e.id ≡ r.row.id) r.entries
 own_entries r h =
-    let parts = and_parts (list_all (λ e. e.id == r.row.id) r.entries)
-    (are_numbered 1 (map (λ e. e.number) r.entries)) h in
-    all_tested (λ (e : Entry). e.id == r.row.id) (λ e. e.id ≡ r.row.id)
-    (λ e is. eqb-true e.id r.row.id is) r.entries parts.0
+    all_tested (λ e. e.id == r.row.id) (λ e. e.id ≡ r.row.id) (λ e. eqb-true e.id r.row.id)
+    r.entries (and_parts _ _ h).0
 
--- what rises by number rises by request and number too, where the request is one
-module _ {X : Type 0} (of number : X → ℕ) where
-  one_request : (id : ℕ) (xs : List X) → AllByRecursion (λ x. of x ≡ id) xs
-      → IsAscending (λ a b. nat_cmp (number a) (number b) ≡ Less) xs
-      → IsAscending (λ a b. then_cmp (on of nat_cmp) (on number nat_cmp) a b ≡ Less) xs
-  one_request id [] own up = tt
-  one_request id (x ∷ xs) own up = (
-    all_both (λ b. of b ≡ id) (λ b. nat_cmp (number x) (number b) ≡ Less)
-        (λ b. then_cmp (on of nat_cmp) (on number nat_cmp) x b ≡ Less)
-        (λ b is low. rw (own.0, is, tied id, low)) xs own.1 up.0,
-    one_request id xs own.1 up.1,
-  )
-
-entries_of_one : (r : Request) → has_its_entries r ≡ true
-    → IsAscending (λ a b. by_entry a b ≡ Less) r.entries
-entries_of_one r h =
-    let parts = and_parts (list_all (λ e. e.id == r.row.id) r.entries)
-    (are_numbered 1 (map (λ e. e.number) r.entries)) h in
-    one_request (λ (e : Entry). e.id) (λ e. e.number) r.row.id r.entries (own_entries r h)
-    (numbers_rise (λ (e : Entry). e.number) 1 r.entries parts.1)
-
-pub entries_rise : (desk : Desk) → IsDesk desk
-    → Rises itself by_entry entry_total (entries desk)
-entries_rise desk is =
-    lists_rise (λ (r : Request). r.entries) (λ (r : Request). r.row.id) (λ (e : Entry). e.id)
-    (λ a b. by_entry a b ≡ Less) (λ a b low. rw low) desk.requests
-    (numbers_rise (λ (r : Request). r.row.id) 1 desk.requests is.requests)
-    (all_tested has_its_entries (λ r. AllByRecursion (λ (e : Entry). e.id ≡ r.row.id) r.entries)
-    own_entries desk.requests is.entries)
-    (all_tested has_its_entries (λ r. IsAscending (λ a b. by_entry a b ≡ Less) r.entries)
-    entries_of_one desk.requests is.entries)
+pub entries_numbered : (r : Request) → has_its_entries r ≡ true
+    → are_numbered 1 (map (λ e. e.number) r.entries) ≡ true
+entries_numbered r h = (and_parts (list_all (λ e. e.id == r.row.id) r.entries) _ h).1
 
 -- ---- stays
 
@@ -331,26 +266,17 @@ own_stays id n (s ∷ ss) = (refl, own_stays id (n + 1) ss)
 stays_from : (id n : ℕ) (ss : List Stay)
     → are_numbered n (map (λ s. s.number) (stay_rows_from id n ss)) ≡ true
 stays_from id n [] = refl
-stays_from id n (s ∷ ss) =
-    and_from (n == n) (are_numbered (n + 1) (map (λ s. s.number) (stay_rows_from id (n + 1) ss)))
-    (eq-eqb n n refl) (stays_from id (n + 1) ss)
+stays_from id n (s ∷ ss) = grind (arith, nat_tests, stays_from id (n + 1) ss)
 
 pub stays_numbered : (id n : ℕ) (ss : List Stay)
-    → IsAscending (λ a b. nat_cmp a.number b.number ≡ Less) (stay_rows_from id n ss)
+    → IsAscending (λ a b. by_stay_number a b ≡ Less) (stay_rows_from id n ss)
 stays_numbered id n ss =
     numbers_rise (λ (s : StayRow). s.number) n (stay_rows_from id n ss) (stays_from id n ss)
 
 pub stays_rise : (desk : Desk) → IsDesk desk → Rises itself by_stay stay_total (stays desk)
 stays_rise desk is =
     lists_rise (λ (r : Request). stay_rows r.row.id (stays_of r.entries))
-    (λ (r : Request). r.row.id) (λ (s : StayRow). s.request) (λ a b. by_stay a b ≡ Less)
-    (λ a b low. rw low) desk.requests
-    (numbers_rise (λ (r : Request). r.row.id) 1 desk.requests is.requests)
-    (all_of (λ r. AllByRecursion (λ s. s.request ≡ r.row.id)
-    (stay_rows r.row.id (stays_of r.entries)))
-    (λ r. own_stays r.row.id 1 (stays_of r.entries)) desk.requests)
-    (all_of (λ r. IsAscending (λ a b. by_stay a b ≡ Less)
-    (stay_rows r.row.id (stays_of r.entries)))
-    (λ r. one_request (λ (s : StayRow). s.request) (λ s. s.number) r.row.id
-    (stay_rows r.row.id (stays_of r.entries)) (own_stays r.row.id 1 (stays_of r.entries))
-    (stays_numbered r.row.id 1 (stays_of r.entries))) desk.requests)
+    (λ (r : Request). r.row.id) (λ (s : StayRow). s.request) by_stay_number desk.requests
+    (ids_rise desk is)
+    (all_of _ (λ r. own_stays r.row.id 1 (stays_of r.entries)) desk.requests)
+    (all_of _ (λ r. stays_numbered r.row.id 1 (stays_of r.entries)) desk.requests)

@@ -1,45 +1,97 @@
 -- The stays that a change writes are those of the desk after it.
-use Rattle.std.proofs.Common.{◌≡◌, ◌∙◌, ℕ, ◌+◌, ◌-◌, ◌==◌, true, false, cond, List, [], ◌∷◌}
-use Rattle.std.proofs.Common.{◌++◌, map, flat_map, find, fold, length, append-nil, Option}
-use Rattle.std.proofs.Common.{Some, None, refl, ap, ap₂, sym, arith, subst, slice_get, IsPermutation}
-use Rattle.std.specs.Option.{is_some, option_map, option_map_or}
-use Rattle.std.proofs.lemmas.Bool.{eq-eqb, eqb-true}
-use Rattle.std.proofs.lemmas.Grind.{flat_map-append}
-use Rattle.std.proofs.lemmas.List.{length-append}
-use Rattle.std.proofs.lemmas.List.Elements.{recursion_from_All}
+use Rattle.std.proofs.Common.{◌⊎◌, inl, inr, ◌≡◌, ◌∙◌, ℕ, ◌+◌, ◌<◌, ◌==◌, false, List, [], ◌∷◌}
+use Rattle.std.proofs.Common.{◌++◌, map, is_some, option_map, eq-eqb, length-append, flat_map}
+use Rattle.std.proofs.Common.{length, refl, arith, IsPermutation, true, find, fold, Option, Some}
+use Rattle.std.proofs.Common.{None, ap, sym, slice_get}
+use Rattle.std.proofs.lemmas.Bool.Decides.{nat_tests}
+use Rattle.std.proofs.lemmas.List.Sorted.{IsPermutation-sym, IsPermutation-to_front}
 use Rattle.std.proofs.lemmas.List.Sorted.{IsPermutation-refl}
+use Rattle.std.proofs.lemmas.List.Elements.{recursion_from_All}
+use Rattle.sqlite_trees.proofs.ListLemmas.{map-flat_map, flat_map-map, flat_map_same_on}
+use Rattle.sqlite_rules.specs.Lists.{Has}
+use Rattle.sqlite_rules.proofs.ListLemmas.{all_has}
 use Rattle.hours_core.specs.declared.stay.Stay.{Stay}
-use Rattle.desk_model.specs.Change.{applied, filed, request_filed}
+use Rattle.desk_model.specs.Desk.{Request, Desk, request_at}
+use Rattle.desk_model.specs.Stays.{stays_of}
+use Rattle.desk_core.proofs.Begun.{closed, beginning_for, none_more, one_more, open_stay}
+use Rattle.desk_model.specs.Change.{applied, request_filed}
 use Rattle.desk_model.specs.Dated.{either_row}
-use Rattle.desk_model.specs.Desk.{Desk, Request, request_at}
 use Rattle.desk_model.specs.Facts.{stays_at}
 use Rattle.desk_model.specs.IsDesk.{are_numbered, ids}
-use Rattle.desk_model.specs.Stays.{begins_stay, stays_of}
 use Rattle.desk_model.specs.declared.change.Change.{Change}
 use Rattle.desk_model.specs.declared.rows.Entry.{Entry}
 use Rattle.desk_model.specs.declared.rows.RequestRow.{RequestRow}
 use Rattle.desk_core.specs.Carried.{HasStays, IsOneOf, KeepsStays, beginning}
-use Rattle.desk_core.proofs.Begun.{beginning_for, closed, none_more, one_more, open_stay}
 use Rattle.desk_core.proofs.Changed.{changed, entries_changed, entries_for, id_changed}
 use Rattle.desk_core.proofs.Changed.{requests_after}
 use Rattle.desk_core.proofs.EachRequest.{found_each}
 use Rattle.desk_core.proofs.Goes.{number_found}
+use Rattle.store_tables.specs.Stays.{StayRow, stay_row, stay_rows, stay_rows_from, with_end, stays}
 use Rattle.store_tables.specs.Contents.{Contents, add_entry, add_stay, add_watcher, drop_watcher}
-use Rattle.store_tables.specs.Stays.{StayRow, stay_row, stay_rows, stays, with_end}
-use Rattle.store_core.proofs.Revised.{there_by_number}
-use Rattle.store_core.proofs.StayRows.{closed_length, grown_rows, none_ended, one_grown}
-use Rattle.store_core.proofs.StayRows.{others_kept, rows_of}
-use Rattle.store_core.specs.Written.{begun_on, last_of, link_added, link_dropped, queue_added}
-use Rattle.store_core.specs.Written.{request_added, request_set, rows_written, stay_begun}
-use Rattle.store_core.specs.Written.{stay_ended, stay_put}
+use Rattle.store_core.proofs.FactsLemmas.{find-map}
+use Rattle.store_core.proofs.Revised.{none_filed, one_more as one_differs, there_by_number}
+use Rattle.store_core.specs.Written.{begun_on, last_of, rows_written, stay_begun, stay_ended}
+use Rattle.store_core.specs.Written.{stay_put}
+
+-- the stays of a request, as rows
+abbrev pub rows_of : Request → List StayRow
+rows_of r = stay_rows r.row.id (stays_of r.entries)
+
+-- ---- one stay gets its end
+
+-- no stay of another request, and none that comes later
+others_kept : (id number until other n : ℕ) (ss : List Stay)
+    → ((other == id) ≡ false) ⊎ (number < n)
+    → map (with_end id number until) (stay_rows_from other n ss) ≡ stay_rows_from other n ss
+others_kept id number until other n [] apart = refl
+others_kept id number until other n (s ∷ ss) (inl apart) =
+    grind (arith, others_kept id number until other (n + 1) ss (inl apart))
+others_kept id number until other n (s ∷ ss) (inr low) =
+    grind (
+      arith,
+      nat_tests,
+      others_kept id number until other (n + 1) ss (inr (omega (arith, low))),
+    )
+
+pub none_ended : (id until : ℕ) (rs : List Request)
+    → map (with_end id 0 until) (flat_map rows_of rs) ≡ flat_map rows_of rs
+none_ended id until rs =
+    map-flat_map (with_end id 0 until) rows_of rs
+    ∙ λ t. flat_map (λ r. others_kept id 0 until r.row.id 1 (stays_of r.entries)
+    (inr (omega arith)) t) rs
+
+-- of the request itself the last one
+last_ended : (id number until n : ℕ) (ss : List Stay) → number + 1 ≡ n + length ss
+    → map (with_end id number until) (stay_rows_from id n ss)
+    ≡ stay_rows_from id n (closed ss until)
+last_ended id number until n [] last = refl
+last_ended id number until n (s ∷ []) last = grind (arith, nat_tests)
+last_ended id number until n (s ∷ t ∷ ss) last =
+    grind (arith, nat_tests, last_ended id number until (n + 1) (t ∷ ss))
+
+-- ---- one more stay
+
+one_more_row : (id n : ℕ) (ss : List Stay) (s : Stay) → stay_rows_from id n (ss ++ s ∷ [])
+    ≡ stay_rows_from id n ss ++ stay_row id (n + length ss) s ∷ []
+one_more_row id n [] s = grind arith
+one_more_row id n (t ∷ ss) s = grind (arith, one_more_row id (n + 1) ss s)
+
+pub closed_length : (ss : List Stay) (until : ℕ) → length (closed ss until) ≡ length ss
+closed_length [] until = refl
+closed_length (s ∷ []) until = refl
+closed_length (s ∷ t ∷ ss) until = omega (arith, closed_length (t ∷ ss) until)
+
+-- it is one more row, and the one before it ends
+pub grown_rows : (id until : ℕ) (ss : List Stay) (s : Stay)
+    → IsPermutation (stay_row id (1 + length ss) s
+    ∷ map (with_end id (length ss) until) (stay_rows id ss))
+    (stay_rows id (closed ss until ++ s ∷ []))
+grown_rows id until ss s =
+    rw (last_ended id (length ss) until 1 ss (omega arith))
+    (rw (one_more_row id 1 (closed ss until) s, closed_length ss until)
+    (IsPermutation-sym _ _ (IsPermutation-to_front (stay_rows id (closed ss until)) _)))
 
 -- ---- the rows of a change leave the stays
-
-by_option : {X : Type 0} (f : Option X → Contents → Contents) (o : Option X) (c : Contents)
-    → (f None c).stays ≡ c.stays → ((x : X) → (f (Some x) c).stays ≡ c.stays)
-    → (f o c).stays ≡ c.stays
-by_option f None c none some = none
-by_option f (Some x) c none some = some x
 
 by_each : {X : Type 0} (step : Contents → X → Contents)
     → ((c : Contents) (x : X) → (step c x).stays ≡ c.stays) → (xs : List X) (c : Contents)
@@ -49,21 +101,12 @@ by_each step leaves (x ∷ xs) c = by_each step leaves xs (step c x) ∙ leaves 
 
 pub stays_left : (change : Change) (c : Contents) → (rows_written change c).stays ≡ c.stays
 stays_left change c =
-    let due = change.due in
-    let opened = queue_added change.queue c in
-    let grown = request_added change.filed due opened in
-    let rows = request_set change.row due grown in
-    let put = fold add_watcher rows change.put in
-    let persons = fold drop_watcher put change.taken in
-    let linked = link_added change.linked persons in
-    by_each add_entry (λ c e. refl) change.entries (link_dropped change.unlinked linked)
-    ∙ by_option link_dropped change.unlinked linked refl (λ l. refl)
-    ∙ by_option link_added change.linked persons refl (λ l. refl)
-    ∙ by_each drop_watcher (λ c w. refl) change.taken put
-    ∙ by_each add_watcher (λ c w. refl) change.put rows
-    ∙ by_option (λ o c. request_set o due c) change.row grown refl (λ r. refl)
-    ∙ by_option (λ o c. request_added o due c) change.filed opened refl (λ r. refl)
-    ∙ by_option queue_added change.queue c refl (λ q. refl)
+    grind (
+      arith,
+      by_each add_entry (λ c e. refl),
+      by_each drop_watcher (λ c w. refl),
+      by_each add_watcher (λ c w. refl),
+    )
 
 -- ---- on which request a stay begins
 
@@ -73,26 +116,13 @@ first_on (e ∷ es) = Some e.id
 
 begun_first : (es : List Entry) → begun_on es ≡ first_on (beginning es)
 begun_first [] = refl
-begun_first (e ∷ es) =
-    elim (begins_stay e.kind)
-    as (λ b. option_map (λ x. x.id) (cond b (Some e) (find (λ x. begins_stay x.kind) es))
-    ≡ first_on (cond b (e ∷ beginning es) (beginning es))) [
-      | true ↦ refl
-      | false ↦ begun_first es
-    ]
-
-same_number : (m n : ℕ) → Some m ≡ Some n → m ≡ n
-same_number m n same = cc
+begun_first (e ∷ es) = grind (arith, begun_first es)
 
 -- it is the one whose row is put, and it has these stays afterwards
 its_stays : (after : Desk) (ss : List Stay) (id : ℕ) (filed set : Option RequestRow)
     → HasStays after ss filed → HasStays after ss set
     → option_map (λ r. r.id) (either_row filed set) ≡ Some id → ss ≡ stays_at after id
-its_stays after ss id None None one two begun = cc
-its_stays after ss id None (Some row) one two begun =
-    two ∙ ap (stays_at after) (same_number row.id id begun)
-its_stays after ss id (Some row) set one two begun =
-    one ∙ ap (stays_at after) (same_number row.id id begun)
+its_stays after ss id filed set one two begun = grind arith
 
 -- ---- the stays of each request after a change
 
@@ -105,63 +135,32 @@ stays_later change r = stays_of (r.entries ++ entries_for r.row.id change.entrie
 abbrev rows_later : Change → Request → List StayRow
 rows_later change r = stay_rows r.row.id (stays_later change r)
 
-each_later : (change : Change) (rs : List Request)
-    → flat_map rows_of (map (changed change) rs) ≡ flat_map (rows_later change) rs
-each_later change [] = refl
-each_later change (r ∷ rs) =
-    ap₂ ◌++◌
-    (ap₂ (λ id es. stay_rows id (stays_of es)) (id_changed change r) (entries_changed change r))
-    (each_later change rs)
-
 all_later : (change : Change) (desk : Desk)
     → stays (applied change desk) ≡ flat_map (rows_later change) (wider change desk).requests
 all_later change desk =
     ap (flat_map rows_of) (requests_after change desk)
-    ∙ each_later change (wider change desk).requests
-
--- a request that is filed has none before
-with_filed_none : (o : Option RequestRow) (desk : Desk) → stays (request_filed o desk) ≡ stays desk
-with_filed_none None desk = refl
-with_filed_none (Some row) desk =
-    flat_map-append rows_of desk.requests (filed row ∷ []) ∙ append-nil (stays desk)
+    ∙ flat_map-map rows_of (changed change) (wider change desk).requests
+    ∙ λ t. flat_map (λ r. stay_rows (id_changed change r t) (stays_of (entries_changed change r t)))
+    (wider change desk).requests
 
 -- its stays are those of the desk there
-find_changed : (change : Change) (id : ℕ) (rs : List Request)
-    → find (λ r. r.row.id == id) (map (changed change) rs)
-    ≡ option_map (changed change) (find (λ r. r.row.id == id) rs)
-find_changed change id [] = refl
-find_changed change id (r ∷ rs) =
-    rw (id_changed change r)
-    (elim (r.row.id == id)
-    as (λ b. cond b (Some (changed change r)) (find (λ x. x.row.id == id) (map (changed change) rs))
-    ≡ option_map (changed change) (cond b (Some r) (find (λ x. x.row.id == id) rs))) [
-      | true ↦ refl
-      | false ↦ find_changed change id rs
-    ])
-
 there_later : (change : Change) (desk : Desk) (id : ℕ) (r : Request)
     → request_at (wider change desk) id ≡ Some r
     → stays_at (applied change desk) id ≡ stays_later change r
 there_later change desk id r there =
-    ap (λ (o : Option Request). option_map_or (λ x. stays_of x.entries) o [])
-    (ap (find (λ x. x.row.id == id)) (requests_after change desk)
-    ∙ find_changed change id (wider change desk).requests
-    ∙ ap (option_map (changed change)) there)
-    ∙ ap stays_of (entries_changed change r)
+    let found : request_at (applied change desk) id ≡ Some (changed change r) =
+    rw (requests_after change desk, find-map)
+    ((λ t. option_map (changed change)
+    (find (λ x. id_changed change x t == id) (wider change desk).requests))
+    ∙ ap (option_map (changed change)) there) in
+    rw found (ap stays_of (entries_changed change r))
 
 -- where no entry begins a stay, all are as before
-same_later : (change : Change) (r : Request)
-    → entries_for r.row.id (beginning change.entries) ≡ []
+same_later : (change : Change) (r : Request) → entries_for r.row.id (beginning change.entries) ≡ []
     → rows_later change r ≡ rows_of r
 same_later change r none =
     ap (stay_rows r.row.id) (none_more r.entries (entries_for r.row.id change.entries)
     (beginning_for r.row.id change.entries ∙ none))
-
-all_same : (change : Change) (rs : List Request) → beginning change.entries ≡ []
-    → flat_map (rows_later change) rs ≡ flat_map rows_of rs
-all_same change [] none = refl
-all_same change (r ∷ rs) none =
-    ap₂ ◌++◌ (same_later change r (ap (entries_for r.row.id) none)) (all_same change rs none)
 
 -- ---- the statements
 
@@ -173,28 +172,11 @@ last_added (t ∷ ss) s = last_added ss s
 put_grown : (id : ℕ) (ss : List Stay) (s : Stay) (c : Contents)
     → stay_put id (length (ss ++ s ∷ [])) (last_of (ss ++ s ∷ [])) c
     ≡ add_stay (stay_ended id (length ss) s.from c) (stay_row id (1 + length ss) s)
-put_grown id ss s c =
-    let count : length (ss ++ s ∷ []) ≡ 1 + length ss = omega (arith, length-append ss (s ∷ [])) in
-    let before : 1 + length ss - 1 ≡ length ss = omega arith in
-    let last : last_of (ss ++ s ∷ []) ≡ Some s =
-    ap (λ n. slice_get (ss ++ s ∷ []) (n - 1)) count
-    ∙ ap (slice_get (ss ++ s ∷ [])) before ∙ last_added ss s in
-    ap₂ (λ n o. stay_put id n o c) count last
-    ∙ ap (λ n. add_stay (stay_ended id n s.from c) (stay_row id (1 + length ss) s)) before
+put_grown id ss s c = grind (arith, length-append ss (s ∷ []), last_added ss s)
 
 ended_rows : (id n until : ℕ) (c : Contents) (rs : List Request) → c.stays ≡ flat_map rows_of rs
     → (stay_ended id n until c).stays ≡ map (with_end id n until) (flat_map rows_of rs)
-ended_rows id n until c rs same =
-    elim (n == 0) as (λ b. (n == 0) ≡ b
-    → (cond b c (record c { stays = map (with_end id n until) c.stays })).stays
-    ≡ map (with_end id n until) (flat_map rows_of rs)) [
-      | true ↦ λ zero.
-          let none : n ≡ 0 = eqb-true n 0 zero in
-          same ∙ sym (subst
-          (λ m. map (with_end id m until) (flat_map rows_of rs) ≡ flat_map rows_of rs)
-          (sym none) (none_ended id until rs))
-      | false ↦ λ some. ap (map (with_end id n until)) same
-    ] refl
+ended_rows id n until c rs same = grind (arith, nat_tests, none_ended id until rs)
 
 -- ---- one entry begins a stay
 
@@ -205,33 +187,21 @@ module _ (change : Change) (desk : Desk) (e : Entry) (is : beginning change.entr
         → stays_later change r ≡ closed (stays_of r.entries) e.moment ++ open_stay e ∷ []
     own_later r own =
         one_more r.entries (entries_for r.row.id change.entries) e
-        (beginning_for r.row.id change.entries ∙ ap (entries_for r.row.id) is
-        ∙ ap (λ b. cond b (e ∷ []) []) (eq-eqb r.row.id e.id own))
+        (beginning_for r.row.id change.entries ∙ rw (is, eq-eqb r.row.id e.id own))
 
-    own_grown : (n : ℕ) (r : Request) → length (stays_of r.entries) ≡ n → r.row.id ≡ e.id
-        → IsPermutation (stay_row e.id (1 + n) (open_stay e)
-        ∷ map (with_end e.id n e.moment) (rows_of r)) (rows_later change r)
-    own_grown n r count own =
-        let old = stays_of r.entries in
-        subst (λ m. IsPermutation (stay_row e.id (1 + m) (open_stay e)
-        ∷ map (with_end e.id m e.moment) (rows_of r)) (rows_later change r)) count
-        (subst (λ m. IsPermutation (stay_row m (1 + length old) (open_stay e)
-        ∷ map (with_end m (length old) e.moment) (rows_of r)) (rows_later change r)) own
-        (subst (IsPermutation (stay_row r.row.id (1 + length old) (open_stay e)
-        ∷ map (with_end r.row.id (length old) e.moment) (rows_of r)))
-        (sym (ap (stay_rows r.row.id) (own_later r own)))
-        (grown_rows r.row.id e.moment old (open_stay e))))
+    own_grown : (r : Request) → r.row.id ≡ e.id
+        → IsPermutation (stay_row e.id (1 + length (stays_of r.entries)) (open_stay e)
+        ∷ map (with_end e.id (length (stays_of r.entries)) e.moment) (rows_of r))
+        (rows_later change r)
+    own_grown r own =
+        rw (← own) (rw (own_later r own)
+        (grown_rows r.row.id e.moment (stays_of r.entries) (open_stay e)))
 
     others_later : (n : ℕ) (r : Request) → (r.row.id == e.id) ≡ false
         → map (with_end e.id n e.moment) (rows_of r) ≡ rows_later change r
     others_later n r other =
-        others_kept e.id n e.moment r.row.id 1 (stays_of r.entries) other
-        ∙ sym (same_later change r
-        (ap (entries_for r.row.id) is ∙ ap (λ b. cond b (e ∷ []) []) other))
-
-    -- the request is the one that is found
-    abbrev IsFound : Request → Type 0
-    IsFound r = request_at (wider change desk) r.row.id ≡ Some r
+        others_kept e.id n e.moment r.row.id 1 (stays_of r.entries) (inl other)
+        ∙ sym (same_later change r (rw (is, other)))
 
     begun_rows : (r : Request) (c : Contents) → request_at (wider change desk) e.id ≡ Some r
         → are_numbered 1 (ids (wider change desk)) ≡ true
@@ -241,74 +211,60 @@ module _ (change : Change) (desk : Desk) (e : Entry) (is : beginning change.entr
         let rs = (wider change desk).requests in
         let own : r.row.id ≡ e.id = number_found (wider change desk) e.id r there in
         let old = stays_of r.entries in
-        let n = length old in
-        let ss = closed old e.moment in
-        let all : change.stays ≡ ss ++ open_stay e ∷ [] =
+        let all : change.stays ≡ closed old e.moment ++ open_stay e ∷ [] =
         carried ∙ there_later change desk e.id r there ∙ own_later r own in
         let so_far : c.stays ≡ flat_map rows_of rs =
-        same ∙ sym (with_filed_none change.filed desk) in
-        let put : (stay_begun (Some e.id) change.stays c).stays
-        ≡ stay_row e.id (1 + n) (open_stay e)
-        ∷ map (with_end e.id n e.moment) (flat_map rows_of rs) =
-        ap (λ xs. (stay_put e.id (length xs) (last_of xs) c).stays) all
-        ∙ ap (λ (d : Contents). d.stays) (put_grown e.id ss (open_stay e) c)
-        ∙ ap (λ m. stay_row e.id (1 + m) (open_stay e) ∷ (stay_ended e.id m e.moment c).stays)
-        (closed_length old e.moment)
-        ∙ ap (λ xs. stay_row e.id (1 + n) (open_stay e) ∷ xs)
-        (ended_rows e.id n e.moment c rs so_far) in
-        subst (λ xs. IsPermutation xs (stays (applied change desk))) (sym put)
-        (subst (IsPermutation (stay_row e.id (1 + n) (open_stay e)
-        ∷ map (with_end e.id n e.moment) (flat_map rows_of rs))) (sym (all_later change desk))
-        (one_grown (with_end e.id n e.moment) rows_of (rows_later change) e.id (others_later n)
-        IsFound (stay_row e.id (1 + n) (open_stay e)) 1 rs
-        (λ x found here. own_grown n x (one_length x found here) here) numbered
-        (sym (there_by_number e.id rs) ∙ ap is_some there)
-        (recursion_from_All IsFound rs (found_each 1 rs numbered))))
+        same ∙ sym (none_filed rows_of (λ row. refl) change.filed desk) in
+        let end = with_end e.id (length old) e.moment in
+        rw (all, put_grown e.id (closed old e.moment) (open_stay e) c, closed_length old e.moment)
+        (rw (ended_rows e.id (length old) e.moment c rs so_far, all_later change desk)
+        (rw (map-flat_map end rows_of rs)
+        (one_differs (λ x. map end (rows_of x)) (rows_later change) e.id (others_later (length old))
+        (stay_row e.id (1 + length old) (open_stay e)) 1 rs
+        (λ x has here. rw (← one x has here) (own_grown r own)) numbered
+        (sym (there_by_number e.id rs) ∙ ap is_some there))))
       where
-        one_length : (x : Request) → IsFound x → x.row.id ≡ e.id
-            → length (stays_of x.entries) ≡ length (stays_of r.entries)
-        one_length x found here =
-            let both : Some x ≡ Some r =
-            sym found ∙ ap (request_at (wider change desk)) here ∙ there in
-            let one : x ≡ r = cc in
-            ap (λ (y : Request). length (stays_of y.entries)) one
+        one : (x : Request) → Has (wider change desk).requests x → x.row.id ≡ e.id → r ≡ x
+        one x has here =
+            let rs = (wider change desk).requests in
+            let found = all_has (λ r. request_at (wider change desk) r.row.id ≡ Some r) rs x
+            (recursion_from_All _ rs (found_each 1 rs numbered)) has in
+            let both = sym there ∙ ap (request_at (wider change desk)) (sym here) ∙ found in cc
 
 -- ---- the whole change
 
-by_beginning : (change : Change) (desk : Desk) (c : Contents) (es : List Entry)
-    → beginning change.entries ≡ es → KeepsStays desk change
-    → IsOneOf (either_row change.filed change.row) es
-    → are_numbered 1 (ids (wider change desk)) ≡ true
-    → ((e : Entry) → es ≡ e ∷ [] → is_some (request_at (wider change desk) e.id) ≡ true)
-    → c.stays ≡ stays desk
-    → IsPermutation (stay_begun (first_on es) change.stays c).stays (stays (applied change desk))
-by_beginning change desk c [] is keeps one numbered there same =
-    subst (IsPermutation c.stays)
-    (same ∙ sym (all_later change desk ∙ all_same change (wider change desk).requests is
-    ∙ with_filed_none change.filed desk))
-    (IsPermutation-refl c.stays)
-by_beginning change desk c (e ∷ []) is keeps one numbered there same =
-    by_found (request_at (wider change desk) e.id) refl (there e refl)
-    (its_stays (applied change desk) change.stays e.id change.filed change.row keeps.filed
-    keeps.set one)
-  where
-    by_found : (o : Option Request) → request_at (wider change desk) e.id ≡ o → is_some o ≡ true
-        → change.stays ≡ stays_at (applied change desk) e.id
-        → IsPermutation (stay_begun (Some e.id) change.stays c).stays (stays (applied change desk))
-    by_found None found some carried = cc
-    by_found (Some r) found some carried =
-        begun_rows change desk e is r c found numbered same carried
-by_beginning change desk c (e ∷ f ∷ es) is keeps one numbered there same = absurd one
+some_of : {X : Type 0} (o : Option X) → is_some o ≡ true → (x : X) × (o ≡ Some x)
+some_of None there = absurd (cc)
+some_of (Some x) there = (x, refl)
 
-pub stays_alike : (change : Change) (desk : Desk) (c : Contents) → KeepsStays desk change
-    → are_numbered 1 (ids (wider change desk)) ≡ true
-    → ((e : Entry) → beginning change.entries ≡ e ∷ []
-    → is_some (request_at (wider change desk) e.id) ≡ true)
-    → c.stays ≡ stays desk
-    → IsPermutation (stay_begun (begun_on change.entries) change.stays c).stays
-    (stays (applied change desk))
-stays_alike change desk c keeps numbered there same =
-    subst (λ o. IsPermutation (stay_begun o change.stays c).stays (stays (applied change desk)))
-    (sym (begun_first change.entries))
-    (by_beginning change desk c (beginning change.entries) refl keeps keeps.begun numbered there
-    same)
+module _ (change : Change) (desk : Desk) (c : Contents) (keeps : KeepsStays desk change)
+    (numbered : are_numbered 1 (ids (wider change desk)) ≡ true)
+    (there : (e : Entry) → beginning change.entries ≡ e ∷ []
+    → is_some (request_at (wider change desk) e.id) ≡ true) (same : c.stays ≡ stays desk)
+  where
+    by_beginning : (es : List Entry) → beginning change.entries ≡ es
+        → IsOneOf (either_row change.filed change.row) es
+        → IsPermutation (stay_begun (first_on es) change.stays c).stays
+        (stays (applied change desk))
+    by_beginning [] is one =
+        let none = λ (r : Request). same_later change r (ap (entries_for r.row.id) is) in
+        rw (
+          same,
+          all_later change desk,
+          flat_map_same_on (rows_later change) rows_of none
+              (wider change desk).requests,
+          none_filed rows_of (λ row. refl) change.filed desk,
+        )
+        (IsPermutation-refl _)
+    by_beginning (e ∷ []) is one =
+        let it = some_of (request_at (wider change desk) e.id) (there e is) in
+        begun_rows change desk e is it.0 c it.1 numbered same
+        (its_stays (applied change desk) change.stays e.id change.filed change.row keeps.filed
+        keeps.set one)
+    by_beginning (e ∷ f ∷ es) is one = absurd one
+
+    pub stays_alike : IsPermutation (stay_begun (begun_on change.entries) change.stays c).stays
+        (stays (applied change desk))
+    stays_alike =
+        rw (begun_first change.entries)
+        (by_beginning (beginning change.entries) refl keeps.begun)

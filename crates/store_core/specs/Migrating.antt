@@ -11,11 +11,10 @@ use Rattle.desk_model.specs.declared.rows.RequestRow.{RequestRow}
 use Rattle.store_tables.specs.Calls.{HasBadRow, Lasts, WasClean}
 use Rattle.store_tables.specs.Contents.{Contents, add_stay, contents_of, first_contents_of}
 use Rattle.store_tables.specs.Making.{IsKnown, IsOfMeta}
-use Rattle.store_tables.specs.Queries.{version_shown}
-use Rattle.store_tables.specs.Reading.{IsNumberRow}
-use Rattle.store_tables.specs.Stands.{FirstStand, GoesOn, HasTables, HoldsNow, KeepsBase, Stand}
-use Rattle.store_tables.specs.Stands.{Tables}
-use Rattle.store_tables.specs.Stands.{with_no_stays}
+use Rattle.store_tables.specs.Queries.{entry_shown_terms, last_id_terms, version_shown}
+use Rattle.store_tables.specs.Reading.{IsEntryRow, IsNumberRow}
+use Rattle.store_tables.specs.Stands.{FirstStand, GoesOn, HasEither, HasTables, HoldsNow}
+use Rattle.store_tables.specs.Stands.{KeepsBase, Stand, Tables, with_no_stays}
 use Rattle.store_tables.specs.Stays.{stay_rows}
 use Rattle.store_tables.specs.Tables.{desk_schema, first_schema}
 use Rattle.store_tables.specs.declared.fault.StoreFault.{StoreFault}
@@ -42,12 +41,6 @@ EitherStand c s =
 abbrev pub EitherHolds : Contents → State → Type 0
 EitherHolds c s =
     HasCleanDisk s → IsTrue s.is_open → EitherTables c s.now × (s.in_transaction ≡ true)
-
--- the six or the seven tables are there, with any rows
-abbrev pub HasEither : State → Type 0
-HasEither s =
-    HasCleanDisk s → IsTrue s.is_open
-    → (s.now.schema ≡ desk_schema) ⊎ (s.now.schema ≡ first_schema)
 
 -- ---- while they are made
 
@@ -99,6 +92,18 @@ pub record RunsOn {X : Type 0} (old new : State) (result : Result X StoreFault) 
   pub clean : WasClean old new
   pub lasts : Lasts old new
 
+-- what stays are made of has a bad row: the number of a request, or an entry, is none
+abbrev pub HasBadSource : Database → Type 0
+HasBadSource db =
+    HasBadRow 3 last_id_terms IsNumberRow db ⊎ HasBadRow 8 entry_shown_terms IsEntryRow db
+
+-- no fault is of the version, and a mismatch comes only of such a row, in an open store
+pub record BlamesSource {X : Type 0} (old new : State) (result : Result X StoreFault) : Type 0
+  where
+    pub known : IfErr result (λ e. e ≢ WrongVersion)
+    pub mismatch : IfErr result (λ e. e ≡ Mismatch → HasTables old → HasCleanDisk new
+        → IsTrue old.is_open × HasBadSource old.now)
+
 -- whatever values the tables hold, the fault is that the store or memory refused it
 abbrev pub RefusesOn : {X : Type 0} → State → State → Result X StoreFault → Type 0
 RefusesOn old new result =
@@ -146,11 +151,11 @@ BlamesUnknown old new result =
 abbrev pub TellsVersion : {X : Type 0} → State → State → Result X StoreFault → Type 0
 TellsVersion old new result = NeedsKnown old new result × BlamesUnknown old new result
 
--- a row of meta shows no number, or version 1
+-- a row of meta shows no number, or it shows version 1 and what stays are made of has a bad row
 abbrev pub IsBlamed : State → Type 0
-IsBlamed s = HasBadRow 0 version_shown IsNumberRow s.now ⊎ IsOfMeta s 1
+IsBlamed s = HasBadRow 0 version_shown IsNumberRow s.now ⊎ (IsOfMeta s 1 × HasBadSource s.now)
 
--- a mismatch comes only of a row of meta that shows no number, or of tables of version 1
+-- a mismatch comes only of one of these
 abbrev pub MismatchesInMaking : {X : Type 0} → State → State → Result X StoreFault → Type 0
 MismatchesInMaking old new result =
     IfErr result (λ e. e ≡ Mismatch → HasEither old → HasCleanDisk new → IsBlamed old)

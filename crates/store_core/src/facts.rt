@@ -2,10 +2,9 @@
 //!
 //! What owns much is given back by `drop`, whose proof stands once; at the end of its scope it
 //! would be taken apart for each function's own proof.
-ghost use Rattle.std.specs.Prelude.{◌≡◌, ◌≢◌, IfErr, length};
+ghost use Rattle.std.specs.Prelude.{◌≡◌, ◌≢◌, IfErr};
 ghost use Rattle.desk_model.specs.Desk as desk_at;
 ghost use Rattle.desk_model.specs.Facts as facts;
-ghost use Rattle.desk_model.specs.Links.{has_link};
 ghost use Rattle.desk_model.specs.Plan.{Dependencies, besides_on};
 ghost use Rattle.desk_model.specs.Scope.{seen_in};
 ghost use Rattle.desk_model.specs.Step.{facts_of};
@@ -94,7 +93,8 @@ fn facts_of_queue<S: Alter>(
     Ok(counted(alloc, queue, 0, 0))
 }
 
-/// Of a command that changes a queue: the queue and both counts.
+/// Of a command that changes a queue: the queue and both counts. How many requests there are is the
+/// last number, since the numbers have no gaps.
 fn facts_on_queue<S: Alter>(
     alloc: Global,
     tables: &mut Tables<S>,
@@ -103,26 +103,10 @@ fn facts_on_queue<S: Alter>(
     ensures { Reads (OfDesk (λ desk seen. seen ≡ facts.facts_on_queue desk name.now))
         (seen S.Store tables.old) (seen S.Store tables.new) result }
 {
-    let queue_count = count_queues(tables)?;
-    let request_count = count_requests(tables)?;
+    let queues = queue_count(tables)?;
+    let requests = last_id(tables)?;
     let queue = queue_at(tables, name)?;
-    Ok(counted(alloc, queue, queue_count, request_count))
-}
-
-/// How many queues there are.
-fn count_queues<S: Alter>(tables: &mut Tables<S>) -> Result<u32, StoreFault>
-    ensures { Reads (OfDesk (λ desk n. n ≡ length desk.queues))
-        (seen S.Store tables.old) (seen S.Store tables.new) result }
-{
-    queue_count(tables)
-}
-
-/// How many requests there are: the last number, since the numbers have no gaps.
-fn count_requests<S: Alter>(tables: &mut Tables<S>) -> Result<u32, StoreFault>
-    ensures { Reads (OfDesk (λ desk n. n ≡ length desk.requests))
-        (seen S.Store tables.old) (seen S.Store tables.new) result }
-{
-    last_id(tables)
+    Ok(counted(alloc, queue, queues, requests))
 }
 
 /// Of a command on a request: the request, its stays and its queue.
@@ -167,19 +151,10 @@ fn facts_of_link<S: Alter>(
     ensures { Reads (OfDesk (λ desk seen. seen ≡ seen_in (Scope.Link link) desk))
         (seen S.Store tables.old) (seen S.Store tables.new) result }
 {
-    let is_linked = is_there(tables, link)?;
+    let linked = link_like(tables, link)?;
     let other = seen_request_at(alloc, tables, link.target)?;
     let facts = facts_on(alloc, tables, link.source)?;
-    Ok(with_link(facts, other, is_linked))
-}
-
-/// Whether the link is there.
-fn is_there<S: Alter>(tables: &mut Tables<S>, link: LinkRow) -> Result<bool, StoreFault>
-    ensures { Reads (OfDesk (λ desk there. there ≡ has_link desk link))
-        (seen S.Store tables.old) (seen S.Store tables.new) result }
-{
-    let found = link_like(tables, link)?;
-    Ok(found.is_some())
+    Ok(with_link(facts, other, linked.is_some()))
 }
 
 /// Facts of a queue, with both counts.

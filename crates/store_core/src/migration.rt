@@ -1,11 +1,12 @@
 //! The stays of tables of version 1 are filled in, in a transaction.
-ghost use Rattle.std.specs.Prelude.{◌≡◌, ◌≢◌, ◌∷◌, [], IfErr, IfOk, OnOk};
+ghost use Rattle.std.specs.Prelude.{◌≡◌, ◌∷◌, [], IfErr, IfOk, OnOk};
 ghost use Rattle.sqlite.specs.Held.{state};
 ghost use Rattle.desk_model.specs.IsDesk.{ids};
 ghost use Rattle.desk_model.specs.Stays as spec;
-ghost use Rattle.store_tables.specs.Stands.{HasTables};
+ghost use Rattle.store_tables.specs.Stands.{OnlyStaysChange};
 ghost use Rattle.store_tables.specs.declared.fault.StoreFault.{StoreFault};
-ghost use Rattle.store_core.specs.Migrating.{BringsUp, FillsStays, RefusesOn, RunsOn};
+ghost use Rattle.store_core.specs.Migrating.{BlamesSource, BringsUp, FillsStays, RefusesOn};
+ghost use Rattle.store_core.specs.Migrating.{RunsOn};
 
 use desk_core::Entry;
 use desk_model::stays_of;
@@ -33,12 +34,13 @@ fn fill_one<S: Alter>(alloc: Global, tx: &mut Transaction<'_, S>, id: u32) -> Re
     ensures same_reference { tx.new.conn.ghost_name ≡ tx.old.conn.ghost_name }
     ensures fills { FillsStays (λ desk. id ∷ [])
         (state S.Store tx.old.conn.now) (state S.Store tx.new.conn.now) result }
-    ensures there { HasTables (state S.Store tx.old.conn.now) →
-        OnOk result (HasTables (state S.Store tx.new.conn.now)) }
+    ensures beside { OnOk result
+        (OnlyStaysChange (state S.Store tx.old.conn.now) (state S.Store tx.new.conn.now)) }
     ensures on { RunsOn (state S.Store tx.old.conn.now) (state S.Store tx.new.conn.now) result }
     ensures refuses { RefusesOn
         (state S.Store tx.old.conn.now) (state S.Store tx.new.conn.now) result }
-    ensures fault { IfErr result (λ e. e ≢ StoreFault.WrongVersion) }
+    ensures blames { BlamesSource
+        (state S.Store tx.old.conn.now) (state S.Store tx.new.conn.now) result }
 {
     let entries = entries_of(alloc, tx, id)?;
     let stays = stays_told(alloc, entries.as_slice())?;
@@ -57,7 +59,8 @@ fn fill_each<S: Alter>(
     ensures on { RunsOn (state S.Store tx.old.conn.now) (state S.Store tx.new.conn.now) result }
     ensures refuses { RefusesOn
         (state S.Store tx.old.conn.now) (state S.Store tx.new.conn.now) result }
-    ensures fault { IfErr result (λ e. e ≢ StoreFault.WrongVersion) }
+    ensures blames { BlamesSource
+        (state S.Store tx.old.conn.now) (state S.Store tx.new.conn.now) result }
 {
     for id in ids {
         fill_one(alloc, tx, *id)?;
@@ -73,7 +76,8 @@ fn fill_stays<S: Alter>(alloc: Global, tx: &mut Transaction<'_, S>) -> Result<()
     ensures on { RunsOn (state S.Store tx.old.conn.now) (state S.Store tx.new.conn.now) result }
     ensures refuses { RefusesOn
         (state S.Store tx.old.conn.now) (state S.Store tx.new.conn.now) result }
-    ensures fault { IfErr result (λ e. e ≢ StoreFault.WrongVersion) }
+    ensures blames { BlamesSource
+        (state S.Store tx.old.conn.now) (state S.Store tx.new.conn.now) result }
 {
     let ids = numbers(alloc, tx)?;
     fill_each(alloc, tx, ids.as_slice())
@@ -90,7 +94,8 @@ pub(crate) fn migrate<S: Alter>(
     ensures on { RunsOn (state S.Store tx.old.conn.now) (state S.Store tx.new.conn.now) result }
     ensures refuses { RefusesOn
         (state S.Store tx.old.conn.now) (state S.Store tx.new.conn.now) result }
-    ensures fault { IfErr result (λ e. e ≢ StoreFault.WrongVersion) }
+    ensures blames { BlamesSource
+        (state S.Store tx.old.conn.now) (state S.Store tx.new.conn.now) result }
 {
     fill_stays(alloc, tx)?;
     set_version(tx)

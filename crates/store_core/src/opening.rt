@@ -1,11 +1,11 @@
 //! A store is opened, and its tables are made.
 ghost use Rattle.std.specs.Prelude.{◌≡◌, ◌≢◌, false, IfErr, IfOk, OnErr};
 ghost use Rattle.sqlite.specs.Steps.{over_memory};
-ghost use Rattle.store_tables.specs.Calls.{Answers, Lasts, Spares, WasClean};
-ghost use Rattle.store_tables.specs.Making.{IsBlank, MakesDesk, RefusesBlank};
-ghost use Rattle.store_tables.specs.Mismatches.{MismatchesInMeta};
+ghost use Rattle.store_tables.specs.Calls.{Answers, AreLeft, Lasts, Spares, WasClean};
+ghost use Rattle.store_tables.specs.Making.{IsBlank, IsOfMeta, MakesDesk, ReadsMeta, RefusesBlank};
+ghost use Rattle.store_tables.specs.Stands.{HasEither};
 ghost use Rattle.store_tables.specs.declared.fault.StoreFault.{StoreFault};
-ghost use Rattle.store_core.specs.Migrating.{HasEither, LeavesEither, LeavesOthers, MigratesDesk};
+ghost use Rattle.store_core.specs.Migrating.{LeavesEither, LeavesOthers, MigratesDesk};
 ghost use Rattle.store_core.specs.Migrating.{MismatchesInMaking, RefusesKnown, TellsVersion};
 ghost use Rattle.store_core.specs.Seen.{connection_of, state_of};
 
@@ -64,7 +64,7 @@ impl<S: Alter> Store<S> {
         ensures undone { OnErr result
             (LeavesEither (state_of S.Store self.old) (state_of S.Store self.new)) }
         ensures spared { HasEither (state_of S.Store self.old) →
-            OnErr result (Spares (state_of S.Store self.old) (state_of S.Store self.new)) }
+            OnErr result (AreLeft (state_of S.Store self.old) (state_of S.Store self.new)) }
         ensures honest { WasClean (state_of S.Store self.old) (state_of S.Store self.new) }
         ensures lasts { Lasts (state_of S.Store self.old) (state_of S.Store self.new) }
         ensures version { TellsVersion
@@ -77,15 +77,15 @@ impl<S: Alter> Store<S> {
         make_schema(alloc, &mut self.tables)
     }
 
-    /// The version that the tables hold. `Refused` before `create_schema`, and where the store or
-    /// memory refuses it, `Mismatch` where it is no number. The tables stay as they are. That holds
-    /// of the seven tables; nothing is said of the six of version 1.
+    /// The version that `meta` holds, in the seven tables or the six of version 1, whatever rows
+    /// stand elsewhere. `Refused` before `create_schema`, and where the store or memory refuses it,
+    /// `Mismatch` where it is no number. The tables stay as they are.
     pub fn version(&mut self) -> Result<u32, StoreFault>
         ensures told { Answers (λ c n. n ≡ c.version)
             (state_of S.Store self.old) (state_of S.Store self.new) result }
         ensures blank { RefusesBlank
             (state_of S.Store self.old) (state_of S.Store self.new) result }
-        ensures mismatch { MismatchesInMeta
+        ensures meta { ReadsMeta IsOfMeta
             (state_of S.Store self.old) (state_of S.Store self.new) result }
         ensures fault { IfErr result (λ e. e ≢ StoreFault.WrongVersion) }
         ensures kept { Spares (state_of S.Store self.old) (state_of S.Store self.new) }

@@ -7,7 +7,7 @@ ghost use Rattle.store_tables.specs.Calls.{OnlyRefuses, Spares};
 ghost use Rattle.store_tables.specs.Mismatches.{MismatchesInNumbers};
 ghost use Rattle.store_tables.specs.Selection.{has_number};
 ghost use Rattle.store_tables.specs.declared.fault.StoreFault.{StoreFault};
-ghost use Rattle.store_tables.specs.Readings.{Reads};
+ghost use Rattle.store_tables.specs.Readings.{Blames, Reads};
 ghost use Rattle.store_core.specs.Ahead.{Begins, GivesNext, HasAhead, IsRefused};
 ghost use Rattle.store_core.specs.Ahead.{numbers_ahead, progress_after};
 ghost use Rattle.store_core.specs.Rows.{AreDueBefore, AreFiledIn, TellsDated};
@@ -173,6 +173,8 @@ impl<'s, S: Alter> RequestRows<'s, S> {
         ensures refuses { OnlyRefuses
             (state_of S.Store self.old.store.now) (state_of S.Store self.new.store.now) result }
         ensures fault { IfErr result (λ e. e ≢ StoreFault.WrongVersion) }
+        ensures blames { Blames
+            (state_of S.Store self.old.store.now) (state_of S.Store self.new.store.now) result }
     {
         match self.progress {
             Progress::Reading => self.read(),
@@ -191,9 +193,8 @@ impl<'s, S: Alter> RequestRows<'s, S> {
         ensures progress { self.new.progress ≡ progress_after result }
         ensures kept { Spares
             (state_of S.Store self.old.store.now) (state_of S.Store self.new.store.now) }
-        ensures refuses { OnlyRefuses
+        ensures blames { Blames
             (state_of S.Store self.old.store.now) (state_of S.Store self.new.store.now) result }
-        ensures fault { IfErr result (λ e. e ≢ StoreFault.WrongVersion) }
     {
         let Some(id) = self.store.number_ahead(self.at) else {
             self.progress = Progress::Over;

@@ -12,19 +12,6 @@ use std::alloc::Global;
 use store_tables::{StoreFault, Tables, reads};
 use text_core::Sequence;
 
-/// The stays of a request, in order.
-fn stays_on<S: Alter>(
-    alloc: Global,
-    tables: &mut Tables<S>,
-    id: u32,
-) -> Result<Sequence<Stay>, StoreFault>
-    ensures { Reads (OfDesk (λ desk stays. stays ≡ stays_at desk id))
-        (seen S.Store tables.old) (seen S.Store tables.new) result }
-{
-    let stays = reads::stays::stays_of(alloc, tables, id)?;
-    Ok(Sequence::from(stays))
-}
-
 /// The stays of a request that is there; none are read of one that isn't.
 pub(crate) fn stays_if<S: Alter>(
     alloc: Global,
@@ -36,7 +23,8 @@ pub(crate) fn stays_if<S: Alter>(
         (seen S.Store tables.old) (seen S.Store tables.new) result }
 {
     if is_there {
-        stays_on(alloc, tables, id)
+        let stays = reads::stays::stays_of(alloc, tables, id)?;
+        Ok(Sequence::from(stays))
     } else {
         Ok(Sequence::from(Vec::new(alloc)))
     }

@@ -1,50 +1,70 @@
--- Requests of which one has its due moment set.
-use Rattle.std.proofs.Common.{◌≡◌, ◌++◌, arith, Bool, IsPermutation, List, Option, [], ◌∷◌, ℕ, ap}
-use Rattle.std.proofs.Common.{ap₂}
-use Rattle.std.proofs.Common.{false, filter, inl, inr, map, not, refl, subst, sym, true}
-use Rattle.std.specs.Prelude.{if◌then◌else◌}
-use Rattle.std.proofs.lemmas.Bool.{cases_Bool}
+-- The rows of requests with their due moments, without them, and where one is set.
+use Rattle.std.proofs.Common.{◌≡◌, ◌++◌, Bool, IsPermutation, List, [], ◌∷◌, ap, false, filter, inl}
+use Rattle.std.proofs.Common.{inr, map, not, refl, subst, sym, true, ◌<◌, ◌∙◌, Option, ℕ, arith}
+use Rattle.std.proofs.Common.{fold, length}
+use Rattle.std.proofs.lemmas.Bool.{cases_Bool, not-true}
 use Rattle.std.proofs.lemmas.List.Sorted.{IsPermutation-filter_both, IsPermutation-map}
 use Rattle.std.proofs.lemmas.List.Sorted.{IsPermutation-sym}
-use Rattle.sqlite.specs.Values.{or_null}
 use Rattle.sqlite_rules.specs.Lists.{Has}
 use Rattle.sqlite_rules.proofs.ListLemmas.{has_filtered, has_kept}
 use Rattle.sqlite_rules.proofs.ProbeLemmas.{has_mapped}
-use Rattle.store_tables.specs.Dated.{Dated, dated_shown}
-use Rattle.store_tables.specs.Reading.{IsDatedRow, IsMinuteOrNull}
-use Rattle.store_tables.specs.Selection.{has_number, is_numbered}
-use Rattle.store_tables.specs.Spelling.{count_value}
+use Rattle.std.specs.Prelude.{if◌then◌else◌}
+use Rattle.std.proofs.lemmas.List.{map-id}
+use Rattle.sqlite.specs.Effect.{Database}
+use Rattle.sqlite_trees.proofs.ListLemmas.{map-map}
+use Rattle.desk_model.specs.Desk.{Desk}
+use Rattle.desk_model.specs.declared.rows.RequestRow.{RequestRow}
+use Rattle.store_tables.specs.Contents.{Contents, contents_of, request_rows, requests, set_each_due}
+use Rattle.store_tables.specs.Dated.{dated_by, dated_row, due_but, dues_but, row_of}
+use Rattle.store_tables.specs.Kept.{Holds, itself}
+use Rattle.store_tables.specs.Reading.{IsRequestRow}
+use Rattle.store_tables.specs.Selection.{is_numbered}
+use Rattle.store_tables.specs.Spelling.{request_shown}
+use Rattle.store_tables.specs.Stands.{Tables}
+use Rattle.store_tables.specs.Values.{ShowsValues}
+use Rattle.store_tables.proofs.KeptLemmas.{viewed}
+
+-- what the table keeps, without the due moments
+pub undated : (c : Contents) (db : Database) → Tables c db
+    → Holds dated_row row_of (requests c) (db.trees 3)
+undated c db t = viewed dated_row itself row_of c.dated (db.trees 3) t.requests
+
+pub rows_valid : (c : Contents) → ShowsValues c → (r : RequestRow) → Has (requests c) r
+    → IsRequestRow (request_shown r)
+rows_valid c values r has =
+    let p = has_mapped row_of c.dated r has in
+    let is = values.dated p.0 p.1 in
+    let wide : 9 < length (request_shown p.0.0) = omega arith in
+    subst (λ x. IsRequestRow (request_shown x)) (sym p.2) (assumption)
+
+-- ---- of a desk with due moments
+
+-- without them its rows are left
+pub rows_dated : (due : RequestRow → Option ℕ) (desk : Desk)
+    → requests (contents_of due desk) ≡ request_rows desk
+rows_dated due desk =
+    map-map row_of (dated_by due) (request_rows desk) ∙ map-id (request_rows desk)
+
+-- those that are set are of the due moments
+pub dues_on_desk : (dues : List (ℕ × Option ℕ)) (due : RequestRow → Option ℕ) (desk : Desk)
+    → fold set_each_due (contents_of due desk) dues ≡ contents_of (dues_but dues due) desk
+dues_on_desk [] due desk = refl
+dues_on_desk (p ∷ ps) due desk =
+    ap (λ ds. fold set_each_due (record (contents_of due desk) { dated = ds }) ps)
+    (map-map (λ q. (q.0, if is_numbered p.0 q.0 then p.1 else q.1)) (dated_by due)
+    (request_rows desk)) ∙ dues_on_desk ps (due_but p.0 p.1 due) desk
 
 -- each element is so
 abbrev pub AreEach : {X : Type 0} → (X → Type 0) → List X → Type 0
 AreEach {X} P xs = (x : X) → Has xs x → P x
 
--- what becomes of a request
-abbrev pub moved : ℕ → Option ℕ → Dated → Dated
-moved id due p = (p.0, if is_numbered id p.0 then due else p.1)
-
-pub stays : (id : ℕ) (due : Option ℕ) (p : Dated) → has_number id p ≡ false → moved id due p ≡ p
-stays id due p apart = rw apart
-
-pub goes : (id : ℕ) (due : Option ℕ) (p : Dated) → has_number id p ≡ true
-    → moved id due p ≡ (p.0, due)
-goes id due p here = rw here
-
 map_same : {X : Type 0} (f : X → X) (xs : List X) → AreEach (λ x. f x ≡ x) xs → map f xs ≡ xs
 map_same f [] each = refl
 map_same f (x ∷ xs) each =
-    ap₂ (λ y ys. y ∷ ys) (each x (inl refl)) (map_same f xs (λ y has. each y (inr has)))
-
-false_of : (b : Bool) → not b ≡ true → b ≡ false
-false_of true h = absurd (cc)
-false_of false h = refl
+    rw (each x (inl refl), map_same f xs (λ y has. each y (inr has)))
 
 -- where what a test doesn't pass stays as it is
 module _ {X : Type 0} (f : X → X) (p : X → Bool) (stays : (x : X) → p x ≡ false → f x ≡ x) where
-  others_stay : (xs : List X) → map f (filter (λ x. not (p x)) xs) ≡ filter (λ x. not (p x)) xs
-  others_stay xs = map_same f (filter (λ x. not (p x)) xs)
-      (λ x has. stays x (false_of (p x) (has_filtered (λ y. not (p y)) xs x has).1))
-
   -- where none passes, all stay
   pub none_moved : (xs : List X) → filter p xs ≡ [] → map f xs ≡ xs
   none_moved xs none = map_same f xs
@@ -58,11 +78,10 @@ module _ {X : Type 0} (f : X → X) (p : X → Bool) (stays : (x : X) → p x �
       → IsPermutation (f x ∷ filter (λ y. not (p y)) xs) (map f xs)
   one_moved xs x one =
       let others = filter (λ y. not (p y)) xs in
-      let parts : IsPermutation xs (filter p xs ++ others) =
-      IsPermutation-filter_both p (λ y. not (p y)) (λ y. refl) xs in
-      let whole : IsPermutation xs (x ∷ others) =
-      subst (λ l. IsPermutation xs (l ++ others)) one parts in
-      IsPermutation-sym _ _ (subst (IsPermutation (map f xs)) (ap (λ l. f x ∷ l) (others_stay xs))
+      let parts = IsPermutation-filter_both p (λ y. not (p y)) (λ y. refl) xs in
+      let whole = subst (λ l. IsPermutation xs (l ++ others)) one parts in
+      IsPermutation-sym _ _ (subst (IsPermutation (map f xs)) (ap (λ l. f x ∷ l) (map_same f others
+      (λ y has. stays y (not-true (p y) (has_filtered (λ z. not (p z)) xs y has).1))))
       (IsPermutation-map f _ _ whole))
 
 -- what passes is the one that does
@@ -71,36 +90,8 @@ pub passes_one : {X : Type 0} (p : X → Bool) (xs : List X) (x : X) → filter 
 passes_one p xs x one =
     (has_filtered p xs x (subst (λ l. Has l x) (sym one) (inl refl))).1
 
--- what is shown of a request is valid with any due moment that is one
-with_moment : (p : Dated) (due : Option ℕ) → IsMinuteOrNull (or_null count_value due)
-    → IsDatedRow (dated_shown p) → IsDatedRow (dated_shown (p.0, due))
-with_moment p due moment is = record {
-  wide = omega arith;
-  request = record {
-    wide = omega arith;
-    id = is.request.id;
-    queue = is.request.queue;
-    subject = is.request.subject;
-    status = is.request.status;
-    owner = is.request.owner;
-    level = is.request.level;
-    created = is.request.created;
-    opened = is.request.opened;
-    turn = is.request.turn;
-    since = is.request.since;
-  };
-  due = moment;
-}
-
-moved_shown : (p : Dated) (due : Option ℕ) (b : Bool) → IsMinuteOrNull (or_null count_value due)
-    → IsDatedRow (dated_shown p) → IsDatedRow (dated_shown (p.0, if b then due else p.1))
-moved_shown p due true moment is = with_moment p due moment is
-moved_shown p due false moment is = is
-
-pub each_moved : (id : ℕ) (due : Option ℕ) (xs : List Dated)
-    → AreEach (λ p. IsDatedRow (dated_shown p)) xs → IsMinuteOrNull (or_null count_value due)
-    → AreEach (λ p. IsDatedRow (dated_shown p)) (map (moved id due) xs)
-each_moved id due xs each moment p has =
-    let q = has_mapped (moved id due) xs p has in
-    subst (λ x. IsDatedRow (dated_shown x)) (sym q.2)
-    (moved_shown q.0 due (is_numbered id q.0.0) moment (each q.0 q.1))
+-- what is so of each is so of what becomes of it
+pub each_moved : {X : Type 0} (f : X → X) (P : X → Type 0) → ((x : X) → P x → P (f x))
+    → (xs : List X) → AreEach P xs → AreEach P (map f xs)
+each_moved f P goes xs each x has =
+    let q = has_mapped f xs x has in subst P (sym q.2) (goes q.0 (each q.0 q.1))

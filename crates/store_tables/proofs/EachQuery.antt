@@ -1,334 +1,167 @@
 -- The queries on the tables, each told once: its text, what is bound, which rows pass, their order.
-use Rattle.std.proofs.Common.{◌∷◌, [], ℕ, List, true, refl}
+use Rattle.std.proofs.Common.{◌≡◌, ◌∷◌, [], ℕ, Bool, List, true, refl}
+use Rattle.std.proofs.lemmas.Map.Text.{is_eq-slice_cmp}
+use Rattle.sqlite.specs.Order.{Row}
+use Rattle.sqlite.specs.Term.{Term}
 use Rattle.sqlite.specs.declared.types.Value.TheVariants.{Text as Words}
+use Rattle.sqlite_tied.proofs.RuleLemmas.{and_true}
 use Rattle.desk_model.specs.Links.{kind_number}
 use Rattle.desk_model.specs.declared.rows.LinkKind.{LinkKind}
 use Rattle.desk_model.specs.declared.rows.LinkRow.{LinkRow}
 use Rattle.store_tables.specs.Dated.{id_of}
-use Rattle.store_tables.specs.Queries.{before_test, dated_before_text, dated_numbered_text}
-use Rattle.store_tables.specs.Queries.{dated_text, due_order}
-use Rattle.store_tables.specs.Queries.{numbers_before_text, numbers_in_text}
-use Rattle.store_tables.specs.Queries.{actors_text, all_from_text, all_to_text, entries_of_text}
-use Rattle.store_tables.specs.Queries.{filed_test, id_order, link_like_text, links_from_test}
-use Rattle.store_tables.specs.Queries.{links_from_text, links_text, named_test, number_order}
-use Rattle.store_tables.specs.Queries.{numbered_test, person_test, queue_named_text, queue_order}
-use Rattle.store_tables.specs.Queries.{queues_text, request_numbered_text, request_test}
-use Rattle.store_tables.specs.Queries.{requests_of_text, requests_text, role_order, source_test}
-use Rattle.store_tables.specs.Queries.{standing_order, target_order, target_test, three_order}
-use Rattle.store_tables.specs.Queries.{three_test, watchers_of_text, watchers_text}
-use Rattle.store_tables.specs.Queries.{dated_of_text, numbers_text, stay_order, stays_of_text}
-use Rattle.store_tables.specs.Queries.{stays_text, watches_of_text}
-use Rattle.store_tables.specs.Selection.{has_number, is_dated_in, is_due_before, number_of}
-use Rattle.store_tables.specs.Selection.{ends_at, is_filed_in, is_link, is_named, is_numbered}
-use Rattle.store_tables.specs.Selection.{is_of_person, links_from, starts_at, tells_of, watches}
+use Rattle.store_tables.specs.Picked.{passes, shows}
+use Rattle.store_tables.specs.Queries.{last_id_terms, reads, due_order, id_order, number_order}
+use Rattle.store_tables.specs.Queries.{queue_order, role_order, standing_order, target_order}
+use Rattle.store_tables.specs.Queries.{three_order, stay_order}
+use Rattle.store_tables.specs.Selection.{has_number, is_dated_in, is_due_before, number_of, ends_at}
+use Rattle.store_tables.specs.Selection.{is_filed_in, is_link, is_named, is_numbered, is_of_person}
+use Rattle.store_tables.specs.Selection.{links_from, starts_at, tells_of, watches}
 use Rattle.store_tables.specs.Spelling.{count_value, link_columns}
 use Rattle.store_tables.specs.Stays.{is_of}
+use Rattle.store_tables.specs.Tables.{desk_schema}
 use Rattle.store_tables.proofs.EachTable.{actor_table, dated_table, entry_table, link_table}
-use Rattle.store_tables.proofs.EachTable.{queue_table}
-use Rattle.store_tables.proofs.EachTable.{request_table, stay_table, watcher_table}
-use Rattle.store_tables.proofs.RowLemmas.{NumbersOn, QueryOn}
+use Rattle.store_tables.proofs.EachTable.{queue_table, request_table, stay_table, watcher_table}
+use Rattle.store_tables.proofs.Meaning.{SelectsIn}
+use Rattle.store_tables.proofs.RowLemmas.{NumbersOn, QueryOn, TableOf}
 use Rattle.store_tables.proofs.Statements.{dated_before_is, dated_is, dated_numbered_is}
-use Rattle.store_tables.proofs.Statements.{numbers_before_is}
-use Rattle.store_tables.proofs.Statements.{numbers_in_is}
-use Rattle.store_tables.proofs.Statements.{actors_is, all_from_is, all_to_is, entries_of_is}
-use Rattle.store_tables.proofs.Statements.{link_like_is, links_from_is, links_is, queue_named_is}
-use Rattle.store_tables.proofs.Statements.{queues_is, request_numbered_is, requests_is}
-use Rattle.store_tables.proofs.Statements.{requests_of_is, watchers_is, watchers_of_is}
+use Rattle.store_tables.proofs.Statements.{numbers_before_is, numbers_in_is, actors_is, all_from_is}
+use Rattle.store_tables.proofs.Statements.{all_to_is, entries_of_is, link_like_is, links_from_is}
+use Rattle.store_tables.proofs.Statements.{links_is, queue_named_is, queues_is, request_numbered_is}
+use Rattle.store_tables.proofs.Statements.{requests_is, requests_of_is, watchers_is, watchers_of_is}
 use Rattle.store_tables.proofs.Statements.{dated_of_is, numbers_is, stays_is, stays_of_is}
 use Rattle.store_tables.proofs.Statements.{watches_of_is}
-use Rattle.store_tables.proofs.TestLemmas.{before, ends, filed_in, from_source, named, numbered}
-use Rattle.store_tables.proofs.TestLemmas.{of_person, starts, stays_with, the_link, told, watched}
+use Rattle.store_tables.proofs.TestLemmas.{equal_numbers, equal_texts, moment_before}
+
+-- the rows that pass a test, in an order
+abbrev some_of : {K V : Type 0} {text : List ℕ} {names : List (List ℕ)} {test : List Term}
+    (t : TableOf K V) (params : Row) (order : List Term)
+    → SelectsIn desk_schema text (reads t.tree test t.terms order) names → (passing : V → Bool)
+    → ((k : K) → passes test params (t.row k) ≡ passing (t.value k)) → QueryOn t
+some_of {text = text} {names = names} {test = test} t params order means passing tests = record {
+  text = text;
+  params = params;
+  test = test;
+  order = order;
+  names = names;
+  means = means;
+  passing = passing;
+  tests = tests;
+}
+
+-- all rows
+abbrev each_of : {K V : Type 0} {text : List ℕ} {names : List (List ℕ)} (t : TableOf K V)
+    (order : List Term) → SelectsIn desk_schema text (reads t.tree [] t.terms order) names
+    → QueryOn t
+each_of t order means = some_of t [] order means (λ _. true) (λ k. refl)
+
+-- the numbers of those that pass
+abbrev numbers_of : {K V : Type 0} {text : List ℕ} {names : List (List ℕ)} {test : List Term}
+    (t : TableOf K V) (params : Row) (order : List Term)
+    → SelectsIn desk_schema text (reads t.tree test last_id_terms order) names → (number : V → ℕ)
+    → ((k : K) → shows last_id_terms params (t.row k) ≡ count_value (number (t.value k)) ∷ [])
+    → (passing : V → Bool)
+    → ((k : K) → passes test params (t.row k) ≡ passing (t.value k)) → NumbersOn t
+numbers_of {text = text} {names = names} {test = test} t params order means number shown passing
+    tests = record {
+      text = text;
+      params = params;
+      test = test;
+      order = order;
+      names = names;
+      means = means;
+      number = number;
+      shown = shown;
+      passing = passing;
+      tests = tests;
+    }
 
 abbrev pub all_queues : QueryOn queue_table
-all_queues = record {
-  text = queues_text;
-  params = [];
-  test = [];
-  order = queue_order;
-  names = _;
-  means = queues_is;
-  passing = λ _. true;
-  tests = λ k. refl;
-}
+all_queues = each_of queue_table queue_order queues_is
 
 abbrev pub queue_by_name : (name : List ℕ) → QueryOn queue_table
-queue_by_name name = record {
-  text = queue_named_text;
-  params = Words name ∷ [];
-  test = named_test;
-  order = [];
-  names = _;
-  means = queue_named_is;
-  passing = is_named name;
-  tests = named name [];
-}
+queue_by_name name = some_of queue_table (Words name ∷ []) [] queue_named_is (is_named name)
+    (λ k. simp (equal_texts, and_true))
 
 abbrev pub all_requests : QueryOn request_table
-all_requests = record {
-  text = requests_text;
-  params = [];
-  test = [];
-  order = id_order;
-  names = _;
-  means = requests_is;
-  passing = λ _. true;
-  tests = λ k. refl;
-}
+all_requests = each_of request_table id_order requests_is
 
 abbrev pub requests_in : (name : List ℕ) → QueryOn request_table
-requests_in name = record {
-  text = requests_of_text;
-  params = Words name ∷ [];
-  test = filed_test;
-  order = id_order;
-  names = _;
-  means = requests_of_is;
-  passing = is_filed_in name;
-  tests = filed_in name;
-}
+requests_in name = some_of request_table (Words name ∷ []) id_order requests_of_is
+    (is_filed_in name) (λ p. simp (equal_texts, and_true))
 
 abbrev pub request_by_number : (id : ℕ) → QueryOn request_table
-request_by_number id = record {
-  text = request_numbered_text;
-  params = count_value id ∷ [];
-  test = numbered_test;
-  order = [];
-  names = _;
-  means = request_numbered_is;
-  passing = is_numbered id;
-  tests = numbered id [];
-}
+request_by_number id = some_of request_table (count_value id ∷ []) [] request_numbered_is
+    (is_numbered id) (λ p. simp (equal_numbers, and_true))
 
 abbrev pub all_dated : QueryOn dated_table
-all_dated = record {
-  text = dated_text;
-  params = [];
-  test = [];
-  order = id_order;
-  names = _;
-  means = dated_is;
-  passing = λ _. true;
-  tests = λ k. refl;
-}
+all_dated = each_of dated_table id_order dated_is
 
 abbrev pub dated_by_number : (id : ℕ) → QueryOn dated_table
-dated_by_number id = record {
-  text = dated_numbered_text;
-  params = count_value id ∷ [];
-  test = numbered_test;
-  order = [];
-  names = _;
-  means = dated_numbered_is;
-  passing = has_number id;
-  tests = numbered id [];
-}
+dated_by_number id = some_of dated_table (count_value id ∷ []) [] dated_numbered_is (has_number id)
+    (λ p. simp (equal_numbers, and_true))
 
 abbrev pub dated_in_queue : (name : List ℕ) → QueryOn dated_table
-dated_in_queue name = record {
-  text = dated_of_text;
-  params = Words name ∷ [];
-  test = filed_test;
-  order = id_order;
-  names = _;
-  means = dated_of_is;
-  passing = is_dated_in name;
-  tests = filed_in name;
-}
+dated_in_queue name = some_of dated_table (Words name ∷ []) id_order dated_of_is (is_dated_in name)
+    (λ p. simp (equal_texts, and_true))
 
 abbrev pub dated_due_before : (at : ℕ) → QueryOn dated_table
-dated_due_before at = record {
-  text = dated_before_text;
-  params = count_value at ∷ [];
-  test = before_test;
-  order = due_order;
-  names = _;
-  means = dated_before_is;
-  passing = is_due_before at;
-  tests = before at;
-}
+dated_due_before at = some_of dated_table (count_value at ∷ []) due_order dated_before_is
+    (is_due_before at) (λ p. simp (moment_before, and_true))
 
 abbrev pub all_numbers : NumbersOn request_table
-all_numbers = record {
-  text = numbers_text;
-  params = [];
-  test = [];
-  order = id_order;
-  names = _;
-  means = numbers_is;
-  number = number_of;
-  shown = λ k. refl;
-  passing = λ _. true;
-  tests = λ k. refl;
-}
+all_numbers =
+    numbers_of request_table [] id_order numbers_is number_of (λ k. refl) (λ _. true) (λ k. refl)
 
 abbrev pub numbers_of_queue : (name : List ℕ) → NumbersOn request_table
-numbers_of_queue name = record {
-  text = numbers_in_text;
-  params = Words name ∷ [];
-  test = filed_test;
-  order = id_order;
-  names = _;
-  means = numbers_in_is;
-  number = number_of;
-  shown = λ k. refl;
-  passing = is_filed_in name;
-  tests = filed_in name;
-}
+numbers_of_queue name = numbers_of request_table (Words name ∷ []) id_order numbers_in_is number_of
+    (λ k. refl) (is_filed_in name) (λ p. simp (equal_texts, and_true))
 
 abbrev pub numbers_before : (at : ℕ) → NumbersOn dated_table
-numbers_before at = record {
-  text = numbers_before_text;
-  params = count_value at ∷ [];
-  test = before_test;
-  order = due_order;
-  names = _;
-  means = numbers_before_is;
-  number = id_of;
-  shown = λ k. refl;
-  passing = is_due_before at;
-  tests = before at;
-}
+numbers_before at = numbers_of dated_table (count_value at ∷ []) due_order numbers_before_is id_of
+    (λ k. refl) (is_due_before at) (λ p. simp (moment_before, and_true))
 
 abbrev pub all_watchers : QueryOn watcher_table
-all_watchers = record {
-  text = watchers_text;
-  params = [];
-  test = [];
-  order = three_order;
-  names = _;
-  means = watchers_is;
-  passing = λ _. true;
-  tests = λ k. refl;
-}
+all_watchers = each_of watcher_table three_order watchers_is
 
 abbrev pub watchers_on : (id : ℕ) → QueryOn watcher_table
-watchers_on id = record {
-  text = watchers_of_text;
-  params = count_value id ∷ [];
-  test = request_test;
-  order = role_order;
-  names = _;
-  means = watchers_of_is;
-  passing = watches id;
-  tests = watched id;
-}
+watchers_on id = some_of watcher_table (count_value id ∷ []) role_order watchers_of_is (watches id)
+    (λ k. simp (equal_numbers, and_true))
 
 abbrev pub watches_by : (person : List ℕ) → QueryOn watcher_table
-watches_by person = record {
-  text = watches_of_text;
-  params = Words person ∷ [];
-  test = person_test;
-  order = standing_order;
-  names = _;
-  means = watches_of_is;
-  passing = is_of_person person;
-  tests = of_person person;
-}
+watches_by person = some_of watcher_table (Words person ∷ []) standing_order watches_of_is
+    (is_of_person person) (λ k. simp (equal_texts, is_eq-slice_cmp, and_true))
 
 abbrev pub all_links : QueryOn link_table
-all_links = record {
-  text = links_text;
-  params = [];
-  test = [];
-  order = three_order;
-  names = _;
-  means = links_is;
-  passing = λ _. true;
-  tests = λ k. refl;
-}
+all_links = each_of link_table three_order links_is
 
 abbrev pub links_out : (id : ℕ) → QueryOn link_table
-links_out id = record {
-  text = all_from_text;
-  params = count_value id ∷ [];
-  test = source_test;
-  order = three_order;
-  names = _;
-  means = all_from_is;
-  passing = starts_at id;
-  tests = starts id;
-}
+links_out id = some_of link_table (count_value id ∷ []) three_order all_from_is (starts_at id)
+    (λ k. simp (equal_numbers, and_true))
 
 abbrev pub links_in : (id : ℕ) → QueryOn link_table
-links_in id = record {
-  text = all_to_text;
-  params = count_value id ∷ [];
-  test = target_test;
-  order = id_order;
-  names = _;
-  means = all_to_is;
-  passing = ends_at id;
-  tests = ends id;
-}
+links_in id = some_of link_table (count_value id ∷ []) id_order all_to_is (ends_at id)
+    (λ k. simp (equal_numbers, and_true))
 
 abbrev pub links_by_kind : (id : ℕ) (kind : LinkKind) → QueryOn link_table
-links_by_kind id kind = record {
-  text = links_from_text;
-  params = count_value id ∷ count_value (kind_number kind) ∷ [];
-  test = links_from_test;
-  order = target_order;
-  names = _;
-  means = links_from_is;
-  passing = links_from id kind;
-  tests = from_source id kind;
-}
+links_by_kind id kind =
+    some_of link_table (count_value id ∷ count_value (kind_number kind) ∷ []) target_order
+    links_from_is (links_from id kind) (λ k. simp (equal_numbers, and_true))
 
 abbrev pub link_by_ends : (link : LinkRow) → QueryOn link_table
-link_by_ends link = record {
-  text = link_like_text;
-  params = link_columns link;
-  test = three_test;
-  order = [];
-  names = _;
-  means = link_like_is;
-  passing = is_link link;
-  tests = the_link link;
-}
+link_by_ends link =
+    some_of link_table (link_columns link) [] link_like_is (is_link link)
+    (λ k. simp (equal_numbers, and_true))
 
 abbrev pub entries_on : (id : ℕ) → QueryOn entry_table
-entries_on id = record {
-  text = entries_of_text;
-  params = count_value id ∷ [];
-  test = request_test;
-  order = number_order;
-  names = _;
-  means = entries_of_is;
-  passing = tells_of id;
-  tests = told id;
-}
+entries_on id = some_of entry_table (count_value id ∷ []) number_order entries_of_is (tells_of id)
+    (λ k. simp (equal_numbers, and_true))
 
 abbrev pub all_actors : QueryOn actor_table
-all_actors = record {
-  text = actors_text;
-  params = [];
-  test = [];
-  order = [];
-  names = _;
-  means = actors_is;
-  passing = λ _. true;
-  tests = λ k. refl;
-}
+all_actors = each_of actor_table [] actors_is
 
 abbrev pub all_stays : QueryOn stay_table
-all_stays = record {
-  text = stays_text;
-  params = [];
-  test = [];
-  order = stay_order;
-  names = _;
-  means = stays_is;
-  passing = λ _. true;
-  tests = λ k. refl;
-}
+all_stays = each_of stay_table stay_order stays_is
 
 abbrev pub stays_on : (id : ℕ) → QueryOn stay_table
-stays_on id = record {
-  text = stays_of_text;
-  params = count_value id ∷ [];
-  test = request_test;
-  order = number_order;
-  names = _;
-  means = stays_of_is;
-  passing = is_of id;
-  tests = stays_with id;
-}
+stays_on id = some_of stay_table (count_value id ∷ []) number_order stays_of_is (is_of id)
+    (λ k. simp (equal_numbers, and_true))

@@ -1,274 +1,152 @@
 -- The tables of a desk, each told once: where it lies, how it keeps its values, and what is read.
-use Rattle.std.proofs.Common.{◌≡◌, ◌∷◌, [], ℕ, ℤ, List, arith, inl, inr, map, refl, subst}
-use Rattle.std.proofs.Common.{sym}
+use Rattle.std.proofs.Common.{◌≡◌, ◌<◌, ◌∷◌, [], length, ℕ, ℤ, List, arith, inl, inr, map, refl}
+use Rattle.std.proofs.Common.{subst, sym}
 use Rattle.sqlite.specs.Order.{Row, column}
+use Rattle.sqlite.specs.Effect.{Database}
+use Rattle.sqlite.specs.Term.{Term}
 use Rattle.sqlite_rules.proofs.ProbeLemmas.{has_mapped}
+use Rattle.sqlite_rules.specs.Lists.{Has}
 use Rattle.desk_model.specs.declared.rows.Entry.{Entry}
 use Rattle.desk_model.specs.declared.rows.LinkRow.{LinkRow}
 use Rattle.desk_model.specs.declared.rows.QueueRow.{QueueRow}
 use Rattle.desk_model.specs.declared.rows.RequestRow.{RequestRow}
 use Rattle.desk_model.specs.declared.rows.Watcher.{Watcher}
-use Rattle.store_tables.specs.Contents.{requests}
+use Rattle.store_tables.specs.Contents.{Contents, requests}
 use Rattle.store_tables.specs.Dated.{Dated, dated_row, dated_shown, row_of}
-use Rattle.store_tables.specs.Kept.{filed, itself, value_of}
+use Rattle.store_tables.specs.Kept.{Holds, filed, itself, value_of}
+use Rattle.store_tables.specs.Calls.{HasBadRow}
 use Rattle.store_tables.specs.Picked.{shows}
+use Rattle.store_tables.specs.Readings.{HasBadRows}
+use Rattle.store_tables.specs.Stands.{Tables}
 use Rattle.store_tables.specs.Queries.{actor_shown, dated_shown_terms, entry_shown_terms}
-use Rattle.store_tables.specs.Queries.{queue_shown}
-use Rattle.store_tables.specs.Queries.{last_id_terms, last_number_terms, request_shown_terms}
-use Rattle.store_tables.specs.Queries.{stay_shown, three_shown}
-use Rattle.store_tables.specs.Reading.{IsDatedRow, IsEntryRow, IsLinkRow, IsNumberRow}
-use Rattle.store_tables.specs.Reading.{IsQueueRow, IsStayRow, ReadsDated}
-use Rattle.store_tables.specs.Reading.{IsRequestRow}
-use Rattle.store_tables.specs.Reading.{IsTextRow, IsWatcherRow, ReadsEntry, ReadsLink, ReadsQueue}
-use Rattle.store_tables.specs.Reading.{ReadsRequest, ReadsText, ReadsWatcher}
+use Rattle.store_tables.specs.Queries.{queue_shown, last_id_terms, last_number_terms}
+use Rattle.store_tables.specs.Queries.{request_shown_terms, stay_shown, three_shown}
+use Rattle.store_tables.specs.Reading.{IsDatedRow, IsEntryRow, IsLinkRow, IsNumberRow, IsQueueRow}
+use Rattle.store_tables.specs.Reading.{IsStayRow, ReadsDated, IsRequestRow, IsTextRow, IsWatcherRow}
+use Rattle.store_tables.specs.Reading.{ReadsEntry, ReadsLink, ReadsQueue, ReadsRequest, ReadsText}
+use Rattle.store_tables.specs.Reading.{ReadsWatcher}
 use Rattle.store_tables.specs.Selection.{actor_of, number_of, place_of}
-use Rattle.store_tables.specs.Spelling.{count_value, entry_columns, link_columns}
-use Rattle.store_tables.specs.Spelling.{queue_columns}
-use Rattle.store_tables.specs.Spelling.{request_shown, text_shown}
-use Rattle.store_tables.specs.Spelling.{stay_columns, watcher_columns}
+use Rattle.store_tables.specs.Spelling.{count_value, entry_columns, link_columns, queue_columns}
+use Rattle.store_tables.specs.Spelling.{request_shown, text_shown, stay_columns, watcher_columns}
 use Rattle.store_tables.specs.Stays.{StayRow}
 use Rattle.store_tables.proofs.BackLemmas.{dated_back, entry_back, link_back, queue_back}
-use Rattle.store_tables.proofs.BackLemmas.{request_back}
-use Rattle.store_tables.proofs.BackLemmas.{same_count, text_back, watcher_back}
-use Rattle.store_tables.proofs.DatedLemmas.{rows_valid, undated}
+use Rattle.store_tables.proofs.BackLemmas.{request_back, same_count, text_back, watcher_back}
+use Rattle.store_tables.proofs.DueLemmas.{rows_valid, undated}
 use Rattle.store_tables.proofs.KeptLemmas.{viewed}
 use Rattle.store_tables.proofs.RowLemmas.{TableOf}
 use Rattle.store_tables.proofs.ValueLemmas.{values_of}
 
-abbrev pub queue_table : TableOf (ℤ × QueueRow) QueueRow
-queue_table = record {
-  tree = 1;
-  terms = queue_shown;
-  row = filed queue_columns;
-  value = value_of;
-  view = queue_columns;
-  list = λ c. c.queues;
-  Reads = ReadsQueue;
-  IsValue = IsQueueRow;
-  back = queue_back;
-  shown = λ params k. refl;
-  same = λ params r. refl;
-  kept = λ c db t. t.queues;
-  valid = λ c db t. (values_of c t.values).queues;
-  bad = λ db it. inl it;
+-- a table, by all that is told of it
+abbrev table_of : {K V : Type 0} (tree : ℕ) (terms : List Term) (row : K → Row) (value : K → V)
+    (view : V → Row) (list : Contents → List V) (Reads : Row → V → Type 0) (IsValue : Row → Type 0)
+    → ((a b : V) → Reads (view a) b → b ≡ a)
+    → ((params : Row) (k : K) → shows terms params (row k) ≡ view (value k))
+    → ((params r : Row) → shows terms params r ≡ shows terms [] r)
+    → ((c : Contents) (db : Database) → Tables c db → Holds row value (list c) (db.trees tree))
+    → ((c : Contents) (db : Database) → Tables c db → (x : V) → Has (list c) x → IsValue (view x))
+    → ((db : Database) → HasBadRow tree terms IsValue db → HasBadRows db) → TableOf K V
+table_of tree terms row value view list Reads IsValue back shown same kept valid bad = record {
+  tree = tree;
+  terms = terms;
+  row = row;
+  value = value;
+  view = view;
+  list = list;
+  Reads = Reads;
+  IsValue = IsValue;
+  back = back;
+  shown = shown;
+  same = same;
+  kept = kept;
+  valid = valid;
+  bad = bad;
 }
+
+-- one column of a table
+abbrev part_of : {K V W : Type 0} (t : TableOf K V) (terms : List Term) (part : V → W)
+    (view : W → Row) (Reads : Row → W → Type 0) (IsValue : Row → Type 0)
+    → ((a b : W) → Reads (view a) b → b ≡ a)
+    → ((params : Row) (k : K) → shows terms params (t.row k) ≡ view (part (t.value k)))
+    → ((params r : Row) → shows terms params r ≡ shows terms [] r)
+    → ((x : V) → t.IsValue (t.view x) → IsValue (view (part x)))
+    → ((r : Row) → t.IsValue (shows t.terms [] r) → IsValue (shows terms [] r)) → TableOf K W
+part_of t terms part view Reads IsValue back shown same valid good = table_of t.tree terms t.row
+    (λ k. part (t.value k)) view (λ c. map part (t.list c)) Reads IsValue back shown same
+    (λ c db on. viewed t.row t.value part (t.list c) (db.trees t.tree) (t.kept c db on))
+    (λ c db on y has.
+    let x = has_mapped part (t.list c) y has in
+    subst (λ z. IsValue (view z)) (sym x.2) (valid x.0 (t.valid c db on x.0 x.1)))
+    (λ db it. t.bad db (it.0, it.1, λ is. it.2 (good it.0 is)))
+
+abbrev pub queue_table : TableOf (ℤ × QueueRow) QueueRow
+queue_table = table_of 1 queue_shown (filed queue_columns) value_of queue_columns (λ c. c.queues)
+    ReadsQueue IsQueueRow queue_back (λ params k. refl) (λ params r. refl) (λ c db t. t.queues)
+    (λ c db t. (values_of c t.values).queues) (λ db it. inl it)
 
 -- a row of a request with its due moment is one of a request
 pub is_request : (r : Row) → IsDatedRow (shows dated_shown_terms [] r)
     → IsRequestRow (shows request_shown_terms [] r)
-is_request r is = record {
-  wide = omega arith;
-  id = is.request.id;
-  queue = is.request.queue;
-  subject = is.request.subject;
-  status = is.request.status;
-  owner = is.request.owner;
-  level = is.request.level;
-  created = is.request.created;
-  opened = is.request.opened;
-  turn = is.request.turn;
-  since = is.request.since;
-}
+is_request r is = let wide : 9 < length (shows request_shown_terms [] r) = omega arith in assumption
 
 abbrev pub request_table : TableOf Dated RequestRow
-request_table = record {
-  tree = 3;
-  terms = request_shown_terms;
-  row = dated_row;
-  value = row_of;
-  view = request_shown;
-  list = requests;
-  Reads = ReadsRequest;
-  IsValue = IsRequestRow;
-  back = request_back;
-  shown = λ params k. refl;
-  same = λ params r. refl;
-  kept = undated;
-  valid = λ c db t. rows_valid c (values_of c t.values);
-  bad = λ db it. inr (inl (it.0, it.1, λ is. it.2 (is_request it.0 is)));
-}
+request_table = table_of 3 request_shown_terms dated_row row_of request_shown requests ReadsRequest
+    IsRequestRow request_back (λ params k. refl) (λ params r. refl) undated
+    (λ c db t. rows_valid c (values_of c t.values))
+    (λ db it. inr (inl (it.0, it.1, λ is. it.2 (is_request it.0 is))))
 
 -- the same table, with the due moments
 abbrev pub dated_table : TableOf Dated Dated
-dated_table = record {
-  tree = 3;
-  terms = dated_shown_terms;
-  row = dated_row;
-  value = itself;
-  view = dated_shown;
-  list = λ c. c.dated;
-  Reads = ReadsDated;
-  IsValue = IsDatedRow;
-  back = dated_back;
-  shown = λ params k. refl;
-  same = λ params r. refl;
-  kept = λ c db t. t.requests;
-  valid = λ c db t. (values_of c t.values).dated;
-  bad = λ db it. inr (inl it);
-}
+dated_table = table_of 3 dated_shown_terms dated_row itself dated_shown (λ c. c.dated) ReadsDated
+    IsDatedRow dated_back (λ params k. refl) (λ params r. refl) (λ c db t. t.requests)
+    (λ c db t. (values_of c t.values).dated) (λ db it. inr (inl it))
 
 abbrev pub watcher_table : TableOf (ℤ × Watcher) Watcher
-watcher_table = record {
-  tree = 4;
-  terms = three_shown;
-  row = filed watcher_columns;
-  value = value_of;
-  view = watcher_columns;
-  list = λ c. c.watchers;
-  Reads = ReadsWatcher;
-  IsValue = IsWatcherRow;
-  back = watcher_back;
-  shown = λ params k. refl;
-  same = λ params r. refl;
-  kept = λ c db t. t.watchers;
-  valid = λ c db t. (values_of c t.values).watchers;
-  bad = λ db it. inr (inr (inl it));
-}
+watcher_table = table_of 4 three_shown (filed watcher_columns) value_of watcher_columns
+    (λ c. c.watchers) ReadsWatcher IsWatcherRow watcher_back (λ params k. refl) (λ params r. refl)
+    (λ c db t. t.watchers) (λ c db t. (values_of c t.values).watchers)
+    (λ db it. inr (inr (inl it)))
 
 abbrev pub link_table : TableOf (ℤ × LinkRow) LinkRow
-link_table = record {
-  tree = 6;
-  terms = three_shown;
-  row = filed link_columns;
-  value = value_of;
-  view = link_columns;
-  list = λ c. c.links;
-  Reads = ReadsLink;
-  IsValue = IsLinkRow;
-  back = link_back;
-  shown = λ params k. refl;
-  same = λ params r. refl;
-  kept = λ c db t. t.links;
-  valid = λ c db t. (values_of c t.values).links;
-  bad = λ db it. inr (inr (inr (inl it)));
-}
+link_table = table_of 6 three_shown (filed link_columns) value_of link_columns (λ c. c.links)
+    ReadsLink IsLinkRow link_back (λ params k. refl) (λ params r. refl) (λ c db t. t.links)
+    (λ c db t. (values_of c t.values).links) (λ db it. inr (inr (inr (inl it))))
 
 abbrev pub entry_table : TableOf (ℤ × Entry) Entry
-entry_table = record {
-  tree = 8;
-  terms = entry_shown_terms;
-  row = filed entry_columns;
-  value = value_of;
-  view = entry_columns;
-  list = λ c. c.entries;
-  Reads = ReadsEntry;
-  IsValue = IsEntryRow;
-  back = entry_back;
-  shown = λ params k. refl;
-  same = λ params r. refl;
-  kept = λ c db t. t.entries;
-  valid = λ c db t. (values_of c t.values).entries;
-  bad = λ db it. inr (inr (inr (inr (inl it))));
-}
+entry_table = table_of 8 entry_shown_terms (filed entry_columns) value_of entry_columns
+    (λ c. c.entries) ReadsEntry IsEntryRow entry_back (λ params k. refl) (λ params r. refl)
+    (λ c db t. t.entries) (λ c db t. (values_of c t.values).entries)
+    (λ db it. inr (inr (inr (inr (inl it)))))
 
--- those who made the entries: one column of that table
+-- those who made the entries
 abbrev pub actor_table : TableOf (ℤ × Entry) (List ℕ)
-actor_table = record {
-  tree = 8;
-  terms = actor_shown;
-  row = filed entry_columns;
-  value = λ k. actor_of (value_of k);
-  view = text_shown;
-  list = λ c. map actor_of c.entries;
-  Reads = ReadsText;
-  IsValue = IsTextRow;
-  back = text_back;
-  shown = λ params k. refl;
-  same = λ params r. refl;
-  kept = λ c db t. viewed (filed entry_columns) value_of actor_of c.entries (db.trees 8) t.entries;
-  valid = λ c db t x has.
-      let e = has_mapped actor_of c.entries x has in
-      subst (λ y. IsTextRow (text_shown y)) (sym e.2) (record {
-        wide = omega arith;
-        text = ((values_of c t.values).entries e.0 e.1).actor;
-      });
-  bad = λ db it. inr (inr (inr (inr (inl (
-    it.0,
-    it.1,
-    λ is. it.2 (record {
-      wide = omega arith;
-      text = is.actor;
-    }),
-  )))));
-}
+actor_table = part_of entry_table actor_shown actor_of text_shown ReadsText IsTextRow text_back
+    (λ params k. refl) (λ params r. refl) (λ x is. record { wide = omega arith; text = is.actor })
+    (λ r is. record { wide = omega arith; text = is.actor })
 
--- the numbers of requests: one column of that table
+-- numbers in one column
+abbrev numbers_of : {K V : Type 0} (t : TableOf K V) (terms : List Term) (number : V → ℕ)
+    → ((params : Row) (k : K) → shows terms params (t.row k) ≡ count_value (number (t.value k))
+    ∷ []) → ((params r : Row) → shows terms params r ≡ shows terms [] r)
+    → ((x : V) → t.IsValue (t.view x) → IsNumberRow (count_value (number x) ∷ []))
+    → ((r : Row) → t.IsValue (shows t.terms [] r) → IsNumberRow (shows terms [] r)) → TableOf K ℕ
+numbers_of t terms number = part_of t terms number (λ n. count_value n ∷ [])
+    (λ row n. column row 0 ≡ count_value n) IsNumberRow (λ a b h. sym (same_count h))
+
+-- the numbers of requests
 abbrev pub id_table : TableOf Dated ℕ
-id_table = record {
-  tree = 3;
-  terms = last_id_terms;
-  row = dated_row;
-  value = λ k. number_of (row_of k);
-  view = λ n. count_value n ∷ [];
-  list = λ c. map number_of (requests c);
-  Reads = λ row n. column row 0 ≡ count_value n;
-  IsValue = IsNumberRow;
-  back = λ a b h. sym (same_count h);
-  shown = λ params k. refl;
-  same = λ params r. refl;
-  kept = λ c db t. viewed dated_row row_of number_of (requests c) (db.trees 3) (undated c db t);
-  valid = λ c db t n has.
-      let r = has_mapped number_of (requests c) n has in
-      subst (λ m. IsNumberRow (count_value m ∷ [])) (sym r.2) (record {
-        wide = omega arith;
-        number = (rows_valid c (values_of c t.values) r.0 r.1).id;
-      });
-  bad = λ db it. inr (inl (
-    it.0,
-    it.1,
-    λ is. it.2 (record {
-      wide = omega arith;
-      number = is.request.id;
-    }),
-  ));
-}
+id_table = numbers_of request_table last_id_terms number_of (λ params k. refl) (λ params r. refl)
+    (λ x is. record { wide = omega arith; number = is.id })
+    (λ r is. record { wide = omega arith; number = is.id })
 
--- the numbers of entries: one column of theirs
+-- the numbers of entries
 abbrev pub place_table : TableOf (ℤ × Entry) ℕ
-place_table = record {
-  tree = 8;
-  terms = last_number_terms;
-  row = filed entry_columns;
-  value = λ k. place_of (value_of k);
-  view = λ n. count_value n ∷ [];
-  list = λ c. map place_of c.entries;
-  Reads = λ row n. column row 0 ≡ count_value n;
-  IsValue = IsNumberRow;
-  back = λ a b h. sym (same_count h);
-  shown = λ params k. refl;
-  same = λ params r. refl;
-  kept = λ c db t. viewed (filed entry_columns) value_of place_of c.entries (db.trees 8) t.entries;
-  valid = λ c db t n has.
-      let e = has_mapped place_of c.entries n has in
-      subst (λ m. IsNumberRow (count_value m ∷ [])) (sym e.2) (record {
-        wide = omega arith;
-        number = ((values_of c t.values).entries e.0 e.1).number;
-      });
-  bad = λ db it. inr (inr (inr (inr (inl (
-    it.0,
-    it.1,
-    λ is. it.2 (record {
-      wide = omega arith;
-      number = is.number;
-    }),
-  )))));
-}
+place_table = numbers_of entry_table last_number_terms place_of (λ params k. refl)
+    (λ params r. refl) (λ x is. record { wide = omega arith; number = is.number })
+    (λ r is. record { wide = omega arith; number = is.number })
 
 -- the stays, of whose rows only parts are read
 abbrev pub stay_table : TableOf (ℤ × StayRow) StayRow
-stay_table = record {
-  tree = 10;
-  terms = stay_shown;
-  row = filed stay_columns;
-  value = value_of;
-  view = stay_columns;
-  list = λ c. c.stays;
-  Reads = λ row x. (a : StayRow) → row ≡ stay_columns a → x ≡ a;
-  IsValue = IsStayRow;
-  back = λ a b only. only a refl;
-  shown = λ params k. refl;
-  same = λ params r. refl;
-  kept = λ c db t. t.stays;
-  valid = λ c db t. (values_of c t.values).stays;
-  bad = λ db it. inr (inr (inr (inr (inr it))));
-}
+stay_table = table_of 10 stay_shown (filed stay_columns) value_of stay_columns (λ c. c.stays)
+    (λ row x. (a : StayRow) → row ≡ stay_columns a → x ≡ a) IsStayRow (λ a b only. only a refl)
+    (λ params k. refl) (λ params r. refl) (λ c db t. t.stays)
+    (λ c db t. (values_of c t.values).stays) (λ db it. inr (inr (inr (inr (inr it)))))

@@ -1,11 +1,10 @@
 -- INSERT, UPDATE and DELETE of one row, and what is found, on the values of a table.
-use Rattle.std.proofs.Common.{◌≡◌, ◌⊎◌, inl, inr, ℤ, Bool, ◌<◌, ◌≤◌, length, get_or, arith, true}
-use Rattle.std.proofs.Common.{false, not, List, [], ◌∷◌, map, filter, refl, sym, ap, subst, ◌∙◌}
-use Rattle.std.proofs.Common.{IsPermutation, Ordering, Less, Equal, Greater}
+use Rattle.std.proofs.Common.{◌≡◌, ◌⊎◌, inl, inr, ℤ, Bool, length, arith, true, false, not, List}
+use Rattle.std.proofs.Common.{[], ◌∷◌, map, filter, refl, sym, ap, subst, ◌∙◌, IsPermutation}
+use Rattle.std.proofs.Common.{Ordering, Less, Equal, Greater}
 use Rattle.std.specs.List.{list_all}
 use Rattle.std.specs.Ordering.{is_eq}
 use Rattle.std.specs.Prelude.{◌&&◌}
-use Rattle.std.proofs.lemmas.Bool.{cases_Bool}
 use Rattle.std.proofs.lemmas.List.Sorted.{IsPermutation-refl, IsPermutation-cons}
 use Rattle.std.proofs.lemmas.List.Sorted.{IsPermutation-middle, IsPermutation-trans}
 use Rattle.std.proofs.lemmas.List.Sorted.{IsPermutation-sym, IsPermutation-map}
@@ -14,8 +13,7 @@ use Rattle.sqlite.specs.Order.{Row}
 use Rattle.sqlite_value.specs.Order.{value_cmp}
 use Rattle.sqlite_trees.specs.Tree.{IsTable, rowid, has_rowid, put_row, without_rowid}
 use Rattle.sqlite_trees.proofs.ListLemmas.{map-map, filter-map, IsPermutation-filter}
-use Rattle.sqlite_trees.proofs.ListLemmas.{ascending-filter}
-use Rattle.sqlite_trees.proofs.ListLemmas.{along_permutation, filter_same, all_of}
+use Rattle.sqlite_trees.proofs.ListLemmas.{ascending-filter, along_permutation, filter_same, all_of}
 use Rattle.sqlite_trees.proofs.TreeLemmas.{IsTable-put_row}
 use Rattle.sqlite_rules.specs.Edit.{is_taken}
 use Rattle.std.proofs.lemmas.Cmp.{tied_itself}
@@ -26,28 +24,20 @@ use Rattle.sqlite_rules.proofs.PlaceLemmas.{tied_same}
 use Rattle.store_tables.specs.Kept.{Holds}
 
 equal_is : (o : Ordering) → is_eq o ≡ true → o ≡ Equal
-equal_is Less h = absurd (cc)
-equal_is Equal h = refl
-equal_is Greater h = absurd (cc)
+equal_is o h = grind arith
 
 cases_ordering : (o : Ordering) → (o ≡ Less) ⊎ ((o ≡ Equal) ⊎ (o ≡ Greater))
-cases_ordering Less = inl refl
-cases_ordering Equal = inr (inl refl)
-cases_ordering Greater = inr (inr refl)
+cases_ordering o = grind arith
 
 turned : (a b c : Bool) → (a && (b && c)) ≡ (b && (a && c))
-turned true b c = refl
-turned false true c = refl
-turned false false c = refl
+turned a b c = grind arith
 
 -- what all of some values pass, they pass in another order
 pub all_alike : {X : Type 0} (test : X → Bool) (xs ys : List X) → IsPermutation xs ys
     → list_all test xs ≡ list_all test ys
-all_alike test =
-    along_permutation (λ xs ys. list_all test xs ≡ list_all test ys) (λ xs. refl)
+all_alike test = along_permutation (λ xs ys. list_all test xs ≡ list_all test ys) (λ xs. refl)
     (λ x xs ys same. ap (λ b. test x && b) same)
-    (λ x y xs. turned (test x) (test y) (list_all test xs))
-    (λ xs ys zs one two. one ∙ two)
+    (λ x y xs. turned (test x) (test y) (list_all test xs)) (λ xs ys zs one two. one ∙ two)
 
 module _ {K X : Type 0} (row : K → Row) (value : K → X) where
   -- a row with a new rowid goes in somewhere
@@ -97,8 +87,7 @@ module _ {K X : Type 0} (row : K → Row) (value : K → X) where
         kept = kept;
         spelt = ap (filter test) h.spelt ∙ filter-map test row h.kept;
         table = ascending-filter _ test rows h.table;
-        same = subst (λ vs. IsPermutation vs (filter p xs)) (sym values)
-            (IsPermutation-filter p _ _ h.same);
+        same = rw values (IsPermutation-filter p _ _ h.same);
       }
 
 -- where one row passes a test, taking its rowid out leaves the rows that do not pass
@@ -108,37 +97,19 @@ module _ (test : Row → Bool) (rows : List Row) (it : Row) (i : ℤ) (is : rowi
   there = has_filtered test rows it (subst (λ xs. Has xs it) (sym one) (inl refl))
 
   same_test : (r : Row) → Has rows r → not (has_rowid i r) ≡ not (test r)
-  same_test r has = elim (cases_Bool (test r)) [
-    | inl passes ↦
-        let here : Has (it ∷ []) r = subst (λ xs. Has xs r) one (has_kept test rows r has passes) in
-        elim here [
-          | inl same ↦ let tie : value_cmp (rowid r) (Int i) ≡ Equal =
-              ap (λ x. value_cmp (rowid x) (Int i)) same ∙ ap (λ v. value_cmp v (Int i)) is
-              ∙ tied_itself value_cmp_total (Int i) in rw (tie, passes)
-          | inr none ↦ absurd none
-        ]
-    | inr fails ↦ elim (cases_Bool (has_rowid i r)) [
-      | inl found ↦ absurd (
-          let tie : value_cmp (rowid r) (rowid it) ≡ Equal = rw is (equal_is _ found) in
-          let same = tied_same rows r it table has there.0 tie in
-          let e : true ≡ false = sym there.1 ∙ ap test (sym same) ∙ fails in cc)
-      | inr apart ↦ rw (apart, fails)
-    ]
-  ]
+  same_test r has =
+      let passes : test r ≡ true → has_rowid i r ≡ true = λ e.
+      elim (subst (λ xs. Has xs r) one (has_kept test rows r has e)) [
+        | inl same ↦ rw (same, is, tied_itself value_cmp_total (Int i))
+        | inr none ↦ absurd none
+      ] in
+      let has_it : has_rowid i r ≡ true → test r ≡ true = λ e.
+      ap test (tied_same rows r it table has there.0 (rw is (equal_is _ e))) ∙ there.1 in
+      grind (arith, passes, has_it)
 
   pub taken_out : without_rowid i rows ≡ filter (λ r. not (test r)) rows
   taken_out = filter_same (λ r. not (has_rowid i r)) (λ r. not (test r)) rows
       (all_from _ rows same_test)
-
-pub empty_list : {X : Type 0} (xs : List X) → length xs < 1 → xs ≡ []
-empty_list [] h = refl
-empty_list (x ∷ xs) h = absurd (omega arith)
-
-pub one_list : {X : Type 0} (x : X) (xs : List X) → 1 ≤ length xs → length xs < 2
-    → x ≡ get_or xs 0 x → xs ≡ x ∷ []
-one_list x [] p q is = absurd (omega arith)
-one_list x (y ∷ []) p q is = ap (λ z. z ∷ []) (sym is)
-one_list x (y ∷ z ∷ xs) p q is = absurd (omega arith)
 
 pub one_of : {X : Type 0} (xs : List X) → length xs ≡ 1 → (x : X) × (xs ≡ x ∷ [])
 one_of [] e = absurd (omega arith)
@@ -157,8 +128,7 @@ module _ {K X : Type 0} (row : K → Row) (value : K → X) (xs : List X) (rows 
     (i : ℤ) (it : Row) (numbered : rowid it ≡ Int i) (one : filter test rows ≡ it ∷ []) where
   -- the one row that passes is taken out
   pub removed : Holds row value (filter (λ x. not (p x)) xs) (without_rowid i rows)
-  removed = subst (Holds row value (filter (λ x. not (p x)) xs))
-      (sym (taken_out test rows it i numbered h.table one))
+  removed = rw (taken_out test rows it i numbered h.table one)
       (found row value xs rows h (λ r. not (test r)) (λ x. not (p x)) (λ k. ap not (is k)))
 
   -- and another takes its place
@@ -179,14 +149,12 @@ one_kept row value xs rows h test p is it one =
 
 -- what one column shows of each value
 pub viewed : {K X Y : Type 0} (row : K → Row) (value : K → X) (view : X → Y) (xs : List X)
-    (rows : List Row) → Holds row value xs rows
-    → Holds row (λ k. view (value k)) (map view xs) rows
+    (rows : List Row) → Holds row value xs rows → Holds row (λ k. view (value k)) (map view xs) rows
 viewed row value view xs rows h = record {
   kept = h.kept;
   spelt = h.spelt;
   table = h.table;
-  same = subst (λ l. IsPermutation l (map view xs)) (map-map view value h.kept)
-      (IsPermutation-map view _ _ h.same);
+  same = rw (map-map view value h.kept) at (IsPermutation-map view _ _ h.same);
 }
 
 -- the same values in another order

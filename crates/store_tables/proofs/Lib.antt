@@ -2,15 +2,11 @@ pub mod BackLemmas
 pub mod BlameLemmas
 pub mod BlankLemmas
 pub mod ChangeLemmas
-pub mod CountLemmas
-pub mod DatedLemmas
 pub mod DueLemmas
 pub mod EachQuery
 pub mod EachTable
-pub mod FirstLemmas
 pub mod FoundLemmas
 pub mod KeptLemmas
-pub mod LastLemmas
 pub mod Lasting
 pub mod Meaning
 pub mod PickedLemmas

@@ -5,15 +5,20 @@ use Rattle.sqlite.specs.Command.TheVariants.{Select}
 use Rattle.sqlite.specs.Given.{IsPlain}
 use Rattle.sqlite.specs.Listing.{understood, reads_listing}
 use Rattle.sqlite.specs.Query.{Query}
+use Rattle.sqlite.specs.Schema.{Schema}
 use Rattle.sqlite.proofs.Callers.{command_of}
 use Rattle.store_tables.specs.Tables.{desk_schema}
 
--- it is this query, which reads alone
-pub record Selects (sql : List ℕ) (query : Query) (names : List (List ℕ)) : Type 0 where
-  pub is : command_of (understood desk_schema sql) ≡ Select (record { lets = []; body = query })
-      names
-  pub plain : IsPlain (understood desk_schema sql)
-  pub unlisted : reads_listing desk_schema sql ≡ false
+-- over tables of this schema it is this query, which reads alone
+pub record SelectsIn (schema : Schema) (sql : List ℕ) (query : Query) (names : List (List ℕ)) :
+    Type 0 where
+  pub is : command_of (understood schema sql) ≡ Select (record { lets = []; body = query }) names
+  pub plain : IsPlain (understood schema sql)
+  pub unlisted : reads_listing schema sql ≡ false
+
+-- over the seven tables it is
+abbrev pub Selects : List ℕ → Query → List (List ℕ) → Type 0
+Selects sql query names = SelectsIn desk_schema sql query names
 
 -- it is this change
 pub record Changes (sql : List ℕ) (command : Command) : Type 0 where

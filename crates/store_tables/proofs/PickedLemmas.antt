@@ -1,62 +1,56 @@
 -- From the meaning of a SELECT on one table to the rows that it picks.
-use Rattle.std.proofs.Common.{◌≡◌, ℕ, true, false, cond, List, [], ◌∷◌, ◌++◌, map, filter, take}
-use Rattle.std.proofs.Common.{refl, ap, subst, ◌∙◌, IsPermutation, Bool, None}
+use Rattle.std.proofs.Common.{◌≡◌, ℕ, cond, List, [], ◌∷◌, map, filter, take, arith, refl, ap}
+use Rattle.std.proofs.Common.{subst, ◌∙◌, IsPermutation, Bool, None}
 use Rattle.std.specs.List.{list_all}
 use Rattle.std.specs.Prelude.{flat_map, unwrap_or, IsSorted}
 use Rattle.sqlite.specs.declared.types.Value.TheVariants.{Null}
 use Rattle.sqlite.specs.Order.{Row}
-use Rattle.sqlite.specs.Term.{Term, Env, holds}
+use Rattle.sqlite.specs.Term.{Env, Term, holds}
 use Rattle.sqlite.specs.Tree.{Trees}
-use Rattle.sqlite.specs.Query.{IsAnswer, output, output_cmp, Output}
+use Rattle.sqlite.specs.Query.{IsAnswer, Query, output, output_cmp, Output}
 use Rattle.sqlite.specs.Program.{overlay}
+use Rattle.sqlite.specs.Schema.{Schema}
 use Rattle.sqlite.specs.State.{State, Shown}
 use Rattle.sqlite.proofs.Callers.{reads_as}
 use Rattle.sqlite_trees.proofs.ListLemmas.{map-map, pull_back}
 use Rattle.store_tables.specs.Queries.{reads, last_of}
 use Rattle.store_tables.specs.Picked.{passes, Picks, PicksLast}
 use Rattle.store_tables.specs.Tables.{desk_schema}
-use Rattle.store_tables.proofs.Meaning.{Selects}
+use Rattle.store_tables.proofs.Meaning.{Selects, SelectsIn}
 
 neither : {X : Type 0} (b : Bool) (x : X) → cond b x x ≡ x
-neither true x = refl
-neither false x = refl
+neither b x = grind arith
 
 -- a query with no tables of its own reads those of the database
 pub bare : (db : Trees) (tree : ℕ) → overlay db [] tree ≡ db tree
 bare db tree = ap (λ o. unwrap_or o (db tree)) (neither _ None)
 
-slots : Row → Row → Env
-slots params r = params ∷ r ∷ []
-
 pub matched : (test : List Term) (params : Row) (rows : List Row)
     → flat_map (λ r. cond (list_all (holds (params ∷ r ∷ [])) test) ((params ∷ r ∷ []) ∷ []) [])
     rows ≡ map (λ r. params ∷ r ∷ []) (filter (passes test params) rows)
 matched test params [] = refl
-matched test params (r ∷ rows) =
-    elim (list_all (holds (params ∷ r ∷ [])) test)
-    as (λ b. cond b ((params ∷ r ∷ []) ∷ []) [] ++ flat_map
-    (λ r. cond (list_all (holds (params ∷ r ∷ [])) test) ((params ∷ r ∷ []) ∷ []) []) rows ≡ map
-    (λ r. params ∷ r ∷ []) (cond b (r ∷ filter (passes test params) rows)
-    (filter (passes test params) rows))) [
-      | true ↦ ap (λ l. (params ∷ r ∷ []) ∷ l) (matched test params rows)
-      | false ↦ matched test
-          params rows
-    ]
+matched test params (r ∷ rows) = grind (arith, matched test params rows)
+
+-- what is put out of the rows that pass, in an order, is that of them in some order
+put_out : (q : Query) (test : List Term) (params : Row) (from : List Row) (staged : List Env)
+    (kept ordered : List Output) → staged ≡ flat_map (λ r. cond (list_all (holds (params ∷ r ∷ []))
+    test) ((params ∷ r ∷ []) ∷ []) []) from → kept ≡ map (output q) staged → IsPermutation kept
+    ordered → (picked : List Row) × IsPermutation (filter (passes test params) from) picked
+    × (ordered ≡ map (λ r. output q (params ∷ r ∷ [])) picked)
+put_out q test params from staged kept ordered grouped is same =
+    let rows = filter (passes test params) from in
+    let all : kept ≡ map (λ r. output q (params ∷ r ∷ [])) rows =
+    is ∙ ap (map (output q)) (grouped ∙ matched test params from)
+    ∙ map-map (output q) (λ r. params ∷ r ∷ []) rows in
+    pull_back (λ r. output q (params ∷ r ∷ [])) _ ordered (rw all at same) rows refl
 
 pub picks : (tree : ℕ) (test project order : List Term) (params : Row) (db : Trees)
     (rows : List Row) → IsAnswer (reads tree test project order) db params rows
     → Picks tree test project order params (db tree) rows
 picks tree test project order params db rows a =
     let q = reads tree test project order in
-    let from = filter (passes test params) (db tree) in
-    let staged : a.staged ≡ map (λ r. params ∷ r ∷ []) from =
-    a.grouped ∙ matched test params (db tree) in
-    let kept : a.kept ≡ map (λ r. output q (params ∷ r ∷ [])) from =
-    a.distinct ∙ ap (map (output q)) staged ∙ map-map (output q) (λ r. params ∷ r ∷ []) from in
-    let back = pull_back (λ r. output q (params ∷ r ∷ []))
-    (map (λ r. output q (params ∷ r ∷ [])) from) a.ordered
-    (subst (λ k. IsPermutation k a.ordered) kept a.same) from refl in
-    record {
+    let back = put_out q test params (db tree) a.staged a.kept a.ordered a.grouped a.distinct a.same
+    in record {
       picked = back.0;
       same = back.1;
       sorted = subst (IsSorted (output_cmp q)) back.2 a.sorted;
@@ -65,13 +59,13 @@ picks tree test project order params db rows a =
     }
 
 -- the same of a text that means such a query
-pub picked_by : {names : List (List ℕ)} (sql : List ℕ) (params : Row) (old new : State)
-    (has : old.now.schema ≡ desk_schema) (tree : ℕ) (test project order : List Term)
-    → Selects sql (reads tree test project order) names → (rows : List Row)
+pub picked_by : {schema : Schema} {names : List (List ℕ)} (sql : List ℕ) (params : Row)
+    (old new : State) (has : old.now.schema ≡ schema) (tree : ℕ) (test project order : List Term)
+    → SelectsIn schema sql (reads tree test project order) names → (rows : List Row)
     → Shown sql params old new rows → Picks tree test project order params (old.now.trees tree) rows
-picked_by sql params old new has tree test project order is rows h =
-    let got = reads_as sql params old new desk_schema has _ is.is is.plain is.unlisted rows h in
-    subst (λ from. Picks tree test project order params from rows) (bare old.now.trees tree)
+picked_by {schema} sql params old new has tree test project order is rows h =
+    let got = reads_as sql params old new schema has _ is.is is.plain is.unlisted rows h in
+    rw (bare old.now.trees tree) at
     (picks tree test project order params (overlay old.now.trees []) rows (got.answer Null))
 
 pub picks_last : (tree : ℕ) (test : List Term) (at : Term) (params : Row) (db : Trees)
@@ -79,15 +73,8 @@ pub picks_last : (tree : ℕ) (test : List Term) (at : Term) (params : Row) (db 
     → PicksLast tree test at params (db tree) rows
 picks_last tree test at params db rows a =
     let q = last_of tree test at in
-    let from = filter (passes test params) (db tree) in
-    let staged : a.staged ≡ map (λ r. params ∷ r ∷ []) from =
-    a.grouped ∙ matched test params (db tree) in
-    let kept : a.kept ≡ map (λ r. output q (params ∷ r ∷ [])) from =
-    a.distinct ∙ ap (map (output q)) staged ∙ map-map (output q) (λ r. params ∷ r ∷ []) from in
-    let back = pull_back (λ r. output q (params ∷ r ∷ []))
-    (map (λ r. output q (params ∷ r ∷ [])) from) a.ordered
-    (subst (λ k. IsPermutation k a.ordered) kept a.same) from refl in
-    record {
+    let back = put_out q test params (db tree) a.staged a.kept a.ordered a.grouped a.distinct a.same
+    in record {
       picked = back.0;
       same = back.1;
       sorted = subst (IsSorted (output_cmp q)) back.2 a.sorted;
@@ -101,5 +88,5 @@ pub last_by : {names : List (List ℕ)} (sql : List ℕ) (params : Row) (old new
     → Shown sql params old new rows → PicksLast tree test at params (old.now.trees tree) rows
 last_by sql params old new has tree test at is rows h =
     let got = reads_as sql params old new desk_schema has _ is.is is.plain is.unlisted rows h in
-    subst (λ from. PicksLast tree test at params from rows) (bare old.now.trees tree)
+    rw (bare old.now.trees tree) at
     (picks_last tree test at params (overlay old.now.trees []) rows (got.answer Null))

@@ -1,14 +1,15 @@
--- From the rows that are picked to the values that are shown, of any table.
-use Rattle.std.proofs.Common.{◌≡◌, ◌+◌, ◌<◌, ℕ, zero, suc, Bool, false, List, [], ◌∷◌, ◌++◌, map}
-use Rattle.std.proofs.Common.{filter, take, length, get_or, refl, sym, ap, ap₂, subst, subst₂, ◌∙◌}
-use Rattle.std.proofs.Common.{IsPermutation, Ordering, arith, Option, None, Some}
+-- From the rows that are picked to the values that they show, of any table; the last by a number.
+use Rattle.std.proofs.Common.{◌≡◌, ◌+◌, ◌<◌, ℕ, Bool, List, [], ◌∷◌, ◌++◌, map, filter, take}
+use Rattle.std.proofs.Common.{length, get_or, refl, sym, ap, ap₂, subst, subst₂, ◌∙◌, IsPermutation}
+use Rattle.std.proofs.Common.{Ordering, arith, Option, None, Some, ◌≤◌, inl, inr, suc, false}
 use Rattle.std.specs.Option.{option_to_list}
 use Rattle.std.specs.Prelude.{IsSorted}
 use Rattle.std.specs.List.{AllZip}
-use Rattle.std.specs.Ordering.{is_lt}
-use Rattle.std.proofs.lemmas.List.{length-map, take_more}
+use Rattle.std.specs.Ordering.{is_lt, nat_cmp}
+use Rattle.std.proofs.lemmas.List.{get_or-map, map-id, length-map, nil_from_length, take_more}
 use Rattle.std.proofs.lemmas.List.Sorted.{IsPermutation-map, IsPermutation-trans, IsPermutation-sym}
-use Rattle.std.proofs.lemmas.List.Sorted.{length_permutation}
+use Rattle.std.proofs.lemmas.List.Sorted.{length_permutation, ranks_by, sorted_far}
+use Rattle.std.proofs.lemmas.List.Sorted.{Contains-permutation}
 use Rattle.sqlite.specs.Order.{Row}
 use Rattle.sqlite.specs.Term.{Term}
 use Rattle.sqlite.specs.Query.{output, output_cmp, Output}
@@ -16,45 +17,36 @@ use Rattle.sqlite.proofs.Callers.{one_permutation}
 use Rattle.sqlite_trees.proofs.ListLemmas.{map-map, pull_back}
 use Rattle.sqlite_rules.proofs.PlaceLemmas.{zip_more}
 use Rattle.store_tables.specs.Kept.{Holds}
-use Rattle.store_tables.specs.Queries.{reads}
-use Rattle.store_tables.specs.Picked.{passes, shows, Picks, Shows, Lists, AreOrdered}
-use Rattle.store_tables.proofs.KeptLemmas.{found}
-
-pub get_or_mapped : {X Y : Type 0} (f : X → Y) (xs : List X) (k : ℕ) (d : Y) (e : X) → k < length xs
-    → get_or (map f xs) k d ≡ f (get_or xs k e)
-get_or_mapped f [] k d e h = absurd (omega arith)
-get_or_mapped f (x ∷ xs) zero d e h = refl
-get_or_mapped f (x ∷ xs) (suc k) d e h = get_or_mapped f xs k d e (omega arith)
-
-get_or-map : {X Y : Type 0} (f : X → Y) (xs : List X) (k : ℕ) (d : X)
-    → get_or (map f xs) k (f d) ≡ f (get_or xs k d)
-get_or-map f [] k d = refl
-get_or-map f (x ∷ xs) zero d = refl
-get_or-map f (x ∷ xs) (suc k) d = get_or-map f xs k d
+use Rattle.store_tables.specs.Queries.{reads, last_of}
+use Rattle.store_tables.specs.Picked.{passes, shows, Picks, Shows, Lists, AreOrdered, PicksLast}
+use Rattle.store_tables.specs.Picked.{ShowsGreatest}
+use Rattle.store_tables.proofs.KeptLemmas.{found, unmapped_one}
+use Rattle.std.proofs.lemmas.Map.Keys.{ge_from_not_lt}
+use Rattle.std.proofs.lemmas.Cmp.{back_total, nat_cmp_total}
+use Rattle.std.proofs.lemmas.List.Elements.{recursion_from_All}
+use Rattle.sqlite_rules.specs.Lists.{Has}
+use Rattle.sqlite_rules.proofs.ListLemmas.{all_has, has_contained, contains_had}
+use Rattle.store_tables.specs.Spelling.{count_value}
 
 -- a list is in the order of its images
 pub sorted_from : {X Y : Type 0} (f : X → Y) (by : X → X → Ordering) (cmp : Y → Y → Ordering)
     → ((a b : X) → cmp (f a) (f b) ≡ by a b) → (xs : List X) → IsSorted cmp (map f xs)
     → IsSorted by xs
 sorted_from f by cmp same xs h k d low high =
-    let at : is_lt (cmp (get_or (map f xs) (k + 1) (f d)) (get_or (map f xs) k (f d))) ≡ false =
-    h k (f d) low (omega (arith, high, length-map xs f)) in
-    sym (ap is_lt (ap₂ cmp (get_or-map f xs (k + 1) d) (get_or-map f xs k d) ∙ same _ _)) ∙ at
+    sym (ap is_lt (ap₂ cmp (get_or-map f xs (k + 1) d (f d) (omega (arith, high)))
+    (get_or-map f xs k d (f d) (omega (arith, high))) ∙ same _ _))
+    ∙ h k (f d) low (omega (arith, high, length-map xs f))
 
 pub sorted_to : {X Y : Type 0} (f : X → Y) (cmp : Y → Y → Ordering) (xs : List X)
     → IsSorted (λ a b. cmp (f a) (f b)) xs → IsSorted cmp (map f xs)
 sorted_to f cmp [] h k d low high = absurd (omega arith)
 sorted_to f cmp (x ∷ xs) h k d low high =
     let n = length-map xs f in
-    let first : get_or (map f (x ∷ xs)) (k + 1) d ≡ f (get_or (x ∷ xs) (k + 1) x) =
-    get_or_mapped f (x ∷ xs) (k + 1) d x (omega (arith, high, n)) in
-    let second : get_or (map f (x ∷ xs)) k d ≡ f (get_or (x ∷ xs) k x) =
-    get_or_mapped f (x ∷ xs) k d x (omega (arith, high, n)) in
-    ap is_lt (ap₂ cmp first second) ∙ h k x low (omega (arith, high, n))
+    ap is_lt (ap₂ cmp (get_or-map f (x ∷ xs) (k + 1) x d (omega (arith, high, n)))
+    (get_or-map f (x ∷ xs) k x d (omega (arith, high, n)))) ∙ h k x low (omega (arith, high, n))
 
-module _ {K X : Type 0} (row : K → Row) (value : K → X) (view : X → Row) (tree : ℕ)
-    (test project order : List Term) (params : Row) (xs : List X) (from rows : List Row)
-    (p : X → Bool)
+module _ {K X : Type 0} {row : K → Row} {value : K → X} {tree : ℕ} {test project order : List Term}
+    {params : Row} {xs : List X} {from rows : List Row} (view : X → Row) (p : X → Bool)
     (tests : (k : K) → passes test params (row k) ≡ p (value k))
     (shown : (k : K) → shows project params (row k) ≡ view (value k))
     (holds : Holds row value xs from) (picks : Picks tree test project order params from rows)
@@ -68,13 +60,8 @@ module _ {K X : Type 0} (row : K → Row) (value : K → X) (view : X → Row) (
 
     values_are : rows ≡ map view (map value back.0)
     values_are = picks.shown ∙ ap (map (shows project params)) back.2
-        ∙ map-map (shows project params) row back.0 ∙ mapped back.0
+        ∙ map-map (shows project params) row back.0 ∙ (λ t. map (λ k. shown k t) back.0)
         ∙ sym (map-map view value back.0)
-      where
-        mapped : (ks : List K) → map (λ k. shows project params (row k)) ks ≡ map
-            (λ k. view (value k)) ks
-        mapped [] = refl
-        mapped (k ∷ ks) = ap₂ (λ r rs. r ∷ rs) (shown k) (mapped ks)
 
     values_same : IsPermutation (filter p xs) (map value back.0)
     values_same = IsPermutation-trans _ _ _ (IsPermutation-sym _ _ left.same)
@@ -90,57 +77,57 @@ module _ {K X : Type 0} (row : K → Row) (value : K → X) (view : X → Row) (
         → output_cmp (reads tree test project order) (output_of a) (output_of b) ≡ cmp (value a)
         (value b)) → Lists cmp view (filter p xs) rows
     lists_values cmp orders =
-        let sorted : IsSorted (λ a b. cmp (value a) (value b)) back.0 =
-        sorted_from output_of (λ a b. cmp (value a) (value b))
-        (output_cmp (reads tree test project order)) orders back.0
+        let sorted = sorted_to value cmp back.0 (sorted_from output_of
+        (λ a b. cmp (value a) (value b)) (output_cmp (reads tree test project order)) orders back.0
         (subst (IsSorted (output_cmp (reads tree test project order)))
         (ap (map (λ r. output (reads tree test project order) (params ∷ r ∷ []))) back.2
         ∙ map-map (λ r. output (reads tree test project order) (params ∷ r ∷ [])) row back.0)
-        picks.sorted) in
+        picks.sorted)) in
         record {
           values = map value back.0;
           are = values_are;
-          ordered =
-              record { same = values_same; sorted = sorted_to value cmp back.0 sorted };
+          ordered = record { same = values_same; sorted = sorted };
         }
 
 -- ---- what is read of rows that are shown
 
+-- what was read of rows is a part of each value that they show
+pub parts_are : {V Y : Type 0} (view : V → Row) (part : V → Y) (Reads : Row → Y → Type 0)
+    → ((a : V) (b : Y) → Reads (view a) b → b ≡ part a) → (vs : List V) (ys : List Y)
+    → AllZip Reads (map view vs) ys → ys ≡ map part vs
+parts_are view part Reads same [] [] zip = refl
+parts_are view part Reads same [] (y ∷ ys) zip = absurd zip
+parts_are view part Reads same (v ∷ vs) [] zip = absurd zip
+parts_are view part Reads same (v ∷ vs) (y ∷ ys) zip =
+    ap₂ (λ z zs. z ∷ zs) (same v y zip.0) (parts_are view part Reads same vs ys zip.1)
+
 module _ {X : Type 0} (view : X → Row) (Reads : Row → X → Type 0)
     (reads_back : (a b : X) → Reads (view a) b → b ≡ a) where
-  no_permutation : (xs : List X) → IsPermutation xs [] → xs ≡ []
-  no_permutation [] h = refl
-  no_permutation (x ∷ xs) h = absurd (omega (arith, length_permutation (x ∷ xs) [] h))
-
   read_same : (xs vs : List X) → AllZip Reads (map view xs) vs → xs ≡ vs
-  read_same [] [] zip = refl
-  read_same [] (v ∷ vs) zip = absurd zip
-  read_same (x ∷ xs) [] zip = absurd zip
-  read_same (x ∷ xs) (v ∷ vs) zip = ap₂ (λ y ys. y ∷ ys) (sym (reads_back x v zip.0))
-      (read_same xs vs zip.1)
+  read_same xs vs zip = sym (parts_are view (λ x. x) Reads reads_back xs vs zip ∙ map-id xs)
 
   -- the values that were read are those that are shown
-  pub all_read : (cmp : X → X → Ordering) (xs : List X) (rows : List Row) (vs : List X)
+  pub all_read : {cmp : X → X → Ordering} {xs : List X} {rows : List Row} {vs : List X}
       → Lists cmp view xs rows → AllZip Reads rows vs → AreOrdered cmp xs vs
-  all_read cmp xs rows vs h zip = subst (AreOrdered cmp xs)
+  all_read {cmp} {xs} {rows} {vs} h zip = subst (AreOrdered cmp xs)
       (read_same h.values vs (subst (λ rs. AllZip Reads rs vs) h.are zip)) h.ordered
 
-  pub all_shown : (xs : List X) (rows : List Row) (vs : List X) → Shows view xs rows
+  pub all_shown : {xs : List X} {rows : List Row} {vs : List X} → Shows view xs rows
       → AllZip Reads rows vs → IsPermutation xs vs
-  all_shown xs rows vs h zip = subst (IsPermutation xs)
+  all_shown {xs} {rows} {vs} h zip = subst (IsPermutation xs)
       (read_same h.values vs (subst (λ rs. AllZip Reads rs vs) h.are zip)) h.same
 
   -- the one value that was read, or none, is what is shown
-  pub one_read : (xs : List X) (rows : List Row) (v : Option X) → Shows view xs rows
+  pub one_read : {xs : List X} {rows : List Row} (v : Option X) → Shows view xs rows
       → AllZip Reads rows (option_to_list v) → option_to_list v ≡ xs
-  one_read xs rows v h zip = only v (subst (IsPermutation xs) values h.same)
+  one_read {xs} {rows} v h zip = only v (subst (IsPermutation xs) values h.same)
     where
       values : h.values ≡ option_to_list v
       values = read_same h.values (option_to_list v)
           (subst (λ rs. AllZip Reads rs (option_to_list v)) h.are zip)
 
       only : (o : Option X) → IsPermutation xs (option_to_list o) → option_to_list o ≡ xs
-      only None same = sym (no_permutation xs same)
+      only None same = sym (nil_from_length xs (sym (length_permutation xs [] same)))
       only (Some x) same = sym (one_permutation x xs (IsPermutation-sym xs (x ∷ []) same))
 
 pub read_more : {X : Type 0} (Reads : Row → X → Type 0) (rows : List Row) (vs : List X) (i : ℕ)
@@ -150,3 +137,80 @@ pub read_more : {X : Type 0} (Reads : Row → X → Type 0) (rows : List Row) (v
 read_more Reads rows vs i row v now low is pushed zip reads =
     subst₂ (AllZip Reads) (sym (take_more rows i row low ∙ ap (λ r. take i rows ++ r ∷ [])
     (sym is))) (sym pushed) (zip_more Reads (take i rows) vs row v zip reads)
+
+pub has_permuted : {X : Type 0} (xs ys : List X) (x : X) → IsPermutation xs ys → Has xs x → Has ys x
+has_permuted xs ys x same has = has_contained ys x
+    (Contains-permutation xs ys x same (contains_had xs x has))
+
+head_greatest : {X : Type 0} (key : X → ℕ) (x : X) (ys : List X)
+    → IsSorted (λ a b. nat_cmp (key b) (key a)) (x ∷ ys) → (y : X) → Has (x ∷ ys) y → key y ≤ key x
+head_greatest key x ys sorted y (inl same) = omega (arith, ap key same)
+head_greatest key x ys sorted y (inr later) =
+    let all = recursion_from_All (λ b. is_lt (nat_cmp (key x) (key b)) ≡ false) ys
+    (λ k d h. sorted_far (λ a b. is_lt (nat_cmp (key b) (key a)))
+    (ranks_by (back_total nat_cmp_total) key) (x ∷ ys) sorted 0 (suc k) d (omega arith)
+    (omega arith)) in
+    ge_from_not_lt (key x) (key y)
+    (all_has (λ b. is_lt (nat_cmp (key x) (key b)) ≡ false) ys y all later)
+
+pub no_permutation : {X : Type 0} (xs : List X) → IsPermutation xs [] → xs ≡ []
+no_permutation xs same = nil_from_length xs (sym (length_permutation xs [] same))
+
+module _ {K X : Type 0} {row : K → Row} {value : K → X} {tree : ℕ} {test : List Term} {at : Term}
+    {params : Row} {xs : List X} {from rows : List Row} (key : X → ℕ) (p : X → Bool)
+    (tests : (k : K) → passes test params (row k) ≡ p (value k))
+    (shown : (k : K) → shows (at ∷ []) params (row k) ≡ count_value (key (value k)) ∷ [])
+    (orders : (a b : K) → output_cmp (last_of tree test at)
+    (output (last_of tree test at) (params ∷ row a ∷ []))
+    (output (last_of tree test at) (params ∷ row b ∷ [])) ≡ nat_cmp (key (value b)) (key (value a)))
+    (holds : Holds row value xs from) (picks : PicksLast tree test at params from rows) where
+  first_of : (ks : List K) → rows ≡ take 1 (map (shows (at ∷ []) params) (map row ks))
+      → IsPermutation (filter p xs) (map value ks)
+      → IsSorted (λ a b. nat_cmp (key b) (key a)) (map value ks)
+      → ShowsGreatest key (filter p xs) rows
+  first_of [] is same sorted = inl (is, no_permutation (filter p xs) same)
+  first_of (k ∷ ks) is same sorted = inr (
+    value k,
+    is ∙ ap (λ r. r ∷ []) (shown k),
+    has_permuted (value k ∷ map value ks) (filter p xs) (value k) (IsPermutation-sym _ _ same)
+        (inl refl),
+    λ y has. head_greatest key (value k) (map value ks) sorted y
+        (has_permuted (filter p xs) (value k ∷ map value ks) y same has),
+  )
+
+  pub shows_greatest : ShowsGreatest key (filter p xs) rows
+  shows_greatest =
+      let left = found row value xs from holds (passes test params) p tests in
+      let back = pull_back row _ picks.picked (rw left.spelt at picks.same) left.kept refl in
+      let put = λ (k : K). output (last_of tree test at) (params ∷ row k ∷ []) in
+      let sorted : IsSorted (λ a b. nat_cmp (key (value b)) (key (value a))) back.0 =
+      sorted_from put (λ a b. nat_cmp (key (value b)) (key (value a)))
+      (output_cmp (last_of tree test at)) orders back.0
+      (rw (back.2, map-map (λ r. output (last_of tree test at) (params ∷ r ∷ [])) row back.0) at
+      picks.sorted) in
+      first_of back.0 (picks.shown ∙ ap (λ rs. take 1 (map (shows (at ∷ []) params) rs)) back.2)
+      (IsPermutation-trans _ _ _ (IsPermutation-sym _ _ left.same)
+      (IsPermutation-map value _ _ back.1))
+      (sorted_to value (λ a b. nat_cmp (key b) (key a)) back.0 sorted)
+
+-- ---- what passes of a table, by the rows that pass
+
+module _ {K X : Type 0} (row : K → Row) (value : K → X) (xs : List X) (rows : List Row)
+    (holds : Holds row value xs rows) (test : Row → Bool) (p : X → Bool)
+    (is : (k : K) → test (row k) ≡ p (value k)) where
+  abbrev passing : Holds row value (filter p xs) (filter test rows)
+  passing = found row value xs rows holds test p is
+
+  -- where one row passes, it is that of the one value that does
+  pub one_held : (it : Row) → filter test rows ≡ it ∷ []
+      → (k : K) × (it ≡ row k) × (filter p xs ≡ value k ∷ [])
+  one_held it one =
+      let k = unmapped_one row passing.kept it (sym passing.spelt ∙ one) in
+      (k.0, sym k.2, one_permutation (value k.0) (filter p xs) (rw k.1 at passing.same))
+
+  -- where none passes, no value does
+  pub none_held : filter test rows ≡ [] → filter p xs ≡ []
+  none_held none =
+      let empty = nil_from_length passing.kept
+      (sym (length-map passing.kept row) ∙ ap length (sym passing.spelt ∙ none)) in
+      no_permutation (filter p xs) (IsPermutation-sym _ _ (rw empty at passing.same))

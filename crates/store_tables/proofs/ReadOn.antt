@@ -1,10 +1,10 @@
 -- Readings, one after another.
-use Rattle.std.proofs.Common.{◌≡◌, ◌⊎◌, Err, IfErr, IfOk, inl, inr, IsTrue, Ok, refl, Result}
+use Rattle.std.proofs.Common.{rules, ◌≡◌, ◌⊎◌, Err, IfErr, IfOk, inl, inr, IsTrue, Ok, refl, Result}
 use Rattle.std.proofs.Common.{subst}
 use Rattle.sqlite.specs.Effect.{Database}
 use Rattle.sqlite.specs.State.{State, HasCleanDisk}
 use Rattle.desk_model.specs.Desk.{Desk}
-use Rattle.store_tables.specs.Calls.{AreThere, OnlyRefuses, Spares, Tells, WasClean}
+use Rattle.store_tables.specs.Calls.{Answers, AreThere, OnlyRefuses, Spares, Tells, WasClean}
 use Rattle.store_tables.specs.Contents.{Contents, contents_of}
 use Rattle.store_tables.specs.Readings.{Blames, HasBadRows, OfDesk, Reads}
 use Rattle.store_tables.specs.Stands.{Tables}
@@ -34,7 +34,7 @@ bad_before {a} kept there clean bad =
 -- a fault is one of whatever was asked, and so it is answered
 pub blames_failed : {X Y : Type 0} {a b : State} {e : StoreFault} {r : Result Y StoreFault}
     → Blames {X = X} a b (Err e) → r ≡ Err e → Blames a b r
-blames_failed it is = rw is (record { known = it.known; mismatch = it.mismatch })
+blames_failed it is = rw is (assumption)
 
 -- what a later reading blames was bad before
 pub blames_after : {X : Type 0} {a b c : State} {r : Result X StoreFault} → Spares a b
@@ -47,11 +47,7 @@ blames_after {r = r} first clean second = record {
 
 pub failed : {X Y : Type 0} {P : Contents → X → Type 0} {Q : Contents → Y → Type 0} {a b : State}
     {e : StoreFault} → Reads P a b (Err e) → Reads Q a b (Err e)
-failed it = record {
-  told = λ c stand clean. tt;
-  kept = it.kept;
-  blames = blames_failed it.blames refl;
-}
+failed it = search rules
 
 pub failed_at : {X Y : Type 0} {P : Contents → X → Type 0} {Q : Contents → Y → Type 0} {a b : State}
     {e : StoreFault} {r : Result Y StoreFault} → Reads P a b (Err e) → r ≡ Err e → Reads Q a b r
@@ -79,13 +75,18 @@ pub refusing : {X Y : Type 0} {P : Contents → X → Type 0} {Q : Contents → 
     {x : X} {e : StoreFault} → Reads P a b (Ok x) → e ≡ Refused → Reads Q a b (Err e)
 refusing it is = ending is (λ d p. tt) it
 
+-- whatever was asked, it is refused, and the tables are spared
+pub refusing_after : {Y : Type 0} {Q : Contents → Y → Type 0} {a b : State} → Spares a b
+    → Reads Q a b (Err Refused)
+refusing_after {Y} {a = a} {b} kept =
+    let blames = blames_refused {X = Y} {a = a} {b = b} (Err Refused) refl in search rules
+
 -- two readings, and both answers
 pub then : {X Y : Type 0} {P : Contents → X → Type 0} {Q : Contents → Y → Type 0} {a b c : State}
     {x : X} {r : Result Y StoreFault} → Reads P a b (Ok x) → Reads Q b c r
     → Reads (λ d y. P d x × Q d y) a c r
 then {r = r} first second = record {
-  told = λ d stand clean.
-      if_ok r (λ y. λ q. (first.told d stand (second.kept.clean clean), q))
+  told = λ d stand clean. if_ok r (λ y. λ q. (first.told d stand (second.kept.clean clean), q))
       (second.told d (stands first.kept d stand) clean);
   kept = joined first.kept second.kept;
   blames = blames_after first.kept second.kept.clean second.blames;
@@ -94,20 +95,14 @@ then {r = r} first second = record {
 -- what is so of each answer
 pub telling : {X : Type 0} {P Q : Contents → X → Type 0} {a b : State} {r : Result X StoreFault}
     → ((d : Contents) (x : X) → P d x → Q d x) → Reads P a b r → Reads Q a b r
-telling {r = r} so it = record {
-  told = λ d stand clean. if_ok r (so d) (it.told d stand clean);
-  kept = it.kept;
-  blames = it.blames;
-}
+telling {Q = Q} {a} {b} {r} so it =
+    let told : Answers Q a b r = λ d stand now. if_ok r (so d) (it.told d stand now) in assumption
 
 -- another answer is made of the one that was read
 pub giving : {X Y : Type 0} {P : Contents → X → Type 0} {Q : Contents → Y → Type 0} {a b : State}
     {x : X} {y : Y} → ((d : Contents) → P d x → Q d y) → Reads P a b (Ok x) → Reads Q a b (Ok y)
-giving so it = record {
-  told = λ d stand clean. so d (it.told d stand clean);
-  kept = it.kept;
-  blames = record { known = tt; mismatch = tt };
-}
+giving {Q = Q} {a} {b} {y = y} so it =
+    let told : Answers Q a b (Ok y) = λ d stand clean. so d (it.told d stand clean) in search rules
 
 -- tables that hold values have no bad row
 none_bad : (c : Contents) (db : Database) → Tables c db → HasBadRows db → ⊥
@@ -123,8 +118,7 @@ none_bad c db t bad = elim bad [
 -- so the only fault is that the store or memory refused it
 pub blames_none : {X : Type 0} {old new : State} {r : Result X StoreFault} → WasClean old new
     → Blames old new r → OnlyRefuses old new r
-blames_none {old = old} {r = r} was it c stand clean =
-    only_refused r it.known (λ blame.
+blames_none {old = old} {r = r} was it c stand clean = only_refused r it.known (λ blame.
     let bad = blame (λ d o. let t = stand d o in (t.0.schema, t.1.schema)) clean in
     let t = stand (was clean) bad.0 in
     elim bad.1 [

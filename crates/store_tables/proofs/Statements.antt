@@ -1,51 +1,52 @@
 -- What the texts of the statements mean, as the check computes it.
-use Rattle.std.proofs.Common.{[], ◌∷◌, codes, List, ℕ, refl}
+use Rattle.std.proofs.Common.{[], ◌∷◌, ◌++◌, codes, List, ℕ, refl}
 use Rattle.sqlite_tied.specs.Compute.{everything}
 use Rattle.sqlite.specs.Term.{col}
 use Rattle.sqlite.specs.Source.TheVariants.{Values}
 use Rattle.sqlite.specs.Command.TheVariants.{Insert, Update, Delete}
-use Rattle.store_tables.specs.Queries.{actor_shown, actors_text}
-use Rattle.store_tables.specs.Queries.{add_version_text, add_version_terms}
-use Rattle.store_tables.specs.Queries.{add_entry_terms, add_entry_text, add_link_text}
-use Rattle.store_tables.specs.Queries.{add_queue_terms, add_queue_text, add_request_terms}
-use Rattle.store_tables.specs.Queries.{add_request_text, add_three_terms, add_watcher_text}
-use Rattle.store_tables.specs.Queries.{set_request_terms, set_request_text}
-use Rattle.store_tables.specs.Queries.{drop_link_text, drop_watcher_text, entries_of_text}
-use Rattle.store_tables.specs.Queries.{entry_shown_terms, id_order, last_id_text, last_number_text}
-use Rattle.store_tables.specs.Queries.{last_of, links_from_test, links_from_text, links_text}
-use Rattle.store_tables.specs.Queries.{link_like_text}
-use Rattle.store_tables.specs.Queries.{all_from_text, all_to_text, number_order, numbered_test}
-use Rattle.store_tables.specs.Queries.{queue_named_query, queue_named_text}
-use Rattle.store_tables.specs.Queries.{queues_query, queues_text}
-use Rattle.store_tables.specs.Queries.{reads, request_shown_terms, request_test}
-use Rattle.store_tables.specs.Queries.{request_numbered_text}
-use Rattle.store_tables.specs.Queries.{requests_text, role_order, source_test, target_order}
-use Rattle.store_tables.specs.Queries.{target_test}
-use Rattle.store_tables.specs.Queries.{three_order, three_test, three_shown}
-use Rattle.store_tables.specs.Queries.{filed_test, requests_of_text}
-use Rattle.store_tables.specs.Queries.{person_test, standing_order, watches_of_text}
-use Rattle.store_tables.specs.Queries.{version_query, version_text, watchers_of_text, watchers_text}
-use Rattle.store_tables.specs.Queries.{before_test, dated_before_text, dated_numbered_text}
-use Rattle.store_tables.specs.Queries.{dated_shown_terms, dated_text, due_order, last_id_terms}
-use Rattle.store_tables.specs.Queries.{numbers_before_text}
-use Rattle.store_tables.specs.Queries.{numbers_in_text, set_due_terms, set_due_text}
-use Rattle.store_tables.specs.Queries.{add_stay_terms, add_stay_text, dated_of_text, end_stay_terms}
-use Rattle.store_tables.specs.Queries.{end_stay_text, numbers_text, set_version_terms}
-use Rattle.store_tables.specs.Queries.{set_version_text, stay_order, stay_shown, stay_test}
-use Rattle.store_tables.specs.Queries.{stays_of_text, stays_text}
+use Rattle.store_tables.specs.Queries.{add_version_text, request_shown_terms, request_numbered_text}
+use Rattle.store_tables.specs.Queries.{add_version_terms, dated_numbered_text, numbers_before_text}
+use Rattle.store_tables.specs.Queries.{add_request_terms, set_request_terms, drop_watcher_text}
+use Rattle.store_tables.specs.Queries.{entry_shown_terms, queue_named_query, dated_before_text}
+use Rattle.store_tables.specs.Queries.{add_request_text, dated_shown_terms, set_version_terms}
+use Rattle.store_tables.specs.Queries.{add_watcher_text, set_request_text, last_number_text, reads}
+use Rattle.store_tables.specs.Queries.{queue_named_text, requests_of_text, watchers_of_text}
+use Rattle.store_tables.specs.Queries.{add_entry_terms, add_queue_terms, id_order, set_version_text}
+use Rattle.store_tables.specs.Queries.{add_three_terms, entries_of_text, links_from_test, due_order}
+use Rattle.store_tables.specs.Queries.{links_from_text, watches_of_text, numbers_in_text, stay_test}
+use Rattle.store_tables.specs.Queries.{add_entry_text, add_queue_text, drop_link_text, last_id_text}
+use Rattle.store_tables.specs.Queries.{link_like_text, number_order, standing_order, add_stay_terms}
+use Rattle.store_tables.specs.Queries.{add_link_text, all_from_text, numbered_test, end_stay_terms}
+use Rattle.store_tables.specs.Queries.{requests_text, version_query, watchers_text, last_id_terms}
+use Rattle.store_tables.specs.Queries.{set_due_terms, add_stay_text, dated_of_text, end_stay_text}
+use Rattle.store_tables.specs.Queries.{queues_query, request_test, target_order, stays_of_text}
+use Rattle.store_tables.specs.Queries.{actor_shown, version_text, set_due_text, numbers_text}
+use Rattle.store_tables.specs.Queries.{actors_text, last_of, all_to_text, queues_text, source_test}
+use Rattle.store_tables.specs.Queries.{target_test, three_order, three_shown, person_test}
+use Rattle.store_tables.specs.Queries.{links_text, role_order, three_test, filed_test, before_test}
+use Rattle.store_tables.specs.Queries.{dated_text, stay_order, stay_shown, stays_text}
 use Rattle.sqlite.specs.Listing.{understood}
-use Rattle.store_tables.proofs.Meaning.{Changes, Selects}
+use Rattle.store_tables.specs.Tables.{first_schema}
+use Rattle.store_tables.proofs.Meaning.{Changes, Selects, SelectsIn}
+
+-- the names of the columns of a request, and of a stay
+abbrev request_names : List (List ℕ)
+request_names =
+    codes "id" ∷ codes "queue" ∷ codes "subject" ∷ codes "status" ∷ codes "owner" ∷ codes "level"
+    ∷ codes "created" ∷ codes "opened" ∷ codes "turn" ∷ codes "since" ∷ []
+
+abbrev dated_names : List (List ℕ)
+dated_names = request_names ++ codes "due" ∷ []
+
+abbrev stay_names : List (List ℕ)
+stay_names = codes "request" ∷ codes "number" ∷ codes "status" ∷ codes "begun" ∷ codes "ended" ∷ []
 
 pub request_numbered_is : Selects request_numbered_text
-    (reads 3 numbered_test request_shown_terms [])
-    (codes "id" ∷ codes "queue" ∷ codes "subject" ∷ codes "status" ∷ codes "owner" ∷ codes "level"
-    ∷ codes "created" ∷ codes "opened" ∷ codes "turn" ∷ codes "since" ∷ [])
+    (reads 3 numbered_test request_shown_terms []) request_names
 unfolding understood everything
 request_numbered_is = record { is = refl; plain = (refl, refl); unlisted = refl }
 
-pub requests_is : Selects requests_text (reads 3 [] request_shown_terms id_order)
-    (codes "id" ∷ codes "queue" ∷ codes "subject" ∷ codes "status" ∷ codes "owner" ∷ codes "level"
-    ∷ codes "created" ∷ codes "opened" ∷ codes "turn" ∷ codes "since" ∷ [])
+pub requests_is : Selects requests_text (reads 3 [] request_shown_terms id_order) request_names
 unfolding understood everything
 requests_is = record { is = refl; plain = (refl, refl); unlisted = refl }
 
@@ -95,8 +96,7 @@ pub entries_of_is : Selects entries_of_text (reads 8 request_test entry_shown_te
 unfolding understood everything
 entries_of_is = record { is = refl; plain = (refl, refl); unlisted = refl }
 
-pub last_id_is : Selects last_id_text (last_of 3 [] (col 1 0))
-    (codes "id" ∷ [])
+pub last_id_is : Selects last_id_text (last_of 3 [] (col 1 0)) (codes "id" ∷ [])
 unfolding understood everything
 last_id_is = record { is = refl; plain = (refl, refl); unlisted = refl }
 
@@ -158,20 +158,19 @@ pub version_is : Selects version_text version_query (codes "version" ∷ [])
 unfolding understood everything
 version_is = record { is = refl; plain = (refl, refl); unlisted = refl }
 
+-- of the six tables of version 1 too
+pub first_version_is : SelectsIn first_schema version_text version_query (codes "version" ∷ [])
+unfolding understood everything
+first_version_is = record { is = refl; plain = (refl, refl); unlisted = refl }
+
 pub requests_of_is : Selects requests_of_text (reads 3 filed_test request_shown_terms id_order)
-    (codes "id" ∷ codes "queue" ∷ codes "subject" ∷ codes "status" ∷ codes "owner" ∷ codes "level"
-    ∷ codes "created" ∷ codes "opened" ∷ codes "turn" ∷ codes "since" ∷ [])
+    request_names
 unfolding understood everything
 requests_of_is = record { is = refl; plain = (refl, refl); unlisted = refl }
 
 pub actors_is : Selects actors_text (reads 8 [] actor_shown []) (codes "actor" ∷ [])
 unfolding understood everything
 actors_is = record { is = refl; plain = (refl, refl); unlisted = refl }
-
-abbrev dated_names : List (List ℕ)
-dated_names =
-    codes "id" ∷ codes "queue" ∷ codes "subject" ∷ codes "status" ∷ codes "owner" ∷ codes "level"
-    ∷ codes "created" ∷ codes "opened" ∷ codes "turn" ∷ codes "since" ∷ codes "due" ∷ []
 
 pub dated_is : Selects dated_text (reads 3 [] dated_shown_terms id_order) dated_names
 unfolding understood everything
@@ -214,10 +213,6 @@ numbers_is = record { is = refl; plain = (refl, refl); unlisted = refl }
 pub dated_of_is : Selects dated_of_text (reads 3 filed_test dated_shown_terms id_order) dated_names
 unfolding understood everything
 dated_of_is = record { is = refl; plain = (refl, refl); unlisted = refl }
-
-abbrev stay_names : List (List ℕ)
-stay_names =
-    codes "request" ∷ codes "number" ∷ codes "status" ∷ codes "begun" ∷ codes "ended" ∷ []
 
 pub stays_is : Selects stays_text (reads 10 [] stay_shown stay_order) stay_names
 unfolding understood everything

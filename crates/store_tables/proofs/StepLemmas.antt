@@ -1,79 +1,51 @@
 -- Statements in a row: one that changed one row, one after the other, and those of a loop.
-use Rattle.std.proofs.Common.{◌≡◌, ◌+◌, ◌<◌, ◌≤◌, ◌∙◌, ℕ, List, Ok, Err, Result, IfOk, OnOk}
-use Rattle.std.proofs.Common.{ap, fold, get_or, length, subst, sym, take}
+use Rattle.std.proofs.Common.{arith, rules, ◌≡◌, ◌+◌, ◌<◌, ◌≤◌, ◌∙◌, ℕ, List, Ok, Err, Result, OnOk}
+use Rattle.std.proofs.Common.{IsTrue, ap, fold, get_or, length, subst, sym, take, true}
 use Rattle.std.specs.Prelude.{⊤}
 use Rattle.std.proofs.lemmas.List.{take_all}
 use Rattle.sqlite.specs.Order.{Row}
 use Rattle.sqlite.specs.State.{State, HasCleanDisk, Executes}
-use Rattle.store_tables.specs.Calls.{Does, Runs}
+use Rattle.sqlite.specs.Change.{KeepsRows}
+use Rattle.store_tables.specs.Calls.{Does, Looks, Makes, Runs, WasClean}
 use Rattle.store_tables.specs.Contents.{Contents}
-use Rattle.store_tables.specs.Stands.{GoesOn, HasTables, HoldsNow, KeepsBase, Ran, RanOnAny}
+use Rattle.store_tables.specs.Stands.{GoesOn, HasTables, KeepsBase, OnlyStaysChange, Ran, RanOnAny}
 use Rattle.store_tables.specs.Stands.{Tables}
-use Rattle.store_tables.specs.Tables.{desk_schema}
+use Rattle.store_tables.specs.Tables.{desk_schema, first_schema}
 use Rattle.store_tables.specs.declared.fault.StoreFault.{StoreFault}
 use Rattle.store_tables.proofs.Lasting.{on}
 use Rattle.store_tables.proofs.ReadingLemmas.{if_ok}
-use Rattle.store_tables.proofs.StandLemmas.{fold_more, steps}
+use Rattle.store_tables.proofs.StandLemmas.{fold_more}
 
-if_done : {X E : Type 0} (r : Result X E) (sql : List ℕ) (params : Row) (old new : State)
-    (now next : Contents) → (HasCleanDisk new → IfOk r (λ done. Ran sql params old new 1))
-    → (HasCleanDisk new → HasCleanDisk old)
-    → (Tables now old.now → Executes sql params old new (Ok 1) → Tables next new.now)
-    → HoldsNow now old → OnOk r (HoldsNow next new)
-if_done (Ok x) sql params old new now next ran clean makes holds =
-    steps sql params old new 1 now next ran clean makes holds
-if_done (Err e) sql params old new now next ran clean makes holds = tt
-
--- a statement that ran leaves a transaction that goes on
-if_ran : {X E : Type 0} (r : Result X E) (sql : List ℕ) (params : Row) (old new : State)
-    → (HasCleanDisk new → IfOk r (λ done. Ran sql params old new 1)) → OnOk r (GoesOn new)
-if_ran (Ok x) sql params old new ran = λ clean live. (ran clean).shown.mode
-if_ran (Err e) sql params old new ran = tt
+-- a statement that ran, whatever is known of how
+does_ran : {X : Type 0} {P : X → Type 0} {old new : State} {change : Contents → Contents}
+    (r : Result X StoreFault) → Runs P old new r
+    → ((x : X) → P x → IsTrue old.is_open × (new.in_transaction ≡ true)
+    × ((now : Contents) → Tables now old.now → Tables (change now) new.now)) → Does change old new r
+does_ran {old = old} {new} {change} (Ok x) runs so =
+    let makes : Makes change old new (Ok x) = λ now holds c o. let it = so x (runs.ran c) in
+    (it.2 now (holds (runs.clean c) it.0).0, it.1) in
+    let goes_on : GoesOn old → GoesOn new = λ goes c o. (so x (runs.ran c)).1 in assumption
+does_ran (Err e) runs so = search rules
 
 -- a statement that changed one row
 pub does_one : {X : Type 0} {r : Result X StoreFault} {sql : List ℕ} {params : Row}
     {old new : State} {change : Contents → Contents}
     → Runs (λ done. Ran sql params old new 1) old new r
     → ((now : Contents) → Tables now old.now → Executes sql params old new (Ok 1)
-    → Tables (change now) new.now)
-    → Does change old new r
-does_one {r = r} {sql} {params} {old} {new} {change} runs makes = record {
-  makes = λ now. if_done r sql params old new now (change now) runs.ran runs.clean (makes now);
-  keeps = runs.keeps;
-  goes_on = λ goes. if_ran r sql params old new runs.ran;
-  clean = runs.clean;
-  lasts = runs.lasts;
-  refused = runs.refused;
-}
+    → Tables (change now) new.now) → Does change old new r
+does_one {r = r} runs makes = does_ran r runs
+    (λ done it. (it.shown.was_open, it.shown.mode, λ now t. makes now t it.runs))
 
 -- a statement that changed one row or none
 pub does_any : {X : Type 0} {r : Result X StoreFault} {sql : List ℕ} {params : Row}
     {old new : State} {change : Contents → Contents}
     → Runs (λ done. RanOnAny sql params old new) old new r
     → ((now : Contents) (count : ℕ) → count < 2 → Tables now old.now
-    → Executes sql params old new (Ok count) → Tables (change now) new.now)
-    → Does change old new r
-does_any {r = Ok x} runs makes = record {
-  makes = λ now holds c o.
-      let it = runs.ran c in
-      let before = holds (runs.clean c) it.2.shown.was_open in
-      (makes now it.0 it.1 before.0 it.2.runs, it.2.shown.mode);
-  keeps = runs.keeps;
-  goes_on = λ goes c o. (runs.ran c).2.shown.mode;
-  clean = runs.clean;
-  lasts = runs.lasts;
-  refused = runs.refused;
-}
-does_any {r = Err e} runs makes = record {
-  makes = λ now holds. tt;
-  keeps = runs.keeps;
-  goes_on = λ goes. tt;
-  clean = runs.clean;
-  lasts = runs.lasts;
-  refused = runs.refused;
-}
+    → Executes sql params old new (Ok count) → Tables (change now) new.now) → Does change old new r
+does_any {r = r} runs makes = does_ran r runs (λ done it.
+    (it.2.shown.was_open, it.2.shown.mode, λ now t. makes now it.0 it.1 t it.2.runs))
 
-kept_on : (a b c : State) → KeepsBase a b → KeepsBase b c → KeepsBase a c
+pub kept_on : (a b c : State) → KeepsBase a b → KeepsBase b c → KeepsBase a c
 kept_on a b c first second clean live =
     let at = second clean live in
     let was = first at.0 at.1 in
@@ -94,34 +66,46 @@ runs_both {a = a} {b = b} {c = c} {r = r} so first second = record {
 -- what it told is not asked for
 pub runs_done : {X Y : Type 0} {P : X → Type 0} {a b : State} {x : X} {y : Y}
     → Runs P a b (Ok x) → Runs (λ (z : Y). ⊤) a b (Ok y)
-runs_done runs = record {
-  ran = λ clean. tt;
-  keeps = runs.keeps;
-  clean = runs.clean;
-  lasts = runs.lasts;
-  refused = tt;
-}
+runs_done runs = search rules
 
 -- a fault is one of whatever was run, and so it is answered
 pub runs_failed : {X Y : Type 0} {P : X → Type 0} {Q : Y → Type 0} {a b : State} {e : StoreFault}
     {r : Result Y StoreFault} → Runs P a b (Err e) → r ≡ Err e → Runs Q a b r
-runs_failed runs is = rw is (record {
-  ran = λ clean. tt;
-  keeps = runs.keeps;
-  clean = runs.clean;
-  lasts = runs.lasts;
-  refused = runs.refused;
-})
+runs_failed {b = b} runs is = rw is (let ran : HasCleanDisk b → ⊤ = λ clean. tt in assumption)
 
--- the tables are there still after one that leaves their schema, with any rows
-pub ran_there : {X : Type 0} (r : Result X StoreFault) {sql : List ℕ} {params : Row}
+-- what a statement leaves of tables with any rows
+pub ran_beside : {X : Type 0} (r : Result X StoreFault) {sql : List ℕ} {params : Row}
     {old new : State} → Runs (λ done. Ran sql params old new 1) old new r
     → (old.now.schema ≡ desk_schema → Executes sql params old new (Ok 1)
-    → new.now.schema ≡ desk_schema)
-    → HasTables old → OnOk r (HasTables new)
-ran_there (Ok x) runs keeps has = λ clean live.
-    let it = runs.ran clean in keeps (has (runs.clean clean) it.shown.was_open) it.runs
-ran_there (Err e) runs keeps has = tt
+    → (new.now.schema ≡ desk_schema) × KeepsRows first_schema.tables old.now.trees new.now.trees)
+    → OnOk r (OnlyStaysChange old new)
+ran_beside (Ok x) runs keeps = λ has clean live.
+    let it = runs.ran clean in
+    let was = it.shown.was_open in
+    let left = keeps (has (runs.clean clean) was) it.runs in
+    (was, left.0, left.1)
+ran_beside (Err e) runs keeps = tt
+
+-- nothing, a query, and one call after another, where none but the stays change
+pub beside_none : (s : State) → OnlyStaysChange s s
+beside_none s has clean live = let there = has clean live in assumption
+
+pub looks_beside : {X : Type 0} {x : X} {a b : State} → Looks a b (Ok x) → OnlyStaysChange a b
+looks_beside {a = a} looks has clean live =
+    let it = looks.same has clean in rw it.1 (beside_none a has (looks.clean clean) it.0)
+
+pub beside_there : (a b : State) → OnlyStaysChange a b → HasTables a → HasTables b
+beside_there a b beside has clean live = (beside has clean live).1
+
+pub looks_there : {X : Type 0} {x : X} {a b : State} → Looks a b (Ok x) → HasTables a → HasTables b
+looks_there {a = a} {b = b} looks = beside_there a b (looks_beside looks)
+
+pub beside_on : (a b c : State) → OnlyStaysChange a b → WasClean b c → OnlyStaysChange b c
+    → OnlyStaysChange a c
+beside_on a b c first clean_before second has clean live =
+    let last = second (beside_there a b first has) clean live in
+    let at = first has (clean_before clean) last.0 in
+    (at.0, last.1, grind (arith, at.2, last.2))
 
 -- one after the other
 pub does_both : {X Y : Type 0} {first second : Contents → Contents} {a b c : State} {x : X}
@@ -136,17 +120,9 @@ does_both {first = first} {a = a} {b = b} {c = c} did next = record {
   refused = next.refused;
 }
 
--- a fault is one whatever was to be made
-pub does_fail : {X Y : Type 0} {first whole : Contents → Contents} {a b : State} {e : StoreFault}
-    → Does {X = X} first a b (Err e) → Does {X = Y} whole a b (Err e)
-does_fail did = record {
-  makes = λ now holds. tt;
-  keeps = did.keeps;
-  goes_on = λ goes. tt;
-  clean = did.clean;
-  lasts = did.lasts;
-  refused = did.refused;
-}
+-- so many of a list are written
+abbrev pub Wrote : {X : Type 0} → (Contents → X → Contents) → List X → ℕ → State → State → Type 0
+Wrote f xs i a b = Does {X = ⊤} (λ c. fold f c (take i xs)) a b (Ok tt)
 
 module _ {X Y : Type 0} (f : Contents → X → Contents) (xs : List X) {done : Y} {i : ℕ}
     {a b : State}
@@ -155,25 +131,11 @@ module _ {X Y : Type 0} (f : Contents → X → Contents) (xs : List X) {done : 
     pub does_more : {c : State} {x : X} → i < length xs → x ≡ get_or xs i x
         → Does (λ d. fold f d (take i xs)) a b (Ok done) → Does (λ d. f d x) b c (Ok done)
         → Does (λ d. fold f d (take (i + 1) xs)) a c (Ok done)
-    does_more {c} {x} low is did next = record {
-      makes = λ now holds. subst (λ d. HoldsNow d c) (sym (fold_more f now xs i x low is))
-          (next.makes (fold f now (take i xs)) (did.makes now holds));
-      keeps = kept_on a b c did.keeps next.keeps;
-      goes_on = λ goes. next.goes_on (did.goes_on goes);
-      clean = λ clean. did.clean (next.clean clean);
-      lasts = on next.clean did.lasts next.lasts;
-      refused = tt;
-    }
+    does_more {c} {x} low is did next = subst (λ (change : Contents → Contents). Does change a c (Ok
+        done)) (λ t d. sym (fold_more f d xs i x low is) t) (does_both did next)
 
     -- all of it is
     pub does_all : length xs ≤ i → Does (λ d. fold f d (take i xs)) a b (Ok done)
         → Does (λ d. fold f d xs) a b (Ok done)
-    does_all high did = record {
-      makes = λ now holds. subst (λ d. HoldsNow d b) (ap (fold f now) (take_all i xs high))
-          (did.makes now holds);
-      keeps = did.keeps;
-      goes_on = did.goes_on;
-      clean = did.clean;
-      lasts = did.lasts;
-      refused = tt;
-    }
+    does_all high = subst (λ (change : Contents → Contents). Does change a b (Ok done))
+        (λ t d. ap (fold f d) (take_all i xs high) t)

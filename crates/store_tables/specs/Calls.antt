@@ -29,14 +29,18 @@ pub record Lasts (old new : State) : Type 0 where
   pub closes : HasCleanDisk new → IsTrue old.is_open
       → IsTrue new.is_open ⊎ MoreFaults old.faults new.faults
 
--- Whatever rows they have, the last commit stays, and the tables show what they showed or what it
--- has. The connection lasts.
+-- the last commit stays, and the tables show what they showed or what it has
+abbrev pub AreLeft : State → State → Type 0
+AreLeft old new =
+    HasCleanDisk new → IsTrue new.is_open
+    → IsTrue old.is_open × (new.committed ≡ old.committed)
+    × ((new.now ≡ old.now) ⊎ (new.now ≡ old.committed))
+
+-- So are the seven tables left, whatever rows they have. The connection lasts.
 pub record Spares (old new : State) : Type 0 where
   pub clean : HasCleanDisk new → HasCleanDisk old
   pub lasts : Lasts old new
-  pub left : AreThere old → HasCleanDisk new → IsTrue new.is_open
-      → IsTrue old.is_open × (new.committed ≡ old.committed)
-      × ((new.now ≡ old.now) ⊎ (new.now ≡ old.committed))
+  pub left : AreThere old → AreLeft old new
 
 -- a disk that is clean after the call was clean before it
 abbrev pub WasClean : State → State → Type 0
@@ -129,11 +133,12 @@ pub record Does {X : Type 0} (change : Contents → Contents) (old new : State)
   pub refused : IfErr result (λ e. e ≡ Refused)
 
 -- What a query does there: the tables hold what they held. Where they are there, with any rows,
--- they are there still, the last commit stays, and the transaction goes on where nothing is
+-- they are as they were, the last commit stays, and the transaction goes on where nothing is
 -- refused. A disk that is clean after it was clean before, and the connection lasts.
 pub record Looks {X : Type 0} (old new : State) (result : Result X StoreFault) : Type 0 where
   pub makes : Makes (λ c. c) old new result
-  pub there : HasTables old → OnOk result (HasTables new)
+  pub same : HasTables old → HasCleanDisk new
+      → IfOk result (λ x. IsTrue old.is_open × (new.now ≡ old.now))
   pub keeps : HasTables old → KeepsBase old new
   pub goes_on : HasTables old → GoesOn old → OnOk result (GoesOn new)
   pub clean : WasClean old new

@@ -1,5 +1,5 @@
 -- How far the tables are made.
-use Rattle.std.specs.Prelude.{◌≡◌, ◌⊎◌, ℕ, pos, IfErr, List, [], ◌∷◌, IsTrue}
+use Rattle.std.specs.Prelude.{◌≡◌, ◌⊎◌, ℕ, pos, IfErr, IfOk, List, [], ◌∷◌, IsTrue}
 use Rattle.std.specs.Prelude.{Err, OnErr, OnOk, Result, true}
 use Rattle.std.specs.List.{AllByRecursion}
 use Rattle.sqlite.specs.Order.{Row, column}
@@ -10,13 +10,16 @@ use Rattle.sqlite.specs.declared.types.Value.TheVariants.{Int}
 use Rattle.sqlite_rules.specs.Lists.{Has}
 use Rattle.desk_model.specs.Desk.{empty_desk}
 use Rattle.store_tables.specs.Contents.{Contents, no_contents}
+use Rattle.store_tables.specs.Calls.{AreLeft, HasBadRow}
 use Rattle.store_tables.specs.Picked.{shows}
 use Rattle.store_tables.specs.Queries.{version_shown}
+use Rattle.store_tables.specs.Reading.{IsNumberRow}
 use Rattle.store_tables.specs.Spelling.{count_value}
-use Rattle.store_tables.specs.Stands.{HasTables, HoldsNow, StandsFor}
+use Rattle.store_tables.specs.Stands.{HasEither, HasTables, HoldsNow, StandsFor}
 use Rattle.store_tables.specs.Tables.{no_schema}
 use Rattle.store_tables.specs.declared.fault.StoreFault.{StoreFault}
-use Rattle.store_tables.specs.declared.fault.StoreFault.TheVariants.{Refused, WrongVersion}
+use Rattle.store_tables.specs.declared.fault.StoreFault.TheVariants.{Mismatch, Refused}
+use Rattle.store_tables.specs.declared.fault.StoreFault.TheVariants.{WrongVersion}
 
 abbrev pub AreEmpty : Schema → Trees → Type 0
 AreEmpty schema db = AllByRecursion (λ t. db t.tree ≡ []) schema.tables
@@ -37,9 +40,6 @@ IsBlank s =
 abbrev pub Fresh : State → Type 0
 Fresh s = HoldsNow no_contents s
 
-abbrev pub WasBlank : State → Type 0
-WasBlank s = HasCleanDisk s → IsTrue s.is_open → s.committed.schema ≡ no_schema
-
 -- the one row shows that version
 abbrev pub ShowsVersion : ℕ → List Row → Type 0
 ShowsVersion n rows = rows ≡ (Int (pos n) ∷ []) ∷ []
@@ -58,6 +58,22 @@ WrongInside old new result =
 abbrev pub IsOfMeta : State → ℕ → Type 0
 IsOfMeta s n =
     (r : Row) × Has (s.now.trees 0) r × (column (shows version_shown [] r) 0 ≡ count_value n)
+
+-- each of these is the version of a row of meta
+abbrev pub AreOfMeta : State → List Row → Type 0
+AreOfMeta s rows =
+    (row : Row) → Has rows row
+    → (r : Row) × Has (s.now.trees 0) r × (row ≡ shows version_shown [] r)
+
+-- What is read of meta in the seven tables or the six, whatever rows stand elsewhere: what it
+-- answers is so of them, a mismatch comes only of a row of meta that shows no number, and all are
+-- left.
+pub record ReadsMeta {X : Type 0} (P : State → X → Type 0) (old new : State)
+    (result : Result X StoreFault) : Type 0 where
+  pub told : HasEither old → HasCleanDisk new → IfOk result (P old)
+  pub mismatch : IfErr result (λ e. e ≡ Mismatch → HasEither old → HasCleanDisk new
+      → HasBadRow 0 version_shown IsNumberRow old.now)
+  pub left : HasEither old → AreLeft old new
 
 -- a version is told to be wrong only where a row of meta shows one that isn't known
 abbrev pub BlamesMeta : {X : Type 0} → State → State → Result X StoreFault → Type 0

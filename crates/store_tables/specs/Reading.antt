@@ -1,6 +1,6 @@
 -- Rows that a query shows, as values.
 use Rattle.std.specs.Prelude.{◌≡◌, ◌<◌, ◌^◌, ◌⊎◌, ℕ, List, length, IsUtf8, Result, IfErr}
-use Rattle.std.specs.Prelude.{IfOk, [], ◌∷◌}
+use Rattle.std.specs.Prelude.{IfOk}
 use Rattle.sqlite.specs.Order.{Row, column}
 use Rattle.sqlite.specs.Values.{or_null}
 use Rattle.sqlite.specs.declared.types.Value.{Value}
@@ -183,8 +183,3 @@ pub record ReadsCount (row : Row) (n : ℕ) : Type 0 where
 pub record IsNumberRow (row : Row) : Type 0 where
   pub wide : 0 < length row
   pub number : IsCount (column row 0)
-
--- the one row shows that number, or there is no row and the number is 0
-abbrev pub ReadsNumber : List Row → ℕ → Type 0
-ReadsNumber rows n =
-    ((rows ≡ []) × (n ≡ 0)) ⊎ ((row : Row) × (rows ≡ row ∷ []) × (column row 0 ≡ count_value n))

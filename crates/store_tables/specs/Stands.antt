@@ -1,6 +1,7 @@
 -- What it is that tables stand for a desk.
-use Rattle.std.specs.Prelude.{◌≡◌, ◌<◌, ◌==◌, ℕ, [], ◌∷◌, IsTrue, List, Ok, Option, true}
+use Rattle.std.specs.Prelude.{◌≡◌, ◌<◌, ◌==◌, ◌⊎◌, ℕ, [], ◌∷◌, IsTrue, List, Ok, Option, true}
 use Rattle.std.specs.Prelude.{if◌then◌else◌}
+use Rattle.sqlite.specs.Change.{KeepsRows}
 use Rattle.sqlite.specs.Order.{Row}
 use Rattle.sqlite.specs.Effect.{Database}
 use Rattle.sqlite.specs.State.{State, HasCleanDisk, Executes, Shows}
@@ -49,6 +50,13 @@ GoesOn s = HasCleanDisk s → IsTrue s.is_open → s.in_transaction ≡ true
 abbrev pub HasTables : State → Type 0
 HasTables s = HasCleanDisk s → IsTrue s.is_open → s.now.schema ≡ desk_schema
 
+-- the tables are there still, and none but that of stays has other rows
+abbrev pub OnlyStaysChange : State → State → Type 0
+OnlyStaysChange old new =
+    HasTables old → HasCleanDisk new → IsTrue new.is_open
+    → IsTrue old.is_open × (new.now.schema ≡ desk_schema)
+    × KeepsRows first_schema.tables old.now.trees new.now.trees
+
 -- the tables are again as the last commit left them
 abbrev pub GoesBack : State → State → Type 0
 GoesBack old new =
@@ -89,6 +97,12 @@ pub record FirstTables (c : Contents) (db : Database) : Type 0 where
 abbrev pub FirstStand : Contents → State → Type 0
 FirstStand c s =
     HasCleanDisk s → IsTrue s.is_open → FirstTables c s.now × FirstTables c s.committed
+
+-- the six or the seven tables are there, with any rows
+abbrev pub HasEither : State → Type 0
+HasEither s =
+    HasCleanDisk s → IsTrue s.is_open
+    → (s.now.schema ≡ desk_schema) ⊎ (s.now.schema ≡ first_schema)
 
 -- the six tables stand for the desk, with any due moments
 abbrev pub FirstStandsFor : Desk → State → Type 0

@@ -7,12 +7,10 @@ ghost use Rattle.sqlite.specs.State.{HasCleanDisk, Shown};
 ghost use Rattle.sqlite.specs.Values.{bound};
 ghost use Rattle.sqlite_rules.specs.Lists.{Has};
 ghost use Rattle.store_tables.specs.Calls.{ReadsRows, Spares};
-ghost use Rattle.store_tables.specs.Reading.{IsNumberRow, ReadsNumber};
 ghost use Rattle.store_tables.specs.Tables.{desk_schema};
 ghost use Rattle.store_tables.specs.declared.fault.StoreFault.{StoreFault};
 ghost use Rattle.store_tables.specs.Seen.{seen};
 
-use crate::columns::number_at;
 use crate::fault::StoreFault;
 use crate::stored::Stored;
 use crate::tables::Tables;
@@ -101,21 +99,6 @@ fn read_one<T: Stored + Drop>(rows: &[Row]) -> Result<Option<T>, StoreFault>
     match rows {
         [] => Ok(None),
         [row] => Ok(Some(T::read(row)?)),
-        _ => Err(StoreFault::Refused),
-    }
-}
-
-/// The number that the one row shows, or 0 where there is none. `Mismatch` where the row shows no
-/// number, `Refused` where there are more rows.
-pub(crate) fn read_number(rows: &[Row]) -> Result<u32, StoreFault>
-    ensures ok { IfOk result (ReadsNumber rows.now) }
-    ensures mismatch { IfErr result (λ e. e ≡ StoreFault.Mismatch →
-        (r : _) × Has rows.now r × ¬ IsNumberRow r) }
-    ensures fault { IfErr result (λ e. e ≢ StoreFault.WrongVersion) }
-{
-    match rows {
-        [] => Ok(0),
-        [row] => number_at(row, 0),
         _ => Err(StoreFault::Refused),
     }
 }

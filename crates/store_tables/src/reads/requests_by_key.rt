@@ -1,20 +1,18 @@
 //! The request of a number, and the last number.
-ghost use Rattle.std.specs.Prelude.{◌≡◌, IfErr, filter, option_to_list};
+ghost use Rattle.std.specs.Prelude.{◌≡◌, filter, option_to_list};
 ghost use Rattle.store_tables.specs.declared.fault.StoreFault.{StoreFault};
-ghost use Rattle.store_tables.specs.Queries.{last_id_terms};
-ghost use Rattle.store_tables.specs.Calls.{Answers, ShowsRowsOf, Spares};
 ghost use Rattle.store_tables.specs.Contents.{requests};
-ghost use Rattle.store_tables.specs.Picked.{IsGreatest, ShowsGreatest};
+ghost use Rattle.store_tables.specs.Picked.{IsGreatest};
 ghost use Rattle.store_tables.specs.Readings.{Reads};
 ghost use Rattle.store_tables.specs.Selection.{is_numbered, number_of};
 ghost use Rattle.store_tables.specs.Seen.{seen};
 
 use crate::columns::number;
 use crate::fault::StoreFault;
-use crate::query::{read_number, select, select_one};
+use crate::query::select_one;
 use crate::tables::Tables;
 use desk_model::RequestRow;
-use sqlite::{Alter, Row};
+use sqlite::Alter;
 
 /// The request with that number, or none. `Mismatch` where its row is no request, `Refused` where
 /// the store or memory refuses it, or there are two.
@@ -34,28 +32,16 @@ pub fn request_numbered<S: Alter>(
     )
 }
 
-/// The rows of `last_id`.
-fn rows_last_id<S: Alter>(tables: &mut Tables<S>) -> Result<Vec<Row>, StoreFault>
-    ensures shown { Answers (λ c rows. ShowsGreatest number_of (requests c) rows.items)
-        (seen S.Store tables.old) (seen S.Store tables.new) result }
-    ensures kept { Spares (seen S.Store tables.old) (seen S.Store tables.new) }
-    ensures of_table { ShowsRowsOf 3 last_id_terms (λ rows. rows.items)
-        (seen S.Store tables.old) (seen S.Store tables.new) result }
-    ensures fault { IfErr result (λ e. e ≡ StoreFault.Refused) }
-{
-    select(
-        tables,
-        "SELECT id FROM request ORDER BY id DESC LIMIT 1",
-        &[],
-    )
-}
-
 /// The greatest number of a request, 0 where there is none. `Mismatch` where the row shows no
 /// number, `Refused` where the store or memory refuses it.
 pub fn last_id<S: Alter>(tables: &mut Tables<S>) -> Result<u32, StoreFault>
     ensures { Reads (λ c n. IsGreatest number_of (requests c) n)
         (seen S.Store tables.old) (seen S.Store tables.new) result }
 {
-    let rows = rows_last_id(tables)?;
-    read_number(rows.as_slice())
+    let last = select_one(
+        tables,
+        "SELECT id FROM request ORDER BY id DESC LIMIT 1",
+        &[],
+    )?;
+    Ok(last.unwrap_or(0))
 }

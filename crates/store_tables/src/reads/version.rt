@@ -3,11 +3,10 @@ ghost use Rattle.std.specs.Prelude.{◌≡◌, ◌≢◌, ℕ, [], IfErr, IfOk, 
 ghost use Rattle.std.specs.Prelude.{Some};
 ghost use Rattle.sqlite.specs.Order.{column};
 ghost use Rattle.sqlite_rules.specs.Lists.{Has};
-ghost use Rattle.store_tables.specs.Mismatches.{MismatchesInMeta};
 ghost use Rattle.store_tables.specs.Spelling.{count_value};
-ghost use Rattle.store_tables.specs.Calls.{Answers, ShowsRowsOf, Spares};
-ghost use Rattle.store_tables.specs.Making.{RefusesBlank, ShowsVersion};
-ghost use Rattle.store_tables.specs.Queries.{version_shown};
+ghost use Rattle.store_tables.specs.Calls.{Answers, Spares};
+ghost use Rattle.store_tables.specs.Making.{AreOfMeta, IsOfMeta, ReadsMeta, RefusesBlank};
+ghost use Rattle.store_tables.specs.Making.{ShowsVersion};
 ghost use Rattle.store_tables.specs.Reading.{IsNumberRow};
 ghost use Rattle.store_tables.specs.declared.fault.StoreFault.{StoreFault};
 ghost use Rattle.store_tables.specs.Seen.{seen};
@@ -46,7 +45,7 @@ fn rows_version<S: Alter>(tables: &mut Tables<S>) -> Result<Vec<Row>, StoreFault
         (seen S.Store tables.old) (seen S.Store tables.new) result }
     ensures kept { Spares (seen S.Store tables.old) (seen S.Store tables.new) }
     ensures blank { RefusesBlank (seen S.Store tables.old) (seen S.Store tables.new) result }
-    ensures of_table { ShowsRowsOf 0 version_shown (λ rows. rows.items)
+    ensures meta { ReadsMeta (λ s rows. AreOfMeta s rows.items)
         (seen S.Store tables.old) (seen S.Store tables.new) result }
     ensures fault { IfErr result (λ e. e ≡ StoreFault.Refused) }
 {
@@ -56,14 +55,15 @@ fn rows_version<S: Alter>(tables: &mut Tables<S>) -> Result<Vec<Row>, StoreFault
     }
 }
 
-/// The version that the seven tables hold. `Refused` where `meta` is missing or has no row,
-/// `Mismatch` where its row shows no number.
+/// The version that `meta` holds, in the seven tables or the six of version 1, whatever rows stand
+/// elsewhere. `Refused` where `meta` is missing or has no row, `Mismatch` where its row shows no
+/// number.
 pub fn version<S: Alter>(tables: &mut Tables<S>) -> Result<u32, StoreFault>
     ensures told { Answers (λ c n. n ≡ c.version)
         (seen S.Store tables.old) (seen S.Store tables.new) result }
     ensures kept { Spares (seen S.Store tables.old) (seen S.Store tables.new) }
     ensures blank { RefusesBlank (seen S.Store tables.old) (seen S.Store tables.new) result }
-    ensures mismatch { MismatchesInMeta
+    ensures meta { ReadsMeta IsOfMeta
         (seen S.Store tables.old) (seen S.Store tables.new) result }
     ensures fault { IfErr result (λ e. e ≢ StoreFault.WrongVersion) }
 {

@@ -3,7 +3,7 @@ ghost use Rattle.std.specs.Prelude.{◌≡◌, fold, OnOk};
 ghost use Rattle.sqlite.specs.Held.{state};
 ghost use Rattle.store_tables.specs.Calls.{Does};
 ghost use Rattle.store_tables.specs.Contents.{add_stay, end_stay as with_stay_ended};
-ghost use Rattle.store_tables.specs.Stands.{HasTables};
+ghost use Rattle.store_tables.specs.Stands.{OnlyStaysChange};
 ghost use Rattle.store_tables.specs.Stays.{stay_row, stay_rows};
 
 use crate::columns::{minute, nullable_minute, number, words};
@@ -22,8 +22,8 @@ pub fn put_stay<S: Alter>(
     ensures same_reference { tx.new.conn.ghost_name ≡ tx.old.conn.ghost_name }
     ensures put { Does (λ c. add_stay c (stay_row id place stay.now))
         (state S.Store tx.old.conn.now) (state S.Store tx.new.conn.now) result }
-    ensures there { HasTables (state S.Store tx.old.conn.now) →
-        OnOk result (HasTables (state S.Store tx.new.conn.now)) }
+    ensures beside { OnOk result
+        (OnlyStaysChange (state S.Store tx.old.conn.now) (state S.Store tx.new.conn.now)) }
 {
     run_on_one(
         tx,
@@ -48,8 +48,8 @@ pub fn put_stays<S: Alter>(
     ensures same_reference { tx.new.conn.ghost_name ≡ tx.old.conn.ghost_name }
     ensures put { Does (λ c. fold add_stay c (stay_rows id stays.now))
         (state S.Store tx.old.conn.now) (state S.Store tx.new.conn.now) result }
-    ensures there { HasTables (state S.Store tx.old.conn.now) →
-        OnOk result (HasTables (state S.Store tx.new.conn.now)) }
+    ensures beside { OnOk result
+        (OnlyStaysChange (state S.Store tx.old.conn.now) (state S.Store tx.new.conn.now)) }
 {
     let mut place = 0u32;
     for stay in stays {

@@ -76,6 +76,7 @@ returns-in-Err-clause-told g c = (
         version = λ contents stand clean. (c.in-Err.ensures.version.0 contents stand clean).1;
         fails = c.in-Err.ensures.refuses;
         honest = c.in-Err.ensures.honest;
+        lasts = c.in-Err.ensures.lasts;
       },
     ),
     refl,

@@ -1,6 +1,5 @@
 -- what the links so far lead to
-use Rattle.std.proofs.Common.{◌≡◌, Ok, take}
-use Rattle.std.specs.List.{flat_map}
+use Rattle.std.proofs.Common.{◌≡◌, Ok, take, flat_map}
 use Rattle.std.specs.Prelude.{⊤}
 use Rattle.store_tables.specs.Readings.{OfDesk, Reads}
 use Rattle.store_tables.specs.Seen.{seen}

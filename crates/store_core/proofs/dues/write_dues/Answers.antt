@@ -7,10 +7,9 @@ use Rattle.store_core.proofs.dues.write_dues.Goals as goal
 
 pub returns-clause-done : goal.returns-clause-done
 returns-clause-done g c d stand =
-    let begun = begins g.S.Store c.args.tables.now.conn c.transaction-tx.result.conn.now d
-    c.transaction-tx.ensures.begun stand in
-    let last = fold set_each_due d c.args.dues.now in
-    c.finish.ensures.done last (c.in_ok-set_dues.ensures.set.makes d begun)
+    c.finish.ensures.done (fold set_each_due d c.args.dues.now)
+    (c.in_ok-set_dues.ensures.set.makes d (begins g.S.Store c.args.tables.now.conn
+    c.transaction-tx.result.conn.now d c.transaction-tx.ensures.begun stand))
 
 pub returns-clause-undone : goal.returns-clause-undone
 returns-clause-undone g c =
@@ -24,18 +23,14 @@ returns-clause-undone g c =
 
 pub returns-in_err-set_dues-clause-lasts : goal.returns-in_err-set_dues-clause-lasts
 returns-in_err-set_dues-clause-lasts g c =
-    let old = c.args.tables.now.conn in
     let did = c.in_err-set_dues.ensures.set in
-    through g.S.Store old c.transaction-tx.result.conn.now
-    (state g.S.Store c.set_dues.new.tx.conn.now) (state g.S.Store c.drop-tx.new.self.0)
+    through g.S.Store c.args.tables.now.conn c.transaction-tx.result.conn.now _ _
     c.transaction-tx.ensures.begun did.clean did.lasts
     (was_clean _ _ _ c.drop-tx.ensures.survives) (by c.drop-tx.ensures.survives)
 
 pub returns-clause-lasts : goal.returns-clause-lasts
 returns-clause-lasts g c =
-    let old = c.args.tables.now.conn in
     let did = c.in_ok-set_dues.ensures.set in
-    through g.S.Store old c.transaction-tx.result.conn.now
-    (state g.S.Store c.set_dues.new.tx.conn.now) (state g.S.Store c.finish.new.tx.0)
+    through g.S.Store c.args.tables.now.conn c.transaction-tx.result.conn.now _ _
     c.transaction-tx.ensures.begun did.clean did.lasts c.finish.ensures.honest
     c.finish.ensures.lasts

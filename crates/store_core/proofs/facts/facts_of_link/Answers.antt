@@ -1,20 +1,28 @@
 use Rattle.std.proofs.Common.{◌∙◌, rules}
 use Rattle.store_tables.proofs.ReadOn.{failed_at, giving, then}
-use Rattle.store_core.proofs.FactsLemmasOfDesk.{link_facts}
+use Rattle.store_core.specs.Found.{with_link}
+use Rattle.store_core.proofs.FactsLemmasOfDesk.{link_read}
 use Rattle.store_core.proofs.facts.facts_of_link.Goals as goal
 
 pub returns : goal.returns
 returns g c =
+    let linked = link_read c.args.link c.in_ok-linked.ensures in
     giving (λ d it desk of.
     c.with_link.ensures
-    ∙ link_facts desk c.args.link _ _ _ (it.1 desk of) (it.0.1 desk of) (it.0.0 desk of))
-    (then (then c.in_ok-is_linked.ensures c.in_ok-other.ensures) c.in_ok-facts.ensures)
+    ∙ (λ t. with_link (it.1 desk of t) (it.0.1 desk of t)
+    ((c.is_some.ensures ∙ it.0.0 desk of) t)))
+    (then (then linked c.in_ok-other.ensures) c.in_ok-facts.ensures)
+
+pub returns-in_err-linked : goal.returns-in_err-linked
+returns-in_err-linked g c =
+    failed_at (link_read c.args.link c.in_err-linked.ensures) (search rules)
 
 pub returns-in_err-other : goal.returns-in_err-other
 returns-in_err-other g c =
-    failed_at (then c.in_ok-is_linked.ensures c.in_err-other.ensures) (search rules)
+    let linked = link_read c.args.link c.in_ok-linked.ensures in
+    failed_at (then linked c.in_err-other.ensures) (search rules)
 
 pub returns-in_err-facts : goal.returns-in_err-facts
 returns-in_err-facts g c =
-    failed_at (then (then c.in_ok-is_linked.ensures c.in_ok-other.ensures) c.in_err-facts.ensures)
-    (search rules)
+    let linked = link_read c.args.link c.in_ok-linked.ensures in
+    failed_at (then (then linked c.in_ok-other.ensures) c.in_err-facts.ensures) (search rules)

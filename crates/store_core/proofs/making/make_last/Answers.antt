@@ -1,7 +1,6 @@
 use Rattle.std.proofs.Common.{refl}
 use Rattle.store_core.proofs.MakeLemmas.{grows, makes}
-use Rattle.store_core.proofs.MakeStatements.{stay_made, stay_there}
-use Rattle.store_tables.proofs.StepLemmas.{runs_done}
+use Rattle.store_core.proofs.MakeLemmas.{stay_made, stay_there}
 use Rattle.store_core.proofs.making.make_last.Goals as goal
 
 pub returns-clause-made : goal.returns-clause-made
@@ -9,6 +8,3 @@ returns-clause-made g c made = makes stay_made c.in_ok-run.ensures.runs made
 
 pub returns-clause-grows : goal.returns-clause-grows
 returns-clause-grows g c = grows stay_made refl stay_there c.in_ok-run.ensures.runs
-
-pub returns-clause-runs : goal.returns-clause-runs
-returns-clause-runs g c = runs_done c.in_ok-run.ensures.runs

@@ -2,7 +2,7 @@ use Rattle.std.proofs.Common.{◌≡◌, Ok, Result, take}
 use Rattle.std.specs.Prelude.{⊤}
 use Rattle.sqlite.specs.Held.{state}
 use Rattle.store_tables.specs.declared.fault.StoreFault.{StoreFault}
-use Rattle.store_tables.specs.Stands.{HasTables}
+use Rattle.store_tables.specs.Stands.{OnlyStaysChange}
 use Rattle.store_core.specs.Migrating.{FillsStays, RunsOn}
 use Rattle.store_core.proofs.migration.fill_each.Given as goal
 
@@ -14,6 +14,6 @@ invariant-loop-id g l =
     record {
       same : l.tx.conn.ghost_name ≡ l.fn.tx.conn.ghost_name;
       fills : FillsStays (λ desk. take l.id-index l.ids) old now done;
-      there : HasTables old → HasTables now;
+      beside : OnlyStaysChange old now;
       on : RunsOn old now done;
     }

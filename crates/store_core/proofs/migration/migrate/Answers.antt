@@ -9,8 +9,7 @@ use Rattle.store_core.proofs.migration.migrate.Goals as goal
 pub returns-clause-brings : goal.returns-clause-brings
 returns-clause-brings g c desk is due holds =
     let new = state g.S.Store c.set_version.new.tx.conn.now in
-    and_then c.set_version.result
-    (λ set. now_alike _ _ new (migrated_alike due desk is) set)
+    and_then c.set_version.result (now_alike _ _ new (migrated_alike due desk is))
     (c.set_version.ensures.set.makes _
     (c.in_ok-fill_stays.ensures.fills desk is due (first_contents_of due desk) refl refl holds))
 

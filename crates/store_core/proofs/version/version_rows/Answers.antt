@@ -12,47 +12,37 @@ use Rattle.store_core.proofs.version.version_rows.Goals as goal
 
 pub returns-in-Ok-clause-none : goal.returns-in-Ok-clause-none
 returns-in-Ok-clause-none g c made clean =
-    shows_none (state g.S.Store c.args.tx.now.conn.now)
-    (state g.S.Store c.query_all.new.self.conn.now)
-    (was_clean _ _ _ c.query_all.ensures.survives) made clean c.in-Ok.rows.items
+    shows_none _ _ (was_clean _ _ _ c.query_all.ensures.survives) made clean _
     (c.in-Ok.ensures.ok clean)
 
 pub returns-in-Ok-clause-one : goal.returns-in-Ok-clause-one
 returns-in-Ok-clause-one g c now holds clean =
-    let old = state g.S.Store c.args.tx.now.conn.now in
-    let new = state g.S.Store c.query_all.new.self.conn.now in
     let shown = c.in-Ok.ensures.ok clean in
     let before = holds (was_clean _ _ _ c.query_all.ensures.survives clean)
-    (shown_open version_text [] old new c.in-Ok.rows.items shown) in
-    shows_version now old new before.0 c.in-Ok.rows.items shown
+    (shown_open _ _ _ _ _ shown) in
+    shows_version now _ _ before.0 _ shown
 
 pub returns-in-Ok-clause-made : goal.returns-in-Ok-clause-made
 returns-in-Ok-clause-made g c made clean live =
-    let old = state g.S.Store c.args.tx.now.conn.now in
-    let new = state g.S.Store c.query_all.new.self.conn.now in
     let shown = c.in-Ok.ensures.ok clean in
     let before = made (was_clean _ _ _ c.query_all.ensures.survives clean)
-    (shown_open version_text [] old new c.in-Ok.rows.items shown) in
-    same_made desk_schema old new
-    (shown_same version_text [] old new c.in-Ok.rows.items version_is.plain before.0 shown) before
+    (shown_open _ _ _ _ _ shown) in
+    same_made desk_schema _ _ (shown_same _ _ _ _ _ version_is.plain before.0 shown) before
 
 pub returns-in-Ok-clause-looks : goal.returns-in-Ok-clause-looks
 returns-in-Ok-clause-looks g c =
-    shown_looks version_text [] (state g.S.Store c.args.tx.now.conn.now)
-    (state g.S.Store c.query_all.new.self.conn.now) version_is.plain
-    (was_clean _ _ _ c.query_all.ensures.survives) (by c.query_all.ensures.survives)
-    c.in-Ok.rows c.in-Ok.rows.items c.in-Ok.ensures.ok
+    shown_looks version_text [] _ _ version_is.plain
+    (was_clean _ _ _ c.query_all.ensures.survives) (by c.query_all.ensures.survives) _ _
+    c.in-Ok.ensures.ok
 
 pub returns-in-Err-clause-looks : goal.returns-in-Err-clause-looks
 returns-in-Err-clause-looks g c =
-    failed_looks version_text [] (state g.S.Store c.args.tx.now.conn.now)
-    (state g.S.Store c.query_all.new.self.conn.now) version_is.plain
-    (was_clean _ _ _ c.query_all.ensures.survives) (by c.query_all.ensures.survives)
-    c.in-Err.field-0 c.in-Err.ensures.err
+    failed_looks version_text [] _ _ version_is.plain
+    (was_clean _ _ _ c.query_all.ensures.survives) (by c.query_all.ensures.survives) _
+    c.in-Err.ensures.err
 
 pub returns-in-Ok-clause-of_table : goal.returns-in-Ok-clause-of_table
 returns-in-Ok-clause-of_table g c has clean =
     table_rows version_text [] 0 [] version_shown [] version_is
-    (state g.S.Store c.args.tx.now.conn.now) (state g.S.Store c.query_all.new.self.conn.now)
-    (was_clean _ _ _ c.query_all.ensures.survives) has clean c.in-Ok.rows.items
-    (c.in-Ok.ensures.ok clean)
+    (state g.S.Store c.args.tx.now.conn.now) _ (was_clean _ _ _ c.query_all.ensures.survives) has
+    clean _ (c.in-Ok.ensures.ok clean)

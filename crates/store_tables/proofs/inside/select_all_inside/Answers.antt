@@ -1,13 +1,7 @@
-use Rattle.sqlite.specs.Held.{state}
-use Rattle.sqlite.specs.Values.{bound}
 use Rattle.store_tables.proofs.RowLemmas.{rows_read}
 use Rattle.store_tables.proofs.inside.select_all_inside.Goals as goal
 
 pub returns-clause-read : goal.returns-clause-read
-returns-clause-read g c =
-    rows_read g.T.Stored.reads g.T.Stored.is_value (λ xs. xs.items) c.args.sql.now
-    (bound c.args.params.now) (state g.S.Store c.args.tx.now.conn.now)
-    (state g.S.Store c.select_inside.new.tx.conn.now)
-    c.in_ok-rows.rows.items c.in_ok-rows.ensures.shown c.read_all.result
-    (rw c.as_slice.ensures.value at c.read_all.ensures.ok)
+returns-clause-read g c = rows_read c.in_ok-rows.rows.items c.in_ok-rows.ensures.shown
+    c.read_all.result (rw c.as_slice.ensures.value at c.read_all.ensures.ok)
     (rw c.as_slice.ensures.value at c.read_all.ensures.mismatch) c.read_all.ensures.fault

@@ -1,6 +1,6 @@
-use Rattle.std.proofs.Common.{◌∙◌, sym}
+use Rattle.std.proofs.Common.{◌∙◌, refl, sym}
 use Rattle.store_tables.specs.Contents.{contents_of}
-use Rattle.store_tables.proofs.ReadOn.{blames_none}
+use Rattle.store_tables.proofs.ReadOn.{blames_failed}
 use Rattle.store_core.specs.Ahead.{numbers_ahead}
 use Rattle.store_core.specs.Rows.{dated_rows}
 use Rattle.store_core.proofs.AheadLemmas.{no_more, one_more}
@@ -19,6 +19,5 @@ returns-in-Ok-clause-given g c desk is due stand clean =
     (c.in-Ok.ensures.read.told (contents_of due desk) stand clean)
     (rw c.dated_request.ensures.same_numbers)
 
-pub returns-in-Err-clause-refuses : goal.returns-in-Err-clause-refuses
-returns-in-Err-clause-refuses g c =
-    blames_none c.in-Err.ensures.read.kept.clean c.in-Err.ensures.read.blames
+pub returns-in-Err-clause-blames : goal.returns-in-Err-clause-blames
+returns-in-Err-clause-blames g c = blames_failed c.in-Err.ensures.read.blames refl

@@ -3,7 +3,7 @@ use Rattle.store_tables.specs.Contents.{first_contents_of}
 use Rattle.store_tables.proofs.StandLemmas.{back_first, back_stands, either_way}
 use Rattle.store_core.proofs.MakeLemmas.{at_fault, first_either, left_either, stand_either}
 use Rattle.store_core.proofs.MakeLemmas.{stand_there}
-use Rattle.store_core.proofs.StandsAlike.{empty_stands, spared_at_fault}
+use Rattle.store_core.proofs.StandsAlike.{empty_stands, left_at_fault}
 use Rattle.store_core.proofs.store.Store.create_schema.Goals as goal
 
 pub returns-clause-made : goal.returns-clause-made
@@ -40,6 +40,5 @@ returns-clause-undone g c =
 
 pub returns-clause-spared : goal.returns-clause-spared
 returns-clause-spared g c has =
-    spared_at_fault c.make_schema.result (state g.S.Store c.args.self.now.tables.conn)
-    (state g.S.Store c.make_schema.new.tables.conn) c.make_schema.ensures.honest
-    c.make_schema.ensures.lasts (c.make_schema.ensures.back has)
+    left_at_fault c.make_schema.result (state g.S.Store c.args.self.now.tables.conn)
+    (state g.S.Store c.make_schema.new.tables.conn) (c.make_schema.ensures.back has)

@@ -1,19 +1,13 @@
 use Rattle.std.proofs.Common.{refl}
 use Rattle.store_core.specs.Rows.{AreDueBefore}
-use Rattle.store_core.proofs.BeginLemmas.{begins}
+use Rattle.store_core.proofs.AheadLemmas.{begins}
 use Rattle.store_core.proofs.store.Store.rows_overdue.Goals as goal
 
 pub returns : goal.returns
 returns g c =
-    let same = c.begin.ensures.same_reference in (
-      (cc, λ w. refl, tt),
-      record {
-        refused = tt;
-        same_reference = same;
-        begun =
-            begins g.S.Store (AreDueBefore c.args.at) c.args.self.now
-            c.keep_numbers_due_before.new.self c.begin.result c.begin.ensures.same c.begin.ensures.first
-            c.begin.ensures.reading c.keep_numbers_due_before.ensures.kept
-            c.in_ok-keep_numbers_due_before.ensures.ahead;
-      },
-    )
+    let same = c.begin.ensures.same_reference in
+    let kept = c.keep_numbers_due_before.ensures.kept in
+    let ahead = c.in_ok-keep_numbers_due_before.ensures.ahead in
+    let begun = begins g.S.Store (AreDueBefore c.args.at) _ _ _ c.begin.ensures.same
+    c.begin.ensures.first c.begin.ensures.reading kept ahead in
+    ((cc, λ w. refl, tt), record { refused = tt; same_reference = same; begun = begun })

@@ -1,5 +1,4 @@
 use Rattle.store_tables.proofs.EachQuery.{dated_by_number}
-use Rattle.store_tables.proofs.EachTable.{dated_table}
 use Rattle.store_tables.proofs.RowLemmas.{finds}
 use Rattle.store_tables.proofs.reads.dated_requests.dated_numbered.Goals as goal
 
@@ -7,6 +6,5 @@ pub select_one-requires : goal.select_one-requires
 select_one-requires g c = (dated_by_number c.args.id).means.plain
 
 pub returns : goal.returns
-returns g c =
-    finds dated_table (dated_by_number c.args.id) c.select_one.ensures.kept
-    (rw c.number.ensures.bound at c.select_one.ensures.read)
+returns g c = (finds (dated_by_number c.args.id)
+    (rw c.number.ensures.bound at c.select_one.ensures)).read

@@ -1,5 +1,4 @@
 use Rattle.store_tables.proofs.EachQuery.{link_by_ends}
-use Rattle.store_tables.proofs.EachTable.{link_table}
 use Rattle.store_tables.proofs.RowLemmas.{finds}
 use Rattle.store_tables.proofs.reads.links_by_key.link_like.Goals as goal
 
@@ -7,7 +6,6 @@ pub select_one-requires : goal.select_one-requires
 select_one-requires g c = (link_by_ends c.args.link).means.plain
 
 pub returns : goal.returns
-returns g c =
-    finds link_table (link_by_ends c.args.link) c.select_one.ensures.kept
+returns g c = (finds (link_by_ends c.args.link)
     (rw (c.number.ensures.bound, c.link_kind.ensures, c.number-2.ensures.bound) at
-    c.select_one.ensures.read)
+    c.select_one.ensures)).read

@@ -15,24 +15,17 @@ use Rattle.store_tables.proofs.reads.lists_links.links_to.Goals as goal
 
 kinds_alike : (a b : LinkKind) → nat_cmp (kind_number a) (kind_number b) ≡ kinds.cmp a b
 kinds_alike DependsOn DependsOn = refl
-kinds_alike DependsOn MemberOf = refl
-kinds_alike DependsOn RefersTo = refl
-kinds_alike MemberOf DependsOn = refl
 kinds_alike MemberOf MemberOf = refl
-kinds_alike MemberOf RefersTo = refl
-kinds_alike RefersTo DependsOn = refl
-kinds_alike RefersTo MemberOf = refl
 kinds_alike RefersTo RefersTo = refl
+kinds_alike a b = refl
 
 links_alike : (a b : LinkRow) → by_link a b ≡ links.cmp a b
-links_alike a b =
-    ap (λ kind. ordering_then (nat_cmp a.source b.source)
+links_alike a b = ap (λ kind. ordering_then (nat_cmp a.source b.source)
     (ordering_then kind (nat_cmp a.target b.target))) (kinds_alike a.kind b.kind)
 
 sorted_alike : (xs : List LinkRow) → IsSorted links.cmp xs → IsSorted by_link xs
-sorted_alike xs sorted k x low high =
-    ap is_lt (links_alike (slice_index_or xs (k + 1) x) (slice_index_or xs k x))
-    ∙ sorted k x low high
+sorted_alike xs sorted k x low high = ap is_lt (links_alike (slice_index_or xs (k + 1) x)
+    (slice_index_or xs k x)) ∙ sorted k x low high
 
 pub returns-clause-read : goal.returns-clause-read
 returns-clause-read g c =

@@ -1,5 +1,4 @@
 use Rattle.store_tables.proofs.EachQuery.{request_by_number}
-use Rattle.store_tables.proofs.EachTable.{request_table}
 use Rattle.store_tables.proofs.RowLemmas.{finds}
 use Rattle.store_tables.proofs.reads.requests_by_key.request_numbered.Goals as goal
 
@@ -7,6 +6,5 @@ pub select_one-requires : goal.select_one-requires
 select_one-requires g c = (request_by_number c.args.id).means.plain
 
 pub returns : goal.returns
-returns g c =
-    finds request_table (request_by_number c.args.id) c.select_one.ensures.kept
-    (rw c.number.ensures.bound at c.select_one.ensures.read)
+returns g c = (finds (request_by_number c.args.id)
+    (rw c.number.ensures.bound at c.select_one.ensures)).read

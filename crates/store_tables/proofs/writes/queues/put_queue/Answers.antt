@@ -1,16 +1,10 @@
-use Rattle.std.proofs.Common.{arith}
+use Rattle.std.proofs.Common.{arith, ◌<◌}
 use Rattle.store_tables.proofs.StepLemmas.{does_one}
 use Rattle.store_tables.proofs.TableLemmas.{adds_queue}
 use Rattle.store_tables.proofs.writes.queues.put_queue.Goals as goal
 
 pub returns-clause-put : goal.returns-clause-put
 returns-clause-put g c =
-    let row = c.args.row.now in
     does_one (rw (c.words.ensures.bound, c.words-2.ensures.bound, c.nullable.ensures.bound) at
     c.run_on_one.ensures.runs)
-    (λ now. adds_queue now row _ _ 1 (record {
-      wide = omega arith;
-      name = c.words.ensures.value;
-      lifecycle = c.words-2.ensures.value;
-      level = c.nullable.ensures.value;
-    }))
+    (λ now. adds_queue now _ _ _ 1 (let wide : 2 < 3 = omega arith in assumption))

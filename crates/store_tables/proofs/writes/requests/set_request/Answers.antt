@@ -3,8 +3,5 @@ use Rattle.store_tables.proofs.TableLemmas.{sets_request}
 use Rattle.store_tables.proofs.writes.requests.set_request.Goals as goal
 
 pub returns-clause-set : goal.returns-clause-set
-returns-clause-set g c =
-    let row = c.args.row.now in
-    let due = c.args.due in
-    does_one (rw c.shown.ensures.bound at c.run_on_one.ensures.runs)
-    (λ now. sets_request now row due _ _ c.shown.ensures.value)
+returns-clause-set g c = does_one (rw c.shown.ensures.bound at c.run_on_one.ensures.runs)
+    (λ now. sets_request now _ _ _ _ c.shown.ensures.value)

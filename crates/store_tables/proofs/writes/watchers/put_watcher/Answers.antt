@@ -1,16 +1,9 @@
-use Rattle.std.proofs.Common.{arith, refl}
+use Rattle.std.proofs.Common.{rules}
 use Rattle.store_tables.proofs.StepLemmas.{does_one}
 use Rattle.store_tables.proofs.TableLemmas.{adds_watcher}
 use Rattle.store_tables.proofs.writes.watchers.put_watcher.Goals as goal
 
 pub returns-clause-put : goal.returns-clause-put
 returns-clause-put g c =
-    let row = c.args.row.now in
     does_one (rw (c.number.ensures.bound, c.role.ensures, c.words.ensures.bound) at
-    c.run_on_one.ensures.runs)
-    (λ now. adds_watcher now row _ _ 1 (record {
-      wide = omega arith;
-      id = c.number.ensures.value;
-      role = (row.role, refl);
-      person = c.words.ensures.value;
-    }))
+    c.run_on_one.ensures.runs) (λ now. adds_watcher now _ _ _ 1 (search rules))
