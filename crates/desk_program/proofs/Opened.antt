@@ -9,7 +9,7 @@ use Rattle.settings_core.specs.Reading.{IsSettingsOf}
 use Rattle.settings_core.specs.declared.settings.Settings.{Settings}
 use Rattle.service_core.specs.declared.fault.AttachFault.{AttachFault}
 use Rattle.store_core.specs.Due.{StandsDue}
-use Rattle.store_core.specs.Migrating.{EitherStand, LeavesOthers}
+use Rattle.store_core.specs.Migrating.{HoldsPart, LeavesOthers}
 use Rattle.store_tables.proofs.Spared.{stands, stands_for}
 use Rattle.store_tables.specs.Calls.{WasClean}
 use Rattle.store_tables.specs.Contents.{Contents, contents_of, first_contents_of}
@@ -60,7 +60,7 @@ brought old mid kept on desk formed (inr first) = (first.0, on desk formed first
 pub made_not_attached : (s : Settings) (old mid new : State) (fault : AttachFault)
     → LeavesOthers old mid → BringsOn old mid → WasClean old mid
     → (IsBlank old → StandsFor empty_desk mid)
-    → ((c : Contents) → EitherStand c old → HasCleanDisk mid → IsKnown c.version)
+    → ((c : Contents) → HoldsPart c old → HasCleanDisk mid → IsKnown c.version)
     → FailsToAttach s mid new fault → IsNotAttached s old new fault
 made_not_attached s old mid new fault kept on honest made version fails =
     record {

@@ -14,11 +14,11 @@ use Rattle.service_core.specs.Attaching.{BlamesBad, FailsOver, TellsKnown}
 use Rattle.service_core.specs.declared.fault.AttachFault.{AttachFault}
 use Rattle.service_core.specs.declared.fault.AttachFault.TheVariants.{Store, UnknownName}
 use Rattle.store_core.specs.Due.{StandsDue}
-use Rattle.store_core.specs.Migrating.{EitherStand, LeavesEither, LeavesOthers}
+use Rattle.store_core.specs.Migrating.{HoldsPart, LeavesOthers}
 use Rattle.store_tables.specs.Calls.{AreLeft, Lasts, Spares, WasClean}
 use Rattle.store_tables.specs.Contents.{Contents}
 use Rattle.store_tables.specs.Making.{IsBlank, IsKnown}
-use Rattle.store_tables.specs.Stands.{FirstStandsFor, HasEither, Stand, StandsFor}
+use Rattle.store_tables.specs.Stands.{FirstStandsFor, Stand, StandsFor}
 use Rattle.store_tables.specs.declared.fault.StoreFault.{StoreFault}
 use Rattle.store_tables.specs.declared.fault.StoreFault.TheVariants.{Refused, WrongVersion}
 use Rattle.stream_core.specs.Written.{IsWritten}
@@ -59,18 +59,17 @@ pub record IsOpened (text : List ℕ) (old : State) (settings : Settings) (new :
 pub record IsNotMade (old new : State) (fault : StoreFault) : Type 0 where
   -- what the tables held they hold still
   pub kept : LeavesOthers old new
-  pub left : LeavesEither old new
-  -- the seven tables, or the six of version 1, are as they were, whatever rows they have
-  pub spared : HasEither old → AreLeft old new
+  -- whatever tables there are, all are as they were
+  pub spared : AreLeft old new
   -- those of version 1 stand for their desk still
   pub first : (desk : Desk) → IsDesk desk → FirstStandsFor desk old → FirstStandsFor desk new
   -- where there was no table there is none, and the store or memory refused it
   pub blank : IsBlank old → IsBlank new × (HasCleanDisk new → fault ≡ Refused)
   -- the version is told to be wrong only where it isn't a known one
-  pub version : (c : Contents) → EitherStand c old → HasCleanDisk new → fault ≡ WrongVersion
+  pub version : (c : Contents) → HoldsPart c old → HasCleanDisk new → fault ≡ WrongVersion
       → ¬ IsKnown c.version
   -- over values of a known version nothing can be wrong, but that the store or memory refused
-  pub fails : (c : Contents) → IsKnown c.version → EitherStand c old → HasCleanDisk new
+  pub fails : (c : Contents) → IsKnown c.version → HoldsPart c old → HasCleanDisk new
       → fault ≡ Refused
   -- a disk that is clean afterwards was clean before
   pub honest : WasClean old new
@@ -112,7 +111,7 @@ pub record IsNotAttached (settings : Settings) (old new : State) (fault : Attach
     -- where there was no table at all, they stand for the empty desk
     pub made : IsBlank old → StandsFor empty_desk new
     -- the tables were of a known version
-    pub version : (c : Contents) → EitherStand c old → HasCleanDisk new → IsKnown c.version
+    pub version : (c : Contents) → HoldsPart c old → HasCleanDisk new → IsKnown c.version
 
 -- The line that is printed and the status, and what is left of the tables: a fault of the settings
 -- comes before one of the store, and that before one of attaching.

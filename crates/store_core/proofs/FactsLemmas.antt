@@ -1,19 +1,16 @@
 -- From rows by key to the facts of a desk.
 use Rattle.std.proofs.Common.{◌≡◌, ◌∙◌, ℕ, ◌+◌, ◌<◌, Bool, true, false, cond, List, [], ◌∷◌, map}
-use Rattle.std.proofs.Common.{◌==◌, flat_map, option_map, option_to_list, nat_cmp, eqb-true, filter}
-use Rattle.std.proofs.Common.{find, length, Option, Some, None, inl, inr, refl, sym, ap, append-nil}
-use Rattle.std.proofs.Common.{arith, is_some, Less}
+use Rattle.std.proofs.Common.{◌==◌, flat_map, option_map, option_to_list, nat_cmp, filter}
+use Rattle.std.proofs.Common.{find, length, Option, inl, inr, refl, sym, ap, append-nil}
+use Rattle.std.proofs.Common.{arith, is_some, Less, bytes_eq}
 use Rattle.std.specs.List.{AllByRecursion, list_any}
 use Rattle.std.specs.Option.{option_map_or}
-use Rattle.std.specs.Str.{bytes_eq}
-use Rattle.std.proofs.lemmas.Bool.{and_parts}
 use Rattle.std.proofs.lemmas.Bool.Decides.{nat_tests}
 use Rattle.std.proofs.lemmas.List.Elements.{filter-append}
 use Rattle.std.proofs.lemmas.Map.Text.{is_eq-slice_cmp}
 use Rattle.sqlite_trees.specs.Tree.{IsAscending}
 use Rattle.sqlite_rules.specs.Lists.{Has}
-use Rattle.sqlite_trees.proofs.ListLemmas.{filter-map, all_of, all_weaker, filter_all, filter_none}
-use Rattle.sqlite_trees.proofs.ListLemmas.{filter_same}
+use Rattle.sqlite_trees.proofs.ListLemmas.{all_of, all_weaker, filter_all, filter_none}
 use Rattle.desk_model.specs.declared.rows.QueueRow.{QueueRow}
 use Rattle.desk_model.specs.declared.rows.RequestRow.{RequestRow}
 use Rattle.desk_model.specs.Desk.{Desk, Request}
@@ -25,31 +22,16 @@ use Rattle.store_core.proofs.RiseLemmas.{all_later, ids_rise}
 
 -- ---- what is found first
 
-abbrev head_of : {X : Type 0} → List X → Option X
-head_of [] = None
-head_of (x ∷ xs) = Some x
-
-find_head : {X : Type 0} (p : X → Bool) (xs : List X) → find p xs ≡ head_of (filter p xs)
-find_head p [] = refl
-find_head p (x ∷ xs) = grind (arith, find_head p xs)
-
-head_option : {X : Type 0} (o : Option X) → head_of (option_to_list o) ≡ o
-head_option None = refl
-head_option (Some x) = refl
-
-head-map : {X Y : Type 0} (f : X → Y) (xs : List X) → head_of (map f xs) ≡ option_map f (head_of xs)
-head-map f [] = refl
-head-map f (x ∷ xs) = refl
-
 pub find-map : {X Y : Type 0} (p : Y → Bool) (f : X → Y) (xs : List X)
     → find p (map f xs) ≡ option_map f (find (λ x. p (f x)) xs)
-find-map p f xs = rw (find_head, find_head, filter-map, head-map)
+find-map p f [] = refl
+find-map p f (x ∷ xs) = grind (arith, find-map p f xs)
 
 -- what is all that a test passes is the first that it passes
 found_first : {X : Type 0} (p q : X → Bool) → ((x : X) → p x ≡ q x) → (xs : List X)
     (o : Option X) → option_to_list o ≡ filter p xs → o ≡ find q xs
-found_first p q same xs o h =
-    rw (← head_option o, h, filter_same p q xs (all_of _ same xs), ← find_head)
+found_first p q same [] o h = grind arith
+found_first p q same (x ∷ xs) o h = grind (arith, same x, found_first p q same xs o)
 
 any_found : {X : Type 0} (p : X → Bool) (xs : List X) → is_some (find p xs) ≡ list_any p xs
 any_found p [] = refl
@@ -61,13 +43,13 @@ some_found p q same xs o h = ap is_some (found_first p q same xs o h) ∙ any_fo
 
 pub found_queue : (name : List ℕ) (queues : List QueueRow) (q : Option QueueRow)
     → option_to_list q ≡ filter (is_named name) queues → q ≡ find (λ x. bytes_eq x.name name) queues
-found_queue name =
-    found_first (is_named name) (λ x. bytes_eq x.name name) (λ x. is_eq-slice_cmp x.name name)
+found_queue name = found_first (is_named name) _ (λ x. is_eq-slice_cmp x.name name)
 
 pub found_row : (id : ℕ) (rs : List Request) (o : Option RequestRow)
     → option_to_list o ≡ filter (is_numbered id) (map (λ r. r.row) rs)
     → o ≡ option_map (λ r. r.row) (find (has_number id) rs)
-found_row id rs o h = rw (← head_option o, h, filter-map, head-map, ← find_head)
+found_row id [] o h = grind arith
+found_row id (r ∷ rs) o h = grind (arith, found_row id rs o)
 
 -- ---- the parts of requests, each of which tells its request's number
 
@@ -94,10 +76,8 @@ module _ {E : Type 0} (part : Request → List E) (of : E → ℕ) where
   part_among id (r ∷ rs) up own =
       let here = all_or_none (λ e. of e == id) (r.row.id == id) (part r)
       (all_weaker _ _ (λ e is. ap (λ n. n == id) is) (part r) own.0) in
-      let later : (r.row.id == id) ≡ true → filter (λ e. of e == id) (flat_map part rs) ≡ [] =
-      λ is. filter_none (λ e. of e == id) (flat_map part rs)
-      (all_weaker (λ e. nat_cmp r.row.id (of e) ≡ Less) (λ e. (of e == id) ≡ false)
-      (λ e low. grind (arith, nat_tests, low, is)) (flat_map part rs)
+      let later = λ (is : (r.row.id == id) ≡ true). filter_none (λ e. of e == id) (flat_map part rs)
+      (all_weaker (λ e. nat_cmp r.row.id (of e) ≡ Less) _ (λ e low. grind (arith, nat_tests)) _
       (all_later part (λ (r : Request). r.row.id) of r.row.id rs up.0 own.1)) in
       rw (filter-append, here) (grind (arith, later, append-nil, part_among id rs up.1 own.1))
 
@@ -107,21 +87,19 @@ module _ {E : Type 0} (part : Request → List E) (of : E → ℕ) where
 
 -- ---- numbers from 1 on: the greatest is the count
 
-below_next : {X : Type 0} (key : X → ℕ) (next : ℕ) (xs : List X)
+pub below_next : {X : Type 0} (key : X → ℕ) (next : ℕ) (xs : List X)
     → are_numbered next (map key xs) ≡ true → (x : X) → Has xs x → key x < next + length xs
 below_next key next [] h x has = absurd has
-below_next key next (y ∷ ys) h x (inl same) =
-    omega (arith, ap key same, eqb-true (key y) next (and_parts (key y == next) _ h).0)
+below_next key next (y ∷ ys) h x (inl same) = grind (arith, nat_tests, ap key same)
 below_next key next (y ∷ ys) h x (inr later) =
-    omega (arith, below_next key (next + 1) ys (and_parts (key y == next) _ h).1 x later)
+    omega (arith, below_next key (next + 1) ys (grind arith) x later)
 
 reaches_last : {X : Type 0} (key : X → ℕ) (next : ℕ) (x : X) (xs : List X)
     → are_numbered next (map key (x ∷ xs)) ≡ true
     → (y : X) × Has (x ∷ xs) y × (key y + 1 ≡ next + length (x ∷ xs))
-reaches_last key next x [] h =
-    (x, inl refl, omega (arith, eqb-true (key x) next (and_parts (key x == next) true h).0))
+reaches_last key next x [] h = (x, inl refl, grind (arith, nat_tests))
 reaches_last key next x (y ∷ ys) h =
-    let it = reaches_last key (next + 1) y ys (and_parts (key x == next) _ h).1 in
+    let it = reaches_last key (next + 1) y ys (grind arith) in
     (it.0, inr it.1, omega (arith, it.2))
 
 pub greatest_counts : {X : Type 0} (key : X → ℕ) (xs : List X) (n : ℕ)
@@ -129,7 +107,5 @@ pub greatest_counts : {X : Type 0} (key : X → ℕ) (xs : List X) (n : ℕ)
 greatest_counts key xs n numbered (inl none) = none.1 ∙ sym (ap length none.0)
 greatest_counts key [] n numbered (inr it) = absurd it.1
 greatest_counts key (x ∷ xs) n numbered (inr it) =
-    let low = below_next key 1 (x ∷ xs) numbered it.0 it.1 in
     let last = reaches_last key 1 x xs numbered in
-    let high = it.3 last.0 last.1 in
-    omega (arith, low, last.2, high, it.2)
+    omega (arith, below_next key 1 (x ∷ xs) numbered it.0 it.1, last.2, it.3 last.0 last.1, it.2)

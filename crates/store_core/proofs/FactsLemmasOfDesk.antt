@@ -1,10 +1,10 @@
 -- What is read by key is what the desk has there.
 use Rattle.std.proofs.Common.{Bool, cond, map, Less, arith, append-nil, ◌≡◌, ◌∙◌, ℕ, List, [], ◌∷◌}
-use Rattle.std.proofs.Common.{eqb-true, map-id, flat_map, ◌==◌, ◌&&◌, option_map, option_to_list}
+use Rattle.std.proofs.Common.{map-id, flat_map, ◌==◌, ◌&&◌, option_map, option_to_list}
 use Rattle.std.proofs.Common.{◌++◌, filter, length, Option, Some, None, Result, Ok, Err, OnOk, IfOk}
-use Rattle.std.proofs.Common.{is_some, false, true, refl, sym, ap, ◌+◌, ◌<◌, ◌≤◌, get_or, take}
+use Rattle.std.proofs.Common.{is_some, false, true, refl, ap, ◌+◌, ◌<◌, ◌≤◌, get_or, take}
 use Rattle.std.proofs.lemmas.Bool.{and_parts}
-use Rattle.std.proofs.lemmas.Cmp.{nat_cmp_total, on_total, tied_itself}
+use Rattle.std.proofs.lemmas.Cmp.{nat_cmp_total, on_total}
 use Rattle.std.proofs.lemmas.List.{map-append, length-map, take_more, take_all as all_taken}
 use Rattle.std.proofs.lemmas.List.Elements.{filter-append}
 use Rattle.std.specs.List.{list_all}
@@ -17,12 +17,11 @@ use Rattle.sqlite.specs.State.{State}
 use Rattle.desk_model.specs.declared.rows.WatchRole.{WatchRole}
 use Rattle.desk_model.specs.Watchers.{is_role, watcher, may_show_by, watchers_of}
 use Rattle.desk_model.specs.declared.rows.LinkKind.{LinkKind}
-use Rattle.desk_model.specs.Links.{kind_number, has_link}
+use Rattle.desk_model.specs.Links.{kind_number, has_link, is_kind, is_link}
 use Rattle.hours_core.specs.declared.stay.Stay.{Stay}
 use Rattle.desk_model.specs.declared.facts.Dependency.{Dependency}
 use Rattle.desk_model.specs.declared.facts.Facts.{Facts}
 use Rattle.desk_model.specs.declared.facts.SeenRequest.{SeenRequest}
-use Rattle.desk_model.specs.declared.rows.Entry.{Entry}
 use Rattle.desk_model.specs.declared.rows.LinkKind.TheVariants.{DependsOn}
 use Rattle.desk_model.specs.declared.rows.LinkRow.{LinkRow}
 use Rattle.desk_model.specs.declared.rows.QueueRow.{QueueRow}
@@ -31,7 +30,6 @@ use Rattle.desk_model.specs.declared.rows.Watcher.{Watcher}
 use Rattle.desk_model.specs.Desk.{Desk, Request, queue_at, request_at}
 use Rattle.desk_model.specs.Facts.{dependencies_of, dependency_links, facts_on_request}
 use Rattle.desk_model.specs.Facts.{seen_request, seen_request_at, stays_at}
-use Rattle.desk_model.specs.Links as links
 use Rattle.desk_model.specs.Plan.{Dependencies, besides_on}
 use Rattle.desk_model.specs.IsDesk.{IsDesk, has_both_ends, has_its_entries, persons_rise}
 use Rattle.desk_model.specs.Rights.{is_shown}
@@ -68,10 +66,10 @@ persons_are r = simp (filter-append, map-append, of_role, append-nil)
 
 -- ---- links
 
-same_kinds : (a b : LinkKind) → (kind_number a == kind_number b) ≡ links.is_kind b a
+same_kinds : (a b : LinkKind) → (kind_number a == kind_number b) ≡ is_kind b a
 same_kinds a b = grind arith
 
-pub same_link_is : (l x : LinkRow) → chosen.is_link l x ≡ links.is_link l x
+pub same_link_is : (l x : LinkRow) → chosen.is_link l x ≡ is_link l x
 same_link_is l x = rw same_kinds (grind (arith, nat_tests))
 
 -- ---- a request
@@ -90,14 +88,11 @@ module _ (desk : Desk) (id : ℕ) (row : RequestRow)
   where
     -- the one request with that number
     one : (r : Request) × (request_at desk id ≡ Some r) × (r.row ≡ row)
-    one =
-        unmapped_some (λ (r : Request). r.row) row (request_at desk id)
-        (found_row id desk.requests (Some row) found)
+    one = unmapped_some (λ r. r.row) row _ (found_row id desk.requests (Some row) found)
 
     passes : (test : Request → Bool) → list_all test desk.requests ≡ true → test one.0 ≡ true
     passes test all =
-        test_has test desk.requests one.0 all
-        (has_found (has_number id) desk.requests one.0 one.1).0
+        test_has test _ one.0 all (has_found (has_number id) desk.requests one.0 one.1).0
 
     pub some_dependency : (q : Option QueueRow) → q ≡ queue_at desk row.queue
         → dependency_of row q ≡ dependency_at desk id
@@ -109,29 +104,24 @@ module _ (desk : Desk) (id : ℕ) (row : RequestRow)
         -- its watchers are its persons
         watchers_are : ws ≡ watchers_of one.0
         watchers_are =
-            let own = part_is watchers_of (λ (w : Watcher). w.id) desk is
-            (all_of _ their_own desk.requests) id in
-            the_list role_total (watchers_of one.0) ws
-            (watchers_ascend one.0 (passes persons_rise is.persons)) (rw (own, one.1) at listed)
+            let own = part_is watchers_of (λ w. w.id) desk is (all_of _ their_own _) id in
+            the_list role_total _ ws (watchers_ascend one.0 (passes persons_rise is.persons))
+            (rw (own, one.1) at listed)
 
         pub some_seen : (n : ℕ) → IsGreatest place_of (filter (tells_of id) (entries desk)) n
             → Some (seen_request_of row ws n) ≡ seen_request_at desk id
         some_seen n greatest =
             let it = one in
-            let own = part_is (λ r. r.entries) (λ (e : Entry). e.id) desk is
-            (all_tested has_its_entries _ own_entries desk.requests is.entries) id in
-            let n_is = greatest_counts place_of it.0.entries n
-            (entries_numbered it.0 (passes has_its_entries is.entries))
-            (rw (own, it.1) at greatest) in
-            let ws_are = watchers_are in
-            rw (← it.2, ws_are, n_is, it.1) (ap Some (persons_are it.0))
+            let own = part_is (λ r. r.entries) (λ e. e.id) desk is
+            (all_tested has_its_entries _ own_entries _ is.entries) id in
+            let n_is = greatest_counts place_of it.0.entries n (entries_numbered it.0
+            (passes has_its_entries is.entries)) (rw (own, it.1) at greatest) in
+            rw (← it.2, watchers_are, n_is, it.1) (ap Some (persons_are it.0))
 
         pub some_shown : (s : Settings) (person : List ℕ)
             → may_show_by s person row ws ≡ is_shown s person desk id
         some_shown s person =
-            let it = one in
-            let ws_are = watchers_are in
-            rw (← it.2, ws_are, it.1) (own_roles_law s person it.0)
+            let it = one in rw (← it.2, watchers_are, it.1) (own_roles_law s person it.0)
 
 -- ---- what a request depends on
 
@@ -146,19 +136,13 @@ pub dependencies_are : (desk : Desk) (id : ℕ) (ls : List LinkRow) (ds : List D
     → ds ≡ flat_map (dependency_by desk) ls → ds ≡ dependencies_of desk id
 unfolding dependency_by
 dependencies_are desk id ls ds is listed all =
-    let here = filter (links_from id DependsOn) desk.links in
-    let IsFrom : LinkRow → Type 0 = λ l.
-    (l.source ≡ id) × (kind_number l.kind ≡ kind_number DependsOn) in
-    let from = all_from IsFrom here (λ l has.
-    let parts = and_parts (l.source == id) (kind_number l.kind == kind_number DependsOn)
-    (has_filtered (links_from id DependsOn) desk.links l has).1 in
-    (eqb-true l.source id parts.0, eqb-true (kind_number l.kind) _ parts.1)) in
+    let IsFrom : LinkRow → Type 0 = λ l. links_from id DependsOn l ≡ true in
     let links : ls ≡ dependency_links desk id =
-    the_list (on_total (λ (l : LinkRow). l.target) nat_cmp_total) here ls
+    the_list (on_total (λ (l : LinkRow). l.target) nat_cmp_total) _ ls
     (ascending_where (λ a b. by_link a b ≡ Less) (λ a b. by_target a b ≡ Less) IsFrom
-    (λ a b one two low. rw (one.0, two.0, one.1, two.1, tied_itself nat_cmp_total id) at low) here
-    from (ascending-filter (λ a b. by_link a b ≡ Less) (links_from id DependsOn) desk.links
-    (links_rise desk is))) listed
+    (λ a b one two low. grind (arith, nat_tests, low)) _
+    (all_from IsFrom _ (λ l has. (has_filtered (links_from id DependsOn) desk.links l has).1))
+    (ascending-filter _ (links_from id DependsOn) desk.links (links_rise desk is))) listed
     ∙ (λ t. filter (λ l. l.source == id && same_kinds l.kind DependsOn t) desk.links) in
     all ∙ ap (flat_map (dependency_by desk)) links
 
@@ -203,24 +187,19 @@ pub link_read : {a b : State} {r : Result (Option LinkRow) StoreFault} (l : Link
     → Reads (λ c found. option_to_list found ≡ filter (chosen.is_link l) c.links) a b r
     → Reads (OfDesk (λ desk found. is_some found ≡ has_link desk l)) a b r
 link_read l = telling (λ c found is desk of.
-    some_found (chosen.is_link l) (links.is_link l) (same_link_is l) desk.links found
+    some_found (chosen.is_link l) (is_link l) (same_link_is l) desk.links found
     (rw of.same at is))
-
--- a link leads from a request that is there
-never_from : (desk : Desk) (id : ℕ) (l : LinkRow) → has_both_ends desk l ≡ true
-    → request_at desk id ≡ None → (l.source == id && links.is_kind DependsOn l.kind) ≡ false
-never_from desk id l both absent =
-    grind (arith, nat_tests, absent, and_parts (is_some (request_at desk l.source)) _ both)
 
 -- a request that isn't there depends on nothing
 pub absent_facts : (desk : Desk) (id : ℕ) (facts : Facts) → IsDesk desk
     → facts ≡ facts_on_request desk id → facts.request ≡ None
     → facts ≡ besides_on Dependencies id desk
 absent_facts desk id facts is facts_are absent =
-    let unseen : None ≡ option_map seen_request (request_at desk id) =
-    sym absent ∙ ap (λ (f : Facts). f.request) facts_are in
-    let gone : request_at desk id ≡ None = grind (arith, unseen) in
-    let none : dependency_links desk id ≡ [] = filter_none _ desk.links (all_from _ desk.links
-    (λ l has.
-    never_from desk id l (test_has (has_both_ends desk) desk.links l is.ends has) gone)) in
+    let unseen = ap (λ (f : Facts). f.request) facts_are in
+    let gone : request_at desk id ≡ None = grind (arith, unseen, absent) in
+    -- a link leads from a request that is there
+    let none : dependency_links desk id ≡ [] = filter_none _ desk.links (all_tested
+    (has_both_ends desk) (λ l. (l.source == id && is_kind DependsOn l.kind) ≡ false) (λ l both.
+    grind (arith, nat_tests, gone, and_parts (is_some (request_at desk l.source)) _ both))
+    desk.links is.ends) in
     rw none facts_are

@@ -1,6 +1,7 @@
 pub mod AheadLemmas
 pub mod FactsLemmas
 pub mod FactsLemmasOfDesk
+pub mod FrontLemmas
 pub mod HistoryLemmas
 pub mod MakeLemmas
 pub mod MigrationLemmas

@@ -1,7 +1,6 @@
 -- The stays that are filled in are those of the desk.
-use Rattle.std.proofs.Common.{◌≡◌, ◌∙◌, ℕ, List, [], ◌∷◌, ◌++◌, map, filter, flat_map, fold, arith}
-use Rattle.std.proofs.Common.{rules, append-nil, append_assoc, Option, Some, refl, ap}
-use Rattle.std.proofs.Common.{IsPermutation}
+use Rattle.std.proofs.Common.{IsPermutation, append_assoc, append-nil, flat_map, filter, Option, []}
+use Rattle.std.proofs.Common.{arith, rules, List, ◌++◌, fold, Some, refl, ◌≡◌, ◌∙◌, ◌∷◌, map, ap, ℕ}
 use Rattle.std.specs.List.{All}
 use Rattle.std.proofs.lemmas.List.Elements.{All-head, All-tail}
 use Rattle.std.proofs.lemmas.List.Sorted.{IsPermutation-append_right, IsPermutation-middle}
@@ -15,8 +14,8 @@ use Rattle.desk_model.specs.Stays.{stays_of}
 use Rattle.desk_model.specs.declared.rows.Entry.{Entry}
 use Rattle.desk_model.specs.declared.rows.RequestRow.{RequestRow}
 use Rattle.desk_core.proofs.EachRequest.{found_each}
-use Rattle.store_tables.specs.Contents.{Contents, add_stay, contents_of, first_contents_of}
-use Rattle.store_tables.specs.Contents.{request_rows, requests, set_version}
+use Rattle.store_tables.specs.Contents.{request_rows, requests, set_version, Contents, add_stay}
+use Rattle.store_tables.specs.Contents.{contents_of, first_contents_of, AreAlike}
 use Rattle.store_tables.specs.Dated.{row_of}
 use Rattle.store_tables.specs.Orders.{by_id, by_number}
 use Rattle.store_tables.specs.Picked.{AreOrdered, AreParts}
@@ -24,10 +23,8 @@ use Rattle.store_tables.specs.Selection.{number_of, tells_of}
 use Rattle.store_tables.specs.Stays.{StayRow, stay_rows}
 use Rattle.store_tables.proofs.DueLemmas.{rows_dated}
 use Rattle.store_core.specs.Migrating.{stays_filled}
-use Rattle.store_core.specs.Written.{AreAlike}
 use Rattle.store_core.proofs.HistoryLemmas.{the_history}
-use Rattle.store_core.proofs.RiseLemmas.{the_requests}
-use Rattle.store_core.proofs.RiseLemmas.{requests_rise}
+use Rattle.store_core.proofs.RiseLemmas.{the_requests, requests_rise}
 
 -- ---- only the stays change
 
@@ -59,8 +56,7 @@ filled_only desk (id ∷ numbers) c =
 all_onto : (rows so_far : List StayRow) → IsPermutation (fold onto so_far rows) (rows ++ so_far)
 all_onto [] so_far = IsPermutation-refl so_far
 all_onto (row ∷ rows) so_far =
-    IsPermutation-trans _ _ _ (all_onto rows (row ∷ so_far))
-    (IsPermutation-middle rows row so_far)
+    IsPermutation-trans _ _ _ (all_onto rows (row ∷ so_far)) (IsPermutation-middle rows row so_far)
 
 all_filled : (desk : Desk) (numbers : List ℕ) (so_far : List StayRow)
     → IsPermutation (filled desk so_far numbers) (flat_map (rows_at desk) numbers ++ so_far)
@@ -69,8 +65,7 @@ all_filled desk (id ∷ numbers) so_far =
     let these = rows_at desk id in
     let others = flat_map (rows_at desk) numbers in
     IsPermutation-trans _ _ _ (all_filled desk numbers (fold onto so_far these))
-    (IsPermutation-trans _ _ _
-    (IsPermutation-append_right others _ _ (all_onto these so_far))
+    (IsPermutation-trans _ _ _ (IsPermutation-append_right others _ _ (all_onto these so_far))
     (rw (← append_assoc others these so_far)
     (IsPermutation-append_left so_far _ _ (IsPermutation-append_comm others these))))
 
@@ -99,10 +94,8 @@ pub all_numbers : (due : RequestRow → Option ℕ) (desk : Desk) (c : Contents)
     → AreParts number_of by_id (requests c) ns → ns ≡ ids desk
 all_numbers due desk c is same ns h =
     let these : requests c ≡ request_rows desk = ap (map row_of) same ∙ rows_dated due desk in
-    let ordered = rw these at h.ordered in
-    h.are
-    ∙ ap (map number_of) (the_requests (request_rows desk) h.values (requests_rise desk is) ordered)
-    ∙ map-map number_of (λ (r : Request). r.row) desk.requests
+    let rows = the_requests _ h.values (requests_rise desk is) (rw these at h.ordered) in
+    h.are ∙ ap (map number_of) rows ∙ map-map number_of (λ r. r.row) desk.requests
 
 pub one_told : (due : RequestRow → Option ℕ) (desk : Desk) (c : Contents) (id : ℕ) → IsDesk desk
     → c.entries ≡ (contents_of due desk).entries → (es : List Entry)

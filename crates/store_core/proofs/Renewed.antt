@@ -1,11 +1,9 @@
 -- The due moments that a change writes are those of the desk after it: the request that it files or
 -- sets has the moment that comes with it, and of all others neither the row, nor the queue, nor a
 -- stay changes.
-use Rattle.std.proofs.Common.{◌≡◌, ◌⊎◌, ◌∙◌, ℕ, ◌+◌, ◌<◌, ◌≤◌, ◌==◌, Bool, true, false, not, inl}
-use Rattle.std.proofs.Common.{is_some, option_and_then, eqb-true, List, [], ◌∷◌, find, length, map}
-use Rattle.std.proofs.Common.{Option, Some, None, inr, refl, ap, ap₂, arith, sym, subst}
-use Rattle.std.specs.Prelude.{⊤}
-use Rattle.std.specs.Str.{bytes_eq}
+use Rattle.std.proofs.Common.{◌≡◌, ◌⊎◌, ◌∙◌, ℕ, ◌==◌, Bool, true, false, not, inl}
+use Rattle.std.proofs.Common.{is_some, option_and_then, eqb-true, List, [], ◌∷◌, find, map}
+use Rattle.std.proofs.Common.{Option, Some, None, inr, refl, ap, ap₂, arith, sym, subst, bytes_eq}
 use Rattle.std.proofs.lemmas.Bool.{false_from_ne_true}
 use Rattle.std.proofs.lemmas.Bool.Decides.{nat_tests}
 use Rattle.std.proofs.lemmas.Slice.Eq.{bytes_eq-Decides}
@@ -25,16 +23,14 @@ use Rattle.desk_model.specs.Due.{due_of}
 use Rattle.desk_model.specs.Facts.{stays_at}
 use Rattle.desk_model.specs.IsDesk.{IsDesk}
 use Rattle.desk_model.specs.Plan.{change_by}
-use Rattle.desk_model.specs.Stays.{stays_of}
 use Rattle.desk_model.specs.Step.{call, facts_of, guard}
 use Rattle.desk_model.specs.declared.change.Change.{Change}
 use Rattle.desk_model.specs.declared.command.Command.{Command}
 use Rattle.desk_model.specs.declared.command.Command.TheVariants.{OpenQueue, Create}
 use Rattle.desk_model.specs.declared.refusal.Refusal.TheVariants.{BadMoment, UnknownCaller}
-use Rattle.desk_model.specs.declared.rows.Entry.{Entry}
 use Rattle.desk_model.specs.declared.rows.QueueRow.{QueueRow}
 use Rattle.desk_model.specs.declared.rows.RequestRow.{RequestRow}
-use Rattle.desk_core.specs.Carried.{HasStays, IsOneOf, KeepsStays, beginning}
+use Rattle.desk_core.specs.Carried.{HasStays, KeepsStays, beginning}
 use Rattle.desk_core.specs.Decision.{change_of}
 use Rattle.desk_core.proofs.Applied.{row_after}
 use Rattle.desk_core.proofs.Begun.{beginning_for, none_more}
@@ -44,8 +40,10 @@ use Rattle.desk_core.proofs.Changed.{requests_after, row_changed}
 use Rattle.desk_core.proofs.DeskLaw.ByKind.{Meets, by_plan, change_fits}
 use Rattle.desk_core.proofs.DeskLaw.Fitting.{FilesNext, Fits, OpensNew}
 use Rattle.desk_core.proofs.DeskLaw.Stages.{queues_after}
-use Rattle.desk_core.proofs.EachRequest.{found_each, numbers_lie}
-use Rattle.desk_core.proofs.Goes.{Sets, row_goes}
+use Rattle.desk_core.proofs.EachRequest.{found_each}
+use Rattle.store_core.proofs.FactsLemmas.{below_next}
+use Rattle.store_core.proofs.Revised.{id_of}
+use Rattle.desk_core.proofs.Goes.{row_goes}
 use Rattle.desk_core.proofs.Identity.{IdentityGoes, identities_go}
 use Rattle.desk_core.proofs.Kept.{ids_kept}
 use Rattle.store_tables.specs.Contents.{contents_of}
@@ -76,12 +74,12 @@ queue_kept (Some queue) desk name new there =
 
 -- a row has another number than one that a change files or sets
 abbrev Apart : Option RequestRow → RequestRow → Type 0
-Apart None row = ⊤
+Apart None row = Unit {0}
 Apart (Some new) row = (row.id == new.id) ≡ false
 
 -- the row that a change sets, where the request has its number, is due when the change says
 abbrev SetsDue : Option RequestRow → Option ℕ → (RequestRow → Option ℕ) → RequestRow → Type 0
-SetsDue None moment after row = ⊤
+SetsDue None moment after row = Unit {0}
 SetsDue (Some new) moment after row = (row.id == new.id) ≡ true → moment ≡ after new
 
 module _ (moment : Option ℕ) (was after : RequestRow → Option ℕ) (row : RequestRow) where
@@ -91,22 +89,15 @@ module _ (moment : Option ℕ) (was after : RequestRow → Option ℕ) (row : Re
       ≡ after (row_after sets row)
   due_row sets filed other set same = grind (arith, nat_tests)
 
-  filed_row : (sets filed : Option RequestRow) → sets ≡ None → filed ≡ Some row
-      → moment ≡ after row
+  filed_row : (sets filed : Option RequestRow) → sets ≡ None → filed ≡ Some row → moment ≡ after row
       → due_with sets moment (due_with filed moment was) (row_after sets row)
       ≡ after (row_after sets row)
   filed_row sets filed none files is = grind (arith, nat_tests)
 
--- no entry on another request than the one whose row is put begins a stay
-elsewhere : (es : List Entry) (filed sets : Option RequestRow) (row : RequestRow)
-    → IsOneOf (either_row filed sets) es → Apart filed row → Apart sets row
-    → entries_for row.id es ≡ []
-elsewhere es filed sets row one other unset = grind arith
-
 -- ---- what a command puts
 
 abbrev IsCreate : Command → Type 0
-IsCreate (Create queue subject status requestors) = ⊤
+IsCreate (Create queue subject status requestors) = Unit {0}
 IsCreate other = ⊥
 
 -- only `create` files, and it sets no row
@@ -125,14 +116,13 @@ files_in : (command : Command) (s : Settings) (at : ℕ) (caller : List ℕ) (de
     → (change_by (call s at caller) (facts_of command desk) (plan_of command)).filed ≡ Some row
     → (facts_of command desk).queue ≡ queue_at desk row.queue
 files_in (Create queue subject status requestors) s at caller desk row is files =
-    let same : queue ≡ row.queue = cc in ap (queue_at desk) same
+    ap (queue_at desk) (cc)
 files_in other s at caller desk row is files = absurd is
 
 map_alike : {X Y : Type 0} (f g : X → Y) (xs : List X) → ((x : X) → Has xs x → f x ≡ g x)
     → map f xs ≡ map g xs
 map_alike f g [] each = refl
-map_alike f g (x ∷ xs) each =
-    ap₂ (λ y ys. y ∷ ys) (each x (inl refl)) (map_alike f g xs (λ y has. each y (inr has)))
+map_alike f g (x ∷ xs) each = rw (each x (inl refl), map_alike f g xs (λ y has. each y (inr has)))
 
 -- ---- the desk after a command
 
@@ -163,19 +153,14 @@ module _ (s : Settings) (at : ℕ) (caller : List ℕ) (command : Command) (desk
         → option_and_then (λ q. due_of s q stays row) (queue_at desk row.queue)
         ≡ due_of_row s after row
     due_stays row stays there same =
-        let queue : queue_at after row.queue ≡ queue_at desk row.queue =
-        rw (queues_after change desk) (queue_kept change.queue desk row.queue fits.opens there) in
-        rw (same, ← queue)
+        rw (same, queues_after change desk, queue_kept change.queue desk row.queue fits.opens there)
 
     -- so is the row that a change puts
     due_put : (row : RequestRow) → either_row change.filed change.row ≡ Some row
         → (facts_of command desk).queue ≡ queue_at desk row.queue
         → is_some (queue_at desk row.queue) ≡ true → change.stays ≡ stays_at after row.id
         → change.due ≡ due_of_row s after row
-    due_put row put queue there stays =
-        ap₂ (λ (q : Option QueueRow) (o : Option RequestRow).
-        option_and_then (λ q. option_and_then (due_of s q change.stays) o) q) queue put
-        ∙ due_stays row change.stays there stays
+    due_put row put queue there stays = rw (← due_stays row change.stays there stays, queue, put)
 
     set_due : (r : Request) → request_at desk r.row.id ≡ Some r
         → is_some (queue_at desk r.row.queue) ≡ true
@@ -183,14 +168,11 @@ module _ (s : Settings) (at : ℕ) (caller : List ℕ) (command : Command) (desk
         → SetsDue sets change.due (due_of_row s after) r.row
     set_due r found there None sets_is = tt
     set_due r found there (Some new) sets_is = λ same.
-        let none : change.filed ≡ None =
-        elim filing [ inl none ↦ none | inr it ↦ (let unset = it.0 in cc) ] in
-        let sets : Sets s at caller command desk r (filed new) =
-        record { free = free; row = sets_is; same = eqb-true r.row.id new.id same } in
+        let none : change.filed ≡ None = grind (arith, filing) in
         let goes = row_goes IdentityGoes s at caller command desk r.row.id r (filed new) found
-        (ids_kept command) (identities_go command) sets in
-        due_put new (ap₂ either_row none sets_is)
-        (goes.1 ∙ ap (queue_at desk) (sym goes.0.queue))
+        (ids_kept command) (identities_go command)
+        (record { free = free; row = sets_is; same = eqb-true r.row.id new.id same }) in
+        due_put new (ap₂ either_row none sets_is) (goes.1 ∙ ap (queue_at desk) (sym goes.0.queue))
         (rw (← goes.0.queue) at there)
         (subst (λ (o : Option RequestRow). HasStays after change.stays o) sets_is keeps.set)
 
@@ -198,22 +180,17 @@ module _ (s : Settings) (at : ℕ) (caller : List ℕ) (command : Command) (desk
     stays_stay : (r : Request) → request_at desk r.row.id ≡ Some r → Apart change.filed r.row
         → Apart change.row r.row → stays_at desk r.row.id ≡ stays_at after r.row.id
     stays_stay r found other unset =
-        rw (found, found_changed change desk r.row.id r found)
-        (sym (ap stays_of (entries_changed change r)
-        ∙ none_more r.entries (entries_for r.row.id change.entries)
-        (beginning_for r.row.id change.entries
-        ∙ elsewhere (beginning change.entries) change.filed change.row r.row keeps.begun other
-        unset)))
+        -- no entry on another request than the one whose row is put begins a stay
+        let none : entries_for r.row.id (beginning change.entries) ≡ [] =
+        grind (arith, keeps.begun, other, unset) in
+        rw (found, found_changed change desk r.row.id r found, entries_changed change r)
+        (sym (none_more r.entries (entries_for r.row.id change.entries)
+        (beginning_for r.row.id change.entries ∙ none)))
 
     abbrev IsRenewed : Request → Type 0
     IsRenewed r =
         dues_after change (due_of_row s desk) (changed change r).row
         ≡ due_of_row s after (changed change r).row
-
-    -- a request that was there isn't the one that is filed
-    not_filed : (r : Request) → r.row.id < 1 + length desk.requests → (o : Option RequestRow)
-        → FilesNext desk o → Apart o r.row
-    not_filed r low o next = grind (arith, nat_tests)
 
     old_renewed : (r : Request) → Has desk.requests r → IsRenewed r
     old_renewed r has =
@@ -221,10 +198,9 @@ module _ (s : Settings) (at : ℕ) (caller : List ℕ) (command : Command) (desk
         let found = all_has (λ r. request_at desk r.row.id ≡ Some r) rs r
         (recursion_from_All _ rs (found_each 1 rs is.requests)) has in
         let there = test_has (λ r. is_some (queue_at desk r.row.queue)) rs r is.filed_in has in
-        let low = all_has (λ r. (1 ≤ r.row.id) × (r.row.id < 1 + length rs)) rs r
-        (recursion_from_All _ rs
-        (numbers_lie 1 (1 + length rs) 1 rs (omega arith) (omega arith) is.requests)) has in
-        let other = not_filed r low.1 change.filed fits.files in
+        let low = below_next id_of 1 rs is.requests r has in
+        -- it isn't the one that is filed
+        let other : Apart change.filed r.row = grind (arith, nat_tests, low, fits.files) in
         rw (row_changed change r)
         (due_row change.due (due_of_row s desk) (due_of_row s after) r.row change.row change.filed
         other (set_due r found there change.row refl)
@@ -259,8 +235,6 @@ module _ (s : Settings) (at : ℕ) (caller : List ℕ) (command : Command) (desk
     renewed =
         ap (λ (ds : List Dated). record (contents_of (due_of_row s after) after) { dated = ds })
         (rw (requests_after change desk) (simp map-map
-        (map_alike (λ r. dated_by (dues_after change (due_of_row s desk)) (changed change r).row)
-        (λ r. dated_by (due_of_row s after) (changed change r).row)
-        (request_filed change.filed desk).requests
+        (map_alike _ (λ r. dated_by (due_of_row s after) (changed change r).row) _
         (λ r has. ap (λ (d : Option ℕ). ((changed change r).row, d))
         (all_renewed change.filed refl r has)))))

@@ -1,18 +1,16 @@
 -- One of a desk's requests is revised: what becomes of lists that are read off the requests.
 use Rattle.std.proofs.Common.{◌≡◌, ℕ, ◌==◌, Bool, true, false, not, ◌&&◌, List, [], ◌∷◌, arith, map}
 use Rattle.std.proofs.Common.{filter, flat_map, refl, IsPermutation, inl, inr, ◌∙◌, ◌+◌, eq-eqb}
-use Rattle.std.proofs.Common.{is_some, ◌<◌, ◌≤◌, append-nil, find, length, Option, None, Some, cond}
-use Rattle.std.proofs.Common.{◌++◌}
+use Rattle.std.proofs.Common.{is_some, ◌<◌, ◌≤◌, append-nil, find, length, Option, None, Some}
+use Rattle.std.proofs.Common.{◌++◌, bytes_eq}
 use Rattle.std.proofs.Math.Bool.{or-false}
 use Rattle.std.proofs.lemmas.Bool.{cases_Bool}
 use Rattle.std.proofs.lemmas.List.Folds.{list_any-append}
-use Rattle.std.proofs.lemmas.List.Sorted.{IsPermutation-refl, IsPermutation-map}
+use Rattle.std.proofs.lemmas.List.Sorted.{IsPermutation-refl, IsPermutation-map, IsPermutation-sym}
 use Rattle.std.proofs.lemmas.List.Sorted.{IsPermutation-middle, IsPermutation-trans}
-use Rattle.std.proofs.lemmas.List.Sorted.{IsPermutation-sym, IsPermutation-append_left}
-use Rattle.std.proofs.lemmas.List.Sorted.{IsPermutation-append_right}
+use Rattle.std.proofs.lemmas.List.Sorted.{IsPermutation-append_left, IsPermutation-append_right}
 use Rattle.std.specs.Cmp.Lexicographic.{same_text, texts_ties}
 use Rattle.std.specs.List.{list_any}
-use Rattle.std.specs.Str.{bytes_eq}
 use Rattle.std.proofs.lemmas.List.Elements.{filter-append}
 use Rattle.std.proofs.lemmas.Bool.Decides.{nat_tests}
 use Rattle.std.proofs.lemmas.Grind.{flat_map-append}
@@ -41,18 +39,15 @@ more_after xs ys zs x h =
 -- one more, in front of others
 pub more_before : {X : Type 0} (xs ys zs : List X) (x : X) → IsPermutation (x ∷ xs) zs
     → IsPermutation (x ∷ (xs ++ ys)) (zs ++ ys)
-more_before xs ys zs x h = IsPermutation-append_left ys _ _ h
+more_before xs ys zs x = IsPermutation-append_left ys _ _
 
 -- one that is put at its place
 pub placed_alike : {X : Type 0} (lower : X → X → Bool) (xs : List X) (x : X)
     → IsPermutation (x ∷ xs) (placed lower xs x)
 placed_alike lower [] x = IsPermutation-refl _
 placed_alike lower (y ∷ ys) x =
-    elim (lower x y) as
-    (λ b. IsPermutation (x ∷ y ∷ ys) (cond b (x ∷ y ∷ ys) (y ∷ placed lower ys x))) [
-      | true ↦ IsPermutation-refl _
-      | false ↦ more_after (y ∷ []) ys (placed lower ys x) x (placed_alike lower ys x)
-    ]
+    let front = IsPermutation-refl (x ∷ y ∷ ys) in
+    grind (arith, front, more_after (y ∷ []) ys (placed lower ys x) x, placed_alike lower ys x)
 
 abbrev pub id_of : Request → ℕ
 id_of r = r.row.id
@@ -61,15 +56,13 @@ id_of r = r.row.id
 pub none_before : (next n : ℕ) (ns : List ℕ) → n < next → are_numbered next ns ≡ true
     → list_any (λ m. m == n) ns ≡ false
 none_before next n [] below numbered = refl
-none_before next n (m ∷ ms) below numbered =
-    grind (arith, nat_tests, none_before (next + 1) n ms)
+none_before next n (m ∷ ms) below numbered = grind (arith, nat_tests, none_before (next + 1) n ms)
 
 -- numbers up to here don't have one that comes later
 pub none_past : (rs : List Request) (next id : ℕ) → are_numbered next (map id_of rs) ≡ true
     → next + length rs ≤ id → list_any (λ n. n == id) (map id_of rs) ≡ false
 none_past [] next id numbered past = refl
-none_past (r ∷ rs) next id numbered past =
-    grind (arith, nat_tests, none_past rs (next + 1) id)
+none_past (r ∷ rs) next id numbered past = grind (arith, nat_tests, none_past rs (next + 1) id)
 
 -- where no request has the number, none is revised
 pub none_revised : (id : ℕ) (f : Request → Request) (rs : List Request)
@@ -192,8 +185,7 @@ pub put_row_alike : (id : ℕ) (role : WatchRole) (person : List ℕ) (r : Reque
     → is_watching person id role (watchers_of r) ≡ false
     → IsPermutation (watcher id role person ∷ watchers_of r)
     (watchers_of (in_role role (λ names. with_name names person) r))
-put_row_alike id role person r here none =
-    rw (← here) (put_row role person r (rw (← here) at none))
+put_row_alike id role person r here none = rw (← here) (put_row role person r (rw (← here) at none))
 
 -- the row stays where that person is taken out of that role on that request
 abbrev pub stays : ℕ → WatchRole → List ℕ → Watcher → Bool

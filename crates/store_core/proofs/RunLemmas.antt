@@ -6,20 +6,19 @@ use Rattle.sqlite.specs.Effect.{Database}
 use Rattle.sqlite.specs.Order.{Row}
 use Rattle.sqlite.specs.State.{State}
 use Rattle.sqlite_rules.specs.Lists.{Has}
-use Rattle.store_tables.specs.Calls.{Does, FailsIn, HasBadRow, Looks}
-use Rattle.store_tables.specs.Contents.{Contents}
+use Rattle.store_tables.specs.Calls.{Does, FailsIn, Looks}
+use Rattle.store_tables.specs.Contents.{Contents, HasBadRow, Tables}
 use Rattle.store_tables.specs.Picked.{shows}
 use Rattle.store_tables.specs.Queries.{version_shown}
 use Rattle.store_tables.specs.Reading.{IsNumberRow}
-use Rattle.store_tables.specs.Stands.{GoesOn, HasTables, HoldsNow, KeepsBase, OnlyStaysChange}
-use Rattle.store_tables.specs.Stands.{Tables}
+use Rattle.store_tables.specs.Stands.{HoldsNow, OnlyStaysChange}
 use Rattle.store_tables.specs.Tables.{first_schema}
 use Rattle.store_tables.specs.declared.fault.StoreFault.{StoreFault}
 use Rattle.store_tables.proofs.Lasting.{on, same}
 use Rattle.store_tables.proofs.RowLemmas.{TableOf, refuses}
 use Rattle.store_tables.proofs.ValueLemmas.{values_of}
 use Rattle.store_tables.proofs.ReadingLemmas.{if_err}
-use Rattle.store_tables.proofs.StepLemmas.{beside_on, beside_there, kept_on, looks_beside}
+use Rattle.store_tables.proofs.StepLemmas.{beside_on, beside_there, kept_on}
 use Rattle.store_core.specs.Migrating.{BlamesSource, HasBadSource, RefusesOn, RunsOn}
 
 pub and_then : {X E P Q : Type 0} (r : Result X E) → (P → Q) → OnOk r P → OnOk r Q
@@ -41,13 +40,12 @@ does_on {change = change} {a = a} {b = b} {r = r} does =
     assumption
 
 -- one after the other
-runs_over : {X Y : Type 0} {x : X} {a b c : State} {r : Result Y StoreFault} → RunsOn a b (Ok x)
-    → RunsOn b c r → (HasTables a → KeepsBase b c)
-    → (HasTables a → GoesOn b → OnOk r (GoesOn c)) → RunsOn a c r
-runs_over {a = a} {b = b} {c = c} one two keeps goes_on = record {
+pub runs_then : {X Y : Type 0} {x : X} {a b c : State} {r : Result Y StoreFault} → RunsOn a b (Ok x)
+    → RunsOn b c r → RunsOn a c r
+runs_then {a = a} {b = b} {c = c} one two = record {
   holds = λ d h. let it = one.holds d h in two.holds it.0 it.1;
-  keeps = λ has. kept_on a b c (one.keeps has) (keeps has);
-  goes_on = λ has goes. goes_on has (one.goes_on has goes);
+  keeps = kept_on a b c one.keeps two.keeps;
+  goes_on = λ goes. two.goes_on (one.goes_on goes);
   clean = λ d. one.clean (two.clean d);
   lasts = on two.clean one.lasts two.lasts;
 }
@@ -61,11 +59,6 @@ source_before old new same (inr bad) = inr (rw same.1.1.1.1.1.0 at bad)
 module _ {X Y : Type 0} {x : X} {a b c : State} {r : Result Y StoreFault}
     (one : RunsOn a b (Ok x)) (beside : OnlyStaysChange a b) (two : RunsOn b c r)
   where
-    pub runs_then : RunsOn a c r
-    runs_then =
-        let there = beside_there a b beside in
-        runs_over one two (λ has. two.keeps (there has)) (λ has. two.goes_on (there has))
-
     pub beside_then : OnlyStaysChange b c → OnlyStaysChange a c
     beside_then = beside_on a b c beside two.clean
 
@@ -81,12 +74,12 @@ module _ {X Y : Type 0} {x : X} {a b c : State} {r : Result Y StoreFault}
 
 pub looks_then : {X Y : Type 0} {x : X} {a b c : State} {r : Result Y StoreFault}
     → Looks a b (Ok x) → RunsOn b c r → RunsOn a c r
-looks_then looks = runs_then (looks_on looks) (looks_beside looks)
+looks_then looks = runs_then (looks_on looks)
 
 -- a change that comes last
 pub runs_does : {X Y : Type 0} {x : X} {change : Contents → Contents} {a b c : State}
     {r : Result Y StoreFault} → RunsOn a b (Ok x) → Does change b c r → RunsOn a c r
-runs_does one does = runs_over one (does_on does) (λ has. does.keeps) (λ has. does.goes_on)
+runs_does one does = runs_then one (does_on does)
 
 -- ---- what a mismatch is blamed on
 

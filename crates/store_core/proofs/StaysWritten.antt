@@ -1,8 +1,7 @@
 -- The stays that a change writes are those of the desk after it.
-use Rattle.std.proofs.Common.{◌⊎◌, inl, inr, ◌≡◌, ◌∙◌, ℕ, ◌+◌, ◌<◌, ◌==◌, false, List, [], ◌∷◌}
-use Rattle.std.proofs.Common.{◌++◌, map, is_some, option_map, eq-eqb, length-append, flat_map}
-use Rattle.std.proofs.Common.{length, refl, arith, IsPermutation, true, find, fold, Option, Some}
-use Rattle.std.proofs.Common.{None, ap, sym, slice_get}
+use Rattle.std.proofs.Common.{◌≡◌, ◌∙◌, ℕ, ◌+◌, ◌<◌, ◌==◌, false, List, [], ◌∷◌, ◌++◌, map, is_some}
+use Rattle.std.proofs.Common.{eq-eqb, length-append, flat_map, length, refl, arith, ap}
+use Rattle.std.proofs.Common.{IsPermutation, true, fold, Option, Some, None, sym, slice_get}
 use Rattle.std.proofs.lemmas.Bool.Decides.{nat_tests}
 use Rattle.std.proofs.lemmas.List.Sorted.{IsPermutation-sym, IsPermutation-to_front}
 use Rattle.std.proofs.lemmas.List.Sorted.{IsPermutation-refl}
@@ -20,10 +19,8 @@ use Rattle.desk_model.specs.Facts.{stays_at}
 use Rattle.desk_model.specs.IsDesk.{are_numbered, ids}
 use Rattle.desk_model.specs.declared.change.Change.{Change}
 use Rattle.desk_model.specs.declared.rows.Entry.{Entry}
-use Rattle.desk_model.specs.declared.rows.RequestRow.{RequestRow}
-use Rattle.desk_core.specs.Carried.{HasStays, IsOneOf, KeepsStays, beginning}
-use Rattle.desk_core.proofs.Changed.{changed, entries_changed, entries_for, id_changed}
-use Rattle.desk_core.proofs.Changed.{requests_after}
+use Rattle.desk_core.specs.Carried.{IsOneOf, KeepsStays, beginning}
+use Rattle.desk_core.proofs.Changed.{entries_changed, entries_for, id_changed, requests_after}
 use Rattle.desk_core.proofs.EachRequest.{found_each}
 use Rattle.desk_core.proofs.Goes.{number_found}
 use Rattle.store_tables.specs.Stays.{StayRow, stay_row, stay_rows, stay_rows_from, with_end, stays}
@@ -40,25 +37,12 @@ rows_of r = stay_rows r.row.id (stays_of r.entries)
 -- ---- one stay gets its end
 
 -- no stay of another request, and none that comes later
-others_kept : (id number until other n : ℕ) (ss : List Stay)
-    → ((other == id) ≡ false) ⊎ (number < n)
+others_kept : (id number until other n : ℕ) (ss : List Stay) → ((other == id) ≡ true → number < n)
     → map (with_end id number until) (stay_rows_from other n ss) ≡ stay_rows_from other n ss
-others_kept id number until other n [] apart = refl
-others_kept id number until other n (s ∷ ss) (inl apart) =
-    grind (arith, others_kept id number until other (n + 1) ss (inl apart))
-others_kept id number until other n (s ∷ ss) (inr low) =
-    grind (
-      arith,
-      nat_tests,
-      others_kept id number until other (n + 1) ss (inr (omega (arith, low))),
-    )
-
-pub none_ended : (id until : ℕ) (rs : List Request)
-    → map (with_end id 0 until) (flat_map rows_of rs) ≡ flat_map rows_of rs
-none_ended id until rs =
-    map-flat_map (with_end id 0 until) rows_of rs
-    ∙ λ t. flat_map (λ r. others_kept id 0 until r.row.id 1 (stays_of r.entries)
-    (inr (omega arith)) t) rs
+others_kept id number until other n [] low = refl
+others_kept id number until other n (s ∷ ss) low =
+    let later = others_kept id number until other (n + 1) ss (λ is. omega (arith, low is)) in
+    grind (arith, nat_tests, low, later)
 
 -- of the request itself the last one
 last_ended : (id number until n : ℕ) (ss : List Stay) → number + 1 ≡ n + length ss
@@ -81,16 +65,6 @@ closed_length [] until = refl
 closed_length (s ∷ []) until = refl
 closed_length (s ∷ t ∷ ss) until = omega (arith, closed_length (t ∷ ss) until)
 
--- it is one more row, and the one before it ends
-pub grown_rows : (id until : ℕ) (ss : List Stay) (s : Stay)
-    → IsPermutation (stay_row id (1 + length ss) s
-    ∷ map (with_end id (length ss) until) (stay_rows id ss))
-    (stay_rows id (closed ss until ++ s ∷ []))
-grown_rows id until ss s =
-    rw (last_ended id (length ss) until 1 ss (omega arith))
-    (rw (one_more_row id 1 (closed ss until) s, closed_length ss until)
-    (IsPermutation-sym _ _ (IsPermutation-to_front (stay_rows id (closed ss until)) _)))
-
 -- ---- the rows of a change leave the stays
 
 by_each : {X : Type 0} (step : Contents → X → Contents)
@@ -101,12 +75,9 @@ by_each step leaves (x ∷ xs) c = by_each step leaves xs (step c x) ∙ leaves 
 
 pub stays_left : (change : Change) (c : Contents) → (rows_written change c).stays ≡ c.stays
 stays_left change c =
-    grind (
-      arith,
-      by_each add_entry (λ c e. refl),
-      by_each drop_watcher (λ c w. refl),
-      by_each add_watcher (λ c w. refl),
-    )
+    let noted = by_each add_entry (λ c e. refl) in
+    let taken = by_each drop_watcher (λ c w. refl) in
+    grind (arith, noted, taken, by_each add_watcher (λ c w. refl))
 
 -- ---- on which request a stay begins
 
@@ -117,12 +88,6 @@ first_on (e ∷ es) = Some e.id
 begun_first : (es : List Entry) → begun_on es ≡ first_on (beginning es)
 begun_first [] = refl
 begun_first (e ∷ es) = grind (arith, begun_first es)
-
--- it is the one whose row is put, and it has these stays afterwards
-its_stays : (after : Desk) (ss : List Stay) (id : ℕ) (filed set : Option RequestRow)
-    → HasStays after ss filed → HasStays after ss set
-    → option_map (λ r. r.id) (either_row filed set) ≡ Some id → ss ≡ stays_at after id
-its_stays after ss id filed set one two begun = grind arith
 
 -- ---- the stays of each request after a change
 
@@ -138,22 +103,16 @@ rows_later change r = stay_rows r.row.id (stays_later change r)
 all_later : (change : Change) (desk : Desk)
     → stays (applied change desk) ≡ flat_map (rows_later change) (wider change desk).requests
 all_later change desk =
-    ap (flat_map rows_of) (requests_after change desk)
-    ∙ flat_map-map rows_of (changed change) (wider change desk).requests
-    ∙ λ t. flat_map (λ r. stay_rows (id_changed change r t) (stays_of (entries_changed change r t)))
-    (wider change desk).requests
+    rw (requests_after change desk, flat_map-map)
+    (simp (id_changed change, entries_changed change))
 
 -- its stays are those of the desk there
 there_later : (change : Change) (desk : Desk) (id : ℕ) (r : Request)
     → request_at (wider change desk) id ≡ Some r
     → stays_at (applied change desk) id ≡ stays_later change r
 there_later change desk id r there =
-    let found : request_at (applied change desk) id ≡ Some (changed change r) =
-    rw (requests_after change desk, find-map)
-    ((λ t. option_map (changed change)
-    (find (λ x. id_changed change x t == id) (wider change desk).requests))
-    ∙ ap (option_map (changed change)) there) in
-    rw found (ap stays_of (entries_changed change r))
+    rw (requests_after change desk) (simp (find-map, id_changed change, there)
+    (ap stays_of (entries_changed change r)))
 
 -- where no entry begins a stay, all are as before
 same_later : (change : Change) (r : Request) → entries_for r.row.id (beginning change.entries) ≡ []
@@ -176,7 +135,10 @@ put_grown id ss s c = grind (arith, length-append ss (s ∷ []), last_added ss s
 
 ended_rows : (id n until : ℕ) (c : Contents) (rs : List Request) → c.stays ≡ flat_map rows_of rs
     → (stay_ended id n until c).stays ≡ map (with_end id n until) (flat_map rows_of rs)
-ended_rows id n until c rs same = grind (arith, nat_tests, none_ended id until rs)
+ended_rows id n until c rs same =
+    let none = map-flat_map (with_end id 0 until) rows_of rs ∙ flat_map_same_on _ rows_of
+    (λ r. others_kept id 0 until r.row.id 1 (stays_of r.entries) (λ is. omega arith)) rs in
+    grind (arith, nat_tests, none)
 
 -- ---- one entry begins a stay
 
@@ -189,32 +151,34 @@ module _ (change : Change) (desk : Desk) (e : Entry) (is : beginning change.entr
         one_more r.entries (entries_for r.row.id change.entries) e
         (beginning_for r.row.id change.entries ∙ rw (is, eq-eqb r.row.id e.id own))
 
+    -- it is one more row, and the one before it ends
     own_grown : (r : Request) → r.row.id ≡ e.id
         → IsPermutation (stay_row e.id (1 + length (stays_of r.entries)) (open_stay e)
         ∷ map (with_end e.id (length (stays_of r.entries)) e.moment) (rows_of r))
         (rows_later change r)
     own_grown r own =
-        rw (← own) (rw (own_later r own)
-        (grown_rows r.row.id e.moment (stays_of r.entries) (open_stay e)))
+        let old = stays_of r.entries in
+        let ended = last_ended r.row.id (length old) e.moment 1 old (omega arith) in
+        let last = one_more_row r.row.id 1 (closed old e.moment) (open_stay e) in
+        rw (← own) (rw (own_later r own, ended, last, closed_length old e.moment)
+        (IsPermutation-sym _ _ (IsPermutation-to_front _ _)))
 
     others_later : (n : ℕ) (r : Request) → (r.row.id == e.id) ≡ false
         → map (with_end e.id n e.moment) (rows_of r) ≡ rows_later change r
     others_later n r other =
-        others_kept e.id n e.moment r.row.id 1 (stays_of r.entries) (inl other)
+        others_kept e.id n e.moment r.row.id 1 (stays_of r.entries) (λ own. grind arith)
         ∙ sym (same_later change r (rw (is, other)))
 
     begun_rows : (r : Request) (c : Contents) → request_at (wider change desk) e.id ≡ Some r
-        → are_numbered 1 (ids (wider change desk)) ≡ true
-        → c.stays ≡ stays desk → change.stays ≡ stays_at (applied change desk) e.id
+        → are_numbered 1 (ids (wider change desk)) ≡ true → c.stays ≡ stays desk
+        → change.stays ≡ stays_at (applied change desk) e.id
         → IsPermutation (stay_begun (Some e.id) change.stays c).stays (stays (applied change desk))
     begun_rows r c there numbered same carried =
         let rs = (wider change desk).requests in
         let own : r.row.id ≡ e.id = number_found (wider change desk) e.id r there in
         let old = stays_of r.entries in
-        let all : change.stays ≡ closed old e.moment ++ open_stay e ∷ [] =
-        carried ∙ there_later change desk e.id r there ∙ own_later r own in
-        let so_far : c.stays ≡ flat_map rows_of rs =
-        same ∙ sym (none_filed rows_of (λ row. refl) change.filed desk) in
+        let all = carried ∙ there_later change desk e.id r there ∙ own_later r own in
+        let so_far = same ∙ sym (none_filed rows_of (λ row. refl) change.filed desk) in
         let end = with_end e.id (length old) e.moment in
         rw (all, put_grown e.id (closed old e.moment) (open_stay e) c, closed_length old e.moment)
         (rw (ended_rows e.id (length old) e.moment c rs so_far, all_later change desk)
@@ -226,9 +190,8 @@ module _ (change : Change) (desk : Desk) (e : Entry) (is : beginning change.entr
       where
         one : (x : Request) → Has (wider change desk).requests x → x.row.id ≡ e.id → r ≡ x
         one x has here =
-            let rs = (wider change desk).requests in
-            let found = all_has (λ r. request_at (wider change desk) r.row.id ≡ Some r) rs x
-            (recursion_from_All _ rs (found_each 1 rs numbered)) has in
+            let found = all_has (λ r. request_at (wider change desk) r.row.id ≡ Some r) _ x
+            (recursion_from_All _ _ (found_each 1 (wider change desk).requests numbered)) has in
             let both = sym there ∙ ap (request_at (wider change desk)) (sym here) ∙ found in cc
 
 -- ---- the whole change
@@ -247,24 +210,18 @@ module _ (change : Change) (desk : Desk) (c : Contents) (keeps : KeepsStays desk
         → IsPermutation (stay_begun (first_on es) change.stays c).stays
         (stays (applied change desk))
     by_beginning [] is one =
-        let none = λ (r : Request). same_later change r (ap (entries_for r.row.id) is) in
-        rw (
-          same,
-          all_later change desk,
-          flat_map_same_on (rows_later change) rows_of none
-              (wider change desk).requests,
-          none_filed rows_of (λ row. refl) change.filed desk,
-        )
+        let none = flat_map_same_on (rows_later change) rows_of
+        (λ r. same_later change r (ap (entries_for r.row.id) is)) (wider change desk).requests in
+        rw (same, all_later change desk, none, none_filed rows_of (λ row. refl) change.filed desk)
         (IsPermutation-refl _)
     by_beginning (e ∷ []) is one =
         let it = some_of (request_at (wider change desk) e.id) (there e is) in
+        -- it is the one whose row is put, and it has these stays afterwards
         begun_rows change desk e is it.0 c it.1 numbered same
-        (its_stays (applied change desk) change.stays e.id change.filed change.row keeps.filed
-        keeps.set one)
+        (grind (arith, keeps.filed, keeps.set, one))
     by_beginning (e ∷ f ∷ es) is one = absurd one
 
     pub stays_alike : IsPermutation (stay_begun (begun_on change.entries) change.stays c).stays
         (stays (applied change desk))
     stays_alike =
-        rw (begun_first change.entries)
-        (by_beginning (beginning change.entries) refl keeps.begun)
+        rw (begun_first change.entries) (by_beginning (beginning change.entries) refl keeps.begun)

@@ -1,18 +1,16 @@
 -- The change of a command that isn't refused can be written.
-use Rattle.std.proofs.Common.{◌≡◌, ◌∙◌, ℕ, ◌==◌, true, false, List, [], ◌∷◌, ◌++◌, map, eq-eqb}
-use Rattle.std.proofs.Common.{is_eq, Less, flat_map, refl, ap, sym, Some, append-nil}
-use Rattle.std.proofs.lemmas.Bool.{and_parts, or_from, or_parts}
+use Rattle.std.proofs.Common.{◌≡◌, ◌∙◌, ℕ, ◌==◌, true, false, List, [], ◌∷◌, ◌++◌, map, eq-eqb, ap}
+use Rattle.std.proofs.Common.{arith, is_eq, flat_map, refl, sym, Some, append-nil, bytes_eq}
+use Rattle.std.proofs.lemmas.Bool.{and_parts, or_from}
 use Rattle.std.proofs.lemmas.Grind.{flat_map-append}
 use Rattle.std.proofs.lemmas.List.{map-append}
 use Rattle.std.proofs.lemmas.List.Folds.{list_any-append}
 use Rattle.std.proofs.lemmas.Map.Views.{any-filter_same}
 use Rattle.std.specs.Cmp.Lexicographic.{texts_ties}
 use Rattle.std.specs.List.{AllByRecursion, list_any}
-use Rattle.std.specs.Str.{bytes_eq}
 use Rattle.sqlite_trees.specs.Tree.{IsAscending}
 use Rattle.sqlite_trees.proofs.ListLemmas.{all_both, all_of, ascending_weaker}
 use Rattle.text_core.specs.Texts.{is_among}
-use Rattle.desk_model.specs.declared.rows.Watcher.{Watcher}
 use Rattle.desk_model.specs.declared.rows.WatchRole.{WatchRole}
 use Rattle.desk_model.specs.declared.rows.WatchRole.TheVariants.{Requestor, Cc, AdminCc}
 use Rattle.desk_core.proofs.NamesLaw.{among_named}
@@ -23,7 +21,7 @@ use Rattle.desk_model.specs.Commands.Create.{requestor}
 use Rattle.desk_model.specs.Desk.{Desk, Request, request_at}
 use Rattle.desk_model.specs.Facts.{seen_request}
 use Rattle.desk_model.specs.IsDesk.{IsDesk}
-use Rattle.desk_model.specs.Names.{names_rise, text_order, with_name}
+use Rattle.desk_model.specs.Names.{names_rise, with_name}
 use Rattle.desk_model.specs.Watchers.{is_watching, watchers_of}
 use Rattle.store_tables.specs.Contents.{watchers}
 use Rattle.store_tables.specs.Selection.{watches}
@@ -40,17 +38,14 @@ nobody_at_all : (id : ℕ) (role : WatchRole) (person : List ℕ) (rs : List Req
     → is_watching person id role (flat_map watchers_of rs) ≡ false
 nobody_at_all id role person [] none = refl
 nobody_at_all id role person (r ∷ rs) none =
-    let parts = or_parts (r.row.id == id) (list_any (λ n. n == id) (map id_of rs)) none in
-    simp (list_any-append, any_in_role, parts.0, nobody_at_all id role person rs parts.1)
+    grind (arith, list_any-append, any_in_role, nobody_at_all id role person rs)
 
 -- who has no role on the one request of the number has none among all
 pub nobody : (desk : Desk) → IsDesk desk → (id : ℕ) (role : WatchRole) (person : List ℕ)
-    (r : Request)
-    → request_at desk id ≡ Some r → is_watching person id role (watchers_of r) ≡ false
+    (r : Request) → request_at desk id ≡ Some r → is_watching person id role (watchers_of r) ≡ false
     → is_watching person id role (watchers desk) ≡ false
 nobody desk is id role person r there none =
-    let own = part_is watchers_of (λ (w : Watcher). w.id) desk is
-    (all_of _ their_own desk.requests) id in
+    let own = part_is watchers_of (λ w. w.id) desk is (all_of _ their_own _) id in
     -- only rows of the request count
     sym (any-filter_same (is_row_of id role person) (watches id) true
     (λ w is. (and_parts (w.id == id) _ is).0) (watchers desk)) ∙ rw (own, there) none
@@ -69,8 +64,7 @@ watching_is AdminCc person r = ap (λ roles. roles.admin_cc) (roles_kept person 
 pub rising_apart : (names : List (List ℕ)) → names_rise names ≡ true
     → IsAscending (λ a b. bytes_eq a b ≡ false) names
 rising_apart names rises =
-    ascending_weaker (λ a b. text_order a b ≡ Less) (λ a b. bytes_eq a b ≡ false)
-    (λ a b low. texts_ties a b ∙ ap is_eq low) names (names_ascend names rises)
+    ascending_weaker _ _ (λ a b low. texts_ties a b ∙ ap is_eq low) _ (names_ascend names rises)
 
 -- a request is at the end of a desk's, and no other one has its number
 pub record IsLast (desk : Desk) (others : List Request) (last : Request) : Type 0 where
@@ -97,22 +91,17 @@ module _ (desk : Desk) (others : List Request) (last : Request) (h : IsLast desk
   last_put : (person : List ℕ)
       → IsLast (person_put desk (requestor last.row.id person)) others (with_requestor last person)
   last_put person =
-      let is : (person_put desk (requestor last.row.id person)).requests
-      ≡ others ++ with_requestor last person ∷ [] =
-      rw (h.is, map-append, none_revised last.row.id _ others h.alone, eq-eqb last.row.id _ refl) in
-      let alone = h.alone in assumption
+      let none = h.alone in
+      record { is = rw (h.is, map-append, none_revised, eq-eqb last.row.id _ refl); alone = none }
 
 pub requestors_anew : (names : List (List ℕ)) (desk : Desk) (others : List Request) (last : Request)
     → IsLast desk others last → AllByRecursion (λ n. is_among last.requestors n ≡ false) names
     → IsAscending (λ a b. bytes_eq a b ≡ false) names
     → PutsAnew desk (map (requestor last.row.id) names)
 requestors_anew [] desk others last h new apart = tt
-requestors_anew (n ∷ ns) desk others last h new apart = (
-  last_there desk others last h,
-  last_watches desk others last h Requestor n (watching_is Requestor n last ∙ new.0),
-  requestors_anew ns (person_put desk (requestor last.row.id n)) others (with_requestor last n)
-      (last_put desk others last h n)
-      (all_both (λ m. bytes_eq n m ≡ false) (λ m. is_among last.requestors m ≡ false) _
-      (λ m differs new. among_named last.requestors n m ∙ or_from _ _ differs new) ns apart.0 new.1)
-      apart.1,
-)
+requestors_anew (n ∷ ns) desk others last h new apart =
+    let here = last_watches desk others last h Requestor n (watching_is Requestor n last ∙ new.0) in
+    let later = requestors_anew ns _ others _ (last_put desk others last h n) (all_both _ _ _
+    (λ m differs new. among_named last.requestors n m ∙ or_from _ _ differs new) ns apart.0 new.1)
+    apart.1 in
+    (last_there desk others last h, here, later)

@@ -22,8 +22,6 @@ use Rattle.desk_model.specs.Commands.Create.{given_or_caller}
 use Rattle.desk_model.specs.Condition.{Condition}
 use Rattle.desk_model.specs.Desk.{Desk, Request, request_at}
 use Rattle.desk_model.specs.IsDesk.{IsDesk}
-use Rattle.desk_model.specs.Names.{in_order}
-use Rattle.desk_model.specs.Plan.{change_by}
 use Rattle.desk_model.specs.Step.{call, facts_of, guard}
 use Rattle.store_core.proofs.Revised.{none_past}
 use Rattle.store_core.proofs.Writable.{IsLast, last_there, nobody, requestors_anew, rising_apart}
@@ -54,15 +52,11 @@ puts : (desk : Desk) → IsDesk desk → (command : Command)
     → Meets (λ d change. PutsAnew (with_rows change d) change.put) desk (plan_of command)
 puts desk is (OpenQueue name lifecycle level) = λ call none. tt
 puts desk is (Create queue subject status requestors) = λ call none.
-    let names = in_order (given_or_caller call.caller requestors) in
-    requestors_anew names _ desk.requests _ (filed_last desk _ is refl)
-    (all_of _ (λ n. refl) names)
-    (rising_apart names (names_in_order_rise (given_or_caller call.caller requestors)))
-puts desk is (Watch id role person) = λ call r there same none. (
-  found_there desk id r there same,
-  nobody desk is r.row.id role person r (rw same at there) (watching_is role person r ∙ none.1.1.0),
-  tt,
-)
+    requestors_anew _ _ desk.requests _ (filed_last desk _ is refl) (all_of _ (λ n. refl) _)
+    (rising_apart _ (names_in_order_rise (given_or_caller call.caller requestors)))
+puts desk is (Watch id role person) = λ call r there same none.
+    let new = nobody desk is r.row.id role person r (rw same at there)
+    (watching_is role person r ∙ none.1.1.0) in (found_there desk id r there same, new, tt)
 puts desk is other = λ call r there same none. tt
 
 -- all entries are of a request that is there
@@ -77,8 +71,7 @@ notes desk is other = λ call r there same none.
 
 files_next : (desk : Desk) (row : Option RequestRow) → fitting.FilesNext desk row
     → FilesNext desk row
-files_next desk None next = tt
-files_next desk (Some row) next = next.0
+files_next desk row next = grind arith
 
 -- the change of a command that isn't refused can be written
 pub change_writable : (s : Settings) (at : ℕ) (caller : List ℕ) (command : Command) (desk : Desk)
@@ -89,8 +82,7 @@ change_writable s at caller command desk is free =
     let plan = plan_of command in
     let front : List Condition =
     (UnknownCaller, not (knows s caller)) ∷ (BadMoment, not (is_moment at)) ∷ [] in
-    let change = change_by asks (facts_of command desk) plan in
-    let files = files_next desk change.filed (change_fits s at caller command desk is free).files in
+    let files = files_next desk _ (change_fits s at caller command desk is free).files in
     let set = by_plan (λ d c. SetsThere (with_filed c d) c.row) asks plan front desk tt
     (sets desk command) free in
     let put = by_plan (λ d c. PutsAnew (with_rows c d) c.put) asks plan front desk tt

@@ -1,6 +1,6 @@
 -- What making the tables does to those of version 1, and to those of any version.
-use Rattle.std.specs.Prelude.{◌≡◌, ◌≢◌, ◌⊎◌, ℕ, [], IfErr, IfOk, IsTrue, List, OnErr, OnOk, Option}
-use Rattle.std.specs.Prelude.{Result, fold, true}
+use Rattle.std.specs.Prelude.{◌≡◌, ◌≢◌, ◌⊎◌, ◌≤◌, ℕ, [], IfErr, IfOk, IsTrue, List, OnErr, OnOk}
+use Rattle.std.specs.Prelude.{Option, Result, fold, true}
 use Rattle.sqlite.specs.Change.{KeepsRows}
 use Rattle.sqlite.specs.Effect.{Database}
 use Rattle.sqlite.specs.State.{State, HasCleanDisk}
@@ -8,59 +8,51 @@ use Rattle.desk_model.specs.Desk.{Desk}
 use Rattle.desk_model.specs.Facts.{stays_at}
 use Rattle.desk_model.specs.IsDesk.{IsDesk}
 use Rattle.desk_model.specs.declared.rows.RequestRow.{RequestRow}
-use Rattle.store_tables.specs.Calls.{HasBadRow, Lasts, WasClean}
+use Rattle.store_tables.specs.Calls.{Lasts, WasClean}
 use Rattle.store_tables.specs.Contents.{Contents, add_stay, contents_of, first_contents_of}
-use Rattle.store_tables.specs.Making.{IsKnown, IsOfMeta}
+use Rattle.store_tables.specs.Contents.{HasBadRow, Tables, desk_schema, front, table_count}
+use Rattle.store_tables.specs.Making.{IsKnown, IsOfMeta, numbered}
 use Rattle.store_tables.specs.Queries.{entry_shown_terms, last_id_terms, version_shown}
 use Rattle.store_tables.specs.Reading.{IsEntryRow, IsNumberRow}
-use Rattle.store_tables.specs.Stands.{FirstStand, GoesOn, HasEither, HasTables, HoldsNow}
-use Rattle.store_tables.specs.Stands.{KeepsBase, Stand, Tables, with_no_stays}
+use Rattle.store_tables.specs.Stands.{FirstStand, GoesOn, HasFront, HasTables, HoldsNow, KeepsBase}
+use Rattle.store_tables.specs.Stands.{Stand, filled}
 use Rattle.store_tables.specs.Stays.{stay_rows}
-use Rattle.store_tables.specs.Tables.{desk_schema, first_schema}
 use Rattle.store_tables.specs.declared.fault.StoreFault.{StoreFault}
 use Rattle.store_tables.specs.declared.fault.StoreFault.TheVariants.{Mismatch, Refused}
 use Rattle.store_tables.specs.declared.fault.StoreFault.TheVariants.{WrongVersion}
 
--- ---- tables with or without that of stays
+-- ---- tables of which some may lack
 
--- six tables without that of stays, of whatever version, hold this
-pub record SixTables (c : Contents) (db : Database) : Type 0 where
-  pub schema : db.schema ≡ first_schema
-  pub tables : Tables c (with_no_stays db)
+-- the first n tables are there, and with no row in those that lack they hold this
+abbrev pub PartTables : Contents → Database → Type 0
+PartTables c db = (n : ℕ) × (n ≤ table_count) × (db.schema ≡ front n) × Tables c (filled n db)
 
--- the six or the seven tables hold this
-abbrev pub EitherTables : Contents → Database → Type 0
-EitherTables c db = Tables c db ⊎ SixTables c db
+-- where the store is open and its disk is clean, they do
+abbrev pub HoldsPart : Contents → State → Type 0
+HoldsPart c s = HasCleanDisk s → IsTrue s.is_open → PartTables c s.now
 
--- where the store is open and its disk is clean, they hold this, and so do those of the last commit
-abbrev pub EitherStand : Contents → State → Type 0
-EitherStand c s =
-    HasCleanDisk s → IsTrue s.is_open → EitherTables c s.now × EitherTables c s.committed
+-- they hold this but for the version, of which there is no row
+abbrev pub UnnumberedTables : Contents → Database → Type 0
+UnnumberedTables c db =
+    (n : ℕ) × (n ≤ table_count) × (db.schema ≡ front n) × ((filled n db).trees 0 ≡ [])
+    × Tables c (numbered (filled n db))
 
--- they do in a transaction, whatever the last commit left
-abbrev pub EitherHolds : Contents → State → Type 0
-EitherHolds c s =
-    HasCleanDisk s → IsTrue s.is_open → EitherTables c s.now × (s.in_transaction ≡ true)
+abbrev pub HoldsUnnumbered : Contents → State → Type 0
+HoldsUnnumbered c s = HasCleanDisk s → IsTrue s.is_open → UnnumberedTables c s.now
 
 -- ---- while they are made
 
--- tables that are there stay as they are, and the transaction goes on
-abbrev pub Unmoved : State → State → Type 0
-Unmoved old new =
-    HasEither old → HasCleanDisk new
-    → IsTrue old.is_open × (new.now ≡ old.now) × (new.in_transaction ≡ true)
+-- all seven are there: the first n have their rows still, and the others none
+abbrev pub IsGrown : ℕ → Database → Database → Type 0
+IsGrown n old new =
+    (new.schema ≡ desk_schema) × KeepsRows desk_schema.tables (filled n old).trees new.trees
 
--- seven tables stay as they are, and beside six there is one of stays, with no row
-abbrev pub IsGrown : Database → Database → Type 0
-IsGrown old new =
-    ((old.schema ≡ desk_schema) × (new ≡ old))
-    ⊎ ((old.schema ≡ first_schema) × (new.schema ≡ desk_schema)
-    × KeepsRows first_schema.tables old.trees new.trees × (new.trees 10 ≡ []))
-
+-- so they are where the first n were there, in a transaction that goes on
 abbrev pub Grows : State → State → Type 0
 Grows old new =
-    HasEither old → HasCleanDisk new
-    → IsTrue old.is_open × IsGrown old.now new.now × (new.in_transaction ≡ true)
+    HasCleanDisk new
+    → IsTrue old.is_open × (new.in_transaction ≡ true)
+    × ((n : ℕ) → n ≤ table_count → old.now.schema ≡ front n → IsGrown n old.now new.now)
 
 -- ---- while stays are filled in
 
@@ -83,12 +75,12 @@ BringsUp old new result =
     → HoldsNow (first_contents_of due desk) old
     → OnOk result (HoldsNow (contents_of due desk) new)
 
--- whatever the tables hold, they hold something after it; where they are there, with any rows, the
--- last commit stays, and the transaction goes on; the connection lasts
+-- whatever the tables hold, they hold something after it; whatever tables there are, the last
+-- commit stays, and the transaction goes on; the connection lasts
 pub record RunsOn {X : Type 0} (old new : State) (result : Result X StoreFault) : Type 0 where
   pub holds : (c : Contents) → HoldsNow c old → OnOk result ((d : Contents) × HoldsNow d new)
-  pub keeps : HasTables old → KeepsBase old new
-  pub goes_on : HasTables old → GoesOn old → OnOk result (GoesOn new)
+  pub keeps : KeepsBase old new
+  pub goes_on : GoesOn old → OnOk result (GoesOn new)
   pub clean : WasClean old new
   pub lasts : Lasts old new
 
@@ -115,9 +107,15 @@ RefusesOn old new result =
 abbrev pub LeavesOthers : State → State → Type 0
 LeavesOthers old new = (c : Contents) → c.version ≢ 1 → Stand c old → Stand c new
 
--- what the six or the seven tables hold, they hold after it
-abbrev pub LeavesEither : State → State → Type 0
-LeavesEither old new = (c : Contents) → EitherStand c old → EitherStand c new
+-- Where only the first n tables are there, or none, those that lack are made.
+pub record Completes {X : Type 0} (old new : State) (result : Result X StoreFault) : Type 0 where
+  -- what they held, all seven hold then
+  pub held : (c : Contents) → c.version ≢ 1 → HoldsPart c old → OnOk result (Stand c new)
+  -- where no version was written, the present one is
+  pub numbered : (c : Contents) → HoldsUnnumbered c old → OnOk result (Stand c new)
+  -- and the fault is that the store or memory refused it
+  pub refuses : (c : Contents) → HoldsUnnumbered c old → HasCleanDisk new
+      → IfErr result (λ e. e ≡ Refused)
 
 -- six tables of version 1 that stand for a desk come to stand for it as seven of version 2, with
 -- the same due moments; on a fault they are the six still
@@ -131,20 +129,20 @@ MigratesDesk old new result =
 -- it goes well only over a known version, and is the wrong version only over another
 abbrev pub NeedsKnown : {X : Type 0} → State → State → Result X StoreFault → Type 0
 NeedsKnown old new result =
-    (c : Contents) → EitherStand c old → HasCleanDisk new
+    (c : Contents) → HoldsPart c old → HasCleanDisk new
     → IfOk result (λ done. IsKnown c.version)
     × IfErr result (λ e. e ≡ WrongVersion → ¬ IsKnown c.version)
 
 -- over values of a known version, the fault is that the store or memory refused it
 abbrev pub RefusesKnown : {X : Type 0} → State → State → Result X StoreFault → Type 0
 RefusesKnown old new result =
-    (c : Contents) → IsKnown c.version → EitherStand c old → HasCleanDisk new
+    (c : Contents) → IsKnown c.version → HoldsPart c old → HasCleanDisk new
     → IfErr result (λ e. e ≡ Refused)
 
 -- a version is told to be wrong only where a row of meta shows one that isn't known
 abbrev pub BlamesUnknown : {X : Type 0} → State → State → Result X StoreFault → Type 0
 BlamesUnknown old new result =
-    HasEither old → HasCleanDisk new
+    HasFront old → HasCleanDisk new
     → IfErr result (λ e. e ≡ WrongVersion → (n : ℕ) × IsOfMeta old n × ¬ IsKnown n)
 
 -- both of these of the version
@@ -158,4 +156,4 @@ IsBlamed s = HasBadRow 0 version_shown IsNumberRow s.now ⊎ (IsOfMeta s 1 × Ha
 -- a mismatch comes only of one of these
 abbrev pub MismatchesInMaking : {X : Type 0} → State → State → Result X StoreFault → Type 0
 MismatchesInMaking old new result =
-    IfErr result (λ e. e ≡ Mismatch → HasEither old → HasCleanDisk new → IsBlamed old)
+    IfErr result (λ e. e ≡ Mismatch → HasFront old → HasCleanDisk new → IsBlamed old)

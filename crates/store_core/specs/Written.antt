@@ -1,7 +1,7 @@
 -- What a change makes of the rows of a desk, statement by statement, and on which desk it can be
 -- written.
 use Rattle.std.specs.Prelude.{◌≡◌, ◌+◌, ◌-◌, ◌==◌, ℕ, Bool, true, false, List, [], ◌∷◌, Option}
-use Rattle.std.specs.Prelude.{Some, None, IsPermutation, find, fold, if◌then◌else◌, length, slice_get}
+use Rattle.std.specs.Prelude.{Some, None, find, fold, if◌then◌else◌, length, slice_get}
 use Rattle.std.specs.List.{list_all}
 use Rattle.std.specs.Option.{is_some, option_map}
 use Rattle.hours_core.specs.declared.stay.Stay.{Stay}
@@ -94,16 +94,6 @@ due_with (Some row) moment due = due_but row.id moment due
 abbrev pub dues_after : Change → (RequestRow → Option ℕ) → RequestRow → Option ℕ
 dues_after change due =
     due_with change.row (change.due) (due_with change.filed (change.due) due)
-
--- the same version and the same rows, in any order
-pub record AreAlike (a b : Contents) : Type 0 where
-  pub version : a.version ≡ b.version
-  pub queues : IsPermutation a.queues b.queues
-  pub dated : IsPermutation a.dated b.dated
-  pub watchers : IsPermutation a.watchers b.watchers
-  pub links : IsPermutation a.links b.links
-  pub entries : IsPermutation a.entries b.entries
-  pub stays : IsPermutation a.stays b.stays
 
 -- the request of that number is there
 abbrev pub is_there : Desk → ℕ → Bool

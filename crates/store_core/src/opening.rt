@@ -3,9 +3,8 @@ ghost use Rattle.std.specs.Prelude.{◌≡◌, ◌≢◌, false, IfErr, IfOk, On
 ghost use Rattle.sqlite.specs.Steps.{over_memory};
 ghost use Rattle.store_tables.specs.Calls.{Answers, AreLeft, Lasts, Spares, WasClean};
 ghost use Rattle.store_tables.specs.Making.{IsBlank, IsOfMeta, MakesDesk, ReadsMeta, RefusesBlank};
-ghost use Rattle.store_tables.specs.Stands.{HasEither};
 ghost use Rattle.store_tables.specs.declared.fault.StoreFault.{StoreFault};
-ghost use Rattle.store_core.specs.Migrating.{LeavesEither, LeavesOthers, MigratesDesk};
+ghost use Rattle.store_core.specs.Migrating.{Completes, LeavesOthers, MigratesDesk};
 ghost use Rattle.store_core.specs.Migrating.{MismatchesInMaking, RefusesKnown, TellsVersion};
 ghost use Rattle.store_core.specs.Seen.{connection_of, state_of};
 
@@ -53,18 +52,17 @@ impl<S: Alter> Store<S> {
     /// tables of version 1 it fills in the stays, by the histories, and sets version 2. All is in
     /// one transaction. `WrongVersion` where the tables are of another version, `Mismatch` where
     /// their version is no number, or, in tables of version 1, the number of a request or an entry
-    /// is no value of its type, `Refused` where the store or memory refuses it. A fault leaves the
-    /// tables as they were, where there was none, or the six without that of stays, or all seven,
-    /// whatever rows they have. Tables of version 2 stay as they are.
+    /// is no value of its type, `Refused` where the store or memory refuses it. A fault leaves all
+    /// tables as they were, whatever tables there are. Tables of version 2 keep their rows.
     pub fn create_schema(&mut self, alloc: Global) -> Result<(), StoreFault>
         ensures made { MakesDesk (state_of S.Store self.old) (state_of S.Store self.new) result }
         ensures migrated { MigratesDesk
             (state_of S.Store self.old) (state_of S.Store self.new) result }
         ensures kept { LeavesOthers (state_of S.Store self.old) (state_of S.Store self.new) }
-        ensures undone { OnErr result
-            (LeavesEither (state_of S.Store self.old) (state_of S.Store self.new)) }
-        ensures spared { HasEither (state_of S.Store self.old) →
-            OnErr result (AreLeft (state_of S.Store self.old) (state_of S.Store self.new)) }
+        ensures completed { Completes
+            (state_of S.Store self.old) (state_of S.Store self.new) result }
+        ensures spared { OnErr result
+            (AreLeft (state_of S.Store self.old) (state_of S.Store self.new)) }
         ensures honest { WasClean (state_of S.Store self.old) (state_of S.Store self.new) }
         ensures lasts { Lasts (state_of S.Store self.old) (state_of S.Store self.new) }
         ensures version { TellsVersion
@@ -77,9 +75,9 @@ impl<S: Alter> Store<S> {
         make_schema(alloc, &mut self.tables)
     }
 
-    /// The version that `meta` holds, in the seven tables or the six of version 1, whatever rows
+    /// The version that `meta` holds, where the first n of the tables are there, whatever rows
     /// stand elsewhere. `Refused` before `create_schema`, and where the store or memory refuses it,
-    /// `Mismatch` where it is no number. The tables stay as they are.
+    /// `Mismatch` where it is no number. All tables stay as they are.
     pub fn version(&mut self) -> Result<u32, StoreFault>
         ensures told { Answers (λ c n. n ≡ c.version)
             (state_of S.Store self.old) (state_of S.Store self.new) result }

@@ -4,12 +4,11 @@ ghost use Rattle.sqlite.specs.Held.{state};
 ghost use Rattle.sqlite.specs.State.{HasCleanDisk};
 ghost use Rattle.store_tables.specs.Calls.{Inside, Looks, Runs, ShowsRowsOf};
 ghost use Rattle.store_tables.specs.Contents.{Contents};
-ghost use Rattle.store_tables.specs.Making.{BlamesMeta, Fresh, IsKnown, IsOfMeta, Made};
+ghost use Rattle.store_tables.specs.Making.{BlamesMeta, IsKnown, IsOfMeta, LacksVersion};
 ghost use Rattle.store_tables.specs.Making.{ShowsVersion, WrongInside};
 ghost use Rattle.store_tables.specs.Mismatches.{MismatchesInMeta};
 ghost use Rattle.store_tables.specs.Queries.{version_shown};
 ghost use Rattle.store_tables.specs.Stands.{GoesOn, HasTables, HoldsNow};
-ghost use Rattle.store_tables.specs.Tables.{desk_schema};
 ghost use Rattle.store_tables.specs.declared.fault.StoreFault.{StoreFault};
 ghost use Rattle.store_core.specs.Migrating.{BringsUp, IsBlamed, RefusesOn, RunsOn};
 
@@ -17,42 +16,36 @@ use crate::migration::migrate;
 use sqlite::{Alter, Row, Transaction};
 use std::alloc::Global;
 use store_tables::StoreFault;
+use store_tables::inside::select_inside;
 use store_tables::reads::version::version_in;
 use store_tables::transaction::run;
 
 /// The rows of the version.
 fn version_rows<S: Alter>(tx: &mut Transaction<'_, S>) -> Result<Vec<Row>, StoreFault>
     ensures same_reference { tx.new.conn.ghost_name ≡ tx.old.conn.ghost_name }
-    ensures none { Made desk_schema (state S.Store tx.old.conn.now) →
+    ensures none { (c : Contents) → LacksVersion c (state S.Store tx.old.conn.now) →
         HasCleanDisk (state S.Store tx.new.conn.now) → IfOk result (λ rows. rows.items ≡ []) }
     ensures one { Inside (λ c rows. ShowsVersion c.version rows.items)
         (state S.Store tx.old.conn.now) (state S.Store tx.new.conn.now) result }
-    ensures made { Made desk_schema (state S.Store tx.old.conn.now) →
-        OnOk result (Made desk_schema (state S.Store tx.new.conn.now)) }
     ensures looks { Looks
         (state S.Store tx.old.conn.now) (state S.Store tx.new.conn.now) result }
     ensures of_table { ShowsRowsOf 0 version_shown (λ rows. rows.items)
         (state S.Store tx.old.conn.now) (state S.Store tx.new.conn.now) result }
     ensures fault { IfErr result (λ e. e ≡ StoreFault.Refused) }
 {
-    match tx.query_all("SELECT version FROM meta", &[]) {
-        Ok(rows) => Ok(rows),
-        Err(_) => Err(StoreFault::Refused),
-    }
+    select_inside(tx, "SELECT version FROM meta", &[])
 }
 
 /// The version that the tables hold, or none where `meta` has no row.
 fn read_version<S: Alter>(tx: &mut Transaction<'_, S>) -> Result<Option<u32>, StoreFault>
     ensures same_reference { tx.new.conn.ghost_name ≡ tx.old.conn.ghost_name }
-    ensures none { Made desk_schema (state S.Store tx.old.conn.now) →
+    ensures none { (c : Contents) → LacksVersion c (state S.Store tx.old.conn.now) →
         HasCleanDisk (state S.Store tx.new.conn.now) → IfOk result (λ v. v ≡ None) }
-    ensures refused { Made desk_schema (state S.Store tx.old.conn.now) →
+    ensures refused { (c : Contents) → LacksVersion c (state S.Store tx.old.conn.now) →
         HasCleanDisk (state S.Store tx.new.conn.now) →
         IfErr result (λ e. e ≡ StoreFault.Refused) }
     ensures one { Inside (λ c v. v ≡ Some c.version)
         (state S.Store tx.old.conn.now) (state S.Store tx.new.conn.now) result }
-    ensures made { Made desk_schema (state S.Store tx.old.conn.now) →
-        OnOk result (Made desk_schema (state S.Store tx.new.conn.now)) }
     ensures looks { Looks
         (state S.Store tx.old.conn.now) (state S.Store tx.new.conn.now) result }
     ensures refuses { RefusesOn
@@ -68,11 +61,11 @@ fn read_version<S: Alter>(tx: &mut Transaction<'_, S>) -> Result<Option<u32>, St
     version_in(rows.as_slice())
 }
 
-/// Writes the present version, 2, into new tables.
+/// Writes the present version, 2, where there is none.
 fn add_version<S: Alter>(tx: &mut Transaction<'_, S>) -> Result<(), StoreFault>
     ensures same_reference { tx.new.conn.ghost_name ≡ tx.old.conn.ghost_name }
-    ensures fresh { Made desk_schema (state S.Store tx.old.conn.now) →
-        OnOk result (Fresh (state S.Store tx.new.conn.now)) }
+    ensures numbered { (c : Contents) → LacksVersion c (state S.Store tx.old.conn.now) →
+        OnOk result (HoldsNow c (state S.Store tx.new.conn.now)) }
     ensures runs { Runs (λ done. ⊤)
         (state S.Store tx.old.conn.now) (state S.Store tx.new.conn.now) result }
     ensures goes_on { OnOk result (GoesOn (state S.Store tx.new.conn.now)) }
@@ -88,8 +81,8 @@ pub(crate) fn bring_up<S: Alter>(
     tx: &mut Transaction<'_, S>,
 ) -> Result<(), StoreFault>
     ensures same_reference { tx.new.conn.ghost_name ≡ tx.old.conn.ghost_name }
-    ensures fresh { Made desk_schema (state S.Store tx.old.conn.now) →
-        OnOk result (Fresh (state S.Store tx.new.conn.now)) }
+    ensures numbered { (c : Contents) → LacksVersion c (state S.Store tx.old.conn.now) →
+        OnOk result (HoldsNow c (state S.Store tx.new.conn.now)) }
     ensures there { (c : Contents) → c.version ≢ 1 →
         HoldsNow c (state S.Store tx.old.conn.now) →
         OnOk result (HoldsNow c (state S.Store tx.new.conn.now)) }
@@ -100,7 +93,7 @@ pub(crate) fn bring_up<S: Alter>(
         (state S.Store tx.old.conn.now) (state S.Store tx.new.conn.now) result }
     ensures wrong { WrongInside
         (state S.Store tx.old.conn.now) (state S.Store tx.new.conn.now) result }
-    ensures refused { Made desk_schema (state S.Store tx.old.conn.now) →
+    ensures refused { (c : Contents) → LacksVersion c (state S.Store tx.old.conn.now) →
         HasCleanDisk (state S.Store tx.new.conn.now) →
         IfErr result (λ e. e ≡ StoreFault.Refused) }
     ensures refuses { (c : Contents) → IsKnown c.version →

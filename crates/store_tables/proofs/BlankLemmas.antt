@@ -1,20 +1,20 @@
 -- Without tables no version is told, and there are no tables still.
-use Rattle.std.proofs.Common.{◌≡◌, [], true, false, inl, List, Ok, Result, refl, sym, ap, subst}
-use Rattle.std.proofs.Common.{◌∙◌}
+use Rattle.std.proofs.Common.{◌≡◌, [], true, false, List, Ok, Result, refl, sym, ap, subst}
+use Rattle.std.proofs.Common.{◌∙◌, Err, IfErr, IfOk}
 use Rattle.std.specs.Prelude.{is_ok}
 use Rattle.sqlite_tied.specs.Compute.{everything}
-use Rattle.sqlite.specs.Effect.{Database}
 use Rattle.sqlite.specs.Listing.{listing_schema, understood}
 use Rattle.sqlite.specs.Order.{Row}
-use Rattle.sqlite.specs.State.{State, FailsToQuery, HasCleanDisk, Shown}
-use Rattle.sqlite.specs.declared.error.Error.{Error}
+use Rattle.sqlite.specs.State.{State, HasCleanDisk, Shown}
 use Rattle.sqlite_resolve.specs.declared.compiled.Compiled.{Compiled}
 use Rattle.sqlite_resolve.specs.declared.error.CompileError.{CompileError}
-use Rattle.store_tables.specs.Making.{IsBlank}
+use Rattle.store_tables.specs.Making.{RefusesBlank}
 use Rattle.store_tables.specs.Queries.{version_text}
 use Rattle.store_tables.specs.Tables.{no_schema}
-use Rattle.store_tables.proofs.Spared.{left_both}
-use Rattle.store_tables.proofs.StandLemmas.{failed_left, shown_open}
+use Rattle.store_tables.specs.Calls.{WasClean}
+use Rattle.store_tables.specs.declared.fault.StoreFault.{StoreFault}
+use Rattle.store_tables.specs.declared.fault.StoreFault.TheVariants.{Refused}
+use Rattle.store_tables.proofs.StandLemmas.{shown_open}
 
 no_statement : is_ok (understood no_schema version_text) ≡ false
 unfolding understood everything listing_schema
@@ -28,16 +28,18 @@ no_text : (s : State) → s.now.schema ≡ no_schema → (c : Compiled)
 no_text s none c is =
     never_ok _ c no_statement (subst (λ t. understood t version_text ≡ Ok c) none is)
 
-pub shows_nothing : (old new : State) → (HasCleanDisk new → HasCleanDisk old) → IsBlank old
-    → HasCleanDisk new → (rows : List Row) → Shown version_text [] old new rows → ⊥
+pub none_shown : (old new : State) → old.now.schema ≡ no_schema → (rows : List Row)
+    → Shown version_text [] old new rows → ⊥
 unfolding Shown
-shows_nothing old new clean blank c rows h =
-    let was = blank (clean c) (shown_open version_text [] old new rows h) in
-    no_text old was.0 h.0 h.1.is
+none_shown old new none rows h = no_text old none h.0 h.1.is
 
-pub fails_blank : (old new : State) (e : Error) → (HasCleanDisk new → HasCleanDisk old)
-    → (HasCleanDisk new → FailsToQuery version_text [] old new e) → IsBlank old → IsBlank new
-fails_blank old new e clean fails blank =
-    left_both (λ (d : Database). d.schema ≡ no_schema) old new clean
-    (failed_left version_text [] old new clean
-    (λ c o h is. absurd (no_text old (blank c o).0 h is)) e (λ c. inl (fails c))) blank
+-- so without tables the query is refused
+pub refused_blank : {X : Type 0} (items : X → List Row) (old new : State)
+    (r : Result X StoreFault) → WasClean old new
+    → (HasCleanDisk new → IfOk r (λ x. Shown version_text [] old new (items x)))
+    → IfErr r (λ e. e ≡ Refused) → RefusesBlank old new r
+refused_blank items old new (Ok x) clean shown fault blank now =
+    let h = shown now in
+    let was = blank (clean now) (shown_open version_text [] old new (items x) h) in
+    absurd (none_shown old new was.0 (items x) h)
+refused_blank items old new (Err e) clean shown fault blank now = ap Err fault

@@ -1,14 +1,12 @@
 -- One row put in, changed or taken out, of any table of the desk.
-use Rattle.std.proofs.Common.{◌≡◌, ◌≢◌, ℕ, ℤ, Bool, false, cond, List, [], ◌∷◌, length, map, drop}
-use Rattle.std.proofs.Common.{filter, Option, slice_get, Some, None, Ok, sym, ap, ap₂, subst, ◌∙◌}
-use Rattle.std.proofs.Common.{IsPermutation, arith}
-use Rattle.std.specs.Prelude.{◌==◌, unwrap_or}
+use Rattle.std.proofs.Common.{◌≡◌, ◌≢◌, List, ◌∷◌, drop, Some, None, subst, arith, ◌==◌}
+use Rattle.std.proofs.Common.{ℕ, false, length, filter, Option, slice_get, IsPermutation, unwrap_or}
+use Rattle.std.proofs.Common.{ℤ, [], map, Ok, sym, ap, ap₂, ◌∙◌}
 use Rattle.std.specs.List.{AllByRecursion}
 use Rattle.std.proofs.lemmas.List.{length-map, nil_from_length}
 use Rattle.std.proofs.lemmas.Bool.{not-true}
 use Rattle.std.proofs.lemmas.Bool.Decides.{nat_tests}
 use Rattle.std.proofs.lemmas.List.Sorted.{IsPermutation-sym, length_permutation}
-use Rattle.sqlite.specs.declared.types.Value.{Value}
 use Rattle.sqlite.specs.declared.types.Value.TheVariants.{Null, Int, Text as Words}
 use Rattle.sqlite.specs.Kind.TheVariants.{Integer, Text}
 use Rattle.sqlite.specs.Order.{Row}
@@ -34,7 +32,7 @@ use Rattle.sqlite_tied.proofs.RuleLemmas.{and_true}
 use Rattle.sqlite_rules.specs.Action.{works, Writes as Goes}
 use Rattle.sqlite_schema.specs.declared.schema.Keys.TheVariants.{Enforced}
 use Rattle.sqlite_schema.specs.declared.program.Program.{Program}
-use Rattle.store_tables.specs.Tables.{desk_schema}
+use Rattle.store_tables.specs.Contents.{desk_schema}
 use Rattle.store_tables.specs.Queries.{reads}
 use Rattle.store_tables.specs.Picked.{passes, shows, Picks}
 use Rattle.store_tables.proofs.KeptLemmas.{one_of}
@@ -42,16 +40,13 @@ use Rattle.store_tables.proofs.Meaning.{Changes}
 use Rattle.store_tables.proofs.PickedLemmas.{picks}
 use Rattle.store_tables.proofs.WriteLemmas.{Edits, inserts, inserting, updates, updating, deletes}
 
-either : (b : Bool) (x : Value) → cond b x x ≡ x
-either b x = grind arith
-
 pub cast_null : cast Integer Null ≡ Null
 unfolding unary
-cast_null = either _ Null
+cast_null = grind arith
 
 pub cast_int : (n : ℤ) → cast Integer (Int n) ≡ Int n
 unfolding unary
-cast_int n = either _ (Int n)
+cast_int n = grind arith
 
 pub cast_text : (t : Option (List ℕ)) → cast Text (or_null Words t) ≡ or_null Words t
 cast_text t = grind arith
@@ -215,8 +210,7 @@ module _ (sql : List ℕ) (params : Row) (at : ℕ) (test project : List Term) (
 
     pub drops : Changes sql (Delete at program)
         → ((a : Row) → works desk_schema Enforced 0 table.tree (a ∷ []) [] ≡ [])
-        → Executes sql params old new (Ok 1)
-        → Drops table.tree test project params old.now new.now
+        → Executes sql params old new (Ok 1) → Drops table.tree test project params old.now new.now
     drops is quiet h =
         let e = edited (Delete at program) _ 1
         (runs_as sql params old new desk_schema has (Delete at program) is.is is.plain 1 h)

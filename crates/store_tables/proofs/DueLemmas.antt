@@ -1,49 +1,26 @@
 -- The rows of requests with their due moments, without them, and where one is set.
-use Rattle.std.proofs.Common.{◌≡◌, ◌++◌, Bool, IsPermutation, List, [], ◌∷◌, ap, false, filter, inl}
-use Rattle.std.proofs.Common.{inr, map, not, refl, subst, sym, true, ◌<◌, ◌∙◌, Option, ℕ, arith}
-use Rattle.std.proofs.Common.{fold, length}
-use Rattle.std.proofs.lemmas.Bool.{cases_Bool, not-true}
+use Rattle.std.proofs.Common.{arith, ◌≡◌, ◌++◌, Bool, List, ◌∷◌, inl, inr, refl, subst, true, fold}
+use Rattle.std.proofs.Common.{IsPermutation, false, filter, Option, if◌then◌else◌, map-id}
+use Rattle.std.proofs.Common.{[], ap, map, not, sym, ◌∙◌, ℕ}
+use Rattle.std.proofs.lemmas.Bool.{not-true}
 use Rattle.std.proofs.lemmas.List.Sorted.{IsPermutation-filter_both, IsPermutation-map}
 use Rattle.std.proofs.lemmas.List.Sorted.{IsPermutation-sym}
 use Rattle.sqlite_rules.specs.Lists.{Has}
 use Rattle.sqlite_rules.proofs.ListLemmas.{has_filtered, has_kept}
 use Rattle.sqlite_rules.proofs.ProbeLemmas.{has_mapped}
-use Rattle.std.specs.Prelude.{if◌then◌else◌}
-use Rattle.std.proofs.lemmas.List.{map-id}
-use Rattle.sqlite.specs.Effect.{Database}
 use Rattle.sqlite_trees.proofs.ListLemmas.{map-map}
 use Rattle.desk_model.specs.Desk.{Desk}
 use Rattle.desk_model.specs.declared.rows.RequestRow.{RequestRow}
-use Rattle.store_tables.specs.Contents.{Contents, contents_of, request_rows, requests, set_each_due}
-use Rattle.store_tables.specs.Dated.{dated_by, dated_row, due_but, dues_but, row_of}
-use Rattle.store_tables.specs.Kept.{Holds, itself}
-use Rattle.store_tables.specs.Reading.{IsRequestRow}
+use Rattle.store_tables.specs.Contents.{contents_of, request_rows, requests, set_each_due}
+use Rattle.store_tables.specs.Dated.{dated_by, due_but, dues_but, row_of}
 use Rattle.store_tables.specs.Selection.{is_numbered}
-use Rattle.store_tables.specs.Spelling.{request_shown}
-use Rattle.store_tables.specs.Stands.{Tables}
-use Rattle.store_tables.specs.Values.{ShowsValues}
-use Rattle.store_tables.proofs.KeptLemmas.{viewed}
-
--- what the table keeps, without the due moments
-pub undated : (c : Contents) (db : Database) → Tables c db
-    → Holds dated_row row_of (requests c) (db.trees 3)
-undated c db t = viewed dated_row itself row_of c.dated (db.trees 3) t.requests
-
-pub rows_valid : (c : Contents) → ShowsValues c → (r : RequestRow) → Has (requests c) r
-    → IsRequestRow (request_shown r)
-rows_valid c values r has =
-    let p = has_mapped row_of c.dated r has in
-    let is = values.dated p.0 p.1 in
-    let wide : 9 < length (request_shown p.0.0) = omega arith in
-    subst (λ x. IsRequestRow (request_shown x)) (sym p.2) (assumption)
 
 -- ---- of a desk with due moments
 
 -- without them its rows are left
 pub rows_dated : (due : RequestRow → Option ℕ) (desk : Desk)
     → requests (contents_of due desk) ≡ request_rows desk
-rows_dated due desk =
-    map-map row_of (dated_by due) (request_rows desk) ∙ map-id (request_rows desk)
+rows_dated due desk = map-map row_of (dated_by due) (request_rows desk) ∙ map-id (request_rows desk)
 
 -- those that are set are of the due moments
 pub dues_on_desk : (dues : List (ℕ × Option ℕ)) (due : RequestRow → Option ℕ) (desk : Desk)
@@ -60,18 +37,15 @@ AreEach {X} P xs = (x : X) → Has xs x → P x
 
 map_same : {X : Type 0} (f : X → X) (xs : List X) → AreEach (λ x. f x ≡ x) xs → map f xs ≡ xs
 map_same f [] each = refl
-map_same f (x ∷ xs) each =
-    rw (each x (inl refl), map_same f xs (λ y has. each y (inr has)))
+map_same f (x ∷ xs) each = rw (each x (inl refl), map_same f xs (λ y has. each y (inr has)))
 
 -- where what a test doesn't pass stays as it is
 module _ {X : Type 0} (f : X → X) (p : X → Bool) (stays : (x : X) → p x ≡ false → f x ≡ x) where
   -- where none passes, all stay
   pub none_moved : (xs : List X) → filter p xs ≡ [] → map f xs ≡ xs
-  none_moved xs none = map_same f xs
-      (λ x has. elim (cases_Bool (p x)) [
-        | inl here ↦ absurd (subst (λ l. Has l x) none (has_kept p xs x has here))
-        | inr apart ↦ stays x apart
-      ])
+  none_moved xs none = map_same f xs (λ x has.
+      let in_none = λ (here : p x ≡ true). subst (λ l. Has l x) none (has_kept p xs x has here) in
+      stays x (grind (arith, in_none)))
 
   -- where one passes, that one gives way
   pub one_moved : (xs : List X) (x : X) → filter p xs ≡ x ∷ []
@@ -87,8 +61,7 @@ module _ {X : Type 0} (f : X → X) (p : X → Bool) (stays : (x : X) → p x �
 -- what passes is the one that does
 pub passes_one : {X : Type 0} (p : X → Bool) (xs : List X) (x : X) → filter p xs ≡ x ∷ []
     → p x ≡ true
-passes_one p xs x one =
-    (has_filtered p xs x (subst (λ l. Has l x) (sym one) (inl refl))).1
+passes_one p xs x one = (has_filtered p xs x (subst (λ l. Has l x) (sym one) (inl refl))).1
 
 -- what is so of each is so of what becomes of it
 pub each_moved : {X : Type 0} (f : X → X) (P : X → Type 0) → ((x : X) → P x → P (f x))

@@ -8,72 +8,62 @@ use Rattle.sqlite_tied.proofs.RuleLemmas.{and_true}
 use Rattle.desk_model.specs.Links.{kind_number}
 use Rattle.desk_model.specs.declared.rows.LinkKind.{LinkKind}
 use Rattle.desk_model.specs.declared.rows.LinkRow.{LinkRow}
+use Rattle.store_tables.specs.Contents.{desk_schema}
 use Rattle.store_tables.specs.Dated.{id_of}
 use Rattle.store_tables.specs.Picked.{passes, shows}
-use Rattle.store_tables.specs.Queries.{last_id_terms, reads, due_order, id_order, number_order}
-use Rattle.store_tables.specs.Queries.{queue_order, role_order, standing_order, target_order}
-use Rattle.store_tables.specs.Queries.{three_order, stay_order}
+use Rattle.store_tables.specs.Queries.{reads, due_order, number_order, standing_order, target_order}
+use Rattle.store_tables.specs.Queries.{id_order, queue_order, role_order, three_order, stay_order}
 use Rattle.store_tables.specs.Selection.{has_number, is_dated_in, is_due_before, number_of, ends_at}
 use Rattle.store_tables.specs.Selection.{is_filed_in, is_link, is_named, is_numbered, is_of_person}
 use Rattle.store_tables.specs.Selection.{links_from, starts_at, tells_of, watches}
 use Rattle.store_tables.specs.Spelling.{count_value, link_columns}
 use Rattle.store_tables.specs.Stays.{is_of}
-use Rattle.store_tables.specs.Tables.{desk_schema}
 use Rattle.store_tables.proofs.EachTable.{actor_table, dated_table, entry_table, link_table}
 use Rattle.store_tables.proofs.EachTable.{queue_table, request_table, stay_table, watcher_table}
 use Rattle.store_tables.proofs.Meaning.{SelectsIn}
-use Rattle.store_tables.proofs.RowLemmas.{NumbersOn, QueryOn, TableOf}
-use Rattle.store_tables.proofs.Statements.{dated_before_is, dated_is, dated_numbered_is}
-use Rattle.store_tables.proofs.Statements.{numbers_before_is, numbers_in_is, actors_is, all_from_is}
-use Rattle.store_tables.proofs.Statements.{all_to_is, entries_of_is, link_like_is, links_from_is}
-use Rattle.store_tables.proofs.Statements.{links_is, queue_named_is, queues_is, request_numbered_is}
-use Rattle.store_tables.proofs.Statements.{requests_is, requests_of_is, watchers_is, watchers_of_is}
-use Rattle.store_tables.proofs.Statements.{dated_of_is, numbers_is, stays_is, stays_of_is}
-use Rattle.store_tables.proofs.Statements.{watches_of_is}
+use Rattle.store_tables.proofs.RowLemmas.{NumbersOn, PartsOn, QueryOn, TableOf}
+use Rattle.store_tables.proofs.Statements.{dated_before_is, all_from_is, entries_of_is, watchers_is}
+use Rattle.store_tables.proofs.Statements.{dated_is, queue_named_is, queues_is, numbers_is}
+use Rattle.store_tables.proofs.Statements.{dated_numbered_is, all_to_is, requests_is, watches_of_is}
+use Rattle.store_tables.proofs.Statements.{numbers_before_is, link_like_is, links_from_is, links_is}
+use Rattle.store_tables.proofs.Statements.{numbers_in_is, requests_of_is, dated_of_is, stays_of_is}
+use Rattle.store_tables.proofs.Statements.{actors_is, request_numbered_is, watchers_of_is, stays_is}
 use Rattle.store_tables.proofs.TestLemmas.{equal_numbers, equal_texts, moment_before}
 
--- the rows that pass a test, in an order
-abbrev some_of : {K V : Type 0} {text : List ℕ} {names : List (List ℕ)} {test : List Term}
-    (t : TableOf K V) (params : Row) (order : List Term)
-    → SelectsIn desk_schema text (reads t.tree test t.terms order) names → (passing : V → Bool)
-    → ((k : K) → passes test params (t.row k) ≡ passing (t.value k)) → QueryOn t
-some_of {text = text} {names = names} {test = test} t params order means passing tests = record {
-  text = text;
-  params = params;
-  test = test;
-  order = order;
-  names = names;
-  means = means;
-  passing = passing;
-  tests = tests;
-}
-
--- all rows
-abbrev each_of : {K V : Type 0} {text : List ℕ} {names : List (List ℕ)} (t : TableOf K V)
-    (order : List Term) → SelectsIn desk_schema text (reads t.tree [] t.terms order) names
-    → QueryOn t
-each_of t order means = some_of t [] order means (λ _. true) (λ k. refl)
-
--- the numbers of those that pass
-abbrev numbers_of : {K V : Type 0} {text : List ℕ} {names : List (List ℕ)} {test : List Term}
-    (t : TableOf K V) (params : Row) (order : List Term)
-    → SelectsIn desk_schema text (reads t.tree test last_id_terms order) names → (number : V → ℕ)
-    → ((k : K) → shows last_id_terms params (t.row k) ≡ count_value (number (t.value k)) ∷ [])
-    → (passing : V → Bool)
-    → ((k : K) → passes test params (t.row k) ≡ passing (t.value k)) → NumbersOn t
-numbers_of {text = text} {names = names} {test = test} t params order means number shown passing
-    tests = record {
+-- a part of each row that passes a test, in an order
+abbrev parts_of : {K V : Type 0} {text : List ℕ} {names : List (List ℕ)} {test terms : List Term}
+    {view : V → Row} (t : TableOf K V) (params : Row) (order : List Term)
+    → SelectsIn desk_schema text (reads t.tree test terms order) names → (passing : V → Bool)
+    → ((k : K) → passes test params (t.row k) ≡ passing (t.value k))
+    → ((k : K) → shows terms params (t.row k) ≡ view (t.value k))
+    → ((r : Row) → shows terms params r ≡ shows terms [] r) → PartsOn t terms view
+parts_of {text = text} {names = names} {test = test} t params order means passing tests shown same =
+    record {
       text = text;
       params = params;
       test = test;
       order = order;
       names = names;
       means = means;
-      number = number;
-      shown = shown;
       passing = passing;
       tests = tests;
+      shown = shown;
+      same = same;
     }
+
+-- the rows that do
+abbrev some_of : {K V : Type 0} {text : List ℕ} {names : List (List ℕ)} {test : List Term}
+    (t : TableOf K V) (params : Row) (order : List Term)
+    → SelectsIn desk_schema text (reads t.tree test t.terms order) names → (passing : V → Bool)
+    → ((k : K) → passes test params (t.row k) ≡ passing (t.value k)) → QueryOn t
+some_of t params order means passing tests =
+    parts_of t params order means passing tests (t.shown params) (t.same params)
+
+-- all rows
+abbrev each_of : {K V : Type 0} {text : List ℕ} {names : List (List ℕ)} (t : TableOf K V)
+    (order : List Term) → SelectsIn desk_schema text (reads t.tree [] t.terms order) names
+    → QueryOn t
+each_of t order means = some_of t [] order means (λ _. true) (λ k. refl)
 
 abbrev pub all_queues : QueryOn queue_table
 all_queues = each_of queue_table queue_order queues_is
@@ -108,17 +98,17 @@ abbrev pub dated_due_before : (at : ℕ) → QueryOn dated_table
 dated_due_before at = some_of dated_table (count_value at ∷ []) due_order dated_before_is
     (is_due_before at) (λ p. simp (moment_before, and_true))
 
-abbrev pub all_numbers : NumbersOn request_table
+abbrev pub all_numbers : NumbersOn request_table number_of
 all_numbers =
-    numbers_of request_table [] id_order numbers_is number_of (λ k. refl) (λ _. true) (λ k. refl)
+    parts_of request_table [] id_order numbers_is (λ _. true) (λ k. refl) (λ k. refl) (λ r. refl)
 
-abbrev pub numbers_of_queue : (name : List ℕ) → NumbersOn request_table
-numbers_of_queue name = numbers_of request_table (Words name ∷ []) id_order numbers_in_is number_of
-    (λ k. refl) (is_filed_in name) (λ p. simp (equal_texts, and_true))
+abbrev pub numbers_of_queue : (name : List ℕ) → NumbersOn request_table number_of
+numbers_of_queue name = parts_of request_table (Words name ∷ []) id_order numbers_in_is
+    (is_filed_in name) (λ p. simp (equal_texts, and_true)) (λ k. refl) (λ r. refl)
 
-abbrev pub numbers_before : (at : ℕ) → NumbersOn dated_table
-numbers_before at = numbers_of dated_table (count_value at ∷ []) due_order numbers_before_is id_of
-    (λ k. refl) (is_due_before at) (λ p. simp (moment_before, and_true))
+abbrev pub numbers_before : (at : ℕ) → NumbersOn dated_table id_of
+numbers_before at = parts_of dated_table (count_value at ∷ []) due_order numbers_before_is
+    (is_due_before at) (λ p. simp (moment_before, and_true)) (λ k. refl) (λ r. refl)
 
 abbrev pub all_watchers : QueryOn watcher_table
 all_watchers = each_of watcher_table three_order watchers_is
@@ -143,13 +133,11 @@ links_in id = some_of link_table (count_value id ∷ []) id_order all_to_is (end
     (λ k. simp (equal_numbers, and_true))
 
 abbrev pub links_by_kind : (id : ℕ) (kind : LinkKind) → QueryOn link_table
-links_by_kind id kind =
-    some_of link_table (count_value id ∷ count_value (kind_number kind) ∷ []) target_order
-    links_from_is (links_from id kind) (λ k. simp (equal_numbers, and_true))
+links_by_kind id kind = some_of link_table (count_value id ∷ count_value (kind_number kind) ∷ [])
+    target_order links_from_is (links_from id kind) (λ k. simp (equal_numbers, and_true))
 
 abbrev pub link_by_ends : (link : LinkRow) → QueryOn link_table
-link_by_ends link =
-    some_of link_table (link_columns link) [] link_like_is (is_link link)
+link_by_ends link = some_of link_table (link_columns link) [] link_like_is (is_link link)
     (λ k. simp (equal_numbers, and_true))
 
 abbrev pub entries_on : (id : ℕ) → QueryOn entry_table

@@ -1,7 +1,7 @@
 -- The tables of a desk, each told once: where it lies, how it keeps its values, and what is read.
 use Rattle.std.proofs.Common.{◌≡◌, ◌<◌, ◌∷◌, [], length, ℕ, ℤ, List, arith, inl, inr, map, refl}
 use Rattle.std.proofs.Common.{subst, sym}
-use Rattle.sqlite.specs.Order.{Row, column}
+use Rattle.sqlite.specs.Order.{Row}
 use Rattle.sqlite.specs.Effect.{Database}
 use Rattle.sqlite.specs.Term.{Term}
 use Rattle.sqlite_rules.proofs.ProbeLemmas.{has_mapped}
@@ -11,27 +11,23 @@ use Rattle.desk_model.specs.declared.rows.LinkRow.{LinkRow}
 use Rattle.desk_model.specs.declared.rows.QueueRow.{QueueRow}
 use Rattle.desk_model.specs.declared.rows.RequestRow.{RequestRow}
 use Rattle.desk_model.specs.declared.rows.Watcher.{Watcher}
-use Rattle.store_tables.specs.Contents.{Contents, requests}
+use Rattle.store_tables.specs.Contents.{Contents, HasBadRow, HasBadRows, Tables}
 use Rattle.store_tables.specs.Dated.{Dated, dated_row, dated_shown, row_of}
 use Rattle.store_tables.specs.Kept.{Holds, filed, itself, value_of}
-use Rattle.store_tables.specs.Calls.{HasBadRow}
 use Rattle.store_tables.specs.Picked.{shows}
-use Rattle.store_tables.specs.Readings.{HasBadRows}
-use Rattle.store_tables.specs.Stands.{Tables}
 use Rattle.store_tables.specs.Queries.{actor_shown, dated_shown_terms, entry_shown_terms}
 use Rattle.store_tables.specs.Queries.{queue_shown, last_id_terms, last_number_terms}
 use Rattle.store_tables.specs.Queries.{request_shown_terms, stay_shown, three_shown}
-use Rattle.store_tables.specs.Reading.{IsDatedRow, IsEntryRow, IsLinkRow, IsNumberRow, IsQueueRow}
-use Rattle.store_tables.specs.Reading.{IsStayRow, ReadsDated, IsRequestRow, IsTextRow, IsWatcherRow}
-use Rattle.store_tables.specs.Reading.{ReadsEntry, ReadsLink, ReadsQueue, ReadsRequest, ReadsText}
-use Rattle.store_tables.specs.Reading.{ReadsWatcher}
+use Rattle.store_tables.specs.Reading.{IsDatedRow, IsEntryRow, IsNumberRow, IsQueueRow, ReadsDated}
+use Rattle.store_tables.specs.Reading.{IsLinkRow, IsStayRow, ReadsCount, ReadsEntry, ReadsQueue}
+use Rattle.store_tables.specs.Reading.{IsRequestRow, IsWatcherRow, ReadsRequest, ReadsWatcher}
+use Rattle.store_tables.specs.Reading.{IsTextRow, ReadsLink, ReadsText}
 use Rattle.store_tables.specs.Selection.{actor_of, number_of, place_of}
 use Rattle.store_tables.specs.Spelling.{count_value, entry_columns, link_columns, queue_columns}
 use Rattle.store_tables.specs.Spelling.{request_shown, text_shown, stay_columns, watcher_columns}
 use Rattle.store_tables.specs.Stays.{StayRow}
 use Rattle.store_tables.proofs.BackLemmas.{dated_back, entry_back, link_back, queue_back}
-use Rattle.store_tables.proofs.BackLemmas.{request_back, same_count, text_back, watcher_back}
-use Rattle.store_tables.proofs.DueLemmas.{rows_valid, undated}
+use Rattle.store_tables.proofs.BackLemmas.{count_back, request_back, text_back, watcher_back}
 use Rattle.store_tables.proofs.KeptLemmas.{viewed}
 use Rattle.store_tables.proofs.RowLemmas.{TableOf}
 use Rattle.store_tables.proofs.ValueLemmas.{values_of}
@@ -72,7 +68,7 @@ abbrev part_of : {K V W : Type 0} (t : TableOf K V) (terms : List Term) (part : 
     → ((r : Row) → t.IsValue (shows t.terms [] r) → IsValue (shows terms [] r)) → TableOf K W
 part_of t terms part view Reads IsValue back shown same valid good = table_of t.tree terms t.row
     (λ k. part (t.value k)) view (λ c. map part (t.list c)) Reads IsValue back shown same
-    (λ c db on. viewed t.row t.value part (t.list c) (db.trees t.tree) (t.kept c db on))
+    (λ c db on. viewed (t.kept c db on) part)
     (λ c db on y has.
     let x = has_mapped part (t.list c) y has in
     subst (λ z. IsValue (view z)) (sym x.2) (valid x.0 (t.valid c db on x.0 x.1)))
@@ -83,28 +79,29 @@ queue_table = table_of 1 queue_shown (filed queue_columns) value_of queue_column
     ReadsQueue IsQueueRow queue_back (λ params k. refl) (λ params r. refl) (λ c db t. t.queues)
     (λ c db t. (values_of c t.values).queues) (λ db it. inl it)
 
--- a row of a request with its due moment is one of a request
-pub is_request : (r : Row) → IsDatedRow (shows dated_shown_terms [] r)
-    → IsRequestRow (shows request_shown_terms [] r)
-is_request r is = let wide : 9 < length (shows request_shown_terms [] r) = omega arith in assumption
-
-abbrev pub request_table : TableOf Dated RequestRow
-request_table = table_of 3 request_shown_terms dated_row row_of request_shown requests ReadsRequest
-    IsRequestRow request_back (λ params k. refl) (λ params r. refl) undated
-    (λ c db t. rows_valid c (values_of c t.values))
-    (λ db it. inr (inl (it.0, it.1, λ is. it.2 (is_request it.0 is))))
-
--- the same table, with the due moments
+-- requests with their due moments
 abbrev pub dated_table : TableOf Dated Dated
 dated_table = table_of 3 dated_shown_terms dated_row itself dated_shown (λ c. c.dated) ReadsDated
     IsDatedRow dated_back (λ params k. refl) (λ params r. refl) (λ c db t. t.requests)
     (λ c db t. (values_of c t.values).dated) (λ db it. inr (inl it))
 
+-- and without: what is a row with one is a row without
+pub shown_request : (x : Dated) → IsDatedRow (dated_shown x) → IsRequestRow (request_shown x.0)
+shown_request x is = let wide : 9 < length (request_shown x.0) = omega arith in assumption
+
+pub row_request : (r : Row) → IsDatedRow (shows dated_shown_terms [] r)
+    → IsRequestRow (shows request_shown_terms [] r)
+row_request r is =
+    let wide : 9 < length (shows request_shown_terms [] r) = omega arith in assumption
+
+abbrev pub request_table : TableOf Dated RequestRow
+request_table = part_of dated_table request_shown_terms row_of request_shown ReadsRequest
+    IsRequestRow request_back (λ params k. refl) (λ params r. refl) shown_request row_request
+
 abbrev pub watcher_table : TableOf (ℤ × Watcher) Watcher
 watcher_table = table_of 4 three_shown (filed watcher_columns) value_of watcher_columns
     (λ c. c.watchers) ReadsWatcher IsWatcherRow watcher_back (λ params k. refl) (λ params r. refl)
-    (λ c db t. t.watchers) (λ c db t. (values_of c t.values).watchers)
-    (λ db it. inr (inr (inl it)))
+    (λ c db t. t.watchers) (λ c db t. (values_of c t.values).watchers) (λ db it. inr (inr (inl it)))
 
 abbrev pub link_table : TableOf (ℤ × LinkRow) LinkRow
 link_table = table_of 6 three_shown (filed link_columns) value_of link_columns (λ c. c.links)
@@ -123,25 +120,18 @@ actor_table = part_of entry_table actor_shown actor_of text_shown ReadsText IsTe
     (λ params k. refl) (λ params r. refl) (λ x is. record { wide = omega arith; text = is.actor })
     (λ r is. record { wide = omega arith; text = is.actor })
 
--- numbers in one column
-abbrev numbers_of : {K V : Type 0} (t : TableOf K V) (terms : List Term) (number : V → ℕ)
-    → ((params : Row) (k : K) → shows terms params (t.row k) ≡ count_value (number (t.value k))
-    ∷ []) → ((params r : Row) → shows terms params r ≡ shows terms [] r)
-    → ((x : V) → t.IsValue (t.view x) → IsNumberRow (count_value (number x) ∷ []))
-    → ((r : Row) → t.IsValue (shows t.terms [] r) → IsNumberRow (shows terms [] r)) → TableOf K ℕ
-numbers_of t terms number = part_of t terms number (λ n. count_value n ∷ [])
-    (λ row n. column row 0 ≡ count_value n) IsNumberRow (λ a b h. sym (same_count h))
-
 -- the numbers of requests
 abbrev pub id_table : TableOf Dated ℕ
-id_table = numbers_of request_table last_id_terms number_of (λ params k. refl) (λ params r. refl)
+id_table = part_of request_table last_id_terms number_of (λ n. count_value n ∷ []) ReadsCount
+    IsNumberRow count_back (λ params k. refl) (λ params r. refl)
     (λ x is. record { wide = omega arith; number = is.id })
     (λ r is. record { wide = omega arith; number = is.id })
 
 -- the numbers of entries
 abbrev pub place_table : TableOf (ℤ × Entry) ℕ
-place_table = numbers_of entry_table last_number_terms place_of (λ params k. refl)
-    (λ params r. refl) (λ x is. record { wide = omega arith; number = is.number })
+place_table = part_of entry_table last_number_terms place_of (λ n. count_value n ∷ []) ReadsCount
+    IsNumberRow count_back (λ params k. refl) (λ params r. refl)
+    (λ x is. record { wide = omega arith; number = is.number })
     (λ r is. record { wide = omega arith; number = is.number })
 
 -- the stays, of whose rows only parts are read
@@ -149,4 +139,4 @@ abbrev pub stay_table : TableOf (ℤ × StayRow) StayRow
 stay_table = table_of 10 stay_shown (filed stay_columns) value_of stay_columns (λ c. c.stays)
     (λ row x. (a : StayRow) → row ≡ stay_columns a → x ≡ a) IsStayRow (λ a b only. only a refl)
     (λ params k. refl) (λ params r. refl) (λ c db t. t.stays)
-    (λ c db t. (values_of c t.values).stays) (λ db it. inr (inr (inr (inr (inr it)))))
+    (λ c db t. (values_of c t.values).stays) (λ db it. grind arith)

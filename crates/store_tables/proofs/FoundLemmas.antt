@@ -1,19 +1,14 @@
 -- One number that is read: the last one, or 0 where there is none; and how many rows there are.
-use Rattle.std.proofs.Common.{◌≡◌, ◌∙◌, ℕ, Bool, true, List, [], ◌∷◌, None, Option, Result, Some}
-use Rattle.std.proofs.Common.{inl, inr, ap, refl, subst, sym, ◌≤◌, Ok, length, map, filter, ◌<◌}
-use Rattle.std.proofs.Common.{arith, codes, min}
+use Rattle.std.proofs.Common.{◌≡◌, Bool, true, List, None, Some, refl, subst, arith, codes, filter}
+use Rattle.std.proofs.Common.{◌∙◌, [], ◌∷◌, inl, inr, ap, sym, ◌≤◌, Ok, map, ◌<◌, min, ◌^◌}
+use Rattle.std.proofs.Common.{ℕ, Option, Result, length, option_to_list, nat_cmp, filter, unwrap_or}
 use Rattle.std.specs.List.{AllZip}
-use Rattle.std.specs.Option.{option_to_list}
-use Rattle.std.specs.Prelude.{filter, unwrap_or, ◌^◌}
-use Rattle.std.specs.Ordering.{nat_cmp}
-use Rattle.sqlite.specs.Query.{output, output_cmp, IsAnswer, page, Output, matches}
-use Rattle.sqlite_value.specs.Order.{value_cmp}
-use Rattle.sqlite_value.proofs.OrderLemmas.{then-Equal}
+use Rattle.sqlite.specs.Query.{output, output_cmp, IsAnswer, page, Output}
 use Rattle.sqlite.specs.Order.{Row, column}
 use Rattle.sqlite.specs.State.{State, HasCleanDisk, Shown}
 use Rattle.sqlite.specs.Term.{Term, col, Env}
 use Rattle.store_tables.specs.Calls.{FailsIn, ReadsRows, Spares}
-use Rattle.store_tables.specs.Contents.{Contents, requests}
+use Rattle.store_tables.specs.Contents.{Contents, requests, desk_schema}
 use Rattle.store_tables.specs.Picked.{IsGreatest, ShowsGreatest, passes, shows}
 use Rattle.store_tables.specs.Queries.{last_id_text, last_number_text, last_of, request_test}
 use Rattle.store_tables.specs.Queries.{counting, counts, queue_count_text}
@@ -31,8 +26,8 @@ use Rattle.store_tables.proofs.PickedLemmas.{last_by, bare, matched}
 use Rattle.store_tables.proofs.ReadOn.{telling}
 use Rattle.store_tables.proofs.StandLemmas.{shown_tables}
 use Rattle.sqlite_tied.proofs.RuleLemmas.{and_true}
-use Rattle.store_tables.proofs.TestLemmas.{equal_numbers, order_numbers}
-use Rattle.store_tables.proofs.RowLemmas.{TableOf, blames_of, fails_of}
+use Rattle.store_tables.proofs.TestLemmas.{equal_numbers}
+use Rattle.store_tables.proofs.RowLemmas.{TableOf, blames_of, fails_of, ranked}
 use Rattle.store_tables.proofs.Statements.{last_id_is, last_number_is}
 use Rattle.std.proofs.lemmas.List.{length-map}
 use Rattle.std.proofs.lemmas.List.Sorted.{length_permutation}
@@ -45,21 +40,19 @@ use Rattle.sqlite_sql.specs.Aggregate.{count}
 use Rattle.sqlite_sql.specs.Group.{IsSummary, value_over}
 use Rattle.sqlite_tied.specs.Compute.{everything}
 use Rattle.store_tables.specs.Kept.{Holds}
-use Rattle.store_tables.specs.Tables.{desk_schema}
 
 -- the number that the last row shows is the greatest
 greatest_read : {X : Type 0} (key : X → ℕ) (xs : List X) (rows : List Row) (last : Option ℕ)
     → ShowsGreatest key xs rows → AllZip ReadsCount rows (option_to_list last)
     → IsGreatest key xs (unwrap_or last 0)
 greatest_read key xs [] None (inl h) read = inl (h.1, refl)
-greatest_read key xs [] None (inr h) read = absurd (let e = h.1 in cc)
-greatest_read key xs [] (Some n) show read = absurd read
-greatest_read key xs (row ∷ rows) None show read = absurd read
-greatest_read key xs (row ∷ rows) (Some n) (inl h) read = absurd (let e = h.0 in cc)
 greatest_read key xs (row ∷ rows) (Some n) (inr h) read =
     let same : row ≡ count_value (key h.0) ∷ [] = let e = h.1 in cc in
     let is : key h.0 ≡ n = let e = sym (ap (λ r. column r 0) same) ∙ read.0.number in cc in
     inr (h.0, h.2, is, λ y has. subst (λ m. key y ≤ m) is (h.3 y has))
+greatest_read key xs [] None (inr h) read = absurd (let e = h.1 in cc)
+greatest_read key xs (row ∷ rows) (Some n) (inl h) read = absurd (let e = h.0 in cc)
+greatest_read key xs rows last show read = absurd (grind arith)
 
 module _ {K X : Type 0} (t : TableOf K X) (key : X → ℕ) {names : List (List ℕ)} (text : List ℕ)
     (params : Row) (test : List Term) (at : Term)
@@ -96,8 +89,7 @@ module _ {old new : State} {r : Result (Option ℕ) StoreFault} (kept : Spares o
       → Reads (λ c last. IsGreatest number_of (requests c) (unwrap_or last 0)) old new r
   last_id_read read = telling (λ c last greatest. rw (every (requests c)) at greatest)
       (reads_greatest request_table number_of last_id_text [] [] (col 1 0) last_id_is (λ row. refl)
-      (λ k. refl) (λ a b. then-Equal (value_cmp (count_value b.0.id) (count_value a.0.id))
-      ∙ order_numbers b.0.id a.0.id) (λ _. true) (λ k. refl) old new kept r read
+      (λ k. refl) (λ a b. simp ranked) (λ _. true) (λ k. refl) old new kept r read
       (blames_of id_table old new r))
 
   pub last_number_read : (id : ℕ)
@@ -107,29 +99,25 @@ module _ {old new : State} {r : Result (Option ℕ) StoreFault} (kept : Spares o
       old new r
   last_number_read id read = reads_greatest entry_table place_of last_number_text
       (count_value id ∷ []) request_test (col 1 2) last_number_is (λ row. refl) (λ k. refl)
-      (λ a b. then-Equal (value_cmp (count_value b.1.number) (count_value a.1.number))
-      ∙ order_numbers b.1.number a.1.number) (tells_of id)
-      (λ k. simp (equal_numbers, and_true)) old new kept r read
+      (λ a b. simp ranked) (tells_of id) (λ k. simp (equal_numbers, and_true)) old new kept r read
       (blames_of place_table old new r)
 
 pub queue_count_is : Selects queue_count_text (counts 1) (codes "count(*)" ∷ [])
 unfolding understood everything
-queue_count_is = record { is = refl; plain = (refl, refl); unlisted = refl }
+queue_count_is = record { is = refl; plain = (refl, refl); unlisted = refl; none = λ s n. refl }
 
 one_value : (order : List Env) (values : Row)
     → AllZip (λ a v. value_over order a ≡ Some v) counting.aggregates values
     → values ≡ count (length order) ∷ []
-one_value order [] zip = absurd zip
-one_value order (v ∷ w ∷ more) zip = absurd zip.1
 one_value order (v ∷ []) zip =
     let same : count (length (map (λ (e : Env). Null) order)) ≡ v = let e = zip.0 in cc in
     ap (λ x. x ∷ []) (sym same ∙ ap count (length-map order (λ (e : Env). Null)))
+one_value order values zip = absurd (grind arith)
 
 one_group : (order : List Env) (rows : List Row)
     → AllZip (IsSummary counting) (order ∷ []) rows → rows ≡ (count (length order) ∷ []) ∷ []
-one_group order [] zip = absurd zip
-one_group order (r ∷ q ∷ more) zip = absurd zip.1
 one_group order (r ∷ []) zip = ap (λ x. x ∷ []) (zip.0.2 ∙ one_value order zip.0.0 zip.0.1)
+one_group order rows zip = absurd (grind arith)
 
 -- the one row has the number of the table's rows
 counts_rows : (tree : ℕ) (db : Trees) (rows : List Row) → IsAnswer (counts tree) db [] rows
@@ -139,12 +127,9 @@ counts_rows tree db rows a =
     let g = a.grouped in
     let order = g.grouping.0 in
     let one = one_group order g.rows (rw g.grouping.2 at g.summaries) in
-    let all : matches db [] q.from ([] ∷ []) ≡ map (λ r. [] ∷ r ∷ []) (filter (λ r. true) (db tree))
-    = matched [] [] (db tree) in
     let long : length order ≡ length (db tree) =
-    length_permutation _ order g.grouping.1 ∙ ap length all
-    ∙ length-map (filter (λ r. true) (db tree)) (λ r. [] ∷ r ∷ [])
-    ∙ ap length (every (db tree)) in
+    length_permutation _ order g.grouping.1 ∙ ap length (matched [] [] (db tree))
+    ∙ length-map (filter (λ r. true) (db tree)) (λ r. [] ∷ r ∷ []) ∙ ap length (every (db tree)) in
     let value = count (length (db tree)) in
     let staged : a.staged ≡ ([] ∷ (value ∷ []) ∷ []) ∷ [] =
     g.having ∙ ap (λ rs. filter (λ (env : Env). true) (map (λ (r : Row). [] ∷ r ∷ []) rs))
@@ -155,10 +140,10 @@ counts_rows tree db rows a =
     a.shown ∙ ap (λ xs. page q [] (map (λ (p : Output). p.1) xs)) ordered
 
 -- a table has a row for each value that it keeps
-held : {K X : Type 0} (row : K → Row) (value : K → X) (xs : List X) (rows : List Row)
+held : {K X : Type 0} {row : K → Row} {value : K → X} {xs : List X} {rows : List Row}
     → Holds row value xs rows → length rows ≡ length xs
-held row value xs rows h = ap length h.spelt ∙ length-map h.kept row ∙ sym (length-map h.kept value)
-    ∙ sym (length_permutation (map value h.kept) xs h.same)
+held {row = row} {value} {xs} h = ap length h.spelt ∙ length-map h.kept row
+    ∙ sym (length-map h.kept value) ∙ sym (length_permutation (map value h.kept) xs h.same)
 
 pub shows_queue_count : (d : Contents) (old new : State) → (HasCleanDisk new → HasCleanDisk old)
     → Stand d old → HasCleanDisk new → (rows : List Row) → Shown queue_count_text [] old new rows
@@ -168,8 +153,7 @@ shows_queue_count d old new clean stand c rows h =
     let got = reads_as queue_count_text [] old new desk_schema t.schema _ queue_count_is.is
     queue_count_is.plain queue_count_is.unlisted rows h in
     counts_rows 1 (overlay old.now.trees []) rows (got.answer Null)
-    ∙ ap (λ rs. (count (length rs) ∷ []) ∷ []) (bare old.now.trees 1)
-    ∙ ap (λ n. (count n ∷ []) ∷ []) (held _ _ d.queues (old.now.trees 1) t.queues)
+    ∙ ap (λ n. (count n ∷ []) ∷ []) (ap length (bare old.now.trees 1) ∙ held t.queues)
 
 -- so their number is read
 pub counted : {old new : State} {shown : Option ℕ} {n : ℕ} → shown ≡ Some n → n < 2 ^ 32

@@ -1,7 +1,9 @@
+pub mod AllTables
 pub mod BackLemmas
 pub mod BlameLemmas
 pub mod BlankLemmas
 pub mod ChangeLemmas
+pub mod CreateLemmas
 pub mod DueLemmas
 pub mod EachQuery
 pub mod EachTable
@@ -21,6 +23,7 @@ pub mod Statements
 pub mod StepLemmas
 pub mod TableLemmas
 pub mod TestLemmas
+pub mod TextLemmas
 pub mod ValueLemmas
 pub mod VersionLemmas
 pub mod WriteLemmas

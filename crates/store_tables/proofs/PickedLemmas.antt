@@ -1,8 +1,7 @@
 -- From the meaning of a SELECT on one table to the rows that it picks.
-use Rattle.std.proofs.Common.{◌≡◌, ℕ, cond, List, [], ◌∷◌, map, filter, take, arith, refl, ap}
-use Rattle.std.proofs.Common.{subst, ◌∙◌, IsPermutation, Bool, None}
+use Rattle.std.proofs.Common.{◌≡◌, cond, List, [], ◌∷◌, map, take, refl, ap, ◌∙◌}
+use Rattle.std.proofs.Common.{ℕ, filter, arith, subst, IsPermutation, flat_map, IsSorted}
 use Rattle.std.specs.List.{list_all}
-use Rattle.std.specs.Prelude.{flat_map, unwrap_or, IsSorted}
 use Rattle.sqlite.specs.declared.types.Value.TheVariants.{Null}
 use Rattle.sqlite.specs.Order.{Row}
 use Rattle.sqlite.specs.Term.{Env, Term, holds}
@@ -13,17 +12,14 @@ use Rattle.sqlite.specs.Schema.{Schema}
 use Rattle.sqlite.specs.State.{State, Shown}
 use Rattle.sqlite.proofs.Callers.{reads_as}
 use Rattle.sqlite_trees.proofs.ListLemmas.{map-map, pull_back}
+use Rattle.store_tables.specs.Contents.{desk_schema}
 use Rattle.store_tables.specs.Queries.{reads, last_of}
 use Rattle.store_tables.specs.Picked.{passes, Picks, PicksLast}
-use Rattle.store_tables.specs.Tables.{desk_schema}
 use Rattle.store_tables.proofs.Meaning.{Selects, SelectsIn}
-
-neither : {X : Type 0} (b : Bool) (x : X) → cond b x x ≡ x
-neither b x = grind arith
 
 -- a query with no tables of its own reads those of the database
 pub bare : (db : Trees) (tree : ℕ) → overlay db [] tree ≡ db tree
-bare db tree = ap (λ o. unwrap_or o (db tree)) (neither _ None)
+bare db tree = grind arith
 
 pub matched : (test : List Term) (params : Row) (rows : List Row)
     → flat_map (λ r. cond (list_all (holds (params ∷ r ∷ [])) test) ((params ∷ r ∷ []) ∷ []) [])
@@ -32,12 +28,12 @@ matched test params [] = refl
 matched test params (r ∷ rows) = grind (arith, matched test params rows)
 
 -- what is put out of the rows that pass, in an order, is that of them in some order
-put_out : (q : Query) (test : List Term) (params : Row) (from : List Row) (staged : List Env)
-    (kept ordered : List Output) → staged ≡ flat_map (λ r. cond (list_all (holds (params ∷ r ∷ []))
+put_out : (q : Query) (test : List Term) (params : Row) (from : List Row) {staged : List Env}
+    {kept ordered : List Output} → staged ≡ flat_map (λ r. cond (list_all (holds (params ∷ r ∷ []))
     test) ((params ∷ r ∷ []) ∷ []) []) from → kept ≡ map (output q) staged → IsPermutation kept
     ordered → (picked : List Row) × IsPermutation (filter (passes test params) from) picked
     × (ordered ≡ map (λ r. output q (params ∷ r ∷ [])) picked)
-put_out q test params from staged kept ordered grouped is same =
+put_out q test params from {kept = kept} {ordered} grouped is same =
     let rows = filter (passes test params) from in
     let all : kept ≡ map (λ r. output q (params ∷ r ∷ [])) rows =
     is ∙ ap (map (output q)) (grouped ∙ matched test params from)
@@ -49,8 +45,7 @@ pub picks : (tree : ℕ) (test project order : List Term) (params : Row) (db : T
     → Picks tree test project order params (db tree) rows
 picks tree test project order params db rows a =
     let q = reads tree test project order in
-    let back = put_out q test params (db tree) a.staged a.kept a.ordered a.grouped a.distinct a.same
-    in record {
+    let back = put_out q test params (db tree) a.grouped a.distinct a.same in record {
       picked = back.0;
       same = back.1;
       sorted = subst (IsSorted (output_cmp q)) back.2 a.sorted;
@@ -73,8 +68,7 @@ pub picks_last : (tree : ℕ) (test : List Term) (at : Term) (params : Row) (db 
     → PicksLast tree test at params (db tree) rows
 picks_last tree test at params db rows a =
     let q = last_of tree test at in
-    let back = put_out q test params (db tree) a.staged a.kept a.ordered a.grouped a.distinct a.same
-    in record {
+    let back = put_out q test params (db tree) a.grouped a.distinct a.same in record {
       picked = back.0;
       same = back.1;
       sorted = subst (IsSorted (output_cmp q)) back.2 a.sorted;

@@ -1,9 +1,8 @@
 -- From the rows that are picked to the values that they show, of any table; the last by a number.
-use Rattle.std.proofs.Common.{◌≡◌, ◌+◌, ◌<◌, ℕ, Bool, List, [], ◌∷◌, ◌++◌, map, filter, take}
-use Rattle.std.proofs.Common.{length, get_or, refl, sym, ap, ap₂, subst, subst₂, ◌∙◌, IsPermutation}
-use Rattle.std.proofs.Common.{Ordering, arith, Option, None, Some, ◌≤◌, inl, inr, suc, false}
+use Rattle.std.proofs.Common.{◌≡◌, ◌+◌, ◌<◌, ℕ, ◌∷◌, map, sym, ap, ap₂, ◌∙◌, ◌≤◌, inl, inr, suc}
+use Rattle.std.proofs.Common.{Bool, List, ◌++◌, take, refl, subst, arith, Option, None, Some, false}
+use Rattle.std.proofs.Common.{[], filter, length, get_or, subst₂, IsPermutation, Ordering, IsSorted}
 use Rattle.std.specs.Option.{option_to_list}
-use Rattle.std.specs.Prelude.{IsSorted}
 use Rattle.std.specs.List.{AllZip}
 use Rattle.std.specs.Ordering.{is_lt, nat_cmp}
 use Rattle.std.proofs.lemmas.List.{get_or-map, map-id, length-map, nil_from_length, take_more}
@@ -28,22 +27,18 @@ use Rattle.sqlite_rules.specs.Lists.{Has}
 use Rattle.sqlite_rules.proofs.ListLemmas.{all_has, has_contained, contains_had}
 use Rattle.store_tables.specs.Spelling.{count_value}
 
--- a list is in the order of its images
-pub sorted_from : {X Y : Type 0} (f : X → Y) (by : X → X → Ordering) (cmp : Y → Y → Ordering)
-    → ((a b : X) → cmp (f a) (f b) ≡ by a b) → (xs : List X) → IsSorted cmp (map f xs)
-    → IsSorted by xs
-sorted_from f by cmp same xs h k d low high =
-    sym (ap is_lt (ap₂ cmp (get_or-map f xs (k + 1) d (f d) (omega (arith, high)))
-    (get_or-map f xs k d (f d) (omega (arith, high))) ∙ same _ _))
-    ∙ h k (f d) low (omega (arith, high, length-map xs f))
-
-pub sorted_to : {X Y : Type 0} (f : X → Y) (cmp : Y → Y → Ordering) (xs : List X)
-    → IsSorted (λ a b. cmp (f a) (f b)) xs → IsSorted cmp (map f xs)
-sorted_to f cmp [] h k d low high = absurd (omega arith)
-sorted_to f cmp (x ∷ xs) h k d low high =
-    let n = length-map xs f in
-    ap is_lt (ap₂ cmp (get_or-map f (x ∷ xs) (k + 1) x d (omega (arith, high, n)))
-    (get_or-map f (x ∷ xs) k x d (omega (arith, high, n)))) ∙ h k x low (omega (arith, high, n))
+-- where one image of a list is in order, so is another that is ordered alike
+sorted_as : {K X Y : Type 0} (f : K → Y) (g : K → X) (by : Y → Y → Ordering)
+    (cmp : X → X → Ordering) → ((a b : K) → by (f a) (f b) ≡ cmp (g a) (g b)) → (ks : List K)
+    → IsSorted by (map f ks) → IsSorted cmp (map g ks)
+sorted_as f g by cmp same [] h k d low high = absurd (omega arith)
+sorted_as f g by cmp same (a ∷ ks) h k d low high =
+    let m = length-map (a ∷ ks) f in
+    let more : k + 1 < length (a ∷ ks) = omega (arith, high, length-map (a ∷ ks) g) in
+    let here : k < length (a ∷ ks) = omega arith in
+    ap is_lt (ap₂ cmp (get_or-map g (a ∷ ks) (k + 1) a d more) (get_or-map g (a ∷ ks) k a d here)
+    ∙ sym (ap₂ by (get_or-map f (a ∷ ks) (k + 1) a (f a) more)
+    (get_or-map f (a ∷ ks) k a (f a) here) ∙ same _ _)) ∙ h k (f a) low (omega (arith, more, m))
 
 module _ {K X : Type 0} {row : K → Row} {value : K → X} {tree : ℕ} {test project order : List Term}
     {params : Row} {xs : List X} {from rows : List Row} (view : X → Row) (p : X → Bool)
@@ -52,11 +47,10 @@ module _ {K X : Type 0} {row : K → Row} {value : K → X} {tree : ℕ} {test p
     (holds : Holds row value xs from) (picks : Picks tree test project order params from rows)
   where
     left : Holds row value (filter p xs) (filter (passes test params) from)
-    left = found row value xs from holds (passes test params) p tests
+    left = found holds (passes test params) p tests
 
     back : (ks : List K) × IsPermutation left.kept ks × (picks.picked ≡ map row ks)
-    back = pull_back row (map row left.kept) picks.picked
-        (subst (λ rs. IsPermutation rs picks.picked) left.spelt picks.same) left.kept refl
+    back = pull_back row _ picks.picked (rw left.spelt at picks.same) left.kept refl
 
     values_are : rows ≡ map view (map value back.0)
     values_are = picks.shown ∙ ap (map (shows project params)) back.2
@@ -77,12 +71,11 @@ module _ {K X : Type 0} {row : K → Row} {value : K → X} {tree : ℕ} {test p
         → output_cmp (reads tree test project order) (output_of a) (output_of b) ≡ cmp (value a)
         (value b)) → Lists cmp view (filter p xs) rows
     lists_values cmp orders =
-        let sorted = sorted_to value cmp back.0 (sorted_from output_of
-        (λ a b. cmp (value a) (value b)) (output_cmp (reads tree test project order)) orders back.0
-        (subst (IsSorted (output_cmp (reads tree test project order)))
+        let sorted = sorted_as output_of value (output_cmp (reads tree test project order)) cmp
+        orders back.0 (subst (IsSorted (output_cmp (reads tree test project order)))
         (ap (map (λ r. output (reads tree test project order) (params ∷ r ∷ []))) back.2
         ∙ map-map (λ r. output (reads tree test project order) (params ∷ r ∷ [])) row back.0)
-        picks.sorted)) in
+        picks.sorted) in
         record {
           values = map value back.0;
           are = values_are;
@@ -96,10 +89,9 @@ pub parts_are : {V Y : Type 0} (view : V → Row) (part : V → Y) (Reads : Row 
     → ((a : V) (b : Y) → Reads (view a) b → b ≡ part a) → (vs : List V) (ys : List Y)
     → AllZip Reads (map view vs) ys → ys ≡ map part vs
 parts_are view part Reads same [] [] zip = refl
-parts_are view part Reads same [] (y ∷ ys) zip = absurd zip
-parts_are view part Reads same (v ∷ vs) [] zip = absurd zip
 parts_are view part Reads same (v ∷ vs) (y ∷ ys) zip =
     ap₂ (λ z zs. z ∷ zs) (same v y zip.0) (parts_are view part Reads same vs ys zip.1)
+parts_are view part Reads same vs ys zip = absurd (grind arith)
 
 module _ {X : Type 0} (view : X → Row) (Reads : Row → X → Type 0)
     (reads_back : (a b : X) → Reads (view a) b → b ≡ a) where
@@ -120,12 +112,8 @@ module _ {X : Type 0} (view : X → Row) (Reads : Row → X → Type 0)
   -- the one value that was read, or none, is what is shown
   pub one_read : {xs : List X} {rows : List Row} (v : Option X) → Shows view xs rows
       → AllZip Reads rows (option_to_list v) → option_to_list v ≡ xs
-  one_read {xs} {rows} v h zip = only v (subst (IsPermutation xs) values h.same)
+  one_read {xs} v h zip = only v (all_shown h zip)
     where
-      values : h.values ≡ option_to_list v
-      values = read_same h.values (option_to_list v)
-          (subst (λ rs. AllZip Reads rs (option_to_list v)) h.are zip)
-
       only : (o : Option X) → IsPermutation xs (option_to_list o) → option_to_list o ≡ xs
       only None same = sym (nil_from_length xs (sym (length_permutation xs [] same)))
       only (Some x) same = sym (one_permutation x xs (IsPermutation-sym xs (x ∷ []) same))
@@ -180,26 +168,24 @@ module _ {K X : Type 0} {row : K → Row} {value : K → X} {tree : ℕ} {test :
 
   pub shows_greatest : ShowsGreatest key (filter p xs) rows
   shows_greatest =
-      let left = found row value xs from holds (passes test params) p tests in
+      let left = found holds (passes test params) p tests in
       let back = pull_back row _ picks.picked (rw left.spelt at picks.same) left.kept refl in
       let put = λ (k : K). output (last_of tree test at) (params ∷ row k ∷ []) in
-      let sorted : IsSorted (λ a b. nat_cmp (key (value b)) (key (value a))) back.0 =
-      sorted_from put (λ a b. nat_cmp (key (value b)) (key (value a)))
-      (output_cmp (last_of tree test at)) orders back.0
+      let sorted = sorted_as put value (output_cmp (last_of tree test at))
+      (λ a b. nat_cmp (key b) (key a)) orders back.0
       (rw (back.2, map-map (λ r. output (last_of tree test at) (params ∷ r ∷ [])) row back.0) at
       picks.sorted) in
       first_of back.0 (picks.shown ∙ ap (λ rs. take 1 (map (shows (at ∷ []) params) rs)) back.2)
       (IsPermutation-trans _ _ _ (IsPermutation-sym _ _ left.same)
-      (IsPermutation-map value _ _ back.1))
-      (sorted_to value (λ a b. nat_cmp (key b) (key a)) back.0 sorted)
+      (IsPermutation-map value _ _ back.1)) sorted
 
 -- ---- what passes of a table, by the rows that pass
 
-module _ {K X : Type 0} (row : K → Row) (value : K → X) (xs : List X) (rows : List Row)
+module _ {K X : Type 0} {row : K → Row} {value : K → X} {xs : List X} {rows : List Row}
     (holds : Holds row value xs rows) (test : Row → Bool) (p : X → Bool)
     (is : (k : K) → test (row k) ≡ p (value k)) where
   abbrev passing : Holds row value (filter p xs) (filter test rows)
-  passing = found row value xs rows holds test p is
+  passing = found holds test p is
 
   -- where one row passes, it is that of the one value that does
   pub one_held : (it : Row) → filter test rows ≡ it ∷ []

@@ -1,26 +1,23 @@
 -- Readings, one after another.
 use Rattle.std.proofs.Common.{rules, ◌≡◌, ◌⊎◌, Err, IfErr, IfOk, inl, inr, IsTrue, Ok, refl, Result}
 use Rattle.std.proofs.Common.{subst}
-use Rattle.sqlite.specs.Effect.{Database}
 use Rattle.sqlite.specs.State.{State, HasCleanDisk}
 use Rattle.desk_model.specs.Desk.{Desk}
-use Rattle.store_tables.specs.Calls.{Answers, AreThere, OnlyRefuses, Spares, Tells, WasClean}
-use Rattle.store_tables.specs.Contents.{Contents, contents_of}
-use Rattle.store_tables.specs.Readings.{Blames, HasBadRows, OfDesk, Reads}
-use Rattle.store_tables.specs.Stands.{Tables}
+use Rattle.store_tables.specs.Calls.{Answers, OnlyRefuses, Spares, Tells, WasClean}
+use Rattle.store_tables.specs.Contents.{Contents, contents_of, HasBadRows}
+use Rattle.store_tables.specs.Readings.{Blames, OfDesk, Reads}
 use Rattle.store_tables.specs.declared.fault.StoreFault.{StoreFault}
 use Rattle.store_tables.specs.declared.fault.StoreFault.TheVariants.{Refused}
-use Rattle.store_tables.proofs.EachTable.{dated_table, entry_table, link_table, queue_table}
-use Rattle.store_tables.proofs.EachTable.{stay_table, watcher_table}
 use Rattle.store_tables.proofs.ReadingLemmas.{if_err, if_ok}
-use Rattle.store_tables.proofs.RowLemmas.{no_bad, only_refused}
+use Rattle.store_tables.proofs.AllTables.{none_bad}
+use Rattle.store_tables.proofs.RowLemmas.{only_refused}
 use Rattle.store_tables.proofs.Spared.{joined, stands, there_still}
 
-bad_before : {a b : State} → Spares a b → AreThere a → HasCleanDisk b
+bad_before : {a b : State} → Spares a b → HasCleanDisk b
     → IsTrue b.is_open × (HasBadRows b.now ⊎ HasBadRows b.committed)
     → IsTrue a.is_open × (HasBadRows a.now ⊎ HasBadRows a.committed)
-bad_before {a} kept there clean bad =
-    let it = kept.left there clean bad.0 in (
+bad_before {a} kept clean bad =
+    let it = kept.left clean bad.0 in (
       it.0,
       elim bad.1 [
         | inl now ↦ elim it.2 [
@@ -41,7 +38,7 @@ pub blames_after : {X : Type 0} {a b c : State} {r : Result X StoreFault} → Sp
     → WasClean b c → Blames b c r → Blames a c r
 blames_after {r = r} first clean second = record {
   known = second.known;
-  mismatch = if_err r (λ e blame wrong there now. bad_before first there (clean now)
+  mismatch = if_err r (λ e blame wrong there now. bad_before first (clean now)
       (blame wrong (there_still first there) now)) second.mismatch;
 }
 
@@ -103,17 +100,6 @@ pub giving : {X Y : Type 0} {P : Contents → X → Type 0} {Q : Contents → Y 
     {x : X} {y : Y} → ((d : Contents) → P d x → Q d y) → Reads P a b (Ok x) → Reads Q a b (Ok y)
 giving {Q = Q} {a} {b} {y = y} so it =
     let told : Answers Q a b (Ok y) = λ d stand clean. so d (it.told d stand clean) in search rules
-
--- tables that hold values have no bad row
-none_bad : (c : Contents) (db : Database) → Tables c db → HasBadRows db → ⊥
-none_bad c db t bad = elim bad [
-  | inl queue ↦ no_bad queue_table c db t queue
-  | inr (inl request) ↦ no_bad dated_table c db t request
-  | inr (inr (inl watcher)) ↦ no_bad watcher_table c db t watcher
-  | inr (inr (inr (inl link))) ↦ no_bad link_table c db t link
-  | inr (inr (inr (inr (inl entry)))) ↦ no_bad entry_table c db t entry
-  | inr (inr (inr (inr (inr stay)))) ↦ no_bad stay_table c db t stay
-]
 
 -- so the only fault is that the store or memory refused it
 pub blames_none : {X : Type 0} {old new : State} {r : Result X StoreFault} → WasClean old new

@@ -1,10 +1,9 @@
 -- What a query reads, of the table that it reads. A table is told once, by `TableOf`, and what is
 -- shown here is so of each.
-use Rattle.std.proofs.Common.{◌≡◌, ◌≢◌, ℕ, Bool, true, List, [], ◌∷◌, filter, map, IsPermutation}
-use Rattle.std.proofs.Common.{Option, Ok, Err, Result, IfOk, IfErr, Ordering, ap, inl, refl, subst}
-use Rattle.std.proofs.Common.{arith, sym, IsTrue, ◌∙◌}
+use Rattle.std.proofs.Common.{◌≡◌, ◌≢◌, ℕ, true, List, ◌∷◌, IfOk, IfErr, subst, arith, IsTrue}
+use Rattle.std.proofs.Common.{Bool, filter, IsPermutation, Option, Result, Ordering, option_to_list}
+use Rattle.std.proofs.Common.{[], map, Ok, Err, ap, inl, sym, ◌∙◌}
 use Rattle.std.specs.List.{AllZip}
-use Rattle.std.specs.Option.{option_to_list}
 use Rattle.sqlite.specs.Effect.{Database}
 use Rattle.sqlite.specs.Order.{Row}
 use Rattle.sqlite.specs.Query.{output, output_cmp}
@@ -13,24 +12,26 @@ use Rattle.sqlite.specs.Term.{Term}
 use Rattle.sqlite_trees.proofs.ListLemmas.{all_of, filter_all}
 use Rattle.sqlite_rules.specs.Lists.{Has}
 use Rattle.sqlite_rules.proofs.ProbeLemmas.{has_mapped, mapped_has}
-use Rattle.store_tables.specs.Calls.{FailsIn, HasBadRow, OnlyRefuses, ReadsRows, Spares, WasClean}
-use Rattle.store_tables.specs.Contents.{Contents}
+use Rattle.store_tables.specs.Calls.{FailsIn, OnlyRefuses, ReadsAlone, ReadsRows}
+use Rattle.store_tables.specs.Calls.{Spares, WasClean}
+use Rattle.store_tables.specs.Contents.{Contents, HasBadRow, HasBadRows, Tables}
 use Rattle.store_tables.specs.Kept.{Holds}
 use Rattle.store_tables.specs.Picked.{AreOrdered, AreParts, Lists, Picks, passes, shows, Shows}
 use Rattle.store_tables.specs.Queries.{last_id_terms, reads}
 use Rattle.store_tables.specs.Reading.{IsNumberRow, ReadsCount}
-use Rattle.store_tables.specs.Readings.{Blames, HasBadRows, Reads}
+use Rattle.store_tables.specs.Readings.{Blames, Reads}
 use Rattle.store_tables.specs.Spelling.{count_value}
-use Rattle.store_tables.specs.Stands.{HasTables, Tables}
+use Rattle.store_tables.specs.Stands.{HasTables}
 use Rattle.store_tables.specs.declared.fault.StoreFault.{StoreFault}
 use Rattle.store_tables.specs.declared.fault.StoreFault.TheVariants.{Mismatch, Refused}
 use Rattle.store_tables.specs.declared.fault.StoreFault.TheVariants.{WrongVersion}
 use Rattle.store_tables.proofs.BackLemmas.{count_back}
-use Rattle.store_tables.proofs.ReadLemmas.{has_permuted}
-use Rattle.store_tables.proofs.Meaning.{Selects}
+use Rattle.store_tables.proofs.ReadLemmas.{has_permuted, parts_are, lists_values, shows_values}
+use Rattle.store_tables.proofs.ReadLemmas.{all_read, all_shown, one_read}
+use Rattle.store_tables.proofs.Meaning.{Selects, alone}
+use Rattle.store_tables.proofs.TestLemmas.{order_moments, order_numbers}
+use Rattle.sqlite_value.proofs.OrderLemmas.{then-Equal, value_cmp-Text}
 use Rattle.store_tables.proofs.PickedLemmas.{picked_by}
-use Rattle.store_tables.proofs.ReadLemmas.{parts_are, all_read, all_shown, lists_values, one_read}
-use Rattle.store_tables.proofs.ReadLemmas.{shows_values}
 use Rattle.store_tables.proofs.ReadingLemmas.{if_err, if_ok, table_rows}
 use Rattle.store_tables.proofs.StandLemmas.{Holding, tables_shown}
 
@@ -67,23 +68,38 @@ pub record TableOf (K V : Type 0) : Type 1 where
       → IsValue (view x)
   pub bad : (db : Database) → HasBadRow tree terms IsValue db → HasBadRows db
 
--- the rows of a query are in the order of their values
-abbrev pub RanksBy : {K V : Type 0} → TableOf K V → List Term → List Term → List Term → Row
-    → (V → V → Ordering) → Type 0
-RanksBy {K} t test terms order params cmp = (a b : K) → output_cmp (reads t.tree test terms order)
-    (output (reads t.tree test terms order) (params ∷ t.row a ∷ []))
-    (output (reads t.tree test terms order) (params ∷ t.row b ∷ [])) ≡ cmp (t.value a) (t.value b)
+-- A query on a table: its text, what is bound, which rows pass, their order, and what it shows.
+pub record PartsOn {K V : Type 0} (t : TableOf K V) (terms : List Term) (view : V → Row) : Type 0
+  where
+    pub text : List ℕ
+    pub params : Row
+    pub test : List Term
+    pub order : List Term
+    pub names : List (List ℕ)
+    pub means : Selects text (reads t.tree test terms order) names
+    pub passing : V → Bool
+    pub tests : (k : K) → passes test params (t.row k) ≡ passing (t.value k)
+    pub shown : (k : K) → shows terms params (t.row k) ≡ view (t.value k)
+    pub same : (r : Row) → shows terms params r ≡ shows terms [] r
 
--- A query on a table: its text, what is bound, which rows pass, and their order.
-pub record QueryOn {K V : Type 0} (t : TableOf K V) : Type 0 where
-  pub text : List ℕ
-  pub params : Row
-  pub test : List Term
-  pub order : List Term
-  pub names : List (List ℕ)
-  pub means : Selects text (reads t.tree test t.terms order) names
-  pub passing : V → Bool
-  pub tests : (k : K) → passes test params (t.row k) ≡ passing (t.value k)
+-- one that shows what the table does, and one that shows numbers alone
+abbrev pub QueryOn : {K V : Type 0} → TableOf K V → Type 0
+QueryOn t = PartsOn t t.terms t.view
+
+abbrev pub NumbersOn : {K V : Type 0} → TableOf K V → (V → ℕ) → Type 0
+NumbersOn t number = PartsOn t last_id_terms (λ v. count_value (number v) ∷ [])
+
+-- the rows of a query are in the order of their values
+abbrev pub RanksBy : {K V : Type 0} {t : TableOf K V} {terms : List Term} {view : V → Row}
+    → PartsOn t terms view → (V → V → Ordering) → Type 0
+RanksBy {K} {t = t} {terms = terms} q cmp = (a b : K)
+    → output_cmp (reads t.tree q.test terms q.order)
+    (output (reads t.tree q.test terms q.order) (q.params ∷ t.row a ∷ []))
+    (output (reads t.tree q.test terms q.order) (q.params ∷ t.row b ∷ []))
+    ≡ cmp (t.value a) (t.value b)
+
+-- by which they are
+pub ruleset ranked = (order_numbers, order_moments, value_cmp-Text, then-Equal)
 
 refused : (e : StoreFault) → e ≢ WrongVersion → e ≢ Mismatch → e ≡ Refused
 refused e version mismatch = grind (arith, version, mismatch)
@@ -122,16 +138,6 @@ blames_of t old new r fails = record {
       fails;
 }
 
-parts_of : {V Y : Type 0} (view : V → Row) (part : V → Y) (Reads : Row → Y → Type 0)
-    → ((a : V) (b : Y) → Reads (view a) b → b ≡ part a) → {cmp : V → V → Ordering} {xs : List V}
-    {rows : List Row} {ys : List Y} → Lists cmp view xs rows → AllZip Reads rows ys
-    → AreParts part cmp xs ys
-parts_of view part Reads back {ys = ys} lists zip = record {
-  values = lists.values;
-  ordered = lists.ordered;
-  are = parts_are view part Reads back lists.values ys (rw lists.are at zip);
-}
-
 -- a mismatch of a query comes of a row of its table, where each row that it shows does
 pub fails_of : {X Y : Type 0} {ReadsPart : Row → Y → Type 0} {IsValue : Row → Type 0}
     {values : X → List Y} {text : List ℕ} {params : Row} {old new : State} (tree : ℕ)
@@ -151,55 +157,73 @@ fails_of {IsValue = IsValue} tree terms from same (Err e) h = (
 )
 
 -- whatever part of a row is read
-pub fails : {K V X Y : Type 0} {t : TableOf K V} (q : QueryOn t) {old new : State}
-    {r : Result X StoreFault} (clean : HasCleanDisk new → HasCleanDisk old)
-    {ReadsPart : Row → Y → Type 0} {values : X → List Y}
-    → ReadsRows ReadsPart t.IsValue values q.text q.params old new r
-    → FailsIn t.tree t.terms t.IsValue old new r
-fails {t = t} q {old} {new} {r} clean = fails_of t.tree t.terms (table_rows q.text q.params t.tree
-    q.test t.terms q.order q.means old new clean) (t.same q.params) r
+pub fails : {K V X Y : Type 0} {t : TableOf K V} {terms : List Term} {view : V → Row}
+    (q : PartsOn t terms view) {old new : State} (clean : HasCleanDisk new → HasCleanDisk old)
+    {ReadsPart : Row → Y → Type 0} {IsValue : Row → Type 0} {values : X → List Y}
+    {r : Result X StoreFault} → ReadsRows ReadsPart IsValue values q.text q.params old new r
+    → FailsIn t.tree terms IsValue old new r
+fails {t = t} {terms = terms} q {old} {new} clean {r = r} = fails_of t.tree terms
+    (table_rows q.text q.params t.tree q.test terms q.order q.means old new clean) q.same r
 
 -- what the rows show is what passes of the table, and in an order where they are in one
-module _ {K V : Type 0} (t : TableOf K V) (q : QueryOn t) (old new : State)
-    (clean : HasCleanDisk new → HasCleanDisk old) (c : Contents) (holding : Holding c old)
-    (now : HasCleanDisk new) (rows : List Row) (h : Shown q.text q.params old new rows)
+module _ {K V : Type 0} {t : TableOf K V} {terms : List Term} {view : V → Row}
+    (q : PartsOn t terms view) (old new : State) (clean : HasCleanDisk new → HasCleanDisk old)
+    (c : Contents) (holding : Holding c old) (now : HasCleanDisk new) (rows : List Row)
+    (h : Shown q.text q.params old new rows)
   where
     tables : Tables c old.now
     tables = tables_shown c q.text q.params old new rows clean holding now h
 
-    picks : Picks t.tree q.test t.terms q.order q.params (old.now.trees t.tree) rows
-    picks = picked_by q.text q.params old new tables.schema t.tree q.test t.terms q.order q.means
-        rows h
+    picks : Picks t.tree q.test terms q.order q.params (old.now.trees t.tree) rows
+    picks = picked_by q.text q.params old new tables.schema t.tree q.test terms q.order q.means rows
+        h
 
-    passing_shown : Shows t.view (filter q.passing (t.list c)) rows
-    passing_shown = shows_values t.view q.passing q.tests (t.shown q.params) (t.kept c old.now
-        tables) picks
+    passing_shown : Shows view (filter q.passing (t.list c)) rows
+    passing_shown = shows_values view q.passing q.tests q.shown (t.kept c old.now tables) picks
 
-    lists_shown : (cmp : V → V → Ordering) → RanksBy t q.test t.terms q.order q.params cmp
-        → Lists cmp t.view (filter q.passing (t.list c)) rows
-    lists_shown = lists_values t.view q.passing q.tests (t.shown q.params) (t.kept c old.now tables)
-        picks
+    lists_shown : (cmp : V → V → Ordering) → RanksBy q cmp
+        → Lists cmp view (filter q.passing (t.list c)) rows
+    lists_shown = lists_values view q.passing q.tests q.shown (t.kept c old.now tables) picks
 
-module _ {K V X : Type 0} {t : TableOf K V} (q : QueryOn t) (cmp : V → V → Ordering)
-    (orders : RanksBy t q.test t.terms q.order q.params cmp) {old new : State}
-    {r : Result X StoreFault} (clean : HasCleanDisk new → HasCleanDisk old)
-  where
-    pub holds_in_order : {values : X → List V}
-        → ReadsRows t.Reads t.IsValue values q.text q.params old new r
-        → (c : Contents) → Holding c old → HasCleanDisk new
-        → IfOk r (λ x. AreOrdered cmp (filter q.passing (t.list c)) (values x))
-    holds_in_order {values} read c holding now = if_ok r (λ x it. all_read t.view t.Reads t.back
-        (lists_shown t q old new clean c holding now it.0 it.1 cmp orders) it.2) (read.read now)
+pub numbers_fail : {K V X : Type 0} {t : TableOf K V} {number : V → ℕ} (q : NumbersOn t number)
+    {values : X → List ℕ} {old new : State} {r : Result X StoreFault}
+    → (HasCleanDisk new → HasCleanDisk old)
+    → ReadsRows ReadsCount IsNumberRow values q.text q.params old new r
+    → FailsIn t.tree last_id_terms IsNumberRow old new r
+numbers_fail q clean = fails q clean
 
-    -- and so is a part of each
-    pub holds_parts : {Y : Type 0} {part : V → Y} {ReadsPart : Row → Y → Type 0}
-        {values : X → List Y} → ((a : V) (b : Y) → ReadsPart (t.view a) b → b ≡ part a)
-        → ReadsRows ReadsPart t.IsValue values q.text q.params old new r
-        → (c : Contents) → Holding c old → HasCleanDisk new
-        → IfOk r (λ x. AreParts part cmp (filter q.passing (t.list c)) (values x))
-    holds_parts {part = part} {ReadsPart = ReadsPart} {values = values} back read c holding now =
-        if_ok r (λ x it. parts_of t.view part ReadsPart back
-        (lists_shown t q old new clean c holding now it.0 it.1 cmp orders) it.2) (read.read now)
+pub holds_in_order : {K V X : Type 0} {t : TableOf K V} (q : QueryOn t) (cmp : V → V → Ordering)
+    (orders : RanksBy q cmp) {old new : State} {r : Result X StoreFault}
+    (clean : HasCleanDisk new → HasCleanDisk old) {values : X → List V}
+    → ReadsRows t.Reads t.IsValue values q.text q.params old new r → (c : Contents) → Holding c old
+    → HasCleanDisk new → IfOk r (λ x. AreOrdered cmp (filter q.passing (t.list c)) (values x))
+holds_in_order {t = t} q cmp orders {r = r} clean read c holding now =
+    if_ok r (λ x it. all_read t.view t.Reads t.back
+    (lists_shown q _ _ clean c holding now it.0 it.1 cmp orders) it.2) (read.read now)
+
+-- and so is a part of each
+pub holds_parts : {K V X Y : Type 0} {t : TableOf K V} {terms : List Term} {view : V → Row}
+    (q : PartsOn t terms view) (cmp : V → V → Ordering) (orders : RanksBy q cmp)
+    {old new : State} {r : Result X StoreFault} (clean : HasCleanDisk new → HasCleanDisk old)
+    {part : V → Y} {ReadsPart : Row → Y → Type 0} {IsValue : Row → Type 0} {values : X → List Y}
+    → ((a : V) (b : Y) → ReadsPart (view a) b → b ≡ part a)
+    → ReadsRows ReadsPart IsValue values q.text q.params old new r → (c : Contents) → Holding c old
+    → HasCleanDisk new → IfOk r (λ x. AreParts part cmp (filter q.passing (t.list c)) (values x))
+holds_parts {view = view} q cmp orders {r = r} clean {part} {ReadsPart} {values = values} back read
+    c holding now = if_ok r (λ x it.
+    let lists = lists_shown q _ _ clean c holding now it.0 it.1 cmp orders in
+    let are = parts_are view part ReadsPart back lists.values (values x) (rw lists.are at it.2) in
+    record { values = lists.values; ordered = lists.ordered; are = are }) (read.read now)
+
+-- and the number of each
+pub holds_numbers : {K V X : Type 0} {t : TableOf K V} {number : V → ℕ} (q : NumbersOn t number)
+    (cmp : V → V → Ordering) (orders : RanksBy q cmp) {old new : State} {r : Result X StoreFault}
+    (clean : HasCleanDisk new → HasCleanDisk old) {values : X → List ℕ}
+    → ReadsRows ReadsCount IsNumberRow values q.text q.params old new r
+    → (c : Contents) → Holding c old → HasCleanDisk new
+    → IfOk r (λ x. AreParts number cmp (filter q.passing (t.list c)) (values x))
+holds_numbers {number = number} q cmp orders clean =
+    holds_parts q cmp orders clean (λ v. count_back (number v))
 
 -- ---- readings outside of a transaction
 
@@ -231,27 +255,30 @@ answered t {old} {new} {r} kept failing told = record {
   mismatch = failing;
 }
 
--- the one value, or none, is what passes of the table
-pub finds : {K V : Type 0} {t : TableOf K V} (q : QueryOn t) {old new : State}
-    {r : Result (Option V) StoreFault}
-    → Asked t.Reads t.IsValue option_to_list q.text q.params old new r
-    → Answered (λ c x. option_to_list x ≡ filter q.passing (t.list c)) t old new r
-finds {t = t} q {old} {new} {r} asked = answered t asked.kept (fails q asked.kept.clean asked.read)
-    (λ c holding now. if_ok r (λ x it. one_read t.view t.Reads t.back x (passing_shown t q old new
-    asked.kept.clean c holding now it.0 it.1) it.2) (asked.read.read now))
+-- it reads alone, whatever tables there are
+pub asks_alone : {K V : Type 0} {t : TableOf K V} {terms : List Term} {view : V → Row}
+    (q : PartsOn t terms view) → ReadsAlone q.text
+asks_alone q = alone q.means
 
-module _ {K V X : Type 0} {t : TableOf K V} (q : QueryOn t) {old new : State}
-    {r : Result X StoreFault}
-  where
-    -- a list in any order is what passes of the table
-    pub lists_any : {values : X → List V}
-        → Asked t.Reads t.IsValue values q.text q.params old new r
-        → Answered (λ c x. IsPermutation (filter q.passing (t.list c)) (values x)) t old new r
-    lists_any asked = answered t asked.kept (fails q asked.kept.clean asked.read)
-        (λ c holding now. if_ok r (λ x it. all_shown t.view t.Reads t.back (passing_shown t q old
-        new asked.kept.clean c holding now it.0 it.1) it.2) (asked.read.read now))
+module _ {K V : Type 0} {t : TableOf K V} (q : QueryOn t) {old new : State} where
+  -- the one value, or none, is what passes of the table
+  pub finds : {r : Result (Option V) StoreFault}
+      → Asked t.Reads t.IsValue option_to_list q.text q.params old new r
+      → Answered (λ c x. option_to_list x ≡ filter q.passing (t.list c)) t old new r
+  finds {r} asked = answered t asked.kept (fails q asked.kept.clean asked.read)
+      (λ c holding now. if_ok r (λ x it. one_read t.view t.Reads t.back x
+      (passing_shown q _ _ asked.kept.clean c holding now it.0 it.1) it.2) (asked.read.read now))
 
-    module _ (cmp : V → V → Ordering) (orders : RanksBy t q.test t.terms q.order q.params cmp) where
+  -- a list in any order is what passes of the table
+  pub lists_any : {X : Type 0} {r : Result X StoreFault} {values : X → List V}
+      → Asked t.Reads t.IsValue values q.text q.params old new r
+      → Answered (λ c x. IsPermutation (filter q.passing (t.list c)) (values x)) t old new r
+  lists_any {r} asked = answered t asked.kept (fails q asked.kept.clean asked.read)
+      (λ c holding now. if_ok r (λ x it. all_shown t.view t.Reads t.back
+      (passing_shown q _ _ asked.kept.clean c holding now it.0 it.1) it.2) (asked.read.read now))
+
+  module _ {X : Type 0} {r : Result X StoreFault} {cmp : V → V → Ordering} (orders : RanksBy q cmp)
+    where
       pub lists : {values : X → List V} → Asked t.Reads t.IsValue values q.text q.params old new r
           → Answered (λ c x. AreOrdered cmp (filter q.passing (t.list c)) (values x)) t old new r
       lists asked = answered t asked.kept (fails q asked.kept.clean asked.read)
@@ -272,61 +299,15 @@ module _ {K V X : Type 0} {t : TableOf K V} (q : QueryOn t) {old new : State}
           AreOrdered cmp (list c) (values x)) t old new r) (λ i c. filter_all q.passing (t.list c)
           (all_of (λ v. q.passing v ≡ true) every (t.list c)) i) (lists asked)
 
--- A query on the table of requests that shows their numbers alone.
-pub record NumbersOn {K V : Type 0} (t : TableOf K V) : Type 0 where
-  pub text : List ℕ
-  pub params : Row
-  pub test : List Term
-  pub order : List Term
-  pub names : List (List ℕ)
-  pub means : Selects text (reads t.tree test last_id_terms order) names
-  pub number : V → ℕ
-  pub shown : (k : K) → shows last_id_terms params (t.row k) ≡ count_value (number (t.value k)) ∷ []
-  pub passing : V → Bool
-  pub tests : (k : K) → passes test params (t.row k) ≡ passing (t.value k)
-
-module _ {K V X : Type 0} {t : TableOf K V} (q : NumbersOn t) {values : X → List ℕ}
+-- the numbers of what passes, with what is blamed of the numbers' table
+pub lists_numbers : {K V L X : Type 0} {t : TableOf K V} {number : V → ℕ} (numbers : TableOf L ℕ)
+    (q : NumbersOn t number) {cmp : V → V → Ordering} (orders : RanksBy q cmp) {values : X → List ℕ}
     {old new : State} {r : Result X StoreFault}
-  where
-    pub numbers_fail : (HasCleanDisk new → HasCleanDisk old)
-        → ReadsRows ReadsCount IsNumberRow values q.text q.params old new r
-        → FailsIn t.tree last_id_terms IsNumberRow old new r
-    numbers_fail clean = fails_of t.tree last_id_terms (table_rows q.text q.params t.tree q.test
-        last_id_terms q.order q.means old new clean) (λ r. refl) r
-
-    -- the numbers of what passes of the table, in an order
-    pub holds_numbers : (cmp : V → V → Ordering)
-        → RanksBy t q.test last_id_terms q.order q.params cmp
-        → (HasCleanDisk new → HasCleanDisk old)
-        → ReadsRows ReadsCount IsNumberRow values q.text q.params old new r
-        → (c : Contents) → Holding c old → HasCleanDisk new
-        → IfOk r (λ x. AreParts q.number cmp (filter q.passing (t.list c)) (values x))
-    holds_numbers cmp orders clean read c holding now = if_ok r
-        (λ x it.
-        let tables = tables_shown c q.text q.params old new it.0 clean holding now it.1 in
-        let view = λ (v : V). count_value (q.number v) ∷ [] in
-        parts_of view q.number ReadsCount (λ v n. count_back (q.number v) n)
-        (lists_values view q.passing q.tests q.shown (t.kept c old.now tables)
-        (picked_by q.text q.params old new tables.schema t.tree q.test last_id_terms q.order q.means
-        it.0 it.1) cmp orders) it.2) (read.read now)
-
-    -- outside of a transaction, with what is blamed of the numbers' table
-    pub lists_numbers : (cmp : V → V → Ordering)
-        → RanksBy t q.test last_id_terms q.order q.params cmp
-        → (FailsIn t.tree last_id_terms IsNumberRow old new r → Blames old new r)
-        → Asked ReadsCount IsNumberRow values q.text q.params old new r → record {
-          read : Reads (λ c x. AreParts q.number cmp (filter q.passing (t.list c)) (values x)) old
-              new r;
-          mismatch : FailsIn t.tree last_id_terms IsNumberRow old new r;
-        }
-    lists_numbers cmp orders blames asked =
-        let failing = numbers_fail asked.kept.clean asked.read in
-        record {
-          read = record {
-            told = λ c stand. holds_numbers cmp orders asked.kept.clean asked.read c
-                (λ d o. (stand d o).0);
-            kept = asked.kept;
-            blames = blames failing;
-          };
-          mismatch = failing;
-        }
+    → (FailsIn t.tree last_id_terms IsNumberRow old new r
+    → FailsIn numbers.tree numbers.terms numbers.IsValue old new r)
+    → Asked ReadsCount IsNumberRow values q.text q.params old new r
+    → Answered (λ c x. AreParts number cmp (filter q.passing (t.list c)) (values x)) numbers old new
+    r
+lists_numbers numbers q {cmp} orders into asked = answered numbers asked.kept
+    (into (fails q asked.kept.clean asked.read))
+    (holds_numbers q cmp orders asked.kept.clean asked.read)

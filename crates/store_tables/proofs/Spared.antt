@@ -1,26 +1,23 @@
 -- What a read spares, whatever rows the tables have.
 use Rattle.std.proofs.Common.{arith, ◌≡◌, ◌∙◌, ℕ, List, IsTrue, inl, inr, refl, subst, sym}
 use Rattle.sqlite.specs.Effect.{Database}
-use Rattle.sqlite.specs.Given.{IsPlain}
-use Rattle.sqlite.specs.Listing.{understood}
 use Rattle.sqlite.specs.Order.{Row}
 use Rattle.sqlite.specs.State.{State, HasCleanDisk, Shown, FailsToQuery, Survives}
 use Rattle.sqlite.specs.Tree.{Trees}
 use Rattle.sqlite.specs.declared.error.Error.{Error}
-use Rattle.store_tables.specs.Calls.{AreLeft, AreThere, Lasts, Spares, WasClean}
+use Rattle.store_tables.specs.Calls.{AreLeft, AreThere, Lasts, ReadsAlone, Spares, WasClean}
 use Rattle.desk_model.specs.Desk.{Desk}
-use Rattle.store_tables.specs.Contents.{Contents, contents_of}
-use Rattle.store_tables.specs.Stands.{GoesBack, Stand, StandsFor, Tables}
-use Rattle.store_tables.specs.Tables.{desk_schema}
+use Rattle.store_tables.specs.Contents.{Contents, contents_of, Tables, desk_schema}
+use Rattle.store_tables.specs.Stands.{GoesBack, Stand, StandsFor}
 use Rattle.store_tables.proofs.Lasting.{by, on, same}
-use Rattle.store_tables.proofs.StandLemmas.{IsAlone, alone_over, failed_left, shown_left, was_clean}
+use Rattle.store_tables.proofs.StandLemmas.{failed_left, shown_left, was_clean}
 
 -- what does nothing spares all
 pub unread : (s : State) → Spares s s
 unread s = record {
   clean = λ clean. clean;
   lasts = same s;
-  left = λ there clean live. (live, refl, inl refl);
+  left = λ clean live. (live, refl, inl refl);
 }
 
 -- what is so of the tables and of the last commit is so of what is left of them
@@ -40,16 +37,16 @@ left_both P a b before left so clean live =
 -- tables that are there are there still
 pub there_still : {a b : State} → Spares a b → AreThere a → AreThere b
 there_still {a} {b} kept there =
-    left_both (λ (d : Database). d.schema ≡ desk_schema) a b kept.clean (kept.left there) there
+    left_both (λ (d : Database). d.schema ≡ desk_schema) a b kept.clean kept.left there
 
 -- what the second call spares of what the first one left
 pub joined : {a b c : State} → Spares a b → Spares b c → Spares a c
 joined first second = record {
   clean = λ clean. first.clean (second.clean clean);
   lasts = on second.clean first.lasts second.lasts;
-  left = λ there clean live.
-      let last = second.left (there_still first there) clean live in
-      let at = first.left there (second.clean clean) last.0 in (
+  left = λ clean live.
+      let last = second.left clean live in
+      let at = first.left (second.clean clean) last.0 in (
         at.0,
         last.1 ∙ at.1,
         grind (arith, at.1, at.2, last.2),
@@ -58,8 +55,7 @@ joined first second = record {
 
 -- what stands on tables that are spared stands on
 pub stands : {old new : State} → Spares old new → (c : Contents) → Stand c old → Stand c new
-stands {old} {new} kept c stand = left_both (Tables c) old new kept.clean
-    (kept.left (λ d o. let t = stand d o in (t.0.schema, t.1.schema))) stand
+stands {old} {new} kept c = left_both (Tables c) old new kept.clean kept.left
 
 -- what is as the last commit left it is left
 pub back_left : (old new : State) → GoesBack old new → AreLeft old new
@@ -68,28 +64,25 @@ back_left old new back now live = let it = back now live in (it.1, it.3, inr it.
 pub back_spares : {old new : State} → WasClean old new → Lasts old new → GoesBack old new
     → Spares old new
 back_spares {old} {new} clean lasts back =
-    let left = back_left old new back in record { clean = clean; lasts = lasts; left = λ _. left }
+    record { clean = clean; lasts = lasts; left = back_left old new back }
 
 -- what stands for a desk stands for it
 pub stands_for : {old new : State} → Spares old new → (desk : Desk) → StandsFor desk old
     → StandsFor desk new
 stands_for kept desk stand = (stand.0, stands kept (contents_of stand.0 desk) stand.1)
 
-module _ (sql : List ℕ) (params : Row) (old new : State)
-    (plain : IsPlain (understood desk_schema sql)) {P : Trees → Type 0} (lived : Survives old new P)
+module _ (sql : List ℕ) (params : Row) (old new : State) (alone : ReadsAlone sql)
+    {P : Trees → Type 0} (lived : Survives old new P)
   where
     abbrev clean : HasCleanDisk new → HasCleanDisk old
     clean = was_clean old new P lived
-
-    abbrev alone : AreThere old → HasCleanDisk old → IsTrue old.is_open → IsAlone old sql
-    alone there c o = alone_over sql old plain (there c o).0
 
     pub shown_spares : (rows : List Row) → (HasCleanDisk new → Shown sql params old new rows)
         → Spares old new
     shown_spares rows shown = record {
       clean = clean;
       lasts = by lived;
-      left = λ there. shown_left sql params old new clean (alone there) rows shown;
+      left = shown_left sql params old new alone rows shown;
     }
 
     pub failed_spares : (e : Error) → (HasCleanDisk new → FailsToQuery sql params old new e)
@@ -97,5 +90,5 @@ module _ (sql : List ℕ) (params : Row) (old new : State)
     failed_spares e fails = record {
       clean = clean;
       lasts = by lived;
-      left = λ there. failed_left sql params old new clean (alone there) e (λ c. inl (fails c));
+      left = failed_left sql params old new alone e (λ c. inl (fails c));
     }

@@ -5,39 +5,27 @@ use Rattle.std.proofs.Common.{OnErr, [], ◌∷◌, ◌++◌, ◌+◌, ◌<◌, 
 use Rattle.sqlite.specs.Order.{Row}
 use Rattle.sqlite.specs.declared.error.Error.{Error}
 use Rattle.sqlite.specs.Effect.{Database}
-use Rattle.sqlite.specs.State.{HasCleanDisk, IsUnchanged, FailsToQuery, FailsToShow, ExecutesInside}
+use Rattle.sqlite.specs.State.{HasCleanDisk, IsUnchanged, FailsToQuery, ExecutesInside}
 use Rattle.sqlite.specs.State.{State, Shown, ShowsRows, IsNotRun, IsTooLate, Survives}
 use Rattle.sqlite.specs.Clock.{timed}
 use Rattle.sqlite_resolve.specs.declared.compiled.Compiled.{Compiled}
 use Rattle.sqlite_schema.specs.declared.command.Returning.{Returning}
 use Rattle.sqlite.specs.Tree.{Trees}
-use Rattle.sqlite.specs.Listing.{understood}
-use Rattle.sqlite.specs.Given.{IsPlain}
 use Rattle.sqlite.specs.Store.{Ghosts}
 use Rattle.sqlite.specs.Held.{Held, state}
 use Rattle.std.proofs.lemmas.List.{take_more}
 use Rattle.std.specs.Prelude.{fold}
-use Rattle.store_tables.specs.Calls.{AreLeft, Lasts, Looks}
-use Rattle.store_tables.specs.Contents.{Contents}
+use Rattle.store_tables.specs.Calls.{AreLeft, Lasts, Looks, ReadsAlone}
+use Rattle.store_tables.specs.Contents.{Contents, Tables}
 use Rattle.store_tables.specs.declared.fault.StoreFault.TheVariants.{Refused}
-use Rattle.store_tables.specs.Making.{AreEmpty, Made}
-use Rattle.store_tables.specs.Stands.{HasTables, Tables, Stand, GoesOn, HoldsNow, GoesBack}
+use Rattle.store_tables.specs.Stands.{HasTables, Stand, GoesOn, HoldsNow, GoesBack}
 use Rattle.store_tables.specs.Stands.{KeepsBase, FirstStand, FirstTables}
-use Rattle.sqlite.specs.Schema.{Schema}
-use Rattle.store_tables.specs.Tables.{desk_schema}
 
 -- what was open before, by what a query showed
 shown_was_open : (old new : State) (sql : List ℕ) (c : Compiled) (full : Row) (rows : List Row)
     (shown : Option Returning) → ShowsRows old new sql c full rows shown → IsTrue old.is_open
 shown_was_open old new sql c full rows None h = h.3.0.was_open
 shown_was_open old new sql c full rows (Some what) h = h.1.shown.was_open
-
-pub failed_was_open : (old new : State) (sql : List ℕ) (c : Compiled) (full : Row) (e : Error)
-    (shown : Option Returning) → IsTrue new.is_open → FailsToShow old new sql c full e shown
-    → IsTrue old.is_open
-failed_was_open old new sql c full e None o h = h.3.0.was_open
-failed_was_open old new sql c full e (Some what) o (inl h) = h.1.0.was_open
-failed_was_open old new sql c full e (Some what) o (inr h) = h.3.was_open o
 
 pub was_clean : (old new : State) (P : Trees → Type 0) → Survives old new P → HasCleanDisk new
     → HasCleanDisk old
@@ -91,7 +79,7 @@ back_on a b end keeps back c o =
     (base.0, base.1, it.2 ∙ base.2, it.3 ∙ base.2)
 
 -- what the last commit left is so again
-back_both : (P : Database → Type 0) (old new : State)
+pub back_both : (P : Database → Type 0) (old new : State)
     → (HasCleanDisk old → IsTrue old.is_open → P old.committed) → GoesBack old new
     → HasCleanDisk new → IsTrue new.is_open → P new.now × P new.committed
 back_both P old new rests back c o =
@@ -141,30 +129,11 @@ unfolding Shown
 shown_open sql params old new rows h = shown_was_open old new sql h.0
     (timed params h.0.formats h.1.now) rows h.0.returning h.2
 
--- a text that reads alone, over the tables that are there
-abbrev pub IsAlone : State → List ℕ → Type 0
-IsAlone s sql = (c : Compiled) → understood s.now.schema sql ≡ Ok c → c.returning ≡ None
-
-pub alone_over : {schema : Schema} (sql : List ℕ) (s : State) → IsPlain (understood schema sql)
-    → s.now.schema ≡ schema → IsAlone s sql
-alone_over sql s plain has c is =
-    (subst IsPlain (subst (λ t. understood t sql ≡ Ok c) has is) plain).0
-
 pub shown_alone : (sql : List ℕ) (params : Row) (old new : State) (rows : List Row)
-    → IsAlone old sql → Shown sql params old new rows → IsUnchanged old new
+    → ReadsAlone sql → Shown sql params old new rows → IsUnchanged old new
 unfolding Shown
-shown_alone sql params old new rows alone h = (rw (alone h.0 h.1.is) at h.2).3
-
-pub shown_same : {schema : Schema} (sql : List ℕ) (params : Row) (old new : State)
-    (rows : List Row) → IsPlain (understood schema sql) → old.now.schema ≡ schema
-    → Shown sql params old new rows → IsUnchanged old new
-shown_same sql params old new rows plain has =
-    shown_alone sql params old new rows (alone_over sql old plain has)
-
-pub same_made : (schema : Schema) (old new : State) → IsUnchanged old new
-    → (old.now.schema ≡ schema) × AreEmpty schema old.now.trees × (old.in_transaction ≡ true)
-    → (new.now.schema ≡ schema) × AreEmpty schema new.now.trees × (new.in_transaction ≡ true)
-same_made schema old new same b = rw same.0.now_is (b.0, b.1, same.0.mode ∙ b.2)
+shown_alone sql params old new rows alone h =
+    (rw (alone old.now.schema h.0 h.1.is) at h.2).3
 
 unchanged_left : (old new : State) → IsUnchanged old new → AreLeft old new
 unchanged_left old new same now live = (same.0.was_open, same.0.committed_is, inl same.0.now_is)
@@ -177,53 +146,43 @@ not_run_left sql params old new e (inr h) now live =
     (h.3.was_open live, (h.3.undone live).1, inr (h.3.undone live).0)
 
 -- the tables are left by a query that reads alone, whether it showed rows or failed
-module _ (sql : List ℕ) (params : Row) (old new : State)
-    (clean : HasCleanDisk new → HasCleanDisk old)
-    (alone : HasCleanDisk old → IsTrue old.is_open → IsAlone old sql)
-  where
-    pub shown_left : (rows : List Row) → (HasCleanDisk new → Shown sql params old new rows)
-        → AreLeft old new
-    shown_left rows shown now live =
-        let h = shown now in
-        unchanged_left old new (shown_alone sql params old new rows
-        (alone (clean now) (shown_open sql params old new rows h)) h) now live
+module _ (sql : List ℕ) (params : Row) (old new : State) (alone : ReadsAlone sql) where
+  pub shown_left : (rows : List Row) → (HasCleanDisk new → Shown sql params old new rows)
+      → AreLeft old new
+  shown_left rows shown now live =
+      unchanged_left old new (shown_alone sql params old new rows alone (shown now)) now live
 
-    pub failed_left : (e : Error)
-        → (HasCleanDisk new → FailsToQuery sql params old new e ⊎ IsTooLate sql params old new e)
-        → AreLeft old new
-    unfolding FailsToQuery
-    failed_left e fails now live = elim (fails now) [
-      | inl (inl not_run) ↦ not_run_left sql params old new e not_run now live
-      | inl (inr h) ↦
-          let full = timed params h.0.formats h.1.now in
-          let was = failed_was_open old new sql h.0 full e h.0.returning live h.2 in
-          unchanged_left old new (rw (alone (clean now) was h.0 h.1.is) at h.2).3 now live
-      | inr late ↦ unchanged_left old new late.5 now live
-    ]
+  pub failed_left : (e : Error)
+      → (HasCleanDisk new → FailsToQuery sql params old new e ⊎ IsTooLate sql params old new e)
+      → AreLeft old new
+  unfolding FailsToQuery
+  failed_left e fails now live = elim (fails now) [
+    | inl (inl not_run) ↦ not_run_left sql params old new e not_run now live
+    | inl (inr h) ↦
+        unchanged_left old new (rw (alone old.now.schema h.0 h.1.is) at h.2).3 now live
+    | inr late ↦ unchanged_left old new late.5 now live
+  ]
 
 pub desk_is_there : (c : Contents) (s : State) → HoldsNow c s → HasTables s
 desk_is_there c s holds clean live = (holds clean live).0.schema
 
 -- so a query in a transaction leaves what the tables hold, and the last commit
-module _ (sql : List ℕ) (params : Row) (old new : State)
-    (plain : IsPlain (understood desk_schema sql)) (clean : HasCleanDisk new → HasCleanDisk old)
-    (lasts : Lasts old new)
+module _ (sql : List ℕ) (params : Row) (old new : State) (alone : ReadsAlone sql)
+    (clean : HasCleanDisk new → HasCleanDisk old) (lasts : Lasts old new)
   where
     pub shown_looks : {X : Type 0} (x : X) (rows : List Row)
         → (HasCleanDisk new → Shown sql params old new rows) → Looks {X = X} old new (Ok x)
     shown_looks x rows shown =
-        let unchanged : HasTables old → HasCleanDisk new → IsTrue old.is_open × IsUnchanged old new
-        = λ has d.
-        let live = shown_open sql params old new rows (shown d) in
-        (live, shown_same sql params old new rows plain (has (clean d) live) (shown d)) in
+        let unchanged : HasCleanDisk new → IsUnchanged old new = λ d.
+        shown_alone sql params old new rows alone (shown d) in
         record {
           makes = λ c holds d o.
-              let it = unchanged (desk_is_there c old holds) d in
-              let was = holds (clean d) it.0 in
-              (subst (Tables c) (sym it.1.0.now_is) was.0, it.1.0.mode ∙ was.1);
-          same = λ has d. let it = unchanged has d in (it.0, it.1.0.now_is);
-          keeps = λ has d o. let it = unchanged has d in (clean d, it.0, it.1.0.committed_is);
-          goes_on = λ has goes d o. let it = unchanged has d in it.1.0.mode ∙ goes (clean d) it.0;
+              let it = (unchanged d).0 in
+              let was = holds (clean d) it.was_open in
+              (subst (Tables c) (sym it.now_is) was.0, it.mode ∙ was.1);
+          same = λ d. let it = (unchanged d).0 in (it.was_open, it.now_is);
+          keeps = λ d o. let it = (unchanged d).0 in (clean d, it.was_open, it.committed_is);
+          goes_on = λ goes d o. let it = (unchanged d).0 in it.mode ∙ goes (clean d) it.was_open;
           clean = clean;
           lasts = lasts;
         }
@@ -232,15 +191,11 @@ module _ (sql : List ℕ) (params : Row) (old new : State)
         → (HasCleanDisk new → FailsToQuery sql params old new e ⊎ IsTooLate sql params old new e)
         → Looks {X = X} old new (Err Refused)
     failed_looks e fails =
-        let keeps : HasTables old → KeepsBase old new = λ has d o.
-        let it = failed_left sql params old new clean (λ k l. alone_over sql old plain (has k l)) e
-        fails d o in
+        let keeps : KeepsBase old new = λ d o.
+        let it = failed_left sql params old new alone e fails d o in
         (clean d, it.0, it.1) in
         search rules
 
 pub either_way : {T E P : Type 0} (r : Result T E) → OnOk r P → OnErr r P → P
 either_way (Ok x) p q = p
 either_way (Err e) p q = q
-
-pub made_is_there : (s : State) → Made desk_schema s → HasTables s
-made_is_there s made c o = (made c o).0

@@ -26,8 +26,7 @@ use Rattle.store_tables.specs.Queries.{target_test, three_order, three_shown, pe
 use Rattle.store_tables.specs.Queries.{links_text, role_order, three_test, filed_test, before_test}
 use Rattle.store_tables.specs.Queries.{dated_text, stay_order, stay_shown, stays_text}
 use Rattle.sqlite.specs.Listing.{understood}
-use Rattle.store_tables.specs.Tables.{first_schema}
-use Rattle.store_tables.proofs.Meaning.{Changes, Selects, SelectsIn}
+use Rattle.store_tables.proofs.Meaning.{Changes, Selects}
 
 -- the names of the columns of a request, and of a stay
 abbrev request_names : List (List ℕ)
@@ -44,76 +43,77 @@ stay_names = codes "request" ∷ codes "number" ∷ codes "status" ∷ codes "be
 pub request_numbered_is : Selects request_numbered_text
     (reads 3 numbered_test request_shown_terms []) request_names
 unfolding understood everything
-request_numbered_is = record { is = refl; plain = (refl, refl); unlisted = refl }
+request_numbered_is =
+    record { is = refl; plain = (refl, refl); unlisted = refl; none = λ s n. refl }
 
 pub requests_is : Selects requests_text (reads 3 [] request_shown_terms id_order) request_names
 unfolding understood everything
-requests_is = record { is = refl; plain = (refl, refl); unlisted = refl }
+requests_is = record { is = refl; plain = (refl, refl); unlisted = refl; none = λ s n. refl }
 
 pub watchers_of_is : Selects watchers_of_text (reads 4 request_test three_shown role_order)
     (codes "request" ∷ codes "role" ∷ codes "person" ∷ [])
 unfolding understood everything
-watchers_of_is = record { is = refl; plain = (refl, refl); unlisted = refl }
+watchers_of_is = record { is = refl; plain = (refl, refl); unlisted = refl; none = λ s n. refl }
 
 pub watches_of_is : Selects watches_of_text (reads 4 person_test three_shown standing_order)
     (codes "request" ∷ codes "role" ∷ codes "person" ∷ [])
 unfolding understood everything
-watches_of_is = record { is = refl; plain = (refl, refl); unlisted = refl }
+watches_of_is = record { is = refl; plain = (refl, refl); unlisted = refl; none = λ s n. refl }
 
 pub watchers_is : Selects watchers_text (reads 4 [] three_shown three_order)
     (codes "request" ∷ codes "role" ∷ codes "person" ∷ [])
 unfolding understood everything
-watchers_is = record { is = refl; plain = (refl, refl); unlisted = refl }
+watchers_is = record { is = refl; plain = (refl, refl); unlisted = refl; none = λ s n. refl }
 
 pub links_from_is : Selects links_from_text (reads 6 links_from_test three_shown target_order)
     (codes "source" ∷ codes "kind" ∷ codes "target" ∷ [])
 unfolding understood everything
-links_from_is = record { is = refl; plain = (refl, refl); unlisted = refl }
+links_from_is = record { is = refl; plain = (refl, refl); unlisted = refl; none = λ s n. refl }
 
 pub all_from_is : Selects all_from_text (reads 6 source_test three_shown three_order)
     (codes "source" ∷ codes "kind" ∷ codes "target" ∷ [])
 unfolding understood everything
-all_from_is = record { is = refl; plain = (refl, refl); unlisted = refl }
+all_from_is = record { is = refl; plain = (refl, refl); unlisted = refl; none = λ s n. refl }
 
 pub all_to_is : Selects all_to_text (reads 6 target_test three_shown id_order)
     (codes "source" ∷ codes "kind" ∷ codes "target" ∷ [])
 unfolding understood everything
-all_to_is = record { is = refl; plain = (refl, refl); unlisted = refl }
+all_to_is = record { is = refl; plain = (refl, refl); unlisted = refl; none = λ s n. refl }
 
 pub links_is : Selects links_text (reads 6 [] three_shown three_order)
     (codes "source" ∷ codes "kind" ∷ codes "target" ∷ [])
 unfolding understood everything
-links_is = record { is = refl; plain = (refl, refl); unlisted = refl }
+links_is = record { is = refl; plain = (refl, refl); unlisted = refl; none = λ s n. refl }
 
 pub link_like_is : Selects link_like_text (reads 6 three_test three_shown [])
     (codes "source" ∷ codes "kind" ∷ codes "target" ∷ [])
 unfolding understood everything
-link_like_is = record { is = refl; plain = (refl, refl); unlisted = refl }
+link_like_is = record { is = refl; plain = (refl, refl); unlisted = refl; none = λ s n. refl }
 
 pub entries_of_is : Selects entries_of_text (reads 8 request_test entry_shown_terms number_order)
     (codes "request" ∷ codes "number" ∷ codes "moment" ∷ codes "actor" ∷ codes "kind" ∷ codes "head"
     ∷ codes "body" ∷ [])
 unfolding understood everything
-entries_of_is = record { is = refl; plain = (refl, refl); unlisted = refl }
+entries_of_is = record { is = refl; plain = (refl, refl); unlisted = refl; none = λ s n. refl }
 
 pub last_id_is : Selects last_id_text (last_of 3 [] (col 1 0)) (codes "id" ∷ [])
 unfolding understood everything
-last_id_is = record { is = refl; plain = (refl, refl); unlisted = refl }
+last_id_is = record { is = refl; plain = (refl, refl); unlisted = refl; none = λ s n. refl }
 
 pub last_number_is : Selects last_number_text (last_of 8 request_test (col 1 2))
     (codes "number" ∷ [])
 unfolding understood everything
-last_number_is = record { is = refl; plain = (refl, refl); unlisted = refl }
+last_number_is = record { is = refl; plain = (refl, refl); unlisted = refl; none = λ s n. refl }
 
 pub queue_named_is : Selects queue_named_text queue_named_query
     (codes "name" ∷ codes "lifecycle" ∷ codes "level" ∷ [])
 unfolding understood everything
-queue_named_is = record { is = refl; plain = (refl, refl); unlisted = refl }
+queue_named_is = record { is = refl; plain = (refl, refl); unlisted = refl; none = λ s n. refl }
 
 pub queues_is : Selects queues_text queues_query
     (codes "name" ∷ codes "lifecycle" ∷ codes "level" ∷ [])
 unfolding understood everything
-queues_is = record { is = refl; plain = (refl, refl); unlisted = refl }
+queues_is = record { is = refl; plain = (refl, refl); unlisted = refl; none = λ s n. refl }
 
 pub add_queue_is : Changes add_queue_text (Insert 1 (Values add_queue_terms 4))
 unfolding understood everything
@@ -156,45 +156,40 @@ add_version_is = record { is = refl; plain = (refl, refl) }
 
 pub version_is : Selects version_text version_query (codes "version" ∷ [])
 unfolding understood everything
-version_is = record { is = refl; plain = (refl, refl); unlisted = refl }
-
--- of the six tables of version 1 too
-pub first_version_is : SelectsIn first_schema version_text version_query (codes "version" ∷ [])
-unfolding understood everything
-first_version_is = record { is = refl; plain = (refl, refl); unlisted = refl }
+version_is = record { is = refl; plain = (refl, refl); unlisted = refl; none = λ s n. refl }
 
 pub requests_of_is : Selects requests_of_text (reads 3 filed_test request_shown_terms id_order)
     request_names
 unfolding understood everything
-requests_of_is = record { is = refl; plain = (refl, refl); unlisted = refl }
+requests_of_is = record { is = refl; plain = (refl, refl); unlisted = refl; none = λ s n. refl }
 
 pub actors_is : Selects actors_text (reads 8 [] actor_shown []) (codes "actor" ∷ [])
 unfolding understood everything
-actors_is = record { is = refl; plain = (refl, refl); unlisted = refl }
+actors_is = record { is = refl; plain = (refl, refl); unlisted = refl; none = λ s n. refl }
 
 pub dated_is : Selects dated_text (reads 3 [] dated_shown_terms id_order) dated_names
 unfolding understood everything
-dated_is = record { is = refl; plain = (refl, refl); unlisted = refl }
+dated_is = record { is = refl; plain = (refl, refl); unlisted = refl; none = λ s n. refl }
 
 pub dated_numbered_is : Selects dated_numbered_text (reads 3 numbered_test dated_shown_terms [])
     dated_names
 unfolding understood everything
-dated_numbered_is = record { is = refl; plain = (refl, refl); unlisted = refl }
+dated_numbered_is = record { is = refl; plain = (refl, refl); unlisted = refl; none = λ s n. refl }
 
 pub dated_before_is : Selects dated_before_text (reads 3 before_test dated_shown_terms due_order)
     dated_names
 unfolding understood everything
-dated_before_is = record { is = refl; plain = (refl, refl); unlisted = refl }
+dated_before_is = record { is = refl; plain = (refl, refl); unlisted = refl; none = λ s n. refl }
 
 pub numbers_in_is : Selects numbers_in_text (reads 3 filed_test last_id_terms id_order)
     (codes "id" ∷ [])
 unfolding understood everything
-numbers_in_is = record { is = refl; plain = (refl, refl); unlisted = refl }
+numbers_in_is = record { is = refl; plain = (refl, refl); unlisted = refl; none = λ s n. refl }
 
 pub numbers_before_is : Selects numbers_before_text (reads 3 before_test last_id_terms due_order)
     (codes "id" ∷ [])
 unfolding understood everything
-numbers_before_is = record { is = refl; plain = (refl, refl); unlisted = refl }
+numbers_before_is = record { is = refl; plain = (refl, refl); unlisted = refl; none = λ s n. refl }
 
 pub set_due_is : Changes set_due_text (Update 2
     (record { lets = []; body = reads 3 numbered_test set_due_terms [] }))
@@ -208,19 +203,19 @@ set_version_is = record { is = refl; plain = (refl, refl) }
 
 pub numbers_is : Selects numbers_text (reads 3 [] last_id_terms id_order) (codes "id" ∷ [])
 unfolding understood everything
-numbers_is = record { is = refl; plain = (refl, refl); unlisted = refl }
+numbers_is = record { is = refl; plain = (refl, refl); unlisted = refl; none = λ s n. refl }
 
 pub dated_of_is : Selects dated_of_text (reads 3 filed_test dated_shown_terms id_order) dated_names
 unfolding understood everything
-dated_of_is = record { is = refl; plain = (refl, refl); unlisted = refl }
+dated_of_is = record { is = refl; plain = (refl, refl); unlisted = refl; none = λ s n. refl }
 
 pub stays_is : Selects stays_text (reads 10 [] stay_shown stay_order) stay_names
 unfolding understood everything
-stays_is = record { is = refl; plain = (refl, refl); unlisted = refl }
+stays_is = record { is = refl; plain = (refl, refl); unlisted = refl; none = λ s n. refl }
 
 pub stays_of_is : Selects stays_of_text (reads 10 request_test stay_shown number_order) stay_names
 unfolding understood everything
-stays_of_is = record { is = refl; plain = (refl, refl); unlisted = refl }
+stays_of_is = record { is = refl; plain = (refl, refl); unlisted = refl; none = λ s n. refl }
 
 pub add_stay_is : Changes add_stay_text (Insert 6 (Values add_stay_terms 6))
 unfolding understood everything

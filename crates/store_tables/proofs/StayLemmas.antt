@@ -1,20 +1,18 @@
 -- Stays: their numbers, and what INSERT and UPDATE make of them.
-use Rattle.std.proofs.Common.{◌≡◌, ◌+◌, ◌<◌, Bool, List, Ok, Some, [], ◌∷◌, ℕ, arith, get_or, inr}
-use Rattle.std.proofs.Common.{length, refl, suc, zero, true, false}
-use Rattle.std.specs.Prelude.{if◌then◌else◌}
+use Rattle.std.proofs.Common.{◌≡◌, ◌+◌, ◌<◌, Ok, [], ◌∷◌, ℕ, inr, suc, zero, true}
+use Rattle.std.proofs.Common.{Bool, List, Some, arith, get_or, length, refl, false, if◌then◌else◌}
 use Rattle.sqlite.specs.Change.{KeepsRows}
 use Rattle.sqlite.specs.Edit.{next_rowid}
 use Rattle.sqlite.specs.State.{State, Executes}
 use Rattle.sqlite_tied.proofs.RuleLemmas.{and_true}
 use Rattle.hours_core.specs.declared.stay.Stay.{Stay}
-use Rattle.store_tables.specs.Contents.{Contents, add_stay, end_stay}
+use Rattle.store_tables.specs.Contents.{Contents, add_stay, end_stay, Tables, desk_schema}
 use Rattle.store_tables.specs.Kept.{filed}
 use Rattle.store_tables.specs.Queries.{add_stay_text, end_stay_text}
 use Rattle.store_tables.specs.Reading.{IsMinute, IsMinuteOrNull, IsStayRow}
 use Rattle.store_tables.specs.Spelling.{count_value, stay_columns}
-use Rattle.store_tables.specs.Stands.{Tables}
 use Rattle.store_tables.specs.Stays.{StayRow, is_stay, stay_row, stay_rows_from, with_end}
-use Rattle.store_tables.specs.Tables.{desk_schema, first_schema, stay}
+use Rattle.store_tables.specs.Tables.{first_schema, stay}
 use Rattle.store_tables.proofs.ChangeLemmas.{Added, adds, apart, cast_int, cast_null, sets}
 use Rattle.store_tables.proofs.Statements.{add_stay_is, end_stay_is}
 use Rattle.store_tables.proofs.TableLemmas.{cast_moment, changes, puts}
@@ -82,11 +80,9 @@ pub ends_stay : (d : Contents) (id number until : ℕ) (old new : State)
     → IsMinute (count_value until) → Tables d old.now
     → Executes end_stay_text (count_value id ∷ count_value number ∷ count_value until ∷ []) old new
     (Ok 1) → Tables (end_stay d id number until) new.now
-ends_stay d id number until old new is t h =
-    changes stay_table t (end_stay d id number until) (is_stay id number) (λ k. k.0) (λ k. refl)
-    (λ k. refl) (λ k. simp (equal_numbers, and_true)) stay (λ k. (k.0, ended until k.1))
-    (λ k it. simp cast_int)
+ends_stay d id number until old new is t h = changes stay_table t (end_stay d id number until) _ _ _
+    (is_stay id number) (λ k. k.0) (λ k. refl) (λ k. refl) (λ k. simp (equal_numbers, and_true))
+    stay (λ k. (k.0, ended until k.1)) (λ k it. simp cast_int)
     (sets _ _ _ _ _ stay old new refl refl t.schema end_stay_is (λ a b. refl) h)
-    (with_end id number until)
-    (λ x apart. rw apart) (λ k it. rw it)
+    (with_end id number until) (λ x apart. rw apart) (λ k it. rw it)
     (λ s. end_shown s until (is_stay id number s) is) (λ now. assumption)

@@ -4,16 +4,14 @@ use Rattle.std.proofs.Common.{IsTrue, ap, fold, get_or, length, subst, sym, take
 use Rattle.std.specs.Prelude.{⊤}
 use Rattle.std.proofs.lemmas.List.{take_all}
 use Rattle.sqlite.specs.Order.{Row}
-use Rattle.sqlite.specs.State.{State, HasCleanDisk, Executes}
+use Rattle.sqlite.specs.State.{State, Executes}
 use Rattle.sqlite.specs.Change.{KeepsRows}
 use Rattle.store_tables.specs.Calls.{Does, Looks, Makes, Runs, WasClean}
-use Rattle.store_tables.specs.Contents.{Contents}
+use Rattle.store_tables.specs.Contents.{Contents, Tables, desk_schema}
 use Rattle.store_tables.specs.Stands.{GoesOn, HasTables, KeepsBase, OnlyStaysChange, Ran, RanOnAny}
-use Rattle.store_tables.specs.Stands.{Tables}
-use Rattle.store_tables.specs.Tables.{desk_schema, first_schema}
+use Rattle.store_tables.specs.Tables.{first_schema}
 use Rattle.store_tables.specs.declared.fault.StoreFault.{StoreFault}
 use Rattle.store_tables.proofs.Lasting.{on}
-use Rattle.store_tables.proofs.ReadingLemmas.{if_ok}
 use Rattle.store_tables.proofs.StandLemmas.{fold_more}
 
 -- a statement that ran, whatever is known of how
@@ -51,27 +49,10 @@ kept_on a b c first second clean live =
     let was = first at.0 at.1 in
     (was.0, was.1, at.2 ∙ was.2)
 
--- two statements, of which the first went well
-pub runs_both : {X Y : Type 0} {P : X → Type 0} {Q R : Y → Type 0} {a b c : State} {x : X}
-    {r : Result Y StoreFault} → ((y : Y) → Q y → R y) → Runs P a b (Ok x) → Runs Q b c r
-    → Runs R a c r
-runs_both {a = a} {b = b} {c = c} {r = r} so first second = record {
-  ran = λ clean. if_ok r so (second.ran clean);
-  keeps = kept_on a b c first.keeps second.keeps;
-  clean = λ clean. first.clean (second.clean clean);
-  lasts = on second.clean first.lasts second.lasts;
-  refused = second.refused;
-}
-
 -- what it told is not asked for
 pub runs_done : {X Y : Type 0} {P : X → Type 0} {a b : State} {x : X} {y : Y}
     → Runs P a b (Ok x) → Runs (λ (z : Y). ⊤) a b (Ok y)
 runs_done runs = search rules
-
--- a fault is one of whatever was run, and so it is answered
-pub runs_failed : {X Y : Type 0} {P : X → Type 0} {Q : Y → Type 0} {a b : State} {e : StoreFault}
-    {r : Result Y StoreFault} → Runs P a b (Err e) → r ≡ Err e → Runs Q a b r
-runs_failed {b = b} runs is = rw is (let ran : HasCleanDisk b → ⊤ = λ clean. tt in assumption)
 
 -- what a statement leaves of tables with any rows
 pub ran_beside : {X : Type 0} (r : Result X StoreFault) {sql : List ℕ} {params : Row}
@@ -92,13 +73,10 @@ beside_none s has clean live = let there = has clean live in assumption
 
 pub looks_beside : {X : Type 0} {x : X} {a b : State} → Looks a b (Ok x) → OnlyStaysChange a b
 looks_beside {a = a} looks has clean live =
-    let it = looks.same has clean in rw it.1 (beside_none a has (looks.clean clean) it.0)
+    let it = looks.same clean in rw it.1 (beside_none a has (looks.clean clean) it.0)
 
 pub beside_there : (a b : State) → OnlyStaysChange a b → HasTables a → HasTables b
 beside_there a b beside has clean live = (beside has clean live).1
-
-pub looks_there : {X : Type 0} {x : X} {a b : State} → Looks a b (Ok x) → HasTables a → HasTables b
-looks_there {a = a} {b = b} looks = beside_there a b (looks_beside looks)
 
 pub beside_on : (a b c : State) → OnlyStaysChange a b → WasClean b c → OnlyStaysChange b c
     → OnlyStaysChange a c

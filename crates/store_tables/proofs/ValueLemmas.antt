@@ -1,6 +1,5 @@
 -- Of contents that are values.
-use Rattle.store_tables.specs.Contents.{Contents}
-use Rattle.store_tables.specs.Values.{AreValues, ShowsValues}
+use Rattle.store_tables.specs.Contents.{Contents, AreValues, ShowsValues}
 
 pub values_of : (c : Contents) → AreValues c → ShowsValues c
 unfolding AreValues

@@ -1,8 +1,7 @@
 -- What INSERT and UPDATE of one row make of a table.
-use Rattle.std.proofs.Common.{ℤ, ◌≡◌, ◌⊎◌, inl, inr, ℕ, ◌/◌, false, List, [], length, slice_get}
-use Rattle.std.proofs.Common.{Some, None, Option, Ok, Err, Result, sym, ap, subst, subst₂, ◌∙◌, map}
-use Rattle.std.proofs.Common.{drop}
-use Rattle.std.specs.Prelude.{if◌then◌else◌}
+use Rattle.std.proofs.Common.{ℤ, ℕ, [], Ok, ap}
+use Rattle.std.proofs.Common.{◌≡◌, ◌⊎◌, inl, inr, ◌/◌, Some, None, Err, sym, subst, ◌∙◌, map, drop}
+use Rattle.std.proofs.Common.{false, List, length, slice_get, Option, Result, subst₂, if◌then◌else◌}
 use Rattle.std.proofs.lemmas.List.{length-map}
 use Rattle.sqlite.specs.Order.{Row}
 use Rattle.sqlite.specs.Term.{Term}

@@ -1,18 +1,20 @@
 -- What calls over the tables answer, and what they leave.
-use Rattle.std.specs.Prelude.{◌≡◌, ◌≢◌, ◌≤◌, ◌⊎◌, ℕ, [], IfErr, IfOk, IsTrue, List, OnOk, Result}
+use Rattle.std.specs.Prelude.{◌≡◌, ◌≢◌, ◌≤◌, ◌⊎◌, ℕ, [], IfErr, IfOk, IsTrue, List, None, Ok, OnOk}
+use Rattle.std.specs.Prelude.{Result}
 use Rattle.std.specs.List.{AllZip}
-use Rattle.sqlite.specs.Effect.{Database}
+use Rattle.sqlite.specs.Listing.{understood}
 use Rattle.sqlite.specs.Order.{Row}
 use Rattle.sqlite_disk.specs.Disk.{MoreFaults}
 use Rattle.sqlite.specs.State.{State, HasCleanDisk, Shown}
+use Rattle.sqlite.specs.Schema.{Schema}
 use Rattle.sqlite.specs.Term.{Term}
+use Rattle.sqlite_resolve.specs.declared.compiled.Compiled.{Compiled}
 use Rattle.sqlite_rules.specs.Lists.{Has}
 use Rattle.desk_model.specs.Desk.{Desk}
 use Rattle.desk_model.specs.IsDesk.{IsDesk}
-use Rattle.store_tables.specs.Contents.{Contents}
+use Rattle.store_tables.specs.Contents.{Contents, desk_schema, HasBadRow}
 use Rattle.store_tables.specs.Picked.{shows}
 use Rattle.store_tables.specs.Stands.{GoesOn, HasTables, HoldsNow, KeepsBase, Stand, StandsFor}
-use Rattle.store_tables.specs.Tables.{desk_schema}
 use Rattle.store_tables.specs.declared.fault.StoreFault.{StoreFault}
 use Rattle.store_tables.specs.declared.fault.StoreFault.TheVariants.{Mismatch, Refused}
 use Rattle.store_tables.specs.declared.fault.StoreFault.TheVariants.{WrongVersion}
@@ -36,11 +38,16 @@ AreLeft old new =
     → IsTrue old.is_open × (new.committed ≡ old.committed)
     × ((new.now ≡ old.now) ⊎ (new.now ≡ old.committed))
 
--- So are the seven tables left, whatever rows they have. The connection lasts.
+-- So is left whatever there is, tables of a desk or others. The connection lasts.
 pub record Spares (old new : State) : Type 0 where
   pub clean : HasCleanDisk new → HasCleanDisk old
   pub lasts : Lasts old new
-  pub left : AreThere old → AreLeft old new
+  pub left : AreLeft old new
+
+-- over no tables the text is a statement that gives back rows of what it writes
+abbrev pub ReadsAlone : List ℕ → Type 0
+ReadsAlone sql =
+    (schema : Schema) (c : Compiled) → understood schema sql ≡ Ok c → c.returning ≡ None
 
 -- a disk that is clean after the call was clean before it
 abbrev pub WasClean : State → State → Type 0
@@ -63,11 +70,6 @@ ShowsRowsOf tree terms rows old new result =
     HasTables old → HasCleanDisk new
     → IfOk result (λ x. (row : Row) → Has (rows x) row → IsTrue old.is_open
     × (r : Row) × Has (old.now.trees tree) r × (row ≡ shows terms [] r))
-
--- these columns of a row of that tree are no value of the type
-abbrev pub HasBadRow : ℕ → List Term → (Row → Type 0) → Database → Type 0
-HasBadRow tree terms IsValue db =
-    (r : Row) × Has (db.trees tree) r × ¬ IsValue (shows terms [] r)
 
 -- a mismatch comes only of a bad row
 abbrev pub MismatchesIn : {X : Type 0} → ℕ → List Term → (Row → Type 0) → State → State
@@ -132,15 +134,15 @@ pub record Does {X : Type 0} (change : Contents → Contents) (old new : State)
   pub lasts : Lasts old new
   pub refused : IfErr result (λ e. e ≡ Refused)
 
--- What a query does there: the tables hold what they held. Where they are there, with any rows,
--- they are as they were, the last commit stays, and the transaction goes on where nothing is
--- refused. A disk that is clean after it was clean before, and the connection lasts.
+-- What a query does there: the tables hold what they held. Whatever tables there are, they are as
+-- they were, the last commit stays,
+-- and the transaction goes on where nothing is refused. A disk that is clean after it was clean
+-- before, and the connection lasts.
 pub record Looks {X : Type 0} (old new : State) (result : Result X StoreFault) : Type 0 where
   pub makes : Makes (λ c. c) old new result
-  pub same : HasTables old → HasCleanDisk new
-      → IfOk result (λ x. IsTrue old.is_open × (new.now ≡ old.now))
-  pub keeps : HasTables old → KeepsBase old new
-  pub goes_on : HasTables old → GoesOn old → OnOk result (GoesOn new)
+  pub same : HasCleanDisk new → IfOk result (λ x. IsTrue old.is_open × (new.now ≡ old.now))
+  pub keeps : KeepsBase old new
+  pub goes_on : GoesOn old → OnOk result (GoesOn new)
   pub clean : WasClean old new
   pub lasts : Lasts old new
 

@@ -1,6 +1,16 @@
--- What the tables of a desk hold: a version, and the rows of six lists, in no order that matters.
-use Rattle.std.specs.Prelude.{ℕ, List, Option, [], ◌∷◌, filter, flat_map, if◌then◌else◌, map, not}
+-- The tables of a desk, and what they hold: a version, and the rows of six lists, in no order that
+-- matters. All that names each table stands here.
+use Rattle.std.specs.Prelude.{◌≡◌, ◌⊎◌, ◌<◌, ◌^◌, ◌==◌, ℕ, List, Option, [], ◌∷◌, filter, flat_map}
+use Rattle.std.specs.Prelude.{if◌then◌else◌, IsPermutation, length, map, not, take}
+use Rattle.std.specs.List.{list_any}
 use Rattle.std.specs.Option.{option_map_or}
+use Rattle.sqlite.specs.Effect.{Database}
+use Rattle.sqlite.specs.Order.{Row}
+use Rattle.sqlite.specs.Schema.{Schema}
+use Rattle.sqlite.specs.Table.{Table}
+use Rattle.sqlite.specs.Term.{Term}
+use Rattle.sqlite_rules.specs.Lists.{Has}
+use Rattle.sqlite_schema.specs.declared.schema.Index.{Index}
 use Rattle.desk_model.specs.Desk.{Desk, request_at}
 use Rattle.desk_model.specs.Watchers.{watchers_of}
 use Rattle.desk_model.specs.declared.rows.Entry.{Entry}
@@ -8,9 +18,60 @@ use Rattle.desk_model.specs.declared.rows.LinkRow.{LinkRow}
 use Rattle.desk_model.specs.declared.rows.QueueRow.{QueueRow}
 use Rattle.desk_model.specs.declared.rows.RequestRow.{RequestRow}
 use Rattle.desk_model.specs.declared.rows.Watcher.{Watcher}
-use Rattle.store_tables.specs.Dated.{Dated, dated_by, row_of}
+use Rattle.store_tables.specs.Dated.{Dated, dated_by, dated_columns, dated_shown, id_of, row_of}
+use Rattle.store_tables.specs.Kept.{Keeps, Numbers}
+use Rattle.store_tables.specs.Picked.{shows}
+use Rattle.store_tables.specs.Queries.{dated_shown_terms, entry_shown_terms, queue_shown}
+use Rattle.store_tables.specs.Queries.{stay_shown, three_shown}
+use Rattle.store_tables.specs.Reading.{IsDatedRow, IsEntryRow, IsLinkRow, IsQueueRow, IsStayRow}
+use Rattle.store_tables.specs.Reading.{IsWatcherRow}
 use Rattle.store_tables.specs.Selection.{actor_of, is_link, is_numbered, is_watcher}
+use Rattle.store_tables.specs.Spelling.{entry_columns, link_columns, queue_columns, stay_columns}
+use Rattle.store_tables.specs.Spelling.{version_row, watcher_columns}
 use Rattle.store_tables.specs.Stays.{StayRow, stays, with_end}
+use Rattle.store_tables.specs.Tables.{entry, entry_key, entry_text, link, link_key, link_text, meta}
+use Rattle.store_tables.specs.Tables.{meta_text, queue, queue_key, queue_text, request}
+use Rattle.store_tables.specs.Tables.{request_text}
+use Rattle.store_tables.specs.Tables.{stay, stay_key, stay_text, watcher, watcher_key, watcher_text}
+
+-- ---- the tables
+
+-- the seven tables, in the order in which they are made
+abbrev pub desk_tables : List Table
+desk_tables = meta ∷ queue ∷ request ∷ watcher ∷ link ∷ entry ∷ stay ∷ []
+
+abbrev pub table_count : ℕ
+table_count = length desk_tables
+
+-- and the indexes of their keys
+abbrev pub desk_keys : List Index
+desk_keys = queue_key ∷ watcher_key ∷ link_key ∷ entry_key ∷ stay_key ∷ []
+
+-- the first n of the tables
+abbrev pub front : ℕ → Schema
+front n =
+    let tables = take n desk_tables in
+    record {
+      tables = tables;
+      indexes = filter (λ i. list_any (λ t. t.tree == i.table) tables) desk_keys;
+      views = [];
+    }
+
+-- the seven of the present one
+abbrev pub desk_schema : Schema
+desk_schema = record {
+  tables = meta ∷ queue ∷ request ∷ watcher ∷ link ∷ entry ∷ stay ∷ [];
+  indexes =
+      queue_key ∷ watcher_key ∷ link_key ∷ entry_key ∷ stay_key ∷ [];
+  views = [];
+}
+
+-- the texts that make them, in this order
+abbrev pub table_texts : List (List ℕ)
+table_texts =
+    meta_text ∷ queue_text ∷ request_text ∷ watcher_text ∷ link_text ∷ entry_text ∷ stay_text ∷ []
+
+-- ---- what they hold
 
 pub record Contents : Type 0 where
   pub version : ℕ
@@ -20,6 +81,56 @@ pub record Contents : Type 0 where
   pub links : List LinkRow
   pub entries : List Entry
   pub stays : List StayRow
+
+-- texts are in UTF-8, numbers below 2^32, and minutes within the range of due moments
+pub record ShowsValues (c : Contents) : Type 0 where
+  pub version : c.version < 2 ^ 32
+  pub queues : (q : QueueRow) → Has c.queues q → IsQueueRow (queue_columns q)
+  pub dated : (p : Dated) → Has c.dated p → IsDatedRow (dated_shown p)
+  pub watchers : (w : Watcher) → Has c.watchers w → IsWatcherRow (watcher_columns w)
+  pub links : (l : LinkRow) → Has c.links l → IsLinkRow (link_columns l)
+  pub entries : (e : Entry) → Has c.entries e → IsEntryRow (entry_columns e)
+  pub stays : (s : StayRow) → Has c.stays s → IsStayRow (stay_columns s)
+
+-- the same, as a word that isn't looked into where only the tables matter
+unfoldable pub AreValues : Contents → Type 0
+AreValues c = ShowsValues c
+
+-- meta has its one row, and the other six tables are, up to order, the six lists of values
+pub record Tables (c : Contents) (db : Database) : Type 0 where
+  pub schema : db.schema ≡ desk_schema
+  pub meta : db.trees 0 ≡ version_row c.version ∷ []
+  pub queues : Keeps queue_columns c.queues (db.trees 1)
+  pub requests : Numbers id_of dated_columns c.dated (db.trees 3)
+  pub watchers : Keeps watcher_columns c.watchers (db.trees 4)
+  pub links : Keeps link_columns c.links (db.trees 6)
+  pub entries : Keeps entry_columns c.entries (db.trees 8)
+  pub stays : Keeps stay_columns c.stays (db.trees 10)
+  pub values : AreValues c
+
+-- these columns of a row of that tree are no value of the type
+abbrev pub HasBadRow : ℕ → List Term → (Row → Type 0) → Database → Type 0
+HasBadRow tree terms IsValue db =
+    (r : Row) × Has (db.trees tree) r × ¬ IsValue (shows terms [] r)
+
+-- a row of a queue, a request, a watcher, a link, an entry or a stay is no value of its type
+abbrev pub HasBadRows : Database → Type 0
+HasBadRows db =
+    HasBadRow 1 queue_shown IsQueueRow db ⊎ HasBadRow 3 dated_shown_terms IsDatedRow db
+    ⊎ HasBadRow 4 three_shown IsWatcherRow db ⊎ HasBadRow 6 three_shown IsLinkRow db
+    ⊎ HasBadRow 8 entry_shown_terms IsEntryRow db ⊎ HasBadRow 10 stay_shown IsStayRow db
+
+-- the same version and the same rows, in any order
+pub record AreAlike (a b : Contents) : Type 0 where
+  pub version : a.version ≡ b.version
+  pub queues : IsPermutation a.queues b.queues
+  pub dated : IsPermutation a.dated b.dated
+  pub watchers : IsPermutation a.watchers b.watchers
+  pub links : IsPermutation a.links b.links
+  pub entries : IsPermutation a.entries b.entries
+  pub stays : IsPermutation a.stays b.stays
+
+-- ---- of a desk
 
 -- the rows of requests, without their due moments
 abbrev pub requests : Contents → List RequestRow

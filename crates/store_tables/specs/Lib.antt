@@ -16,4 +16,3 @@ pub mod Spelling
 pub mod Stands
 pub mod Stays
 pub mod Tables
-pub mod Values

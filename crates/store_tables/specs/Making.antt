@@ -1,34 +1,22 @@
 -- How far the tables are made.
-use Rattle.std.specs.Prelude.{◌≡◌, ◌⊎◌, ℕ, pos, IfErr, IfOk, List, [], ◌∷◌, IsTrue}
-use Rattle.std.specs.Prelude.{Err, OnErr, OnOk, Result, true}
-use Rattle.std.specs.List.{AllByRecursion}
+use Rattle.std.specs.Prelude.{◌≡◌, ◌⊎◌, ℕ, pos, IfErr, IfOk, List, [], ◌∷◌, IsTrue, Err, OnErr}
+use Rattle.std.specs.Prelude.{OnOk, Result, true, ◌==◌, if◌then◌else◌}
 use Rattle.sqlite.specs.Order.{Row, column}
-use Rattle.sqlite.specs.Schema.{Schema}
 use Rattle.sqlite.specs.State.{State, HasCleanDisk}
-use Rattle.sqlite.specs.Tree.{Trees}
+use Rattle.sqlite.specs.Effect.{Database}
 use Rattle.sqlite.specs.declared.types.Value.TheVariants.{Int}
 use Rattle.sqlite_rules.specs.Lists.{Has}
 use Rattle.desk_model.specs.Desk.{empty_desk}
-use Rattle.store_tables.specs.Contents.{Contents, no_contents}
-use Rattle.store_tables.specs.Calls.{AreLeft, HasBadRow}
+use Rattle.store_tables.specs.Contents.{Contents, HasBadRow, Tables}
 use Rattle.store_tables.specs.Picked.{shows}
 use Rattle.store_tables.specs.Queries.{version_shown}
 use Rattle.store_tables.specs.Reading.{IsNumberRow}
-use Rattle.store_tables.specs.Spelling.{count_value}
-use Rattle.store_tables.specs.Stands.{HasEither, HasTables, HoldsNow, StandsFor}
+use Rattle.store_tables.specs.Spelling.{count_value, version_row}
+use Rattle.store_tables.specs.Stands.{HasFront, HasTables, HoldsNow, StandsFor}
 use Rattle.store_tables.specs.Tables.{no_schema}
 use Rattle.store_tables.specs.declared.fault.StoreFault.{StoreFault}
 use Rattle.store_tables.specs.declared.fault.StoreFault.TheVariants.{Mismatch, Refused}
 use Rattle.store_tables.specs.declared.fault.StoreFault.TheVariants.{WrongVersion}
-
-abbrev pub AreEmpty : Schema → Trees → Type 0
-AreEmpty schema db = AllByRecursion (λ t. db t.tree ≡ []) schema.tables
-
--- in a transaction, these tables are made so far and have no row
-abbrev pub Made : Schema → State → Type 0
-Made schema s =
-    HasCleanDisk s → IsTrue s.is_open
-    → (s.now.schema ≡ schema) × AreEmpty schema s.now.trees × (s.in_transaction ≡ true)
 
 -- no table at all
 abbrev pub IsBlank : State → Type 0
@@ -36,9 +24,15 @@ IsBlank s =
     HasCleanDisk s → IsTrue s.is_open
     → (s.now.schema ≡ no_schema) × (s.committed.schema ≡ no_schema)
 
--- in a transaction, the tables stand for the empty desk, whatever the last commit left
-abbrev pub Fresh : State → Type 0
-Fresh s = HoldsNow no_contents s
+-- with the present version, where none is written
+abbrev pub numbered : Database → Database
+numbered db = record db { trees = λ t. if t == 0 then version_row 2 ∷ [] else db.trees t }
+
+-- in a transaction, the tables hold this, but for the version, of which there is no row
+abbrev pub LacksVersion : Contents → State → Type 0
+LacksVersion c s =
+    HasCleanDisk s → IsTrue s.is_open
+    → (s.now.trees 0 ≡ []) × Tables c (numbered s.now) × (s.in_transaction ≡ true)
 
 -- the one row shows that version
 abbrev pub ShowsVersion : ℕ → List Row → Type 0
@@ -65,15 +59,13 @@ AreOfMeta s rows =
     (row : Row) → Has rows row
     → (r : Row) × Has (s.now.trees 0) r × (row ≡ shows version_shown [] r)
 
--- What is read of meta in the seven tables or the six, whatever rows stand elsewhere: what it
--- answers is so of them, a mismatch comes only of a row of meta that shows no number, and all are
--- left.
+-- What is read of meta where the first n tables are there, whatever rows stand elsewhere: what it
+-- answers is so of them, and a mismatch comes only of a row of meta that shows no number.
 pub record ReadsMeta {X : Type 0} (P : State → X → Type 0) (old new : State)
     (result : Result X StoreFault) : Type 0 where
-  pub told : HasEither old → HasCleanDisk new → IfOk result (P old)
-  pub mismatch : IfErr result (λ e. e ≡ Mismatch → HasEither old → HasCleanDisk new
+  pub told : HasFront old → HasCleanDisk new → IfOk result (P old)
+  pub mismatch : IfErr result (λ e. e ≡ Mismatch → HasFront old → HasCleanDisk new
       → HasBadRow 0 version_shown IsNumberRow old.now)
-  pub left : HasEither old → AreLeft old new
 
 -- a version is told to be wrong only where a row of meta shows one that isn't known
 abbrev pub BlamesMeta : {X : Type 0} → State → State → Result X StoreFault → Type 0
@@ -91,7 +83,6 @@ MakesDesk old new result =
     → OnOk result (StandsFor empty_desk new) × OnErr result (IsBlank new)
     × (HasCleanDisk new → IfErr result (λ e. e ≡ Refused))
 
--- where there is no table it is refused, and there is none still
+-- where there is no table it is refused
 abbrev pub RefusesBlank : {X : Type 0} → State → State → Result X StoreFault → Type 0
-RefusesBlank old new result =
-    IsBlank old → IsBlank new × (HasCleanDisk new → result ≡ Err Refused)
+RefusesBlank old new result = IsBlank old → HasCleanDisk new → result ≡ Err Refused

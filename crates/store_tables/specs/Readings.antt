@@ -1,25 +1,13 @@
 -- What a reading of the tables answers, what it leaves, and which rows it blames.
 use Rattle.std.specs.Prelude.{◌≡◌, ◌≢◌, ◌⊎◌, ℕ, IfErr, IsTrue, Option, Result}
-use Rattle.sqlite.specs.Effect.{Database}
 use Rattle.sqlite.specs.State.{State, HasCleanDisk}
 use Rattle.desk_model.specs.Desk.{Desk}
 use Rattle.desk_model.specs.IsDesk.{IsDesk}
 use Rattle.desk_model.specs.declared.rows.RequestRow.{RequestRow}
-use Rattle.store_tables.specs.Calls.{Answers, AreThere, HasBadRow, Spares}
-use Rattle.store_tables.specs.Contents.{Contents, contents_of}
-use Rattle.store_tables.specs.Queries.{dated_shown_terms, entry_shown_terms, queue_shown}
-use Rattle.store_tables.specs.Queries.{stay_shown, three_shown}
-use Rattle.store_tables.specs.Reading.{IsDatedRow, IsEntryRow, IsLinkRow, IsQueueRow, IsStayRow}
-use Rattle.store_tables.specs.Reading.{IsWatcherRow}
+use Rattle.store_tables.specs.Calls.{Answers, AreThere, Spares}
+use Rattle.store_tables.specs.Contents.{Contents, contents_of, HasBadRows}
 use Rattle.store_tables.specs.declared.fault.StoreFault.{StoreFault}
 use Rattle.store_tables.specs.declared.fault.StoreFault.TheVariants.{Mismatch, WrongVersion}
-
--- a row of a queue, a request, a watcher, a link, an entry or a stay is no value of its type
-abbrev pub HasBadRows : Database → Type 0
-HasBadRows db =
-    HasBadRow 1 queue_shown IsQueueRow db ⊎ HasBadRow 3 dated_shown_terms IsDatedRow db
-    ⊎ HasBadRow 4 three_shown IsWatcherRow db ⊎ HasBadRow 6 three_shown IsLinkRow db
-    ⊎ HasBadRow 8 entry_shown_terms IsEntryRow db ⊎ HasBadRow 10 stay_shown IsStayRow db
 
 -- No fault is of the version, and a mismatch comes only of a bad row in tables that are there: in
 -- an open store, as they are or as the last commit left them.

@@ -1,32 +1,16 @@
 -- What it is that tables stand for a desk.
-use Rattle.std.specs.Prelude.{◌≡◌, ◌<◌, ◌==◌, ◌⊎◌, ℕ, [], ◌∷◌, IsTrue, List, Ok, Option, true}
-use Rattle.std.specs.Prelude.{if◌then◌else◌}
+use Rattle.std.specs.Prelude.{◌≡◌, ◌<◌, ◌≤◌, ◌==◌, ℕ, [], Bool, IsTrue, List, Ok, Option}
+use Rattle.std.specs.Prelude.{true, if◌then◌else◌}
+use Rattle.std.specs.List.{list_any}
 use Rattle.sqlite.specs.Change.{KeepsRows}
 use Rattle.sqlite.specs.Order.{Row}
 use Rattle.sqlite.specs.Effect.{Database}
 use Rattle.sqlite.specs.State.{State, HasCleanDisk, Executes, Shows}
 use Rattle.desk_model.specs.Desk.{Desk}
 use Rattle.desk_model.specs.declared.rows.RequestRow.{RequestRow}
-use Rattle.store_tables.specs.Contents.{Contents, contents_of, first_contents_of}
-use Rattle.store_tables.specs.Dated.{dated_columns, id_of}
-use Rattle.store_tables.specs.Kept.{Keeps, Numbers}
-use Rattle.store_tables.specs.Spelling.{version_row, queue_columns}
-use Rattle.store_tables.specs.Spelling.{watcher_columns, link_columns, entry_columns}
-use Rattle.store_tables.specs.Spelling.{stay_columns}
-use Rattle.store_tables.specs.Tables.{desk_schema, first_schema}
-use Rattle.store_tables.specs.Values.{AreValues}
-
--- meta has its one row, and the other six tables are, up to order, the six lists of values
-pub record Tables (c : Contents) (db : Database) : Type 0 where
-  pub schema : db.schema ≡ desk_schema
-  pub meta : db.trees 0 ≡ version_row c.version ∷ []
-  pub queues : Keeps queue_columns c.queues (db.trees 1)
-  pub requests : Numbers id_of dated_columns c.dated (db.trees 3)
-  pub watchers : Keeps watcher_columns c.watchers (db.trees 4)
-  pub links : Keeps link_columns c.links (db.trees 6)
-  pub entries : Keeps entry_columns c.entries (db.trees 8)
-  pub stays : Keeps stay_columns c.stays (db.trees 10)
-  pub values : AreValues c
+use Rattle.store_tables.specs.Contents.{Contents, contents_of, first_contents_of, desk_schema}
+use Rattle.store_tables.specs.Contents.{front, table_count, Tables}
+use Rattle.store_tables.specs.Tables.{first_schema}
 
 -- where the store is open and its disk is clean, the tables hold this, and so do those of the last
 -- commit
@@ -79,18 +63,22 @@ pub record Ran (sql : List ℕ) (params : Row) (old new : State) (count : ℕ) :
 abbrev pub RanOnAny : List ℕ → Row → State → State → Type 0
 RanOnAny sql params old new = (count : ℕ) × (count < 2) × Ran sql params old new count
 
--- ---- version 1
+-- ---- where only some of the tables are there
 
--- with a table of stays that has no row beside the six, which stay as they are
-abbrev pub with_no_stays : Database → Database
-with_no_stays db =
-    record { schema = desk_schema; trees = λ n. if n == 10 then [] else db.trees n }
+-- the table is one of the first n
+abbrev pub is_among : ℕ → ℕ → Bool
+is_among n tree = list_any (λ t. t.tree == tree) (front n).tables
+
+-- the first n tables with their rows, and those that lack with none
+abbrev pub filled : ℕ → Database → Database
+filled n db =
+    record { schema = desk_schema; trees = λ t. if is_among n t then db.trees t else [] }
 
 -- the six tables of version 1: what they hold is what all seven would, with no row of stays
 pub record FirstTables (c : Contents) (db : Database) : Type 0 where
   pub schema : db.schema ≡ first_schema
   pub version : c.version ≡ 1
-  pub tables : Tables c (with_no_stays db)
+  pub tables : Tables c (filled 6 db)
 
 -- where the store is open and its disk is clean, the six tables hold this, and so do those of the
 -- last commit
@@ -98,11 +86,10 @@ abbrev pub FirstStand : Contents → State → Type 0
 FirstStand c s =
     HasCleanDisk s → IsTrue s.is_open → FirstTables c s.now × FirstTables c s.committed
 
--- the six or the seven tables are there, with any rows
-abbrev pub HasEither : State → Type 0
-HasEither s =
-    HasCleanDisk s → IsTrue s.is_open
-    → (s.now.schema ≡ desk_schema) ⊎ (s.now.schema ≡ first_schema)
+-- the first n of the seven tables are there, none, some or all, with any rows
+abbrev pub HasFront : State → Type 0
+HasFront s =
+    HasCleanDisk s → IsTrue s.is_open → (n : ℕ) × (n ≤ table_count) × (s.now.schema ≡ front n)
 
 -- the six tables stand for the desk, with any due moments
 abbrev pub FirstStandsFor : Desk → State → Type 0

@@ -129,12 +129,6 @@ queue_key = record {
   is_unique = true;
 }
 
-abbrev pub meta_schema : Schema
-meta_schema = record { tables = meta ∷ []; indexes = []; views = [] }
-
-abbrev pub queue_schema : Schema
-queue_schema = record { tables = meta ∷ queue ∷ []; indexes = queue_key ∷ []; views = [] }
-
 abbrev pub refers : ℕ → List ℕ → List ℕ → Reference
 refers place parent name = record {
   columns = place ∷ [];
@@ -283,44 +277,11 @@ stay_key = record {
   is_unique = true;
 }
 
-abbrev pub request_schema : Schema
-request_schema = record {
-  tables = meta ∷ queue ∷ request ∷ [];
-  indexes = queue_key ∷ [];
-  views =
-      [];
-}
-
-abbrev pub watcher_schema : Schema
-watcher_schema = record {
-  tables = meta ∷ queue ∷ request ∷ watcher ∷ [];
-  indexes =
-      queue_key ∷ watcher_key ∷ [];
-  views = [];
-}
-
-abbrev pub link_schema : Schema
-link_schema = record {
-  tables = meta ∷ queue ∷ request ∷ watcher ∷ link ∷ [];
-  indexes =
-      queue_key ∷ watcher_key ∷ link_key ∷ [];
-  views = [];
-}
-
 -- the six tables of version 1
 abbrev pub first_schema : Schema
 first_schema = record {
   tables = meta ∷ queue ∷ request ∷ watcher ∷ link ∷ entry ∷ [];
   indexes =
       queue_key ∷ watcher_key ∷ link_key ∷ entry_key ∷ [];
-  views = [];
-}
-
--- the seven of the present one
-abbrev pub desk_schema : Schema
-desk_schema = record {
-  tables = meta ∷ queue ∷ request ∷ watcher ∷ link ∷ entry ∷ stay ∷ [];
-  indexes =
-      queue_key ∷ watcher_key ∷ link_key ∷ entry_key ∷ stay_key ∷ [];
   views = [];
 }

@@ -1,18 +1,15 @@
 //! Reading in a transaction that goes on: one query each. `Refused` where the store or memory
 //! refuses it. The tables stay as they are.
 ghost use Rattle.std.specs.Prelude.{◌≡◌, IfErr, IfOk, filter};
-ghost use Rattle.sqlite.specs.Given.{IsPlain};
 ghost use Rattle.sqlite.specs.Held.{state};
-ghost use Rattle.sqlite.specs.Listing.{understood};
 ghost use Rattle.sqlite.specs.State.{HasCleanDisk, Shown};
 ghost use Rattle.sqlite.specs.Values.{bound};
-ghost use Rattle.store_tables.specs.Calls.{Inside, Looks, ReadsRows};
+ghost use Rattle.store_tables.specs.Calls.{Inside, Looks, ReadsAlone, ReadsRows};
 ghost use Rattle.store_tables.specs.Contents.{requests};
 ghost use Rattle.store_tables.specs.Mismatches.{MismatchesInEntries, MismatchesInNumbers};
 ghost use Rattle.store_tables.specs.Orders.{by_id, by_number};
 ghost use Rattle.store_tables.specs.Picked.{AreOrdered, AreParts};
 ghost use Rattle.store_tables.specs.Selection.{number_of, tells_of};
-ghost use Rattle.store_tables.specs.Tables.{desk_schema};
 ghost use Rattle.store_tables.specs.declared.fault.StoreFault.{StoreFault};
 
 use crate::columns::number;
@@ -24,13 +21,13 @@ use sqlite::types::ValueRef;
 use sqlite::{Alter, Row, Transaction};
 use std::alloc::Global;
 
-/// All rows of a query that is known to read alone.
-fn select_inside<S: Alter>(
+/// All rows of a query that is known to read alone. `Refused` where the store or memory refuses it.
+pub fn select_inside<S: Alter>(
     tx: &mut Transaction<'_, S>,
     sql: &str,
     params: &[ValueRef<'_>],
 ) -> Result<Vec<Row>, StoreFault>
-    requires { IsPlain (understood desk_schema sql.now) }
+    requires { ReadsAlone sql.now }
     ensures same_reference { tx.new.conn.ghost_name ≡ tx.old.conn.ghost_name }
     ensures shown { HasCleanDisk (state S.Store tx.new.conn.now) → IfOk result (λ rows.
         Shown sql.now (bound params.now) (state S.Store tx.old.conn.now)
@@ -52,7 +49,7 @@ fn select_all_inside<T: Stored + Drop, S: Alter>(
     sql: &str,
     params: &[ValueRef<'_>],
 ) -> Result<Vec<T>, StoreFault>
-    requires { IsPlain (understood desk_schema sql.now) }
+    requires { ReadsAlone sql.now }
     ensures same_reference { tx.new.conn.ghost_name ≡ tx.old.conn.ghost_name }
     ensures read { ReadsRows T.Stored.reads T.Stored.is_value (λ xs. xs.items)
         sql.now (bound params.now) (state S.Store tx.old.conn.now)

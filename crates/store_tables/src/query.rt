@@ -1,13 +1,10 @@
 //! A query, and the values that its rows show.
 ghost use Rattle.std.specs.Prelude.{◌≡◌, ◌≢◌, option_to_list, IfOk, IfErr};
 ghost use Rattle.std.specs.List.{AllZip};
-ghost use Rattle.sqlite.specs.Given.{IsPlain};
-ghost use Rattle.sqlite.specs.Listing.{understood};
 ghost use Rattle.sqlite.specs.State.{HasCleanDisk, Shown};
 ghost use Rattle.sqlite.specs.Values.{bound};
 ghost use Rattle.sqlite_rules.specs.Lists.{Has};
-ghost use Rattle.store_tables.specs.Calls.{ReadsRows, Spares};
-ghost use Rattle.store_tables.specs.Tables.{desk_schema};
+ghost use Rattle.store_tables.specs.Calls.{ReadsAlone, ReadsRows, Spares};
 ghost use Rattle.store_tables.specs.declared.fault.StoreFault.{StoreFault};
 ghost use Rattle.store_tables.specs.Seen.{seen};
 
@@ -24,7 +21,7 @@ pub(crate) fn select<S: Alter>(
     sql: &str,
     params: &[ValueRef<'_>],
 ) -> Result<Vec<Row>, StoreFault>
-    requires { IsPlain (understood desk_schema sql.now) }
+    requires { ReadsAlone sql.now }
     ensures shown { HasCleanDisk (seen S.Store tables.new) → IfOk result (λ rows.
         Shown sql.now (bound params.now) (seen S.Store tables.old) (seen S.Store tables.new)
         rows.items) }
@@ -45,7 +42,7 @@ pub(crate) fn select_all<T: Stored + Drop, S: Alter>(
     sql: &str,
     params: &[ValueRef<'_>],
 ) -> Result<Vec<T>, StoreFault>
-    requires { IsPlain (understood desk_schema sql.now) }
+    requires { ReadsAlone sql.now }
     ensures read { ReadsRows T.Stored.reads T.Stored.is_value (λ xs. xs.items)
         sql.now (bound params.now) (seen S.Store tables.old) (seen S.Store tables.new) result }
     ensures kept { Spares (seen S.Store tables.old) (seen S.Store tables.new) }
@@ -61,7 +58,7 @@ pub(crate) fn select_one<T: Stored + Drop, S: Alter>(
     sql: &str,
     params: &[ValueRef<'_>],
 ) -> Result<Option<T>, StoreFault>
-    requires { IsPlain (understood desk_schema sql.now) }
+    requires { ReadsAlone sql.now }
     ensures read { ReadsRows T.Stored.reads T.Stored.is_value option_to_list
         sql.now (bound params.now) (seen S.Store tables.old) (seen S.Store tables.new) result }
     ensures kept { Spares (seen S.Store tables.old) (seen S.Store tables.new) }

@@ -1,6 +1,5 @@
 //! The version that the tables hold.
-ghost use Rattle.std.specs.Prelude.{◌≡◌, ◌≢◌, ℕ, [], IfErr, IfOk, IfSome, None, Ok};
-ghost use Rattle.std.specs.Prelude.{Some};
+ghost use Rattle.std.specs.Prelude.{◌≡◌, ◌≢◌, ℕ, [], IfErr, IfOk, IfSome, None, Ok, Some};
 ghost use Rattle.sqlite.specs.Order.{column};
 ghost use Rattle.sqlite_rules.specs.Lists.{Has};
 ghost use Rattle.store_tables.specs.Spelling.{count_value};
@@ -13,6 +12,7 @@ ghost use Rattle.store_tables.specs.Seen.{seen};
 
 use crate::columns::number_at;
 use crate::fault::StoreFault;
+use crate::query::select;
 use crate::tables::Tables;
 use sqlite::{Alter, Row};
 
@@ -49,13 +49,10 @@ fn rows_version<S: Alter>(tables: &mut Tables<S>) -> Result<Vec<Row>, StoreFault
         (seen S.Store tables.old) (seen S.Store tables.new) result }
     ensures fault { IfErr result (λ e. e ≡ StoreFault.Refused) }
 {
-    match tables.conn.query_all("SELECT version FROM meta", &[]) {
-        Ok(rows) => Ok(rows),
-        Err(_) => Err(StoreFault::Refused),
-    }
+    select(tables, "SELECT version FROM meta", &[])
 }
 
-/// The version that `meta` holds, in the seven tables or the six of version 1, whatever rows stand
+/// The version that `meta` holds, where the first n of the tables are there, whatever rows stand
 /// elsewhere. `Refused` where `meta` is missing or has no row, `Mismatch` where its row shows no
 /// number.
 pub fn version<S: Alter>(tables: &mut Tables<S>) -> Result<u32, StoreFault>

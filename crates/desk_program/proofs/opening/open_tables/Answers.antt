@@ -65,7 +65,6 @@ returns-in-Err-clause-told g c = (
       refl,
       record {
         kept = c.in-Err.ensures.kept;
-        left = c.in-Err.ensures.undone;
         spared = c.in-Err.ensures.spared;
         first =
             λ desk formed stand. (

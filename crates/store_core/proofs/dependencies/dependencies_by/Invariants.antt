@@ -1,6 +1,5 @@
 -- what the links so far lead to
 use Rattle.std.proofs.Common.{◌≡◌, Ok, take, flat_map}
-use Rattle.std.specs.Prelude.{⊤}
 use Rattle.store_tables.specs.Readings.{OfDesk, Reads}
 use Rattle.store_tables.specs.Seen.{seen}
 use Rattle.store_core.specs.Found.{dependency_by}
@@ -8,6 +7,6 @@ use Rattle.store_core.proofs.dependencies.dependencies_by.Given as goal
 
 abbrev pub invariant-loop-link : goal.invariant-loop-link
 invariant-loop-link g l =
-    Reads {X = ⊤} (OfDesk (λ desk done.
+    Reads {X = Unit {0}} (OfDesk (λ desk done.
     l.all.items ≡ flat_map (dependency_by desk) (take l.link-index l.links)))
     (seen g.S.Store l.fn.tables) (seen g.S.Store l.tables) (Ok tt)

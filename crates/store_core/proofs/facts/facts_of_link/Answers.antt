@@ -8,14 +8,9 @@ pub returns : goal.returns
 returns g c =
     let linked = link_read c.args.link c.in_ok-linked.ensures in
     giving (λ d it desk of.
-    c.with_link.ensures
-    ∙ (λ t. with_link (it.1 desk of t) (it.0.1 desk of t)
-    ((c.is_some.ensures ∙ it.0.0 desk of) t)))
+    c.with_link.ensures ∙ (λ t.
+    with_link (it.1 desk of t) (it.0.1 desk of t) ((c.is_some.ensures ∙ it.0.0 desk of) t)))
     (then (then linked c.in_ok-other.ensures) c.in_ok-facts.ensures)
-
-pub returns-in_err-linked : goal.returns-in_err-linked
-returns-in_err-linked g c =
-    failed_at (link_read c.args.link c.in_err-linked.ensures) (search rules)
 
 pub returns-in_err-other : goal.returns-in_err-other
 returns-in_err-other g c =

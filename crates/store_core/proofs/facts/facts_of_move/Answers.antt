@@ -6,8 +6,7 @@ use Rattle.store_core.proofs.facts.facts_of_move.Goals as goal
 
 pub returns-then-is_none : goal.returns-then-is_none
 returns-then-is_none g c =
-    giving (λ d facts desk of.
-    absent_facts desk c.args.id c.in_ok-facts.facts of.is (facts desk of) (search rules))
+    giving (λ d facts desk of. absent_facts desk c.args.id _ of.is (facts desk of) (search rules))
     c.in_ok-facts.ensures
 
 pub returns-in-Ok : goal.returns-in-Ok

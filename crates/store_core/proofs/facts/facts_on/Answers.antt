@@ -6,9 +6,8 @@ use Rattle.store_core.proofs.facts.facts_on.Goals as goal
 pub returns : goal.returns
 returns g c =
     giving (λ d it desk of.
-    c.filed.ensures
-    ∙ request_facts desk c.args.id _ _ _ (it.0.0 desk of) (rw c.is_some.ensures at (it.0.1 desk of))
-    (it.1 desk of))
+    c.filed.ensures ∙ request_facts desk c.args.id _ _ _ (it.0.0 desk of)
+    (rw c.is_some.ensures at (it.0.1 desk of)) (it.1 desk of))
     (then (then c.in_ok-request.ensures c.in_ok-stays.ensures) c.in_ok-queue.ensures)
 
 pub returns-in_err-stays : goal.returns-in_err-stays

@@ -6,14 +6,10 @@ use Rattle.store_core.proofs.facts.facts_on_queue.Goals as goal
 
 pub returns : goal.returns
 returns g c =
-    let queues = queues_counted c.in_ok-queues.ensures.read in
-    let requests = requests_read c.in_ok-requests.ensures in
     giving (λ d it desk of.
     c.counted.ensures ∙ (λ t. counted (it.1 desk of t) (it.0.0 desk of t) (it.0.1 desk of t)))
-    (then (then queues requests) c.in_ok-queue.ensures)
-
-pub returns-in_err-queues : goal.returns-in_err-queues
-returns-in_err-queues g c = failed_at (queues_counted c.in_err-queues.ensures.read) (search rules)
+    (then (then (queues_counted c.in_ok-queues.ensures.read)
+    (requests_read c.in_ok-requests.ensures)) c.in_ok-queue.ensures)
 
 pub returns-in_err-requests : goal.returns-in_err-requests
 returns-in_err-requests g c =
@@ -22,6 +18,5 @@ returns-in_err-requests g c =
 
 pub returns-in_err-queue : goal.returns-in_err-queue
 returns-in_err-queue g c =
-    let queues = queues_counted c.in_ok-queues.ensures.read in
-    let requests = requests_read c.in_ok-requests.ensures in
-    failed_at (then (then queues requests) c.in_err-queue.ensures) (search rules)
+    failed_at (then (then (queues_counted c.in_ok-queues.ensures.read)
+    (requests_read c.in_ok-requests.ensures)) c.in_err-queue.ensures) (search rules)

@@ -2,4 +2,4 @@ use Rattle.store_core.proofs.Renewed.{renewed}
 use Rattle.store_core.proofs.laws.renewing_law.Goals as goal
 
 pub returns : goal.returns
-returns c s at caller command desk is free = renewed s at caller command desk is free
+returns c = renewed

@@ -1,42 +1,67 @@
-use Rattle.std.proofs.Common.{rules}
+use Rattle.std.proofs.Common.{refl, rules}
 use Rattle.store_tables.specs.Contents.{first_contents_of}
 use Rattle.store_tables.proofs.Lasting.{on}
 use Rattle.store_tables.proofs.ReadingLemmas.{if_err}
-use Rattle.store_core.proofs.MakeLemmas.{blamed_before, grown_there, holds_grown, of_meta_before}
+use Rattle.store_core.proofs.MakeLemmas.{blamed_before, front_there, of_meta_before, part_grown}
+use Rattle.store_core.proofs.MakeLemmas.{unnumbered_grown}
 use Rattle.store_core.proofs.making.make_all.Goals as goal
 
+pub returns-clause-numbered : goal.returns-clause-numbered
+returns-clause-numbered g c d part =
+    c.bring_up.ensures.numbered d (unnumbered_grown c.make_tables.ensures.runs
+    (c.in_ok-make_tables.ensures.grows refl) d part)
+
+pub returns-clause-there : goal.returns-clause-there
+returns-clause-there g c d other part =
+    c.bring_up.ensures.there d other (part_grown c.make_tables.ensures.runs
+    (c.in_ok-make_tables.ensures.grows refl) d part)
+
 pub returns-clause-brings : goal.returns-clause-brings
-returns-clause-brings g c desk is due holds =
-    c.bring_up.ensures.brings desk is due
-    (holds_grown c.make_tables.ensures.runs c.in_ok-make_tables.ensures.grows
-    (first_contents_of due desk) holds)
+returns-clause-brings g c desk is due part =
+    c.bring_up.ensures.brings desk is due (part_grown c.make_tables.ensures.runs
+    (c.in_ok-make_tables.ensures.grows refl) (first_contents_of due desk) part)
+
+pub returns-clause-known : goal.returns-clause-known
+returns-clause-known g c d part =
+    c.bring_up.ensures.known d (part_grown c.make_tables.ensures.runs
+    (c.in_ok-make_tables.ensures.grows refl) d part)
+
+pub returns-clause-wrong : goal.returns-clause-wrong
+returns-clause-wrong g c d part =
+    c.bring_up.ensures.wrong d (part_grown c.make_tables.ensures.runs
+    (c.in_ok-make_tables.ensures.grows refl) d part)
+
+pub returns-clause-refused : goal.returns-clause-refused
+returns-clause-refused g c d part =
+    c.bring_up.ensures.refused d (unnumbered_grown c.make_tables.ensures.runs
+    (c.in_ok-make_tables.ensures.grows refl) d part)
+
+pub returns-clause-refuses : goal.returns-clause-refuses
+returns-clause-refuses g c d known part =
+    c.bring_up.ensures.refuses d known (part_grown c.make_tables.ensures.runs
+    (c.in_ok-make_tables.ensures.grows refl) d part)
 
 pub returns-clause-mismatch : goal.returns-clause-mismatch
 returns-clause-mismatch g c =
-    let runs = c.make_tables.ensures.runs in
-    let grows = c.in_ok-make_tables.ensures.grows in
+    let made = c.make_tables.ensures.runs in
+    let grows = c.in_ok-make_tables.ensures.grows refl in
     if_err c.bring_up.result (λ e why wrong has clean.
-    blamed_before runs grows has (c.bring_up.ensures.on.clean clean)
-    (why wrong (grown_there runs grows has) clean)) c.bring_up.ensures.mismatch
+    blamed_before made grows has (c.bring_up.ensures.on.clean clean)
+    (why wrong (front_there made grows has) clean)) c.bring_up.ensures.mismatch
 
 pub returns-clause-blames : goal.returns-clause-blames
 returns-clause-blames g c has clean =
-    let runs = c.make_tables.ensures.runs in
-    let grows = c.in_ok-make_tables.ensures.grows in
+    let made = c.make_tables.ensures.runs in
+    let grows = c.in_ok-make_tables.ensures.grows refl in
     if_err c.bring_up.result (λ e why wrong.
     let it = why wrong in
-    let before = of_meta_before runs grows has (c.bring_up.ensures.on.clean clean) it.0 it.1 in
-    (it.0, before, it.2)) (c.bring_up.ensures.blames (grown_there runs grows has) clean)
+    let before = of_meta_before made grows has (c.bring_up.ensures.on.clean clean) it.0 it.1 in
+    (it.0, before, it.2)) (c.bring_up.ensures.blames (front_there made grows has) clean)
 
 pub returns-clause-lasts : goal.returns-clause-lasts
 returns-clause-lasts g c = search (rules, on)
 
-pub returns-clause-keeps : goal.returns-clause-keeps
-returns-clause-keeps g c has =
-    let there = grown_there c.make_tables.ensures.runs c.in_ok-make_tables.ensures.grows has in
-    search rules
-
 pub returns-clause-goes_on : goal.returns-clause-goes_on
-returns-clause-goes_on g c has =
-    let there = grown_there c.make_tables.ensures.runs c.in_ok-make_tables.ensures.grows has in
-    search rules
+returns-clause-goes_on g c goes =
+    let grows = c.in_ok-make_tables.ensures.grows refl in
+    c.bring_up.ensures.on.goes_on (λ clean live. (grows clean).1)

@@ -28,7 +28,7 @@ loop-id-preserved g c =
           (one.fills desk formed due (fold f d (take i ids)) (rw only dated) (rw only entries)
           (so_far.fills desk formed due d dated entries holds));
       beside = beside_then so_far.on so_far.beside one.on one.beside;
-      on = runs_then so_far.on so_far.beside one.on;
+      on = runs_then so_far.on one.on;
     }
 
 pub returns-in_err-fill_one-clause-blames : goal.returns-in_err-fill_one-clause-blames

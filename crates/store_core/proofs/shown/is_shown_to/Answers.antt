@@ -6,9 +6,8 @@ use Rattle.store_core.proofs.shown.is_shown_to.Goals as goal
 
 pub returns-in-None : goal.returns-in-None
 returns-in-None g c =
-    giving (λ d found desk of.
-    rw (no_request desk c.args.id (rw (c.in-None.is, of.same, rows_dated of.due desk) at found)))
-    c.in_ok-request_numbered.ensures
+    giving (λ d found desk of. rw (no_request desk c.args.id
+    (rw (c.in-None.is, of.same, rows_dated of.due desk) at found))) c.in_ok-request_numbered.ensures
 
 pub returns-in_ok-watchers-in-Some : goal.returns-in_ok-watchers-in-Some
 returns-in_ok-watchers-in-Some g c =

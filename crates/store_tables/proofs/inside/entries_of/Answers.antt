@@ -1,10 +1,11 @@
 use Rattle.store_tables.proofs.EachQuery.{entries_on}
 use Rattle.store_tables.proofs.RowLemmas.{fails, holds_in_order}
 use Rattle.store_tables.proofs.TestLemmas.{number_order_is}
+use Rattle.store_tables.proofs.Meaning.{alone}
 use Rattle.store_tables.proofs.inside.entries_of.Goals as goal
 
 pub select_all_inside-requires : goal.select_all_inside-requires
-select_all_inside-requires g c = (entries_on c.args.id).means.plain
+select_all_inside-requires g c = alone (entries_on c.args.id).means
 
 pub returns-clause-listed : goal.returns-clause-listed
 returns-clause-listed g c d holds clean = holds_in_order (entries_on c.args.id)

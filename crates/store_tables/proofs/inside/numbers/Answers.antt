@@ -5,10 +5,11 @@ use Rattle.store_tables.proofs.EachQuery.{all_numbers}
 use Rattle.store_tables.proofs.ReadingLemmas.{every}
 use Rattle.store_tables.proofs.RowLemmas.{holds_numbers, numbers_fail}
 use Rattle.store_tables.proofs.TestLemmas.{id_order_is}
+use Rattle.store_tables.proofs.Meaning.{alone}
 use Rattle.store_tables.proofs.inside.numbers.Goals as goal
 
 pub select_all_inside-requires : goal.select_all_inside-requires
-select_all_inside-requires g c = all_numbers.means.plain
+select_all_inside-requires g c = alone all_numbers.means
 
 pub returns-clause-listed : goal.returns-clause-listed
 returns-clause-listed g c d holds clean = rw (every (requests d)) at (holds_numbers all_numbers

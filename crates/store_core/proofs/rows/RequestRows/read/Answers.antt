@@ -1,6 +1,4 @@
-use Rattle.std.proofs.Common.{◌∙◌, refl, sym}
-use Rattle.store_tables.specs.Contents.{contents_of}
-use Rattle.store_tables.proofs.ReadOn.{blames_failed}
+use Rattle.std.proofs.Common.{◌∙◌, sym}
 use Rattle.store_core.specs.Ahead.{numbers_ahead}
 use Rattle.store_core.specs.Rows.{dated_rows}
 use Rattle.store_core.proofs.AheadLemmas.{no_more, one_more}
@@ -13,11 +11,6 @@ returns-in_default-clause-given g c desk is due stand clean =
 
 pub returns-in-Ok-clause-given : goal.returns-in-Ok-clause-given
 returns-in-Ok-clause-given g c desk is due stand clean =
-    one_more (dated_rows due desk) (numbers_ahead g.S.Store c.args.self.now.store.now)
-    (numbers_ahead g.S.Store c.dated_request.new.self) c.args.self.now.at c.in-Some.id c.in-Ok.row
-    (sym c.number_ahead.ensures.number ∙ c.in-Some.is)
-    (c.in-Ok.ensures.read.told (contents_of due desk) stand clean)
-    (rw c.dated_request.ensures.same_numbers)
-
-pub returns-in-Err-clause-blames : goal.returns-in-Err-clause-blames
-returns-in-Err-clause-blames g c = blames_failed c.in-Err.ensures.read.blames refl
+    one_more (dated_rows due desk) (numbers_ahead g.S.Store c.args.self.now.store.now) _
+    c.args.self.now.at _ _ (sym c.number_ahead.ensures.number ∙ c.in-Some.is)
+    (c.in-Ok.ensures.read.told _ stand clean) (rw c.dated_request.ensures.same_numbers)

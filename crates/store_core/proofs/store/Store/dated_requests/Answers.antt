@@ -1,6 +1,5 @@
 use Rattle.store_tables.proofs.ReadingLemmas.{if_ok}
-use Rattle.store_core.proofs.RiseLemmas.{dated_total, the_list}
-use Rattle.store_core.proofs.RiseLemmas.{dated_rise}
+use Rattle.store_core.proofs.RiseLemmas.{dated_total, the_list, dated_rise}
 use Rattle.store_core.proofs.store.Store.dated_requests.Goals as goal
 
 pub returns-clause-listed : goal.returns-clause-listed

@@ -1,6 +1,5 @@
 use Rattle.store_tables.proofs.ReadingLemmas.{if_ok}
-use Rattle.store_core.proofs.RiseLemmas.{link_total, the_list}
-use Rattle.store_core.proofs.RiseLemmas.{links_rise}
+use Rattle.store_core.proofs.RiseLemmas.{link_total, the_list, links_rise}
 use Rattle.store_core.proofs.store.Store.links.Goals as goal
 
 pub returns-clause-listed : goal.returns-clause-listed

@@ -1,12 +1,9 @@
-use Rattle.store_tables.specs.Contents.{contents_of}
 use Rattle.store_tables.specs.Selection.{ends_at}
 use Rattle.store_tables.proofs.ReadingLemmas.{if_ok}
-use Rattle.store_core.proofs.RiseLemmas.{link_total, the_part}
-use Rattle.store_core.proofs.RiseLemmas.{links_rise}
+use Rattle.store_core.proofs.RiseLemmas.{link_total, the_part, links_rise}
 use Rattle.store_core.proofs.store.Store.links_to.Goals as goal
 
 pub returns-clause-listed : goal.returns-clause-listed
 returns-clause-listed g c desk is stand clean =
-    if_ok c.links_to.result
-    (λ xs. the_part link_total (ends_at c.args.target) desk.links xs.items (links_rise desk is))
-    (c.links_to.ensures.read.told (contents_of stand.0 desk) stand.1 clean)
+    if_ok _ (λ xs. the_part link_total (ends_at c.args.target) _ xs.items (links_rise desk is))
+    (c.links_to.ensures.read.told _ stand.1 clean)

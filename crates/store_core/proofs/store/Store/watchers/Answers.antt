@@ -1,6 +1,5 @@
 use Rattle.store_tables.proofs.ReadingLemmas.{if_ok}
-use Rattle.store_core.proofs.RiseLemmas.{the_list, watcher_total}
-use Rattle.store_core.proofs.RiseLemmas.{watchers_rise}
+use Rattle.store_core.proofs.RiseLemmas.{the_list, watcher_total, watchers_rise}
 use Rattle.store_core.proofs.store.Store.watchers.Goals as goal
 
 pub returns-clause-listed : goal.returns-clause-listed

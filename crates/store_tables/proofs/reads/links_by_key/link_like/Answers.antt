@@ -1,9 +1,9 @@
 use Rattle.store_tables.proofs.EachQuery.{link_by_ends}
-use Rattle.store_tables.proofs.RowLemmas.{finds}
+use Rattle.store_tables.proofs.RowLemmas.{asks_alone, finds}
 use Rattle.store_tables.proofs.reads.links_by_key.link_like.Goals as goal
 
 pub select_one-requires : goal.select_one-requires
-select_one-requires g c = (link_by_ends c.args.link).means.plain
+select_one-requires g c = asks_alone (link_by_ends c.args.link)
 
 pub returns : goal.returns
 returns g c = (finds (link_by_ends c.args.link)

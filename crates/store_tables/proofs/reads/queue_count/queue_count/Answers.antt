@@ -1,10 +1,11 @@
 use Rattle.std.proofs.Common.{rules}
 use Rattle.store_tables.proofs.FoundLemmas.{counted, queue_count_is}
 use Rattle.store_tables.proofs.ReadOn.{refusing_after}
+use Rattle.store_tables.proofs.Meaning.{alone}
 use Rattle.store_tables.proofs.reads.queue_count.queue_count.Goals as goal
 
 pub select_one-requires : goal.select_one-requires
-select_one-requires g c = queue_count_is.plain
+select_one-requires g c = alone queue_count_is
 
 pub returns-in-Ok-Some-clause-read : goal.returns-in-Ok-Some-clause-read
 returns-in-Ok-Some-clause-read g c =

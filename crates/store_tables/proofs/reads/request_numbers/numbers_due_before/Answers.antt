@@ -1,13 +1,11 @@
-use Rattle.std.proofs.Common.{[]}
 use Rattle.store_tables.proofs.EachQuery.{numbers_before}
 use Rattle.store_tables.proofs.EachTable.{id_table}
-use Rattle.store_tables.proofs.RowLemmas.{blames_of, lists_numbers}
-use Rattle.store_tables.proofs.TestLemmas.{due_order_is}
+use Rattle.store_tables.proofs.RowLemmas.{asks_alone, lists_numbers, ranked}
 use Rattle.store_tables.proofs.reads.request_numbers.numbers_due_before.Goals as goal
 
 pub select_all-requires : goal.select_all-requires
-select_all-requires g c = (numbers_before c.args.at).means.plain
+select_all-requires g c = asks_alone (numbers_before c.args.at)
 
 pub returns : goal.returns
-returns g c = lists_numbers (numbers_before c.args.at) _ (due_order_is [] [] [])
-    (blames_of id_table _ _ _) (rw c.number.ensures.bound at c.select_all.ensures)
+returns g c = lists_numbers id_table (numbers_before c.args.at) (λ a b. simp ranked)
+    (λ fail. fail) (rw c.number.ensures.bound at c.select_all.ensures)

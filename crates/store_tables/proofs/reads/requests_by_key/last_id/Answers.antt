@@ -2,10 +2,11 @@ use Rattle.std.proofs.Common.{rules}
 use Rattle.store_tables.proofs.FoundLemmas.{last_id_read}
 use Rattle.store_tables.proofs.ReadOn.{failed_at, giving}
 use Rattle.store_tables.proofs.Statements.{last_id_is}
+use Rattle.store_tables.proofs.Meaning.{alone}
 use Rattle.store_tables.proofs.reads.requests_by_key.last_id.Goals as goal
 
 pub select_one-requires : goal.select_one-requires
-select_one-requires g c = last_id_is.plain
+select_one-requires g c = alone last_id_is
 
 pub returns-in_err-last : goal.returns-in_err-last
 returns-in_err-last g c =

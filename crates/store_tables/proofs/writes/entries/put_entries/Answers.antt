@@ -6,8 +6,7 @@ use Rattle.store_tables.proofs.writes.entries.put_entries.Goals as goal
 pub loop-row-preserved : goal.loop-row-preserved
 loop-row-preserved g c =
     let done = does_more add_entry c.args.rows.now (search rules) c.row-item.is
-    c.loop-row.invariant.done c.in_ok-put_entry.ensures.put in
-    record { same = search rules; done = done }
+    c.loop-row.invariant.done c.in_ok-put_entry.ensures.put in search rules
 
 pub returns-clause-put : goal.returns-clause-put
 returns-clause-put g c = does_all add_entry c.args.rows.now (search rules) c.loop-row.invariant.done

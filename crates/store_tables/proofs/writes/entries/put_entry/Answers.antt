@@ -12,5 +12,4 @@ returns-clause-put g c = does_one (rw (
   c.entry_kind.ensures,
   c.words-2.ensures.bound,
   c.words-3.ensures.bound,
-) at c.run_on_one.ensures.runs)
-    (λ now. adds_entry now _ _ _ 1 (search rules))
+) at c.run_on_one.ensures.runs) (λ now t. adds_entry now _ _ t _ (search rules))

@@ -7,4 +7,4 @@ pub returns-clause-put : goal.returns-clause-put
 returns-clause-put g c =
     does_one (rw (c.words.ensures.bound, c.words-2.ensures.bound, c.nullable.ensures.bound) at
     c.run_on_one.ensures.runs)
-    (λ now. adds_queue now _ _ _ 1 (let wide : 2 < 3 = omega arith in assumption))
+    (λ now t. adds_queue now _ _ t _ (let wide : 2 < 3 = omega arith in assumption))

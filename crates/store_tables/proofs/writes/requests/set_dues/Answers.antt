@@ -6,8 +6,7 @@ use Rattle.store_tables.proofs.writes.requests.set_dues.Goals as goal
 pub loop-due-preserved : goal.loop-due-preserved
 loop-due-preserved g c =
     let done = does_more set_each_due c.args.dues.now (search rules) c.due-item.is
-    c.loop-due.invariant.done c.in_ok-set_due.ensures.set in
-    record { same = search rules; done = done }
+    c.loop-due.invariant.done c.in_ok-set_due.ensures.set in search rules
 
 pub returns-clause-set : goal.returns-clause-set
 returns-clause-set g c =

@@ -4,4 +4,4 @@ use Rattle.store_tables.proofs.writes.requests.set_request.Goals as goal
 
 pub returns-clause-set : goal.returns-clause-set
 returns-clause-set g c = does_one (rw c.shown.ensures.bound at c.run_on_one.ensures.runs)
-    (λ now. sets_request now _ _ _ _ c.shown.ensures.value)
+    (λ now t. sets_request now _ _ t _ _ c.shown.ensures.value)

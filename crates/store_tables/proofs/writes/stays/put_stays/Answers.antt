@@ -15,17 +15,14 @@ loop-stay-preserved g c =
     let low : i < length stays = search rules in
     let next : c.in-Some.next ≡ i + 1 = search rules in
     let place : c.in-Some.next ≡ 1 + i = omega (arith, next) in
-    record {
-      same = search rules;
-      place = next;
-      beside = beside_on (state g.S.Store c.args.tx.now.conn.now)
-          (state g.S.Store c.loop-stay.tx.conn.now) (state g.S.Store c.put_stay.new.tx.conn.now)
-          c.loop-stay.invariant.beside c.in_ok-put_stay.ensures.put.clean
-          c.in_ok-put_stay.ensures.beside;
-      done = does_more add_stay (stay_rows id stays) (omega (arith, low, rows_counted id 1 stays))
-          (row_at_place id 1 c.in-Some.next stays i x place low c.stay-item.is)
-          c.loop-stay.invariant.done c.in_ok-put_stay.ensures.put;
-    }
+    let beside = beside_on (state g.S.Store c.args.tx.now.conn.now)
+    (state g.S.Store c.loop-stay.tx.conn.now) (state g.S.Store c.put_stay.new.tx.conn.now)
+    c.loop-stay.invariant.beside c.in_ok-put_stay.ensures.put.clean
+    c.in_ok-put_stay.ensures.beside in
+    let done = does_more add_stay (stay_rows id stays) (omega (arith, low, rows_counted id 1 stays))
+    (row_at_place id 1 c.in-Some.next stays i x place low c.stay-item.is)
+    c.loop-stay.invariant.done c.in_ok-put_stay.ensures.put in
+    search rules
 
 pub returns-clause-put : goal.returns-clause-put
 returns-clause-put g c =

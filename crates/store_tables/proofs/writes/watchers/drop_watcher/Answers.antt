@@ -5,4 +5,4 @@ use Rattle.store_tables.proofs.writes.watchers.drop_watcher.Goals as goal
 pub returns-clause-dropped : goal.returns-clause-dropped
 returns-clause-dropped g c =
     does_one (rw (c.number.ensures.bound, c.role.ensures, c.words.ensures.bound) at
-    c.run_on_one.ensures.runs) (λ now. drops_watcher now _ _ _)
+    c.run_on_one.ensures.runs) (λ now t. drops_watcher now _ _ t _)

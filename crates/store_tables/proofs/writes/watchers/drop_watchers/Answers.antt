@@ -6,8 +6,7 @@ use Rattle.store_tables.proofs.writes.watchers.drop_watchers.Goals as goal
 pub loop-row-preserved : goal.loop-row-preserved
 loop-row-preserved g c =
     let done = does_more drop_watcher c.args.rows.now (search rules) c.row-item.is
-    c.loop-row.invariant.done c.in_ok-drop_watcher.ensures.dropped in
-    record { same = search rules; done = done }
+    c.loop-row.invariant.done c.in_ok-drop_watcher.ensures.dropped in search rules
 
 pub returns-clause-dropped : goal.returns-clause-dropped
 returns-clause-dropped g c =

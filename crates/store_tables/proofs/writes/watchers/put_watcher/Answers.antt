@@ -6,4 +6,4 @@ use Rattle.store_tables.proofs.writes.watchers.put_watcher.Goals as goal
 pub returns-clause-put : goal.returns-clause-put
 returns-clause-put g c =
     does_one (rw (c.number.ensures.bound, c.role.ensures, c.words.ensures.bound) at
-    c.run_on_one.ensures.runs) (λ now. adds_watcher now _ _ _ 1 (search rules))
+    c.run_on_one.ensures.runs) (λ now t. adds_watcher now _ _ t _ (search rules))
