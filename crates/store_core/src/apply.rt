@@ -1,5 +1,5 @@
 //! A change is written, whole or not at all.
-ghost use Rattle.std.specs.Prelude.{◌≡◌, IfErr, OnErr, OnOk};
+ghost use Rattle.std.specs.Prelude.{◌≡◌, IfErr, OnErr};
 ghost use Rattle.store_tables.specs.Calls.{Lasts, Spares, WasClean};
 ghost use Rattle.store_tables.specs.Stands.{GoesBack};
 ghost use Rattle.store_tables.specs.declared.fault.StoreFault.{StoreFault};

@@ -1,40 +1,23 @@
 //! The version of the tables, which are brought to the present one.
-ghost use Rattle.std.specs.Prelude.{◌≡◌, ◌≢◌, [], IfErr, IfOk, IfSome, None, OnOk, Some, ⊤};
+ghost use Rattle.std.specs.Prelude.{◌≡◌, ◌≢◌, IfErr, IfOk, IfSome, None, OnOk, Some, ⊤};
 ghost use Rattle.sqlite.specs.Held.{state};
 ghost use Rattle.sqlite.specs.State.{HasCleanDisk};
-ghost use Rattle.store_tables.specs.Calls.{Inside, Looks, Runs, ShowsRowsOf};
+ghost use Rattle.store_tables.specs.Calls.{Inside, Looks, Runs};
 ghost use Rattle.store_tables.specs.Contents.{Contents};
 ghost use Rattle.store_tables.specs.Making.{BlamesMeta, IsKnown, IsOfMeta, LacksVersion};
-ghost use Rattle.store_tables.specs.Making.{ShowsVersion, WrongInside};
+ghost use Rattle.store_tables.specs.Making.{WrongInside};
 ghost use Rattle.store_tables.specs.Mismatches.{MismatchesInMeta};
-ghost use Rattle.store_tables.specs.Queries.{version_shown};
 ghost use Rattle.store_tables.specs.Stands.{GoesOn, HasTables, HoldsNow};
 ghost use Rattle.store_tables.specs.declared.fault.StoreFault.{StoreFault};
 ghost use Rattle.store_core.specs.Migrating.{BringsUp, IsBlamed, RefusesOn, RunsOn};
 
 use crate::migration::migrate;
-use sqlite::{Alter, Row, Transaction};
+use sqlite::{Alter, Transaction};
 use std::alloc::Global;
 use store_tables::StoreFault;
-use store_tables::inside::select_inside;
+use store_tables::inside::version_rows;
 use store_tables::reads::version::version_in;
 use store_tables::transaction::run;
-
-/// The rows of the version.
-fn version_rows<S: Alter>(tx: &mut Transaction<'_, S>) -> Result<Vec<Row>, StoreFault>
-    ensures same_reference { tx.new.conn.ghost_name ≡ tx.old.conn.ghost_name }
-    ensures none { (c : Contents) → LacksVersion c (state S.Store tx.old.conn.now) →
-        HasCleanDisk (state S.Store tx.new.conn.now) → IfOk result (λ rows. rows.items ≡ []) }
-    ensures one { Inside (λ c rows. ShowsVersion c.version rows.items)
-        (state S.Store tx.old.conn.now) (state S.Store tx.new.conn.now) result }
-    ensures looks { Looks
-        (state S.Store tx.old.conn.now) (state S.Store tx.new.conn.now) result }
-    ensures of_table { ShowsRowsOf 0 version_shown (λ rows. rows.items)
-        (state S.Store tx.old.conn.now) (state S.Store tx.new.conn.now) result }
-    ensures fault { IfErr result (λ e. e ≡ StoreFault.Refused) }
-{
-    select_inside(tx, "SELECT version FROM meta", &[])
-}
 
 /// The version that the tables hold, or none where `meta` has no row.
 fn read_version<S: Alter>(tx: &mut Transaction<'_, S>) -> Result<Option<u32>, StoreFault>

@@ -6,7 +6,7 @@ use Rattle.store_tables.proofs.ReadingLemmas.{if_ok, table_rows}
 use Rattle.store_tables.proofs.StandLemmas.{shown_open}
 use Rattle.store_tables.proofs.Statements.{version_is}
 use Rattle.store_tables.proofs.VersionLemmas.{shows_none, shows_version}
-use Rattle.store_core.proofs.version.version_rows.Goals as goal
+use Rattle.store_tables.proofs.inside.version_rows.Goals as goal
 
 pub select_inside-requires : goal.select_inside-requires
 select_inside-requires g c = alone version_is
