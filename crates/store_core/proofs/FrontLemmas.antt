@@ -18,7 +18,7 @@ use Rattle.sqlite_trees.proofs.ListLemmas.{all_both, all-append}
 use Rattle.store_tables.proofs.CreateLemmas.{Puts, is_there, puts}
 use Rattle.store_tables.proofs.AllTables.{Makes, first_rows, made_at, text_at}
 
--- so many are made: those that were there have their rows, the others none
+-- the first `made` tables are there: of these, the first `had` have their rows, the others none
 abbrev pub IsMade : ℕ → ℕ → Database → Database → Type 0
 IsMade had made old new =
     (new.schema ≡ front (max had made))

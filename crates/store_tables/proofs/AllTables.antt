@@ -47,7 +47,7 @@ up_to P a b c d e f g h (suc (suc (suc (suc (suc (suc (suc zero))))))) low = h
 up_to P a b c d e f g h (suc (suc (suc (suc (suc (suc (suc (suc n)))))))) low =
     absurd (omega (arith, low))
 
--- the table's name and tree are among the first n tables where those are more than stand before it
+-- the table's name and its tree are among the first n tables just where n is above its place
 abbrev pub IsFound : ℕ → Table → ℕ → Type 0
 IsFound at table n =
     is_there (front n) table.name ∷ is_among n (next_tree (front at)) ∷ []
@@ -60,7 +60,7 @@ pub record Makes (at : ℕ) (text : List ℕ) (table : Table) : Type 0 where
   pub makes : created (front at) table ≡ front (suc at)
   pub unnumbered : lacks_sequence (front (suc at)) ≡ false
 
--- each of the seven does
+-- each of the seven texts does
 abbrev pub text_at : ℕ → List ℕ
 text_at i = get_or table_texts i []
 

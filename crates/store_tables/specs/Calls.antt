@@ -38,13 +38,13 @@ AreLeft old new =
     → IsTrue old.is_open × (new.committed ≡ old.committed)
     × ((new.now ≡ old.now) ⊎ (new.now ≡ old.committed))
 
--- So is left whatever there is, tables of a desk or others. The connection lasts.
+-- So are all tables left, whatever there are. The connection lasts.
 pub record Spares (old new : State) : Type 0 where
   pub clean : HasCleanDisk new → HasCleanDisk old
   pub lasts : Lasts old new
   pub left : AreLeft old new
 
--- over no tables the text is a statement that gives back rows of what it writes
+-- whatever tables there are, the text is no statement that gives back rows of what it writes
 abbrev pub ReadsAlone : List ℕ → Type 0
 ReadsAlone sql =
     (schema : Schema) (c : Compiled) → understood schema sql ≡ Ok c → c.returning ≡ None
@@ -135,9 +135,8 @@ pub record Does {X : Type 0} (change : Contents → Contents) (old new : State)
   pub refused : IfErr result (λ e. e ≡ Refused)
 
 -- What a query does there: the tables hold what they held. Whatever tables there are, they are as
--- they were, the last commit stays,
--- and the transaction goes on where nothing is refused. A disk that is clean after it was clean
--- before, and the connection lasts.
+-- they were, the last commit stays, and the transaction goes on where nothing is refused. A disk
+-- that is clean after it was clean before, and the connection lasts.
 pub record Looks {X : Type 0} (old new : State) (result : Result X StoreFault) : Type 0 where
   pub makes : Makes (λ c. c) old new result
   pub same : HasCleanDisk new → IfOk result (λ x. IsTrue old.is_open × (new.now ≡ old.now))

@@ -57,7 +57,7 @@ front n =
       views = [];
     }
 
--- the seven of the present one
+-- all seven
 abbrev pub desk_schema : Schema
 desk_schema = record {
   tables = meta ∷ queue ∷ request ∷ watcher ∷ link ∷ entry ∷ stay ∷ [];
