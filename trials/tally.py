@@ -5,7 +5,7 @@ import subprocess
 import sys
 
 TOP = os.path.dirname(os.path.dirname(os.path.abspath(__file__)))
-DESK = os.path.join(TOP, "bin", "desk")
+DESK = os.environ.get("DESK", os.path.join(TOP, "bin", "desk"))
 # the seconds after which a run counts as one that doesn't end
 PATIENCE = 120
 # how many complaints are printed
@@ -13,7 +13,7 @@ SHOWN = 40
 
 
 def program():
-    """bin/desk, or the program that is named as the first argument."""
+    """The program that is named as the first argument; else the one that DESK names, or bin/desk."""
     return os.path.abspath(sys.argv[1]) if sys.argv[1:] else DESK
 
 
