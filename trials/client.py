@@ -41,13 +41,15 @@ def read_all(stream):
 
 
 def ask(port, *pieces, closes=False):
-    """The reply to a message in so many pieces, over a connection of its own."""
+    """The reply to a message in so many pieces, over a connection of its own. A server may answer
+    and close before it has read them all."""
     try:
         with connected(port) as stream:
-            for piece in pieces:
-                stream.sendall(piece)
-            if closes:
-                stream.shutdown(socket.SHUT_WR)
+            with contextlib.suppress(OSError):
+                for piece in pieces:
+                    stream.sendall(piece)
+                if closes:
+                    stream.shutdown(socket.SHUT_WR)
             return read_all(stream)
     except OSError as error:
         return repr(error).encode()
