@@ -48,6 +48,13 @@ class Tally:
             self.holds(f"{words[1:]}: on the standard error: {ended.stderr!r}", False)
         return (ended.stdout or b"").decode(errors="replace"), ended.returncode
 
+    def do(self, part):
+        """A part of the trial. What it can't go on after, a file that isn't there say, is wrong."""
+        try:
+            part()
+        except Exception as error:
+            self.holds(f"{part.__name__} can't go on: {error!r}", False)
+
     def end(self):
         """Says how many were tried. The status is 1 where one of them is wrong."""
         print(f"{self.tried} tried, {self.wrong} wrong")
