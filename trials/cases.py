@@ -4,8 +4,9 @@ import re
 
 from tally import TOP
 
-# the moment of nearly all messages, and what the minute changes in a reply, but for moments
-USUAL = "29546970"
+# the moments that the desk takes, that of nearly all messages, and what the minute changes in a reply
+# beside moments
+FIRST, AFTER, USUAL = 15_778_080, 68_374_080, 29_546_970
 OF_A_MINUTE = re.compile(r" late$|^owner +open overdue$", flags=re.M)
 
 
@@ -36,7 +37,7 @@ def bytes_of(text):
 def with_messages():
     """Each case that sends messages, in no manner of its own, to a desk without tables of its own: its
     name, its settings, the commands before them, the messages, and the stored replies. A reply that
-    depends on the minute is none."""
+    depends on the minute is none; messages before 2000 or after 2099 are left out."""
     stored = dict(parts_of(text_of("stdout")))
     parts = parts_of(text_of("stdin"))
     named = {name[2:-2]: text for name, text in parts if name.startswith("<<")}
@@ -46,10 +47,12 @@ def with_messages():
                            flags=re.M)[1:]
         if head.startswith("---\n") and "\n+++\n" not in text and 0 < len(sent) == 2 * len(replies):
             settings, _, commands = expanded(head[4:], named).partition("%%\n")
-            messages = [bytes_of(expanded(it[:-1], named)) for it in sent[1::2]]
-            yield name, settings, commands, messages, [
+            told = [it for it in zip(map(int, sent[::2]), sent[1::2], replies)
+                    if FIRST <= it[0] < AFTER]
+            yield name, settings, commands, [
+                bytes_of(expanded(it[:-1], named)) for _, it, _ in told], [
                 bytes_of(reply) if at == USUAL and not OF_A_MINUTE.search(reply) else None
-                for at, reply in zip(sent[::2], replies)]
+                for at, _, reply in told]
 
 
 def words_of(line):
