@@ -1,27 +1,47 @@
 # Nothing has to be set up beforehand: `rt` is the toolchain's one command.
 PREFIX ?= /usr/local
 
-.PHONY: demo test desk install sweep
+.PHONY: demo test desk install trials models sweep
 
-# The first look: the printer script, run in two to three minutes on a fresh machine, before any proof.
+# The first look: the printer script, run in two to three minutes where little else runs, before any
+# proof.
 demo:
 	@echo "Not proved: this runs the desk as it stands. 'make test' proves it."
 	cd crates/desk && rt try < ../../examples/printer.desk
 
-# The gate: every proof from nothing, every must-fail edit, every test and every stored run.
+# The gate: every proof, every must-fail edit, every test and every stored run. From nothing it takes
+# 70 to 110 minutes on four cores; what passed on this machine and hasn't changed isn't proved again.
 test:
 	rt ci
 
-# The proved program, as bin/desk.
+# The proved program, as bin/desk. From nothing it takes half an hour to an hour on four cores.
 desk:
 	cd crates/desk && rt run < ../../examples/printer.desk
 	mkdir -p bin
 	cp crates/desk/out/desk bin/desk
 
+# The program and its manual page, below PREFIX.
 install: desk
 	install -D -m 755 bin/desk $(PREFIX)/bin/desk
+	install -D -m 644 docs/desk.1 $(PREFIX)/share/man/man1/desk.1
 
-# Each growth of the proved programs refused in turn, in some minutes. It needs a C compiler.
+# What tries the program from outside (trials/README.md), and then the judges themselves on stubs.
+# trials/full mounts a small disk, so this is run by root.
+trials: desk
+	trials/command
+	trials/serve
+	trials/kills
+	trials/full
+	trials/pages
+	trials/judges
+
+# The rules told twice: what they come to is compared with what is stored, in a few seconds.
+models:
+	models/lots
+	models/made
+
+# Each growth of the programs refused in turn, in some minutes once both are proved. It needs a C
+# compiler.
 sweep: desk
-	cd crates/desk_cases && rt run < stdin > out/printed
-	bench/refused
+	cd crates/desk_cases && rt run < stdin > /dev/null
+	trials/refused
