@@ -1,5 +1,5 @@
 -- Rows that are apart have no path in common.
-use Rattle.std.proofs.Common.{◌≡◌, ◌∙◌, ◌<◌, ◌+◌, ℕ, Bool, true, false, ◌||◌, ◌&&◌, List, [], ◌∷◌}
+use Rattle.std.proofs.Common.{◌≡◌, ◌∙◌, ◌<◌, ℕ, Bool, true, false, ◌||◌, List, [], ◌∷◌}
 use Rattle.std.proofs.Common.{◌==◌, zero, suc, Option, Some, None, length, get_or, refl, sym, ap}
 use Rattle.std.proofs.Common.{arith}
 use Rattle.std.proofs.Common.{option_map, option_and_then, if◌then◌else◌}
@@ -13,7 +13,7 @@ use Rattle.desk_forms.specs.Table.{paths}
 use Rattle.desk_forms.specs.declared.paths.Method.{Method}
 use Rattle.desk_forms.specs.declared.paths.Method.TheVariants.{Get, Post}
 use Rattle.route_core.specs.Cuts.{cut, text_in}
-use Rattle.route_core.specs.Places.{Place, Standing, at, behind, bound_at, bound_by, bound_if_text}
+use Rattle.route_core.specs.Places.{Place, at, bound_at, bound_by, bound_if_text}
 use Rattle.route_core.specs.Places.{bound_to, is_method, place_at, place_on}
 use Rattle.route_core.specs.Rows.{apart, are_apart, differs, each_apart}
 

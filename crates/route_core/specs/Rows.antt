@@ -3,7 +3,7 @@ use Rattle.std.specs.Prelude.{◌≡◌, ◌<◌, ℕ, Bool, true, false, ◌||�
 use Rattle.std.specs.Prelude.{if◌then◌else◌, length, get_or}
 use Rattle.std.specs.List.{list_all}
 use Rattle.std.specs.Str.{bytes_eq}
-use Rattle.desk_forms.specs.Paths.{Part, Row, id, lit, queue}
+use Rattle.desk_forms.specs.Paths.{Part, Row, lit}
 use Rattle.desk_forms.specs.Table.{paths}
 use Rattle.desk_forms.specs.declared.paths.Method.{Method}
 use Rattle.route_core.specs.Places.{Place, is_method, place_at, place_on}
