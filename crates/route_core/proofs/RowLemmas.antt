@@ -3,13 +3,17 @@ use Rattle.std.proofs.Common.{◌≡◌, ◌∙◌, ◌<◌, ℕ, Bool, true, fa
 use Rattle.std.proofs.Common.{◌==◌, zero, suc, Option, Some, None, length, get_or, refl, sym, ap}
 use Rattle.std.proofs.Common.{arith}
 use Rattle.std.proofs.Common.{option_map, option_and_then, if◌then◌else◌}
+use Rattle.std.proofs.Common.{map, subst}
 use Rattle.std.specs.List.{list_all}
 use Rattle.std.specs.Option.{option_or}
 use Rattle.std.specs.Str.{bytes_eq}
 use Rattle.std.proofs.lemmas.Bool.{and_parts, false≢true}
+use Rattle.std.proofs.lemmas.List.{get_or-map, length-map}
 use Rattle.std.proofs.lemmas.Slice.Eq.{bytes_eq-Decides}
+use Rattle.desk_forms.specs.Paths.{path_of}
 use Rattle.desk_forms.specs.Paths.{Bound, Nothing, Part, Row, id, lit, queue}
 use Rattle.desk_forms.specs.Table.{paths}
+use Rattle.desk_forms.specs.declared.paths.Path.{Path as InCode}
 use Rattle.desk_forms.specs.declared.paths.Method.{Method}
 use Rattle.desk_forms.specs.declared.paths.Method.TheVariants.{Get, Post}
 use Rattle.route_core.specs.Cuts.{cut, text_in}
@@ -153,3 +157,16 @@ pub one_has_a_path : (m : Method) (path : List ℕ) (i : ℕ) (d : Row) (place :
     → i < length paths → place_on (get_or paths i d) m path ≡ Some place
     → place_at paths m path ≡ Some place
 one_has_a_path m path i d place low is = one_row paths i d m path place each_is_apart low is
+
+-- the same of the rows as the code holds them
+pub found_at : (rows : List InCode) (i : ℕ) (d : InCode) (m : Method) (path : List ℕ)
+    (place : Place) → map path_of rows ≡ paths → i < length rows
+    → place_on (path_of (get_or rows i d)) m path ≡ Some place → place_at paths m path ≡ Some place
+found_at rows i d m path place are low is =
+    let all = map path_of rows in
+    let far = subst (λ (ps : List Row). each_apart ps ≡ true) (sym are) each_is_apart in
+    let within = subst (λ (n : ℕ). i < n) (sym (length-map rows path_of)) low in
+    let here =
+    ap (λ (r : Row). place_on r m path) (get_or-map path_of rows i d (path_of d) low) ∙ is in
+    subst (λ (ps : List Row). place_at ps m path ≡ Some place) are
+    (one_row all i (path_of d) m path place far within here)

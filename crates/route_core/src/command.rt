@@ -10,6 +10,7 @@ use crate::cuts::cut;
 use crate::fault::CommandFault;
 use crate::members::{Members, members_of};
 use crate::places::{Place, method_named, place_at};
+use crate::routes::{Routes, place_routed};
 use crate::said::said_by;
 use desk_forms::paths::Method;
 use desk_forms::table::paths;
@@ -36,8 +37,23 @@ pub fn command_of(
     ensures err { IfErr result (λ fault. fault ≢ CommandFault.NoMemory
         → commands.command_of settings.now message.now ≡ Err fault) }
 {
+    command_by(alloc, None, settings, message)
+}
+
+/// The same by a router, if there is one: the answers are those of `command_of`, whatever it finds.
+pub fn command_by(
+    alloc: Global,
+    routes: Option<&Routes>,
+    settings: &Settings,
+    message: &Message,
+) -> Result<(Text, Command), CommandFault>
+    ensures ok { IfOk result (λ asked.
+        commands.command_of settings.now message.now ≡ Ok (asked.0, asked.1)) }
+    ensures err { IfErr result (λ fault. fault ≢ CommandFault.NoMemory
+        → commands.command_of settings.now message.now ≡ Err fault) }
+{
     let path = path_in(message.target.as_slice());
-    match place_named(message.method.as_slice(), path) {
+    match place_named(routes, message.method.as_slice(), path) {
         Some(place) => asked_by(alloc, settings, message, place),
         None => Err(fault_at(allow_of(path))),
     }
@@ -84,14 +100,26 @@ fn allow_of(path: &[u8]) -> Option<Allow>
 }
 
 /// What is asked for at a path by the method of this name.
-fn place_named<'a>(name: &[u8], path: &'a [u8]) -> Option<Place<'a>>
+fn place_named<'a>(routes: Option<&Routes>, name: &[u8], path: &'a [u8]) -> Option<Place<'a>>
     ensures { option_map place_in result
         ≡ commands.place_named name.now path.entry.now }
 {
     match method_named(name) {
-        Some(method) => place_at(paths(), method, path),
+        Some(method) => place_by(routes, method, path),
         None => None,
     }
+}
+
+/// What a method asks for at a path: by the router, or else by all rows.
+fn place_by<'a>(routes: Option<&Routes>, method: Method, path: &'a [u8]) -> Option<Place<'a>>
+    ensures { option_map place_in result ≡ commands.asked_at method path.entry.now }
+{
+    if let Some(routes) = routes {
+        if let Some(place) = place_routed(routes, method, path) {
+            return Some(place);
+        }
+    }
+    place_at(paths(), method, path)
 }
 
 /// The caller and what is asked for at a place; `NoToken`, and then `BadBody`, where there is none.

@@ -8,7 +8,9 @@ mod fault;
 pub mod laws;
 mod members;
 mod places;
+mod routes;
 mod said;
 
-pub use command::{command_of, methods_of};
+pub use command::{command_by, command_of, methods_of};
 pub use fault::CommandFault;
+pub use routes::Routes;

@@ -119,20 +119,32 @@ fn bound_at<'a>(parts: &[Part], path: &'a [u8]) -> Option<Bound<'a>>
     }
 }
 
+/// What a method asks for at a path, by this row, if it has both.
+pub(crate) fn place_on<'a>(row: &Path, method: Method, path: &'a [u8]) -> Option<Place<'a>>
+    ensures { option_map place_in result
+        ≡ places.place_on (path_of row.now) method path.entry.now }
+{
+    if !is_method(row.0, method) {
+        return None;
+    }
+    match bound_at(row.1, path) {
+        Some(bound) => Some(Place {
+            method: row.0,
+            leads: row.2,
+            bound,
+        }),
+        None => None,
+    }
+}
+
 /// What a method asks for at a path, by the first of these rows that has both.
 pub(crate) fn place_at<'a>(rows: &[Path], method: Method, path: &'a [u8]) -> Option<Place<'a>>
     ensures { option_map place_in result
         ≡ places.place_at (map path_of rows.now) method path.entry.now }
 {
     for row in rows {
-        if is_method(row.0, method) {
-            if let Some(bound) = bound_at(row.1, path) {
-                return Some(Place {
-                    method: row.0,
-                    leads: row.2,
-                    bound,
-                });
-            }
+        if let Some(place) = place_on(row, method, path) {
+            return Some(place);
         }
     }
     None

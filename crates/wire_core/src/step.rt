@@ -19,7 +19,7 @@ use crate::replies::is_head;
 use crate::room::{put_fault, put_outcome, put_unavailable};
 use desk_core::Command;
 use message_core::Message;
-use route_core::{command_of, methods_of};
+use route_core::{Routes, command_by, methods_of};
 use service_core::{Desk, SHORT_TEXT};
 use std::alloc::{AllocError, Global};
 use store_core::Backend;
@@ -28,6 +28,7 @@ use store_core::Backend;
 /// nothing is done and the reply says so.
 pub(crate) fn answer_message<S: Backend>(
     alloc: Global,
+    routes: Option<&Routes>,
     message: &Message,
     moment: u32,
     desk: &mut Desk<S>,
@@ -41,7 +42,7 @@ pub(crate) fn answer_message<S: Backend>(
     ensures lasts { Lasts (tables_of S.Store desk.old) (tables_of S.Store desk.new) }
     ensures same { settings_of S.Store desk.new ≡ settings_of S.Store desk.old }
 {
-    match reply_to(alloc, message, moment, desk, room) {
+    match reply_to(alloc, routes, message, moment, desk, room) {
         Ok(()) => (),
         Err(_) => put_unavailable(is_head(message), room),
     }
@@ -52,6 +53,7 @@ pub(crate) fn answer_message<S: Backend>(
 #[tactic(auto, using(store_tables::proofs::Lasting::same))]
 fn reply_to<S: Backend>(
     alloc: Global,
+    routes: Option<&Routes>,
     message: &Message,
     at: u32,
     desk: &mut Desk<S>,
@@ -70,7 +72,7 @@ fn reply_to<S: Backend>(
     ensures same { settings_of S.Store desk.new ≡ settings_of S.Store desk.old }
 {
     let head_only = is_head(message);
-    match command_of(alloc, desk.settings(), message) {
+    match command_by(alloc, routes, desk.settings(), message) {
         Ok((caller, command)) => {
             let replied = do_command(alloc, at, caller.as_str(), &command, head_only, desk, room);
             drop(command);

@@ -5,7 +5,7 @@ use Rattle.service_core.specs.Seen.{settings_of, tables_of}
 use Rattle.wire_core.specs.Steps.{StaysOn}
 use Rattle.wire_core.proofs.Serving.{left_out, served_counted}
 use Rattle.wire_core.proofs.Stepping.{stays}
-use Rattle.wire_core.proofs.serve.serve_one.Goals as goal
+use Rattle.wire_core.proofs.serve.serve_one_by.Goals as goal
 
 pub returns-in-Ok-clause-served : goal.returns-in-Ok-clause-served
 returns-in-Ok-clause-served g c =
