@@ -1,6 +1,7 @@
 -- A message step over tables, from the step of its command.
 use Rattle.std.proofs.Common.{◌≡◌, ◌≢◌, inl, inr, ℕ, Bool, false, List, Option, Some, None}
-use Rattle.std.proofs.Common.{Result, Ok, Err, refl, ap, sym, subst}
+use Rattle.std.proofs.Common.{true, Result, Ok, Err, refl, ap, sym, subst, is_some}
+use Rattle.std.proofs.lemmas.Bool.{false≢true}
 use Rattle.std.specs.Prelude.{⊤, OnOk}
 use Rattle.std.specs.declared.alloc.AllocError.{AllocError}
 use Rattle.sqlite.specs.State.{State}
@@ -15,9 +16,10 @@ use Rattle.message_core.specs.Reply.{bytes_of, unavailable}
 use Rattle.message_core.specs.declared.fault.WireFault.{WireFault}
 use Rattle.message_core.specs.declared.message.Message.{Message}
 use Rattle.message_core.specs.declared.reply.Allow.{Allow}
-use Rattle.route_core.specs.Commands.{command_of, methods_of}
+use Rattle.route_core.specs.Commands.{asked_at_place, asked_by, command_of, methods_of}
+use Rattle.route_core.specs.Places.{Place}
 use Rattle.route_core.specs.declared.fault.CommandFault.{CommandFault}
-use Rattle.route_core.specs.declared.fault.CommandFault.TheVariants.{NoMemory}
+use Rattle.route_core.specs.declared.fault.CommandFault.TheVariants.{BadMethod, NoMemory}
 use Rattle.service_core.specs.TableSteps.{LeadsOn, StepsOn}
 use Rattle.wire_core.specs.Replies.{fault_reply, is_head, outcome_reply}
 use Rattle.wire_core.specs.Steps.{CommandSteps, CommandStepsOn, IsDoneOn, MessageStepsOn, StaysOn}
@@ -58,6 +60,23 @@ left_out_if_long s ask outcome old new long steps desk is stands clean =
     (step.0, same, step.2)
 
 -- ---- a message
+
+not_by_caller : (caller : Option (List ℕ)) (asked : Option Command)
+    → asked_by caller asked ≡ Err BadMethod → false ≡ true
+not_by_caller None asked is = absurd cc
+not_by_caller (Some c) None is = absurd cc
+not_by_caller (Some c) (Some a) is = absurd cc
+
+has_methods : (s : Settings) (message : Message) (methods : Option Allow) (place : Option Place)
+    → asked_at_place s message methods place ≡ Err BadMethod → is_some methods ≡ true
+has_methods s message None None is = absurd cc
+has_methods s message None (Some p) is = absurd (false≢true (not_by_caller _ _ is))
+has_methods s message (Some methods) place is = refl
+
+-- where the method is the fault, the path has others
+pub has_others : (s : Settings) (message : Message) → command_of s message ≡ Err BadMethod
+    → is_some (methods_of message.target) ≡ true
+has_others s message is = has_methods s message (methods_of message.target) _ is
 
 -- a message that asks for no command
 pub faulty : (s : Settings) (at : ℕ) (message : Message) (fault : CommandFault) (bytes : List ℕ)

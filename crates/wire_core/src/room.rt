@@ -1,6 +1,6 @@
 //! Replies are put into room that was had before.
 ghost use Rattle.std.specs.Prelude.{◌≡◌, ◌≢◌, ◌≤◌, [], true, false, IfErr, OnErr, OnOk};
-ghost use Rattle.std.specs.Prelude.{length};
+ghost use Rattle.std.specs.Prelude.{is_some, length};
 ghost use Rattle.std.specs.Vec.{vec_capacity};
 ghost use Rattle.desk_model.specs.Refusals.{names_its_right};
 ghost use Rattle.desk_texts.specs.Short.{is_short};
@@ -53,6 +53,7 @@ pub(crate) fn put_fault(
     fault: CommandFault,
     room: &mut Vec<u8>,
 ) -> Result<(), AllocError>
+    requires told { fault ≡ CommandFault.BadMethod → is_some methods ≡ true }
     requires empty { room.old.items ≡ [] }
     requires room { 512 ≤ vec_capacity room.old }
     ensures memory { OnOk result (fault ≢ CommandFault.NoMemory) }

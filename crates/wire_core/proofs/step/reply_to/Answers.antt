@@ -1,12 +1,12 @@
 -- what the message asks for, or its fault
-use Rattle.std.proofs.Common.{◌≡◌, ℕ, Ok, List, Option, Result, rules, subst}
+use Rattle.std.proofs.Common.{◌≡◌, ◌∙◌, ℕ, Ok, Err, List, Option, Result, ap, is_some, rules, subst}
 use Rattle.std.proofs.lemmas.Result.{on_ok_weaker}
 use Rattle.desk_model.specs.declared.command.Command.{Command}
 use Rattle.route_core.specs.Commands.{command_of, methods_of}
 use Rattle.route_core.specs.declared.fault.CommandFault.{CommandFault}
 use Rattle.service_core.specs.Seen.{settings_of, tables_of}
 use Rattle.wire_core.specs.Steps.{CommandStepsOn}
-use Rattle.wire_core.proofs.Stepping.{told_without_memory}
+use Rattle.wire_core.proofs.Stepping.{has_others, told_without_memory}
 use Rattle.wire_core.proofs.step.reply_to.Goals as goal
 
 pub returns-in-Ok-clause-ok : goal.returns-in-Ok-clause-ok
@@ -21,6 +21,15 @@ returns-in-Ok-clause-ok g c =
     (tables_of g.S.Store c.args.desk.now) (tables_of g.S.Store c.do_command-replied.new.desk))
     asked (rw c.is_head-head_only.ensures at done))
     c.do_command-replied.ensures.ok
+
+pub put_fault-requires-clause-told : goal.put_fault-requires-clause-told
+put_fault-requires-clause-told g c bad =
+    let is = rw c.settings.ensures at (rw c.in-Err.fault-is at c.in-Err.ensures.err) in
+    let at_path : c.methods_of-methods.result ≡ methods_of c.args.message.now.target =
+    search rules in
+    ap is_some at_path
+    ∙ has_others (settings_of g.S.Store c.args.desk.now) c.args.message.now
+    (is (λ none. cc) ∙ ap Err bad)
 
 pub returns-in-Err-clause-ok : goal.returns-in-Err-clause-ok
 returns-in-Err-clause-ok g c =
