@@ -10,7 +10,7 @@ use std::io::{BufReader, Read, Write};
 use std::net::{TcpListener, TcpStream};
 use std::time::Clock;
 use store_core::Backend;
-use wire_core::serve_one;
+use wire_core::{Routes, serve_one_by};
 
 /// The exit status where all connections were answered.
 const DONE: u8 = 0;
@@ -18,7 +18,7 @@ const DONE: u8 = 0;
 /// The exit status where a connection couldn't be accepted.
 const NO_NETWORK: u8 = 4;
 
-/// Answers so many connections, one after the other: each is served by `serve_one`, at the clock's
+/// Answers so many connections, one after the other: each is served as by `serve_one`, at the clock's
 /// minute once it is accepted, and its fault is passed over. The status is then 0; where a
 /// connection can't be accepted it ends there with 4.
 pub fn serve_on<K: Clock, S: Backend>(
@@ -34,9 +34,11 @@ pub fn serve_on<K: Clock, S: Backend>(
     ensures lasts { Lasts (tables_of S.Store desk.old) (tables_of S.Store desk.new) }
     ensures same { settings_of S.Store desk.new ≡ settings_of S.Store desk.old }
 {
+    let router = Routes::new(alloc).ok();
+    let routes = router.as_ref();
     for _connection in 0..count {
         match listener.accept() {
-            Ok((stream, _)) => serve_stream(alloc, &stream, minute_of(clock), desk),
+            Ok((stream, _)) => serve_stream(alloc, routes, &stream, minute_of(clock), desk),
             Err(_) => return NO_NETWORK,
         }
     }
@@ -52,7 +54,13 @@ fn minute_of<K: Clock>(clock: &K) -> u32 {
 }
 
 /// Serves one connection. What it sends is read ahead, if there is memory for that.
-fn serve_stream<S: Backend>(alloc: Global, stream: &TcpStream, moment: u32, desk: &mut Desk<S>)
+fn serve_stream<S: Backend>(
+    alloc: Global,
+    routes: Option<&Routes>,
+    stream: &TcpStream,
+    moment: u32,
+    desk: &mut Desk<S>,
+)
     ensures one { AnswersOne (settings_of S.Store desk.old)
         (tables_of S.Store desk.old) (tables_of S.Store desk.new) }
     ensures honest { WasClean (tables_of S.Store desk.old) (tables_of S.Store desk.new) }
@@ -61,10 +69,10 @@ fn serve_stream<S: Backend>(alloc: Global, stream: &TcpStream, moment: u32, desk
 {
     let mut output = stream;
     match BufReader::new(alloc, stream) {
-        Ok(mut reader) => answer(alloc, &mut reader, &mut output, moment, desk),
+        Ok(mut reader) => answer(alloc, routes, &mut reader, &mut output, moment, desk),
         Err(_) => {
             let mut input = stream;
-            answer(alloc, &mut input, &mut output, moment, desk)
+            answer(alloc, routes, &mut input, &mut output, moment, desk)
         }
     }
 }
@@ -72,6 +80,7 @@ fn serve_stream<S: Backend>(alloc: Global, stream: &TcpStream, moment: u32, desk
 /// Serves the message of a connection, whose fault is passed over.
 fn answer<R: Read, W: Write, S: Backend>(
     alloc: Global,
+    routes: Option<&Routes>,
     reader: &mut R,
     writer: &mut W,
     moment: u32,
@@ -83,5 +92,5 @@ fn answer<R: Read, W: Write, S: Backend>(
     ensures lasts { Lasts (tables_of S.Store desk.old) (tables_of S.Store desk.new) }
     ensures same { settings_of S.Store desk.new ≡ settings_of S.Store desk.old }
 {
-    let _served = serve_one(alloc, reader, writer, moment, desk);
+    let _served = serve_one_by(alloc, routes, reader, writer, moment, desk);
 }

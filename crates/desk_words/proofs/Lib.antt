@@ -1,5 +1,3 @@
-mod Alone
-mod Free
+mod Enough
 mod Meets
-mod Named
 mod Reading

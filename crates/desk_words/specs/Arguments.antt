@@ -1,6 +1,6 @@
 -- What a subcommand of the command line can be given.
-use Rattle.std.specs.Prelude.{ℕ, true, List, [], ◌∷◌, Some}
-use Rattle.clap.specs.Words.{App, Rule, Text, new_app, new_rule, with_rule}
+use Rattle.std.specs.Prelude.{ℕ, true, Some}
+use Rattle.clap.specs.Words.{App, Rule, Text, new_app, new_rule}
 use Rattle.clap.specs.declared.builder.action.ArgAction.TheVariants.{Set, SetTrue, Append}
 
 -- a word that has to be there
@@ -26,8 +26,3 @@ option id = record (new_rule id) { long = Some id; action = Some Set }
 -- a command that is given nothing, without help
 abbrev pub bare : Text → App
 bare name = let a = new_app name in record a { top = record a.top { disable_help_flag = true } }
-
--- a word that has to be there for each id, in order
-abbrev pub with_all : App → List Text → App
-with_all a [] = a
-with_all a (x ∷ xs) = with_all (with_rule a (wanted x)) xs

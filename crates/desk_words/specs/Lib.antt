@@ -1,9 +1,8 @@
 pub use Rattle.text_core.specs.Form
+pub use Rattle.desk_forms.specs.Number
 pub mod Arguments
-pub mod CommandLine
 pub mod Faults
-pub mod Number
+pub mod Line
 pub mod Reader
 pub mod Spelling
-pub mod Subcommands
 pub mod Words

@@ -1,15 +1,12 @@
 //! What a line of text asks of the desk: its words, and the command that words spell.
 #![tactic(auto)]
 
-pub mod command;
-mod command_line;
 pub mod fault;
-mod matches;
-pub mod number;
-mod subcommands;
+mod given;
+mod line;
 pub mod words;
 
-pub use command::command_of_words;
+pub use desk_forms::number_of_word;
 pub use fault::WordsFault;
-pub use number::number_of_word;
+pub use given::command_of_words;
 pub use words::words_of;

@@ -1,5 +1,4 @@
-mod Acts
-mod Cuts
-mod Digits
+mod CutLemmas
 mod Objects
-mod Trees
+mod RowLemmas
+mod TreeLemmas

@@ -1,83 +1,60 @@
--- Which caller and command a message asks for: its place comes first, then its method, its token
--- and its body.
-use Rattle.std.specs.Prelude.{ℕ, Bool, true, false, ◌&&◌, if◌then◌else◌, List, codes}
-use Rattle.std.specs.Prelude.{Option, Some, None, option_and_then, Result, Ok, Err}
-use Rattle.std.specs.Option.{option_map}
-use Rattle.std.specs.Str.{bytes_eq}
-use Rattle.serde_json.specs.Data.{Members}
+-- Which caller and command a message asks for: its path comes first, then its method, its token and
+-- its body.
+use Rattle.std.specs.Prelude.{ℕ, Bool, true, false, List, Option, Some, None, Result, Ok, Err}
+use Rattle.std.specs.Prelude.{is_some, option_and_then}
+use Rattle.serde_json.specs.Data.{Members, no_members}
 use Rattle.settings_core.specs.Settings.{person_of_token}
 use Rattle.settings_core.specs.declared.settings.Settings.{Settings}
 use Rattle.desk_model.specs.declared.command.Command.{Command}
-use Rattle.desk_model.specs.declared.command.Command.TheVariants as command
 use Rattle.message_core.specs.declared.message.Message.{Message}
 use Rattle.message_core.specs.declared.reply.Allow.{Allow}
 use Rattle.message_core.specs.declared.reply.Allow.TheVariants as allow
-use Rattle.route_core.specs.Bodies.{acting, filing, opening}
+use Rattle.desk_forms.specs.Table.{paths}
+use Rattle.desk_forms.specs.declared.paths.Method.{Method}
+use Rattle.desk_forms.specs.declared.paths.Method.TheVariants.{Get, Post}
+use Rattle.route_core.specs.Cuts.{cut}
 use Rattle.route_core.specs.Members.{members_of}
-use Rattle.route_core.specs.Places.{methods_of, path_of, place_of, queue_in, text_in}
+use Rattle.route_core.specs.Places.{Place, method_named, place_at}
+use Rattle.route_core.specs.Said.{said_by}
 use Rattle.route_core.specs.declared.fault.CommandFault.{CommandFault}
 use Rattle.route_core.specs.declared.fault.CommandFault.TheVariants.{NoRoute, BadMethod, NoToken}
 use Rattle.route_core.specs.declared.fault.CommandFault.TheVariants.{BadBody}
-use Rattle.route_core.specs.declared.place.Place.{Place}
-use Rattle.route_core.specs.declared.place.Place.TheVariants as place
 
--- ---- the method
+-- the target up to the first question mark
+abbrev pub path_in : List ℕ → List ℕ
+path_in target = (cut 63 target).0
 
-abbrev pub allows_get : Allow → Bool
-allows_get allow.Get = true
-allows_get allow.Post = false
-allows_get allow.GetPost = true
+-- what a method asks for at a path
+abbrev pub asked_at : Method → List ℕ → Option Place
+asked_at method path = place_at paths method path
 
-abbrev pub allows_post : Allow → Bool
-allows_post allow.Get = false
-allows_post allow.Post = true
-allows_post allow.GetPost = true
+abbrev pub allow_by : Bool → Bool → Option Allow
+allow_by true true = Some allow.GetPost
+allow_by true false = Some allow.Get
+allow_by false true = Some allow.Post
+allow_by false false = None
 
--- a GET, at a place that has it
-abbrev pub is_get : Place → List ℕ → Bool
-is_get place method = bytes_eq method (codes "GET") && allows_get (methods_of place)
+-- the methods of a path, if it leads anywhere
+abbrev pub allow_of : List ℕ → Option Allow
+allow_of path = allow_by (is_some (asked_at Get path)) (is_some (asked_at Post path))
 
--- a POST, at a place that has it
-abbrev pub is_post : Place → List ℕ → Bool
-is_post place method = bytes_eq method (codes "POST") && allows_post (methods_of place)
+-- those of the path to which a target leads
+abbrev pub methods_of : List ℕ → Option Allow
+methods_of target = allow_of (path_in target)
 
--- ---- the token
+-- a GET's body isn't looked at
+abbrev pub members_for : Method → List ℕ → Option Members
+members_for Get body = Some no_members
+members_for Post body = members_of body
+
+-- the command of a body at a place
+abbrev pub said : Place → List ℕ → Option Command
+said place body =
+    option_and_then (said_by place.leads place.bound) (members_for place.method body)
 
 -- the person of the token, if there is one
 abbrev pub caller_of : Settings → Option (List ℕ) → Option (List ℕ)
 caller_of settings token = option_and_then (person_of_token settings) token
-
--- ---- the command
-
--- the queue of a path; it is named by a text, as in each path that is one
-abbrev pub queue_of : List ℕ → Option (List ℕ)
-queue_of path = text_in (queue_in path)
-
--- what a GET asks for at the place of that path
-abbrev pub got : Place → List ℕ → Option Command
-got place.Queues path = Some command.Queues
-got place.Requests path = option_map command.List (queue_of path)
-got (place.Request id) path = Some (command.Show id)
-got (place.History id) path = Some (command.History id)
-got (place.Act id act) path = None
-got place.Overdue path = Some command.Overdue
-got place.Workload path = Some command.Workload
-
--- what is asked for by these members, posted to the place of that path
-abbrev pub posted_by : Place → List ℕ → Members → Option Command
-posted_by place.Queues path members = opening members
-posted_by place.Requests path members =
-    option_and_then (λ queue. filing queue members) (queue_of path)
-posted_by (place.Request id) path _ = None
-posted_by (place.History id) path _ = None
-posted_by (place.Act id act) path members = acting id act members
-posted_by place.Overdue path _ = None
-posted_by place.Workload path _ = None
-
--- what a POST asks for
-abbrev pub posted : Place → Message → Option Command
-posted place message =
-    option_and_then (posted_by place (path_of message.target)) (members_of message.body)
 
 -- the caller comes before the command
 abbrev pub asked_by : Option (List ℕ) → Option Command → Result (List ℕ × Command) CommandFault
@@ -85,20 +62,23 @@ asked_by None asked = Err NoToken
 asked_by (Some caller) None = Err BadBody
 asked_by (Some caller) (Some asked) = Ok (caller, asked)
 
--- the caller and the command that a message asks for at a place, or its fault
-abbrev pub command_at : Settings → Place → Message → Result (List ℕ × Command) CommandFault
-command_at settings place message =
-    if is_get place message.method
-    then asked_by (caller_of settings message.token) (got place (path_of message.target))
-    else if is_post place message.method
-    then asked_by (caller_of settings message.token) (posted place message)
-    else Err BadMethod
+-- nothing is asked for at a path with these methods, if it has any
+abbrev pub fault_at : Option Allow → CommandFault
+fault_at None = NoRoute
+fault_at (Some methods) = BadMethod
 
-abbrev pub command_if_placed : Settings → Message → Option Place
+abbrev pub asked_at_place : Settings → Message → Option Allow → Option Place
     → Result (List ℕ × Command) CommandFault
-command_if_placed settings message None = Err NoRoute
-command_if_placed settings message (Some place) = command_at settings place message
+asked_at_place settings message methods None = Err (fault_at methods)
+asked_at_place settings message methods (Some place) =
+    asked_by (caller_of settings message.token) (said place message.body)
+
+-- what a method of this name asks for at a path
+abbrev pub place_named : List ℕ → List ℕ → Option Place
+place_named name path = option_and_then (λ m. asked_at m path) (method_named name)
 
 -- the caller and the command that a message asks for, or its fault
 abbrev pub command_of : Settings → Message → Result (List ℕ × Command) CommandFault
-command_of settings message = command_if_placed settings message (place_of message.target)
+command_of settings message =
+    let path = path_in message.target in
+    asked_at_place settings message (allow_of path) (place_named message.method path)

@@ -1,12 +1,14 @@
 -- The body of a message as the members of a JSON object, and what they are.
 use Rattle.std.specs.Prelude.{ℕ, Bool, true, ◌&&◌, ◌^◌, nat_lt, if◌then◌else◌}
 use Rattle.std.specs.Prelude.{List, [], ◌∷◌, Option, Some, None, option_and_then}
-use Rattle.std.specs.List.{list_any}
-use Rattle.std.specs.Str.{bytes_eq, is_utf8}
+use Rattle.std.specs.Str.{is_utf8}
 use Rattle.serde_json.specs.Data.{Data, array, null, string, Items, no_items, item}
 use Rattle.serde_json.specs.Data.{Members, no_members, member}
 use Rattle.serde_json.specs.Find.{as_number, as_object, as_str, as_u64, get_member}
 use Rattle.serde_json.specs.Read.{read}
+use Rattle.desk_forms.specs.Keys.{is_key}
+use Rattle.desk_forms.specs.Kinds.{Argument}
+use Rattle.desk_forms.specs.Paths.{Bound}
 
 -- the members of the object that a text is, if it is one
 abbrev pub members_of_text : List ℕ → Option Members
@@ -17,10 +19,10 @@ abbrev pub members_of : List ℕ → Option Members
 members_of [] = Some no_members
 members_of (b ∷ bs) = members_of_text (b ∷ bs)
 
--- each key is one of these
-abbrev pub has_only : List (List ℕ) → Members → Bool
-has_only keys no_members = true
-has_only keys (member key value rest) = list_any (bytes_eq key) keys && has_only keys rest
+-- each key is that of an argument that is posted
+abbrev pub has_only : Bound → List Argument → Members → Bool
+has_only b args no_members = true
+has_only b args (member key value rest) = is_key b args key && has_only b args rest
 
 -- the text at a key, if there is one
 abbrev pub text_at : List ℕ → Members → Option (List ℕ)

@@ -1,17 +1,25 @@
 //! The caller and the command that a message asks for.
-ghost use Rattle.std.specs.Prelude.{◌≡◌, ◌≢◌, Ok, Err, IfOk, IfErr};
-ghost use Rattle.route_core.specs.Commands as commands;
 
+ghost use Rattle.std.specs.Prelude.{◌≡◌, ◌≢◌, Ok, Err, IfOk, IfErr};
+ghost use Rattle.std.specs.Option.{option_map};
+ghost use Rattle.serde_json.specs.View.{members_view};
+ghost use Rattle.route_core.specs.Commands as commands;
+ghost use Rattle.route_core.specs.Places.{place_in};
+
+use crate::cuts::cut;
 use crate::fault::CommandFault;
-use crate::place::{Place, place_of};
+use crate::members::{Members, members_of};
+use crate::places::{Place, method_named, place_at};
+use crate::routes::{Routes, place_routed};
+use crate::said::said_by;
+use desk_forms::paths::Method;
+use desk_forms::table::paths;
 use desk_model::Command;
 use message_core::{Allow, Message};
+use serde_json::Map;
 use settings_core::Settings;
 use std::alloc::{AllocError, Global};
 use text_core::Text;
-
-mod got;
-mod posted;
 
 /// The caller and the command that a message asks for.
 ///
@@ -29,58 +37,112 @@ pub fn command_of(
     ensures err { IfErr result (λ fault. fault ≢ CommandFault.NoMemory
         → commands.command_of settings.now message.now ≡ Err fault) }
 {
-    match place_of(alloc, message.target.as_slice())? {
-        Some(place) => command_at(alloc, settings, place, message),
-        None => Err(CommandFault::NoRoute),
-    }
+    command_by(alloc, None, settings, message)
 }
 
-/// The caller and the command that a message asks for at the place to which its target leads, or
-/// the fault that `command_of` has, in the same order. The queue of `Place::Requests` is read off
-/// the target.
-pub fn command_at(
+/// The same by a router, if there is one: the answers are those of `command_of`, whatever it finds.
+pub fn command_by(
     alloc: Global,
+    routes: Option<&Routes>,
     settings: &Settings,
-    place: Place,
     message: &Message,
 ) -> Result<(Text, Command), CommandFault>
     ensures ok { IfOk result (λ asked.
-        commands.command_at settings.now place message.now ≡ Ok (asked.0, asked.1)) }
+        commands.command_of settings.now message.now ≡ Ok (asked.0, asked.1)) }
     ensures err { IfErr result (λ fault. fault ≢ CommandFault.NoMemory
-        → commands.command_at settings.now place message.now ≡ Err fault) }
+        → commands.command_of settings.now message.now ≡ Err fault) }
 {
-    let method = message.method.as_slice();
-    if is_get(place, method) {
-        return got::asked_by_get(alloc, settings, place, message);
+    let path = path_in(message.target.as_slice());
+    match place_named(routes, message.method.as_slice(), path) {
+        Some(place) => asked_by(alloc, settings, message, place),
+        None => Err(fault_at(allow_of(path))),
     }
-    if is_post(place, method) {
-        return posted::asked_by_post(alloc, settings, place, message);
-    }
-    Err(CommandFault::BadMethod)
 }
 
-/// Whether it is a GET, at a place that has it.
-fn is_get(place: Place, method: &[u8]) -> bool
-    ensures { result ≡ commands.is_get place method.now }
+/// The fault where nothing is asked for at a path with these methods, if it has any.
+fn fault_at(methods: Option<Allow>) -> CommandFault
+    ensures { result ≡ commands.fault_at methods }
 {
-    method == b"GET".as_slice()
-        && match place.methods() {
-            Allow::Get => true,
-            Allow::Post => false,
-            Allow::GetPost => true,
-        }
+    match methods {
+        Some(_) => CommandFault::BadMethod,
+        None => CommandFault::NoRoute,
+    }
 }
 
-/// Whether it is a POST, at a place that has it.
-fn is_post(place: Place, method: &[u8]) -> bool
-    ensures { result ≡ commands.is_post place method.now }
+/// The methods of the path to which a target leads, or none where it leads nowhere: the path, up
+/// to the first `?`, is that of no row. Nothing in it is decoded; a request's number is 1 to 10
+/// digits of at most 4,294,967,295, and a queue's name a text that isn't empty.
+pub fn methods_of(target: &[u8]) -> Option<Allow>
+    ensures { result ≡ commands.methods_of target.now }
 {
-    method == b"POST".as_slice()
-        && match place.methods() {
-            Allow::Get => false,
-            Allow::Post => true,
-            Allow::GetPost => true,
+    allow_of(path_in(target))
+}
+
+/// The target up to the first question mark.
+fn path_in(target: &[u8]) -> &[u8]
+    ensures { result.now ≡ commands.path_in target.now }
+{
+    cut(target, b'?').0
+}
+
+/// The methods of a path, if it leads anywhere.
+fn allow_of(path: &[u8]) -> Option<Allow>
+    ensures { result ≡ commands.allow_of path.now }
+{
+    let gets = place_at(paths(), Method::Get, path).is_some();
+    let posts = place_at(paths(), Method::Post, path).is_some();
+    match (gets, posts) {
+        (true, true) => Some(Allow::GetPost),
+        (true, false) => Some(Allow::Get),
+        (false, true) => Some(Allow::Post),
+        (false, false) => None,
+    }
+}
+
+/// What is asked for at a path by the method of this name.
+fn place_named<'a>(routes: Option<&Routes>, name: &[u8], path: &'a [u8]) -> Option<Place<'a>>
+    ensures { option_map place_in result
+        ≡ commands.place_named name.now path.entry.now }
+{
+    match method_named(name) {
+        Some(method) => place_by(routes, method, path),
+        None => None,
+    }
+}
+
+/// What a method asks for at a path: by the router, or else by all rows.
+fn place_by<'a>(routes: Option<&Routes>, method: Method, path: &'a [u8]) -> Option<Place<'a>>
+    ensures { option_map place_in result ≡ commands.asked_at method path.entry.now }
+{
+    if let Some(routes) = routes {
+        if let Some(place) = place_routed(routes, method, path) {
+            return Some(place);
         }
+    }
+    place_at(paths(), method, path)
+}
+
+/// The caller and what is asked for at a place; `NoToken`, and then `BadBody`, where there is none.
+fn asked_by(
+    alloc: Global,
+    settings: &Settings,
+    message: &Message,
+    place: Place<'_>,
+) -> Result<(Text, Command), CommandFault>
+    ensures ok { IfOk result (λ asked.
+        commands.asked_by (commands.caller_of settings.now message.now.token)
+        (commands.said (place_in place.entry) message.now.body) ≡ Ok (asked.0, asked.1)) }
+    ensures err { IfErr result (λ fault. fault ≢ CommandFault.NoMemory
+        → commands.asked_by (commands.caller_of settings.now message.now.token)
+        (commands.said (place_in place.entry) message.now.body) ≡ Err fault) }
+{
+    let Some(caller) = caller_of(alloc, settings, message)? else {
+        return Err(CommandFault::NoToken);
+    };
+    match said(alloc, place, message.body.as_slice())? {
+        Some(command) => Ok((caller, command)),
+        None => Err(CommandFault::BadBody),
+    }
 }
 
 /// The person of the token, if there is one.
@@ -98,5 +160,26 @@ fn caller_of(
     match settings.person_of_token(token.as_str()) {
         Some(person) => Ok(Some(Text::new(alloc, person)?)),
         None => Ok(None),
+    }
+}
+
+/// The command of a body at a place.
+fn said(alloc: Global, place: Place<'_>, body: &[u8]) -> Result<Option<Command>, AllocError>
+    ensures { IfOk result (λ c. c ≡ commands.said (place_in place.entry) body.now) }
+{
+    match members_for(alloc, place.method, body)? {
+        Some(members) => said_by(alloc, place.leads, place.bound, &members),
+        None => Ok(None),
+    }
+}
+
+/// The members of a body. A GET's isn't looked at.
+fn members_for(alloc: Global, method: Method, body: &[u8]) -> Result<Option<Members>, AllocError>
+    ensures { IfOk result (λ members.
+        option_map (λ m. members_view m.entries) members ≡ commands.members_for method body.now) }
+{
+    match method {
+        Method::Get => Ok(Some(Map::new(alloc))),
+        Method::Post => members_of(alloc, body),
     }
 }

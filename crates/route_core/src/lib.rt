@@ -1,15 +1,16 @@
-//! What a message asks of the desk: the place to which its target leads, the caller of its token,
-//! and the command.
+//! What a message asks of the desk: the row of the table to which its method and its path lead, the
+//! caller of its token, and the command that its body says.
 #![tactic(auto)]
 
-mod bodies;
 mod command;
+mod cuts;
 mod fault;
+pub mod laws;
 mod members;
-mod paths;
-mod place;
+mod places;
 mod routes;
+mod said;
 
-pub use command::{command_at, command_of};
+pub use command::{command_by, command_of, methods_of};
 pub use fault::CommandFault;
-pub use place::{Act, Place, place_of};
+pub use routes::Routes;

@@ -1,13 +1,18 @@
 //! The body of a message as the members of a JSON object, and what they are.
 ghost use Rattle.std.specs.Prelude.{◌≡◌, IfOk, map, string_bytes};
 ghost use Rattle.std.specs.BTreeMap.{keys as map_keys};
-ghost use Rattle.std.specs.List.{list_all, list_any};
+ghost use Rattle.std.specs.List.{list_all};
 ghost use Rattle.std.specs.Option.{option_map};
-ghost use Rattle.std.specs.Str.{bytes_eq};
 ghost use Rattle.serde_json.specs.Find.{as_object, get_member};
 ghost use Rattle.serde_json.specs.View.{items_view, members_view, view};
+ghost use Rattle.desk_forms.specs.Keys as keys;
+ghost use Rattle.desk_forms.specs.Kinds.{argument_of};
 ghost use Rattle.route_core.specs.Members as spec;
+ghost use Rattle.desk_forms.specs.Paths.{bound_of};
 
+use desk_forms::keys::is_key;
+use desk_forms::kinds::Arg;
+use desk_forms::paths::Bound;
 use serde_json::{Map, Value};
 use std::alloc::{AllocError, Global};
 use text_core::{Text, Texts};
@@ -45,25 +50,20 @@ fn object_in(value: Value) -> Option<Members>
     }
 }
 
-fn is_among(key: &str, keys: &[&str]) -> bool
-    ensures { result ≡ list_any (λ known. bytes_eq key.now known.now) keys.now }
-{
-    keys.iter().any(|known| key == *known)
-}
-
-fn all_are_among(members: &Members, keys: &[&str]) -> bool
+fn all_are_keys(bound: Bound<'_>, args: &[Arg], members: &Members) -> bool
     ensures { result ≡ list_all (λ key.
-        list_any (λ known. bytes_eq (string_bytes key) known.now) keys.now) (map_keys members.now) }
+        keys.is_key (bound_of bound.entry) (map argument_of args.now) (string_bytes key))
+        (map_keys members.now) }
 {
-    members.keys().all(|key| is_among(key.as_str(), keys))
+    members.keys().all(|key| is_key(bound, args, key.as_str()))
 }
 
-/// Whether each key is one of these.
-pub(crate) fn has_only(members: &Members, keys: &[&str]) -> bool
-    ensures { result
-        ≡ spec.has_only (map (λ k. k.now) keys.now) (members_view members.now.entries) }
+/// Whether each key is that of an argument that a body has.
+pub(crate) fn has_only(bound: Bound<'_>, args: &[Arg], members: &Members) -> bool
+    ensures { result ≡ spec.has_only (bound_of bound.entry) (map argument_of args.now)
+        (members_view members.now.entries) }
 {
-    all_are_among(members, keys)
+    all_are_keys(bound, args, members)
 }
 
 /// The value at a key.
@@ -86,7 +86,7 @@ pub(crate) fn text_at<'a>(members: &'a Members, key: &str) -> Option<&'a str>
 }
 
 /// The text that a value is, or none where it is null; nothing where it is something else.
-#[tactic(auto, using(crate::proofs::Trees::null_or_text))]
+#[tactic(auto, using(crate::proofs::TreeLemmas::null_or_text))]
 fn text_or_null(value: &Value) -> Option<Option<&str>>
     ensures { option_map (λ text. option_map (λ t. t.now) text) result
         ≡ spec.text_or_null (view value.now) }
@@ -168,15 +168,5 @@ pub(crate) fn number_at(members: &Members, key: &str) -> Option<u32>
     match value_at(members, key) {
         Some(value) => whole_number(value),
         None => None,
-    }
-}
-
-/// A copy of a text, if there is one.
-pub(crate) fn owned_text(alloc: Global, text: Option<&str>) -> Result<Option<Text>, AllocError>
-    ensures { IfOk result (λ t. t ≡ option_map (λ s. s.now) text.entry) }
-{
-    match text {
-        Some(text) => Ok(Some(Text::new(alloc, text)?)),
-        None => Ok(None),
     }
 }

@@ -1,7 +1,7 @@
 -- A message step over tables, from the step of its command.
 use Rattle.std.proofs.Common.{◌≡◌, ◌≢◌, inl, inr, ℕ, Bool, false, List, Option, Some, None}
-use Rattle.std.proofs.Common.{Result, Ok, Err, refl, ap, sym, subst}
-use Rattle.std.specs.Option.{option_map}
+use Rattle.std.proofs.Common.{true, Result, Ok, Err, refl, ap, sym, subst, is_some}
+use Rattle.std.proofs.lemmas.Bool.{false≢true}
 use Rattle.std.specs.Prelude.{⊤, OnOk}
 use Rattle.std.specs.declared.alloc.AllocError.{AllocError}
 use Rattle.sqlite.specs.State.{State}
@@ -15,11 +15,11 @@ use Rattle.message_core.specs.Message.{Reads}
 use Rattle.message_core.specs.Reply.{bytes_of, unavailable}
 use Rattle.message_core.specs.declared.fault.WireFault.{WireFault}
 use Rattle.message_core.specs.declared.message.Message.{Message}
-use Rattle.route_core.specs.Commands.{command_at, command_if_placed, command_of}
-use Rattle.route_core.specs.Places.{methods_of, place_of}
+use Rattle.message_core.specs.declared.reply.Allow.{Allow}
+use Rattle.route_core.specs.Commands.{asked_at_place, asked_by, command_of, methods_of}
+use Rattle.route_core.specs.Places.{Place}
 use Rattle.route_core.specs.declared.fault.CommandFault.{CommandFault}
-use Rattle.route_core.specs.declared.fault.CommandFault.TheVariants.{NoMemory, NoRoute}
-use Rattle.route_core.specs.declared.place.Place.{Place}
+use Rattle.route_core.specs.declared.fault.CommandFault.TheVariants.{BadMethod, NoMemory}
 use Rattle.service_core.specs.TableSteps.{LeadsOn, StepsOn}
 use Rattle.wire_core.specs.Replies.{fault_reply, is_head, outcome_reply}
 use Rattle.wire_core.specs.Steps.{CommandSteps, CommandStepsOn, IsDoneOn, MessageStepsOn, StaysOn}
@@ -61,54 +61,49 @@ left_out_if_long s ask outcome old new long steps desk is stands clean =
 
 -- ---- a message
 
--- a message that asks for no command, at its place
-pub faulty : (s : Settings) (at : ℕ) (message : Message) (place : Place) (fault : CommandFault)
-    (bytes : List ℕ) (tables : State) → place_of message.target ≡ Some place
-    → bytes ≡ bytes_of (fault_reply (is_head message) (Some (methods_of place)) fault)
+not_by_caller : (caller : Option (List ℕ)) (asked : Option Command)
+    → asked_by caller asked ≡ Err BadMethod → false ≡ true
+not_by_caller None asked is = absurd cc
+not_by_caller (Some c) None is = absurd cc
+not_by_caller (Some c) (Some a) is = absurd cc
+
+has_methods : (s : Settings) (message : Message) (methods : Option Allow) (place : Option Place)
+    → asked_at_place s message methods place ≡ Err BadMethod → is_some methods ≡ true
+has_methods s message None None is = absurd cc
+has_methods s message None (Some p) is = absurd (false≢true (not_by_caller _ _ is))
+has_methods s message (Some methods) place is = refl
+
+-- where the method is the fault, the path has others
+pub has_others : (s : Settings) (message : Message) → command_of s message ≡ Err BadMethod
+    → is_some (methods_of message.target) ≡ true
+has_others s message is = has_methods s message (methods_of message.target) _ is
+
+-- a message that asks for no command
+pub faulty : (s : Settings) (at : ℕ) (message : Message) (fault : CommandFault) (bytes : List ℕ)
+    (tables : State)
+    → bytes ≡ bytes_of (fault_reply (is_head message) (methods_of message.target) fault)
     → CommandStepsOn s at message (Err fault) bytes tables tables
-faulty s at message place fault bytes tables placed told =
+faulty s at message fault bytes tables told =
     leads_nowhere s (λ desk after. CommandSteps s at message (Err fault) desk bytes after) tables
-    (λ desk. (
-      rw (ap (option_map methods_of) placed) told,
-      refl,
-    ))
+    (λ desk. (told, refl))
 
 -- the same, once its reply is put: then the fault isn't that it was out of memory
-pub told_without_memory : (s : Settings) (at : ℕ) (message : Message) (place : Place)
-    (fault : CommandFault) (h : Bool) (put : Result ⊤ AllocError) (bytes : List ℕ) (tables : State)
-    → place_of message.target ≡ Some place → h ≡ is_head message
-    → (fault ≢ NoMemory → command_at s place message ≡ Err fault)
-    → OnOk put (fault ≢ NoMemory)
-    → OnOk put (bytes ≡ bytes_of (fault_reply h (Some (methods_of place)) fault))
-    → OnOk put (CommandStepsOn s at message (command_at s place message) bytes tables tables)
-told_without_memory s at message place fault h (Err e) bytes tables placed head is memory told = tt
-told_without_memory s at message place fault h (Ok done) bytes tables placed head is memory told =
+pub told_without_memory : (s : Settings) (at : ℕ) (message : Message) (fault : CommandFault)
+    (h : Bool) (methods : Option Allow) (put : Result ⊤ AllocError) (bytes : List ℕ)
+    (tables : State) → h ≡ is_head message → methods ≡ methods_of message.target
+    → (fault ≢ NoMemory → command_of s message ≡ Err fault) → OnOk put (fault ≢ NoMemory)
+    → OnOk put (bytes ≡ bytes_of (fault_reply h methods fault))
+    → OnOk put (CommandStepsOn s at message (command_of s message) bytes tables tables)
+told_without_memory s at message fault h methods (Err e) bytes tables head at_path is memory told =
+    tt
+told_without_memory s at message fault h methods (Ok done) bytes tables head at_path is memory told =
     let by_head =
-    subst (λ (x : Bool). bytes ≡ bytes_of (fault_reply x (Some (methods_of place)) fault)) head
-    told in
+    subst (λ (x : Bool). bytes ≡ bytes_of (fault_reply x methods fault)) head told in
+    let by_path =
+    subst (λ (m : Option Allow). bytes ≡ bytes_of (fault_reply (is_head message) m fault)) at_path
+    by_head in
     subst (λ (a : Result (List ℕ × Command) CommandFault). CommandStepsOn s at message a bytes
-    tables tables) (sym (is memory))
-    (faulty s at message place fault bytes tables placed by_head)
-
--- a message whose path leads nowhere
-pub nowhere : (s : Settings) (at : ℕ) (message : Message) (bytes : List ℕ) (tables : State)
-    → place_of message.target ≡ None
-    → bytes ≡ bytes_of (fault_reply (is_head message) None NoRoute)
-    → CommandStepsOn s at message (command_of s message) bytes tables tables
-nowhere s at message bytes tables placed told =
-    leads_nowhere s (λ desk after. CommandSteps s at message (command_of s message) desk bytes after)
-    tables
-    (λ desk. subst (λ (p : Option Place). CommandSteps s at message (command_if_placed s message p)
-    desk bytes desk) (sym placed) (told, refl))
-
--- what is asked for at the place of a message is what it asks for
-pub at_place : (s : Settings) (at : ℕ) (message : Message) (place : Place) (bytes : List ℕ)
-    (old new : State) → place_of message.target ≡ Some place
-    → CommandStepsOn s at message (command_at s place message) bytes old new
-    → CommandStepsOn s at message (command_of s message) bytes old new
-at_place s at message place bytes old new placed steps =
-    subst (λ (p : Option Place). CommandStepsOn s at message (command_if_placed s message p) bytes
-    old new) (sym placed) steps
+    tables tables) (sym (is memory)) (faulty s at message fault bytes tables by_path)
 
 pub message_done : (s : Settings) (at : ℕ) (message : Message) (bytes : List ℕ) (old new : State)
     → CommandStepsOn s at message (command_of s message) bytes old new

@@ -1,6 +1,5 @@
 -- A message step: from a stream and a desk to the bytes of a reply and the desk afterwards.
 use Rattle.std.specs.Prelude.{◌≡◌, ◌⊎◌, ℕ, Bool, false, List, Option, Result, Ok, Err}
-use Rattle.std.specs.Option.{option_map}
 use Rattle.sqlite.specs.State.{State}
 use Rattle.settings_core.specs.declared.settings.Settings.{Settings}
 use Rattle.desk_model.specs.Desk.{Desk}
@@ -10,8 +9,7 @@ use Rattle.message_core.specs.Message.{Reads}
 use Rattle.message_core.specs.Reply.{bytes_of, unavailable}
 use Rattle.message_core.specs.declared.fault.WireFault.{WireFault}
 use Rattle.message_core.specs.declared.message.Message.{Message}
-use Rattle.route_core.specs.Commands.{command_of}
-use Rattle.route_core.specs.Places.{methods_of, place_of}
+use Rattle.route_core.specs.Commands.{command_of, methods_of}
 use Rattle.route_core.specs.declared.fault.CommandFault.{CommandFault}
 use Rattle.service_core.specs.TableSteps.{IsStep, LeadsOn, ask_by}
 use Rattle.wire_core.specs.Replies.{fault_reply, is_head, outcome_reply, stream_reply}
@@ -31,8 +29,8 @@ IsDone settings ask head_only old bytes new =
 abbrev pub CommandSteps : Settings → ℕ → Message → Result (List ℕ × Command) CommandFault → Desk
     → List ℕ → Desk → Type 0
 CommandSteps settings at message (Err fault) old bytes new =
-    (bytes ≡ bytes_of (fault_reply (is_head message)
-    (option_map methods_of (place_of message.target)) fault)) × (new ≡ old)
+    (bytes ≡ bytes_of (fault_reply (is_head message) (methods_of message.target) fault))
+    × (new ≡ old)
 CommandSteps settings at message (Ok asked) old bytes new =
     IsDone settings (ask_by at asked.0 asked.1) (is_head message) old bytes new
 

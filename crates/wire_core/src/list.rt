@@ -6,6 +6,7 @@ ghost use Rattle.wire_core.specs.Runs.{RepliesOn, RunsMessagesOn, all_replied, a
 
 use crate::fault::ServeFault;
 use crate::serve::answer;
+use route_core::Routes;
 use service_core::Desk;
 use std::alloc::{AllocError, Global};
 use store_core::Backend;
@@ -31,8 +32,10 @@ pub fn serve_list<S: Backend>(
     ensures same { settings_of S.Store desk.new ≡ settings_of S.Store desk.old }
 {
     let mut replies = Vec::with_capacity(alloc, messages.len())?;
+    let router = Routes::new(alloc).ok();
+    let routes = router.as_ref();
     for message in messages {
-        let reply = serve_bytes(alloc, message.0, message.1.as_slice(), desk);
+        let reply = serve_bytes(alloc, routes, message.0, message.1.as_slice(), desk);
         replies.push(reply).unwrap();
     }
     Ok(replies)
@@ -41,6 +44,7 @@ pub fn serve_list<S: Backend>(
 /// Serves the message with which these bytes begin.
 fn serve_bytes<S: Backend>(
     alloc: Global,
+    routes: Option<&Routes>,
     moment: u32,
     bytes: &[u8],
     desk: &mut Desk<S>,
@@ -53,7 +57,7 @@ fn serve_bytes<S: Backend>(
 {
     let mut stream = bytes;
     let mut reader = CountedReader::new(&mut stream);
-    match answer(alloc, &mut reader, moment, desk) {
+    match answer(alloc, routes, &mut reader, moment, desk) {
         Ok(reply) => Ok(reply),
         Err(_) => Err(ServeFault::NoMemory),
     }

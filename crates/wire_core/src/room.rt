@@ -1,19 +1,18 @@
 //! Replies are put into room that was had before.
-ghost use Rattle.std.specs.Prelude.{◌≡◌, ◌≢◌, ◌≤◌, [], true, false, None, Some, IfErr, OnErr, OnOk};
-ghost use Rattle.std.specs.Prelude.{length};
+ghost use Rattle.std.specs.Prelude.{◌≡◌, ◌≢◌, ◌≤◌, [], true, false, IfErr, OnErr, OnOk};
+ghost use Rattle.std.specs.Prelude.{is_some, length};
 ghost use Rattle.std.specs.Vec.{vec_capacity};
 ghost use Rattle.desk_model.specs.Refusals.{names_its_right};
 ghost use Rattle.desk_texts.specs.Short.{is_short};
 ghost use Rattle.message_core.specs.Reply as form;
 ghost use Rattle.message_core.specs.Reply.{IsReply, bytes_of};
-ghost use Rattle.route_core.specs.Places as places;
 ghost use Rattle.wire_core.specs.Replies as replies;
 ghost use Rattle.wire_core.specs.Replies.{TellsFault};
 
 use crate::replies::{fault_reply, outcome_reply, stream_reply};
 use desk_core::{Answer, Refusal};
-use message_core::{Reply, WireFault, answer_bytes, put_reply, unavailable_reply};
-use route_core::{CommandFault, Place};
+use message_core::{Allow, Reply, WireFault, answer_bytes, put_reply, unavailable_reply};
+use route_core::CommandFault;
 use service_core::text_in_room;
 use std::alloc::{AllocError, Global};
 
@@ -46,43 +45,26 @@ pub(crate) fn put_outcome(
     }
 }
 
-/// Puts the reply to a message whose path leads nowhere into the room.
-pub(crate) fn put_no_route(
-    alloc: Global,
-    head_only: bool,
-    room: &mut Vec<u8>,
-) -> Result<(), AllocError>
-    requires empty { room.old.items ≡ [] }
-    requires room { 512 ≤ vec_capacity room.old }
-    ensures ok { OnOk result (room.new.items
-        ≡ bytes_of (replies.fault_reply head_only None CommandFault.NoRoute)) }
-    ensures err { OnErr result (room.new ≡ room.old) }
-{
-    match fault_reply(alloc, head_only, None, CommandFault::NoRoute) {
-        Ok(reply) => put(alloc, &reply, room),
-        Err(_) => Err(AllocError),
-    }
-}
-
-/// Puts the reply to a message that asks for no command at its place into the room.
+/// Puts the reply to a message that asks for no command into the room; its path has these methods.
 pub(crate) fn put_fault(
     alloc: Global,
     head_only: bool,
-    place: Place,
+    methods: Option<Allow>,
     fault: CommandFault,
     room: &mut Vec<u8>,
 ) -> Result<(), AllocError>
+    requires told { fault ≡ CommandFault.BadMethod → is_some methods ≡ true }
     requires empty { room.old.items ≡ [] }
     requires room { 512 ≤ vec_capacity room.old }
     ensures memory { OnOk result (fault ≢ CommandFault.NoMemory) }
     ensures ok { OnOk result (room.new.items
-        ≡ bytes_of (replies.fault_reply head_only (Some (places.methods_of place)) fault)) }
+        ≡ bytes_of (replies.fault_reply head_only methods fault)) }
     ensures err { OnErr result (room.new ≡ room.old) }
 {
     if fault == CommandFault::NoMemory {
         return Err(AllocError);
     }
-    match fault_reply(alloc, head_only, Some(place.methods()), fault) {
+    match fault_reply(alloc, head_only, methods, fault) {
         Ok(reply) => put(alloc, &reply, room),
         Err(_) => Err(AllocError),
     }

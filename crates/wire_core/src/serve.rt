@@ -12,6 +12,7 @@ use crate::fault::ServeFault;
 use crate::room::{SHORT_REPLY, put_stream_fault};
 use crate::step::answer_message;
 use message_core::{WireFault, read_message_counted, unavailable_reply};
+use route_core::Routes;
 use service_core::Desk;
 use std::alloc::Global;
 use std::io::{Read, Write};
@@ -45,9 +46,31 @@ pub fn serve_one<R: Read, W: Write, S: Backend>(
     ensures lasts { Lasts (tables_of S.Store desk.old) (tables_of S.Store desk.new) }
     ensures same { settings_of S.Store desk.new ≡ settings_of S.Store desk.old }
 {
+    serve_one_by(alloc, None, reader, writer, moment, desk)
+}
+
+/// The same by a router, if there is one, as `serve_one` without: a server has it made once.
+pub fn serve_one_by<R: Read, W: Write, S: Backend>(
+    alloc: Global,
+    routes: Option<&Routes>,
+    reader: &mut R,
+    writer: &mut W,
+    moment: u32,
+    desk: &mut Desk<S>,
+) -> Result<(), ServeFault>
+    ensures served { IsServed (settings_of S.Store desk.old) moment
+        (R.remaining reader.old) (R.remaining reader.new)
+        (W.contents writer.old) (W.contents writer.new) result
+        (tables_of S.Store desk.old) (tables_of S.Store desk.new) }
+    ensures untouched { result ≡ Err ServeFault.Read → desk.new ≡ desk.old }
+    ensures taken { ConsumesAtMost (R.remaining reader.old) (R.remaining reader.new) 73728 }
+    ensures honest { WasClean (tables_of S.Store desk.old) (tables_of S.Store desk.new) }
+    ensures lasts { Lasts (tables_of S.Store desk.old) (tables_of S.Store desk.new) }
+    ensures same { settings_of S.Store desk.new ≡ settings_of S.Store desk.old }
+{
     let mut reader = CountedReader::new(reader);
     let mut output = CountedWriter::new(writer);
-    match answer(alloc, &mut reader, moment, desk) {
+    match answer(alloc, routes, &mut reader, moment, desk) {
         Ok(bytes) => send(&mut output, bytes.as_slice()),
         Err(ServeFault::NoMemory) => send(&mut output, unavailable_reply(false)),
         Err(fault) => Err(fault),
@@ -75,6 +98,7 @@ fn send<W: Write>(output: &mut CountedWriter<'_, W>, bytes: &[u8]) -> Result<(),
 #[tactic(auto, using(store_tables::proofs::Lasting::same))]
 pub(crate) fn answer<R: Read, S: Backend>(
     alloc: Global,
+    routes: Option<&Routes>,
     reader: &mut CountedReader<'_, R>,
     moment: u32,
     desk: &mut Desk<S>,
@@ -96,7 +120,7 @@ pub(crate) fn answer<R: Read, S: Backend>(
     };
     match read_message_counted(alloc, reader) {
         Ok(message) => {
-            answer_message(alloc, &message, moment, desk, &mut room);
+            answer_message(alloc, routes, &message, moment, desk, &mut room);
             Ok(room)
         }
         Err(WireFault::Read) => Err(ServeFault::Read),

@@ -2,14 +2,13 @@
 //!
 //! What owns much is given back by `drop`, whose proof stands once; at the end of its scope it
 //! would be taken apart for each function's own proof.
-ghost use Rattle.std.specs.Prelude.{◌≡◌, ◌≢◌, ◌≤◌, [], true, false, None, Some, IfErr, OnErr, OnOk};
+ghost use Rattle.std.specs.Prelude.{◌≡◌, ◌≢◌, ◌≤◌, [], true, false, IfErr, OnErr, OnOk};
 ghost use Rattle.std.specs.Prelude.{length};
 ghost use Rattle.std.specs.Vec.{vec_capacity, vec_len};
 ghost use Rattle.desk_model.specs.Refusals.{names_its_right};
 ghost use Rattle.desk_texts.specs.Short.{is_short};
 ghost use Rattle.message_core.specs.Reply.{IsReply, bytes_of};
 ghost use Rattle.route_core.specs.Commands as commands;
-ghost use Rattle.route_core.specs.Places as places;
 ghost use Rattle.service_core.specs.Seen.{settings_of, tables_of};
 ghost use Rattle.service_core.specs.TableSteps.{ask_by};
 ghost use Rattle.store_tables.specs.Calls.{Lasts, WasClean};
@@ -17,10 +16,10 @@ ghost use Rattle.wire_core.specs.Replies as replies;
 ghost use Rattle.wire_core.specs.Steps.{CommandStepsOn, IsDoneOn, MessageStepsOn, StaysOn};
 
 use crate::replies::is_head;
-use crate::room::{put_fault, put_no_route, put_outcome, put_unavailable};
+use crate::room::{put_fault, put_outcome, put_unavailable};
 use desk_core::Command;
 use message_core::Message;
-use route_core::{Place, command_at, place_of};
+use route_core::{Routes, command_by, methods_of};
 use service_core::{Desk, SHORT_TEXT};
 use std::alloc::{AllocError, Global};
 use store_core::Backend;
@@ -29,6 +28,7 @@ use store_core::Backend;
 /// nothing is done and the reply says so.
 pub(crate) fn answer_message<S: Backend>(
     alloc: Global,
+    routes: Option<&Routes>,
     message: &Message,
     moment: u32,
     desk: &mut Desk<S>,
@@ -42,7 +42,7 @@ pub(crate) fn answer_message<S: Backend>(
     ensures lasts { Lasts (tables_of S.Store desk.old) (tables_of S.Store desk.new) }
     ensures same { settings_of S.Store desk.new ≡ settings_of S.Store desk.old }
 {
-    match reply_to(alloc, message, moment, desk, room) {
+    match reply_to(alloc, routes, message, moment, desk, room) {
         Ok(()) => (),
         Err(_) => put_unavailable(is_head(message), room),
     }
@@ -53,6 +53,7 @@ pub(crate) fn answer_message<S: Backend>(
 #[tactic(auto, using(store_tables::proofs::Lasting::same))]
 fn reply_to<S: Backend>(
     alloc: Global,
+    routes: Option<&Routes>,
     message: &Message,
     at: u32,
     desk: &mut Desk<S>,
@@ -70,44 +71,17 @@ fn reply_to<S: Backend>(
     ensures lasts { Lasts (tables_of S.Store desk.old) (tables_of S.Store desk.new) }
     ensures same { settings_of S.Store desk.new ≡ settings_of S.Store desk.old }
 {
-    match place_of(alloc, message.target.as_slice()) {
-        Ok(Some(place)) => reply_at(alloc, place, message, at, desk, room),
-        Ok(None) => put_no_route(alloc, is_head(message), room),
-        Err(_) => Err(AllocError),
-    }
-}
-
-/// The same at the place to which the message's target leads.
-#[tactic(auto, using(store_tables::proofs::Lasting::same))]
-fn reply_at<S: Backend>(
-    alloc: Global,
-    place: Place,
-    message: &Message,
-    at: u32,
-    desk: &mut Desk<S>,
-    room: &mut Vec<u8>,
-) -> Result<(), AllocError>
-    requires place { places.place_of message.now.target ≡ Some place }
-    requires empty { room.old.items ≡ [] }
-    requires room { 512 ≤ vec_capacity room.old }
-    ensures ok { OnOk result (CommandStepsOn (settings_of S.Store desk.old) at message.now
-        (commands.command_at (settings_of S.Store desk.old) place message.now) room.new.items
-        (tables_of S.Store desk.old) (tables_of S.Store desk.new)) }
-    ensures err { OnErr result ((room.new ≡ room.old)
-        × StaysOn (settings_of S.Store desk.old)
-        (tables_of S.Store desk.old) (tables_of S.Store desk.new)) }
-    ensures honest { WasClean (tables_of S.Store desk.old) (tables_of S.Store desk.new) }
-    ensures lasts { Lasts (tables_of S.Store desk.old) (tables_of S.Store desk.new) }
-    ensures same { settings_of S.Store desk.new ≡ settings_of S.Store desk.old }
-{
     let head_only = is_head(message);
-    match command_at(alloc, desk.settings(), place, message) {
+    match command_by(alloc, routes, desk.settings(), message) {
         Ok((caller, command)) => {
             let replied = do_command(alloc, at, caller.as_str(), &command, head_only, desk, room);
             drop(command);
             replied
         }
-        Err(fault) => put_fault(alloc, head_only, place, fault, room),
+        Err(fault) => {
+            let methods = methods_of(message.target.as_slice());
+            put_fault(alloc, head_only, methods, fault, room)
+        }
     }
 }
 

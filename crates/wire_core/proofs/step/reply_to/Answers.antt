@@ -1,24 +1,42 @@
--- the place of a message is found, or there is none
-use Rattle.std.proofs.Common.{◌≡◌, None, rules}
+-- what the message asks for, or its fault
+use Rattle.std.proofs.Common.{◌≡◌, ◌∙◌, ℕ, Ok, Err, List, Option, Result, ap, is_some, rules, subst}
 use Rattle.std.proofs.lemmas.Result.{on_ok_weaker}
-use Rattle.route_core.specs.Places.{place_of}
+use Rattle.desk_model.specs.declared.command.Command.{Command}
+use Rattle.route_core.specs.Commands.{command_of, methods_of}
+use Rattle.route_core.specs.declared.fault.CommandFault.{CommandFault}
 use Rattle.service_core.specs.Seen.{settings_of, tables_of}
-use Rattle.wire_core.proofs.Stepping.{at_place, nowhere}
+use Rattle.wire_core.specs.Steps.{CommandStepsOn}
+use Rattle.wire_core.proofs.Stepping.{has_others, told_without_memory}
 use Rattle.wire_core.proofs.step.reply_to.Goals as goal
 
-pub returns-in-Ok-Some-clause-ok : goal.returns-in-Ok-Some-clause-ok
-returns-in-Ok-Some-clause-ok g c =
-    on_ok_weaker c.reply_at.result
-    (λ steps. at_place (settings_of g.S.Store c.args.desk.now) c.args.at c.args.message.now
-    c.in-Ok-Some.place c.reply_at.new.room.items (tables_of g.S.Store c.args.desk.now)
-    (tables_of g.S.Store c.reply_at.new.desk) (search rules) steps)
-    c.reply_at.ensures.ok
+pub returns-in-Ok-clause-ok : goal.returns-in-Ok-clause-ok
+returns-in-Ok-clause-ok g c =
+    let settings = settings_of g.S.Store c.args.desk.now in
+    let asked :
+    Ok (c.as_str.result.now, c.in-Ok.command) ≡ command_of settings c.args.message.now =
+    search rules in
+    on_ok_weaker c.do_command-replied.result
+    (λ done. subst (λ (a : Result (List ℕ × Command) CommandFault). CommandStepsOn settings c.args.at
+    c.args.message.now a c.do_command-replied.new.room.items
+    (tables_of g.S.Store c.args.desk.now) (tables_of g.S.Store c.do_command-replied.new.desk))
+    asked (rw c.is_head-head_only.ensures at done))
+    c.do_command-replied.ensures.ok
 
-pub returns-in-Ok-None-clause-ok : goal.returns-in-Ok-None-clause-ok
-returns-in-Ok-None-clause-ok g c =
-    let unplaced : place_of c.args.message.now.target ≡ None = search rules in
-    on_ok_weaker c.put_no_route.result
-    (λ told. nowhere (settings_of g.S.Store c.args.desk.now) c.args.at c.args.message.now
-    c.put_no_route.new.room.items (tables_of g.S.Store c.args.desk.now) unplaced
-    (rw c.is_head.ensures at told))
-    c.put_no_route.ensures.ok
+pub put_fault-requires-clause-told : goal.put_fault-requires-clause-told
+put_fault-requires-clause-told g c bad =
+    let is = rw c.settings.ensures at (rw c.in-Err.fault-is at c.in-Err.ensures.err) in
+    let at_path : c.methods_of-methods.result ≡ methods_of c.args.message.now.target =
+    search rules in
+    ap is_some at_path
+    ∙ has_others (settings_of g.S.Store c.args.desk.now) c.args.message.now
+    (is (λ none. cc) ∙ ap Err bad)
+
+pub returns-in-Err-clause-ok : goal.returns-in-Err-clause-ok
+returns-in-Err-clause-ok g c =
+    let is = rw c.settings.ensures at (rw c.in-Err.fault-is at c.in-Err.ensures.err) in
+    let at_path : c.methods_of-methods.result ≡ methods_of c.args.message.now.target =
+    search rules in
+    told_without_memory (settings_of g.S.Store c.args.desk.now) c.args.at c.args.message.now
+    c.in-Err.fault c.is_head-head_only.result c.methods_of-methods.result c.put_fault.result
+    c.put_fault.new.room.items (tables_of g.S.Store c.args.desk.now)
+    c.is_head-head_only.ensures at_path is c.put_fault.ensures.memory c.put_fault.ensures.ok

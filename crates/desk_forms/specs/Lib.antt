@@ -1,0 +1,14 @@
+pub use Rattle.text_core.specs.Form
+pub mod Asked
+pub mod Fields
+pub mod Keys
+pub mod Kinds
+pub mod Laws
+pub mod Links
+pub mod Number
+pub mod Paths
+pub mod Roles
+pub mod Sheet
+pub mod Table
+pub mod Values
+pub mod Words
