@@ -1,0 +1,5 @@
+pub mod OnceLemmas
+pub mod PlaceLemmas
+pub mod ServedLemmas
+pub mod StreamLemmas
+pub mod TurnLemmas

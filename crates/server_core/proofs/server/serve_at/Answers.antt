@@ -1,0 +1,26 @@
+-- one turn more
+use Rattle.std.proofs.Common.{◌+◌, arith, length}
+use Rattle.server_core.specs.Places.{conns}
+use Rattle.server_core.proofs.ServedLemmas.{served_at, serves_on}
+use Rattle.server_core.proofs.server.serve_at.Goals as goal
+
+pub loop-turn-preserved : goal.loop-turn-preserved
+loop-turn-preserved g c = record {
+  far = serves_on g.D.Framing.stated g.D.Desk.Steps (length c.args.slots.now) c.args.desk.now
+      c.loop-turn.desk c.go_on-answered.new.desk (conns c.loop-turn.slots)
+      (conns c.go_on-answered.new.slots) c.loop-turn.answered c.go_on-answered.result
+      c.loop-turn.invariant.far c.go_on-answered.ensures.served;
+  most = omega (arith, c.loop-turn.invariant.most, c.go_on-answered.ensures.most, c.left_for-left.ensures);
+}
+
+pub returns-in-Some : goal.returns-in-Some
+returns-in-Some g c =
+    served_at g.D.Framing.stated g.D.Desk.Steps (length c.args.slots.now) c.args.most
+    c.args.desk.now c.go_on-answered.new.desk (conns c.go_on-answered.new.slots)
+    (c.loop-turn.answered + c.go_on-answered.result) c.in-Some.ending
+    (serves_on g.D.Framing.stated g.D.Desk.Steps (length c.args.slots.now) c.args.desk.now
+    c.loop-turn.desk c.go_on-answered.new.desk (conns c.loop-turn.slots)
+    (conns c.go_on-answered.new.slots) c.loop-turn.answered c.go_on-answered.result
+    c.loop-turn.invariant.far c.go_on-answered.ensures.served)
+    (c.in-Some.ensures
+    (omega (arith, c.loop-turn.invariant.most, c.go_on-answered.ensures.most, c.left_for-left.ensures)))

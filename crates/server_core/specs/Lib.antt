@@ -1,0 +1,4 @@
+pub mod AtPlace
+pub mod Places
+pub mod Served
+pub mod Turns

@@ -1,0 +1,88 @@
+-- What a server does, over all its turns.
+use Rattle.std.specs.Prelude.{◌≡◌, ◌≤◌, ◌<◌, ℕ, Bool, true, false, List, [], ◌∷◌, ◌++◌, Option, length}
+use Rattle.std.specs.Prelude.{get_or, set, replicate}
+use Rattle.connection_core.specs.Machine.{Conn, closed, opened}
+use Rattle.connection_core.specs.declared.phase.Phase.{Phase}
+use Rattle.connection_core.specs.declared.phase.Phase.TheVariants.{Reading, Ready, Writing}
+use Rattle.connection_core.specs.declared.phase.Phase.TheVariants.{Lingering, Closed}
+use Rattle.server_core.specs.Places.{TurnsOf}
+use Rattle.server_core.specs.Turns.{Answered, TakeTurns, somes}
+use Rattle.server_core.specs.declared.ending.Ending.{Ending}
+use Rattle.server_core.specs.declared.ending.Ending.TheVariants.{Counted, Network, Shut}
+
+-- its place may be given to another connection: it is free, or its message isn't whole
+abbrev pub gives_way : Phase → Bool
+gives_way Closed = true
+gives_way (Reading part) = true
+gives_way Ready = false
+gives_way Writing = false
+gives_way Lingering = false
+
+-- a connection was accepted at each of these places in turn, at its moment
+abbrev pub Admits : List (ℕ × ℕ) → List Conn → List Conn → Type 0
+Admits [] old new = new ≡ old
+Admits (a ∷ rest) old new =
+    (a.0 < length old) × (gives_way (get_or old a.0 closed).phase ≡ true)
+    × Admits rest (set old a.0 (opened a.1)) new
+
+-- what a server does
+pub data Act : Type 0 where
+  -- it accepts connections at these places, each at its moment
+  Admit : List (ℕ × ℕ) → Act
+  -- each connection has its turn, in which these messages are answered
+  Turn : List (Option Answered) → Act
+
+abbrev pub DoesAct : {D : Type 0} → (List ℕ → ℕ) → (D → ℕ → List ℕ → List ℕ → D → Type 0) → Act
+    → List Conn → D → List Conn → D → Type 0
+DoesAct stated Steps (Admit places) olds desk news next = Admits places olds news × (next ≡ desk)
+DoesAct stated Steps (Turn ms) olds desk news next = TakeTurns stated Steps ms olds desk news next
+
+-- it does these, one after the other
+abbrev pub Serves : {D : Type 0} → (List ℕ → ℕ) → (D → ℕ → List ℕ → List ℕ → D → Type 0)
+    → List Act → List Conn → D → List Conn → D → Type 0
+Serves stated Steps [] olds desk news next = (news ≡ olds) × (next ≡ desk)
+Serves {D} stated Steps (a ∷ acts) olds desk news next =
+    (mids : List Conn) × (mid : D) × DoesAct stated Steps a olds desk mids mid
+    × Serves stated Steps acts mids mid news next
+
+-- the messages that were answered, in their order
+abbrev pub answers : List Act → List Answered
+answers [] = []
+answers (Admit places ∷ acts) = answers acts
+answers (Turn ms ∷ acts) = somes ms ++ answers acts
+
+-- a server of so many places that began with no connection has answered so many messages
+abbrev pub ServesFrom : {D : Type 0} → (List ℕ → ℕ) → (D → ℕ → List ℕ → List ℕ → D → Type 0)
+    → ℕ → D → List Conn → D → ℕ → Type 0
+ServesFrom stated Steps places desk news next count =
+    (acts : List Act) × Serves stated Steps acts (replicate places closed) desk news next
+    × (length (answers acts) ≡ count)
+
+-- connections are accepted, and then each has its turn, in which so many messages are answered
+abbrev pub GoesOn : {D : Type 0} → (List ℕ → ℕ) → (D → ℕ → List ℕ → List ℕ → D → Type 0)
+    → List Conn → D → List Conn → D → ℕ → Type 0
+GoesOn stated Steps olds desk news next count =
+    (mids : List Conn) × ((places : List (ℕ × ℕ)) × Admits places olds mids)
+    × TurnsOf stated Steps mids desk news next count
+
+-- it ends by its count exactly where it has answered as many messages as it was to
+abbrev pub EndsAt : Ending → ℕ → ℕ → Type 0
+EndsAt Counted most count = count ≡ most
+EndsAt Network most count = count ≤ most
+EndsAt Shut most count = count < most
+
+-- what a server of so many places, which answers at most so many messages, has done when it ends
+abbrev pub IsServed : {D : Type 0} → (List ℕ → ℕ) → (D → ℕ → List ℕ → List ℕ → D → Type 0)
+    → ℕ → ℕ → D → Ending → D → Type 0
+IsServed stated Steps places most desk ending next =
+    (news : List Conn) × (count : ℕ) × ServesFrom stated Steps places desk news next count
+    × EndsAt ending most count
+
+-- ---- the desk alone
+
+-- the desk makes the steps of these messages, one after the other
+abbrev pub Runs : {D : Type 0} → (D → ℕ → List ℕ → List ℕ → D → Type 0) → List Answered → D → D
+    → Type 0
+Runs Steps [] desk next = next ≡ desk
+Runs {D} Steps (a ∷ rest) desk next =
+    (mid : D) × Steps desk a.at a.message a.reply mid × Runs Steps rest mid next

@@ -1,0 +1,10 @@
+-- what it has done is a run of messages
+use Rattle.service_core.specs.Seen.{settings_of, tables_of}
+use Rattle.web_core.proofs.RunLemmas.{served_messages}
+use Rattle.web_core.proofs.serve_all.serve_web.Goals as goal
+
+pub returns-clause-ok : goal.returns-clause-ok
+returns-clause-ok g c =
+    served_messages (λ d. settings_of g.S.Store d.desk) (λ d. tables_of g.S.Store d.desk) _
+    c.run_law.ensures c.args.places c.args.most c.args.desk.now c.serve.new.desk c.serve.result
+    c.serve.ensures.ok

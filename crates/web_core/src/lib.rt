@@ -1,0 +1,9 @@
+//! A desk over tables, as a server of many connections sees it.
+#![tactic(auto)]
+
+mod framing;
+mod serve_all;
+mod web;
+
+pub use serve_all::serve_web;
+pub use web::WebDesk;
