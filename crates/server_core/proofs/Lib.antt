@@ -1,3 +1,4 @@
+pub mod HeldLemmas
 pub mod OnceLemmas
 pub mod PlaceLemmas
 pub mod ServedLemmas

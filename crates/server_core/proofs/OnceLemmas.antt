@@ -7,7 +7,7 @@ use Rattle.connection_core.specs.Laws.{is_over}
 use Rattle.connection_core.proofs.ConnectionLemmas.{over_stays}
 use Rattle.server_core.specs.AtPlace.{IsNotAmong, KeepsPlace, answered_at, answers_at, counts}
 use Rattle.server_core.specs.Served.{Act, Admit, Admits, Serves, Turn}
-use Rattle.server_core.specs.Turns.{Answered, Moves, TakesTurn, TakeTurns}
+use Rattle.server_core.specs.Turns.{Answered, Moves, TakesTurn, TakeTurns, at_minute}
 
 abbrev over_at : ℕ → List Conn → Bool
 over_at place cs = is_over (get_or cs place closed).phase
@@ -69,30 +69,30 @@ one_at_most n more mid (inr (one, is)) over few =
     let none = over is in omega (arith, one, none)
 
 once_all : {D : Type 0} (stated : List ℕ → ℕ) (Steps : D → ℕ → List ℕ → List ℕ → D → Type 0)
-    (place : ℕ) (acts : List Act) (olds news : List Conn) (d e : D)
-    → Serves stated Steps acts olds d news e → KeepsPlace place acts
+    (shuts : D → Bool) (place : ℕ) (acts : List Act) (olds news : List Conn) (d e : D)
+    → Serves stated Steps shuts acts olds d news e → KeepsPlace place acts
     → (over_at place olds ≡ true → answers_at place acts ≡ 0) × (answers_at place acts ≤ 1)
-once_all stated Steps place [] olds news d e serves keeps = (λ over. refl, omega arith)
-once_all stated Steps place (Admit ps ∷ acts) olds news d e (mids, mid, first, rest)
+once_all stated Steps shuts place [] olds news d e serves keeps = (λ over. refl, omega arith)
+once_all stated Steps shuts place (Admit ps ∷ acts) olds news d e (mids, mid, first, rest)
     (other, keeps) =
-    let then = once_all stated Steps place acts mids news mid e rest keeps in
+    let then = once_all stated Steps shuts place acts mids news mid e rest keeps in
     let same = other_admits place ps olds mids first.0 other in
     (λ over. then.0 (same ∙ over), then.1)
-once_all stated Steps place (Turn ms ∷ acts) olds news d e (mids, mid, first, rest) keeps =
-    let then = once_all stated Steps place acts mids news mid e rest keeps in
-    let turn = once_turn stated Steps place ms olds mids d mid first in (
+once_all stated Steps shuts place (Turn now minute ms ∷ acts) olds news d e (mids, mid, first, rest) keeps =
+    let then = once_all stated Steps shuts place acts mids news mid e rest keeps in
+    let turn = once_turn stated (at_minute minute Steps) place ms olds mids d mid first.0 in (
       λ over.
-          let now = turn.0 over in
-          let none = now.0 in
-          let later = then.0 now.1 in
+          let this = turn.0 over in
+          let none = this.0 in
+          let later = then.0 this.1 in
           omega (arith, none, later),
       one_at_most (answered_at place ms) (answers_at place acts) (over_at place mids) turn.1 then.0
           then.1,
     )
 
 pub once_at : {D : Type 0} (stated : List ℕ → ℕ) (Steps : D → ℕ → List ℕ → List ℕ → D → Type 0)
-    (place : ℕ) (acts : List Act) (olds news : List Conn) (d e : D)
-    → Serves stated Steps acts olds d news e → KeepsPlace place acts
+    (shuts : D → Bool) (place : ℕ) (acts : List Act) (olds news : List Conn) (d e : D)
+    → Serves stated Steps shuts acts olds d news e → KeepsPlace place acts
     → answers_at place acts ≤ 1
-once_at stated Steps place acts olds news d e serves keeps =
-    (once_all stated Steps place acts olds news d e serves keeps).1
+once_at stated Steps shuts place acts olds news d e serves keeps =
+    (once_all stated Steps shuts place acts olds news d e serves keeps).1

@@ -10,7 +10,7 @@ use Rattle.server_core.specs.Turns.{Answered, IsInTime, Moves, Reads, TakesTurn,
 
 -- ---- events, one after the other
 
-afters_both : (stated : List ℕ → ℕ) (c : Conn) (xs ys : List Event)
+pub afters_both : (stated : List ℕ → ℕ) (c : Conn) (xs ys : List Event)
     → afters stated (afters stated c xs) ys ≡ afters stated c (xs ++ ys)
 afters_both stated c [] ys = refl
 afters_both stated c (x ∷ xs) ys = afters_both stated (after stated c x) xs ys

@@ -17,7 +17,7 @@ answered_at (suc place) (m ∷ ms) = answered_at place ms
 abbrev pub answers_at : ℕ → List Act → ℕ
 answers_at place [] = 0
 answers_at place (Admit places ∷ acts) = answers_at place acts
-answers_at place (Turn ms ∷ acts) = answered_at place ms + answers_at place acts
+answers_at place (Turn now minute ms ∷ acts) = answered_at place ms + answers_at place acts
 
 abbrev pub IsNotAmong : ℕ → List (ℕ × ℕ) → Type 0
 IsNotAmong place [] = ⊤
@@ -27,4 +27,4 @@ IsNotAmong place (p ∷ ps) = (p.0 ≢ place) × IsNotAmong place ps
 abbrev pub KeepsPlace : ℕ → List Act → Type 0
 KeepsPlace place [] = ⊤
 KeepsPlace place (Admit places ∷ acts) = IsNotAmong place places × KeepsPlace place acts
-KeepsPlace place (Turn ms ∷ acts) = KeepsPlace place acts
+KeepsPlace place (Turn now minute ms ∷ acts) = KeepsPlace place acts

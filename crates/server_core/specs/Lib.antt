@@ -1,4 +1,5 @@
 pub mod AtPlace
+pub mod Held
 pub mod Places
 pub mod Served
 pub mod Turns

@@ -5,10 +5,10 @@ use Rattle.connection_core.specs.Machine.{Conn, closed, opened}
 use Rattle.connection_core.specs.declared.phase.Phase.{Phase}
 use Rattle.connection_core.specs.declared.phase.Phase.TheVariants.{Reading, Ready, Writing}
 use Rattle.connection_core.specs.declared.phase.Phase.TheVariants.{Lingering, Closed}
-use Rattle.server_core.specs.Places.{TurnsOf}
-use Rattle.server_core.specs.Turns.{Answered, TakeTurns, somes}
+use Rattle.server_core.specs.Places.{Each, TurnsOf}
+use Rattle.server_core.specs.Turns.{Answered, IsInTime, TakeTurns, at_minute, somes}
 use Rattle.server_core.specs.declared.ending.Ending.{Ending}
-use Rattle.server_core.specs.declared.ending.Ending.TheVariants.{Counted, Network, Shut}
+use Rattle.server_core.specs.declared.ending.Ending.TheVariants.{Counted, Network, Shut, Spent}
 
 -- its place may be given to another connection: it is free, or its message isn't whole
 abbrev pub gives_way : Phase → Bool
@@ -29,54 +29,64 @@ Admits (a ∷ rest) old new =
 pub data Act : Type 0 where
   -- it accepts connections at these places, each at its moment
   Admit : List (ℕ × ℕ) → Act
-  -- each connection has its turn, in which these messages are answered
-  Turn : List (Option Answered) → Act
+  -- each connection has its turn at this moment and this minute, and these messages are answered
+  Turn : ℕ → ℕ → List (Option Answered) → Act
 
-abbrev pub DoesAct : {D : Type 0} → (List ℕ → ℕ) → (D → ℕ → List ℕ → List ℕ → D → Type 0) → Act
-    → List Conn → D → List Conn → D → Type 0
-DoesAct stated Steps (Admit places) olds desk news next = Admits places olds news × (next ≡ desk)
-DoesAct stated Steps (Turn ms) olds desk news next = TakeTurns stated Steps ms olds desk news next
+-- After a turn no connection is left whose deadline has come. A desk that was shut answers none.
+abbrev pub DoesAct : {D : Type 0} → (List ℕ → ℕ) → (D → ℕ → List ℕ → List ℕ → D → Type 0)
+    → (D → Bool) → Act → List Conn → D → List Conn → D → Type 0
+DoesAct stated Steps shuts (Admit places) olds desk news next =
+    Admits places olds news × (next ≡ desk)
+DoesAct stated Steps shuts (Turn now minute ms) olds desk news next =
+    TakeTurns stated (at_minute minute Steps) ms olds desk news next
+    × Each (IsInTime now) news
+    × (shuts desk ≡ true → length (somes ms) ≡ 0)
 
 -- it does these, one after the other
 abbrev pub Serves : {D : Type 0} → (List ℕ → ℕ) → (D → ℕ → List ℕ → List ℕ → D → Type 0)
-    → List Act → List Conn → D → List Conn → D → Type 0
-Serves stated Steps [] olds desk news next = (news ≡ olds) × (next ≡ desk)
-Serves {D} stated Steps (a ∷ acts) olds desk news next =
-    (mids : List Conn) × (mid : D) × DoesAct stated Steps a olds desk mids mid
-    × Serves stated Steps acts mids mid news next
+    → (D → Bool) → List Act → List Conn → D → List Conn → D → Type 0
+Serves stated Steps shuts [] olds desk news next = (news ≡ olds) × (next ≡ desk)
+Serves {D} stated Steps shuts (a ∷ acts) olds desk news next =
+    (mids : List Conn) × (mid : D) × DoesAct stated Steps shuts a olds desk mids mid
+    × Serves stated Steps shuts acts mids mid news next
 
 -- the messages that were answered, in their order
 abbrev pub answers : List Act → List Answered
 answers [] = []
 answers (Admit places ∷ acts) = answers acts
-answers (Turn ms ∷ acts) = somes ms ++ answers acts
+answers (Turn now minute ms ∷ acts) = somes ms ++ answers acts
 
 -- a server of so many places that began with no connection has answered so many messages
 abbrev pub ServesFrom : {D : Type 0} → (List ℕ → ℕ) → (D → ℕ → List ℕ → List ℕ → D → Type 0)
-    → ℕ → D → List Conn → D → ℕ → Type 0
-ServesFrom stated Steps places desk news next count =
-    (acts : List Act) × Serves stated Steps acts (replicate places closed) desk news next
+    → (D → Bool) → ℕ → D → List Conn → D → ℕ → Type 0
+ServesFrom stated Steps shuts places desk news next count =
+    (acts : List Act) × Serves stated Steps shuts acts (replicate places closed) desk news next
     × (length (answers acts) ≡ count)
 
 -- connections are accepted, and then each has its turn, in which so many messages are answered
 abbrev pub GoesOn : {D : Type 0} → (List ℕ → ℕ) → (D → ℕ → List ℕ → List ℕ → D → Type 0)
-    → List Conn → D → List Conn → D → ℕ → Type 0
-GoesOn stated Steps olds desk news next count =
-    (mids : List Conn) × ((places : List (ℕ × ℕ)) × Admits places olds mids)
-    × TurnsOf stated Steps mids desk news next count
+    → (D → Bool) → List Conn → D → List Conn → D → ℕ → Type 0
+GoesOn stated Steps shuts olds desk news next count =
+    (mids : List Conn) × (now : ℕ) × (minute : ℕ)
+    × ((places : List (ℕ × ℕ)) × Admits places olds mids)
+    × TurnsOf stated (at_minute minute Steps) mids desk news next count
+    × Each (IsInTime now) news
+    × (shuts desk ≡ true → count ≡ 0)
 
--- it ends by its count exactly where it has answered as many messages as it was to
-abbrev pub EndsAt : Ending → ℕ → ℕ → Type 0
-EndsAt Counted most count = count ≡ most
-EndsAt Network most count = count ≤ most
-EndsAt Shut most count = count < most
+-- It ends by its count exactly where it has answered as many messages as it was to; for the
+-- network only where that has failed, and for the desk only where that is shut.
+abbrev pub EndsAt : Ending → ℕ → ℕ → Bool → Type 0 → Type 0
+EndsAt Counted most count shut Failed = count ≡ most
+EndsAt Network most count shut Failed = (count ≤ most) × Failed
+EndsAt Shut most count shut Failed = (count < most) × (shut ≡ true)
+EndsAt Spent most count shut Failed = count ≤ most
 
 -- what a server of so many places, which answers at most so many messages, has done when it ends
 abbrev pub IsServed : {D : Type 0} → (List ℕ → ℕ) → (D → ℕ → List ℕ → List ℕ → D → Type 0)
-    → ℕ → ℕ → D → Ending → D → Type 0
-IsServed stated Steps places most desk ending next =
-    (news : List Conn) × (count : ℕ) × ServesFrom stated Steps places desk news next count
-    × EndsAt ending most count
+    → (D → Bool) → Type 0 → ℕ → ℕ → D → Ending → D → Type 0
+IsServed stated Steps shuts Failed places most desk ending next =
+    (news : List Conn) × (count : ℕ) × ServesFrom stated Steps shuts places desk news next count
+    × EndsAt ending most count (shuts next) Failed
 
 -- ---- the desk alone
 

@@ -1,25 +1,13 @@
 -- What happens to connections and to the desk in a turn of the server.
-use Rattle.std.specs.Prelude.{◌≡◌, ◌<◌, ◌⊎◌, ℕ, List, [], ◌∷◌, ◌++◌, Option}
+use Rattle.std.specs.Prelude.{◌≡◌, ◌<◌, ◌⊎◌, ℕ, List, [], ◌∷◌, Option}
 use Rattle.std.specs.Prelude.{Some, None}
 use Rattle.std.specs.Io.KnownBytes.{Appends, Consumes}
-use Rattle.connection_core.specs.Machine.{Conn, Event, Came, Ended, Wrote, Broke, Passed, afters}
+use Rattle.connection_core.specs.Machine.{Conn, Event, afters}
 use Rattle.connection_core.specs.Machine.{answered}
-use Rattle.connection_core.specs.Laws.{written}
+use Rattle.connection_core.specs.Laws.{sent_by, written}
 use Rattle.connection_core.specs.declared.phase.Phase.TheVariants.{Ready, Closed}
 
 -- ---- one stream
-
--- the bytes that come in these events
-abbrev pub sent_in : Event → List ℕ
-sent_in (Came bytes) = bytes
-sent_in Ended = []
-sent_in (Wrote n now) = []
-sent_in Broke = []
-sent_in (Passed now) = []
-
-abbrev pub sent_by : List Event → List ℕ
-sent_by [] = []
-sent_by (e ∷ es) = sent_in e ++ sent_by es
 
 -- a connection moves by its own events
 abbrev pub Moves : (List ℕ → ℕ) → Conn → Conn → Type 0
@@ -53,6 +41,11 @@ TakesTurn stated Steps (Some a) old desk new next =
     (whole : Conn) × (now : ℕ) × Moves stated old whole × (whole.phase ≡ Ready)
     × (whole.came ≡ a.message) × Steps desk a.at a.message a.reply next
     × Moves stated (answered a.reply now) new
+
+-- the steps of this minute
+abbrev pub at_minute : {D : Type 0} → ℕ → (D → ℕ → List ℕ → List ℕ → D → Type 0)
+    → D → ℕ → List ℕ → List ℕ → D → Type 0
+at_minute minute Steps desk at message reply next = (at ≡ minute) × Steps desk at message reply next
 
 -- it is over, or its deadline hasn't come
 abbrev pub IsInTime : ℕ → Conn → Type 0

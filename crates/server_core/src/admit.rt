@@ -60,7 +60,8 @@ fn admit_one<H: Host>(
     marks: &mut [Mark],
 ) -> Queue
     requires { length slots.old ≤ length marks.old }
-    ensures { (places : List (ℕ × ℕ)) × Admits places (conns slots.old) (conns slots.new) }
+    ensures admits { (places : List (ℕ × ℕ)) × Admits places (conns slots.old) (conns slots.new) }
+    ensures known { result ≡ Queue.Unknown → H.has_failed host.new ≡ true }
 {
     let Some(place) = place_for(slots, now) else {
         return Queue::Full;
@@ -92,7 +93,8 @@ pub(crate) fn admit<H: Host>(
     marks: &mut [Mark],
 ) -> Queue
     requires { length slots.old ≤ length marks.old }
-    ensures { (places : List (ℕ × ℕ)) × Admits places (conns slots.old) (conns slots.new) }
+    ensures admits { (places : List (ℕ × ℕ)) × Admits places (conns slots.old) (conns slots.new) }
+    ensures known { result ≡ Queue.Unknown → H.has_failed host.new ≡ true }
 {
     for _connection in 0..AT_ONCE {
         match admit_one(alloc, host, now, slots, marks) {

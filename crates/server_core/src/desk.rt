@@ -1,8 +1,9 @@
 //! What answers messages.
-ghost use Rattle.std.specs.Prelude.{◌≡◌, ℕ, List, IfOk, OnErr};
+ghost use Rattle.std.specs.Prelude.{◌≡◌, ℕ, Bool, List};
+ghost use Rattle.connection_core.specs.Reply.{bytes_of};
 
-use connection_core::Framing;
-use std::alloc::{AllocError, Global};
+use connection_core::{Framing, Reply};
+use std::alloc::Global;
 
 /// What answers messages, one after the other.
 pub trait Desk: Framing {
@@ -10,11 +11,15 @@ pub trait Desk: Framing {
     // reply, and the desk after it.
     ghost Steps: { Self → ℕ → List ℕ → List ℕ → Self → Type 0 };
 
-    /// Answers a message at this minute. Where memory is refused nothing is done.
-    fn step(&mut self, alloc: Global, minute: u32, message: &[u8]) -> Result<Vec<u8>, AllocError>
-        ensures ok { IfOk result (λ reply. Self.Steps self.old minute message.now reply.items self.new) }
-        ensures err { OnErr result (self.new ≡ self.old) };
+    /// It can answer no message any more, so that the server has to be started again.
+    ghost shuts: { Self → Bool };
 
-    /// Whether it can answer no message any more, so that the server has to be started again.
-    fn is_shut(&self) -> bool;
+    /// Answers a message at this minute, since 1970-01-01 00:00 UTC. Where memory is refused the
+    /// reply says so.
+    fn step(&mut self, alloc: Global, minute: u32, message: &[u8]) -> Reply
+        ensures { Self.Steps self.old minute message.now (bytes_of result) self.new };
+
+    /// Whether it can answer no message any more.
+    fn is_shut(&self) -> bool
+        ensures { result ≡ Self.shuts self.now };
 }

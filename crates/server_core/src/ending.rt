@@ -5,8 +5,10 @@
 pub enum Ending {
     /// It has answered as many messages as it was to.
     Counted,
-    /// The network can't be used.
+    /// An accept or a wait has failed.
     Network,
     /// The desk can answer no message any more.
     Shut,
+    /// It has had 2^64 - 1 turns.
+    Spent,
 }

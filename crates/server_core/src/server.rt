@@ -1,5 +1,6 @@
 //! A server, over all its turns.
-ghost use Rattle.std.specs.Prelude.{◌≡◌, ◌≤◌, ◌<◌, ℕ, List, IfOk, IfSome, OnErr, length, replicate};
+ghost use Rattle.std.specs.Prelude.{◌≡◌, ◌≤◌, ◌<◌, true, ℕ, List, IfOk, IfSome, OnErr, length};
+ghost use Rattle.std.specs.Prelude.{replicate};
 ghost use Rattle.connection_core.specs.Machine.{closed};
 ghost use Rattle.server_core.specs.Places.{conns};
 ghost use Rattle.server_core.specs.Served.{Admits, EndsAt, GoesOn, IsServed};
@@ -25,10 +26,12 @@ const RETRY: u64 = 100;
 
 /// Serves connections, at most so many at once, until so many messages were answered.
 ///
-/// Each message is answered by a step of the desk, one after the other. A connection has ten seconds
-/// for its message and thirty for its reply; where there is no place for another one, that which has
-/// waited longest for its message is dropped. Once the count is reached, or the desk is shut, no
-/// further message is answered, and it ends when the replies have gone out.
+/// Each message is answered by a step of the desk, one after the other, at the minute of the turn in
+/// which it became whole. A connection has thirty seconds for its message and thirty for its reply;
+/// where there is no place for another one, that which has waited longest for its message is
+/// dropped. Once the count is reached, or the desk is shut, no further message is answered, and it
+/// ends when the replies have gone out. It ends by `Network` only where an accept or a wait has
+/// failed, and by `Shut` only where the desk is shut.
 ///
 /// `AllocError` where there is no memory for the places: then nothing is done.
 pub fn serve<H: Host, D: Desk>(
@@ -38,8 +41,8 @@ pub fn serve<H: Host, D: Desk>(
     places: usize,
     most: u64,
 ) -> Result<Ending, AllocError>
-    ensures ok { IfOk result (λ ending. IsServed D.stated D.Steps places most desk.old ending
-        desk.new) }
+    ensures ok { IfOk result (λ ending. IsServed D.stated D.Steps D.shuts
+        (H.has_failed host.new ≡ true) places most desk.old ending desk.new) }
     ensures err { OnErr result (desk.new ≡ desk.old) }
 {
     let mut slots = free_slots(alloc, places)?;
@@ -79,7 +82,8 @@ fn serve_at<H: Host, D: Desk>(
 ) -> Ending
     requires free { conns slots.old ≡ replicate (length slots.old) closed }
     requires marks { length slots.old ≤ length marks.old }
-    ensures { IsServed D.stated D.Steps (length slots.old) most desk.old result desk.new }
+    ensures { IsServed D.stated D.Steps D.shuts (H.has_failed host.new ≡ true) (length slots.old)
+        most desk.old result desk.new }
 {
     let mut answered = 0u64;
     let mut queue = Queue::More;
@@ -88,13 +92,12 @@ fn serve_at<H: Host, D: Desk>(
             return Ending::Network;
         };
         queue = waiting;
-        let left = left_for(desk, most - answered);
-        answered += go_on(alloc, host, desk, slots, marks, buffer, &mut queue, left);
+        answered += go_on(alloc, host, desk, slots, marks, buffer, &mut queue, most - answered);
         if let Some(ending) = ending_of(answered, most, desk.is_shut(), slots, queue) {
             return ending;
         }
     }
-    Ending::Network
+    Ending::Spent
 }
 
 /// Waits until there is something to do. Whether further connections wait.
@@ -103,7 +106,9 @@ fn wait<H: Host>(
     slots: &[Slot<H::Stream>],
     marks: &mut [Mark],
     queue: Queue,
-) -> Result<Queue, NetFault> {
+) -> Result<Queue, NetFault>
+    ensures { OnErr result (H.has_failed host.new ≡ true) }
+{
     let now = host.micros() / 1000;
     let pause = pause_of(slots, marks, queue, now);
     if host.wait(pause, marks)? {
@@ -115,7 +120,8 @@ fn wait<H: Host>(
 
 /// How many further messages may be answered: none, where the desk is shut.
 fn left_for<D: Desk>(desk: &D, left: u64) -> u64
-    ensures { result ≤ left }
+    ensures most { result ≤ left }
+    ensures shut { D.shuts desk.now ≡ true → result ≡ 0 }
 {
     if desk.is_shut() { 0 } else { left }
 }
@@ -133,10 +139,12 @@ fn go_on<H: Host, D: Desk>(
     left: u64,
 ) -> u64
     requires { length slots.old ≤ length marks.old }
-    ensures served { GoesOn D.stated D.Steps (conns slots.old) desk.old (conns slots.new) desk.new
-        result }
+    ensures served { GoesOn D.stated D.Steps D.shuts (conns slots.old) desk.old (conns slots.new)
+        desk.new result }
     ensures most { result ≤ left }
+    ensures known { queue.new ≡ Queue.Unknown → H.has_failed host.new ≡ true }
 {
+    let left = left_for(desk, left);
     let moment = Moment {
         now: host.micros() / 1000,
         minute: host.minute(),
@@ -157,7 +165,8 @@ fn admit_if<H: Host>(
     may: bool,
 )
     requires { length slots.old ≤ length marks.old }
-    ensures { (places : List (ℕ × ℕ)) × Admits places (conns slots.old) (conns slots.new) }
+    ensures admits { (places : List (ℕ × ℕ)) × Admits places (conns slots.old) (conns slots.new) }
+    ensures known { queue.new ≡ Queue.Unknown → H.has_failed host.new ≡ true }
 {
     if let Queue::Empty = *queue {
         return;
@@ -177,7 +186,8 @@ fn ending_of<S>(
     slots: &[Slot<S>],
     queue: Queue,
 ) -> Option<Ending>
-    ensures { IfSome result (λ ending. answered ≤ most → EndsAt ending most answered) }
+    ensures { IfSome result (λ ending. answered ≤ most
+        → EndsAt ending most answered shut (queue ≡ Queue.Unknown)) }
 {
     if answered == most {
         return if is_still(slots) {

@@ -1,7 +1,7 @@
 //! One turn of the server: each connection has its own.
 ghost use Rattle.std.specs.Prelude.{◌≡◌, ◌≢◌, ◌≤◌, ◌<◌, length};
 ghost use Rattle.server_core.specs.Places.{Each, TurnsOf, conns};
-ghost use Rattle.server_core.specs.Turns.{IsInTime};
+ghost use Rattle.server_core.specs.Turns.{IsInTime, at_minute};
 
 use crate::desk::Desk;
 use crate::host::{Host, Mark};
@@ -23,11 +23,12 @@ pub(crate) fn turn<H: Host, D: Desk>(
     most: u64,
 ) -> u64
     requires { length slots.old ≤ length marks.old }
-    ensures turns { TurnsOf D.stated D.Steps (conns slots.old) desk.old (conns slots.new) desk.new
-        result }
+    ensures turns { TurnsOf D.stated (at_minute moment.minute D.Steps) (conns slots.old) desk.old
+        (conns slots.new) desk.new result }
     ensures most { result ≤ most }
     ensures unready { result < most → Each (λ c. c.phase ≢ Phase.Ready) (conns slots.new) }
     ensures in_time { Each (IsInTime moment.now) (conns slots.new) }
+    ensures kept { H.has_failed host.new ≡ H.has_failed host.old }
 {
     let mut answered = 0u64;
     for place in 0..slots.len() {

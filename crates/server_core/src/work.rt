@@ -2,7 +2,7 @@
 ghost use Rattle.std.specs.Prelude.{◌≡◌, ◌≢◌, true, Option, is_some};
 ghost use Rattle.connection_core.specs.Machine.{passed};
 ghost use Rattle.connection_core.specs.Seen.{seen};
-ghost use Rattle.server_core.specs.Turns.{Answered, IsInTime, Moves, TakesTurn};
+ghost use Rattle.server_core.specs.Turns.{Answered, IsInTime, Moves, TakesTurn, at_minute};
 
 use crate::desk::Desk;
 use crate::host::{Host, Mark};
@@ -40,8 +40,8 @@ fn receive<F: Framing, S: Read>(
     }
 }
 
-/// Answers the message of a connection, if it is whole and may be answered. Where memory is refused it is dropped.
-#[tactic(auto, using(crate::proofs::TurnLemmas::moves_none, crate::proofs::TurnLemmas::moves_closed, crate::proofs::TurnLemmas::turn_quiet, crate::proofs::TurnLemmas::turn_answered))]
+/// Answers the message of a connection, if it is whole and may be answered.
+#[tactic(auto, using(crate::proofs::TurnLemmas::moves_none, crate::proofs::TurnLemmas::turn_quiet, crate::proofs::TurnLemmas::turn_answered))]
 fn answer<H: Host, D: Desk>(
     alloc: Global,
     host: &mut H,
@@ -51,9 +51,11 @@ fn answer<H: Host, D: Desk>(
     may: bool,
 ) -> bool
     ensures turn { (a : Option Answered) × (is_some a ≡ result)
-        × TakesTurn D.stated D.Steps a (seen connection.old) desk.old (seen connection.new) desk.new }
+        × TakesTurn D.stated (at_minute moment.minute D.Steps) a (seen connection.old) desk.old
+        (seen connection.new) desk.new }
     ensures asked { result ≡ true → may ≡ true }
     ensures unready { may ≡ true → (seen connection.new).phase ≢ Phase.Ready }
+    ensures kept { H.has_failed host.new ≡ H.has_failed host.old }
 {
     if !may {
         return false;
@@ -63,22 +65,17 @@ fn answer<H: Host, D: Desk>(
         _ => return false,
     }
     let began = host.micros();
-    match desk.step(alloc, moment.minute, connection.message()) {
-        Ok(reply) => {
-            let micros = host.micros().saturating_sub(began);
-            host.told(connection.message(), reply.as_slice(), micros);
-            connection.answer(alloc, reply, moment.now);
-            true
-        }
-        Err(_) => {
-            connection.close(alloc);
-            false
-        }
-    }
+    let reply = desk.step(alloc, moment.minute, connection.message());
+    let micros = host.micros().saturating_sub(began);
+    host.told(moment.minute, connection.message(), reply.bytes(), micros);
+    connection.answer(alloc, reply, moment.now);
+    true
 }
 
 /// Tells the peer that no more comes, where the reply has gone out.
-fn shut_if_written<H: Host>(host: &mut H, stream: &H::Stream, connection: &Connection) {
+fn shut_if_written<H: Host>(host: &mut H, stream: &H::Stream, connection: &Connection)
+    ensures { H.has_failed host.new ≡ H.has_failed host.old }
+{
     if let Phase::Lingering = connection.phase() {
         host.shut(stream);
     }
@@ -106,6 +103,7 @@ fn send<F: Framing, H: Host>(
     ensures moves { Moves F.stated (seen slot.old.connection) (seen slot.new.connection) }
     ensures unready { (seen slot.old.connection).phase ≢ Phase.Ready
         → (seen slot.new.connection).phase ≢ Phase.Ready }
+    ensures kept { H.has_failed host.new ≡ H.has_failed host.old }
 {
     match slot.connection.phase() {
         Phase::Writing => {
@@ -134,11 +132,12 @@ pub(crate) fn work<H: Host, D: Desk>(
     may: bool,
 ) -> bool
     ensures turn { (a : Option Answered) × (is_some a ≡ result)
-        × TakesTurn D.stated D.Steps a (seen slot.old.connection) desk.old
+        × TakesTurn D.stated (at_minute moment.minute D.Steps) a (seen slot.old.connection) desk.old
         (seen slot.new.connection) desk.new }
     ensures asked { result ≡ true → may ≡ true }
     ensures unready { may ≡ true → (seen slot.new.connection).phase ≢ Phase.Ready }
     ensures in_time { IsInTime moment.now (seen slot.new.connection) }
+    ensures kept { H.has_failed host.new ≡ H.has_failed host.old }
 {
     receive::<D, H::Stream>(alloc, slot, mark, buffer);
     let answered = answer(alloc, host, moment, &mut slot.connection, desk, may);

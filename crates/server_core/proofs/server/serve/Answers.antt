@@ -1,5 +1,5 @@
 -- the places are as many as were asked for, and have a mark each
-use Rattle.std.proofs.Common.{◌≡◌, ◌∙◌, ℕ, ap, subst, replicate, arith}
+use Rattle.std.proofs.Common.{◌≡◌, ◌∙◌, ℕ, true, ap, subst, replicate, arith}
 use Rattle.connection_core.specs.Machine.{closed}
 use Rattle.server_core.specs.Places.{conns}
 use Rattle.server_core.specs.Served.{IsServed}
@@ -23,6 +23,7 @@ pub returns-clause-ok : goal.returns-clause-ok
 returns-clause-ok g c =
     let free : conns c.deref_mut.result.now ≡ replicate c.args.places closed =
     ap (λ l. conns l) c.deref_mut.ensures.value ∙ c.in_ok-slots.ensures in
-    subst (λ (n : ℕ). IsServed g.D.Framing.stated g.D.Desk.Steps n c.args.most c.args.desk.now
+    subst (λ (n : ℕ). IsServed g.D.Framing.stated g.D.Desk.Steps g.D.Desk.shuts
+    (g.H.Host.has_failed c.serve_at.new.host ≡ true) n c.args.most c.args.desk.now
     c.serve_at.result c.serve_at.new.desk) (places_count c.deref_mut.result.now c.args.places free)
     c.serve_at.ensures
