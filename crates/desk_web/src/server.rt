@@ -33,9 +33,9 @@ pub fn serve_over<S: Backend + Drop, W: Write>(
 {
     match open_desk(rt.alloc(), Store::adopt(tables), settings, output) {
         Ok(desk) => {
-            let mut web = WebDesk { desk };
+            let mut web = WebDesk::new(desk);
             let status = listen(rt, asked, &mut web);
-            let (store, _) = web.desk.detach();
+            let (store, _) = web.into_desk().detach();
             (status, Some(store.release()))
         }
         Err(status) => (status, None),
@@ -64,7 +64,7 @@ fn tell_ending(rt: &HostRuntime, ended: Result<Ending, AllocError>) -> u8 {
     match ended {
         Ok(Ending::Counted) => DONE,
         Ok(Ending::Shut) => tell_store_fault(StoreFault::Refused, &mut io::writer(rt)),
-        Ok(Ending::Network) | Err(_) => refuse_network(rt),
+        Ok(Ending::Network | Ending::Spent) | Err(_) => refuse_network(rt),
     }
 }
 

@@ -4,6 +4,7 @@
 mod line;
 
 use line::put_line;
+use mio::event::Event;
 use mio::net::{TcpListener, TcpStream};
 use mio::{Events, Interest, Poll, Token};
 use server_core::{Host, Mark, NetFault};
@@ -30,6 +31,7 @@ pub struct PollHost<'r, R> {
     events: Events,
     listener: TcpListener,
     log: bool,
+    failed: bool,
 }
 
 impl<'r, R: Net + Clock + Print> PollHost<'r, R> {
@@ -51,6 +53,7 @@ impl<'r, R: Net + Clock + Print> PollHost<'r, R> {
             events,
             listener,
             log,
+            failed: false,
         })
     }
 
@@ -67,30 +70,72 @@ fn events_for(alloc: Global) -> io::Result<Events> {
     }
 }
 
+/// The next connection that waits, watched under this place. One that is gone when it is accepted is
+/// passed over.
+fn next_of(
+    listener: &TcpListener,
+    poll: &Poll,
+    place: usize,
+) -> Result<Option<TcpStream>, NetFault> {
+    for _try in 0..TRIES {
+        match listener.accept() {
+            Ok((stream, _)) => return watch(poll, stream, place),
+            Err(fault) => match fault.kind() {
+                ErrorKind::WouldBlock => return Ok(None),
+                ErrorKind::Interrupted
+                | ErrorKind::ConnectionAborted
+                | ErrorKind::ConnectionReset => {}
+                _ => return Err(NetFault),
+            },
+        }
+    }
+    Err(NetFault)
+}
+
+/// Watches a connection under this place.
+fn watch(poll: &Poll, stream: TcpStream, place: usize) -> Result<Option<TcpStream>, NetFault> {
+    let mut stream = stream;
+    let both = Interest::READABLE | Interest::WRITABLE;
+    match poll.registry().register(&mut stream, Token(place), both) {
+        Ok(()) => Ok(Some(stream)),
+        Err(_) => Err(NetFault),
+    }
+}
+
+/// Marks what streams became ready for. Whether a connection may wait.
+fn mark_all(events: &Events, marks: &mut [Mark]) -> bool {
+    let mut waiting = false;
+    for event in events {
+        let Token(place) = event.token();
+        if place == LISTENER {
+            waiting = true;
+        } else if place < marks.len() {
+            mark_one(event, &mut marks[place]);
+        }
+    }
+    waiting
+}
+
+fn mark_one(event: &Event, mark: &mut Mark) {
+    if event.is_readable() || event.is_read_closed() || event.is_error() {
+        mark.readable = true;
+    }
+    if event.is_writable() || event.is_write_closed() || event.is_error() {
+        mark.writable = true;
+    }
+}
+
 impl<R: Net + Clock + Print> Host for PollHost<'_, R> {
     type Stream = TcpStream;
 
+    ghost has_failed = { λ host. host.failed };
+
     fn accept(&mut self, place: usize) -> Result<Option<TcpStream>, NetFault> {
-        for _try in 0..TRIES {
-            match self.listener.accept() {
-                Ok((mut stream, _)) => {
-                    let both = Interest::READABLE | Interest::WRITABLE;
-                    let registry = self.poll.registry();
-                    return match registry.register(&mut stream, Token(place), both) {
-                        Ok(()) => Ok(Some(stream)),
-                        Err(_) => Err(NetFault),
-                    };
-                }
-                Err(fault) => match fault.kind() {
-                    ErrorKind::WouldBlock => return Ok(None),
-                    ErrorKind::Interrupted
-                    | ErrorKind::ConnectionAborted
-                    | ErrorKind::ConnectionReset => {}
-                    _ => return Err(NetFault),
-                },
-            }
+        let accepted = next_of(&self.listener, &self.poll, place);
+        if accepted.is_err() {
+            self.failed = true;
         }
-        Err(NetFault)
+        accepted
     }
 
     fn shut(&mut self, stream: &TcpStream) {
@@ -99,25 +144,16 @@ impl<R: Net + Clock + Print> Host for PollHost<'_, R> {
 
     fn wait(&mut self, milliseconds: u64, marks: &mut [Mark]) -> Result<bool, NetFault> {
         let timeout = Duration::from_millis(milliseconds);
-        if self.poll.poll(&mut self.events, Some(timeout)).is_err() {
-            return Err(NetFault);
-        }
-        let mut waiting = false;
-        for event in &self.events {
-            let Token(place) = event.token();
-            if place == LISTENER {
-                waiting = true;
-            } else if place < marks.len() {
-                let mark = &mut marks[place];
-                if event.is_readable() || event.is_read_closed() || event.is_error() {
-                    mark.readable = true;
+        match self.poll.poll(&mut self.events, Some(timeout)) {
+            Ok(()) => Ok(mark_all(&self.events, marks)),
+            Err(fault) => match fault.kind() {
+                ErrorKind::Interrupted => Ok(false),
+                _ => {
+                    self.failed = true;
+                    Err(NetFault)
                 }
-                if event.is_writable() || event.is_write_closed() || event.is_error() {
-                    mark.writable = true;
-                }
-            }
+            },
         }
-        Ok(waiting)
     }
 
     fn micros(&mut self) -> u64 {
@@ -134,10 +170,10 @@ impl<R: Net + Clock + Print> Host for PollHost<'_, R> {
         }
     }
 
-    fn told(&mut self, message: &[u8], reply: &[u8], micros: u64) {
+    fn told(&mut self, minute: u32, message: &[u8], reply: &[u8], micros: u64) {
         if self.log {
             let mut line = [0u8; line::LONGEST];
-            let length = put_line(&mut line, message, reply, micros);
+            let length = put_line(&mut line, minute, message, reply, micros);
             let _printed = io::writer(self.rt).write_all(&line[..length]);
         }
     }

@@ -7,12 +7,20 @@ pub(crate) const LONGEST: usize = 320;
 /// The most bytes of the method and the path.
 const MOST_ASKED: usize = 200;
 
-/// Puts the method and the path of a message, the code of its reply, how many bytes that has, and
-/// the microseconds: how long the line is.
-pub(crate) fn put_line(line: &mut [u8; LONGEST], message: &[u8], reply: &[u8], micros: u64) -> usize
+/// Puts the minute, the method and the path of a message, the code of its reply, how many bytes that
+/// has, and the microseconds: how long the line is.
+pub(crate) fn put_line(
+    line: &mut [u8; LONGEST],
+    minute: u32,
+    message: &[u8],
+    reply: &[u8],
+    micros: u64,
+) -> usize
     ensures { result ≤ 320 }
 {
-    let mut length = put_asked(line, message);
+    let mut length = put_number(line, 0, u64::from(minute));
+    length = put_byte(line, length, b' ');
+    length = put_asked(line, length, message);
     length = put_byte(line, length, b' ');
     length = put_code(line, length, reply);
     length = put_byte(line, length, b' ');
@@ -37,10 +45,11 @@ fn put_byte(line: &mut [u8; LONGEST], length: usize, byte: u8) -> usize
 
 /// The first two words of the message, in which each byte that isn't a visible character of ASCII
 /// stands as `?`. What follows a `?` of the path is left out.
-fn put_asked(line: &mut [u8; LONGEST], message: &[u8]) -> usize
+fn put_asked(line: &mut [u8; LONGEST], length: usize, message: &[u8]) -> usize
+    requires { length ≤ 320 }
     ensures { result ≤ 320 }
 {
-    let mut length = 0;
+    let mut length = length;
     let mut words = 0u32;
     for byte in message {
         if length >= MOST_ASKED || *byte == b'\n' || *byte == b'?' {

@@ -1,5 +1,5 @@
 -- A run of message steps is a run of messages.
-use Rattle.std.proofs.Common.{◌≡◌, ℕ, List, [], ◌∷◌, Result, Ok, Err, refl, sym, subst, map}
+use Rattle.std.proofs.Common.{◌≡◌, ℕ, Bool, List, [], ◌∷◌, Result, Ok, Err, refl, sym, subst, map}
 use Rattle.sqlite.specs.State.{State}
 use Rattle.settings_core.specs.declared.settings.Settings.{Settings}
 use Rattle.std.specs.Prelude.{IfOk}
@@ -20,16 +20,16 @@ IsRun {D} settings_in tables_in answers old new =
     × WasClean (tables_in old) (tables_in new)
 
 runs_both : {D : Type 0} (settings_in : D → Settings) (tables_in : D → State)
-    (answers : List Answered) (old new : D)
+    (Told : D → List ℕ → D → Type 0) (answers : List Answered) (old new : D)
     → Runs (λ a at message reply b. StepsAt (settings_in a) (tables_in a) at message reply (tables_in b)
-    × (settings_in b ≡ settings_in a)) answers old new
+    × (settings_in b ≡ settings_in a) × Told a reply b) answers old new
     → IsRun settings_in tables_in answers old new
 runs_both {D} settings_in tables_in [] old new same =
     let stays : IsRun settings_in tables_in [] old old =
     ((λ desk is stands clean. (desk, refl, stands)), λ clean. clean) in
     subst (λ (d : D). IsRun settings_in tables_in [] old d) (sym same) stays
-runs_both {D} settings_in tables_in (a ∷ rest) old new (mid, (step, same), runs) =
-    let others = runs_both settings_in tables_in rest mid new runs in
+runs_both {D} settings_in tables_in (a ∷ rest) old new (mid, (step, same, told), runs) =
+    let others = runs_both settings_in tables_in Told rest mid new runs in
     let run =
     subst (λ (s : Settings). RunsMessagesOn s (map sent_of rest) (map reply_of rest) (tables_in mid)
         (tables_in new)) same others.0 in (
@@ -42,30 +42,21 @@ runs_both {D} settings_in tables_in (a ∷ rest) old new (mid, (step, same), run
       λ clean. step.1 (others.1 clean),
     )
 
-pub runs_messages : (D : Type 0) (settings_in : D → Settings) (tables_in : D → State)
-    (answers : List Answered) (old new : D)
-    → Runs (λ a at message reply b. StepsAt (settings_in a) (tables_in a) at message reply (tables_in b)
-    × (settings_in b ≡ settings_in a)) answers old new
-    → RunsMessagesOn (settings_in old) (map sent_of answers) (map reply_of answers) (tables_in old)
-    (tables_in new)
-runs_messages D settings_in tables_in answers old new runs =
-    (runs_both settings_in tables_in answers old new runs).0
-
 -- what a server has done is a run of messages
 pub served_messages : {D : Type 0} (settings_in : D → Settings) (tables_in : D → State)
-    (stated : List ℕ → ℕ)
+    (Told : D → List ℕ → D → Type 0) (stated : List ℕ → ℕ) (shuts : D → Bool) (Failed : Type 0)
     → ((acts : List Act) (olds news : List Conn) (desk next : D)
-        → Serves stated (λ a at message reply b. StepsAt (settings_in a) (tables_in a) at message reply
-        (tables_in b) × (settings_in b ≡ settings_in a)) acts olds desk news next
-        → Runs (λ a at message reply b. StepsAt (settings_in a) (tables_in a) at message reply
-        (tables_in b) × (settings_in b ≡ settings_in a)) (answers acts) desk next)
+        → Serves stated (λ a at message reply b. StepsAt (settings_in a) (tables_in a) at message reply (tables_in b)
+    × (settings_in b ≡ settings_in a) × Told a reply b) shuts acts olds desk news next
+        → Runs (λ a at message reply b. StepsAt (settings_in a) (tables_in a) at message reply (tables_in b)
+    × (settings_in b ≡ settings_in a) × Told a reply b) (answers acts) desk next)
     → (places most : ℕ) (old new : D) (r : Result Ending AllocError)
-    → IfOk r (λ ending. IsServed stated (λ a at message reply b. StepsAt (settings_in a) (tables_in a)
-        at message reply (tables_in b) × (settings_in b ≡ settings_in a)) places most old ending new)
+    → IfOk r (λ ending. IsServed stated (λ a at message reply b. StepsAt (settings_in a) (tables_in a) at message reply (tables_in b)
+    × (settings_in b ≡ settings_in a) × Told a reply b) shuts Failed places most old ending new)
     → IfOk r (λ ending. RunsSome (settings_in old) (tables_in old) (tables_in new))
-served_messages settings_in tables_in stated law places most old new (Err e) served = tt
-served_messages settings_in tables_in stated law places most old new (Ok ending)
+served_messages settings_in tables_in Told stated shuts Failed law places most old new (Err e) served = tt
+served_messages settings_in tables_in Told stated shuts Failed law places most old new (Ok ending)
     (news, count, (acts, serves, told), ends) =
     let run =
-    runs_both settings_in tables_in (answers acts) old new (law acts _ news old new serves) in
+    runs_both settings_in tables_in Told (answers acts) old new (law acts _ news old new serves) in
     (answers acts, run.0, run.1)

@@ -2,6 +2,8 @@
 #![tactic(auto)]
 
 mod framing;
+pub mod laws;
+mod refusals;
 mod serve_all;
 mod web;
 

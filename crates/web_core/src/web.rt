@@ -1,17 +1,45 @@
 //! A desk that answers messages over HTTP.
 
 use crate::framing::stated;
-use connection_core::Framing;
+use crate::refusals::refused_after;
+use connection_core::{Framing, Reply};
+use message_core::unavailable_reply;
 use server_core;
 use service_core::Desk;
-use std::alloc::{AllocError, Global};
+use std::alloc::Global;
 use store_core::Backend;
 use wire_core::serve_bytes;
 
-/// A desk over tables.
+/// After how many messages in a row that were answered `refused 16 Unavailable` a desk counts as
+/// shut.
+const SHUT_AFTER: u32 = 8;
+
+/// A desk over tables, and how many of the last messages in a row it has answered
+/// `refused 16 Unavailable`: a fault of the disk shuts its store for good, and then it has no other
+/// answer to a command.
 #[derive(Drop)]
 pub struct WebDesk<S: Backend> {
-    pub desk: Desk<S>,
+    pub(crate) desk: Desk<S>,
+    pub(crate) refused: u32,
+}
+
+impl<S: Backend> WebDesk<S> {
+    ghost use Rattle.std.specs.Prelude.{◌≡◌};
+
+    /// The desk, which has refused nothing yet. Takes no memory.
+    pub fn new(desk: Desk<S>) -> WebDesk<S>
+        ensures desk { result.desk ≡ desk }
+        ensures refused { result.refused ≡ 0 }
+    {
+        WebDesk { desk, refused: 0 }
+    }
+
+    /// The desk. Takes no memory.
+    pub fn into_desk(self) -> Desk<S>
+        ensures { result ≡ self.desk }
+    {
+        self.desk
+    }
 }
 
 impl<S: Backend> Framing for WebDesk<S> {
@@ -19,34 +47,30 @@ impl<S: Backend> Framing for WebDesk<S> {
 
     ghost stated = { form.stated };
 
+    ghost limit = { 65536 };
+
     fn stated(head: &[u8]) -> u32 {
         stated(head)
     }
 }
 
 impl<S: Backend> server_core::Desk for WebDesk<S> {
-    ghost use Rattle.std.specs.Prelude.{◌≡◌};
-    ghost use Rattle.service_core.specs.Seen.{settings_of, tables_of};
-    ghost use Rattle.web_core.specs.Messages.{StepsAt};
+    ghost use Rattle.web_core.specs.Web as web;
 
-    ghost Steps = { λ old minute message reply new.
-        StepsAt (settings_of S.Store old.desk) (tables_of S.Store old.desk) minute message reply
-            (tables_of S.Store new.desk)
-        × (settings_of S.Store new.desk ≡ settings_of S.Store old.desk) };
+    ghost Steps = { web.Steps S.Store };
 
-    fn step(
-        &mut self,
-        alloc: Global,
-        minute: u32,
-        message: &[u8],
-    ) -> Result<Vec<u8>, AllocError> {
-        match serve_bytes(alloc, minute, message, &mut self.desk) {
-            Ok(reply) => Ok(reply),
-            Err(_) => Err(AllocError),
-        }
+    ghost shuts = { web.shuts S.Store };
+
+    fn step(&mut self, alloc: Global, minute: u32, message: &[u8]) -> Reply {
+        let reply = match serve_bytes(alloc, minute, message, &mut self.desk) {
+            Ok(reply) => Reply::Made(reply),
+            Err(_) => Reply::Fixed(unavailable_reply(false)),
+        };
+        self.refused = refused_after(self.refused, reply.bytes());
+        reply
     }
 
     fn is_shut(&self) -> bool {
-        false
+        SHUT_AFTER <= self.refused
     }
 }
