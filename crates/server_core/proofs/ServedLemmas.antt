@@ -113,8 +113,7 @@ serves_on stated Steps shuts places first desk next a c count more (acts, serves
     (b, now, minute, (ps, admits), (ms, answered, turns), in_time, none) = (
       acts ++ (Admit ps ∷ Turn now minute ms ∷ []),
       serves_all stated Steps shuts acts (Admit ps ∷ Turn now minute ms ∷ []) _ a c first desk next
-          serves
-          (
+          serves (
             b,
             desk,
             (admits, refl),

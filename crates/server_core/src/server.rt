@@ -92,7 +92,16 @@ fn serve_at<H: Host, D: Desk>(
             return Ending::Network;
         };
         queue = waiting;
-        answered += go_on(alloc, host, desk, slots, marks, buffer, &mut queue, most - answered);
+        answered += go_on(
+            alloc,
+            host,
+            desk,
+            slots,
+            marks,
+            buffer,
+            &mut queue,
+            most - answered,
+        );
         if let Some(ending) = ending_of(answered, most, desk.is_shut(), slots, queue) {
             return ending;
         }
