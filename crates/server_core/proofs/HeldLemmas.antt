@@ -89,7 +89,7 @@ kept_admits : (stated : List ℕ → ℕ) (P : Conn → Type 0) (Needs Gives : A
     → Admits ps olds news → Each P olds → Each P news
 kept_admits stated P Needs Gives keeps [] olds news same each =
     subst (λ (l : List Conn). Each P l) (sym same) each
-kept_admits stated P Needs Gives keeps (p ∷ ps) olds news (low, gives, rest) each =
+kept_admits stated P Needs Gives keeps (p ∷ ps) olds news (gives, rest) each =
     kept_admits stated P Needs Gives keeps ps (set olds p.0 (opened p.1)) news rest
     (each_set P olds p.0 (opened p.1) each (keeps.begins p.1))
 
@@ -219,7 +219,7 @@ length_turn stated Steps (n ∷ ms) (o ∷ olds) [] d e never = absurd never
 length_admits : (ps : List (ℕ × ℕ)) (olds news : List Conn) → Admits ps olds news
     → length news ≡ length olds
 length_admits [] olds news same = ap (λ (l : List Conn). length l) same
-length_admits (p ∷ ps) olds news (low, gives, rest) =
+length_admits (p ∷ ps) olds news (gives, rest) =
     length_admits ps (set olds p.0 (opened p.1)) news rest ∙ length-set olds p.0 (opened p.1)
 
 length_serves : {D : Type 0} (stated : List ℕ → ℕ)

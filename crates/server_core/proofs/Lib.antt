@@ -4,3 +4,4 @@ pub mod PlaceLemmas
 pub mod ServedLemmas
 pub mod StreamLemmas
 pub mod TurnLemmas
+pub mod WaitLemmas

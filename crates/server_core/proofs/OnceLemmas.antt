@@ -56,7 +56,7 @@ once_turn stated Steps place (n ∷ ms) (o ∷ olds) [] d e never = absurd never
 other_admits : (place : ℕ) (ps : List (ℕ × ℕ)) (olds news : List Conn) → Admits ps olds news
     → IsNotAmong place ps → over_at place news ≡ over_at place olds
 other_admits place [] olds news same not = ap (over_at place) same
-other_admits place (p ∷ ps) olds news (low, gives, rest) (other, not) =
+other_admits place (p ∷ ps) olds news (gives, rest) (other, not) =
     let ne : place ≢ p.0 = λ same. other (sym same) in
     other_admits place ps (set olds p.0 (opened p.1)) news rest not
     ∙ ap (λ (c : Conn). is_over c.phase)

@@ -9,7 +9,7 @@ use Rattle.server_core.specs.Places.{Each, TurnsOf, conns}
 use Rattle.server_core.specs.Turns.{Answered, IsInTime, TakeTurns, at_minute, somes}
 use Rattle.server_core.specs.Served.{Act, Admit, Admits, EndsAt, GoesOn, IsServed, Runs, Serves}
 use Rattle.server_core.specs.Served.{ServesFrom, Turn, answers}
-use Rattle.server_core.specs.Served.{gives_way}
+use Rattle.server_core.specs.Wait.{IsToGiveWay}
 use Rattle.server_core.specs.declared.ending.Ending.{Ending}
 use Rattle.server_core.specs.declared.ending.Ending.TheVariants.{Counted, Network, Shut, Spent}
 use Rattle.server_core.specs.declared.slot.Slot.{Slot}
@@ -35,36 +35,21 @@ admits_none olds = ([], refl)
 admits_all : (ps qs : List (ℕ × ℕ)) (a b c : List Conn) → Admits ps a b → Admits qs b c
     → Admits (ps ++ qs) a c
 admits_all [] qs a b c same then = subst (λ (l : List Conn). Admits qs l c) same then
-admits_all (p ∷ ps) qs a b c (low, gives, rest) then =
-    (low, gives, admits_all ps qs (set a p.0 (opened p.1)) b c rest then)
+admits_all (p ∷ ps) qs a b c (gives, rest) then =
+    (gives, admits_all ps qs (set a p.0 (opened p.1)) b c rest then)
 
 pub admits_both : (a b c : List Conn) → (ps : List (ℕ × ℕ)) × Admits ps a b
     → (qs : List (ℕ × ℕ)) × Admits qs b c → (rs : List (ℕ × ℕ)) × Admits rs a c
 admits_both a b c (ps, first) (qs, second) = (ps ++ qs, admits_all ps qs a b c first second)
 
 pub admits_at : {S : Type 0} (slots : List (Slot S)) (place now : ℕ) (slot : Slot S)
-    → (place < length slots) × (gives_way (get_or (conns slots) place closed).phase ≡ true)
-    → seen slot.connection ≡ opened now
+    → IsToGiveWay place (conns slots) → seen slot.connection ≡ opened now
     → (ps : List (ℕ × ℕ)) × Admits ps (conns slots) (conns (set slots place slot))
-admits_at {S} slots place now slot (low, gives) fresh =
-    let view : Slot S → Conn = λ s. seen s.connection in
-    let low_conns : place < length (conns slots) = simp length-map low in (
+admits_at {S} slots place now slot gives fresh =
+    let view : Slot S → Conn = λ s. seen s.connection in (
       (place, now) ∷ [],
-      (
-        low_conns,
-        gives,
-        map-set view slots place slot ∙ ap (λ (c : Conn). set (conns slots) place c) fresh,
-      ),
+      (gives, map-set view slots place slot ∙ ap (λ (c : Conn). set (conns slots) place c) fresh),
     )
-
-pub phase_at : {S : Type 0} (slots : List (Slot S)) (place : ℕ) (d : Slot S)
-    → place < length slots → gives_way (seen (get_or slots place d).connection).phase ≡ true
-    → (place < length slots) × (gives_way (get_or (conns slots) place closed).phase ≡ true)
-phase_at {S} slots place d low gives = (
-  low,
-  ap (λ (c : Conn). gives_way c.phase)
-      (get_or-map (λ (s : Slot S). seen s.connection) slots place d closed low) ∙ gives,
-)
 
 -- ---- one thing after the other
 

@@ -3,3 +3,4 @@ pub mod Held
 pub mod Places
 pub mod Served
 pub mod Turns
+pub mod Wait

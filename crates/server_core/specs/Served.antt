@@ -2,28 +2,17 @@
 use Rattle.std.specs.Prelude.{◌≡◌, ◌≤◌, ◌<◌, ℕ, Bool, true, false, List, [], ◌∷◌, ◌++◌, Option, length}
 use Rattle.std.specs.Prelude.{get_or, set, replicate}
 use Rattle.connection_core.specs.Machine.{Conn, closed, opened}
-use Rattle.connection_core.specs.declared.phase.Phase.{Phase}
-use Rattle.connection_core.specs.declared.phase.Phase.TheVariants.{Reading, Ready, Writing}
-use Rattle.connection_core.specs.declared.phase.Phase.TheVariants.{Lingering, Closed}
 use Rattle.server_core.specs.Places.{Each, TurnsOf}
 use Rattle.server_core.specs.Turns.{Answered, IsInTime, TakeTurns, at_minute, somes}
+use Rattle.server_core.specs.Wait.{IsToGiveWay}
 use Rattle.server_core.specs.declared.ending.Ending.{Ending}
 use Rattle.server_core.specs.declared.ending.Ending.TheVariants.{Counted, Network, Shut, Spent}
-
--- its place may be given to another connection: it is free, or its message isn't whole
-abbrev pub gives_way : Phase → Bool
-gives_way Closed = true
-gives_way (Reading part) = true
-gives_way Ready = false
-gives_way Writing = false
-gives_way Lingering = false
 
 -- a connection was accepted at each of these places in turn, at its moment
 abbrev pub Admits : List (ℕ × ℕ) → List Conn → List Conn → Type 0
 Admits [] old new = new ≡ old
 Admits (a ∷ rest) old new =
-    (a.0 < length old) × (gives_way (get_or old a.0 closed).phase ≡ true)
-    × Admits rest (set old a.0 (opened a.1)) new
+    IsToGiveWay a.0 old × Admits rest (set old a.0 (opened a.1)) new
 
 -- what a server does
 pub data Act : Type 0 where

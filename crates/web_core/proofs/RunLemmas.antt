@@ -32,13 +32,13 @@ runs_both {D} settings_in tables_in (a ∷ rest) old new (mid, (step, same, told
     let others = runs_both settings_in tables_in Told rest mid new runs in
     let run =
     subst (λ (s : Settings). RunsMessagesOn s (map sent_of rest) (map reply_of rest) (tables_in mid)
-        (tables_in new)) same others.0 in (
+    (tables_in new)) same others.0 in (
       λ desk is stands clean.
-      let first = step.0 desk is stands (others.1 clean) in
-      let formed =
-      formed_stream (settings_in old) a.at _ first.1.0 desk a.reply first.0 is first.1.1 in
-      let last = run first.0 formed first.2 clean in
-      (last.0, (first.0, first.1, last.1), last.2),
+          let first = step.0 desk is stands (others.1 clean) in
+          let formed =
+          formed_stream (settings_in old) a.at _ first.1.0 desk a.reply first.0 is first.1.1 in
+          let last = run first.0 formed first.2 clean in
+          (last.0, (first.0, first.1, last.1), last.2),
       λ clean. step.1 (others.1 clean),
     )
 
@@ -46,9 +46,9 @@ runs_both {D} settings_in tables_in (a ∷ rest) old new (mid, (step, same, told
 pub served_messages : {D : Type 0} (settings_in : D → Settings) (tables_in : D → State)
     (Told : D → List ℕ → D → Type 0) (stated : List ℕ → ℕ) (shuts : D → Bool) (Failed : Type 0)
     → ((acts : List Act) (olds news : List Conn) (desk next : D)
-        → Serves stated (λ a at message reply b. StepsAt (settings_in a) (tables_in a) at message reply (tables_in b)
+    → Serves stated (λ a at message reply b. StepsAt (settings_in a) (tables_in a) at message reply (tables_in b)
     × (settings_in b ≡ settings_in a) × Told a reply b) shuts acts olds desk news next
-        → Runs (λ a at message reply b. StepsAt (settings_in a) (tables_in a) at message reply (tables_in b)
+    → Runs (λ a at message reply b. StepsAt (settings_in a) (tables_in a) at message reply (tables_in b)
     × (settings_in b ≡ settings_in a) × Told a reply b) (answers acts) desk next)
     → (places most : ℕ) (old new : D) (r : Result Ending AllocError)
     → IfOk r (λ ending. IsServed stated (λ a at message reply b. StepsAt (settings_in a) (tables_in a) at message reply (tables_in b)
