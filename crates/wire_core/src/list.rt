@@ -41,8 +41,9 @@ pub fn serve_list<S: Backend>(
     Ok(replies)
 }
 
-/// Serves the message with which these bytes begin.
-fn serve_bytes<S: Backend>(
+/// Serves the message with which these bytes begin: the bytes of its reply, or `NoMemory` where
+/// there was no memory for it and nothing was done.
+pub fn serve_bytes<S: Backend>(
     alloc: Global,
     routes: Option<&Routes>,
     moment: u32,
@@ -51,6 +52,7 @@ fn serve_bytes<S: Backend>(
 ) -> Result<Vec<u8>, ServeFault>
     ensures reply { RepliesOn (settings_of S.Store desk.old) (moment, bytes.now)
         (replied_of result) (tables_of S.Store desk.old) (tables_of S.Store desk.new) }
+    ensures err { OnErr result (desk.new ≡ desk.old) }
     ensures honest { WasClean (tables_of S.Store desk.old) (tables_of S.Store desk.new) }
     ensures lasts { Lasts (tables_of S.Store desk.old) (tables_of S.Store desk.new) }
     ensures same { settings_of S.Store desk.new ≡ settings_of S.Store desk.old }

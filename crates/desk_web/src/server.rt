@@ -1,0 +1,75 @@
+//! A server over tables, on the loopback.
+ghost use Rattle.std.specs.Prelude.{◌≡◌, false};
+
+use crate::options::Asked;
+use desk_program::{open_desk, tell_store_fault};
+use poll_host::PollHost;
+use server_core::Ending;
+use sqlite::Connection;
+use std::alloc::AllocError;
+use std::io::{self, Write};
+use std::net::SocketAddr;
+use store_core::{Backend, Store, StoreFault};
+use web_core::{WebDesk, serve_web};
+
+/// The exit status where as many messages were answered as were to be.
+const DONE: u8 = 0;
+
+/// The exit status where the port can't be listened on, or a write failed.
+const NO_NETWORK: u8 = 4;
+
+/// How many connections are served at once.
+const PLACES: usize = 256;
+
+/// Serves the desk over these tables, and gives them back, if there was a desk.
+pub fn serve_over<S: Backend + Drop, W: Write>(
+    rt: &HostRuntime,
+    asked: &Asked<'_>,
+    settings: &[u8],
+    tables: Connection<S>,
+    output: &mut W,
+) -> (u8, Option<Connection<S>>)
+    requires { tables.in_transaction ≡ false }
+{
+    match open_desk(rt.alloc(), Store::adopt(tables), settings, output) {
+        Ok(desk) => {
+            let mut web = WebDesk::new(desk);
+            let status = listen(rt, asked, &mut web);
+            let (store, _) = web.into_desk().detach();
+            (status, Some(store.release()))
+        }
+        Err(status) => (status, None),
+    }
+}
+
+/// Listens on the loopback, and serves all who connect.
+fn listen<S: Backend>(rt: &HostRuntime, asked: &Asked<'_>, desk: &mut WebDesk<S>) -> u8 {
+    let address = SocketAddr::from(([127, 0, 0, 1], asked.port));
+    let Ok(mut host) = PollHost::listen(rt.alloc(), rt, address, asked.log) else {
+        return refuse_network(rt);
+    };
+    let port = asked.port;
+    if println!(rt; "listening {port}").is_err() {
+        return NO_NETWORK;
+    }
+    let most = match asked.count {
+        Some(count) => u64::from(count),
+        None => u64::MAX,
+    };
+    tell_ending(rt, serve_web(rt.alloc(), &mut host, desk, PLACES, most))
+}
+
+/// Prints why the server ended, if not by its count, and answers the exit status.
+fn tell_ending(rt: &HostRuntime, ended: Result<Ending, AllocError>) -> u8 {
+    match ended {
+        Ok(Ending::Counted) => DONE,
+        Ok(Ending::Shut) => tell_store_fault(StoreFault::Refused, &mut io::writer(rt)),
+        Ok(Ending::Network | Ending::Spent) | Err(_) => refuse_network(rt),
+    }
+}
+
+/// Prints that the network failed.
+fn refuse_network(rt: &HostRuntime) -> u8 {
+    let _told = println!(rt; "net");
+    NO_NETWORK
+}

@@ -1,0 +1,7 @@
+-- it holds of all that the server does
+use Rattle.server_core.proofs.HeldLemmas.{all_heard}
+use Rattle.server_core.proofs.laws.heard_law.Goals as goal
+
+pub returns : goal.returns
+returns g c places acts news desk next served =
+    all_heard g.D.Framing.stated g.D.Desk.Steps g.D.Desk.shuts places acts news desk next served

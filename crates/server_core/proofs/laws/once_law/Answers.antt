@@ -1,0 +1,7 @@
+-- one that was answered is answered no more
+use Rattle.server_core.proofs.OnceLemmas.{once_at}
+use Rattle.server_core.proofs.laws.once_law.Goals as goal
+
+pub returns : goal.returns
+returns g c place acts olds news desk next serves keeps =
+    once_at g.D.Framing.stated g.D.Desk.Steps g.D.Desk.shuts place acts olds news desk next serves keeps

@@ -1,0 +1,51 @@
+//! One turn of the server: each connection has its own.
+ghost use Rattle.std.specs.Prelude.{◌≡◌, ◌≢◌, ◌≤◌, ◌<◌, length};
+ghost use Rattle.server_core.specs.Places.{Each, TurnsOf, conns};
+ghost use Rattle.server_core.specs.Turns.{IsInTime, at_minute};
+
+use crate::desk::Desk;
+use crate::host::{Host, Mark};
+use crate::slot::Slot;
+use crate::work::{Moment, work};
+use connection_core::Phase;
+use std::alloc::Global;
+
+/// One turn: each connection has its own, in the order of their places, and at most so many
+/// messages are answered. How many were.
+pub(crate) fn turn<H: Host, D: Desk>(
+    alloc: Global,
+    host: &mut H,
+    moment: Moment,
+    buffer: &mut [u8],
+    slots: &mut [Slot<H::Stream>],
+    marks: &mut [Mark],
+    desk: &mut D,
+    most: u64,
+) -> u64
+    requires { length slots.old ≤ length marks.old }
+    ensures turns { TurnsOf D.stated (at_minute moment.minute D.Steps) (conns slots.old) desk.old
+        (conns slots.new) desk.new result }
+    ensures most { result ≤ most }
+    ensures unready { result < most → Each (λ c. c.phase ≢ Phase.Ready) (conns slots.new) }
+    ensures in_time { Each (IsInTime moment.now) (conns slots.new) }
+    ensures kept { H.has_failed host.new ≡ H.has_failed host.old }
+{
+    let mut answered = 0u64;
+    for place in 0..slots.len() {
+        let slot = &mut slots[place];
+        let mark = &mut marks[place];
+        if work(
+            alloc,
+            host,
+            moment,
+            buffer,
+            slot,
+            mark,
+            desk,
+            answered < most,
+        ) {
+            answered += 1;
+        }
+    }
+    answered
+}

@@ -1,0 +1,4 @@
+pub mod Found
+pub mod FramingLemmas
+pub mod RunLemmas
+pub mod Unavailable

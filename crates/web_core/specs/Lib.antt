@@ -1,0 +1,4 @@
+pub mod Framing
+pub mod Messages
+pub mod Refusals
+pub mod Web

@@ -1,0 +1,22 @@
+//! What holds of every server over tables.
+ghost use Rattle.std.specs.Prelude.{◌≡◌, ◌≤◌, ◌+◌, ◌*◌, ℕ, List, replicate};
+ghost use Rattle.connection_core.specs.Machine.{Conn, closed};
+ghost use Rattle.server_core.specs.Held.{AllOf, IsAtMost, IsHeard, held};
+ghost use Rattle.server_core.specs.Served.{Act, Serves, answers};
+ghost use Rattle.web_core.specs.Framing as form;
+ghost use Rattle.web_core.specs.Web as web;
+
+use crate::web::WebDesk;
+use server_core::laws;
+use store_core::Backend;
+
+/// No more is held than 73,728 bytes of a message and those of the longest reply for each place.
+#[tactic(auto, using(crate::proofs::FramingLemmas::states_at_most))]
+pub fn memory_law<S: Backend>()
+    ensures { (places most : ℕ) (acts : List Act) (news : List Conn) (desk next : _)
+        → Serves form.stated (web.Steps S.Store) (web.shuts S.Store) acts
+        (replicate places closed) desk news next
+        → AllOf (IsAtMost most) (answers acts) → held news ≤ places * (73728 + most) }
+{
+    laws::memory_law::<WebDesk<S>>();
+}

@@ -1,0 +1,38 @@
+//! A server of many connections, over tables.
+ghost use Rattle.std.specs.Prelude.{◌≡◌, true, IfOk, OnErr};
+ghost use Rattle.service_core.specs.Seen.{settings_of, tables_of};
+ghost use Rattle.server_core.specs.Served.{IsServed};
+ghost use Rattle.web_core.specs.Framing as form;
+ghost use Rattle.web_core.specs.Messages.{RunsSome};
+ghost use Rattle.web_core.specs.Web as web;
+
+use crate::web::WebDesk;
+use server_core::laws::run_law;
+use server_core::{Ending, Host, serve};
+use std::alloc::{AllocError, Global};
+use store_core::Backend;
+
+/// Serves connections, at most so many at once, until so many messages were answered: the tables
+/// are then those after these messages, one after the other, each answered with the bytes that the
+/// abstract desk's step gives, as `serve_list` has it.
+///
+/// It ends by `Counted` where it has answered as many as it was to, by `Network` only where an
+/// accept or a wait has failed, and by `Shut` only where the last eight messages in a row were
+/// answered `refused 16 Unavailable`. `AllocError` where there is no memory for the places: then
+/// nothing is done.
+pub fn serve_web<H: Host, S: Backend>(
+    alloc: Global,
+    host: &mut H,
+    desk: &mut WebDesk<S>,
+    places: usize,
+    most: u64,
+) -> Result<Ending, AllocError>
+    ensures ran { IfOk result (λ ending. RunsSome (settings_of S.Store desk.old.desk)
+        (tables_of S.Store desk.old.desk) (tables_of S.Store desk.new.desk)) }
+    ensures served { IfOk result (λ ending. IsServed form.stated (web.Steps S.Store)
+        (web.shuts S.Store) (H.has_failed host.new ≡ true) places most desk.old ending desk.new) }
+    ensures err { OnErr result (desk.new ≡ desk.old) }
+{
+    run_law::<WebDesk<S>>();
+    serve(alloc, host, desk, places, most)
+}
