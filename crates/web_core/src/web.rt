@@ -8,7 +8,7 @@ use server_core;
 use service_core::Desk;
 use std::alloc::Global;
 use store_core::Backend;
-use wire_core::serve_bytes;
+use wire_core::{Routes, serve_bytes};
 
 /// After how many messages in a row that were answered `refused 16 Unavailable` a desk counts as
 /// shut.
@@ -20,18 +20,24 @@ const SHUT_AFTER: u32 = 8;
 #[derive(Drop)]
 pub struct WebDesk<S: Backend> {
     pub(crate) desk: Desk<S>,
+    pub(crate) routes: Option<Routes>,
     pub(crate) refused: u32,
 }
 
 impl<S: Backend> WebDesk<S> {
     ghost use Rattle.std.specs.Prelude.{◌≡◌};
 
-    /// The desk, which has refused nothing yet. Takes no memory.
-    pub fn new(desk: Desk<S>) -> WebDesk<S>
+    /// The desk, which has refused nothing yet, and the router of its paths. Where there is no
+    /// memory for that one the paths are gone over without it.
+    pub fn new(alloc: Global, desk: Desk<S>) -> WebDesk<S>
         ensures desk { result.desk ≡ desk }
         ensures refused { result.refused ≡ 0 }
     {
-        WebDesk { desk, refused: 0 }
+        WebDesk {
+            desk,
+            routes: Routes::new(alloc).ok(),
+            refused: 0,
+        }
     }
 
     /// The desk. Takes no memory.
@@ -62,7 +68,8 @@ impl<S: Backend> server_core::Desk for WebDesk<S> {
     ghost shuts = { web.shuts S.Store };
 
     fn step(&mut self, alloc: Global, minute: u32, message: &[u8]) -> Reply {
-        let reply = match serve_bytes(alloc, minute, message, &mut self.desk) {
+        let routes = self.routes.as_ref();
+        let reply = match serve_bytes(alloc, routes, minute, message, &mut self.desk) {
             Ok(reply) => Reply::Made(reply),
             Err(_) => Reply::Fixed(unavailable_reply(false)),
         };
