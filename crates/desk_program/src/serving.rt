@@ -18,8 +18,8 @@ const DONE: u8 = 0;
 /// The exit status where a connection couldn't be accepted.
 const NO_NETWORK: u8 = 4;
 
-/// Answers so many connections, one after the other: each is served as by `serve_one`, at the clock's
-/// minute once it is accepted, and its fault is passed over. The status is then 0; where a
+/// Answers so many connections, one after the other: each is served as `serve_one` does, at the
+/// clock's minute once it is accepted, and its fault is passed over. The status is then 0; where a
 /// connection can't be accepted it ends there with 4.
 pub fn serve_on<K: Clock, S: Backend>(
     alloc: Global,

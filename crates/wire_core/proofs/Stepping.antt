@@ -1,6 +1,6 @@
 -- A message step over tables, from the step of its command.
 use Rattle.std.proofs.Common.{◌≡◌, ◌≢◌, inl, inr, ℕ, Bool, false, List, Option, Some, None}
-use Rattle.std.proofs.Common.{true, Result, Ok, Err, refl, ap, sym, subst, is_some}
+use Rattle.std.proofs.Common.{true, Result, Ok, Err, refl, sym, subst, is_some}
 use Rattle.std.proofs.lemmas.Bool.{false≢true}
 use Rattle.std.specs.Prelude.{⊤, OnOk}
 use Rattle.std.specs.declared.alloc.AllocError.{AllocError}

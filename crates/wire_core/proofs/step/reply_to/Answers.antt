@@ -1,5 +1,5 @@
 -- what the message asks for, or its fault
-use Rattle.std.proofs.Common.{◌≡◌, ◌∙◌, ℕ, Ok, Err, List, Option, Result, ap, is_some, rules, subst}
+use Rattle.std.proofs.Common.{◌≡◌, ◌∙◌, ℕ, Ok, Err, List, Result, ap, is_some, rules, subst}
 use Rattle.std.proofs.lemmas.Result.{on_ok_weaker}
 use Rattle.desk_model.specs.declared.command.Command.{Command}
 use Rattle.route_core.specs.Commands.{command_of, methods_of}
