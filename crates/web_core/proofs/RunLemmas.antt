@@ -24,11 +24,11 @@ runs_both : {D : Type 0} (settings_in : D → Settings) (tables_in : D → State
     → Runs (λ a at message reply b. StepsAt (settings_in a) (tables_in a) at message reply (tables_in b)
     × (settings_in b ≡ settings_in a) × Told a reply b) answers old new
     → IsRun settings_in tables_in answers old new
-runs_both {D} settings_in tables_in [] old new same =
+runs_both {D} settings_in tables_in Told [] old new same =
     let stays : IsRun settings_in tables_in [] old old =
     ((λ desk is stands clean. (desk, refl, stands)), λ clean. clean) in
     subst (λ (d : D). IsRun settings_in tables_in [] old d) (sym same) stays
-runs_both {D} settings_in tables_in (a ∷ rest) old new (mid, (step, same, told), runs) =
+runs_both {D} settings_in tables_in Told (a ∷ rest) old new (mid, (step, same, told), runs) =
     let others = runs_both settings_in tables_in Told rest mid new runs in
     let run =
     subst (λ (s : Settings). RunsMessagesOn s (map sent_of rest) (map reply_of rest) (tables_in mid)

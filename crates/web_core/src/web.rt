@@ -1,4 +1,8 @@
 //! A desk that answers messages over HTTP.
+ghost use Rattle.std.specs.Prelude.{◌≡◌};
+ghost use Rattle.connection_core.specs.Reply.{bytes_of};
+ghost use Rattle.service_core.specs.Seen.{settings_of, tables_of};
+ghost use Rattle.web_core.specs.Messages.{StepsAt};
 
 use crate::framing::stated;
 use crate::refusals::refused_after;
@@ -25,8 +29,6 @@ pub struct WebDesk<S: Backend> {
 }
 
 impl<S: Backend> WebDesk<S> {
-    ghost use Rattle.std.specs.Prelude.{◌≡◌};
-
     /// The desk, which has refused nothing yet, and the router of its paths. Where there is no
     /// memory for that one the paths are gone over without it.
     pub fn new(alloc: Global, desk: Desk<S>) -> WebDesk<S>
@@ -45,6 +47,24 @@ impl<S: Backend> WebDesk<S> {
         ensures { result ≡ self.desk }
     {
         self.desk
+    }
+}
+
+/// The reply to a message, after its step. Where memory is refused nothing is done, and it says so.
+fn answer_to<S: Backend>(
+    alloc: Global,
+    routes: Option<&Routes>,
+    minute: u32,
+    message: &[u8],
+    desk: &mut Desk<S>,
+) -> Reply
+    ensures step { StepsAt (settings_of S.Store desk.old) (tables_of S.Store desk.old) minute
+        message.now (bytes_of result) (tables_of S.Store desk.new) }
+    ensures same { settings_of S.Store desk.new ≡ settings_of S.Store desk.old }
+{
+    match serve_bytes(alloc, routes, minute, message, desk) {
+        Ok(reply) => Reply::Made(reply),
+        Err(_) => Reply::Fixed(unavailable_reply(false)),
     }
 }
 
@@ -68,11 +88,7 @@ impl<S: Backend> server_core::Desk for WebDesk<S> {
     ghost shuts = { web.shuts S.Store };
 
     fn step(&mut self, alloc: Global, minute: u32, message: &[u8]) -> Reply {
-        let routes = self.routes.as_ref();
-        let reply = match serve_bytes(alloc, routes, minute, message, &mut self.desk) {
-            Ok(reply) => Reply::Made(reply),
-            Err(_) => Reply::Fixed(unavailable_reply(false)),
-        };
+        let reply = answer_to(alloc, self.routes.as_ref(), minute, message, &mut self.desk);
         self.refused = refused_after(self.refused, reply.bytes());
         reply
     }
