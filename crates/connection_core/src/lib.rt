@@ -1,5 +1,14 @@
 //! The machine of one connection: bytes come, the message that they make is answered, and the reply
 //! goes out, each within a time.
+//!
+//! What comes is taken byte by byte, so how it is cut into pieces makes no difference. A message is
+//! whole where its head has ended and as many bytes of a body have come as the head states. It is
+//! handed over then, and once. The framing, which tells the length of a body by its head, decides
+//! only that. What the message means the desk says: so a wrong length makes a refusal or a wait, and
+//! no false reply.
+//!
+//! There are 30 seconds from accept to the whole message, 30 from the answer to the last byte of the
+//! reply, and two in which what still comes is dropped. No byte puts a deadline off.
 #![tactic(auto)]
 
 mod connection;

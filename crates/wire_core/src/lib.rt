@@ -1,6 +1,12 @@
 //! What comes in from outside, and what it asks of the desk: messages are read, done and answered.
 //! Below it, `message_core` has the bytes of messages and replies, `route_core` what a message asks
 //! for, and `desk_words` the words of a line; what crates above need of them is passed on.
+//!
+//! `serve_one` answers `Ok` where the whole reply went out. After `Write` the same step was made, and
+//! a part of its bytes went out that lacks a byte or more. After `Read` nothing was written, and the
+//! tables are as before. `NoMemory` is never its answer. By its contract `Read` and `Write` may come
+//! at any time; that they come of a failed call alone is tested. `serve_list` is a run of such steps
+//! over bytes in memory, where an element that is `NoMemory` changes nothing.
 #![tactic(auto)]
 
 mod fault;
