@@ -1,0 +1,4 @@
+pub mod Escape
+pub mod Page
+pub mod Parts
+pub mod Reading
