@@ -1,5 +1,6 @@
 -- The page of a fault: of a message that asks for nothing the desk has, or that can't be read.
 use Rattle.std.specs.Prelude.{ℕ, List, [], ◌∷◌, ◌++◌, codes}
+use Rattle.page_core.specs.Markup.{markup_of}
 use Rattle.page_core.specs.Page.{Part, Markup, Text}
 use Rattle.desk_pages.specs.Frame.{bare_foot, bare_head}
 
@@ -20,3 +21,8 @@ fault_notice heading sentence code =
 abbrev pub fault_page : List ℕ → List ℕ → List ℕ → List Part
 fault_page heading sentence code =
     bare_head heading ++ (fault_notice heading sentence code ++ bare_foot)
+
+-- its markup, whatever is wrong
+abbrev pub fault_markup : List ℕ
+fault_markup =
+    markup_of (bare_head []) ++ (markup_of (fault_notice [] [] []) ++ markup_of bare_foot)

@@ -1,9 +1,10 @@
 -- What stands above and below the content of each page.
 use Rattle.std.specs.Prelude.{ℕ, Bool, true, false, List, [], ◌∷◌, ◌++◌, codes}
+use Rattle.page_core.specs.Markup.{markup_of}
 use Rattle.page_core.specs.Page.{Part, Markup, Text}
 use Rattle.desk_pages.specs.declared.frame.Place.{Place}
 use Rattle.desk_pages.specs.declared.frame.Place.TheVariants as place
-use Rattle.desk_pages.specs.Pieces.{dash, time_of, word}
+use Rattle.desk_pages.specs.Pieces.{dash, time, time_of, word}
 
 -- a page up to the list of places
 unfoldable pub head : List ℕ → List Part
@@ -100,3 +101,12 @@ top title at caller =
 -- what stands below it, for a page that was made at this moment
 abbrev pub bottom : ℕ → List Part
 bottom moment = foot ++ (time_of moment ++ close)
+
+-- the markup above the content, and below it
+abbrev pub top_markup : Place → List ℕ
+top_markup at =
+    markup_of (head [])
+    ++ (markup_of (places (is_home at) (is_late at) (is_workload at)) ++ markup_of (account []))
+
+abbrev pub bottom_markup : List ℕ
+bottom_markup = markup_of foot ++ (markup_of (time [] []) ++ markup_of close)

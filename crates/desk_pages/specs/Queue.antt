@@ -9,9 +9,9 @@ use Rattle.lifecycle_core.specs.declared.parts.Parts.{Parts}
 use Rattle.lifecycle_core.specs.Lifecycle.{class_of}
 use Rattle.desk_model.specs.declared.answer.Line.{Line}
 use Rattle.desk_texts.specs.Words.{or_nobody}
-use Rattle.page_core.specs.Page.{Part, Markup, Text, page_bytes}
-use Rattle.page_core.specs.Reading.{InText, outline}
-use Rattle.desk_pages.specs.Frame.{bottom, top}
+use Rattle.page_core.specs.Markup.{markup_of}
+use Rattle.page_core.specs.Page.{Part, Markup, Text}
+use Rattle.desk_pages.specs.Frame.{bottom, bottom_markup, top, top_markup}
 use Rattle.desk_pages.specs.Pieces.{quote, table_end, time_or_dash, word}
 use Rattle.desk_pages.specs.declared.frame.Place.TheVariants as place
 
@@ -122,3 +122,23 @@ abbrev pub queue_page : List ℕ → List ℕ → ℕ → Parts → List Line �
 queue_page queue caller moment lifecycle lines =
     top queue place.Elsewhere caller
     ++ (content queue caller moment lifecycle lines ++ bottom moment)
+
+-- the markup of a row: whether there is a due moment, and whether it is late, is all that matters
+unfoldable pub row_markup : Bool → Bool → List ℕ
+row_markup due late =
+    codes "<tr class=\"\"><td>"
+    ++ (codes "</td><th scope=\"\"><a href=\"\" dir=\"\"></a></th>"
+    ++ (codes "<td><span class=\"\"></span></td><td class=\"\"></td><td>"
+    ++ (word due (codes "<time datetime=\"\"></time>")
+    ++ (word late (codes "<strong></strong>") ++ codes "</td></tr>"))))
+
+abbrev pub markup_of_line : ℕ → Line → List ℕ
+markup_of_line moment line = row_markup (is_some line.due) (is_late moment line.due)
+
+-- the markup of the page
+abbrev pub queue_markup : ℕ → List Line → List ℕ
+queue_markup moment lines =
+    top_markup place.Elsewhere
+    ++ ((markup_of (queue_top []) ++ (markup_of views ++ (markup_of table_head
+    ++ (flat_map (markup_of_line moment) lines ++ markup_of table_end))))
+    ++ bottom_markup)

@@ -1,5 +1,6 @@
 -- The page on which one signs in.
 use Rattle.std.specs.Prelude.{ℕ, Bool, List, [], ◌∷◌, ◌++◌, codes}
+use Rattle.page_core.specs.Markup.{markup_of}
 use Rattle.page_core.specs.Page.{Part, Markup, Text}
 use Rattle.desk_pages.specs.Frame.{bare_foot, bare_head}
 use Rattle.desk_pages.specs.Pieces.{word}
@@ -43,3 +44,10 @@ sign_in_page next refused elsewhere =
     bare_head (codes "Sign in")
     ++ (heading ++ (refused_note refused
     ++ (token_form next ++ (again elsewhere ++ bare_foot))))
+
+-- its markup
+abbrev pub sign_in_markup : Bool → Bool → List ℕ
+sign_in_markup refused elsewhere =
+    markup_of (bare_head [])
+    ++ (markup_of heading ++ (markup_of (refused_note refused)
+    ++ (markup_of (token_form []) ++ (markup_of (again elsewhere) ++ markup_of bare_foot))))

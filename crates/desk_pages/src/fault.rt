@@ -26,7 +26,12 @@ pub fn fault_page(
 }
 
 #[tactic(auto, unfolding(crate::specs::Fault::fault_notice))]
-fn put_fault_notice<'t>(out: &mut Vec<u8>, heading: &'t str, sentence: &'t str, code: &'t str) -> Result<(), AllocError>
+fn put_fault_notice<'t>(
+    out: &mut Vec<u8>,
+    heading: &'t str,
+    sentence: &'t str,
+    code: &'t str,
+) -> Result<(), AllocError>
     ensures { OnOk result (out.new.items
         ≡ out.old.items ++ page_bytes (form.fault_notice heading.now sentence.now code.now)) }
 {

@@ -61,7 +61,7 @@ fn is_workload(at: Place) -> bool
     matches!(at, Place::Workload)
 }
 
-pub(crate) #[tactic(auto, unfolding(crate::specs::Frame::head))]
+#[tactic(auto, unfolding(crate::specs::Frame::head))]
 pub(crate) fn put_head(out: &mut Vec<u8>, title: &str) -> Result<(), AllocError>
     ensures { OnOk result (out.new.items ≡ out.old.items ++ page_bytes (form.head title.now)) }
 {
@@ -83,8 +83,13 @@ pub(crate) fn put_head(out: &mut Vec<u8>, title: &str) -> Result<(), AllocError>
     )
 }
 
-pub(crate) #[tactic(auto, unfolding(crate::specs::Frame::places))]
-pub(crate) fn put_places(out: &mut Vec<u8>, home: bool, late: bool, load: bool) -> Result<(), AllocError>
+#[tactic(auto, unfolding(crate::specs::Frame::places))]
+pub(crate) fn put_places(
+    out: &mut Vec<u8>,
+    home: bool,
+    late: bool,
+    load: bool,
+) -> Result<(), AllocError>
     ensures { OnOk result (out.new.items
         ≡ out.old.items ++ page_bytes (form.places home late load)) }
 {
@@ -102,7 +107,7 @@ pub(crate) fn put_places(out: &mut Vec<u8>, home: bool, late: bool, load: bool) 
     )
 }
 
-pub(crate) #[tactic(auto, unfolding(crate::specs::Frame::account))]
+#[tactic(auto, unfolding(crate::specs::Frame::account))]
 pub(crate) fn put_account(out: &mut Vec<u8>, caller: &str) -> Result<(), AllocError>
     ensures { OnOk result (out.new.items ≡ out.old.items ++ page_bytes (form.account caller.now)) }
 {
@@ -121,31 +126,24 @@ pub(crate) fn put_account(out: &mut Vec<u8>, caller: &str) -> Result<(), AllocEr
     )
 }
 
-pub(crate) #[tactic(auto, unfolding(crate::specs::Frame::foot))]
+#[tactic(auto, unfolding(crate::specs::Frame::foot))]
 pub(crate) fn put_foot(out: &mut Vec<u8>) -> Result<(), AllocError>
     ensures { OnOk result (out.new.items ≡ out.old.items ++ page_bytes form.foot) }
 {
     put_parts(
         out,
-        &[
-            Part::Markup("</main>\n<footer>Moments are in UTC. This page was made at "),
-        ],
+        &[Part::Markup("</main>\n<footer>Moments are in UTC. This page was made at ")],
     )
 }
 
-pub(crate) #[tactic(auto, unfolding(crate::specs::Frame::close))]
+#[tactic(auto, unfolding(crate::specs::Frame::close))]
 pub(crate) fn put_close(out: &mut Vec<u8>) -> Result<(), AllocError>
     ensures { OnOk result (out.new.items ≡ out.old.items ++ page_bytes form.close) }
 {
-    put_parts(
-        out,
-        &[
-            Part::Markup(".</footer>\n</body>\n</html>\n"),
-        ],
-    )
+    put_parts(out, &[Part::Markup(".</footer>\n</body>\n</html>\n")])
 }
 
-pub(crate) #[tactic(auto, unfolding(crate::specs::Frame::bare_head))]
+#[tactic(auto, unfolding(crate::specs::Frame::bare_head))]
 pub(crate) fn put_bare_head(out: &mut Vec<u8>, title: &str) -> Result<(), AllocError>
     ensures { OnOk result (out.new.items
         ≡ out.old.items ++ page_bytes (form.bare_head title.now)) }
@@ -167,14 +165,9 @@ pub(crate) fn put_bare_head(out: &mut Vec<u8>, title: &str) -> Result<(), AllocE
     )
 }
 
-pub(crate) #[tactic(auto, unfolding(crate::specs::Frame::bare_foot))]
+#[tactic(auto, unfolding(crate::specs::Frame::bare_foot))]
 pub(crate) fn put_bare_foot(out: &mut Vec<u8>) -> Result<(), AllocError>
     ensures { OnOk result (out.new.items ≡ out.old.items ++ page_bytes form.bare_foot) }
 {
-    put_parts(
-        out,
-        &[
-            Part::Markup("</main>\n</body>\n</html>\n"),
-        ],
-    )
+    put_parts(out, &[Part::Markup("</main>\n</body>\n</html>\n")])
 }

@@ -3,11 +3,22 @@
 
 mod fault;
 mod frame;
+mod home;
+mod laws;
+mod overdue;
 mod pieces;
 mod queue;
 mod sign_in;
+mod workload;
 
 pub use fault::fault_page;
 pub use frame::Place;
+pub use home::home_page;
+pub use laws::{
+    fault_page_law, home_page_law, overdue_page_law, queue_page_law, sign_in_page_law,
+    workload_page_law,
+};
+pub use overdue::overdue_page;
 pub use queue::queue_page;
 pub use sign_in::sign_in_page;
+pub use workload::workload_page;

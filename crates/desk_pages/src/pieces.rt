@@ -61,8 +61,12 @@ fn as_text(bytes: &[u8]) -> &str
     }
 }
 
-pub(crate) #[tactic(auto, unfolding(crate::specs::Pieces::time))]
-pub(crate) fn put_time<'t>(out: &mut Vec<u8>, day: &'t str, clock: &'t str) -> Result<(), AllocError>
+#[tactic(auto, unfolding(crate::specs::Pieces::time))]
+pub(crate) fn put_time<'t>(
+    out: &mut Vec<u8>,
+    day: &'t str,
+    clock: &'t str,
+) -> Result<(), AllocError>
     ensures { OnOk result (out.new.items
         ≡ out.old.items ++ page_bytes (form.time day.now clock.now)) }
 {
@@ -82,7 +86,7 @@ pub(crate) fn put_time<'t>(out: &mut Vec<u8>, day: &'t str, clock: &'t str) -> R
     )
 }
 
-pub(crate) #[tactic(auto, unfolding(crate::specs::Pieces::choice))]
+#[tactic(auto, unfolding(crate::specs::Pieces::choice))]
 pub(crate) fn put_choice(out: &mut Vec<u8>, name: &str) -> Result<(), AllocError>
     ensures { OnOk result (out.new.items ≡ out.old.items ++ page_bytes (form.choice name.now)) }
 {
@@ -96,26 +100,19 @@ pub(crate) fn put_choice(out: &mut Vec<u8>, name: &str) -> Result<(), AllocError
     )
 }
 
-pub(crate) #[tactic(auto, unfolding(crate::specs::Pieces::table_end))]
+#[tactic(auto, unfolding(crate::specs::Pieces::table_end))]
 pub(crate) fn put_table_end(out: &mut Vec<u8>) -> Result<(), AllocError>
     ensures { OnOk result (out.new.items ≡ out.old.items ++ page_bytes form.table_end) }
 {
     put_parts(
         out,
-        &[
-            Part::Markup("</tbody>\n</table>\n<p class=\"none\">There are none of these.</p>\n"),
-        ],
+        &[Part::Markup("</tbody>\n</table>\n<p class=\"none\">There are none of these.</p>\n")],
     )
 }
 
-pub(crate) #[tactic(auto, unfolding(crate::specs::Pieces::no_moment))]
+#[tactic(auto, unfolding(crate::specs::Pieces::no_moment))]
 pub(crate) fn put_no_moment(out: &mut Vec<u8>) -> Result<(), AllocError>
     ensures { OnOk result (out.new.items ≡ out.old.items ++ page_bytes form.no_moment) }
 {
-    put_parts(
-        out,
-        &[
-            Part::Markup("–"),
-        ],
-    )
+    put_parts(out, &[Part::Markup("–")])
 }

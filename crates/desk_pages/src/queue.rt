@@ -82,7 +82,13 @@ fn put_row(
 {
     let state = class_word(lifecycle.class(line.status.as_str()));
     let late = is_late(moment, line.due);
-    put_opening(out, state, is_of(caller, &line.owner), line.owner.is_none(), late)?;
+    put_opening(
+        out,
+        state,
+        is_of(caller, &line.owner),
+        line.owner.is_none(),
+        late,
+    )?;
     put_line(out, state, line)?;
     put_minute_or_dash(out, line.due)?;
     put_row_end(out, late)
@@ -188,7 +194,13 @@ fn put_table_head(out: &mut Vec<u8>) -> Result<(), AllocError>
 }
 
 #[tactic(auto, unfolding(crate::specs::Queue::opening))]
-fn put_opening(out: &mut Vec<u8>, state: &str, mine: bool, nobody: bool, late: bool) -> Result<(), AllocError>
+fn put_opening(
+    out: &mut Vec<u8>,
+    state: &str,
+    mine: bool,
+    nobody: bool,
+    late: bool,
+) -> Result<(), AllocError>
     ensures { OnOk result (out.new.items
         ≡ out.old.items ++ page_bytes (form.opening state.now mine nobody late)) }
 {
@@ -206,7 +218,14 @@ fn put_opening(out: &mut Vec<u8>, state: &str, mine: bool, nobody: bool, late: b
 }
 
 #[tactic(auto, unfolding(crate::specs::Queue::cells))]
-fn put_cells<'t>(out: &mut Vec<u8>, id: &'t str, subject: &'t str, state: &'t str, status: &'t str, owner: &'t str) -> Result<(), AllocError>
+fn put_cells<'t>(
+    out: &mut Vec<u8>,
+    id: &'t str,
+    subject: &'t str,
+    state: &'t str,
+    status: &'t str,
+    owner: &'t str,
+) -> Result<(), AllocError>
     ensures { OnOk result (out.new.items
         ≡ out.old.items ++ page_bytes (form.cells id.now subject.now state.now status.now owner.now)) }
 {

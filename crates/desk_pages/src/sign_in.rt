@@ -57,8 +57,14 @@ fn put_refused_note(out: &mut Vec<u8>, refused: bool) -> Result<(), AllocError>
     put_parts(
         out,
         &[
-            Part::Markup(word(refused, "<p class=\"alert\"><b>No such token.</b> Look whether a sign is missing, ")),
-            Part::Markup(word(refused, "or ask whoever runs the desk. <code>refused 1 UnknownCaller</code></p>\n")),
+            Part::Markup(word(
+                refused,
+                "<p class=\"alert\"><b>No such token.</b> Look whether a sign is missing, ",
+            )),
+            Part::Markup(word(
+                refused,
+                "or ask whoever runs the desk. <code>refused 1 UnknownCaller</code></p>\n",
+            )),
         ],
     )
 }
@@ -92,7 +98,10 @@ fn put_again(out: &mut Vec<u8>, elsewhere: bool) -> Result<(), AllocError>
     put_parts(
         out,
         &[
-            Part::Markup(word(elsewhere, "<p>Signed in already, and came here by a link from elsewhere? ")),
+            Part::Markup(word(
+                elsewhere,
+                "<p>Signed in already, and came here by a link from elsewhere? ",
+            )),
             Part::Markup(word(elsewhere, "<a href=\"\">Open this page again</a>.</p>\n")),
         ],
     )

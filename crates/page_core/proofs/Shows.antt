@@ -1,6 +1,7 @@
 -- A piece of a page, and the markup that is read in it. Pieces are joined where the reader is in text.
 use Rattle.std.proofs.Common.{◌≡◌, ◌∙◌, ℕ, List, ◌++◌, ap}
 use Rattle.std.specs.List.{flat_map}
+use Rattle.page_core.specs.Markup.{HasMarkup}
 use Rattle.page_core.specs.Page.{Part, page_bytes, without_texts}
 use Rattle.page_core.specs.Reading.{InText, IsPage, outline}
 use Rattle.page_core.proofs.Injection.{same_outline}
@@ -34,4 +35,13 @@ pub each_shows : {X : Type 0} (row : X → List Part) (markup : X → List ℕ)
 each_shows row markup rows xs = record {
   page = page_rows row (λ x. (rows x).page) xs;
   outlined = outline_of_rows row markup (λ x. (rows x).page) (λ x. (rows x).outlined) xs;
+}
+
+-- what a law says of a whole page
+pub has_markup : (parts : List Part) (markup : List ℕ) → Shows parts markup
+    → HasMarkup parts markup
+has_markup parts markup whole = record {
+  placed = whole.page;
+  outline = same_outline parts whole.page;
+  shape = whole.outlined;
 }
