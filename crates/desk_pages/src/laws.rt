@@ -1,18 +1,32 @@
 //! What holds of every page of the desk: each text stands in text or in a value. So whatever people
 //! write, the markup that is read in a page is that of the page with every text empty, and it tells
 //! no more than what is named here.
-ghost use Rattle.std.specs.Prelude.{ℕ, Bool, List};
+ghost use Rattle.std.specs.Prelude.{ℕ, Bool, List, []};
 ghost use Rattle.lifecycle_core.specs.declared.parts.Parts.{Parts};
 ghost use Rattle.desk_model.specs.declared.answer.LateLine.{LateLine};
 ghost use Rattle.desk_model.specs.declared.answer.Line.{Line};
 ghost use Rattle.desk_model.specs.declared.answer.Load.{Load};
 ghost use Rattle.desk_model.specs.declared.rows.QueueRow.{QueueRow};
-ghost use Rattle.page_core.specs.Markup.{HasMarkup};
+ghost use Rattle.desk_model.specs.declared.refusal.Refusal.{Refusal};
+ghost use Rattle.page_core.specs.Markup.{HasMarkup, markup_of};
 ghost use Rattle.desk_pages.specs.Fault.{fault_markup, fault_page};
 ghost use Rattle.desk_pages.specs.Home.{home_markup, home_page};
+ghost use Rattle.desk_pages.specs.New.{new_markup, new_page};
 ghost use Rattle.desk_pages.specs.Overdue.{overdue_markup, overdue_page};
 ghost use Rattle.desk_pages.specs.Queue.{queue_markup, queue_page};
+ghost use Rattle.desk_pages.specs.RefusalPage.{
+  ask_refusal_markup,
+  ask_refusal_page,
+  comment_refusal_page,
+  refusal_markup,
+  refusal_page,
+  reply_refusal_page,
+  request_refusal_markup,
+  request_refusal_page,
+  typed_markup,
+};
 ghost use Rattle.desk_pages.specs.SignIn.{sign_in_markup, sign_in_page};
+ghost use Rattle.desk_pages.specs.Write as form;
 ghost use Rattle.desk_pages.specs.Workload.{workload_markup, workload_page};
 
 /// The page of a queue tells by its markup how many requests there are, which are due and which are
@@ -55,4 +69,30 @@ pub fn sign_in_page_law()
 pub fn fault_page_law()
     ensures { (heading sentence code : List ℕ)
         → HasMarkup (fault_page heading sentence code) fault_markup }
+{}
+
+/// The page for a new request tells by its markup how many statuses there are to choose from, and
+/// which of them is the usual one.
+pub fn new_page_law()
+    ensures { (queue caller : List ℕ) (moment : ℕ) (usual : List ℕ) (statuses : List (List ℕ))
+        → HasMarkup (new_page queue caller moment usual statuses) (new_markup usual statuses) }
+{}
+
+/// The page of a refusal tells by its markup whether a right is lacking, and whether what was asked
+/// for is there; and no more of what was typed than the form that it was typed into.
+pub fn refusal_page_law()
+    ensures plain { (why : Refusal) (caller : List ℕ) (moment : ℕ)
+        → HasMarkup (refusal_page why caller moment) (refusal_markup why) }
+    ensures request { (why : Refusal) (caller : List ℕ) (moment id : ℕ)
+        → HasMarkup (request_refusal_page why caller moment id) (request_refusal_markup why) }
+    ensures reply { (why : Refusal) (caller : List ℕ) (moment id : ℕ) (text : List ℕ)
+        → HasMarkup (reply_refusal_page why caller moment id text)
+        (typed_markup why (markup_of (form.reply [] []))) }
+    ensures comment { (why : Refusal) (caller : List ℕ) (moment id : ℕ) (text : List ℕ)
+        → HasMarkup (comment_refusal_page why caller moment id text)
+        (typed_markup why (markup_of (form.comment [] []))) }
+    ensures ask { (why : Refusal) (caller : List ℕ) (moment : ℕ)
+        (queue subject requestors usual : List ℕ) (statuses : List (List ℕ))
+        → HasMarkup (ask_refusal_page why caller moment queue subject requestors usual statuses)
+        (ask_refusal_markup why usual statuses) }
 {}
