@@ -1,6 +1,5 @@
 -- The markup of the form for a new request, and of the page that shows it.
-use Rattle.std.proofs.Common.{ℕ, Bool, true, false, List, [], ◌∷◌, ◌++◌, refl}
-use Rattle.std.specs.List.{flat_map}
+use Rattle.std.proofs.Common.{ℕ, Bool, true, false, List, [], ◌∷◌, refl}
 use Rattle.std.specs.Str.{bytes_eq}
 use Rattle.page_core.specs.Markup.{HasMarkup, markup_of}
 use Rattle.page_core.proofs.Shows.{Shows, both, each_shows, has_markup, shows}

@@ -1,5 +1,5 @@
 -- What stands above and below each page, and the markup that is read in it.
-use Rattle.std.proofs.Common.{ℕ, Bool, true, false, List, [], refl}
+use Rattle.std.proofs.Common.{ℕ, List, [], refl}
 use Rattle.page_core.specs.Markup.{markup_of}
 use Rattle.page_core.proofs.Shows.{Shows, both, shows}
 use Rattle.desk_pages.specs.declared.frame.Place.{Place}

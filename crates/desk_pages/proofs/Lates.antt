@@ -1,6 +1,5 @@
 -- The markup of the page of what is late.
-use Rattle.std.proofs.Common.{ℕ, Bool, true, false, List, [], codes, decimal, is_none, refl}
-use Rattle.std.specs.List.{flat_map}
+use Rattle.std.proofs.Common.{ℕ, Bool, true, false, List, codes, decimal, is_none, refl}
 use Rattle.desk_model.specs.declared.answer.LateLine.{LateLine}
 use Rattle.desk_texts.specs.Words.{or_nobody}
 use Rattle.page_core.specs.Markup.{HasMarkup, markup_of}

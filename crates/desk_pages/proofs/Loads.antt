@@ -1,6 +1,5 @@
 -- The markup of the page of who has how much to do.
 use Rattle.std.proofs.Common.{ℕ, Bool, true, false, List, [], ◌++◌, codes, decimal, is_none, refl}
-use Rattle.std.specs.List.{flat_map}
 use Rattle.desk_model.specs.declared.answer.Load.{Load}
 use Rattle.desk_texts.specs.Texts.Workload.{all_live, all_overdue}
 use Rattle.desk_texts.specs.Words.{or_nobody}
@@ -12,7 +11,7 @@ use Rattle.desk_pages.specs.Pieces.{word}
 use Rattle.desk_pages.specs.Queue.{is_of}
 use Rattle.desk_pages.specs.Workload.{bars, is_any, load_cells, load_opening, load_row}
 use Rattle.desk_pages.specs.Workload.{load_row_markup, load_top, load_total, markup_of_load, most}
-use Rattle.desk_pages.specs.Workload.{total, total_markup, workload_markup, workload_page}
+use Rattle.desk_pages.specs.Workload.{workload_markup, workload_page}
 use Rattle.desk_pages.proofs.Frames.{bottom_shows, top_shows}
 
 opening_shows : (mine nobody : Bool) → Shows (load_opening mine nobody) (codes "<tr class=\"\">")

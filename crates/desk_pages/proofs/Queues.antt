@@ -1,6 +1,5 @@
 -- The markup of the page of a queue.
 use Rattle.std.proofs.Common.{ℕ, Bool, true, false, List, [], ◌++◌, codes, decimal, is_none, refl}
-use Rattle.std.specs.List.{flat_map}
 use Rattle.lifecycle_core.specs.declared.parts.Parts.{Parts}
 use Rattle.lifecycle_core.specs.Lifecycle.{class_of}
 use Rattle.desk_model.specs.declared.answer.Line.{Line}

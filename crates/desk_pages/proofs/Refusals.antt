@@ -1,5 +1,5 @@
 -- The markup of the pages of refusals.
-use Rattle.std.proofs.Common.{ℕ, Bool, true, false, List, [], ◌++◌, decimal, refl}
+use Rattle.std.proofs.Common.{ℕ, Bool, true, false, List, [], decimal, refl}
 use Rattle.desk_model.specs.declared.refusal.Refusal.{Refusal}
 use Rattle.desk_model.specs.Refusals.{name_of, number_of}
 use Rattle.page_core.specs.Markup.{HasMarkup, markup_of}

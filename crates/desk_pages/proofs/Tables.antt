@@ -1,5 +1,5 @@
 -- The markup of what several tables have.
-use Rattle.std.proofs.Common.{ℕ, Bool, true, false, List, Option, Some, None, codes, is_some, refl}
+use Rattle.std.proofs.Common.{ℕ, Option, Some, None, codes, is_some, refl}
 use Rattle.page_core.specs.Markup.{markup_of}
 use Rattle.page_core.proofs.Shows.{Shows, shows}
 use Rattle.desk_pages.specs.Pieces.{no_moment, table_end, time, time_or_dash, word}

@@ -1,5 +1,5 @@
 -- The forms for a reply and for a comment.
-use Rattle.std.specs.Prelude.{ℕ, List, [], ◌∷◌, ◌++◌, codes}
+use Rattle.std.specs.Prelude.{ℕ, List, [], ◌∷◌, codes}
 use Rattle.page_core.specs.Page.{Part, Markup, Text}
 
 -- the form for a reply, with a text
