@@ -1,0 +1,4 @@
+mod Both
+pub mod Fields
+pub mod Stops
+mod Tokens

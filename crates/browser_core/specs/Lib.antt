@@ -1,0 +1,4 @@
+pub mod Cookie
+pub mod Cuts
+pub mod Form
+pub mod Site

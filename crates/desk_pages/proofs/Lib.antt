@@ -1,0 +1,10 @@
+pub mod Asks
+pub mod Frames
+pub mod Homes
+pub mod Lates
+pub mod Loads
+pub mod Notices
+pub mod Queues
+pub mod Refusals
+pub mod SignIns
+pub mod Tables

@@ -1,0 +1,18 @@
+use Rattle.desk_pages.proofs.Refusals.{ask_refusal_has, comment_refusal_has, refusal_has}
+use Rattle.desk_pages.proofs.Refusals.{reply_refusal_has, request_refusal_has}
+use Rattle.desk_pages.proofs.laws.refusal_page_law.Goals as goal
+
+pub returns-clause-plain : goal.returns-clause-plain
+returns-clause-plain c = refusal_has
+
+pub returns-clause-request : goal.returns-clause-request
+returns-clause-request c = request_refusal_has
+
+pub returns-clause-reply : goal.returns-clause-reply
+returns-clause-reply c = reply_refusal_has
+
+pub returns-clause-comment : goal.returns-clause-comment
+returns-clause-comment c = comment_refusal_has
+
+pub returns-clause-ask : goal.returns-clause-ask
+returns-clause-ask c = ask_refusal_has

@@ -1,0 +1,13 @@
+pub mod Ask
+pub mod Fault
+pub mod Frame
+pub mod Home
+pub mod New
+pub mod Overdue
+pub mod Pieces
+pub mod Queue
+pub mod RefusalPage
+pub mod Refused
+pub mod SignIn
+pub mod Workload
+pub mod Write

@@ -1,0 +1,107 @@
+-- The page of a refusal, and the way back from it.
+use Rattle.std.specs.Prelude.{ℕ, Bool, true, false, List, [], ◌++◌, decimal}
+use Rattle.desk_model.specs.declared.refusal.Refusal.{Refusal}
+use Rattle.desk_model.specs.declared.refusal.Refusal.TheVariants as refusal
+use Rattle.page_core.specs.Markup.{markup_of}
+use Rattle.page_core.specs.Page.{Part}
+use Rattle.desk_pages.specs.Ask.{ask, ask_markup}
+use Rattle.desk_pages.specs.Frame.{bottom, bottom_markup, top, top_markup}
+use Rattle.desk_pages.specs.Refused.{heading_of, is_denied, notice, notice_of, request_crumb}
+use Rattle.desk_pages.specs.Refused.{to_queue, to_queues, to_request, write_close, write_open}
+use Rattle.desk_pages.specs.Write.{comment, reply}
+use Rattle.desk_pages.specs.declared.frame.Place.TheVariants as place
+
+-- what was asked for is there, as far as the caller may know
+abbrev pub is_found : Refusal → Bool
+is_found refusal.NotFound = false
+is_found _ = true
+
+-- the way to a request before what is said, and back to it afterwards; where it isn't there, to the
+-- queues
+abbrev pub crumb : Bool → ℕ → List Part
+crumb true id = request_crumb (decimal id)
+crumb false id = []
+
+abbrev pub way_to_request : Bool → ℕ → List Part
+way_to_request true id = to_request (decimal id)
+way_to_request false id = to_queues
+
+abbrev pub way_to_queue : Bool → List ℕ → List Part
+way_to_queue true queue = to_queue queue
+way_to_queue false queue = to_queues
+
+abbrev pub refused : Refusal → List ℕ → ℕ → List Part → List Part
+refused why caller moment content =
+    top (heading_of why) place.Elsewhere caller ++ (content ++ bottom moment)
+
+-- a command on no request, or a reading, is refused
+abbrev pub refusal_page : Refusal → List ℕ → ℕ → List Part
+refusal_page why caller moment = refused why caller moment (notice_of why ++ to_queues)
+
+-- a command on a request is refused
+abbrev pub request_refusal_page : Refusal → List ℕ → ℕ → ℕ → List Part
+request_refusal_page why caller moment id =
+    refused why caller moment
+    (crumb (is_found why) id ++ (notice_of why ++ way_to_request (is_found why) id))
+
+-- a reply, or a comment, is refused: the form has the text that was typed
+abbrev pub typed_page : Refusal → List ℕ → ℕ → ℕ → List Part → List Part
+typed_page why caller moment id form =
+    refused why caller moment
+    ((crumb (is_found why) id ++ notice_of why)
+    ++ ((write_open ++ (form ++ write_close)) ++ way_to_request (is_found why) id))
+
+abbrev pub reply_refusal_page : Refusal → List ℕ → ℕ → ℕ → List ℕ → List Part
+reply_refusal_page why caller moment id text =
+    typed_page why caller moment id (reply (decimal id) text)
+
+abbrev pub comment_refusal_page : Refusal → List ℕ → ℕ → ℕ → List ℕ → List Part
+comment_refusal_page why caller moment id text =
+    typed_page why caller moment id (comment (decimal id) text)
+
+-- a new request is refused: the form has the subject and the requestors that were typed
+abbrev pub ask_refusal_page : Refusal → List ℕ → ℕ → List ℕ → List ℕ → List ℕ → List ℕ
+    → List (List ℕ) → List Part
+ask_refusal_page why caller moment queue subject requestors usual statuses =
+    refused why caller moment
+    (notice_of why
+    ++ (ask queue caller subject requestors usual statuses ++ way_to_queue (is_found why) queue))
+
+-- ---- the markup of these pages
+
+abbrev pub notice_markup : Refusal → List ℕ
+notice_markup why = markup_of (notice [] [] [] [] [] [] (is_denied why))
+
+abbrev pub crumb_markup : Bool → List ℕ
+crumb_markup true = markup_of (request_crumb [])
+crumb_markup false = []
+
+abbrev pub way_to_request_markup : Bool → List ℕ
+way_to_request_markup true = markup_of (to_request [])
+way_to_request_markup false = markup_of to_queues
+
+abbrev pub way_to_queue_markup : Bool → List ℕ
+way_to_queue_markup true = markup_of (to_queue [])
+way_to_queue_markup false = markup_of to_queues
+
+abbrev pub refused_markup : List ℕ → List ℕ
+refused_markup content = top_markup place.Elsewhere ++ (content ++ bottom_markup)
+
+abbrev pub refusal_markup : Refusal → List ℕ
+refusal_markup why = refused_markup (notice_markup why ++ markup_of to_queues)
+
+abbrev pub request_refusal_markup : Refusal → List ℕ
+request_refusal_markup why =
+    refused_markup (crumb_markup (is_found why)
+    ++ (notice_markup why ++ way_to_request_markup (is_found why)))
+
+abbrev pub typed_markup : Refusal → List ℕ → List ℕ
+typed_markup why form =
+    refused_markup ((crumb_markup (is_found why) ++ notice_markup why)
+    ++ ((markup_of write_open ++ (form ++ markup_of write_close))
+    ++ way_to_request_markup (is_found why)))
+
+abbrev pub ask_refusal_markup : Refusal → List ℕ → List (List ℕ) → List ℕ
+ask_refusal_markup why usual statuses =
+    refused_markup (notice_markup why
+    ++ (ask_markup usual statuses ++ way_to_queue_markup (is_found why)))

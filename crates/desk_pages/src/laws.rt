@@ -1,0 +1,98 @@
+//! What holds of every page of the desk: each text stands in text or in a value. So whatever people
+//! write, the markup that is read in a page is that of the page with every text empty, and it tells
+//! no more than what is named here.
+ghost use Rattle.std.specs.Prelude.{ℕ, Bool, List, []};
+ghost use Rattle.lifecycle_core.specs.declared.parts.Parts.{Parts};
+ghost use Rattle.desk_model.specs.declared.answer.LateLine.{LateLine};
+ghost use Rattle.desk_model.specs.declared.answer.Line.{Line};
+ghost use Rattle.desk_model.specs.declared.answer.Load.{Load};
+ghost use Rattle.desk_model.specs.declared.rows.QueueRow.{QueueRow};
+ghost use Rattle.desk_model.specs.declared.refusal.Refusal.{Refusal};
+ghost use Rattle.page_core.specs.Markup.{HasMarkup, markup_of};
+ghost use Rattle.desk_pages.specs.Fault.{fault_markup, fault_page};
+ghost use Rattle.desk_pages.specs.Home.{home_markup, home_page};
+ghost use Rattle.desk_pages.specs.New.{new_markup, new_page};
+ghost use Rattle.desk_pages.specs.Overdue.{overdue_markup, overdue_page};
+ghost use Rattle.desk_pages.specs.Queue.{queue_markup, queue_page};
+ghost use Rattle.desk_pages.specs.RefusalPage.{
+  ask_refusal_markup,
+  ask_refusal_page,
+  comment_refusal_page,
+  refusal_markup,
+  refusal_page,
+  reply_refusal_page,
+  request_refusal_markup,
+  request_refusal_page,
+  typed_markup,
+};
+ghost use Rattle.desk_pages.specs.SignIn.{sign_in_markup, sign_in_page};
+ghost use Rattle.desk_pages.specs.Write as form;
+ghost use Rattle.desk_pages.specs.Workload.{workload_markup, workload_page};
+
+/// The page of a queue tells by its markup how many requests there are, which are due and which are
+/// late.
+pub fn queue_page_law()
+    ensures { (queue caller : List ℕ) (moment : ℕ) (lifecycle : Parts) (lines : List Line)
+        → HasMarkup (queue_page queue caller moment lifecycle lines) (queue_markup moment lines) }
+{}
+
+/// The page of what is late tells by its markup how many requests there are.
+pub fn overdue_page_law()
+    ensures { (caller : List ℕ) (moment : ℕ) (lines : List LateLine)
+        → HasMarkup (overdue_page caller moment lines) (overdue_markup lines) }
+{}
+
+/// The page of who has how much to do tells by its markup how many owners there are, and of which
+/// something is late.
+pub fn workload_page_law()
+    ensures { (caller : List ℕ) (moment : ℕ) (loads : List Load)
+        → HasMarkup (workload_page caller moment loads) (workload_markup loads) }
+{}
+
+/// The first page tells by its markup how many queues, lifecycles and levels there are, and whether
+/// anything of the caller's, of nobody's and of all is late.
+pub fn home_page_law()
+    ensures { (caller : List ℕ) (moment : ℕ) (queues : List QueueRow) (loads : List Load)
+        (lifecycles levels : List (List ℕ))
+        → HasMarkup (home_page caller moment queues loads lifecycles levels)
+        (home_markup caller queues loads lifecycles levels) }
+{}
+
+/// The page on which one signs in tells by its markup whether a token was refused, and whether it
+/// stands at another place.
+pub fn sign_in_page_law()
+    ensures { (next : List ℕ) (refused elsewhere : Bool)
+        → HasMarkup (sign_in_page next refused elsewhere) (sign_in_markup refused elsewhere) }
+{}
+
+/// The page of a fault has the same markup whatever is wrong.
+pub fn fault_page_law()
+    ensures { (heading sentence code : List ℕ)
+        → HasMarkup (fault_page heading sentence code) fault_markup }
+{}
+
+/// The page for a new request tells by its markup how many statuses there are to choose from, and
+/// which of them is the usual one.
+pub fn new_page_law()
+    ensures { (queue caller : List ℕ) (moment : ℕ) (usual : List ℕ) (statuses : List (List ℕ))
+        → HasMarkup (new_page queue caller moment usual statuses) (new_markup usual statuses) }
+{}
+
+/// The page of a refusal tells by its markup whether a right is lacking, and whether what was asked
+/// for is there; and no more of what was typed than the form that it was typed into.
+pub fn refusal_page_law()
+    ensures plain { (why : Refusal) (caller : List ℕ) (moment : ℕ)
+        → HasMarkup (refusal_page why caller moment) (refusal_markup why) }
+    ensures request { (why : Refusal) (caller : List ℕ) (moment id : ℕ)
+        → HasMarkup (request_refusal_page why caller moment id) (request_refusal_markup why) }
+    ensures reply { (why : Refusal) (caller : List ℕ) (moment id : ℕ) (text : List ℕ)
+        → HasMarkup (reply_refusal_page why caller moment id text)
+        (typed_markup why (markup_of (form.reply [] []))) }
+    ensures comment { (why : Refusal) (caller : List ℕ) (moment id : ℕ) (text : List ℕ)
+        → HasMarkup (comment_refusal_page why caller moment id text)
+        (typed_markup why (markup_of (form.comment [] []))) }
+    ensures ask { (why : Refusal) (caller : List ℕ) (moment : ℕ)
+        (queue subject requestors usual : List ℕ) (statuses : List (List ℕ))
+        → HasMarkup (ask_refusal_page why caller moment queue subject requestors usual statuses)
+        (ask_refusal_markup why usual statuses) }
+{}

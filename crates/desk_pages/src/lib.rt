@@ -1,0 +1,34 @@
+//! The pages of a desk, for browsers: markup of the program, and people's texts in it.
+#![tactic(auto)]
+
+mod ask;
+mod fault;
+mod frame;
+mod home;
+mod laws;
+mod new;
+mod overdue;
+mod pieces;
+mod queue;
+mod refusal;
+mod refused;
+mod sign_in;
+mod workload;
+mod write;
+
+pub use ask::Typed;
+pub use fault::fault_page;
+pub use frame::Place;
+pub use home::home_page;
+pub use laws::{
+    fault_page_law, home_page_law, new_page_law, overdue_page_law, queue_page_law,
+    refusal_page_law, sign_in_page_law, workload_page_law,
+};
+pub use new::new_page;
+pub use overdue::overdue_page;
+pub use queue::queue_page;
+pub use refusal::{
+    ask_refusal_page, comment_refusal_page, refusal_page, reply_refusal_page, request_refusal_page,
+};
+pub use sign_in::sign_in_page;
+pub use workload::workload_page;

@@ -1,0 +1,222 @@
+//! What is said of a refusal.
+ghost use Rattle.std.specs.Prelude.{◌≡◌, ◌++◌, OnOk};
+ghost use Rattle.page_core.specs.Page.{page_bytes};
+ghost use Rattle.desk_pages.specs.Refused as form;
+
+use crate::pieces::word;
+use desk_model::Refusal;
+use itoa::Buffer;
+use page_core::{Part, put_parts};
+use std::alloc::AllocError;
+
+/// The heading of a refusal.
+#[tactic(auto, unfolding(crate::specs::Refused::heading_of))]
+pub(crate) fn heading_of(refusal: &Refusal) -> &'static str
+    ensures { result.now ≡ form.heading_of refusal.now }
+{
+    match refusal {
+        Refusal::UnknownCaller => "Who are you?",
+        Refusal::BadMoment => "The clock is wrong",
+        Refusal::BadText => "This text can’t be taken",
+        Refusal::NotFound => "Not found",
+        Refusal::UnknownName => "Unknown name",
+        Refusal::Denied(_) => "Not allowed",
+        Refusal::NoChange => "It is so already",
+        Refusal::NoTransition => "There is no such move",
+        Refusal::OpenDependency => "Another request comes first",
+        Refusal::Owned => "Somebody owns it",
+        Refusal::NotOwned => "Nobody owns it",
+        Refusal::NotOwner => "It isn’t yours",
+        Refusal::Exists => "There is one already",
+        Refusal::SelfLink => "That is the same request",
+        Refusal::Full => "There is no room",
+        Refusal::Unavailable => "Not now",
+    }
+}
+
+/// What is said of it; where a right is lacking, what stands before its name.
+#[tactic(auto, unfolding(crate::specs::Refused::front_of))]
+fn front_of(refusal: &Refusal) -> &'static str
+    ensures { result.now ≡ form.front_of refusal.now }
+{
+    match refusal {
+        Refusal::UnknownCaller => "This token isn’t known here: sign in again.",
+        Refusal::BadMoment =>
+            "The server’s clock stands before the year 2000 or after 2099. Please tell whoever runs the desk.",
+        Refusal::BadText =>
+            "A subject is one line of 1 to 200 characters, a reply or a comment has 1 to 20,000, a queue’s name is 1 to 20 of a to z, 0 to 9, - and _, and none has control characters.",
+        Refusal::NotFound => "There is no such request or queue, or it isn’t one that you may see.",
+        Refusal::UnknownName =>
+            "The desk knows no person, status, level or lifecycle of that name: look at how it is spelled.",
+        Refusal::Denied(_) => "This takes the right ",
+        Refusal::NoChange => "The desk is already as you asked, so there was nothing to do.",
+        Refusal::NoTransition =>
+            "Requests of this queue don’t go from the present status to that one, and none is filed in it.",
+        Refusal::OpenDependency =>
+            "This one depends on a request that is still open, maybe one that you can’t see, and can’t be closed before it.",
+        Refusal::Owned =>
+            "Another person owns this request, so it can’t be taken, but it may be stolen.",
+        Refusal::NotOwned => "Nobody owns this request, so there is nobody to take it from.",
+        Refusal::NotOwner =>
+            "Another person owns this request, and only its owner can let go of it.",
+        Refusal::Exists => "A queue of that name is open.",
+        Refusal::SelfLink => "A request can’t be linked with itself.",
+        Refusal::Full =>
+            "The desk has no room for another queue or request, or this request’s history for another entry.",
+        Refusal::Unavailable =>
+            "The desk couldn’t do this just now, and nothing was changed: please try again in a moment.",
+    }
+}
+
+/// The right that is lacking.
+fn right_of(refusal: &Refusal) -> &str
+    ensures { result.now ≡ form.right_of refusal.entry.now }
+{
+    match refusal {
+        Refusal::Denied(right) => right.as_str(),
+        _ => "",
+    }
+}
+
+/// What stands after its name.
+#[tactic(auto, unfolding(crate::specs::Refused::back_of))]
+fn back_of(refusal: &Refusal) -> &'static str
+    ensures { result.now ≡ form.back_of refusal.now }
+{
+    match refusal {
+        Refusal::Denied(_) =>
+            ", which you don’t hold here, or which the person lacks to whom you would give the request.",
+        _ => "",
+    }
+}
+
+/// Puts why something is refused, in words and by number and name.
+pub(crate) fn put_refusal(out: &mut Vec<u8>, refusal: &Refusal) -> Result<(), AllocError>
+    ensures { OnOk result (out.new.items
+        ≡ out.old.items ++ page_bytes (form.notice_of refusal.now)) }
+{
+    let mut number = Buffer::new();
+    put_notice(
+        out,
+        heading_of(refusal),
+        front_of(refusal),
+        right_of(refusal),
+        back_of(refusal),
+        number.format(u32::from(refusal.number())),
+        refusal.name(),
+        is_denied(refusal),
+    )
+}
+
+fn is_denied(refusal: &Refusal) -> bool
+    ensures { result ≡ form.is_denied refusal.now }
+{
+    matches!(refusal, Refusal::Denied(_))
+}
+
+#[tactic(auto, unfolding(crate::specs::Refused::request_crumb))]
+pub(crate) fn put_request_crumb(out: &mut Vec<u8>, id: &str) -> Result<(), AllocError>
+    ensures { OnOk result (out.new.items
+        ≡ out.old.items ++ page_bytes (form.request_crumb id.now)) }
+{
+    put_parts(
+        out,
+        &[
+            Part::Markup("<p class=\"crumb\"><a href=\"/desk/requests/"),
+            Part::Text(id),
+            Part::Markup("\">Request "),
+            Part::Text(id),
+            Part::Markup("</a></p>\n"),
+        ],
+    )
+}
+
+#[tactic(auto, unfolding(crate::specs::Refused::notice))]
+fn put_notice<'t>(
+    out: &mut Vec<u8>,
+    heading: &'t str,
+    front: &'t str,
+    right: &'t str,
+    back: &'t str,
+    number: &'t str,
+    name: &'t str,
+    denied: bool,
+) -> Result<(), AllocError>
+    ensures { OnOk result (out.new.items
+        ≡ out.old.items ++ page_bytes (form.notice heading.now front.now right.now back.now number.now name.now denied)) }
+{
+    put_parts(
+        out,
+        &[
+            Part::Markup("<h1>"),
+            Part::Text(heading),
+            Part::Markup("</h1>\n<p class=\"alert\">"),
+            Part::Text(front),
+            Part::Text(right),
+            Part::Text(back),
+            Part::Markup(" <code>refused "),
+            Part::Text(number),
+            Part::Markup(" "),
+            Part::Text(name),
+            Part::Markup(word(denied, " ")),
+            Part::Text(right),
+            Part::Markup("</code></p>\n"),
+        ],
+    )
+}
+
+#[tactic(auto, unfolding(crate::specs::Refused::write_open))]
+pub(crate) fn put_write_open(out: &mut Vec<u8>) -> Result<(), AllocError>
+    ensures { OnOk result (out.new.items ≡ out.old.items ++ page_bytes form.write_open) }
+{
+    put_parts(out, &[Part::Markup("<div class=\"write\">\n")])
+}
+
+#[tactic(auto, unfolding(crate::specs::Refused::write_close))]
+pub(crate) fn put_write_close(out: &mut Vec<u8>) -> Result<(), AllocError>
+    ensures { OnOk result (out.new.items ≡ out.old.items ++ page_bytes form.write_close) }
+{
+    put_parts(out, &[Part::Markup("\n</div>\n")])
+}
+
+#[tactic(auto, unfolding(crate::specs::Refused::to_request))]
+pub(crate) fn put_to_request(out: &mut Vec<u8>, id: &str) -> Result<(), AllocError>
+    ensures { OnOk result (out.new.items ≡ out.old.items ++ page_bytes (form.to_request id.now)) }
+{
+    put_parts(
+        out,
+        &[
+            Part::Markup("<p><a class=\"button\" href=\"/desk/requests/"),
+            Part::Text(id),
+            Part::Markup("\">Back to request "),
+            Part::Text(id),
+            Part::Markup("</a></p>\n"),
+        ],
+    )
+}
+
+#[tactic(auto, unfolding(crate::specs::Refused::to_queue))]
+pub(crate) fn put_to_queue(out: &mut Vec<u8>, queue: &str) -> Result<(), AllocError>
+    ensures { OnOk result (out.new.items ≡ out.old.items ++ page_bytes (form.to_queue queue.now)) }
+{
+    put_parts(
+        out,
+        &[
+            Part::Markup("<p><a class=\"button\" href=\"/desk/queues/"),
+            Part::Text(queue),
+            Part::Markup("\">Back to "),
+            Part::Text(queue),
+            Part::Markup("</a></p>\n"),
+        ],
+    )
+}
+
+#[tactic(auto, unfolding(crate::specs::Refused::to_queues))]
+pub(crate) fn put_to_queues(out: &mut Vec<u8>) -> Result<(), AllocError>
+    ensures { OnOk result (out.new.items ≡ out.old.items ++ page_bytes form.to_queues) }
+{
+    put_parts(
+        out,
+        &[Part::Markup("<p><a class=\"button\" href=\"/\">To the queues</a></p>\n")],
+    )
+}

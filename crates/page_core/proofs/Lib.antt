@@ -1,0 +1,6 @@
+pub mod Harmless
+pub mod Injection
+pub mod Lossless
+pub mod Puts
+pub mod Shows
+pub mod Walks

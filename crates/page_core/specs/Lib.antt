@@ -1,0 +1,5 @@
+pub mod Escape
+pub mod Markup
+pub mod Page
+pub mod Parts
+pub mod Reading
