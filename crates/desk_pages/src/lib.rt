@@ -1,4 +1,8 @@
 //! The pages of a desk, for browsers: markup of the program, and people's texts in it.
+//!
+//! Each page is its definition, byte for byte. Its law says that each text stands where it may, and
+//! of what alone its markup tells: how many rows there are, which are due or late, and so on. The
+//! page of a request is missing, and so is what reads a browser's message and asks the desk.
 #![tactic(auto)]
 
 mod ask;
