@@ -14,15 +14,18 @@ demo:
 test:
 	rt ci
 
-# The proved program, as bin/desk. From nothing it takes half an hour to an hour on four cores.
+# The proved programs, as bin/desk and bin/desk_web. From nothing it takes half an hour to an hour on
+# four cores. Without options desk_web has nothing to serve, and ends with 2.
 desk:
 	cd crates/desk && rt run < ../../examples/printer.desk
+	cd crates/desk_web && { rt run; test $$? -eq 2; }
 	mkdir -p bin
-	cp crates/desk/out/desk bin/desk
+	cp crates/desk/out/desk crates/desk_web/out/desk_web bin
 
-# The program and its manual page, below PREFIX.
+# The programs and the manual page, below PREFIX.
 install: desk
 	install -D -m 755 bin/desk $(PREFIX)/bin/desk
+	install -D -m 755 bin/desk_web $(PREFIX)/bin/desk_web
 	install -D -m 644 docs/desk.1 $(PREFIX)/share/man/man1/desk.1
 
 # What tries the program from outside (trials/README.md), and then the judges themselves on stubs.
