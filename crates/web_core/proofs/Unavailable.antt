@@ -27,7 +27,7 @@ unavailable_step s sent fault old new leads desk is stands clean =
 pub told_step : (s : Settings) (at : ℕ) (message : List ℕ) (fault : ServeFault) (reply : List ℕ)
     (old new : State) → reply ≡ bytes_of (unavailable false)
     → RepliesOn s (at, message) (Err fault) old new → WasClean old new → Lasts old new
-    → StepsAt s at message reply old new
+    → StepsAt s old at message reply new
 told_step s at message fault reply old new is leads clean lasts = (
   subst (λ (l : List ℕ). RepliesOn s (at, message) (Ok l) old new) (sym is)
       (unavailable_step s (at, message) fault old new leads),
