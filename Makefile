@@ -36,7 +36,9 @@ trials: desk
 	trials/kills
 	trials/full
 	trials/pages
+	trials/web
 	trials/judges
+	trials/judges_web
 
 # The rules told twice: what they come to is compared with what is stored, in a few seconds.
 models:
