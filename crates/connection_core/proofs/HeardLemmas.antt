@@ -1,10 +1,9 @@
 -- A message that is whole is a front of what came.
 use Rattle.std.proofs.Common.{◌≡◌, ◌∙◌, ◌⊎◌, inl, inr, ℕ, Bool, true, false, List, [], ◌∷◌, ◌++◌}
 use Rattle.std.proofs.Common.{refl, ap, sym, subst, append_assoc, append-nil, cond, nat_le}
-use Rattle.connection_core.specs.Machine.{Conn, Event, Came, Ended, Wrote, Broke, Passed, after, afters}
+use Rattle.connection_core.specs.Machine.{Conn, Event, Came, Ended, Wrote, Broke, Passed, afters}
 use Rattle.connection_core.specs.Machine.{closed, is_empty, later, opened, phase_after, takes}
-use Rattle.connection_core.specs.Laws.{IsFront, TakesFront, is_over, sent_by}
-use Rattle.connection_core.specs.declared.phase.Part.{Part}
+use Rattle.connection_core.specs.Laws.{IsFront, is_over, sent_by}
 use Rattle.connection_core.specs.declared.phase.Part.TheVariants.{Blank}
 use Rattle.connection_core.specs.declared.phase.Phase.{Phase}
 use Rattle.connection_core.specs.declared.phase.Phase.TheVariants.{Reading, Ready, Writing}

@@ -1,10 +1,10 @@
 -- What holds of each connection, and of each message that is answered.
-use Rattle.std.proofs.Common.{◌≡◌, ◌∙◌, ◌⊎◌, inl, inr, ◌≤◌, ◌<◌, ◌+◌, ◌*◌, ℕ, zero, suc, Bool, true}
+use Rattle.std.proofs.Common.{◌≡◌, ◌∙◌, ◌⊎◌, inl, inr, ◌≤◌, ◌+◌, ◌*◌, ℕ, zero, suc, Bool, true}
 use Rattle.std.proofs.Common.{false, List, [], ◌∷◌, ◌++◌, Option, Some, None, refl, ap, sym, subst}
-use Rattle.std.proofs.Common.{length, set, replicate, arith, append-nil}
+use Rattle.std.proofs.Common.{length, set, replicate, arith}
 use Rattle.std.proofs.lemmas.List.{length-set, length-replicate}
 use Rattle.std.specs.Prelude.{⊤}
-use Rattle.connection_core.specs.Machine.{Conn, Event, after, afters, answered, closed, opened}
+use Rattle.connection_core.specs.Machine.{Conn, Event, afters, answered, closed, opened}
 use Rattle.connection_core.specs.Laws.{IsBounded, StatesAtMost, is_over}
 use Rattle.connection_core.specs.declared.phase.Phase.TheVariants.{Ready}
 use Rattle.connection_core.proofs.ConnectionLemmas.{bounded_always, bounded_few, left_always, over_stays}

@@ -1,8 +1,8 @@
 -- What a server has done, one thing after the other.
-use Rattle.std.proofs.Common.{◌≡◌, ◌∙◌, ◌<◌, ◌≤◌, ◌+◌, ℕ, Bool, true, List, [], ◌∷◌, ◌++◌}
+use Rattle.std.proofs.Common.{◌≡◌, ◌∙◌, ◌≤◌, ◌+◌, ℕ, Bool, true, List, [], ◌∷◌, ◌++◌}
 use Rattle.std.proofs.Common.{Option, Some, None, refl, ap, sym, subst, length, length-append}
-use Rattle.std.proofs.Common.{get_or, set, replicate, arith, append_assoc, append-nil}
-use Rattle.std.proofs.lemmas.List.{map-set, length-map, get_or-map, length-replicate}
+use Rattle.std.proofs.Common.{set, replicate, arith, append_assoc, append-nil}
+use Rattle.std.proofs.lemmas.List.{map-set, length-map, length-replicate}
 use Rattle.connection_core.specs.Machine.{Conn, closed, opened}
 use Rattle.connection_core.specs.Seen.{seen}
 use Rattle.server_core.specs.Places.{Each, TurnsOf, conns}

@@ -1,5 +1,5 @@
 -- The connection that has waited longest.
-use Rattle.std.proofs.Common.{◌≡◌, ◌≢◌, ◌∙◌, ◌⊎◌, inl, inr, ◌≤◌, ◌<◌, ◌+◌, ℕ, Bool, true, false, List, []}
+use Rattle.std.proofs.Common.{◌≡◌, ◌≢◌, ◌∙◌, inl, inr, ◌≤◌, ◌<◌, ◌+◌, ℕ, Bool, true, false, List, []}
 use Rattle.std.proofs.Common.{◌∷◌, ◌++◌, Option, Some, None, refl, ap, sym, subst, cond, length, take}
 use Rattle.std.proofs.Common.{get_or, arith, length-append, nat_le}
 use Rattle.std.proofs.lemmas.List.{take_more, take_all, get_or_append_left, get_or-map, length-map, length-take-le}
@@ -10,7 +10,7 @@ use Rattle.connection_core.specs.declared.phase.Phase.{Phase}
 use Rattle.connection_core.specs.declared.phase.Phase.TheVariants.{Reading, Ready, Writing}
 use Rattle.connection_core.specs.declared.phase.Phase.TheVariants.{Lingering, Closed}
 use Rattle.server_core.specs.Places.{Each, conns}
-use Rattle.server_core.specs.Wait.{HasWaitedLongest, IsLongest, IsToGiveWay, longer_in, reads, sooner_of}
+use Rattle.server_core.specs.Wait.{IsLongest, IsToGiveWay, longer_in, reads, sooner_of}
 use Rattle.server_core.specs.declared.admit.Waiting.{Waiting}
 use Rattle.server_core.specs.declared.slot.Slot.{Slot}
 

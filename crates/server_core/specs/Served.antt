@@ -1,6 +1,6 @@
 -- What a server does, over all its turns.
-use Rattle.std.specs.Prelude.{◌≡◌, ◌≤◌, ◌<◌, ℕ, Bool, true, false, List, [], ◌∷◌, ◌++◌, Option, length}
-use Rattle.std.specs.Prelude.{get_or, set, replicate}
+use Rattle.std.specs.Prelude.{◌≡◌, ◌≤◌, ◌<◌, ℕ, Bool, true, List, [], ◌∷◌, ◌++◌, Option, length}
+use Rattle.std.specs.Prelude.{set, replicate}
 use Rattle.connection_core.specs.Machine.{Conn, closed, opened}
 use Rattle.server_core.specs.Places.{Each, TurnsOf}
 use Rattle.server_core.specs.Turns.{Answered, IsInTime, TakeTurns, at_minute, somes}
