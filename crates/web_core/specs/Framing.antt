@@ -1,5 +1,5 @@
 -- The length that a head states.
-use Rattle.std.specs.Prelude.{ℕ, ◌+◌, ◌-◌, ◌*◌, ◌==◌, ◌&&◌, min, nat_le, if◌then◌else◌}
+use Rattle.std.specs.Prelude.{ℕ, ◌+◌, ◌-◌, ◌*◌, ◌==◌, ◌&&◌, ◌||◌, min, nat_le, if◌then◌else◌}
 use Rattle.std.specs.Prelude.{Bool, List, [], ◌∷◌, length, take, drop, codes}
 use Rattle.std.specs.Str.{str_eq_ignore_ascii_case}
 
@@ -11,11 +11,15 @@ is_length_line line =
 abbrev pub is_digit : ℕ → Bool
 is_digit b = nat_le 48 b && nat_le b 57
 
+-- a space or a tab
+abbrev pub is_blank : ℕ → Bool
+is_blank b = (b == 32) || (b == 9)
+
 -- the number that digits give, after blanks; 65,537 where it is greater than 65,536
 abbrev pub number_of : ℕ → List ℕ → ℕ
 number_of n [] = n
 number_of n (b ∷ bs) =
-    if (b == 32) && (n == 0) then number_of n bs
+    if is_blank b && (n == 0) then number_of n bs
     else if is_digit b then number_of (min (n * 10 + (b - 48)) 65537) bs
     else n
 

@@ -10,6 +10,13 @@ fn is_length_line(line: &[u8]) -> bool
     line.len() >= 15 && line[..15].eq_ignore_ascii_case(b"content-length:")
 }
 
+/// Whether a byte may stand before a value: a space or a tab.
+fn is_blank(byte: u8) -> bool
+    ensures { result ≡ form.is_blank byte }
+{
+    byte == b' ' || byte == b'\t'
+}
+
 /// The number that digits give, after blanks; 65,537 where it is greater than 65,536.
 fn number_of(value: &[u8]) -> u32
     ensures is { result ≡ form.number_of 0 value.now }
@@ -17,7 +24,7 @@ fn number_of(value: &[u8]) -> u32
 {
     let mut number = 0u32;
     for byte in value {
-        if *byte == b' ' && number == 0 {
+        if is_blank(*byte) && number == 0 {
             continue;
         }
         if *byte < b'0' || *byte > b'9' {
