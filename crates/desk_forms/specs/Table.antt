@@ -33,10 +33,12 @@ arguments form.Create =
     ∷ is (codes "requestors") Many ∷ is (codes "status") Named ∷ []
 arguments form.SetStatus = id ∷ is (codes "status") Text ∷ []
 arguments form.Resolve = id ∷ []
+arguments form.Reopen = id ∷ []
 arguments form.SetLevel = id ∷ is (codes "level") Maybe ∷ []
 arguments form.Take = id ∷ []
 arguments form.Steal = id ∷ []
 arguments form.Untake = id ∷ []
+arguments form.Release = id ∷ []
 arguments form.Give = id ∷ is (codes "person") Text ∷ []
 arguments form.Watch = watcher
 arguments form.Unwatch = watcher
@@ -58,10 +60,12 @@ words =
     ∷ asks (codes "create") form.Create
     ∷ asks (codes "status") form.SetStatus
     ∷ asks (codes "resolve") form.Resolve
+    ∷ asks (codes "reopen") form.Reopen
     ∷ asks (codes "level") form.SetLevel
     ∷ asks (codes "take") form.Take
     ∷ asks (codes "steal") form.Steal
     ∷ asks (codes "untake") form.Untake
+    ∷ asks (codes "release") form.Release
     ∷ asks (codes "give") form.Give
     ∷ asks (codes "watch") form.Watch
     ∷ asks (codes "unwatch") form.Unwatch
@@ -105,6 +109,7 @@ paths =
     ∷ post (act (codes "take")) form.Take
     ∷ post (act (codes "steal")) form.Steal
     ∷ post (act (codes "untake")) form.Untake
+    ∷ post (act (codes "release")) form.Release
     ∷ post (act (codes "give")) form.Give
     ∷ post (act (codes "reply")) form.Reply
     ∷ post (act (codes "comment")) form.Comment
@@ -115,6 +120,7 @@ paths =
     ∷ post (act (codes "level")) form.SetLevel
     ∷ get (lit (codes "overdue") ∷ []) form.Overdue
     ∷ get (lit (codes "workload") ∷ []) form.Workload
+    ∷ get (lit (codes "load") ∷ []) form.Workload
     ∷ []
 
 -- the command that values make
@@ -123,10 +129,12 @@ made form.OpenQueue v many = command.OpenQueue v.queue v.text v.maybe
 made form.Create v many = command.Create v.queue v.text v.maybe many
 made form.SetStatus v many = command.SetStatus v.id v.text
 made form.Resolve v many = command.SetStatus v.id (codes "resolved")
+made form.Reopen v many = command.SetStatus v.id (codes "open")
 made form.SetLevel v many = command.SetLevel v.id v.maybe
 made form.Take v many = command.Take v.id
 made form.Steal v many = command.Steal v.id
 made form.Untake v many = command.Untake v.id
+made form.Release v many = command.Untake v.id
 made form.Give v many = command.Give v.id v.text
 made form.Watch v many = command.Watch v.id v.role v.text
 made form.Unwatch v many = command.Unwatch v.id v.role v.text

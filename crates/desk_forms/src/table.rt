@@ -28,10 +28,13 @@ pub enum Form {
     SetStatus,
     /// To set the status `resolved`.
     Resolve,
+    /// To set the status `open`.
+    Reopen,
     SetLevel,
     Take,
     Steal,
     Untake,
+    Release,
     Give,
     Watch,
     Unwatch,
@@ -93,10 +96,12 @@ pub fn args_of(of: Form) -> &'static [Arg]
         Form::Create => &CREATE,
         Form::SetStatus => &ID_STATUS,
         Form::Resolve => &ID,
+        Form::Reopen => &ID,
         Form::SetLevel => &ID_LEVEL,
         Form::Take => &ID,
         Form::Steal => &ID,
         Form::Untake => &ID,
+        Form::Release => &ID,
         Form::Give => &ID_PERSON,
         Form::Watch => &ID_ROLE_PERSON,
         Form::Unwatch => &ID_ROLE_PERSON,
@@ -113,15 +118,17 @@ pub fn args_of(of: Form) -> &'static [Arg]
     }
 }
 
-static WORDS: [Word; 20] = [
+static WORDS: [Word; 22] = [
     Word("queue", Form::OpenQueue),
     Word("create", Form::Create),
     Word("status", Form::SetStatus),
     Word("resolve", Form::Resolve),
+    Word("reopen", Form::Reopen),
     Word("level", Form::SetLevel),
     Word("take", Form::Take),
     Word("steal", Form::Steal),
     Word("untake", Form::Untake),
+    Word("release", Form::Release),
     Word("give", Form::Give),
     Word("watch", Form::Watch),
     Word("unwatch", Form::Unwatch),
@@ -144,7 +151,7 @@ pub fn words() -> &'static [Word]
     &WORDS
 }
 
-static PATHS: [Path; 20] = [
+static PATHS: [Path; 22] = [
     Path(Get, &[Part::Lit("queues")], Form::Queues),
     Path(Post, &[Part::Lit("queues")], Form::OpenQueue),
     Path(
@@ -182,6 +189,11 @@ static PATHS: [Path; 20] = [
         Post,
         &[Part::Lit("requests"), Part::Id, Part::Lit("untake")],
         Form::Untake,
+    ),
+    Path(
+        Post,
+        &[Part::Lit("requests"), Part::Id, Part::Lit("release")],
+        Form::Release,
     ),
     Path(
         Post,
@@ -225,6 +237,7 @@ static PATHS: [Path; 20] = [
     ),
     Path(Get, &[Part::Lit("overdue")], Form::Overdue),
     Path(Get, &[Part::Lit("workload")], Form::Workload),
+    Path(Get, &[Part::Lit("load")], Form::Workload),
 ];
 
 /// All paths, in order.
@@ -259,6 +272,10 @@ pub(crate) fn made(
             id: v.id,
             status: Text::new(alloc, "resolved")?,
         }),
+        Form::Reopen => Ok(Command::SetStatus {
+            id: v.id,
+            status: Text::new(alloc, "open")?,
+        }),
         Form::SetLevel => Ok(Command::SetLevel {
             id: v.id,
             level: copied(alloc, v.maybe)?,
@@ -266,6 +283,7 @@ pub(crate) fn made(
         Form::Take => Ok(Command::Take { id: v.id }),
         Form::Steal => Ok(Command::Steal { id: v.id }),
         Form::Untake => Ok(Command::Untake { id: v.id }),
+        Form::Release => Ok(Command::Untake { id: v.id }),
         Form::Give => Ok(Command::Give {
             id: v.id,
             person: Text::new(alloc, v.text)?,
