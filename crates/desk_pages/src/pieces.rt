@@ -51,7 +51,7 @@ pub(crate) fn put_minute_or_dash(
 }
 
 /// Bytes that are ASCII, as a text.
-fn as_text(bytes: &[u8]) -> &str
+pub(crate) fn as_text(bytes: &[u8]) -> &str
     requires { IsAscii bytes.now }
     ensures { result.now ≡ bytes.now }
 {
@@ -94,6 +94,23 @@ pub(crate) fn put_choice(out: &mut Vec<u8>, name: &str) -> Result<(), AllocError
         out,
         &[
             Part::Markup("<option>"),
+            Part::Text(name),
+            Part::Markup("</option>\n"),
+        ],
+    )
+}
+
+#[tactic(auto, unfolding(crate::specs::Pieces::chosen))]
+pub(crate) fn put_chosen(out: &mut Vec<u8>, first: bool, name: &str) -> Result<(), AllocError>
+    ensures { OnOk result (out.new.items
+        ≡ out.old.items ++ page_bytes (form.chosen first name.now)) }
+{
+    put_parts(
+        out,
+        &[
+            Part::Markup("<option"),
+            Part::Markup(word(first, " selected")),
+            Part::Markup(">"),
             Part::Text(name),
             Part::Markup("</option>\n"),
         ],

@@ -1,0 +1,44 @@
+//! Local time, which stands beside a moment.
+ghost use Rattle.std.specs.Prelude.{◌≡◌, ◌++◌, OnOk};
+ghost use Rattle.std.specs.Option.{option_map};
+ghost use Rattle.page_core.specs.Page.{page_bytes};
+ghost use Rattle.desk_pages.specs.Local as form;
+
+use crate::pieces::as_text;
+use hours_core::{Calendar, Minute, minute_text};
+use page_core::{Part, put_parts};
+use std::alloc::AllocError;
+
+/// What clocks show at a moment by a calendar, where there are both.
+pub(crate) fn local_at(calendar: Option<&Calendar>, moment: Option<Minute>) -> Option<Minute>
+    ensures { result ≡ form.local_at (option_map (λ c. c.now) calendar.entry) moment }
+{
+    match (calendar, moment) {
+        (Some(calendar), Some(moment)) => calendar.local_time(moment),
+        _ => None,
+    }
+}
+
+/// Puts local time, if there is any.
+pub(crate) fn put_local(out: &mut Vec<u8>, shown: Option<Minute>) -> Result<(), AllocError>
+    ensures { OnOk result (out.new.items ≡ out.old.items ++ page_bytes (form.local shown)) }
+{
+    match shown {
+        Some(shown) => put_clock(out, as_text(&minute_text(shown))),
+        None => Ok(()),
+    }
+}
+
+#[tactic(auto, unfolding(crate::specs::Local::clock))]
+fn put_clock(out: &mut Vec<u8>, shown: &str) -> Result<(), AllocError>
+    ensures { OnOk result (out.new.items ≡ out.old.items ++ page_bytes (form.clock shown.now)) }
+{
+    put_parts(
+        out,
+        &[
+            Part::Markup(" <small>"),
+            Part::Text(shown),
+            Part::Markup(" local</small>"),
+        ],
+    )
+}
