@@ -100,6 +100,7 @@ const ON: Weather = Weather {
     jump: (3, 40_000),
     fails: (NEVER, 0),
     is_told: true,
+    is_echoed: true,
 };
 
 /// The clock jumps so far back.
@@ -109,6 +110,7 @@ const BACK: Weather = Weather {
     jump: (3, 0),
     fails: (NEVER, 0),
     is_told: true,
+    is_echoed: true,
 };
 
 /// From the second accept on, none succeeds.
@@ -118,6 +120,7 @@ const NO_MORE: Weather = Weather {
     jump: (NEVER, 0),
     fails: (1, NEVER),
     is_told: true,
+    is_echoed: true,
 };
 
 /// The second and the third accept fail.
@@ -127,6 +130,7 @@ const SOME_FAIL: Weather = Weather {
     jump: (NEVER, 0),
     fails: (1, 3),
     is_told: true,
+    is_echoed: true,
 };
 
 pub const CASES: [Case; 15] = [

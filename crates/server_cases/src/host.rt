@@ -7,6 +7,9 @@ use server_core::{Host, Mark, NetFault};
 use std::alloc::Global;
 use std::str;
 
+/// 2026-03-06 17:30 UTC, the minute of each message.
+const MINUTE: u32 = 29_546_970;
+
 /// How long the network lasts, in milliseconds.
 const LASTS: u64 = 100_000;
 
@@ -23,6 +26,8 @@ pub struct Weather {
     pub fails: (u64, u64),
     /// Whether it is printed what each client was answered.
     pub is_told: bool,
+    /// Whether the desk answers each message with its number and itself.
+    pub is_echoed: bool,
 }
 
 /// Nothing fails, and the clock goes on by seconds.
@@ -32,6 +37,7 @@ pub const FAIR: Weather = Weather {
     jump: (u64::MAX, 0),
     fails: (u64::MAX, 0),
     is_told: true,
+    is_echoed: true,
 };
 
 /// Clients that come one after the other. A wait takes as long as it may, but at most a step, and
@@ -92,6 +98,14 @@ impl<'r, R: Print> FakeHost<'r, R> {
         self.wrong
     }
 
+    /// Whether a reply is the number of its message and the message.
+    fn is_right(&self, message: &[u8], reply: &[u8]) -> bool {
+        match &echo_of(self.alloc, self.told, message) {
+            Ok(wanted) => wanted.as_slice() == reply,
+            Err(_) => false,
+        }
+    }
+
     fn is_next_here(&self) -> bool {
         match self.clients.last() {
             Some(client) => client.comes <= self.now,
@@ -128,7 +142,7 @@ impl<'r, R: Print> Host for FakeHost<'r, R> {
     }
 
     fn shut(&mut self, stream: &FakeStream) {
-        if stream.is_whole() {
+        if !self.weather.is_echoed || stream.is_whole() {
             self.whole = self.whole.saturating_add(1);
         } else {
             self.wrong = self.wrong.saturating_add(1);
@@ -165,17 +179,12 @@ impl<'r, R: Print> Host for FakeHost<'r, R> {
     }
 
     fn minute(&mut self) -> u32 {
-        0
+        MINUTE
     }
 
     fn told(&mut self, _minute: u32, message: &[u8], reply: &[u8], _micros: u64) {
         self.told = self.told.saturating_add(1);
-        let wanted = echo_of(self.alloc, self.told, message);
-        let is_right = match &wanted {
-            Ok(wanted) => wanted.as_slice() == reply,
-            Err(_) => false,
-        };
-        if !is_right {
+        if self.weather.is_echoed && !self.is_right(message, reply) {
             self.wrong = self.wrong.saturating_add(1);
         }
     }

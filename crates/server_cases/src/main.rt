@@ -1,6 +1,7 @@
 //! Servers over connections in memory: what each client gets, and how each server ends.
 #![tactic(auto)]
 
+mod broken;
 mod cases;
 mod client;
 mod desk;
@@ -9,6 +10,7 @@ mod lots;
 mod stream;
 
 use anyhow::Result;
+use broken::run_broken;
 use cases::{CASES, Case, clients_of};
 use client::{Client, End, Takes};
 use desk::Echo;
@@ -147,5 +149,6 @@ fn main(rt: HostRuntime) -> Result<()> {
     }
     run_resets(&rt)?;
     run_failing_writes(&rt)?;
-    run_lots(&rt)
+    run_lots(&rt)?;
+    run_broken(&rt)
 }
