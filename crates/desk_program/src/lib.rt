@@ -5,6 +5,8 @@
 //! first line `%%`; or else the least fault of the settings, or that of the input, or that there was
 //! no memory for a desk; or `input: read` in place of all.
 //!
+//! `answer_line` answers one line of a script, over the tables of any desk.
+//!
 //! `run_one_whole` runs one command on the tables of a store, and gives the store back. The first row
 //! that holds says what is printed. `refused 16 Unavailable` may stand in place of all, with the
 //! tables as they were.
@@ -40,6 +42,7 @@ mod script;
 mod serving;
 
 pub use fault::InputFault;
+pub use line::{Line, answer_line};
 pub use one::{OneEnded, run_one, run_one_whole};
 pub use opening::{open_desk, take_settings, tell_input_fault, tell_store_fault};
 pub use options::{OneCommand, Serving, one_command_of, serving_of};

@@ -23,7 +23,7 @@ use wire_core::{WordsFault, command_of_words, number_of_word, words_of};
 
 /// What a line of a script says.
 #[derive(Drop)]
-pub(crate) enum Line {
+pub enum Line {
     /// Nothing: it is empty, or a comment.
     PassedOver,
     /// Nothing that is understood.
@@ -36,8 +36,11 @@ pub(crate) enum Line {
     },
 }
 
-/// What a line prints, after its command is done. Out of memory the desk stays as it was.
-pub(crate) fn answer_line<S: Backend>(
+/// What a line of a script prints, after its command is done: nothing for an empty line or a
+/// comment, `bad words` for one that spells no command, else the text of what came of it. The line
+/// has no line feed. `AllocError` stands for the text `refused 16 Unavailable`, and the desk stays as
+/// it was.
+pub fn answer_line<S: Backend>(
     alloc: Global,
     desk: &mut Desk<S>,
     text: &str,
