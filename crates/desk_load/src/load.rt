@@ -1,0 +1,81 @@
+//! A load over tables.
+ghost use Rattle.std.specs.Prelude.{◌≡◌, false};
+
+use crate::progress::Told;
+use desk_program::{InputFault, open_desk, tell_input_fault};
+use load_core::{Ending, Loaded, Plan, load};
+use service_core::Desk;
+use sqlite::Connection;
+use std::io::{BufReader, Read, Write};
+use store_core::{Backend, Store};
+use stream_core::CountedWriter;
+
+/// The exit status where no line was refused.
+const DONE: u8 = 0;
+
+/// The exit status where some line was refused.
+const REFUSED: u8 = 1;
+
+/// The exit status where a write failed.
+const FAILED_WRITE: u8 = 4;
+
+/// Loads the lines of the standard input over these tables, and gives them back, if there was a
+/// desk.
+pub fn load_over<S: Backend + Drop, W: Write>(
+    rt: &HostRuntime,
+    plan: Plan,
+    settings: &[u8],
+    tables: Connection<S>,
+    output: &mut W,
+) -> (u8, Option<Connection<S>>)
+    requires { tables.in_transaction ≡ false }
+{
+    match open_desk(rt.alloc(), Store::adopt(tables), settings, output) {
+        Ok(mut desk) => {
+            let status = load_lines(rt, plan, &mut desk, output);
+            let (store, _) = desk.detach();
+            (status, Some(store.release()))
+        }
+        Err(status) => (status, None),
+    }
+}
+
+/// Loads the lines of the standard input: the exit status.
+fn load_lines<S: Backend, W: Write>(
+    rt: &HostRuntime,
+    plan: Plan,
+    desk: &mut Desk<S>,
+    output: &mut W,
+) -> u8 {
+    match BufReader::new(rt.alloc(), rt.reader()) {
+        Ok(mut input) => {
+            let loaded = load_from(rt, plan, desk, &mut input, output);
+            status_of(&loaded, output)
+        }
+        Err(_) => tell_input_fault(InputFault::Read, output),
+    }
+}
+
+/// Loads the lines of a reader, and tells how far it came.
+fn load_from<S: Backend, R: Read, W: Write>(
+    rt: &HostRuntime,
+    plan: Plan,
+    desk: &mut Desk<S>,
+    input: &mut R,
+    output: &mut W,
+) -> Loaded {
+    let mut output = CountedWriter::new(output);
+    let mut told = Told::new(rt, plan.passed);
+    let loaded = load(rt.alloc(), desk, plan, input, &mut output, &mut told);
+    told.tell();
+    loaded
+}
+
+/// The exit status of a load. A failed read is told.
+fn status_of<W: Write>(loaded: &Loaded, output: &mut W) -> u8 {
+    match loaded.ending {
+        Ending::Input | Ending::Refused => { if loaded.refused { REFUSED } else { DONE } }
+        Ending::Read => tell_input_fault(InputFault::Read, output),
+        Ending::Write => FAILED_WRITE,
+    }
+}

@@ -1,0 +1,53 @@
+//! The program `desk_load`: lines of commands from the standard input, loaded into a file of tables.
+#![tactic(auto)]
+
+mod files;
+mod load;
+mod options;
+mod progress;
+mod tables;
+
+use options::asked_of;
+use std::process::ExitCode;
+use std::{env, io};
+
+/// The exit status of words that the program doesn't know.
+const BAD_WORDS: u8 = 2;
+
+/// The exit status of a failed write.
+const FAILED_WRITE: u8 = 4;
+
+/// `desk_load --db FILE --settings FILE` answers the lines of the standard input on the desk of that
+/// file, and prints each answer that tells more than that a command is done, with its line's number.
+/// With `--all` it prints each, with `--stop` the first refusal ends it, and with `--from N` it
+/// begins with line N. All else is `bad words`.
+fn main(rt: HostRuntime) -> ExitCode {
+    match words_of(&rt) {
+        Ok(words) => ExitCode::from(run(&rt, words.as_slice())),
+        Err(_) => ExitCode::from(refuse(&rt)),
+    }
+}
+
+/// The words that the program was given.
+fn words_of(rt: &HostRuntime) -> io::Result<Vec<String>> {
+    let mut words = Vec::new(rt.alloc());
+    for word in env::args(rt)?.skip(1) {
+        words.push(word)?;
+    }
+    Ok(words)
+}
+
+fn run(rt: &HostRuntime, words: &[String]) -> u8 {
+    match asked_of(rt.alloc(), words) {
+        Some(asked) => tables::run(rt, &asked),
+        None => refuse(rt),
+    }
+}
+
+/// Prints that the words aren't known.
+fn refuse(rt: &HostRuntime) -> u8 {
+    match println!(rt; "bad words") {
+        Ok(()) => BAD_WORDS,
+        Err(_) => FAILED_WRITE,
+    }
+}

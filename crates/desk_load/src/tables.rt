@@ -1,0 +1,31 @@
+//! A load into a file of tables.
+
+use crate::files::read_settings;
+use crate::load::load_over;
+use crate::options::Asked;
+use desk_program::{tell_input_fault, tell_store_fault};
+use sqlite::Connection;
+use std::io;
+use store_core::StoreFault;
+
+/// Reads the settings, opens the tables, loads the lines, and closes the tables.
+pub fn run(rt: &HostRuntime, asked: &Asked<'_>) -> u8 {
+    match read_settings(rt, asked.settings) {
+        Ok(settings) => run_on_file(rt, asked, settings.as_slice()),
+        Err(fault) => tell_input_fault(fault, &mut io::writer(rt)),
+    }
+}
+
+/// Loads lines into the file of tables. What they changed is committed before it is told; closing
+/// only copies it from the log into the file, so its fault is passed over.
+fn run_on_file(rt: &HostRuntime, asked: &Asked<'_>, settings: &[u8]) -> u8 {
+    let mut output = io::writer(rt);
+    let Ok(tables) = Connection::open(rt, asked.tables) else {
+        return tell_store_fault(StoreFault::Refused, &mut output);
+    };
+    let (status, tables) = load_over(rt, asked.plan, settings, tables, &mut output);
+    if let Some(tables) = tables {
+        let _closed = tables.close();
+    }
+    status
+}
