@@ -14,19 +14,24 @@ demo:
 test:
 	rt ci
 
-# The proved programs, as bin/desk and bin/desk_web. From nothing it takes half an hour to an hour on
-# four cores. Without options desk_web has nothing to serve, and ends with 2.
+# The proved programs, as bin/desk, bin/desk_web and bin/desk_ask. From nothing it takes half an hour to an hour on
+# four cores. Without options desk_web has nothing to serve, and
+# desk_ask nothing to ask: both end with 2.
 desk:
 	cd crates/desk && rt run < ../../examples/printer.desk
 	cd crates/desk_web && { rt run; test $$? -eq 2; }
+	cd crates/desk_ask && { rt run; test $$? -eq 2; }
 	mkdir -p bin
-	cp crates/desk/out/desk crates/desk_web/out/desk_web bin
+	cp crates/desk/out/desk crates/desk_web/out/desk_web crates/desk_ask/out/desk_ask bin
 
-# The programs and the manual page, below PREFIX.
+# The programs, the manual pages and what bash offers, below PREFIX.
 install: desk
 	install -D -m 755 bin/desk $(PREFIX)/bin/desk
 	install -D -m 755 bin/desk_web $(PREFIX)/bin/desk_web
+	install -D -m 755 bin/desk_ask $(PREFIX)/bin/desk_ask
 	install -D -m 644 docs/desk.1 $(PREFIX)/share/man/man1/desk.1
+	install -D -m 644 docs/ask.1 $(PREFIX)/share/man/man1/desk_ask.1
+	install -D -m 644 examples/desk_ask.bash $(PREFIX)/share/bash-completion/completions/desk_ask
 
 # What tries the program from outside (trials/README.md), and then the judges themselves on stubs.
 # trials/full mounts a small disk, so this is run by root.
@@ -37,8 +42,11 @@ trials: desk
 	trials/full
 	trials/pages
 	trials/web
+	trials/ask
+	trials/pages-in-a-browser
 	trials/judges
 	trials/judges_web
+	trials/judges_browser
 
 # The rules told twice: what they come to is compared with what is stored, in a few seconds.
 models:

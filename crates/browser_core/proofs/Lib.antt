@@ -1,4 +1,6 @@
 mod Both
-pub mod Fields
+pub mod Cookies
+pub mod Decodes
+pub mod Names
 pub mod Stops
-mod Tokens
+pub mod Trims

@@ -1,33 +1,30 @@
 -- The token in the cookies of a message.
-use Rattle.std.specs.Prelude.{ℕ, ◌==◌, Bool, if◌then◌else◌, List, [], ◌∷◌, take, drop, length, codes}
-use Rattle.std.specs.Prelude.{Option, Some, None, find, option_and_then}
+use Rattle.std.specs.Prelude.{ℕ, Bool, List, [], ◌∷◌, map, codes}
+use Rattle.std.specs.Prelude.{Option, Some, None, option_and_then}
+use Rattle.std.specs.List.{filter, flat_map}
 use Rattle.std.specs.Str.{bytes_eq}
-use Rattle.settings_core.specs.Tokens.{is_token}
-use Rattle.browser_core.specs.Cuts.{parts}
+use Rattle.browser_core.specs.Cuts.{before, parts, value_in}
+use Rattle.browser_core.specs.Texts.{text_in}
+use Rattle.browser_core.specs.Trim.{trimmed}
 
--- the cookies: what stands between the semicolons
-abbrev pub cookies_in : List ℕ → List (List ℕ)
-cookies_in cookies = parts 59 cookies
+-- the pieces of a `Cookie` line: what stands between the semicolons, without spaces and tabs round it
+abbrev pub pieces : List ℕ → List (List ℕ)
+pieces line = map trimmed (parts 59 line)
 
--- a cookie without the space in front of it
-abbrev pub unspaced : List ℕ → List ℕ
-unspaced [] = []
-unspaced (b ∷ rest) = if b == 32 then rest else b ∷ rest
-
-abbrev pub front : List ℕ
-front = codes "desk-token="
-
+-- the name, up to the first `=`, is `desk`
 abbrev pub is_named : List ℕ → Bool
-is_named cookie = bytes_eq (take (length front) (unspaced cookie)) front
+is_named piece = bytes_eq (before 61 piece) (codes "desk")
 
-abbrev pub value_in : List ℕ → List ℕ
-value_in cookie = drop (length front) (unspaced cookie)
+-- the values of the pieces of that name
+abbrev pub values_of : List (List ℕ) → List (List ℕ)
+values_of pieces = map value_in (filter is_named pieces)
 
--- the value, where it has the form of a token
-abbrev pub token_in : List ℕ → Option (List ℕ)
-token_in value = if is_token value then Some value else None
+abbrev pub only : List (List ℕ) → Option (List ℕ)
+only [] = None
+only (value ∷ []) = Some value
+only (value ∷ other ∷ more) = None
 
--- the token of the first cookie that is named `desk-token`
-abbrev pub cookie_token : List ℕ → Option (List ℕ)
-cookie_token cookies =
-    option_and_then (λ cookie. token_in (value_in cookie)) (find is_named (cookies_in cookies))
+-- the text of the one cookie named `desk`, where all lines have just one
+abbrev pub cookie_token : List (List ℕ) → Option (List ℕ)
+cookie_token lines =
+    option_and_then text_in (only (flat_map (λ line. values_of (pieces line)) lines))

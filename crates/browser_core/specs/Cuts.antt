@@ -1,5 +1,5 @@
 -- Bytes that are cut at a stop.
-use Rattle.std.specs.Prelude.{ℕ, ◌==◌, if◌then◌else◌, List, [], ◌∷◌, Option, Some, None}
+use Rattle.std.specs.Prelude.{ℕ, ◌==◌, if◌then◌else◌, List, [], ◌∷◌, Option, Some, None, unwrap_or}
 use Rattle.std.specs.List.{slice_split}
 
 -- what stands before the first stop, or all
@@ -19,3 +19,7 @@ parts stop bytes = slice_split (λ b. b == stop) bytes
 abbrev pub parts_in : ℕ → Option (List ℕ) → List (List ℕ)
 parts_in stop None = []
 parts_in stop (Some bytes) = parts stop bytes
+
+-- what stands behind the first `=`; nothing where there is none
+abbrev pub value_in : List ℕ → List ℕ
+value_in piece = unwrap_or (rest_after 61 piece) []

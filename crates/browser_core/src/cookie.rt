@@ -1,102 +1,75 @@
 //! The token in the cookies of a message.
-ghost use Rattle.std.specs.Prelude.{◌≡◌, find};
-ghost use Rattle.std.specs.List.{list_all};
+ghost use Rattle.std.specs.Prelude.{◌≡◌, ◌∷◌, [], map};
+ghost use Rattle.std.specs.List.{flat_map};
 ghost use Rattle.std.specs.Option.{option_map};
-ghost use Rattle.settings_core.specs.Tokens.{is_token, is_token_byte};
 ghost use Rattle.browser_core.specs.Cookie as form;
+ghost use Rattle.browser_core.specs.Known as known;
 
-use crate::cuts::cut;
-use std::str;
+use crate::cuts::{cut, name_and_value};
+use crate::known::Known;
+use crate::texts::text_in;
+use crate::trim::trimmed;
 
-/// What stands in front of the token.
-const FRONT: &str = "desk-token=";
+/// The name of the cookie that holds the token.
+const NAME: &str = "desk";
 
-/// The token in the value of a `Cookie` line: the value of the first cookie that is named
-/// `desk-token`, where it has the form of a token.
-pub fn cookie_token(cookies: &[u8]) -> Option<&str>
-    ensures { option_map (λ t. t.now) result ≡ form.cookie_token cookies.now }
+/// The token in the values of all `Cookie` lines. Each is cut at `;`, spaces and tabs round a piece
+/// are dropped, and the piece is cut at its first `=`. There is a token where exactly one piece of
+/// all lines has the name `desk`, and its value is text.
+pub fn cookie_token<'c>(lines: &[&'c [u8]]) -> Option<&'c str>
+    ensures { option_map (λ t. t.now) result ≡ form.cookie_token (map (λ l. l.now) lines.now) }
 {
-    match named_cookie(cookies) {
-        Some(cookie) => token_in(value_in(cookie)),
+    match only_value(lines) {
+        Some(value) => text_in(value),
         None => None,
     }
 }
 
-/// The first cookie that is named `desk-token`.
-fn named_cookie(cookies: &[u8]) -> Option<&[u8]>
-    ensures { option_map (λ c. c.now) result ≡ find form.is_named (form.cookies_in cookies.now) }
+/// The value of the one cookie of the name.
+#[tactic(auto, using(crate::proofs::Cookies::the_only))]
+fn only_value<'c>(lines: &[&'c [u8]]) -> Option<&'c [u8]>
+    ensures { option_map (λ v. v.now) result ≡ form.only
+        (flat_map (λ line. form.values_of (form.pieces line)) (map (λ l. l.now) lines.now)) }
 {
-    let mut left = Some(cookies);
+    known_in(lines).the_one()
+}
+
+#[tactic(auto, using(crate::proofs::Cookies::in_turn))]
+fn known_in<'c>(lines: &[&'c [u8]]) -> Known<'c>
+    ensures { known.known_of result ≡ known.with_all known.Nothing
+        (flat_map (λ line. form.values_of (form.pieces line)) (map (λ l. l.now) lines.now)) }
+{
+    let mut known = Known::Nothing;
+    for line in lines {
+        known = with_line(known, line);
+    }
+    known
+}
+
+/// With the pieces of a line.
+fn with_line<'c>(before: Known<'c>, line: &'c [u8]) -> Known<'c>
+    ensures { known.known_of result
+        ≡ known.with_all (known.known_of before.entry) (form.values_of (form.pieces line.entry.now)) }
+{
+    let mut known = before;
+    let mut left = Some(line);
     while let Some(rest) = left {
-        let (cookie, more) = cut(rest, b';');
-        if is_named(cookie) {
-            return Some(cookie);
-        }
+        let (piece, more) = cut(rest, b';');
+        known = with_piece(known, trimmed(piece));
         left = more;
     }
-    None
+    known
 }
 
-/// A cookie without the space in front of it.
-fn unspaced(cookie: &[u8]) -> &[u8]
-    ensures { result.now ≡ form.unspaced cookie.now }
+/// With a piece, if it has the name.
+fn with_piece<'c>(before: Known<'c>, piece: &'c [u8]) -> Known<'c>
+    ensures { known.known_of result
+        ≡ known.with_all (known.known_of before.entry) (form.values_of (piece.entry.now ∷ [])) }
 {
-    if !cookie.is_empty() && cookie[0] == b' ' {
-        &cookie[1..]
+    let (name, value) = name_and_value(piece);
+    if name == NAME.as_bytes() {
+        before.with(value)
     } else {
-        cookie
+        before
     }
-}
-
-fn is_named(cookie: &[u8]) -> bool
-    ensures { result ≡ form.is_named cookie.now }
-{
-    let cookie = unspaced(cookie);
-    cookie.len() >= FRONT.len() && &cookie[..FRONT.len()] == FRONT.as_bytes()
-}
-
-fn value_in(cookie: &[u8]) -> &[u8]
-    ensures { result.now ≡ form.value_in cookie.now }
-{
-    let cookie = unspaced(cookie);
-    if cookie.len() < FRONT.len() {
-        &[]
-    } else {
-        &cookie[FRONT.len()..]
-    }
-}
-
-/// The text of a value, where it has the form of a token.
-fn token_in(value: &[u8]) -> Option<&str>
-    ensures { option_map (λ t. t.now) result ≡ form.token_in value.now }
-{
-    if !is_token(value) {
-        return None;
-    }
-    match str::from_utf8(value) {
-        Ok(text) => Some(text),
-        Err(_) => unreachable!(),
-    }
-}
-
-fn is_token(value: &[u8]) -> bool
-    ensures { result ≡ is_token value.now }
-{
-    16 <= value.len() && value.len() <= 64 && has_token_bytes(value)
-}
-
-fn has_token_bytes(bytes: &[u8]) -> bool
-    ensures { result ≡ list_all is_token_byte bytes.now }
-{
-    bytes.iter().all(|b| is_token_byte(*b))
-}
-
-fn is_token_byte(byte: u8) -> bool
-    ensures { result ≡ is_token_byte byte }
-{
-    b'a' <= byte && byte <= b'z'
-        || b'A' <= byte && byte <= b'Z'
-        || b'0' <= byte && byte <= b'9'
-        || byte == b'-'
-        || byte == b'_'
 }

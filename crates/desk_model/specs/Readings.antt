@@ -10,6 +10,7 @@ use Rattle.desk_model.specs.Readings.Workload.{has_first_owner}
 use Rattle.desk_model.specs.Rising.{is_rising}
 use Rattle.desk_model.specs.declared.answer.Answer.{Answer}
 use Rattle.desk_model.specs.declared.answer.Answer.TheVariants as answer
+pub mod Dossier
 pub mod History
 pub mod Listing
 pub mod Overdue

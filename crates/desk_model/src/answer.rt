@@ -40,6 +40,16 @@ pub struct Shown {
     pub links: Links,
 }
 
+/// All that is told of a request at once: what `show` and `history` answer, and its queue.
+#[derive(Drop)]
+pub struct Dossier {
+    pub shown: Shown,
+    /// The entries that the caller may see, in the order of their numbers.
+    pub entries: Sequence<Entry>,
+    /// The queue that the request is in.
+    pub queue: QueueRow,
+}
+
 /// The numbers of the requests that one is linked with, each list rising.
 #[derive(Drop)]
 pub struct Links {

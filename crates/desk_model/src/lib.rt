@@ -20,7 +20,7 @@ pub mod rows;
 pub mod scope;
 pub mod stays;
 
-pub use answer::{Answer, LateLine, Line, Links, Load, Shown};
+pub use answer::{Answer, Dossier, LateLine, Line, Links, Load, Shown};
 pub use change::Change;
 pub use command::Command;
 pub use due::due_of;

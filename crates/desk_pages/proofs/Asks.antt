@@ -1,14 +1,15 @@
 -- The markup of the form for a new request, and of the page that shows it.
-use Rattle.std.proofs.Common.{ℕ, Bool, true, false, List, [], ◌∷◌, refl}
+use Rattle.std.proofs.Common.{ℕ, List, [], ◌∷◌, refl}
 use Rattle.std.specs.Str.{bytes_eq}
 use Rattle.page_core.specs.Markup.{HasMarkup, markup_of}
 use Rattle.page_core.proofs.Shows.{Shows, both, each_shows, has_markup, shows}
 use Rattle.desk_pages.specs.declared.frame.Place.TheVariants.{Elsewhere}
-use Rattle.desk_pages.specs.Ask.{ask, ask_end, ask_markup, requestors_field, status_choice, status_end}
+use Rattle.desk_pages.specs.Ask.{ask, ask_end, ask_markup, requestors_field, status_end}
 use Rattle.desk_pages.specs.Ask.{status_field, status_markup, status_part, status_row, subject_field}
 use Rattle.desk_pages.specs.New.{crumbs, new_content, new_markup, new_page, title}
-use Rattle.desk_pages.specs.Pieces.{word}
+use Rattle.desk_pages.specs.Pieces.{chosen}
 use Rattle.desk_pages.proofs.Frames.{bottom_shows, top_shows}
+use Rattle.desk_pages.proofs.Tables.{chosen_shows, nothing_shows}
 
 subject_shows : (queue subject : List ℕ)
     → Shows (subject_field queue subject) (markup_of (subject_field [] []))
@@ -24,18 +25,9 @@ status_field_shows : Shows status_field (markup_of status_field)
 unfolding status_field
 status_field_shows = shows _ _ refl refl
 
-choice_shows : (first : Bool) (status : List ℕ)
-    → Shows (status_choice first status) (markup_of (status_choice first []))
-unfolding status_choice word
-choice_shows true status = shows _ _ refl refl
-choice_shows false status = shows _ _ refl refl
-
 status_end_shows : Shows status_end (markup_of status_end)
 unfolding status_end
 status_end_shows = shows _ _ refl refl
-
-nothing_shows : Shows [] []
-nothing_shows = shows _ _ refl refl
 
 statuses_show : (usual : List ℕ) (statuses : List (List ℕ))
     → Shows (status_part usual statuses) (status_markup usual statuses)
@@ -43,8 +35,8 @@ statuses_show usual [] = nothing_shows
 statuses_show usual (status ∷ statuses) =
     both _ _ _ _ status_field_shows
     (both _ _ _ _
-    (each_shows (status_row usual) (λ s. markup_of (status_choice (bytes_eq s usual) []))
-    (λ s. choice_shows (bytes_eq s usual) s) (status ∷ statuses))
+    (each_shows (status_row usual) (λ s. markup_of (chosen (bytes_eq s usual) []))
+    (λ s. chosen_shows (bytes_eq s usual) s) (status ∷ statuses))
     status_end_shows)
 
 ask_end_shows : Shows ask_end (markup_of ask_end)

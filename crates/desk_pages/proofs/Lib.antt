@@ -1,10 +1,17 @@
 pub mod Asks
+pub mod Changes
 pub mod Frames
+pub mod Histories
 pub mod Homes
+pub mod Known
 pub mod Lates
+pub mod Linked
 pub mod Loads
 pub mod Notices
+pub mod Offers
+pub mod Persons
 pub mod Queues
 pub mod Refusals
+pub mod Requests
 pub mod SignIns
 pub mod Tables

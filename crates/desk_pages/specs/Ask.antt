@@ -1,10 +1,10 @@
 -- The form for a new request.
-use Rattle.std.specs.Prelude.{ℕ, Bool, List, [], ◌∷◌, ◌++◌, codes}
+use Rattle.std.specs.Prelude.{ℕ, List, [], ◌∷◌, ◌++◌, codes}
 use Rattle.std.specs.List.{flat_map}
 use Rattle.std.specs.Str.{bytes_eq}
 use Rattle.page_core.specs.Markup.{markup_of}
 use Rattle.page_core.specs.Page.{Part, Markup, Text}
-use Rattle.desk_pages.specs.Pieces.{word}
+use Rattle.desk_pages.specs.Pieces.{chosen}
 
 -- the form for a new request, up to who asks
 unfoldable pub subject_field : List ℕ → List ℕ → List Part
@@ -40,16 +40,6 @@ status_field =
     ∷ Markup (codes "<select id=\"status\" name=\"status\">\n")
     ∷ []
 
--- a status, and whether it is the usual one
-unfoldable pub status_choice : Bool → List ℕ → List Part
-status_choice first status =
-    Markup (codes "<option")
-    ∷ Markup (word first (codes " selected"))
-    ∷ Markup (codes ">")
-    ∷ Text status
-    ∷ Markup (codes "</option>\n")
-    ∷ []
-
 -- the end of the choice
 unfoldable pub status_end : List Part
 status_end =
@@ -64,7 +54,7 @@ ask_end =
 
 -- the statuses to choose from, of which this is the usual one; nothing where there are none
 abbrev pub status_row : List ℕ → List ℕ → List Part
-status_row usual status = status_choice (bytes_eq status usual) status
+status_row usual status = chosen (bytes_eq status usual) status
 
 abbrev pub status_part : List ℕ → List (List ℕ) → List Part
 status_part usual [] = []
@@ -82,7 +72,7 @@ abbrev pub status_markup : List ℕ → List (List ℕ) → List ℕ
 status_markup usual [] = []
 status_markup usual (status ∷ statuses) =
     markup_of status_field
-    ++ (flat_map (λ s. markup_of (status_choice (bytes_eq s usual) [])) (status ∷ statuses)
+    ++ (flat_map (λ s. markup_of (chosen (bytes_eq s usual) [])) (status ∷ statuses)
     ++ markup_of status_end)
 
 abbrev pub ask_markup : List ℕ → List (List ℕ) → List ℕ

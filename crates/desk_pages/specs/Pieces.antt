@@ -15,6 +15,11 @@ unfoldable pub word : Bool → List ℕ → List ℕ
 word true markup = markup
 word false markup = []
 
+-- parts where something holds
+abbrev pub parts_if : Bool → List Part → List Part
+parts_if true parts = parts
+parts_if false parts = []
+
 -- a moment, of its day and its time of the day
 unfoldable pub time : List ℕ → List ℕ → List Part
 time day clock =
@@ -33,6 +38,16 @@ time day clock =
 unfoldable pub choice : List ℕ → List Part
 choice name =
     Markup (codes "<option>")
+    ∷ Text name
+    ∷ Markup (codes "</option>\n")
+    ∷ []
+
+-- something to choose, and whether it is chosen at first
+unfoldable pub chosen : Bool → List ℕ → List Part
+chosen first name =
+    Markup (codes "<option")
+    ∷ Markup (word first (codes " selected"))
+    ∷ Markup (codes ">")
     ∷ Text name
     ∷ Markup (codes "</option>\n")
     ∷ []

@@ -4,7 +4,7 @@ ghost use Rattle.std.specs.List.{flat_map};
 ghost use Rattle.page_core.specs.Page.{page_bytes};
 ghost use Rattle.desk_pages.specs.Ask as form;
 
-use crate::pieces::word;
+use crate::pieces::put_chosen;
 use page_core::{Part, put_parts};
 use std::alloc::AllocError;
 use text_core::Text;
@@ -55,7 +55,7 @@ fn put_status_rows(out: &mut Vec<u8>, usual: &str, statuses: &[Text]) -> Result<
         ≡ out.old.items ++ page_bytes (flat_map (form.status_row usual.now) statuses.now)) }
 {
     for status in statuses {
-        put_status_choice(out, status.as_str() == usual, status.as_str())?;
+        put_chosen(out, status.as_str() == usual, status.as_str())?;
     }
     Ok(())
 }
@@ -118,23 +118,6 @@ fn put_status_field(out: &mut Vec<u8>) -> Result<(), AllocError>
         &[
             Part::Markup("<label for=\"status\">Status</label>\n"),
             Part::Markup("<select id=\"status\" name=\"status\">\n"),
-        ],
-    )
-}
-
-#[tactic(auto, unfolding(crate::specs::Ask::status_choice))]
-fn put_status_choice(out: &mut Vec<u8>, first: bool, status: &str) -> Result<(), AllocError>
-    ensures { OnOk result (out.new.items
-        ≡ out.old.items ++ page_bytes (form.status_choice first status.now)) }
-{
-    put_parts(
-        out,
-        &[
-            Part::Markup("<option"),
-            Part::Markup(word(first, " selected")),
-            Part::Markup(">"),
-            Part::Text(status),
-            Part::Markup("</option>\n"),
         ],
     )
 }

@@ -3,6 +3,8 @@
 //! no more than what is named here.
 ghost use Rattle.std.specs.Prelude.{ℕ, Bool, List, []};
 ghost use Rattle.lifecycle_core.specs.declared.parts.Parts.{Parts};
+ghost use Rattle.settings_core.specs.declared.settings.Settings.{Settings};
+ghost use Rattle.desk_model.specs.declared.answer.Dossier.{Dossier};
 ghost use Rattle.desk_model.specs.declared.answer.LateLine.{LateLine};
 ghost use Rattle.desk_model.specs.declared.answer.Line.{Line};
 ghost use Rattle.desk_model.specs.declared.answer.Load.{Load};
@@ -25,6 +27,7 @@ ghost use Rattle.desk_pages.specs.RefusalPage.{
   request_refusal_page,
   typed_markup,
 };
+ghost use Rattle.desk_pages.specs.Request.{request_markup, request_page};
 ghost use Rattle.desk_pages.specs.SignIn.{sign_in_markup, sign_in_page};
 ghost use Rattle.desk_pages.specs.Write as form;
 ghost use Rattle.desk_pages.specs.Workload.{workload_markup, workload_page};
@@ -95,4 +98,15 @@ pub fn refusal_page_law()
         (queue subject requestors usual : List ℕ) (statuses : List (List ℕ))
         → HasMarkup (ask_refusal_page why caller moment queue subject requestors usual statuses)
         (ask_refusal_markup why usual statuses) }
+{}
+
+/// The page of a request tells by its markup whether the request is due, whether it is late, whether
+/// the caller is a requestor of it, how many persons and other requests each of its lists has, and
+/// the kinds of its entries in their order. Of what may change it the markup tells which moves there
+/// are and how many levels and suggested names, and which level is the present one, but not who owns
+/// the request.
+pub fn request_page_law()
+    ensures { (caller : List ℕ) (moment : ℕ) (settings : Settings) (dossier : Dossier)
+        → HasMarkup (request_page caller moment settings dossier)
+        (request_markup caller moment settings dossier) }
 {}

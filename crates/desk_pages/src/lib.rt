@@ -1,21 +1,29 @@
 //! The pages of a desk, for browsers: markup of the program, and people's texts in it.
 //!
 //! Each page is its definition, byte for byte. Its law says that each text stands where it may, and
-//! of what alone its markup tells: how many rows there are, which are due or late, and so on. The
-//! page of a request is missing, and so is what reads a browser's message and asks the desk.
+//! of what alone its markup tells: how many rows there are, which are due or late, and so on.
 #![tactic(auto)]
 
 mod ask;
+mod change;
+mod facts;
 mod fault;
+mod fields;
 mod frame;
+mod history;
 mod home;
 mod laws;
+mod lists;
+mod moves;
 mod new;
 mod overdue;
+mod owner;
+mod people;
 mod pieces;
 mod queue;
 mod refusal;
 mod refused;
+mod request;
 mod sign_in;
 mod workload;
 mod write;
@@ -26,7 +34,7 @@ pub use frame::Place;
 pub use home::home_page;
 pub use laws::{
     fault_page_law, home_page_law, new_page_law, overdue_page_law, queue_page_law,
-    refusal_page_law, sign_in_page_law, workload_page_law,
+    refusal_page_law, request_page_law, sign_in_page_law, workload_page_law,
 };
 pub use new::new_page;
 pub use overdue::overdue_page;
@@ -34,5 +42,6 @@ pub use queue::queue_page;
 pub use refusal::{
     ask_refusal_page, comment_refusal_page, refusal_page, reply_refusal_page, request_refusal_page,
 };
+pub use request::request_page;
 pub use sign_in::sign_in_page;
 pub use workload::workload_page;

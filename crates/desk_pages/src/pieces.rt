@@ -100,6 +100,23 @@ pub(crate) fn put_choice(out: &mut Vec<u8>, name: &str) -> Result<(), AllocError
     )
 }
 
+#[tactic(auto, unfolding(crate::specs::Pieces::chosen))]
+pub(crate) fn put_chosen(out: &mut Vec<u8>, first: bool, name: &str) -> Result<(), AllocError>
+    ensures { OnOk result (out.new.items
+        ≡ out.old.items ++ page_bytes (form.chosen first name.now)) }
+{
+    put_parts(
+        out,
+        &[
+            Part::Markup("<option"),
+            Part::Markup(word(first, " selected")),
+            Part::Markup(">"),
+            Part::Text(name),
+            Part::Markup("</option>\n"),
+        ],
+    )
+}
+
 #[tactic(auto, unfolding(crate::specs::Pieces::table_end))]
 pub(crate) fn put_table_end(out: &mut Vec<u8>) -> Result<(), AllocError>
     ensures { OnOk result (out.new.items ≡ out.old.items ++ page_bytes form.table_end) }

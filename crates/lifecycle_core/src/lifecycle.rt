@@ -81,6 +81,14 @@ impl Lifecycle {
         })
     }
 
+    /// What it was built from: its statuses, moves and rights. Takes no memory.
+    pub fn parts(&self) -> &Parts
+        ensures parts { result.now ≡ self.now }
+        ensures sound { fault_of self.now ≡ None }
+    {
+        &self.parts
+    }
+
     /// The class of a status, or none for a text that is no status here.
     pub fn class(&self, status: &str) -> Option<Class>
         ensures class { result ≡ words.class_of self.now status.now }

@@ -1,6 +1,8 @@
+pub mod Elsewhere
 pub mod Fronts
 pub mod HeadEnds
 pub mod HeadLemmas
+pub mod Heads
 pub mod MessageLemmas
 pub mod OneReading
 pub mod ReplyLemmas

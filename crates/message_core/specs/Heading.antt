@@ -8,12 +8,12 @@ use Rattle.std.specs.Str.{is_utf8, str_eq_ignore_ascii_case}
 use Rattle.httparse.specs.Grammar.{RequestHead}
 use Rattle.httparse.specs.Spans.{name_and_value}
 use Rattle.message_core.specs.Head.{StartsWith}
+use Rattle.message_core.specs.Limits.{limit_at}
 use Rattle.message_core.specs.declared.fault.WireFault.{WireFault}
 use Rattle.message_core.specs.declared.fault.WireFault.TheVariants.{BadLength, TooLong}
 use Rattle.message_core.specs.declared.heading.Heading.{Heading}
-
-abbrev pub body_limit : ℕ
-body_limit = 65536
+use Rattle.message_core.specs.declared.limits.BodyLimit.{BodyLimit}
+use Rattle.message_core.specs.declared.limits.BodyLimit.TheVariants.{Plain}
 
 -- a name and a value
 abbrev pub Line : Type 0
@@ -37,25 +37,25 @@ abbrev pub value_of : List ℕ → ℕ
 value_of digits = fold (λ n b. n * 10 + (b - 48)) 0 digits
 
 -- one or more digits: their number, or one over the limit where it is greater
-abbrev pub number_of : List ℕ → Option ℕ
-number_of value =
+abbrev pub number_within : ℕ → List ℕ → Option ℕ
+number_within limit value =
     if nat_le 1 (length value) && list_all is_digit value
-    then Some (min (value_of value) (body_limit + 1)) else None
+    then Some (min (value_of value) (limit + 1)) else None
 
-abbrev pub within_limit : Option ℕ → Result ℕ WireFault
-within_limit None = Err BadLength
-within_limit (Some n) = if nat_le n body_limit then Ok n else Err TooLong
+abbrev pub within_limit : ℕ → Option ℕ → Result ℕ WireFault
+within_limit limit None = Err BadLength
+within_limit limit (Some n) = if nat_le n limit then Ok n else Err TooLong
 
 -- no line means no body
-abbrev pub length_in : Option (List ℕ) → Result ℕ WireFault
-length_in None = Ok 0
-length_in (Some value) = within_limit (number_of value)
+abbrev pub length_in : ℕ → Option (List ℕ) → Result ℕ WireFault
+length_in limit None = Ok 0
+length_in limit (Some value) = within_limit limit (number_within limit value)
 
-abbrev pub length_of : List Line → Result ℕ WireFault
-length_of lines =
+abbrev pub length_of : ℕ → List Line → Result ℕ WireFault
+length_of limit lines =
     if nat_lt 0 (count_named (codes "Transfer-Encoding") lines) then Err BadLength
     else if nat_lt 1 (count_named (codes "Content-Length") lines) then Err BadLength
-    else length_in (first_value (codes "Content-Length") lines)
+    else length_in limit (first_value (codes "Content-Length") lines)
 
 -- ---- the token
 
@@ -76,13 +76,19 @@ with_length method target lines (Err fault) = Err fault
 with_length method target lines (Ok n) =
     Ok (record { method = method; target = target; token = token_of lines; length = n })
 
-abbrev pub heading_by : List ℕ → List ℕ → List Line → Result Heading WireFault
-heading_by method target lines = with_length method target lines (length_of lines)
+abbrev pub heading_by : BodyLimit → List ℕ → List ℕ → List Line → Result Heading WireFault
+heading_by limit method target lines =
+    with_length method target lines (length_of (limit_at limit target) lines)
 
 -- what a head says, or the fault of its length
-abbrev pub heading : RequestHead → Result Heading WireFault
-heading h = heading_by h.method h.target (map name_and_value h.fields)
+abbrev pub heading_within : BodyLimit → RequestHead → Result Heading WireFault
+heading_within limit h = heading_by limit h.method h.target (map name_and_value h.fields)
 
--- the same of the bytes of a head
-abbrev pub IsHeadingOf : List ℕ → Result Heading WireFault → Type 0
-IsHeadingOf bytes said = (h : RequestHead) × StartsWith bytes h [] × (heading h ≡ said)
+-- the same, where a body has at most 65,536 bytes
+abbrev pub heading : RequestHead → Result Heading WireFault
+heading h = heading_within Plain h
+
+-- what the bytes of a head say
+abbrev pub IsHeadingOf : BodyLimit → List ℕ → Result Heading WireFault → Type 0
+IsHeadingOf limit bytes said =
+    (h : RequestHead) × StartsWith bytes h [] × (heading_within limit h ≡ said)

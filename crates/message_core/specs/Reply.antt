@@ -1,5 +1,5 @@
 -- The bytes of a reply.
-use Rattle.std.specs.Prelude.{◌≡◌, ◌==◌, ℕ, Bool, true, false, if◌then◌else◌, List, [], ◌∷◌}
+use Rattle.std.specs.Prelude.{◌≡◌, ◌==◌, ℕ, Bool, true, if◌then◌else◌, List, [], ◌∷◌}
 use Rattle.std.specs.Prelude.{◌++◌, length, Option, Some, None, is_some, codes, decimal, unwrap_or}
 use Rattle.std.specs.List.{list_any}
 use Rattle.http.specs.StatusCode.{reason_phrase}

@@ -6,17 +6,16 @@ ghost use Rattle.message_core.specs.Fault.{tells_failed_read};
 ghost use Rattle.message_core.specs.Head.{IsHead};
 ghost use Rattle.message_core.specs.Heading as form;
 ghost use Rattle.message_core.specs.Heading.{IsHeadingOf};
+ghost use Rattle.message_core.specs.Limits.{most_of};
 
 use crate::fault::WireFault;
+use crate::limits::BodyLimit;
 use crate::lines::{count_named, first_named};
 use httparse::Status;
 use httparse::spans::{EMPTY_HEADER_SPAN, HeaderSpan, RequestSpans, parse_request};
 use std::alloc::{AllocError, Global};
 use std::str;
 use text_core::{Sequence, Text};
-
-/// The most bytes of a body.
-const MAX_BODY: u32 = 65_536;
 
 /// What the head of a message says.
 #[derive(Drop)]
@@ -27,10 +26,11 @@ pub(crate) struct Heading {
     pub(crate) length: u32,
 }
 
-/// The number that the digits of a value give, or one over 65,536 where it is greater; none where
+/// The number that the digits of a value give, or one over the limit where it is greater; none where
 /// the value isn't one or more digits.
-fn number_of_value(value: &[u8]) -> Option<u32>
-    ensures { result ≡ form.number_of value.now }
+fn number_of_value(value: &[u8], limit: u32) -> Option<u32>
+    requires { limit ≤ 262144 }
+    ensures { result ≡ form.number_within limit value.now }
 {
     if value.is_empty() {
         return None;
@@ -40,23 +40,24 @@ fn number_of_value(value: &[u8]) -> Option<u32>
         if *b < b'0' || *b > b'9' {
             return None;
         }
-        number = (number * 10 + (*b - b'0') as u32).min(MAX_BODY + 1);
+        number = (number * 10 + (*b - b'0') as u32).min(limit + 1);
     }
     Some(number)
 }
 
 /// The length that the value of the one line states; 0 without a line.
-fn length_of_value(value: Option<&[u8]>) -> Result<u32, WireFault>
-    ensures small { IfOk result (λ n. n ≤ form.body_limit) }
-    ensures length { result ≡ form.length_in (option_map (λ v. v.now) value.entry) }
+fn length_of_value(value: Option<&[u8]>, limit: u32) -> Result<u32, WireFault>
+    requires { limit ≤ 262144 }
+    ensures small { IfOk result (λ n. n ≤ limit) }
+    ensures length { result ≡ form.length_in limit (option_map (λ v. v.now) value.entry) }
     ensures unread { tells_failed_read result ≡ false }
 {
     let Some(value) = value else {
         return Ok(0);
     };
-    match number_of_value(value) {
+    match number_of_value(value, limit) {
         Some(number) => {
-            if number <= MAX_BODY {
+            if number <= limit {
                 Ok(number)
             } else {
                 Err(WireFault::TooLong)
@@ -67,10 +68,11 @@ fn length_of_value(value: Option<&[u8]>) -> Result<u32, WireFault>
 }
 
 /// The length of the body that follows, as the lines state it.
-fn stated_length(bytes: &[u8], lines: &[HeaderSpan]) -> Result<u32, WireFault>
-    requires { All (IsHeaderWithin (length bytes.now)) lines.now }
-    ensures small { IfOk result (λ n. n ≤ form.body_limit) }
-    ensures length { result ≡ form.length_of (map (header_bytes bytes.now) lines.now) }
+fn stated_length(bytes: &[u8], lines: &[HeaderSpan], limit: u32) -> Result<u32, WireFault>
+    requires lines { All (IsHeaderWithin (length bytes.now)) lines.now }
+    requires limit { limit ≤ 262144 }
+    ensures small { IfOk result (λ n. n ≤ limit) }
+    ensures length { result ≡ form.length_of limit (map (header_bytes bytes.now) lines.now) }
     ensures unread { tells_failed_read result ≡ false }
 {
     if count_named(bytes, lines, "Transfer-Encoding") > 0 {
@@ -79,7 +81,7 @@ fn stated_length(bytes: &[u8], lines: &[HeaderSpan]) -> Result<u32, WireFault>
     if count_named(bytes, lines, "Content-Length") > 1 {
         return Err(WireFault::BadLength);
     }
-    length_of_value(first_named(bytes, lines, "Content-Length"))
+    length_of_value(first_named(bytes, lines, "Content-Length"), limit)
 }
 
 /// The text that the bytes are, if they are one.
@@ -130,21 +132,22 @@ fn heading_at(
     bytes: &[u8],
     lines: &[HeaderSpan],
     spans: &RequestSpans,
+    limit: BodyLimit,
 ) -> Result<Heading, WireFault>
     requires lines { All (IsHeaderWithin (length bytes.now)) lines.now }
     requires method { IsWithin (length bytes.now) spans.now.method }
     requires path { IsWithin (length bytes.now) spans.now.path }
-    ensures small { IfOk result (λ heading. heading.length ≤ form.body_limit) }
-    ensures ok { IfOk result (λ heading. form.heading_by (span_bytes bytes.now spans.now.method)
+    ensures small { IfOk result (λ heading. heading.length ≤ most_of limit) }
+    ensures ok { IfOk result (λ heading. form.heading_by limit (span_bytes bytes.now spans.now.method)
         (span_bytes bytes.now spans.now.path) (map (header_bytes bytes.now) lines.now)
         ≡ Ok heading) }
     ensures err { IfErr result (λ fault. fault ≢ WireFault.NoMemory
-        → form.heading_by (span_bytes bytes.now spans.now.method)
+        → form.heading_by limit (span_bytes bytes.now spans.now.method)
         (span_bytes bytes.now spans.now.path) (map (header_bytes bytes.now) lines.now)
         ≡ Err fault) }
     ensures unread { tells_failed_read result ≡ false }
 {
-    let length = stated_length(bytes, lines)?;
+    let length = stated_length(bytes, lines, limit.at(spans.path.of(bytes)))?;
     let token = owned_text(alloc, stated_token(bytes, lines))?;
     let method = owned_bytes(alloc, spans.method.of(bytes))?;
     let target = owned_bytes(alloc, spans.path.of(bytes))?;
@@ -157,17 +160,23 @@ fn heading_at(
 }
 
 /// What a head says.
-pub(crate) fn heading_of(alloc: Global, bytes: &[u8]) -> Result<Heading, WireFault>
+pub(crate) fn heading_of(
+    alloc: Global,
+    bytes: &[u8],
+    limit: BodyLimit,
+) -> Result<Heading, WireFault>
     requires { IsHead bytes.now }
-    ensures small { IfOk result (λ heading. heading.length ≤ form.body_limit) }
-    ensures ok { IfOk result (λ heading. IsHeadingOf bytes.now (Ok heading)) }
+    ensures small { IfOk result (λ heading. heading.length ≤ most_of limit) }
+    ensures ok { IfOk result (λ heading. IsHeadingOf limit bytes.now (Ok heading)) }
     ensures err { IfErr result (λ fault. fault ≢ WireFault.NoMemory
-        → IsHeadingOf bytes.now (Err fault)) }
+        → IsHeadingOf limit bytes.now (Err fault)) }
     ensures unread { tells_failed_read result ≡ false }
 {
     let mut room = [EMPTY_HEADER_SPAN; 32];
     match parse_request(bytes, &mut room) {
-        Ok(Status::Complete(spans)) => heading_at(alloc, bytes, &room[..spans.headers], &spans),
+        Ok(Status::Complete(spans)) => {
+            heading_at(alloc, bytes, &room[..spans.headers], &spans, limit)
+        }
         _ => unreachable!(),
     }
 }

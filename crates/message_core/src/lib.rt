@@ -6,10 +6,16 @@ mod fault;
 mod head;
 mod heading;
 pub mod laws;
+mod limits;
 mod lines;
 mod message;
 mod reply;
+mod request;
+mod values;
 
 pub use fault::WireFault;
+pub use limits::BodyLimit;
 pub use message::{Message, read_message, read_message_counted};
 pub use reply::{Allow, Reply, answer_bytes, put_reply, unavailable_reply};
+pub use request::{Request, read_request, read_request_counted};
+pub use values::{header_value, header_values};

@@ -8,7 +8,7 @@ ghost use Rattle.message_core.specs.Heading as form;
 use httparse::spans::HeaderSpan;
 
 /// Whether the line has that name, without regard to ASCII case.
-fn is_line_named(bytes: &[u8], line: &HeaderSpan, name: &str) -> bool
+pub(crate) fn is_line_named(bytes: &[u8], line: &HeaderSpan, name: &str) -> bool
     requires { IsHeaderWithin (length bytes.now) line.now }
     ensures { result ≡ form.is_named name.now (header_bytes bytes.now line.now) }
 {

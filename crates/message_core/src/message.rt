@@ -1,16 +1,13 @@
 //! A message is read off a stream.
-ghost use Rattle.std.specs.Prelude.{◌≡◌, ◌≢◌, ◌≤◌, ◌+◌, ◌||◌, Option, List, ℕ, Err};
-ghost use Rattle.std.specs.Io.KnownBytes.{Consumes};
+ghost use Rattle.std.specs.Prelude.{◌≡◌, ◌≢◌, ◌≤◌, ◌+◌, ◌||◌, Err};
 ghost use Rattle.stream_core.specs.Seen.{HaveOneReader, has_read_failed, left_in, reads_of};
 ghost use Rattle.stream_core.specs.Streams.{ConsumesAtMost};
 ghost use Rattle.message_core.specs.Fault.{tells_failed_read};
-ghost use Rattle.message_core.specs.Head.{IsHead};
-ghost use Rattle.message_core.specs.Message.{Reads, ReadsMessage};
+ghost use Rattle.message_core.specs.Message.{Reads};
 
-use crate::body::take_body;
 use crate::fault::WireFault;
-use crate::head::take_head;
-use crate::heading::{Heading, heading_of};
+use crate::limits::BodyLimit;
+use crate::request::read_request_counted;
 use std::alloc::Global;
 use std::io::Read;
 use stream_core::CountedReader;
@@ -66,48 +63,8 @@ pub fn read_message_counted<R: Read>(
         ≡ (tells_failed_read result || has_read_failed reader.old) }
     ensures reads { reads_of reader.new ≤ reads_of reader.old + 73728 }
 {
-    match take_head(alloc, reader) {
-        Ok(head) => read_after(alloc, reader, head.as_slice()),
+    match read_request_counted(alloc, reader, BodyLimit::Plain) {
+        Ok(request) => Ok(request.message),
         Err(fault) => Err(fault),
-    }
-}
-
-/// The message with this head, whose body follows.
-fn read_after<R: Read>(
-    alloc: Global,
-    reader: &mut CountedReader<'_, R>,
-    head: &[u8],
-) -> Result<Message, WireFault>
-    requires { IsHead head.now }
-    ensures one { HaveOneReader reader.new reader.old }
-    ensures read { (had : Option (List ℕ)) → Consumes had (left_in R.remaining reader.old) head.now
-        → result ≢ Err WireFault.Read → result ≢ Err WireFault.NoMemory
-        → ReadsMessage had (left_in R.remaining reader.new) result }
-    ensures taken { ConsumesAtMost (left_in R.remaining reader.old)
-        (left_in R.remaining reader.new) 65536 }
-    ensures failed { has_read_failed reader.new
-        ≡ (tells_failed_read result || has_read_failed reader.old) }
-    ensures reads { reads_of reader.new ≤ reads_of reader.old + 65536 }
-{
-    match heading_of(alloc, head) {
-        Ok(heading) => match take_body(alloc, reader, heading.length) {
-            Ok(body) => Ok(with_body(heading, body)),
-            Err(fault) => Err(fault),
-        },
-        Err(fault) => Err(fault),
-    }
-}
-
-fn with_body(heading: Heading, body: Vec<u8>) -> Message
-    ensures method { result.method ≡ heading.method }
-    ensures target { result.target ≡ heading.target }
-    ensures token { result.token ≡ heading.token }
-    ensures body { result.body ≡ body.items }
-{
-    Message {
-        method: heading.method,
-        target: heading.target,
-        token: heading.token,
-        body: Sequence::from(body),
     }
 }

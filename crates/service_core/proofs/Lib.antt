@@ -1,3 +1,4 @@
+pub mod DossierLemmas
 pub mod KnownLemmas
 pub mod Laws
 pub mod RenewedDues

@@ -73,7 +73,7 @@ done s ask desk answer free told =
     )
 
 -- a command that only reads leaves the desk
-unchanged : (s : Settings) (ask : Ask) (desk : Desk) → IsReading ask.command
+pub unchanged : (s : Settings) (ask : Ask) (desk : Desk) → IsReading ask.command
     → effect s ask.at ask.caller ask.command desk ≡ desk
 unchanged s ask desk reads =
     ap (λ (change : Change). applied change desk)

@@ -1,6 +1,7 @@
 pub mod Alike
 pub mod Attaching
 pub mod Decided
+pub mod Dossiers
 pub mod Fault
 pub mod Renewing
 pub mod Seen

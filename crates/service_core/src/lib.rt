@@ -5,6 +5,7 @@
 pub mod alike;
 mod attach;
 pub mod desk;
+mod dossier;
 mod execute;
 pub mod fault;
 mod known;

@@ -49,7 +49,7 @@ pub(crate) fn read<S: Backend>(
 
 /// The request that a command sees, as it is shown to the caller. `Unavailable` where memory or the
 /// store refused. The tables stay as they are.
-fn show<S: Backend>(
+pub(crate) fn show<S: Backend>(
     alloc: Global,
     store: &mut Store<S>,
     settings: &Settings,
@@ -181,7 +181,7 @@ fn workload<S: Backend>(
 
 /// The history of the request that a command sees, as far as it is told to the caller.
 /// `Unavailable` where memory or the store refused. The tables stay as they are.
-fn history<S: Backend>(
+pub(crate) fn history<S: Backend>(
     alloc: Global,
     store: &mut Store<S>,
     settings: &Settings,

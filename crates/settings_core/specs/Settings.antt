@@ -7,6 +7,7 @@ use Rattle.rights_core.specs.People as people
 use Rattle.rights_core.specs.declared.parts.Parts as rights
 use Rattle.settings_core.specs.Named.{under}
 use Rattle.settings_core.specs.Tokens.{person_under}
+use Rattle.settings_core.specs.declared.named.Named.{Named}
 use Rattle.settings_core.specs.declared.settings.Settings.{Settings}
 
 -- the persons, groups and grants
@@ -20,6 +21,14 @@ knows settings name = people.knows settings.people name
 -- the lifecycle of that name, if there is one
 abbrev pub lifecycle_named : Settings → List ℕ → Option Parts
 lifecycle_named settings name = under name settings.lifecycles
+
+-- all lifecycles with their names
+abbrev pub lifecycles_of : Settings → List (Named Parts)
+lifecycles_of settings = settings.lifecycles
+
+-- all levels with their names
+abbrev pub levels_of : Settings → List (Named Level)
+levels_of settings = settings.levels
 
 -- the calendar of that name, if there is one
 abbrev pub calendar_named : Settings → List ℕ → Option Calendar

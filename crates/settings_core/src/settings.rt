@@ -77,6 +77,13 @@ impl Settings {
         Named::find(self.lifecycles.as_slice(), name)
     }
 
+    /// All lifecycles with their names. Takes no memory.
+    pub fn lifecycles(&self) -> &[Named<Lifecycle>]
+        ensures { result.now ≡ words.lifecycles_of self.now }
+    {
+        self.lifecycles.as_slice()
+    }
+
     /// The calendar of this name, if there is one.
     pub fn calendar(&self, name: &str) -> Option<&Calendar>
         ensures { option_map (λ c. c.now) result ≡ words.calendar_named self.now name.now }
@@ -89,6 +96,13 @@ impl Settings {
         ensures { option_map (λ l. l.now) result ≡ words.level_named self.now name.now }
     {
         Named::find(self.levels.as_slice(), name)
+    }
+
+    /// All levels with their names. Takes no memory.
+    pub fn levels(&self) -> &[Named<Level>]
+        ensures { result.now ≡ words.levels_of self.now }
+    {
+        self.levels.as_slice()
     }
 
     /// The person of this token, if there is one.

@@ -1,5 +1,5 @@
 -- A run of message steps is a run of messages.
-use Rattle.std.proofs.Common.{◌≡◌, ℕ, Bool, List, [], ◌∷◌, Result, Ok, Err, refl, sym, subst, map}
+use Rattle.std.proofs.Common.{◌≡◌, ℕ, Bool, List, [], ◌∷◌, Result, Ok, Err, refl, sym, subst}
 use Rattle.sqlite.specs.State.{State}
 use Rattle.settings_core.specs.declared.settings.Settings.{Settings}
 use Rattle.std.specs.Prelude.{IfOk}
@@ -9,14 +9,12 @@ use Rattle.server_core.specs.Served.{Act, IsServed, Runs, Serves, answers}
 use Rattle.server_core.specs.declared.ending.Ending.{Ending}
 use Rattle.server_core.specs.Turns.{Answered}
 use Rattle.store_tables.specs.Calls.{WasClean}
-use Rattle.wire_core.specs.Runs.{RunsMessagesOn}
-use Rattle.wire_core.proofs.Serving.{formed_stream}
-use Rattle.web_core.specs.Messages.{RunsSome, StepsAt, reply_of, sent_of}
+use Rattle.page_wire.proofs.Formed.{answer_formed}
+use Rattle.web_core.specs.Messages.{RunsAnswersOn, RunsSome, StepsAt, sent_of}
 
 abbrev IsRun : {D : Type 0} → (D → Settings) → (D → State) → List Answered → D → D → Type 0
 IsRun {D} settings_in tables_in answers old new =
-    RunsMessagesOn (settings_in old) (map sent_of answers) (map reply_of answers) (tables_in old)
-    (tables_in new)
+    RunsAnswersOn (settings_in old) answers (tables_in old) (tables_in new)
     × WasClean (tables_in old) (tables_in new)
 
 runs_both : {D : Type 0} (settings_in : D → Settings) (tables_in : D → State)
@@ -31,12 +29,12 @@ runs_both {D} settings_in tables_in Told [] old new same =
 runs_both {D} settings_in tables_in Told (a ∷ rest) old new (mid, (step, same, told), runs) =
     let others = runs_both settings_in tables_in Told rest mid new runs in
     let run =
-    subst (λ (s : Settings). RunsMessagesOn s (map sent_of rest) (map reply_of rest) (tables_in mid)
-    (tables_in new)) same others.0 in (
+    subst (λ (s : Settings). RunsAnswersOn s rest (tables_in mid) (tables_in new)) same
+    others.0 in (
       λ desk is stands clean.
           let first = step.0 desk is stands (others.1 clean) in
           let formed =
-          formed_stream (settings_in old) a.at _ first.1.0 desk a.reply first.0 is first.1.1 in
+          answer_formed (settings_in old) (sent_of a) desk first.0 a.reply is first.1 in
           let last = run first.0 formed first.2 clean in
           (last.0, (first.0, first.1, last.1), last.2),
       λ clean. step.1 (others.1 clean),

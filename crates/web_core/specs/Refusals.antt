@@ -1,12 +1,10 @@
 -- How many messages in a row were refused.
-use Rattle.std.specs.Prelude.{ℕ, ◌+◌, ◌-◌, ◌^◌, ◌||◌, min, Bool, true, false, List, if◌then◌else◌}
+use Rattle.std.specs.Prelude.{ℕ, ◌+◌, ◌-◌, ◌^◌, min, Bool, List, codes, take, if◌then◌else◌}
 use Rattle.std.specs.Str.{bytes_eq}
-use Rattle.message_core.specs.Reply.{bytes_of, unavailable}
 
--- the reply is `refused 16 Unavailable`, with its body or to a HEAD
+-- the reply has the code 503: a command found no memory, or no store
 abbrev pub is_unavailable : List ℕ → Bool
-is_unavailable reply =
-    bytes_eq reply (bytes_of (unavailable false)) || bytes_eq reply (bytes_of (unavailable true))
+is_unavailable reply = bytes_eq (take 13 reply) (codes "HTTP/1.1 503 ")
 
 -- so many in a row, after one more with this reply
 abbrev pub refused_after : ℕ → List ℕ → ℕ

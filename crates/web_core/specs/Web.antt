@@ -16,6 +16,6 @@ Steps g old minute message reply new =
     × (settings_of g new.desk ≡ settings_of g old.desk)
     × (new.refused ≡ refused_after old.refused reply)
 
--- the last eight messages in a row, or more, were answered `refused 16 Unavailable`
+-- the last eight messages in a row, or more, were answered by the code 503
 abbrev pub shuts : {S : Type 0} (g : Ghosts S) → WebDesk S g → Bool
 shuts g desk = nat_le 8 desk.refused

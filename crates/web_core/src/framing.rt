@@ -17,10 +17,10 @@ fn is_blank(byte: u8) -> bool
     byte == b' ' || byte == b'\t'
 }
 
-/// The number that digits give, after blanks; 65,537 where it is greater than 65,536.
+/// The number that digits give, after blanks; 262,145 where it is greater than 262,144.
 fn number_of(value: &[u8]) -> u32
     ensures is { result ≡ form.number_of 0 value.now }
-    ensures small { result ≤ 65537 }
+    ensures small { result ≤ 262145 }
 {
     let mut number = 0u32;
     for byte in value {
@@ -30,7 +30,7 @@ fn number_of(value: &[u8]) -> u32
         if *byte < b'0' || *byte > b'9' {
             return number;
         }
-        number = (number * 10 + (*byte - b'0') as u32).min(65_537);
+        number = (number * 10 + (*byte - b'0') as u32).min(262_145);
     }
     number
 }
@@ -43,24 +43,57 @@ fn after(bytes: &[u8], count: usize) -> &[u8]
     &bytes[count..]
 }
 
-/// The length that the first line of that name states; none, where that is more than 65,536, or
-/// where there is no such line.
+/// What stands after the first space.
+fn after_space(head: &[u8]) -> &[u8]
+    ensures { result.now ≡ form.after_space head.now }
+{
+    for place in 0..head.len() {
+        if head[place] == b' ' {
+            return after(head, place + 1);
+        }
+    }
+    &[]
+}
+
+/// The most bytes of a body that the place of this head takes.
+fn limit_of(head: &[u8]) -> u32
+    ensures is { result ≡ form.limit_of head.now }
+    ensures small { result ≤ 262144 }
+{
+    if after_space(head).starts_with(b"/desk/") {
+        262_144
+    } else {
+        65_536
+    }
+}
+
+/// The length that a head states, within what its place takes: none, where that is more, or where
+/// no line states one.
 pub(crate) fn stated(head: &[u8]) -> u32
     ensures is { result ≡ form.stated head.now }
-    ensures small { result ≤ 65536 }
+    ensures small { result ≤ 262144 }
+{
+    stated_within(limit_of(head), head)
+}
+
+/// The length that the first line of that name states; none, where that is more than the limit, or
+/// where there is no such line.
+fn stated_within(limit: u32, head: &[u8]) -> u32
+    ensures is { result ≡ form.stated_within limit head.now }
+    ensures small { result ≤ limit }
 {
     for place in 0..head.len() {
         let rest = after(head, place + 1);
         if head[place] == b'\n' && is_length_line(rest) {
-            return limited(number_of(after(rest, 15)));
+            return limited(limit, number_of(after(rest, 15)));
         }
     }
     0
 }
 
-fn limited(number: u32) -> u32
-    ensures is { result ≡ form.limited number }
-    ensures small { result ≤ 65536 }
+fn limited(limit: u32, number: u32) -> u32
+    ensures is { result ≡ form.limited limit number }
+    ensures small { result ≤ limit }
 {
-    if number <= 65_536 { number } else { 0 }
+    if number <= limit { number } else { 0 }
 }

@@ -10,13 +10,12 @@ use crate::web::WebDesk;
 use server_core::laws;
 use store_core::Backend;
 
-/// No more is held than 73,728 bytes of a message and those of the longest reply for each place.
-#[tactic(auto, using(crate::proofs::FramingLemmas::states_at_most))]
+/// No more is held than 270,336 bytes of a message and those of the longest reply for each place.
 pub fn memory_law<S: Backend>()
     ensures { (places most : ℕ) (acts : List Act) (news : List Conn) (desk next : _)
         → Serves form.stated (web.Steps S.Store) (web.shuts S.Store) acts
         (replicate places closed) desk news next
-        → AllOf (IsAtMost most) (answers acts) → held news ≤ places * (73728 + most) }
+        → AllOf (IsAtMost most) (answers acts) → held news ≤ places * (270336 + most) }
 {
     laws::memory_law::<WebDesk<S>>();
 }

@@ -2,13 +2,11 @@
 ghost use Rattle.std.specs.Prelude.{◌≡◌};
 ghost use Rattle.web_core.specs.Refusals as form;
 
-use message_core::unavailable_reply;
-
-/// Whether a reply is `refused 16 Unavailable`, with its body or to a HEAD.
+/// Whether a reply has the code 503.
 fn is_unavailable(reply: &[u8]) -> bool
     ensures { result ≡ form.is_unavailable reply.now }
 {
-    reply == unavailable_reply(false) || reply == unavailable_reply(true)
+    reply.starts_with(b"HTTP/1.1 503 ")
 }
 
 /// How many messages in a row were answered so, after one more with this reply.

@@ -14,11 +14,11 @@ use store_core::Backend;
 
 /// Serves connections, at most so many at once, until so many messages were answered: the tables
 /// are then those after these messages, one after the other, each answered with the bytes that the
-/// abstract desk's step gives, as `serve_list` has it.
+/// abstract desk's step gives: a page's, or the interface's.
 ///
 /// It ends by `Counted` where it has answered as many as it was to, by `Network` only where an
 /// accept or a wait has failed, and by `Shut` only where the last eight messages in a row were
-/// answered `refused 16 Unavailable`. `AllocError` where there is no memory for the places: then
+/// answered by the code 503. `AllocError` where there is no memory for the places: then
 /// nothing is done.
 pub fn serve_web<H: Host, S: Backend>(
     alloc: Global,

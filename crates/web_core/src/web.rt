@@ -8,19 +8,18 @@ use crate::framing::stated;
 use crate::refusals::refused_after;
 use connection_core::{Framing, Reply};
 use message_core::unavailable_reply;
+use page_wire::answer_bytes;
 use server_core;
 use service_core::Desk;
 use std::alloc::Global;
 use store_core::Backend;
-use wire_core::{Routes, serve_bytes};
+use wire_core::Routes;
 
-/// After how many messages in a row that were answered `refused 16 Unavailable` a desk counts as
-/// shut.
+/// After how many messages in a row that were answered by the code 503 a desk counts as shut.
 const SHUT_AFTER: u32 = 8;
 
-/// A desk over tables, and how many of the last messages in a row it has answered
-/// `refused 16 Unavailable`: a fault of the disk shuts its store for good, and then it has no other
-/// answer to a command.
+/// A desk over tables, and how many of the last messages in a row it has answered by the code 503: a
+/// fault of the disk shuts its store for good, and then it has no other answer to a command.
 #[derive(Drop)]
 pub struct WebDesk<S: Backend> {
     pub(crate) desk: Desk<S>,
@@ -62,7 +61,7 @@ fn answer_to<S: Backend>(
         message.now (bytes_of result) (tables_of S.Store desk.new) }
     ensures same { settings_of S.Store desk.new ≡ settings_of S.Store desk.old }
 {
-    match serve_bytes(alloc, routes, minute, message, desk) {
+    match answer_bytes(alloc, routes, minute, message, desk) {
         Ok(reply) => Reply::Made(reply),
         Err(_) => Reply::Fixed(unavailable_reply(false)),
     }
@@ -73,7 +72,7 @@ impl<S: Backend> Framing for WebDesk<S> {
 
     ghost stated = { form.stated };
 
-    ghost limit = { 65536 };
+    ghost limit = { 262144 };
 
     fn stated(head: &[u8]) -> u32 {
         stated(head)

@@ -20,5 +20,6 @@ pub use desk_words::{WordsFault, command_of_words, number_of_word, words_of};
 pub use fault::ServeFault;
 pub use list::{serve_bytes, serve_list};
 pub use message_core::{Allow, Message, Reply, WireFault, answer_bytes, put_reply, read_message};
+pub use replies::{code_of_refusal, is_head};
 pub use route_core::{CommandFault, Routes, command_of};
 pub use serve::{serve_one, serve_one_by};

@@ -12,7 +12,7 @@ use std::alloc::{AllocError, Global};
 use text_core::Sequence;
 
 /// Whether a message is a HEAD, whose reply is written without its body.
-pub(crate) fn is_head(message: &Message) -> bool
+pub fn is_head(message: &Message) -> bool
     ensures { result ≡ replies.is_head message.now }
 {
     message.method.as_slice() == b"HEAD".as_slice()
@@ -54,7 +54,8 @@ fn code_of_answer(answer: &Answer) -> u16
     }
 }
 
-fn code_of_refusal(refusal: &Refusal) -> u16
+/// The code of the reply with a refusal.
+pub fn code_of_refusal(refusal: &Refusal) -> u16
     ensures { result ≡ replies.code_of_refusal refusal.now }
 {
     match refusal {

@@ -1,12 +1,13 @@
--- a head was lost, and what follows it
-use Rattle.std.proofs.Common.{lit≤}
+-- the message of what was read with its head
+use Rattle.std.proofs.Common.{ap}
 use Rattle.stream_core.specs.Seen.{left_in}
-use Rattle.stream_core.proofs.ReaderLemmas.{consumes_within}
+use Rattle.message_core.specs.Request.{message_in}
+use Rattle.message_core.proofs.MessageLemmas.{Sent, message_read}
 use Rattle.message_core.proofs.message.read_message_counted.Goals as goal
 
-pub returns-in-Ok-clause-taken : goal.returns-in-Ok-clause-taken
-returns-in-Ok-clause-taken g c =
+pub returns-in-Err-clause-read : goal.returns-in-Err-clause-read
+returns-in-Err-clause-read g c = λ read memory.
     let left = left_in g.R.Read.remaining in
-    consumes_within (left c.args.reader.now) (left c.take_head.new.reader)
-    (left c.read_after.new.reader) 8192 65536 73728 c.take_head.ensures.taken
-    c.read_after.ensures.taken (lit≤ tt)
+    message_read (left c.args.reader.now) (left c.read_request_counted.new.reader)
+    (Sent c.in-Err.fault)
+    (c.in-Err.ensures.read (λ e. read (ap message_in e)) (λ e. memory (ap message_in e)))

@@ -6,5 +6,5 @@ use Rattle.web_core.proofs.framing.number_of.Given as goal
 abbrev pub invariant-loop-byte : goal.invariant-loop-byte
 invariant-loop-byte l = record {
   same : number_of l.number (drop l.byte-index l.value) ≡ number_of 0 l.value;
-  small : l.number ≤ 65537;
+  small : l.number ≤ 262145;
 }

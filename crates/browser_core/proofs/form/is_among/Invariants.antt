@@ -1,0 +1,8 @@
+use Rattle.std.proofs.Common.{◌≡◌, bytes_eq, drop, map}
+use Rattle.std.specs.List.{list_any}
+use Rattle.browser_core.proofs.form.is_among.Given as goal
+
+abbrev pub invariant-loop-known : goal.invariant-loop-known
+invariant-loop-known l =
+    list_any (bytes_eq l.name) (map (λ n. n.now) (drop l.known-index l.names))
+    ≡ list_any (bytes_eq l.name) (map (λ n. n.now) l.names)

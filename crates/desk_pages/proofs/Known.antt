@@ -1,0 +1,62 @@
+-- The markup of what is told of a request before its history.
+use Rattle.std.proofs.Common.{ℕ, Bool, true, false, List, [], Option, unwrap_or, refl}
+use Rattle.desk_model.specs.declared.answer.Shown.{Shown}
+use Rattle.desk_texts.specs.Words.{or_nobody}
+use Rattle.page_core.specs.Markup.{markup_of}
+use Rattle.page_core.proofs.Shows.{Shows, both, shows}
+use Rattle.desk_pages.specs.Facts.{due_close, due_fact, due_markup, due_open, facts, facts_close}
+use Rattle.desk_pages.specs.Facts.{facts_markup, filed_close, level_fact, level_facts, level_markup}
+use Rattle.desk_pages.specs.Facts.{state_facts}
+use Rattle.desk_pages.specs.Pieces.{dash, word}
+use Rattle.desk_pages.specs.Queue.{is_late}
+use Rattle.desk_pages.proofs.Frames.{time_shows}
+use Rattle.desk_pages.proofs.Linked.{links_show, roles_show}
+use Rattle.desk_pages.proofs.Tables.{due_shows}
+
+state_shows : (state status owner : List ℕ)
+    → Shows (state_facts state status owner) (markup_of (state_facts [] [] []))
+unfolding state_facts
+state_shows state status owner = shows _ _ refl refl
+
+due_open_shows : (late : Bool) → Shows (due_open late) (markup_of (due_open late))
+unfolding due_open word
+due_open_shows true = shows _ _ refl refl
+due_open_shows false = shows _ _ refl refl
+
+due_close_shows : (late : Bool) → Shows (due_close late) (markup_of (due_close late))
+unfolding due_close word
+due_close_shows true = shows _ _ refl refl
+due_close_shows false = shows _ _ refl refl
+
+due_fact_shows : (moment : ℕ) (due : Option ℕ) → Shows (due_fact moment due) (due_markup moment due)
+due_fact_shows moment due =
+    both _ _ _ _ (due_open_shows (is_late moment due))
+    (both _ _ _ _ (due_shows due) (due_close_shows (is_late moment due)))
+
+level_shows : (level : List ℕ) → Shows (level_fact level) (markup_of (level_fact []))
+unfolding level_fact
+level_shows level = shows _ _ refl refl
+
+filed_shows : Shows filed_close (markup_of filed_close)
+unfolding filed_close
+filed_shows = shows _ _ refl refl
+
+level_facts_show : (level : Option (List ℕ)) (created : ℕ)
+    → Shows (level_facts level created) level_markup
+level_facts_show level created =
+    both _ _ _ _ (level_shows (unwrap_or level dash))
+    (both _ _ _ _ (time_shows _ _) filed_shows)
+
+facts_close_shows : Shows facts_close (markup_of facts_close)
+unfolding facts_close
+facts_close_shows = shows _ _ refl refl
+
+pub facts_show : (buttons : Bool) (id : List ℕ) (moment : ℕ) (state : List ℕ) (shown : Shown)
+    → Shows (facts buttons id moment state shown) (facts_markup buttons moment shown)
+facts_show buttons id moment state shown =
+    both _ _ _ _
+    (both _ _ _ _ (state_shows state shown.row.status (or_nobody shown.row.owner))
+    (both _ _ _ _ (due_fact_shows moment shown.due)
+    (level_facts_show shown.row.level shown.row.created)))
+    (both _ _ _ _ (roles_show buttons id shown)
+    (both _ _ _ _ (links_show buttons id shown.links) facts_close_shows))

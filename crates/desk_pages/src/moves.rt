@@ -1,0 +1,206 @@
+//! The moves of a request that are offered.
+ghost use Rattle.std.specs.Prelude.{◌≡◌, ◌++◌, Some, OnOk};
+ghost use Rattle.std.specs.Option.{option_map};
+ghost use Rattle.page_core.specs.Page.{page_bytes};
+ghost use Rattle.desk_pages.specs.Moves as form;
+
+use crate::queue::class_word;
+use lifecycle_core::Lifecycle;
+use page_core::{Part, put_parts};
+use std::alloc::AllocError;
+use text_core::Text;
+
+/// Puts the form for the moves of a request from a status: a button for each status to which the
+/// lifecycle lets it move. Nothing is put where there is none, or no lifecycle.
+pub(crate) fn put_moves(
+    out: &mut Vec<u8>,
+    id: &str,
+    lifecycle: Option<&Lifecycle>,
+    from: &str,
+) -> Result<(), AllocError>
+    ensures { OnOk result (out.new.items ≡ out.old.items ++ page_bytes
+        (form.moves id.now (option_map (λ l. l.now) lifecycle.entry) from.now)) }
+{
+    match lifecycle {
+        Some(lifecycle) => put_moves_by(out, id, lifecycle, from),
+        None => Ok(()),
+    }
+}
+
+fn put_moves_by(
+    out: &mut Vec<u8>,
+    id: &str,
+    lifecycle: &Lifecycle,
+    from: &str,
+) -> Result<(), AllocError>
+    ensures { OnOk result (out.new.items
+        ≡ out.old.items ++ page_bytes (form.moves id.now (Some lifecycle.now) from.now)) }
+{
+    if leads_on(lifecycle, from) {
+        put_move_form(out, id, lifecycle, from)?;
+    }
+    Ok(())
+}
+
+/// Whether there is a move from this status.
+fn leads_on(lifecycle: &Lifecycle, from: &str) -> bool
+    ensures { result ≡ form.leads_on lifecycle.now from.now }
+{
+    lifecycle
+        .parts()
+        .moves
+        .as_slice()
+        .iter()
+        .any(|m| m.from.as_str() == from)
+}
+
+fn put_move_form(
+    out: &mut Vec<u8>,
+    id: &str,
+    lifecycle: &Lifecycle,
+    from: &str,
+) -> Result<(), AllocError>
+    ensures { OnOk result (out.new.items
+        ≡ out.old.items ++ page_bytes (form.move_form id.now lifecycle.now from.now)) }
+{
+    let parts = lifecycle.parts();
+    put_moves_head(out, id)?;
+    put_offers(out, lifecycle, from, parts.initial.as_slice())?;
+    put_offers(out, lifecycle, from, parts.active.as_slice())?;
+    put_closings(out, lifecycle, from, parts.inactive.as_slice())?;
+    put_moves_end(out)
+}
+
+/// Puts a button for each of these statuses that is offered.
+fn put_offers(
+    out: &mut Vec<u8>,
+    lifecycle: &Lifecycle,
+    from: &str,
+    statuses: &[Text],
+) -> Result<(), AllocError>
+    ensures { OnOk result (out.new.items
+        ≡ out.old.items ++ page_bytes (form.offers lifecycle.now from.now statuses.now)) }
+{
+    for status in statuses {
+        put_offer(out, lifecycle, from, status.as_str())?;
+    }
+    Ok(())
+}
+
+fn put_offer(
+    out: &mut Vec<u8>,
+    lifecycle: &Lifecycle,
+    from: &str,
+    to: &str,
+) -> Result<(), AllocError>
+    ensures { OnOk result (out.new.items
+        ≡ out.old.items ++ page_bytes (form.offer lifecycle.now from.now to.now)) }
+{
+    if lifecycle.may_move(from, to) {
+        put_button(out, class_word(lifecycle.class(to)), to)?;
+    }
+    Ok(())
+}
+
+/// Puts what is offered of the inactive statuses: those after the first behind a fold, so that a
+/// slip of the hand doesn't delete a request.
+fn put_closings(
+    out: &mut Vec<u8>,
+    lifecycle: &Lifecycle,
+    from: &str,
+    statuses: &[Text],
+) -> Result<(), AllocError>
+    ensures { OnOk result (out.new.items
+        ≡ out.old.items ++ page_bytes (form.closings lifecycle.now from.now statuses.now)) }
+{
+    match statuses.split_first() {
+        Some((first, others)) => {
+            put_offer(out, lifecycle, from, first.as_str())?;
+            put_folded(out, lifecycle, from, others)
+        }
+        None => Ok(()),
+    }
+}
+
+fn put_folded(
+    out: &mut Vec<u8>,
+    lifecycle: &Lifecycle,
+    from: &str,
+    statuses: &[Text],
+) -> Result<(), AllocError>
+    ensures { OnOk result (out.new.items
+        ≡ out.old.items ++ page_bytes (form.folded lifecycle.now from.now statuses.now)) }
+{
+    if has_offer(lifecycle, from, statuses) {
+        put_fold_head(out)?;
+        put_offers(out, lifecycle, from, statuses)?;
+        put_fold_end(out)?;
+    }
+    Ok(())
+}
+
+/// Whether one of these statuses is offered.
+fn has_offer(lifecycle: &Lifecycle, from: &str, statuses: &[Text]) -> bool
+    ensures { result ≡ form.has_offer lifecycle.now from.now statuses.now }
+{
+    statuses
+        .iter()
+        .any(|to| lifecycle.may_move(from, to.as_str()))
+}
+
+#[tactic(auto, unfolding(crate::specs::Moves::moves_head))]
+fn put_moves_head(out: &mut Vec<u8>, id: &str) -> Result<(), AllocError>
+    ensures { OnOk result (out.new.items ≡ out.old.items ++ page_bytes (form.moves_head id.now)) }
+{
+    put_parts(
+        out,
+        &[
+            Part::Markup("<form method=\"post\" action=\"/desk/requests/"),
+            Part::Text(id),
+            Part::Markup("/status\">\n<fieldset>\n<legend>Move it to</legend>\n"),
+        ],
+    )
+}
+
+#[tactic(auto, unfolding(crate::specs::Moves::button))]
+fn put_button<'t>(out: &mut Vec<u8>, state: &'t str, status: &'t str) -> Result<(), AllocError>
+    ensures { OnOk result (out.new.items
+        ≡ out.old.items ++ page_bytes (form.button state.now status.now)) }
+{
+    put_parts(
+        out,
+        &[
+            Part::Markup("<button name=\"status\" value=\""),
+            Part::Text(status),
+            Part::Markup("\"><span class=\"state "),
+            Part::Text(state),
+            Part::Markup("\">"),
+            Part::Text(status),
+            Part::Markup("</span></button>\n"),
+        ],
+    )
+}
+
+#[tactic(auto, unfolding(crate::specs::Moves::fold_head))]
+fn put_fold_head(out: &mut Vec<u8>) -> Result<(), AllocError>
+    ensures { OnOk result (out.new.items ≡ out.old.items ++ page_bytes form.fold_head) }
+{
+    put_parts(
+        out,
+        &[Part::Markup("<details class=\"more\">\n<summary>More</summary>\n<div>\n")],
+    )
+}
+
+#[tactic(auto, unfolding(crate::specs::Moves::fold_end))]
+fn put_fold_end(out: &mut Vec<u8>) -> Result<(), AllocError>
+    ensures { OnOk result (out.new.items ≡ out.old.items ++ page_bytes form.fold_end) }
+{
+    put_parts(out, &[Part::Markup("</div>\n</details>\n")])
+}
+
+#[tactic(auto, unfolding(crate::specs::Moves::moves_end))]
+fn put_moves_end(out: &mut Vec<u8>) -> Result<(), AllocError>
+    ensures { OnOk result (out.new.items ≡ out.old.items ++ page_bytes form.moves_end) }
+{
+    put_parts(out, &[Part::Markup("</fieldset>\n</form>\n")])
+}

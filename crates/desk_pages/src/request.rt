@@ -1,0 +1,186 @@
+//! The page of a request.
+ghost use Rattle.std.specs.Prelude.{◌≡◌, ◌++◌, IfOk, OnOk, string_bytes};
+ghost use Rattle.page_core.specs.Page.{page_bytes};
+ghost use Rattle.desk_pages.specs.Request as form;
+
+use crate::change::{is_open, put_change};
+use crate::facts::put_facts;
+use crate::frame::{Place, put_bottom, put_top};
+use crate::history::put_history;
+use crate::queue::class_word;
+use crate::write::{put_comment, put_reply};
+use desk_model::{Dossier, RequestRow};
+use hours_core::Minute;
+use itoa::Buffer;
+use page_core::{Part, put_parts};
+use settings_core::Settings;
+use std::alloc::{AllocError, Global};
+
+/// The page of a request, for a caller at a moment: what is known of it, what happened, the forms
+/// for a reply and a comment, and those that change it. Whoever is no requestor of it can take each
+/// person out, and each link away, by one press. The class of its status is that of the lifecycle of
+/// its queue; where the settings have no such lifecycle, it has none.
+pub fn request_page(
+    alloc: Global,
+    caller: &str,
+    moment: Minute,
+    settings: &Settings,
+    dossier: &Dossier,
+) -> Result<Vec<u8>, AllocError>
+    ensures { IfOk result (λ page. page.items ≡ page_bytes
+        (form.request_page caller.now moment settings.now dossier.now)) }
+{
+    let row = &dossier.shown.row;
+    let title = title_of(alloc, row.id, row.subject.as_str())?;
+    let mut out = Vec::new(alloc);
+    put_top(&mut out, title.as_str(), Place::Elsewhere, caller)?;
+    put_content(&mut out, caller, moment, settings, dossier)?;
+    put_bottom(&mut out, moment)?;
+    Ok(out)
+}
+
+#[tactic(auto, unfolding(crate::specs::Request::request_title))]
+fn title_of(alloc: Global, id: u32, subject: &str) -> Result<String, AllocError>
+    ensures { IfOk result (λ t. string_bytes t ≡ form.request_title id subject.now) }
+{
+    let mut title = String::new(alloc);
+    write!(title, "#{id} {subject}")?;
+    Ok(title)
+}
+
+fn put_content(
+    out: &mut Vec<u8>,
+    caller: &str,
+    moment: Minute,
+    settings: &Settings,
+    dossier: &Dossier,
+) -> Result<(), AllocError>
+    ensures { OnOk result (out.new.items ≡ out.old.items ++ page_bytes
+        (form.request_content caller.now moment settings.now dossier.now)) }
+{
+    let mut digits = Buffer::new();
+    let id = digits.format(dossier.shown.row.id);
+    put_told(out, id, caller, moment, settings, dossier)?;
+    put_acts(out, id, caller, settings, dossier)
+}
+
+/// Puts what is told of the request of this number.
+fn put_told(
+    out: &mut Vec<u8>,
+    id: &str,
+    caller: &str,
+    moment: Minute,
+    settings: &Settings,
+    dossier: &Dossier,
+) -> Result<(), AllocError>
+    ensures { OnOk result (out.new.items ≡ out.old.items ++ page_bytes
+        (form.request_told id.now caller.now moment settings.now dossier.now)) }
+{
+    let shown = &dossier.shown;
+    let buttons = is_open(caller, shown);
+    let state = state_of(settings, dossier);
+    put_heading(out, id, &shown.row)?;
+    put_facts(out, buttons, id, moment, state, shown)?;
+    put_history(out, dossier.entries.as_slice())
+}
+
+/// Puts what may be done with it.
+fn put_acts(
+    out: &mut Vec<u8>,
+    id: &str,
+    caller: &str,
+    settings: &Settings,
+    dossier: &Dossier,
+) -> Result<(), AllocError>
+    ensures { OnOk result (out.new.items ≡ out.old.items ++ page_bytes
+        (form.request_acts id.now caller.now settings.now dossier.now)) }
+{
+    put_writing(out, id)?;
+    put_change(out, caller, settings, dossier)?;
+    put_request_end(out)
+}
+
+/// The word for the class of its status in the lifecycle of its queue.
+fn state_of(settings: &Settings, dossier: &Dossier) -> &'static str
+    ensures { result.now ≡ form.state_of settings.now dossier.now }
+{
+    match settings.lifecycle(dossier.queue.lifecycle.as_str()) {
+        Some(lifecycle) => class_word(lifecycle.class(dossier.shown.row.status.as_str())),
+        None => class_word(None),
+    }
+}
+
+fn put_heading(out: &mut Vec<u8>, id: &str, row: &RequestRow) -> Result<(), AllocError>
+    ensures { OnOk result (out.new.items ≡ out.old.items
+        ++ page_bytes (form.request_head row.now.queue id.now row.now.subject)) }
+{
+    put_request_head(out, row.queue.as_str(), id, row.subject.as_str())
+}
+
+fn put_writing(out: &mut Vec<u8>, id: &str) -> Result<(), AllocError>
+    ensures { OnOk result (out.new.items ≡ out.old.items ++ page_bytes (form.writing id.now)) }
+{
+    put_reply_open(out)?;
+    put_reply(out, id, "")?;
+    put_comment_open(out)?;
+    put_comment(out, id, "")?;
+    put_comment_close(out)
+}
+
+#[tactic(auto, unfolding(crate::specs::Request::request_head))]
+fn put_request_head<'t>(
+    out: &mut Vec<u8>,
+    queue: &'t str,
+    id: &'t str,
+    subject: &'t str,
+) -> Result<(), AllocError>
+    ensures { OnOk result (out.new.items
+        ≡ out.old.items ++ page_bytes (form.request_head queue.now id.now subject.now)) }
+{
+    put_parts(
+        out,
+        &[
+            Part::Markup("<p class=\"crumb\"><a href=\"/\">Queues</a> / "),
+            Part::Markup("<a href=\"/desk/queues/"),
+            Part::Text(queue),
+            Part::Markup("\">"),
+            Part::Text(queue),
+            Part::Markup("</a></p>\n<h1 dir=\"auto\"><span>#"),
+            Part::Text(id),
+            Part::Markup("</span> "),
+            Part::Text(subject),
+            Part::Markup("</h1>\n"),
+        ],
+    )
+}
+
+#[tactic(auto, unfolding(crate::specs::Request::reply_open))]
+fn put_reply_open(out: &mut Vec<u8>) -> Result<(), AllocError>
+    ensures { OnOk result (out.new.items ≡ out.old.items ++ page_bytes form.reply_open) }
+{
+    put_parts(out, &[Part::Markup("<div class=\"write\" id=\"reply\">\n")])
+}
+
+#[tactic(auto, unfolding(crate::specs::Request::comment_open))]
+fn put_comment_open(out: &mut Vec<u8>) -> Result<(), AllocError>
+    ensures { OnOk result (out.new.items ≡ out.old.items ++ page_bytes form.comment_open) }
+{
+    put_parts(
+        out,
+        &[Part::Markup("\n<details>\n<summary>Comment instead</summary>\n")],
+    )
+}
+
+#[tactic(auto, unfolding(crate::specs::Request::comment_close))]
+fn put_comment_close(out: &mut Vec<u8>) -> Result<(), AllocError>
+    ensures { OnOk result (out.new.items ≡ out.old.items ++ page_bytes form.comment_close) }
+{
+    put_parts(out, &[Part::Markup("\n</details>\n</div>\n</section>\n")])
+}
+
+#[tactic(auto, unfolding(crate::specs::Request::request_end))]
+fn put_request_end(out: &mut Vec<u8>) -> Result<(), AllocError>
+    ensures { OnOk result (out.new.items ≡ out.old.items ++ page_bytes form.request_end) }
+{
+    put_parts(out, &[Part::Markup("</div>\n")])
+}

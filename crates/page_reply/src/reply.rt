@@ -1,0 +1,217 @@
+//! The bytes of a reply with a page, or of one that leads to another place.
+ghost use Rattle.std.specs.Prelude.{◌≡◌, ◌++◌, [], decimal, length, unwrap_or, IfOk, OnOk};
+ghost use Rattle.http.specs.StatusCode.{IsStatusCode, reason_phrase};
+ghost use Rattle.page_reply.specs.PageReply as form;
+
+use http::StatusCode;
+use itoa::Buffer;
+use std::alloc::{AllocError, Global};
+use text_core::{Sequence, Text};
+
+/// What a reply does to the browser's cookie.
+#[derive(Drop)]
+pub enum CookieChange {
+    Keep,
+    /// It is this token until the browser ends.
+    Session(Text),
+    /// It is this token for 30 days.
+    Stay(Text),
+    /// It goes, and the pages that the browser keeps.
+    Forget,
+}
+
+/// Which methods a place takes.
+#[derive(Clone, Copy)]
+pub enum Methods {
+    Get,
+    GetAndPost,
+}
+
+/// A reply with a page.
+#[derive(Drop)]
+pub struct PageReply {
+    pub status: u16,
+    pub cookie: CookieChange,
+    /// The place to which it leads.
+    pub location: Option<Text>,
+    /// What the place takes, where it was asked in another way.
+    pub allow: Option<Methods>,
+    pub page: Sequence<u8>,
+    /// Whether the page is left out, as in reply to a HEAD. Its length is told.
+    pub head_only: bool,
+}
+
+/// The bytes of a reply, whose status is one of HTTP.
+pub fn page_reply(alloc: Global, reply: &PageReply) -> Result<Vec<u8>, AllocError>
+    requires { IsStatusCode reply.now.status }
+    ensures { IfOk result (λ out. out.items ≡ form.bytes_of reply.now) }
+{
+    let mut out = Vec::new(alloc);
+    add_status_line(&mut out, reply.status)?;
+    add_length_lines(&mut out, reply.page.len() as u64)?;
+    add_cookie_line(&mut out, &reply.cookie)?;
+    add_location_line(&mut out, &reply.location)?;
+    out.extend_from_slice(allow_line(reply.allow).as_bytes())?;
+    out.extend_from_slice(guard_lines().as_bytes())?;
+    out.extend_from_slice(last_lines().as_bytes())?;
+    out.extend_from_slice(body_of(reply))?;
+    Ok(out)
+}
+
+/// What is written of the page.
+fn body_of(reply: &PageReply) -> &[u8]
+    ensures { result.now ≡ form.body_of reply.now }
+{
+    if reply.head_only {
+        &[]
+    } else {
+        reply.page.as_slice()
+    }
+}
+
+#[tactic(auto, unfolding(crate::specs::PageReply::status_line))]
+fn add_status_line(out: &mut Vec<u8>, code: u16) -> Result<(), AllocError>
+    requires { IsStatusCode code }
+    ensures { OnOk result (out.new.items ≡ out.old.items ++ form.status_line code) }
+{
+    out.extend_from_slice(b"HTTP/1.1 ")?;
+    add_number(out, code as u64)?;
+    out.extend_from_slice(b" ")?;
+    out.extend_from_slice(phrase(code).as_bytes())?;
+    Ok(())
+}
+
+fn phrase(code: u16) -> &'static str
+    requires { IsStatusCode code }
+    ensures { result.now ≡ unwrap_or (reason_phrase code) [] }
+{
+    match StatusCode::from_u16(code) {
+        Ok(status) => status.canonical_reason().unwrap_or(""),
+        Err(_) => unreachable!(),
+    }
+}
+
+fn add_number(out: &mut Vec<u8>, number: u64) -> Result<(), AllocError>
+    ensures { OnOk result (out.new.items ≡ out.old.items ++ decimal number) }
+{
+    let mut buffer = Buffer::new();
+    out.extend_from_slice(buffer.format(number).as_bytes())?;
+    Ok(())
+}
+
+#[tactic(auto, unfolding(crate::specs::PageReply::length_lines))]
+fn add_length_lines(out: &mut Vec<u8>, bytes: u64) -> Result<(), AllocError>
+    ensures { OnOk result (out.new.items ≡ out.old.items ++ form.length_lines bytes) }
+{
+    let mut buffer = Buffer::new();
+    add_three(
+        out,
+        "\r\nContent-Type: text/html; charset=utf-8\r\nContent-Length: ",
+        buffer.format(bytes),
+        "\r\n",
+    )
+}
+
+fn add_cookie_line(out: &mut Vec<u8>, cookie: &CookieChange) -> Result<(), AllocError>
+    ensures { OnOk result (out.new.items ≡ out.old.items ++ form.cookie_line cookie.now) }
+{
+    match cookie {
+        CookieChange::Keep => Ok(()),
+        CookieChange::Session(token) => add_session_line(out, token.as_str()),
+        CookieChange::Stay(token) => add_stay_line(out, token.as_str()),
+        CookieChange::Forget => add_forget_line(out),
+    }
+}
+
+#[tactic(auto, unfolding(crate::specs::PageReply::session_line))]
+fn add_session_line(out: &mut Vec<u8>, token: &str) -> Result<(), AllocError>
+    ensures { OnOk result (out.new.items ≡ out.old.items ++ form.session_line token.now) }
+{
+    add_three(
+        out,
+        "Set-Cookie: desk=",
+        token,
+        "; Path=/; HttpOnly; SameSite=Strict\r\n",
+    )
+}
+
+#[tactic(auto, unfolding(crate::specs::PageReply::stay_line))]
+fn add_stay_line(out: &mut Vec<u8>, token: &str) -> Result<(), AllocError>
+    ensures { OnOk result (out.new.items ≡ out.old.items ++ form.stay_line token.now) }
+{
+    add_three(
+        out,
+        "Set-Cookie: desk=",
+        token,
+        "; Path=/; Max-Age=2592000; HttpOnly; SameSite=Strict\r\n",
+    )
+}
+
+#[tactic(auto, unfolding(crate::specs::PageReply::forget_line))]
+fn add_forget_line(out: &mut Vec<u8>) -> Result<(), AllocError>
+    ensures { OnOk result (out.new.items ≡ out.old.items ++ form.forget_line) }
+{
+    out.extend_from_slice(
+        b"Set-Cookie: desk=; Path=/; Max-Age=0; HttpOnly; SameSite=Strict\r\n\
+          Clear-Site-Data: \"cache\"\r\n",
+    )
+}
+
+fn add_location_line(out: &mut Vec<u8>, location: &Option<Text>) -> Result<(), AllocError>
+    ensures { OnOk result (out.new.items ≡ out.old.items ++ form.location_line location.now) }
+{
+    match location {
+        Some(path) => add_leads_line(out, path.as_str()),
+        None => Ok(()),
+    }
+}
+
+#[tactic(auto, unfolding(crate::specs::PageReply::leads_line))]
+fn add_leads_line(out: &mut Vec<u8>, path: &str) -> Result<(), AllocError>
+    ensures { OnOk result (out.new.items ≡ out.old.items ++ form.leads_line path.now) }
+{
+    add_three(out, "Location: ", path, "\r\n")
+}
+
+#[tactic(auto, unfolding(crate::specs::PageReply::allow_line))]
+fn allow_line(allow: Option<Methods>) -> &'static str
+    ensures { result.now ≡ form.allow_line allow }
+{
+    match allow {
+        None => "",
+        Some(Methods::Get) => "Allow: GET\r\n",
+        Some(Methods::GetAndPost) => "Allow: GET, POST\r\n",
+    }
+}
+
+#[tactic(auto, unfolding(crate::specs::PageReply::guard_lines))]
+fn guard_lines() -> &'static str
+    ensures { result.now ≡ form.guard_lines }
+{
+    "Cache-Control: no-store\r\nContent-Security-Policy: default-src 'none'; style-src 'self'; \
+     form-action 'self'; frame-ancestors 'none'; base-uri 'none'\r\n\
+     Referrer-Policy: same-origin\r\n"
+}
+
+#[tactic(auto, unfolding(crate::specs::PageReply::last_lines))]
+pub(crate) fn last_lines() -> &'static str
+    ensures { result.now ≡ form.last_lines }
+{
+    "X-Content-Type-Options: nosniff\r\nConnection: close\r\n\r\n"
+}
+
+/// Puts three texts at the end.
+pub(crate) fn add_three(
+    out: &mut Vec<u8>,
+    first: &str,
+    second: &str,
+    third: &str,
+) -> Result<(), AllocError>
+    ensures { OnOk result (out.new.items
+        ≡ out.old.items ++ (first.now ++ (second.now ++ third.now))) }
+{
+    out.extend_from_slice(first.as_bytes())?;
+    out.extend_from_slice(second.as_bytes())?;
+    out.extend_from_slice(third.as_bytes())?;
+    Ok(())
+}

@@ -1,0 +1,176 @@
+-- What a message asks of the pages.
+use Rattle.std.specs.Prelude.{ℕ, Bool, true, false, if◌then◌else◌, List, [], ◌∷◌, codes}
+use Rattle.std.specs.Prelude.{Option, Some, None, Result, Ok, Err, is_some, unwrap_or}
+use Rattle.std.specs.Option.{option_and_then}
+use Rattle.desk_model.specs.declared.command.Command.{Command}
+use Rattle.settings_core.specs.Settings.{person_of_token}
+use Rattle.settings_core.specs.declared.settings.Settings.{Settings}
+use Rattle.message_core.specs.declared.message.Message.{Message}
+use Rattle.browser_core.specs.Cookie.{cookie_token}
+use Rattle.browser_core.specs.Form.{fields_of, has, has_fields, value_of}
+use Rattle.browser_core.specs.Site.{is_own_post}
+use Rattle.browser_core.specs.Texts.{text_in}
+use Rattle.browser_core.specs.Trim.{trimmed}
+use Rattle.browser_core.specs.declared.form.Field.{Field}
+use Rattle.desk_forms.specs.Number.{number_of}
+use Rattle.desk_forms.specs.Paths.{InQueue, Nothing, OnRequest}
+use Rattle.desk_forms.specs.declared.paths.Method.{Method}
+use Rattle.desk_forms.specs.declared.paths.Method.TheVariants.{Get, Post}
+use Rattle.desk_forms.specs.declared.table.Form.{Form}
+use Rattle.desk_forms.specs.declared.table.Form.TheVariants as forms
+use Rattle.page_routes.specs.Filled.{command_in}
+use Rattle.page_routes.specs.Places.{method_named, path_in, place_of, takes_post}
+use Rattle.page_routes.specs.declared.fault.PageFault.{PageFault}
+use Rattle.page_routes.specs.declared.fault.PageFault.TheVariants.{NoRoute, BadMethod, OtherSite}
+use Rattle.page_routes.specs.declared.fault.PageFault.TheVariants.{BadBody}
+use Rattle.page_routes.specs.declared.page.Page.{Page}
+use Rattle.page_routes.specs.declared.page.Page.TheVariants as pages
+use Rattle.page_routes.specs.declared.place.Place.{Place}
+use Rattle.page_routes.specs.declared.place.Place.TheVariants as places
+use Rattle.page_routes.specs.declared.visit.Sent.{Sent}
+use Rattle.page_routes.specs.declared.visit.Sent.TheVariants as sends
+use Rattle.page_routes.specs.declared.visit.Visit.{Visit}
+use Rattle.page_routes.specs.declared.visit.Visit.TheVariants as visits
+
+-- the values of a message's header lines, by their names
+abbrev pub Lines : Type 0
+Lines = List ℕ → List (List ℕ)
+
+abbrev pub Answer : Type 0
+Answer = Result Visit PageFault
+
+-- ---- who asks
+
+-- the person of the cookie, if it holds a token of the settings
+abbrev pub caller_of : Settings → Lines → Option (List ℕ)
+caller_of settings lines =
+    option_and_then (person_of_token settings) (cookie_token (lines (codes "Cookie")))
+
+abbrev pub is_own : Lines → Bool
+is_own lines =
+    is_own_post (lines (codes "Sec-Fetch-Site")) (lines (codes "Origin")) (lines (codes "Host"))
+
+-- ---- GET
+
+abbrev pub looked : Page → Option (List ℕ) → Visit
+looked page None = visits.Unknown page true
+looked page (Some caller) = visits.Look caller page
+
+-- a place that only takes POST leads to where its form stands
+abbrev pub got : Settings → Lines → Place → Visit
+got settings lines places.Style = visits.Style
+got settings lines places.SignIn = visits.SignIn
+got settings lines (places.Page page) = looked page (caller_of settings lines)
+got settings lines (places.Act act id) = visits.Leads (pages.Request id)
+got settings lines _ = visits.Leads pages.Home
+
+-- ---- signing in
+
+-- a page's own path leads there, and all else to `/`
+abbrev pub page_or_home : Option Place → Page
+page_or_home (Some (places.Page page)) = page
+page_or_home _ = pages.Home
+
+abbrev pub next_in : List Field → Page
+next_in fields = page_or_home (place_of (unwrap_or (value_of (codes "next") fields) []))
+
+abbrev pub if_known : Settings → List ℕ → Option (List ℕ)
+if_known settings token = if is_some (person_of_token settings token) then Some token else None
+
+-- what was typed, without spaces and tabs round it, where it is a token of the settings
+abbrev pub token_in : Settings → List Field → Option (List ℕ)
+token_in settings fields =
+    option_and_then (if_known settings)
+    (text_in (trimmed (unwrap_or (value_of (codes "token") fields) [])))
+
+abbrev pub signed : Option (List ℕ) → Bool → Page → Visit
+signed None keep next = visits.NotSignedIn next
+signed (Some token) keep next = visits.SignedIn token keep next
+
+abbrev pub signing : Settings → Option (List Field) → Answer
+signing settings None = Err BadBody
+signing settings (Some fields) =
+    if has_fields (codes "token" ∷ codes "next" ∷ []) (codes "keep" ∷ []) fields
+    then Ok (signed (token_in settings fields) (has fields (codes "keep")) (next_in fields))
+    else Err BadBody
+
+-- ---- commands
+
+abbrev pub went : Option ℕ → Answer
+went None = Err BadBody
+went (Some id) = Ok (visits.Go id)
+
+abbrev pub going : List Field → Answer
+going fields =
+    if has_fields (codes "number" ∷ []) [] fields
+    then went (option_and_then number_of (value_of (codes "number") fields)) else Err BadBody
+
+-- the value of a field, and nothing where there is none
+abbrev pub typed : List ℕ → List Field → List ℕ
+typed name fields = unwrap_or (value_of name fields) []
+
+abbrev pub sent_on : Form → ℕ → List Field → Sent
+sent_on forms.Reply id fields = sends.Reply id (typed (codes "text") fields)
+sent_on forms.Comment id fields = sends.Comment id (typed (codes "text") fields)
+sent_on _ id fields = sends.Change id
+
+abbrev pub sent_in : List ℕ → List Field → Sent
+sent_in queue fields =
+    sends.New queue (typed (codes "subject") fields) (typed (codes "requestors") fields)
+
+abbrev pub acted : List ℕ → Sent → Option Command → Answer
+acted caller sent None = Err BadBody
+acted caller sent (Some command) = Ok (visits.Act caller command sent)
+
+-- what a caller's fields ask at a place that takes a command
+abbrev pub asked_at : List ℕ → Place → List Field → Answer
+asked_at caller places.Go fields = going fields
+asked_at caller places.Queues fields =
+    acted caller sends.Queue (command_in forms.OpenQueue Nothing fields)
+asked_at caller (places.Act act id) fields =
+    acted caller (sent_on act id fields) (command_in act (OnRequest id) fields)
+asked_at caller (places.Page (pages.New queue)) fields =
+    acted caller (sent_in queue fields) (command_in forms.Create (InQueue queue) fields)
+asked_at caller _ fields = Err (BadMethod false)
+
+-- where the form of such a place stands
+abbrev pub form_of : Place → Page
+form_of (places.Act act id) = pages.Request id
+form_of (places.Page page) = page
+form_of _ = pages.Home
+
+-- the cookie comes before the body
+abbrev pub asked_by : Place → Option (List ℕ) → Option (List Field) → Answer
+asked_by place None fields = Ok (visits.Unknown (form_of place) false)
+asked_by place (Some caller) None = Err BadBody
+asked_by place (Some caller) (Some fields) = asked_at caller place fields
+
+-- ---- POST
+
+abbrev pub posted : Settings → Lines → List ℕ → Place → Answer
+posted settings lines body places.SignIn = signing settings (fields_of body)
+posted settings lines body places.SignOut = Ok visits.SignOut
+posted settings lines body place = asked_by place (caller_of settings lines) (fields_of body)
+
+abbrev pub posted_from : Settings → Lines → List ℕ → Place → Answer
+posted_from settings lines body place =
+    if is_own lines then posted settings lines body place else Err OtherSite
+
+-- ---- a message
+
+-- the method comes first, and then, of a post, whose it is
+abbrev pub visited : Settings → Lines → List ℕ → Place → Option Method → Answer
+visited settings lines body place None = Err (BadMethod (takes_post place))
+visited settings lines body place (Some Get) = Ok (got settings lines place)
+visited settings lines body place (Some Post) =
+    if takes_post place then posted_from settings lines body place else Err (BadMethod false)
+
+abbrev pub visited_at : Settings → Message → Lines → Option Place → Answer
+visited_at settings message lines None = Err NoRoute
+visited_at settings message lines (Some place) =
+    visited settings lines message.body place (method_named message.method)
+
+-- what a message with these header lines asks of the pages, or its fault
+abbrev pub visit_of : Settings → Message → Lines → Answer
+visit_of settings message lines =
+    visited_at settings message lines (place_of (path_in message.target))

@@ -1,0 +1,21 @@
+//! What a browser's message asks of the pages.
+//!
+//! - `visit_of` gives what is asked, or the first fault of `NoRoute`, `BadMethod`, `OtherSite` and
+//!   `BadBody`. `NoMemory` may come in place of any answer.
+//! - `is_page_place` tells which targets are places of the pages; all others are the interface's.
+//! - `page_path` and `reply_path` are the paths to which an answer leads: numbers and names alone.
+#![tactic(auto)]
+
+mod ask;
+mod fault;
+mod filled;
+mod lines;
+mod page;
+mod place;
+mod sign;
+mod visit;
+
+pub use fault::PageFault;
+pub use page::{Page, page_path, reply_path};
+pub use place::is_page_place;
+pub use visit::{Sent, Visit, visit_of};

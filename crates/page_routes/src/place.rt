@@ -1,0 +1,249 @@
+//! The places of the pages.
+
+ghost use Rattle.std.specs.Prelude.{◌≡◌, codes, IfOk};
+ghost use Rattle.std.specs.Option.{option_and_then, option_map};
+ghost use Rattle.browser_core.specs.Texts as texts;
+ghost use Rattle.desk_forms.specs.Number.{number_of};
+ghost use Rattle.page_routes.specs.Places as places;
+
+use crate::page::Page;
+use browser_core::{cut, text_in};
+use desk_forms::number_of_word;
+use desk_forms::paths::Method;
+use desk_forms::table::Form;
+use std::alloc::{AllocError, Global};
+use text_core::{Text, is_name};
+
+/// A place of the pages.
+#[derive(Drop)]
+pub(crate) enum Place {
+    Style,
+    SignIn,
+    SignOut,
+    /// To go to a number.
+    Go,
+    /// To open a queue.
+    Queues,
+    /// A page that GET shows.
+    Page(Page),
+    /// An act on a request.
+    Act(Form, u32),
+}
+
+/// What paths of queues begin with.
+const QUEUES: &str = "/desk/queues/";
+
+/// What paths of requests begin with.
+const REQUESTS: &str = "/desk/requests/";
+
+/// Whether a target is a place of the pages, up to its first `?`: `/`, `/sign-in`, `/sign-out`,
+/// `/style.css`, `/desk`, and all that begins with `/desk/`. All others are the interface's.
+pub fn is_page_place(target: &[u8]) -> bool
+    ensures { result ≡ places.is_page_path (places.path_in target.now) }
+{
+    let path = path_in(target);
+    path == b"/".as_slice()
+        || path == b"/sign-in".as_slice()
+        || path == b"/sign-out".as_slice()
+        || path == b"/style.css".as_slice()
+        || path == b"/desk".as_slice()
+        || begins(path, "/desk/")
+}
+
+/// The target up to the first question mark.
+pub(crate) fn path_in(target: &[u8]) -> &[u8]
+    ensures { result.now ≡ places.path_in target.now }
+{
+    cut(target, b'?').0
+}
+
+fn begins(path: &[u8], front: &str) -> bool
+    ensures { result ≡ places.begins path.now front.now }
+{
+    path.len() >= front.len() && &path[..front.len()] == front.as_bytes()
+}
+
+/// What stands behind the front, where the path begins with it.
+fn behind<'p>(front: &str, path: &'p [u8]) -> Option<&'p [u8]>
+    ensures { option_map (λ r. r.now) result ≡ places.behind front.now path.now }
+{
+    if path.len() >= front.len() && &path[..front.len()] == front.as_bytes() {
+        Some(&path[front.len()..])
+    } else {
+        None
+    }
+}
+
+/// The place of a path that names nothing.
+fn fixed(path: &[u8]) -> Option<Place>
+    ensures { result ≡ places.fixed path.now }
+{
+    if path == b"/".as_slice() {
+        Some(Place::Page(Page::Home))
+    } else if path == b"/sign-in".as_slice() {
+        Some(Place::SignIn)
+    } else if path == b"/sign-out".as_slice() {
+        Some(Place::SignOut)
+    } else if path == b"/style.css".as_slice() {
+        Some(Place::Style)
+    } else if path == b"/desk/overdue".as_slice() {
+        Some(Place::Page(Page::Overdue))
+    } else if path == b"/desk/workload".as_slice() {
+        Some(Place::Page(Page::Workload))
+    } else if path == b"/desk/queues".as_slice() {
+        Some(Place::Queues)
+    } else if path == b"/desk/go".as_slice() {
+        Some(Place::Go)
+    } else {
+        None
+    }
+}
+
+/// An act on a request.
+fn act_named(word: &str) -> Option<Form>
+    ensures { result ≡ places.act_named word.now }
+{
+    match word {
+        "status" => Some(Form::SetStatus),
+        "take" => Some(Form::Take),
+        "steal" => Some(Form::Steal),
+        "untake" => Some(Form::Untake),
+        "give" => Some(Form::Give),
+        "reply" => Some(Form::Reply),
+        "comment" => Some(Form::Comment),
+        "watch" => Some(Form::Watch),
+        "unwatch" => Some(Form::Unwatch),
+        "link" => Some(Form::Link),
+        "unlink" => Some(Form::Unlink),
+        "level" => Some(Form::SetLevel),
+        _ => None,
+    }
+}
+
+fn act_in(word: &[u8]) -> Option<Form>
+    ensures { result ≡ option_and_then places.act_named (texts.text_in word.now) }
+{
+    match text_in(word) {
+        Some(word) => act_named(word),
+        None => None,
+    }
+}
+
+fn name_in(bytes: &[u8]) -> Option<&str>
+    ensures { option_map (λ n. n.now) result
+        ≡ option_and_then places.name_in (texts.text_in bytes.now) }
+{
+    match text_in(bytes) {
+        Some(name) => { if is_name(name) { Some(name) } else { None } }
+        None => None,
+    }
+}
+
+fn number_in(bytes: &[u8]) -> Option<u32>
+    ensures { result ≡ option_and_then number_of (texts.text_in bytes.now) }
+{
+    match text_in(bytes) {
+        Some(word) => number_of_word(word),
+        None => None,
+    }
+}
+
+/// The page of a queue, or that for a new request in it.
+fn queue_page(alloc: Global, name: &str, rest: Option<&[u8]>) -> Result<Option<Place>, AllocError>
+    ensures { IfOk result (λ place.
+        place ≡ places.queue_page name.now (option_map (λ r. r.now) rest.entry)) }
+{
+    let Some(word) = rest else {
+        return Ok(Some(Place::Page(Page::Queue(Text::new(alloc, name)?))));
+    };
+    if word == b"new".as_slice() {
+        Ok(Some(Place::Page(Page::New(Text::new(alloc, name)?))))
+    } else {
+        Ok(None)
+    }
+}
+
+/// The place of what stands behind `/desk/queues/`.
+fn in_queues(alloc: Global, rest: &[u8]) -> Result<Option<Place>, AllocError>
+    ensures { IfOk result (λ place. place ≡ places.in_queues rest.now) }
+{
+    let (name, more) = cut(rest, b'/');
+    match name_in(name) {
+        Some(name) => queue_page(alloc, name, more),
+        None => Ok(None),
+    }
+}
+
+/// The page of a request, or an act on it.
+fn request_page(id: u32, rest: Option<&[u8]>) -> Option<Place>
+    ensures { result ≡ places.request_page id (option_map (λ r. r.now) rest.entry) }
+{
+    let Some(word) = rest else {
+        return Some(Place::Page(Page::Request(id)));
+    };
+    match act_in(word) {
+        Some(act) => Some(Place::Act(act, id)),
+        None => None,
+    }
+}
+
+/// The place of what stands behind `/desk/requests/`.
+fn in_requests(rest: &[u8]) -> Option<Place>
+    ensures { result ≡ places.in_requests rest.now }
+{
+    let (number, more) = cut(rest, b'/');
+    match number_in(number) {
+        Some(id) => request_page(id, more),
+        None => None,
+    }
+}
+
+/// The place of a path that names a queue or a request.
+fn below(alloc: Global, path: &[u8]) -> Result<Option<Place>, AllocError>
+    ensures { IfOk result (λ place. place ≡ places.below
+        (places.behind (codes "/desk/queues/") path.now)
+        (places.behind (codes "/desk/requests/") path.now)) }
+{
+    if let Some(rest) = behind(QUEUES, path) {
+        return in_queues(alloc, rest);
+    }
+    match behind(REQUESTS, path) {
+        Some(rest) => Ok(in_requests(rest)),
+        None => Ok(None),
+    }
+}
+
+/// The place of a path, if it has one.
+pub(crate) fn place_of(alloc: Global, path: &[u8]) -> Result<Option<Place>, AllocError>
+    ensures { IfOk result (λ place. place ≡ places.place_of path.now) }
+{
+    match fixed(path) {
+        Some(place) => Ok(Some(place)),
+        None => below(alloc, path),
+    }
+}
+
+/// The method of this name.
+pub(crate) fn method_named(name: &[u8]) -> Option<Method>
+    ensures { result ≡ places.method_named name.now }
+{
+    if name == b"GET".as_slice() {
+        Some(Method::Get)
+    } else if name == b"POST".as_slice() {
+        Some(Method::Post)
+    } else {
+        None
+    }
+}
+
+/// Whether the place has POST beside GET.
+pub(crate) fn takes_post(place: &Place) -> bool
+    ensures { result ≡ places.takes_post place.now }
+{
+    match place {
+        Place::Style => false,
+        Place::Page(Page::New(_)) => true,
+        Place::Page(_) => false,
+        _ => true,
+    }
+}

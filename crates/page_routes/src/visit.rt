@@ -1,0 +1,213 @@
+//! What a message asks of the pages.
+
+ghost use Rattle.std.specs.Prelude.{◌≡◌, ◌≢◌, [], Ok, Err, IfErr, IfOk, None, Some};
+ghost use Rattle.httparse.specs.Grammar.{RequestHead};
+ghost use Rattle.message_core.specs.Head.{StartsWith};
+ghost use Rattle.message_core.specs.Request.{values_in};
+ghost use Rattle.page_routes.specs.Visits as visits;
+
+use crate::ask::asked_by;
+use crate::fault::PageFault;
+use crate::lines::{caller_of, is_own};
+use crate::page::Page;
+use crate::place::{Place, method_named, path_in, place_of, takes_post};
+use crate::sign::signing;
+use desk_forms::paths::Method;
+use desk_model::Command;
+use message_core::Request;
+use settings_core::Settings;
+use std::alloc::{AllocError, Global};
+use text_core::Text;
+
+/// The form with which a command was sent, and what was typed into it that a refusal's page holds.
+#[derive(Drop)]
+pub enum Sent {
+    /// To open a queue: done or refused, it leads to `/`.
+    Queue,
+    /// To file a request in the queue: done, it leads to the end of the new request's history, and
+    /// refused to the queue.
+    New {
+        queue: Text,
+        subject: Text,
+        requestors: Text,
+    },
+    /// To reply to the request: done, it leads to the end of its history, and refused to it.
+    Reply {
+        id: u32,
+        text: Text,
+    },
+    /// To comment on the request: the same.
+    Comment {
+        id: u32,
+        text: Text,
+    },
+    /// To change the request: the same.
+    Change {
+        id: u32,
+    },
+}
+
+/// What a message asks of the pages.
+#[derive(Drop)]
+pub enum Visit {
+    /// GET of `/style.css`: the style sheet.
+    Style,
+    /// GET of `/sign-in`: its page, which leads to `/`.
+    SignIn,
+    /// POST of `/sign-in` with a token of the settings: 303 to the page, with the cookie, which is
+    /// kept for 30 days where `keep` was ticked.
+    SignedIn {
+        token: Text,
+        keep: bool,
+        next: Page,
+    },
+    /// POST of `/sign-in` with no token of the settings: its page once more, which says so.
+    NotSignedIn {
+        next: Page,
+    },
+    /// POST of `/sign-out`: 303 to `/sign-in`, and the cookie is cleared.
+    SignOut,
+    /// GET of a place that only takes POST: 303 to where its form stands.
+    Leads(Page),
+    /// Nobody's cookie, at any other place: the sign-in page, which leads to this one. It is
+    /// answered at that very page to a GET, and elsewhere to a POST.
+    Unknown {
+        next: Page,
+        to_get: bool,
+    },
+    /// GET of a page.
+    Look {
+        caller: Text,
+        page: Page,
+    },
+    /// POST of `/desk/go`: 303 to this request.
+    Go {
+        id: u32,
+    },
+    /// POST of any other place: a command.
+    Act {
+        caller: Text,
+        command: Command,
+        sent: Sent,
+    },
+}
+
+/// What a message asks of the pages, as the lines of its head say.
+///
+/// `NoRoute` where its path is no place, `BadMethod` where the place doesn't have its method,
+/// `OtherSite` where a post comes from another site, and `BadBody` where a body isn't what the form
+/// sends: the first of these that holds. Whoever the cookie is, it is looked at before the body, but
+/// not for signing in and out. `NoMemory` may stand in place of any other answer.
+pub fn visit_of(alloc: Global, settings: &Settings, request: &Request) -> Result<Visit, PageFault>
+    ensures ok { (h : RequestHead) → StartsWith request.now.head h [] → IfOk result (λ visit.
+        visits.visit_of settings.now request.now.message (values_in h) ≡ Ok visit) }
+    ensures err { (h : RequestHead) → StartsWith request.now.head h [] → IfErr result (λ fault.
+        fault ≢ PageFault.NoMemory
+        → visits.visit_of settings.now request.now.message (values_in h) ≡ Err fault) }
+{
+    match place_of(alloc, path_in(request.message.target.as_slice()))? {
+        Some(place) => visited(alloc, settings, request, place),
+        None => Err(PageFault::NoRoute),
+    }
+}
+
+/// What it asks at a place.
+fn visited(
+    alloc: Global,
+    settings: &Settings,
+    request: &Request,
+    place: Place,
+) -> Result<Visit, PageFault>
+    ensures ok { (h : RequestHead) → StartsWith request.now.head h [] → IfOk result (λ visit.
+        visits.visited_at settings.now request.now.message (values_in h) (Some place) ≡ Ok visit) }
+    ensures err { (h : RequestHead) → StartsWith request.now.head h [] → IfErr result (λ fault.
+        fault ≢ PageFault.NoMemory → visits.visited_at settings.now request.now.message
+        (values_in h) (Some place) ≡ Err fault) }
+{
+    let posts = takes_post(&place);
+    match method_named(request.message.method.as_slice()) {
+        Some(Method::Get) => Ok(got(alloc, settings, request, place)?),
+        Some(Method::Post) => {
+            if posts {
+                posted_from(alloc, settings, request, place)
+            } else {
+                Err(PageFault::BadMethod { posts: false })
+            }
+        }
+        None => Err(PageFault::BadMethod { posts }),
+    }
+}
+
+/// What a GET asks at a place.
+fn got(
+    alloc: Global,
+    settings: &Settings,
+    request: &Request,
+    place: Place,
+) -> Result<Visit, AllocError>
+    ensures { (h : RequestHead) → StartsWith request.now.head h []
+        → IfOk result (λ visit. visit ≡ visits.got settings.now (values_in h) place) }
+{
+    match place {
+        Place::Style => Ok(Visit::Style),
+        Place::SignIn => Ok(Visit::SignIn),
+        Place::Page(page) => Ok(looked(page, caller_of(alloc, settings, request)?)),
+        Place::Act(_, id) => Ok(Visit::Leads(Page::Request(id))),
+        _ => Ok(Visit::Leads(Page::Home)),
+    }
+}
+
+fn looked(page: Page, caller: Option<Text>) -> Visit
+    ensures { result ≡ visits.looked page caller }
+{
+    match caller {
+        Some(caller) => Visit::Look { caller, page },
+        None => Visit::Unknown {
+            next: page,
+            to_get: true,
+        },
+    }
+}
+
+/// What a post asks at a place that takes one, wherever it comes from.
+fn posted_from(
+    alloc: Global,
+    settings: &Settings,
+    request: &Request,
+    place: Place,
+) -> Result<Visit, PageFault>
+    ensures ok { (h : RequestHead) → StartsWith request.now.head h [] → IfOk result (λ visit.
+        visits.posted_from settings.now (values_in h) request.now.message.body place
+        ≡ Ok visit) }
+    ensures err { (h : RequestHead) → StartsWith request.now.head h [] → IfErr result (λ fault.
+        fault ≢ PageFault.NoMemory → visits.posted_from settings.now (values_in h)
+        request.now.message.body place ≡ Err fault) }
+{
+    if !is_own(alloc, request)? {
+        return Err(PageFault::OtherSite);
+    }
+    posted(alloc, settings, request, place)
+}
+
+/// What a post of the desk's own asks at a place that takes one.
+fn posted(
+    alloc: Global,
+    settings: &Settings,
+    request: &Request,
+    place: Place,
+) -> Result<Visit, PageFault>
+    ensures ok { (h : RequestHead) → StartsWith request.now.head h [] → IfOk result (λ visit.
+        visits.posted settings.now (values_in h) request.now.message.body place ≡ Ok visit) }
+    ensures err { (h : RequestHead) → StartsWith request.now.head h [] → IfErr result (λ fault.
+        fault ≢ PageFault.NoMemory → visits.posted settings.now (values_in h)
+        request.now.message.body place ≡ Err fault) }
+{
+    match place {
+        Place::SignIn => signing(alloc, settings, request.message.body.as_slice()),
+        Place::SignOut => Ok(Visit::SignOut),
+        place => {
+            let caller = caller_of(alloc, settings, request)?;
+            asked_by(alloc, place, caller, request.message.body.as_slice())
+        }
+    }
+}

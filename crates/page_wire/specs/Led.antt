@@ -1,0 +1,37 @@
+-- Where one is led once something was done: replies that need no memory beyond room had before.
+use Rattle.std.specs.Prelude.{ℕ, List, ◌++◌, codes, decimal}
+use Rattle.page_routes.specs.declared.visit.Sent.{Sent}
+use Rattle.page_routes.specs.declared.visit.Sent.TheVariants as sent
+
+unfoldable pub led_front : List ℕ
+led_front =
+    codes "HTTP/1.1 303 See Other\r\nContent-Type: text/html; charset=utf-8\r\nContent-Length: 0\r\nLocation: "
+
+unfoldable pub led_back : List ℕ
+led_back =
+    codes "\r\nCache-Control: no-store\r\nContent-Security-Policy: default-src 'none'; style-src 'self'; form-action 'self'; frame-ancestors 'none'; base-uri 'none'\r\nReferrer-Policy: same-origin\r\nX-Content-Type-Options: nosniff\r\nConnection: close\r\n\r\n"
+
+unfoldable pub request_place : List ℕ
+request_place = codes "/desk/requests/"
+
+unfoldable pub reply_mark : List ℕ
+reply_mark = codes "#reply"
+
+unfoldable pub home_place : List ℕ
+home_place = codes "/"
+
+-- to the end of the history of a request
+abbrev pub led_to : ℕ → List ℕ
+led_to id = led_front ++ (request_place ++ (decimal id ++ (reply_mark ++ led_back)))
+
+-- to the first page
+abbrev pub led_home : List ℕ
+led_home = led_front ++ (home_place ++ led_back)
+
+-- where the form leads
+abbrev pub led_by : Sent → List ℕ
+led_by sent.Queue = led_home
+led_by (sent.New queue subject requestors) = led_home
+led_by (sent.Reply id text) = led_to id
+led_by (sent.Comment id text) = led_to id
+led_by (sent.Change id) = led_to id

@@ -1,0 +1,5 @@
+pub mod Faults
+pub mod Led
+pub mod Replies
+pub mod Steps
+pub mod Visits

@@ -1,0 +1,164 @@
+-- The reply to what a browser asks for.
+use Rattle.std.specs.Prelude.{ℕ, Bool, true, false, List, [], Option, Some, None, Ok, Err}
+use Rattle.std.specs.Prelude.{Result, find, map, option_and_then}
+use Rattle.std.specs.Str.{bytes_eq}
+use Rattle.lifecycle_core.specs.declared.parts.Parts.{Parts}
+use Rattle.settings_core.specs.Settings.{levels_of, lifecycle_named, lifecycles_of}
+use Rattle.settings_core.specs.declared.named.Named.{Named}
+use Rattle.settings_core.specs.declared.settings.Settings.{Settings}
+use Rattle.desk_model.specs.Step.{Outcome}
+use Rattle.desk_model.specs.declared.answer.Answer.{Answer}
+use Rattle.desk_model.specs.declared.answer.Answer.TheVariants as answer
+use Rattle.desk_model.specs.declared.answer.Dossier.{Dossier}
+use Rattle.desk_model.specs.declared.answer.Line.{Line}
+use Rattle.desk_model.specs.declared.refusal.Refusal.{Refusal}
+use Rattle.desk_model.specs.declared.refusal.Refusal.TheVariants.{Unavailable}
+use Rattle.desk_model.specs.declared.rows.QueueRow.{QueueRow}
+use Rattle.page_core.specs.Page.{Part, page_bytes}
+use Rattle.desk_pages.specs.Home.{home_page}
+use Rattle.desk_pages.specs.New.{new_page}
+use Rattle.desk_pages.specs.Overdue.{overdue_page}
+use Rattle.desk_pages.specs.Queue.{queue_page}
+use Rattle.desk_pages.specs.RefusalPage.{ask_refusal_page, comment_refusal_page, refusal_page}
+use Rattle.desk_pages.specs.RefusalPage.{reply_refusal_page, request_refusal_page}
+use Rattle.desk_pages.specs.Request.{request_page}
+use Rattle.desk_pages.specs.SignIn.{sign_in_page}
+use Rattle.desk_pages.specs.Workload.{workload_page}
+use Rattle.page_reply.specs.PageReply.{bytes_of}
+use Rattle.page_reply.specs.declared.reply.CookieChange.{CookieChange}
+use Rattle.page_reply.specs.declared.reply.CookieChange.TheVariants.{Keep, Session, Stay, Forget}
+use Rattle.page_routes.specs.declared.page.Page as routes
+use Rattle.page_routes.specs.Paths.{path_of}
+use Rattle.page_routes.specs.declared.visit.Sent.{Sent}
+use Rattle.page_routes.specs.declared.visit.Sent.TheVariants as sent
+use Rattle.wire_core.specs.Replies.{code_of_refusal}
+use Rattle.page_wire.specs.Led.{led_by, led_to}
+
+-- a page, with its code
+abbrev pub with_page : ℕ → List ℕ → List ℕ
+with_page status page =
+    bytes_of (record {
+      status = status;
+      cookie = Keep;
+      location = None;
+      allow = None;
+      page = page;
+      head_only = false;
+    })
+
+-- the way to another place
+abbrev pub leads_to : CookieChange → List ℕ → List ℕ
+leads_to cookie place =
+    bytes_of (record {
+      status = 303;
+      cookie = cookie;
+      location = Some place;
+      allow = None;
+      page = [];
+      head_only = false;
+    })
+
+-- the page of a refusal
+abbrev pub refused : List ℕ → ℕ → Refusal → List ℕ
+refused caller at refusal =
+    with_page (code_of_refusal refusal) (page_bytes (refusal_page refusal caller at))
+
+-- no answer is of another kind than its command; what would be is told as no answer
+abbrev pub no_answer : List ℕ → ℕ → List ℕ
+no_answer caller at = refused caller at Unavailable
+
+-- ---- signing in and out
+
+abbrev pub sign_in : ℕ → routes.Page → Bool → Bool → List ℕ
+sign_in status next unknown elsewhere =
+    with_page status (page_bytes (sign_in_page (path_of next) unknown elsewhere))
+
+abbrev pub cookie_for : Bool → List ℕ → CookieChange
+cookie_for true token = Stay token
+cookie_for false token = Session token
+
+-- ---- pages
+
+abbrev pub names_of : {T : Type 0} → List (Named T) → List (List ℕ)
+names_of all = map (λ n. n.name) all
+
+-- the queue of that name among these
+abbrev pub row_named : List ℕ → List QueueRow → Option QueueRow
+row_named queue rows = find (λ row. bytes_eq row.name queue) rows
+
+-- its lifecycle
+abbrev pub lifecycle_in : Settings → List ℕ → List QueueRow → Option Parts
+lifecycle_in settings queue rows =
+    option_and_then (λ row. lifecycle_named settings row.lifecycle) (row_named queue rows)
+
+-- after the queues, how much is to do
+abbrev pub home_reply : Settings → List ℕ → ℕ → Answer → Outcome → List ℕ
+home_reply settings caller at (answer.Queues rows) (Ok (answer.Workload loads)) =
+    with_page 200 (page_bytes (home_page caller at rows loads (names_of (lifecycles_of settings))
+    (names_of (levels_of settings))))
+home_reply settings caller at told (Err refusal) = refused caller at refusal
+home_reply settings caller at told (Ok other) = no_answer caller at
+
+-- the requests of a queue, with the lifecycle of its row
+abbrev pub listed : List ℕ → List ℕ → ℕ → Option Parts → List Line → List ℕ
+listed queue caller at (Some lifecycle) lines =
+    with_page 200 (page_bytes (queue_page queue caller at lifecycle lines))
+listed queue caller at None lines = no_answer caller at
+
+abbrev pub queue_reply : Settings → List ℕ → List ℕ → ℕ → Answer → Outcome → List ℕ
+queue_reply settings queue caller at (answer.Listed lines) (Ok (answer.Queues rows)) =
+    listed queue caller at (lifecycle_in settings queue rows) lines
+queue_reply settings queue caller at told (Err refusal) = refused caller at refusal
+queue_reply settings queue caller at told (Ok other) = no_answer caller at
+
+-- the statuses in which a request may be filed, and the usual one, where the queue is told
+abbrev pub asks : List ℕ → List ℕ → ℕ → Option Parts → List Part
+asks queue caller at (Some lifecycle) =
+    new_page queue caller at lifecycle.on_create lifecycle.create
+asks queue caller at None = new_page queue caller at [] []
+
+abbrev pub new_reply : Settings → List ℕ → List ℕ → ℕ → Outcome → List ℕ
+new_reply settings queue caller at (Ok (answer.Queues rows)) =
+    with_page 200 (page_bytes (asks queue caller at (lifecycle_in settings queue rows)))
+new_reply settings queue caller at (Err refusal) = refused caller at refusal
+new_reply settings queue caller at (Ok other) = no_answer caller at
+
+abbrev pub overdue_reply : List ℕ → ℕ → Outcome → List ℕ
+overdue_reply caller at (Ok (answer.Late lines)) =
+    with_page 200 (page_bytes (overdue_page caller at lines))
+overdue_reply caller at (Err refusal) = refused caller at refusal
+overdue_reply caller at (Ok other) = no_answer caller at
+
+abbrev pub workload_reply : List ℕ → ℕ → Outcome → List ℕ
+workload_reply caller at (Ok (answer.Workload loads)) =
+    with_page 200 (page_bytes (workload_page caller at loads))
+workload_reply caller at (Err refusal) = refused caller at refusal
+workload_reply caller at (Ok other) = no_answer caller at
+
+abbrev pub request_reply : Settings → List ℕ → ℕ → Result Dossier Refusal → List ℕ
+request_reply settings caller at (Ok dossier) =
+    with_page 200 (page_bytes (request_page caller at settings dossier))
+request_reply settings caller at (Err refusal) = refused caller at refusal
+
+-- ---- what came of a form
+
+-- done: to the request that was filed, and else where the form leads
+abbrev pub done_reply : Sent → Answer → List ℕ
+done_reply sent (answer.Created id) = led_to id
+done_reply sent other = led_by sent
+
+-- refused: its page, with what was typed
+abbrev pub refused_form : List ℕ → ℕ → Sent → Refusal → List Part
+refused_form caller at sent.Queue refusal = refusal_page refusal caller at
+refused_form caller at (sent.New queue subject requestors) refusal =
+    ask_refusal_page refusal caller at queue subject requestors [] []
+refused_form caller at (sent.Reply id text) refusal =
+    reply_refusal_page refusal caller at id text
+refused_form caller at (sent.Comment id text) refusal =
+    comment_refusal_page refusal caller at id text
+refused_form caller at (sent.Change id) refusal = request_refusal_page refusal caller at id
+
+abbrev pub form_reply : List ℕ → ℕ → Sent → Outcome → List ℕ
+form_reply caller at sent (Ok answer) = done_reply sent answer
+form_reply caller at sent (Err refusal) =
+    with_page (code_of_refusal refusal) (page_bytes (refused_form caller at sent refusal))

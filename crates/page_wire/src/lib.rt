@@ -1,0 +1,16 @@
+//! A message that asks for a page: what it asks for is done, and the page is made of the answer.
+//!
+//! `answer_bytes` serves whatever comes: a message at a place of the pages by the step of its
+//! visit, and any other by the interface's step, byte for byte.
+#![tactic(auto)]
+
+mod act;
+mod faults;
+mod led;
+mod look;
+mod pages;
+mod replies;
+mod serve;
+mod visits;
+
+pub use serve::answer_bytes;

@@ -1,0 +1,242 @@
+//! The reply to a page's reading, of what came of its commands.
+ghost use Rattle.std.specs.Prelude.{◌≡◌, IfOk};
+ghost use Rattle.std.specs.Option.{option_map};
+ghost use Rattle.page_core.specs.Page.{page_bytes};
+ghost use Rattle.page_wire.specs.Replies as form;
+
+use crate::replies::{refused, with_page};
+use desk_core::{Answer, Dossier, Line, QueueRow, Refusal};
+use desk_pages::{home_page, new_page, overdue_page, queue_page, request_page, workload_page};
+use hours_core::Minute;
+use lifecycle_core::Lifecycle;
+use settings_core::{Named, Settings};
+use std::alloc::{AllocError, Global};
+use text_core::Text;
+
+/// What came of a command.
+type Outcome = Result<Answer, Refusal>;
+
+/// No answer is of another kind than its command; what would be is told as no answer.
+fn no_answer(alloc: Global, caller: &str, moment: Minute) -> Result<Vec<u8>, AllocError>
+    ensures { IfOk result (λ out. out.items ≡ form.no_answer caller.now moment) }
+{
+    refused(alloc, caller, moment, &Refusal::Unavailable)
+}
+
+/// The first page: the queues that were told, and how much is to do.
+pub(crate) fn home_reply(
+    alloc: Global,
+    settings: &Settings,
+    caller: &str,
+    moment: Minute,
+    told: &Answer,
+    outcome: &Outcome,
+) -> Result<Vec<u8>, AllocError>
+    ensures { IfOk result (λ out. out.items
+        ≡ form.home_reply settings.now caller.now moment told.now outcome.now) }
+{
+    match (told, outcome) {
+        (_, Err(refusal)) => refused(alloc, caller, moment, refusal),
+        (Answer::Queues(rows), Ok(Answer::Workload(loads))) => {
+            let lifecycles = names_of(alloc, settings.lifecycles())?;
+            let levels = names_of(alloc, settings.levels())?;
+            let page = home_page(
+                alloc,
+                caller,
+                moment,
+                rows.as_slice(),
+                loads.as_slice(),
+                lifecycles.as_slice(),
+                levels.as_slice(),
+            )?;
+            with_page(alloc, 200, page)
+        }
+        _ => no_answer(alloc, caller, moment),
+    }
+}
+
+/// The names of these.
+fn names_of<T>(alloc: Global, all: &[Named<T>]) -> Result<Vec<Text>, AllocError>
+    ensures { IfOk result (λ names. names.items ≡ form.names_of all.now) }
+{
+    let mut names = Vec::new(alloc);
+    for named in all {
+        names.push(named.name.clone()?)?;
+    }
+    Ok(names)
+}
+
+/// The page of a queue: its requests that were told, by the lifecycle of its row.
+pub(crate) fn queue_reply(
+    alloc: Global,
+    settings: &Settings,
+    queue: &str,
+    caller: &str,
+    moment: Minute,
+    told: &Answer,
+    outcome: &Outcome,
+) -> Result<Vec<u8>, AllocError>
+    ensures { IfOk result (λ out. out.items
+        ≡ form.queue_reply settings.now queue.now caller.now moment told.now outcome.now) }
+{
+    match (told, outcome) {
+        (_, Err(refusal)) => refused(alloc, caller, moment, refusal),
+        (Answer::Listed(lines), Ok(Answer::Queues(rows))) => listed(
+            alloc,
+            queue,
+            caller,
+            moment,
+            lifecycle_in(settings, queue, rows.as_slice()),
+            lines.as_slice(),
+        ),
+        _ => no_answer(alloc, caller, moment),
+    }
+}
+
+fn listed(
+    alloc: Global,
+    queue: &str,
+    caller: &str,
+    moment: Minute,
+    lifecycle: Option<&Lifecycle>,
+    lines: &[Line],
+) -> Result<Vec<u8>, AllocError>
+    ensures { IfOk result (λ out. out.items ≡ form.listed queue.now caller.now moment
+        (option_map (λ l. l.now) lifecycle.entry) lines.now) }
+{
+    match lifecycle {
+        Some(lifecycle) => {
+            let page = queue_page(alloc, queue, caller, moment, lifecycle, lines)?;
+            with_page(alloc, 200, page)
+        }
+        None => no_answer(alloc, caller, moment),
+    }
+}
+
+/// The lifecycle of the queue of that name among these.
+fn lifecycle_in<'s>(
+    settings: &'s Settings,
+    queue: &str,
+    rows: &[QueueRow],
+) -> Option<&'s Lifecycle>
+    ensures { option_map (λ l. l.now) result
+        ≡ form.lifecycle_in settings.now queue.now rows.now }
+{
+    match row_named(queue, rows) {
+        Some(row) => settings.lifecycle(row.lifecycle.as_str()),
+        None => None,
+    }
+}
+
+/// The queue of that name among these.
+fn row_named<'r>(queue: &str, rows: &'r [QueueRow]) -> Option<&'r QueueRow>
+    ensures { option_map (λ r. r.now) result ≡ form.row_named queue.now rows.now }
+{
+    rows.iter().find(|row| row.name.as_str() == queue)
+}
+
+/// The page for a new request in a queue, by the queues that were told.
+pub(crate) fn new_reply(
+    alloc: Global,
+    settings: &Settings,
+    queue: &str,
+    caller: &str,
+    moment: Minute,
+    outcome: &Outcome,
+) -> Result<Vec<u8>, AllocError>
+    ensures { IfOk result (λ out. out.items
+        ≡ form.new_reply settings.now queue.now caller.now moment outcome.now) }
+{
+    match outcome {
+        Ok(Answer::Queues(rows)) => {
+            let lifecycle = lifecycle_in(settings, queue, rows.as_slice());
+            let page = asks(alloc, queue, caller, moment, lifecycle)?;
+            with_page(alloc, 200, page)
+        }
+        Ok(_) => no_answer(alloc, caller, moment),
+        Err(refusal) => refused(alloc, caller, moment, refusal),
+    }
+}
+
+fn asks(
+    alloc: Global,
+    queue: &str,
+    caller: &str,
+    moment: Minute,
+    lifecycle: Option<&Lifecycle>,
+) -> Result<Vec<u8>, AllocError>
+    ensures { IfOk result (λ page. page.items ≡ page_bytes (form.asks queue.now caller.now moment
+        (option_map (λ l. l.now) lifecycle.entry))) }
+{
+    match lifecycle {
+        Some(lifecycle) => new_page(
+            alloc,
+            queue,
+            caller,
+            moment,
+            lifecycle.on_create(),
+            lifecycle.parts().create.as_slice(),
+        ),
+        None => new_page(alloc, queue, caller, moment, "", &[]),
+    }
+}
+
+/// The page of what is late.
+pub(crate) fn overdue_reply(
+    alloc: Global,
+    caller: &str,
+    moment: Minute,
+    outcome: &Outcome,
+) -> Result<Vec<u8>, AllocError>
+    ensures { IfOk result (λ out. out.items
+        ≡ form.overdue_reply caller.now moment outcome.now) }
+{
+    match outcome {
+        Ok(Answer::Late(lines)) => {
+            let page = overdue_page(alloc, caller, moment, lines.as_slice())?;
+            with_page(alloc, 200, page)
+        }
+        Ok(_) => no_answer(alloc, caller, moment),
+        Err(refusal) => refused(alloc, caller, moment, refusal),
+    }
+}
+
+/// The page of who has how much to do.
+pub(crate) fn workload_reply(
+    alloc: Global,
+    caller: &str,
+    moment: Minute,
+    outcome: &Outcome,
+) -> Result<Vec<u8>, AllocError>
+    ensures { IfOk result (λ out. out.items
+        ≡ form.workload_reply caller.now moment outcome.now) }
+{
+    match outcome {
+        Ok(Answer::Workload(loads)) => {
+            let page = workload_page(alloc, caller, moment, loads.as_slice())?;
+            with_page(alloc, 200, page)
+        }
+        Ok(_) => no_answer(alloc, caller, moment),
+        Err(refusal) => refused(alloc, caller, moment, refusal),
+    }
+}
+
+/// The page of a request, of its dossier.
+pub(crate) fn request_reply(
+    alloc: Global,
+    settings: &Settings,
+    caller: &str,
+    moment: Minute,
+    dossier: &Result<Dossier, Refusal>,
+) -> Result<Vec<u8>, AllocError>
+    ensures { IfOk result (λ out. out.items
+        ≡ form.request_reply settings.now caller.now moment dossier.now) }
+{
+    match dossier {
+        Ok(dossier) => {
+            let page = request_page(alloc, caller, moment, settings, dossier)?;
+            with_page(alloc, 200, page)
+        }
+        Err(refusal) => refused(alloc, caller, moment, refusal),
+    }
+}

@@ -1,0 +1,121 @@
+//! What a visit comes to.
+ghost use Rattle.std.specs.Prelude.{◌≡◌, ◌≤◌, [], Err, IfErr, IfOk, Ok, OnErr, OnOk};
+ghost use Rattle.std.specs.Vec.{vec_capacity};
+ghost use Rattle.service_core.specs.Seen.{settings_of, tables_of};
+ghost use Rattle.store_tables.specs.Calls.{Lasts, WasClean};
+ghost use Rattle.page_wire.specs.Steps.{VisitStepsOn};
+ghost use Rattle.page_wire.specs.Visits as form;
+ghost use Rattle.wire_core.specs.Steps.{StaysOn};
+
+use crate::act::act;
+use crate::faults::clock_reply;
+use crate::look::look;
+use crate::replies::{cookie_for, leads_to, sign_in};
+use desk_core::Command;
+use desk_style::style_sheet;
+use hours_core::Minute;
+use page_reply::{CookieChange, sheet_reply};
+use page_routes::{Page, Sent, Visit, page_path};
+use service_core::Desk;
+use std::alloc::{AllocError, Global};
+use store_core::Backend;
+use text_core::Text;
+
+/// Makes a visit at a moment, in minutes since 1970-01-01 00:00 UTC, and puts its reply into the
+/// room. Out of memory nothing is done, and nothing is put.
+#[tactic(auto, using(store_tables::proofs::Lasting::same))]
+pub(crate) fn make_visit<S: Backend>(
+    alloc: Global,
+    visit: &Visit,
+    at: u32,
+    desk: &mut Desk<S>,
+    room: &mut Vec<u8>,
+) -> Result<(), AllocError>
+    requires empty { room.old.items ≡ [] }
+    requires room { 512 ≤ vec_capacity room.old }
+    ensures ok { OnOk result (VisitStepsOn (settings_of S.Store desk.old) at visit.now
+        room.new.items (tables_of S.Store desk.old) (tables_of S.Store desk.new)) }
+    ensures err { OnErr result ((room.new ≡ room.old) × StaysOn (settings_of S.Store desk.old)
+        (tables_of S.Store desk.old) (tables_of S.Store desk.new)) }
+    ensures honest { WasClean (tables_of S.Store desk.old) (tables_of S.Store desk.new) }
+    ensures lasts { Lasts (tables_of S.Store desk.old) (tables_of S.Store desk.new) }
+    ensures same { settings_of S.Store desk.new ≡ settings_of S.Store desk.old }
+{
+    match (visit, Minute::new(at)) {
+        (Visit::Look { caller, page }, Some(moment)) => {
+            let made = look(alloc, caller.as_str(), page, moment, desk);
+            put(made, room)
+        }
+        (
+            Visit::Act {
+                caller,
+                command,
+                sent,
+            },
+            Some(moment),
+        ) => act(alloc, caller.as_str(), command, sent, moment, desk, room),
+        _ => put(fixed(alloc, visit), room),
+    }
+}
+
+/// Puts bytes that were made in place of the room.
+fn put(made: Result<Vec<u8>, AllocError>, room: &mut Vec<u8>) -> Result<(), AllocError>
+    ensures ok { OnOk result (made ≡ Ok room.new) }
+    ensures err { IfErr result (λ refused. (room.new ≡ room.old) × (made ≡ Err refused)) }
+{
+    match made {
+        Ok(bytes) => {
+            *room = bytes;
+            Ok(())
+        }
+        Err(refused) => Err(refused),
+    }
+}
+
+/// The reply to a visit where the desk is asked for nothing: a page and a form have it where their
+/// moment is none of the desk's.
+fn fixed(alloc: Global, visit: &Visit) -> Result<Vec<u8>, AllocError>
+    ensures { IfOk result (λ out. form.IsFixed visit.now out.items) }
+{
+    match visit {
+        Visit::Style => sheet_reply(alloc, style_sheet().as_bytes()),
+        Visit::SignIn => sign_in(alloc, 200, &Page::Home, false, false),
+        Visit::SignedIn { token, keep, next } => signed_in(alloc, token, *keep, next),
+        Visit::NotSignedIn { next } => sign_in(alloc, 403, next, true, false),
+        Visit::SignOut => signed_out(alloc),
+        Visit::Leads(next) => leads_on(alloc, next),
+        Visit::Unknown { next, to_get } => sign_in(alloc, 403, next, false, *to_get),
+        Visit::Go { id } => leads_on(alloc, &Page::Request(*id)),
+        Visit::Look { .. } | Visit::Act { .. } => clock_reply(alloc),
+    }
+}
+
+/// Leads to a page, with the cookie of one who signed in.
+fn signed_in(
+    alloc: Global,
+    token: &Text,
+    keep: bool,
+    next: &Page,
+) -> Result<Vec<u8>, AllocError>
+    ensures { IfOk result (λ out. out.items ≡ form.signed_in token.now keep next.now) }
+{
+    let place = page_path(alloc, next)?;
+    let token = token.clone()?;
+    leads_to(alloc, cookie_for(keep, token), place)
+}
+
+/// Leads to the page on which one signs in, without a cookie.
+fn signed_out(alloc: Global) -> Result<Vec<u8>, AllocError>
+    ensures { IfOk result (λ out. out.items ≡ form.signed_out) }
+{
+    let place = Text::new(alloc, "/sign-in")?;
+    leads_to(alloc, CookieChange::Forget, place)
+}
+
+/// Leads to a page.
+fn leads_on(alloc: Global, next: &Page) -> Result<Vec<u8>, AllocError>
+    ensures { IfOk result (λ out. out.items ≡ form.leads_on next.now) }
+{
+    let place = page_path(alloc, next)?;
+    leads_to(alloc, CookieChange::Keep, place)
+}

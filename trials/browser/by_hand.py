@@ -1,0 +1,383 @@
+"""What a person does in the browser: signs in by the keys alone, reads, fills in each form, meets a
+refusal, comes from another site, signs out."""
+import contextlib
+import http.server
+import re
+import threading
+
+from browser.looks import SHOWS
+from browser.office import FREE, LAST, LATE, TALK, TOKENS
+from browser.trial import chromium, expect, holds, serving, signed_in, tally
+
+MONTH = 30 * 86_400
+AT = f"/desk/requests/{TALK}"
+TEXT = ("<b>bold?</b> & \"quotes\" 'too'\n\n\ttab </textarea></div></li><script>alert(1)</script>\n"
+        "日本語 Привет \\n &amp; &#39; %41+%2B ünï 👍")
+# what has the keys, by its address, its name or its words
+FOCUS = ("(e => e === document.body ? '' : e.getAttribute('href') || e.name || e.id"
+         " || e.textContent.trim())(document.activeElement)")
+# whether it is seen what has the keys: by its own outline, or by that of its label
+OUTLINED = """(e => [e, ...(e.labels ?? [])].some(it => { const s = getComputedStyle(it);
+ return s.outlineStyle !== 'none' && parseFloat(s.outlineWidth) >= 2 }))(document.activeElement)"""
+
+
+def signing_in():
+    """By the keys alone, to the page that was asked for; wrongly, and for a month."""
+    with serving("signing") as visitor:
+        browser = chromium()
+        browser.open(visitor.origin + AT)
+        expect("the page is kept in mind", browser.of_element("[name=next]", "it.value"), AT)
+        holds("something is told without a cookie", "printer" not in browser.text())
+        expect("the keys go to the token", browser.run(FOCUS), "token")
+        browser.write("not-a-token-at-all-0000")
+        browser.loads(lambda: browser.key("Enter"))
+        holds("a wrong token isn't told", "refused 1 UnknownCaller" in browser.text())
+        page = browser.run("document.documentElement.outerHTML")
+        holds("it is repeated", "not-a-token" not in page)
+        browser.write(TOKENS["bob"])
+        browser.key("Tab")
+        browser.key(" ")
+        expect("a month is chosen", browser.of_element("[name=keep]", "it.checked"), True)
+        browser.key("Tab")
+        browser.loads(lambda: browser.key("Enter"))
+        expect("it leads to the page", browser.path(), AT)
+        cookie = browser.cookies(visitor.origin)
+        holds(f"the cookie is {cookie}", len(cookie) == 1 and cookie[0]["httpOnly"]
+              and cookie[0]["sameSite"] == "Strict" and not cookie[0]["session"])
+        expect("a script reads of it", browser.run("document.cookie"), "")
+        browser = signed_in(visitor)
+        expect("another cookie ends with the browser",
+               [it["session"] for it in browser.cookies(visitor.origin)], [True])
+
+
+def last_of(visitor, request=TALK):
+    """The last entry of a history, without its number, moment and person."""
+    line = visitor.told(f"/requests/{request}/history").text.splitlines()[-1]
+    return re.sub(r"^ *\d+ \S+ \S+ +\S+ +", "", line)
+
+
+def writing():
+    """A reply and a comment are shown as they were typed, and the browser goes there."""
+    with serving("writing") as visitor:
+        browser = signed_in(visitor, "bob", AT)
+        for act in ("reply", "comment"):
+            browser.put(f"[action$='/{act}'] textarea", TEXT)
+            browser.follow(f"[action$='/{act}'] button")
+            expect(f"{act}: it leads to", browser.run("location.pathname + location.hash"),
+                   f"{AT}#reply")
+            expect(f"{act}: as it is shown", browser.of_element(
+                ".history > li:last-child > div", "it.textContent"), TEXT)
+            expect(f"{act}: it stands out", browser.of_element(
+                ".history > li:last-child", "getComputedStyle(it).outlineStyle"), "solid")
+            kept = TEXT.replace("\\", "\\\\").replace("\n", "\\n").replace("\t", "\\t")
+            expect(f"{act}: as it is kept", last_of(visitor), f"{act} {kept}")
+        browser.open(visitor.origin + AT)
+        expect("nothing is left of it", browser.of_element(
+            "[action$='/reply'] textarea", "it.value"), "")
+
+
+def owning():
+    """Taking, letting go, giving and stealing: what makes sense is offered."""
+    with serving("owning") as visitor:
+        browser = signed_in(visitor, "bob", f"/desk/requests/{FREE}")
+
+        def offered():
+            return [it for it in ("take", "untake", "steal") if browser.has(f"[action$='/{it}']")]
+        expect("of nobody's", offered(), ["take"])
+        browser.follow("[action$='/take'] button")
+        expect("taken", (offered(), last_of(visitor, FREE)), (["untake"], "owner Nobody bob"))
+        browser.follow("[action$='/untake'] button")
+        expect("let go", (offered(), last_of(visitor, FREE)), (["take"], "owner bob Nobody"))
+        browser.put("[action$='/give'] [name=person]", "cid")
+        browser.follow("[action$='/give'] button")
+        expect("given", (offered(), last_of(visitor, FREE)), (["steal"], "owner Nobody cid"))
+        holds("from whom isn't said", "cid" in browser.text("[action$='/steal']"))
+        browser.follow("[action$='/steal'] button")
+        expect("stolen", (offered(), last_of(visitor, FREE)), (["untake"], "owner cid bob"))
+
+
+def changing():
+    """Moves, levels, people and links."""
+    with serving("changing") as visitor:
+        browser = signed_in(visitor, "bob", AT)
+        browser.follow("[name=status][value=stalled]")
+        expect("moved", (last_of(visitor), browser.text(".facts .state")),
+               ("status open stalled", "stalled"))
+        browser.of_element("[action$='/level'] select", "it.value = 'urgent'")
+        browser.follow("[action$='/level'] button")
+        expect("the level", last_of(visitor), "level standard urgent")
+        browser.of_element("[action$='/level'] select", "it.value = ''")
+        browser.follow("[action$='/level'] button")
+        expect("no level", last_of(visitor), "level urgent -")
+        put = ".change [action$='/watch']"
+        browser.of_element(f"{put} select", "it.value = 'admincc'")
+        browser.put(f"{put} [name=person]", "eva")
+        browser.follow(f"{put} button:not([formaction])")
+        expect("somebody more", last_of(visitor), "watch admincc eva")
+        link = ".change [action$='/link']"
+        browser.of_element(f"{link} select", "it.value = 'HasMember'")
+        browser.put(f"{link} [name=other]", "7")
+        browser.follow(f"{link} button:not([formaction])")
+        expect("a link", (last_of(visitor, 7), browser.path()), (f"link MemberOf {TALK}", AT))
+        holds("it isn't shown", browser.has(".facts a[href='/desk/requests/7']"))
+        suggested = browser.run("[...document.querySelectorAll('#people option')]"
+                                ".map(it => it.value)")
+        holds(f"suggested are {suggested}", {"ann", "bob", "cid", "eva"} <= set(suggested))
+
+
+def one_press():
+    """Beside a name and a number stands a press that takes it away."""
+    with serving("press") as visitor:
+        browser = signed_in(visitor, "bob", AT)
+        browser.follow(".facts [action$='/unwatch'] button, .facts [formaction$='/unwatch']")
+        holds(f"nobody was taken out: {last_of(visitor)}", last_of(visitor).startswith("unwatch "))
+        expect("it leads back", browser.path(), AT)
+        browser.follow(".facts [action$='/unlink'] button, .facts [formaction$='/unlink']")
+        holds(f"no link was taken away: {last_of(visitor)}", last_of(visitor).startswith("unlink "))
+
+
+def folds():
+    """What closes a request is behind a fold, but for the first; all of them work. Forms are folded
+    for who asked."""
+    with serving("folds") as visitor:
+        browser = signed_in(visitor, "bob", AT)
+        expect("moves that are seen", browser.run(
+            "[...document.querySelectorAll('[name=status]')].filter(it => it.checkVisibility())"
+            ".map(it => it.value)"), ["new", "stalled", "resolved"])
+        folded = ".more [name=status][value=rejected]"
+        expect("what is folded", browser.run(
+            "[...document.querySelectorAll('details.more [name=status]')].map(it => it.value)"),
+            ["rejected", "deleted"])
+        browser.open(f"{visitor.origin}/desk/requests/{LAST}")
+        browser.follow(folded)
+        expect("a folded move", last_of(visitor, LAST), "status new rejected")
+        browser = signed_in(visitor, "ann", AT)
+        holds("who asked sees all forms", browser.run(SHOWS.format("[action$='/give']")) == 0)
+        shown = browser.run(SHOWS.format("[action$='/reply'] textarea"))
+        holds("who asked can't reply", shown == 1)
+
+
+def filing():
+    """A request is filed, a refused one is kept, a queue is opened, a number leads to its
+    request."""
+    with serving("filing") as visitor:
+        browser = signed_in(visitor, "bob", "/desk/queues/support/new")
+        subject = "A <i>new</i> \"badge\" & more"
+        browser.put("#subject", subject)
+        browser.put("#requestors", "yury ann")
+        browser.follow(".sheet button")
+        holds("an unknown name isn't told", "refused 5 UnknownName" in browser.text())
+        expect("what was typed", [browser.of_element(f"#{it}", "it.value")
+                                  for it in ("subject", "requestors")], [subject, "yury ann"])
+        browser.put("#requestors", "yuri ann")
+        browser.follow(".sheet button")
+        number = LAST + 1
+        expect("where it leads to", browser.path(), f"/desk/requests/{number}")
+        shown = visitor.told(f"/requests/{number}").text
+        holds(f"it was filed as {shown}", f"subject: {subject}\nstatus: new\n" in shown
+              and "requestors: ann yuri\n" in shown)
+        browser.open(f"{visitor.origin}/desk/queues/support/new")
+        browser.put("#subject", "Open at once")
+        browser.of_element("[name=status]", "it.value = 'open'")
+        browser.follow(".sheet button")
+        holds("the status isn't the chosen one", "status: open\n" in visitor.told(
+            f"/requests/{number + 1}").text)
+        browser.put("[name=number]", "9")
+        browser.key("Enter")
+        browser.wait("Page.loadEventFired")
+        expect("a number", browser.path(), "/desk/requests/9")
+        browser = signed_in(visitor, "dora")
+        browser.put("#queue", "keys")
+        browser.of_element("#level", "it.value = 'urgent'")
+        browser.follow("[action='/desk/queues'] button")
+        expect("a queue leads to", (browser.path(), browser.has("a[href='/desk/queues/keys']")),
+               ("/", True))
+
+
+def refusing():
+    """A refused move says so; its address can be loaded again; a refused reply is kept."""
+    with serving("refusing") as visitor:
+        browser = signed_in(visitor, "bob", AT)
+        browser.follow("[name=status][value=resolved]")
+        holds("a refused move isn't told", "refused 9 OpenDependency" in browser.text())
+        browser.follow("main .button")
+        expect("it leads back", browser.path(), AT)
+        browser.open(f"{visitor.origin}{AT}/status")
+        expect("its address", browser.path(), AT)
+        browser.put("[action$='/reply'] textarea", "\n\ttoo long " + "a" * 20_000)
+        browser.follow("[action$='/reply'] button")
+        holds("a long text isn't refused", "refused 3 BadText" in browser.text())
+        kept = browser.of_element("textarea", "it.value")
+        holds("it isn't kept whole", kept == "\n\ttoo long " + "a" * 20_000)
+        browser.put("textarea", "shorter")
+        browser.follow(".write button")
+        expect("and is taken once it is right", last_of(visitor), "reply shorter")
+
+
+def rows(browser):
+    """The numbers of the requests that are seen in a list."""
+    return browser.run("[...document.querySelectorAll('tbody tr')].filter(it =>"
+                       " it.checkVisibility()).map(it =>"
+                       " Number(it.querySelector('a').href.split('/').at(-1)))")
+
+
+def choices():
+    """A list shows what is chosen, by the mouse and by the keys, and what the interface tells."""
+    with serving("choices") as visitor:
+        lines = [(int(it[:7]), it[8:28].strip(), it[29:49].strip())
+                 for it in visitor.told("/queues/support/requests").text.splitlines()[1:]]
+        is_open = [it for it in lines if it[1] not in ("resolved", "rejected", "deleted")]
+        wanted = {"open": is_open, "mine": [it for it in is_open if it[2] == "bob"],
+                  "nobody": [it for it in is_open if it[2] == "Nobody"],
+                  "late": [it for it in lines if it[0] in LATE],
+                  "closed": [it for it in lines if it not in is_open], "all": lines}
+        browser = signed_in(visitor, "bob", "/desk/queues/support")
+        for name, chosen in wanted.items():
+            browser.press(f"#{name}")
+            expect(f"{name} in a queue", rows(browser), [it[0] for it in chosen])
+        browser.press("#open")
+        browser.key("ArrowRight")
+        expect("by the keys", (browser.run(FOCUS + " && document.activeElement.id"), rows(browser)),
+               ("mine", [it[0] for it in wanted["mine"]]))
+        browser.open(f"{visitor.origin}/desk/queues/building")
+        holds("an empty queue doesn't say so", browser.run(SHOWS.format(".none")) == 1)
+        browser.open(f"{visitor.origin}/desk/overdue")
+        expect("late, all", sorted(rows(browser)), sorted(LATE))
+        browser.press("#nobody")
+        expect("late, nobody's", rows(browser), [1])
+        browser.press("#mine")
+        expect("late, mine", rows(browser), [2])
+
+
+def counting():
+    """Home and the workload tell the same numbers, and who is late is marked."""
+    with serving("counting") as visitor:
+        browser = signed_in(visitor)
+        home = browser.run("[...document.querySelectorAll('.tiles b')].map(it =>"
+                           " Number(it.textContent))")
+        browser.follow("nav a[href='/desk/workload']")
+        cells = browser.run("Object.fromEntries([...document.querySelectorAll("
+                            "'tbody tr, tfoot tr')].map(it => [it.cells[0].innerText.trim(),"
+                            " [1, 2].map(n => Number(it.cells[n].innerText))]))")
+        expect("home beside the workload", home, [*cells["bob"], *cells["Nobody"], *cells["Total"]])
+        expect("late in all", home[5], len(LATE))
+        expect("where one is", browser.text("nav [aria-current=page]"), "Workload")
+        browser.open(f"{visitor.origin}/desk/requests/2")
+        holds("what is late isn't marked", "late" in browser.text(".facts .late"))
+
+
+def local_time():
+    """Moments are in UTC, and a due moment by a calendar with a rule tells the local time too."""
+    with serving("local") as visitor:
+        browser = signed_in(visitor, "bob", AT)
+        moments = browser.run("[...document.querySelectorAll('time')].map(it =>"
+                              " [it.dateTime, it.textContent])")
+        expect("moments of two kinds", [it for it in moments
+                                        if it[0][:10] + " " + it[0][11:16] != it[1][:16]], [])
+        holds("UTC isn't named", "UTC" in browser.text("footer"))
+        tally.floor("moments on a page", len(moments), 8)
+
+
+def keys():
+    """The keys go to everything in an order, from the link that skips the head, and it is seen
+    where they are."""
+    with serving("keys") as visitor:
+        browser = signed_in(visitor, "bob", AT)
+        browser.open(visitor.origin + AT)
+        order = []
+        for _ in range(80):
+            browser.key("Tab")
+            name = browser.run(FOCUS)
+            if not name or order and name == order[0]:
+                break
+            order.append(name)
+            holds(f"it isn't seen that the keys go to {name}", browser.run(OUTLINED))
+        expect("the first", order[:1], ["#main"])
+        wanted = {"/", "/desk/overdue", "number", "text", "status", "person", "level", "role",
+                  "kind", "other"}
+        expect("not reached by the keys", wanted - set(order), set())
+        browser.open(visitor.origin + AT)
+        browser.key("Tab")
+        browser.key("Enter")
+        browser.key("Tab")
+        expect("behind the skipped head", browser.run(FOCUS), "/")
+
+
+def other_page(origin):
+    """A page of another site, with all that it could try."""
+    return (f'<!DOCTYPE html><title>elsewhere</title><a id="l" href="{origin}{AT}">see</a>'
+            f'<form method="post" action="{origin}{AT}/status">'
+            f'<input name="status" value="deleted"><button id="b">x</button></form>'
+            f'<form method="post" action="{origin}/sign-in">'
+            f'<input name="token" value="{TOKENS["ann"]}"><input name="next" value="/">'
+            f'<button id="s">x</button></form><form method="post" action="{origin}/sign-out">'
+            f'<button id="o">x</button></form><iframe src="{origin}/"></iframe>').encode()
+
+
+@contextlib.contextmanager
+def elsewhere(origin):
+    """The origin of another site."""
+    class Other(http.server.BaseHTTPRequestHandler):
+        def do_GET(self):
+            self.send_response(200)
+            self.send_header("Content-Type", "text/html")
+            self.end_headers()
+            self.wfile.write(other_page(origin))
+
+        def log_message(self, *_):
+            pass
+
+    server = http.server.ThreadingHTTPServer(("127.0.0.1", 0), Other)
+    threading.Thread(target=server.serve_forever, daemon=True).start()
+    yield f"http://localhost:{server.server_port}"
+    server.shutdown()
+    server.server_close()
+
+
+def other_sites():
+    """A link from another site meets the sign-in page and one press opens it, its forms are
+    refused, and it can't frame the desk."""
+    with serving("others") as visitor, elsewhere(visitor.origin) as other:
+        browser = signed_in(visitor)
+        browser.open(other)
+        told = browser.complaints()
+        holds(f"a frame isn't refused: {told}", any("frame-ancestors 'none'" in it for it in told))
+        browser.follow("#l")
+        expect("a link meets", (browser.path(), browser.has("[name=token]")), (AT, True))
+        browser.follow("main p a")
+        holds("one press opens nothing", browser.path() == AT and f"#{TALK}" in browser.text("h1"))
+        for button in ("#b", "#s", "#o"):
+            browser.open(other)
+            browser.follow(button)
+            holds(f"{button} isn't refused", "bad request 6 OtherSite" in browser.text())
+        browser.open(visitor.origin + AT)
+        expect("what is left", (browser.text(".facts .state"), "bob" in browser.text("header")),
+               ("open", True))
+
+
+def leaving():
+    """After signing out nothing is left, and behind the back button neither: not even the page that
+    was the first after signing in, which a browser keeps although the cookie is another."""
+    with serving("leaving") as visitor:
+        browser = signed_in(visitor, "bob", AT)
+        browser.follow("nav a[href='/desk/workload']")
+        browser.follow("nav a[href='/']")
+        browser.follow("[action='/sign-out'] button")
+        expect("it leads to", browser.path(), "/sign-in")
+        expect("cookies", browser.cookies(visitor.origin), [])
+        for _ in range(3):
+            browser.forget("Page.loadEventFired")
+            browser.run("history.back()")
+            # a page that is kept is shown without being loaded
+            browser.wait("Page.loadEventFired", 2)
+            holds(f"Back shows {browser.path()} as it was", browser.has("[name=token]")
+                  and not browser.has("header"))
+        expect("how far back it goes", browser.path(), AT)
+        browser.open(visitor.origin + AT)
+        holds("a page is shown", browser.has("[name=token]"))
+
+
+PARTS = {"signing": signing_in, "writing": writing, "owning": owning, "changing": changing,
+         "pressing": one_press, "folds": folds, "filing": filing, "refusing": refusing,
+         "choices": choices, "counting": counting, "moments": local_time, "keys": keys,
+         "others": other_sites, "leaving": leaving}

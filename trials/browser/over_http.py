@@ -1,0 +1,292 @@
+"""The parts that need no browser: the pages' heads and markup, texts that would be markup, and
+messages that no page of the desk sends."""
+import re
+
+from browser import markup
+from browser.office import FREE, LAST, TALK, TOKENS, TRICKY
+from browser.trial import expect, holds, serving, tally
+from browser.visitor import form
+
+POLICY = ("default-src 'none'; style-src 'self'; form-action 'self'; frame-ancestors 'none'; "
+          "base-uri 'none'")
+HTML = "text/html; charset=utf-8"
+# who looks at what, and the code that comes
+SHOWN = [("bob", it, 200) for it in (
+    "/", "/desk/queues/support", "/desk/queues/purchases", "/desk/queues/building",
+    "/desk/queues/support/new", f"/desk/requests/{TALK}", f"/desk/requests/{FREE}",
+    f"/desk/requests/{TRICKY}", "/desk/requests/6", "/desk/requests/9", "/desk/overdue",
+    "/desk/workload", "/?from=elsewhere")]
+SHOWN += [("ann", it, 200) for it in ("/", "/desk/queues/support", f"/desk/requests/{TALK}",
+                                      "/desk/overdue", "/desk/workload")]
+SHOWN += [("eva", "/desk/requests/9", 200), ("dora", "/", 200),
+          ("lin", "/desk/queues/building", 200)]
+SHOWN += [("ann", "/desk/requests/9", 404), ("bob", "/desk/requests/99", 404),
+          ("bob", "/desk/queues/nowhere", 404), ("bob", "/desk", 404),
+          ("bob", "/desk/nothing", 404), ("bob", "/desk/requests/x", 404),
+          ("bob", "/desk/queues/<script>", 404),
+          ("bob", "/desk/requests/4294967296", 404), (None, "/", 403), (None, "/sign-in", 200),
+          (None, f"/desk/requests/{TALK}", 403), (None, "/desk/nothing", 404)]
+HOSTILE = [
+    "<script>alert(1)</script>", "\"><img src=x onerror=alert(1)>", "' onclick='alert(1)",
+    "</title>", "</textarea></form><script>alert(2)</script>", "<!--", "-->", "]]>",
+    "<![CDATA[", "&lt;b&gt;",
+    "&amp;&#60;&nbsp;&copy", "</li></ol></main>", "`=`", "\\u003cb\\u003e",
+    "\u202etxt.exe\u202c\u2067",
+    "%3Cb%3E+%26", "{subject}", "</style><b>", "javascript:alert(1)", "\ufeff<b>\u2028<i>"]
+
+
+def heads(what, reply, kind=HTML):
+    """The lines above each page."""
+    expect(f"{what}: its kind", reply.head("content-type"), kind)
+    expect(f"{what}: its length", reply.head("content-length"), str(len(reply.body)))
+    expect(f"{what}: it may be kept", reply.head("cache-control"), "no-store")
+    expect(f"{what}: its policy", reply.head("content-security-policy"), POLICY)
+    expect(f"{what}: its referrer", reply.head("referrer-policy"), "same-origin")
+    expect(f"{what}: its kind is certain", reply.head("x-content-type-options"), "nosniff")
+    expect(f"{what}: the connection", reply.head("connection"), "close")
+
+
+def page(what, reply, code):
+    """A page with that code, with its heads and without a fault in its markup."""
+    expect(f"{what}: the code", reply.code, code)
+    if reply.code == code:
+        heads(what, reply)
+        expect(f"{what}: its markup", markup.faults(reply.text), [])
+
+
+def shown():
+    """Each page, as several persons see it."""
+    with serving("shown") as visitor:
+        for person, place, code in SHOWN:
+            page(f"{person} at {place}", visitor.get(place, person), code)
+        sheet = re.search(r'href="(/style\.css\?\d+)"', visitor.get("/").text)
+        holds("a style sheet is named with its number", sheet)
+        reply = visitor.get(sheet[1] if sheet else "/style.css", None)
+        expect("the style sheet", (reply.code, reply.head("content-type")),
+               (200, "text/css; charset=utf-8"))
+        expect("it is kept", reply.head("cache-control"), "public, max-age=31536000, immutable")
+        holds("it has a sheet's length", len(reply.body) > 4_000)
+        told = visitor.get("/favicon.ico")
+        expect("what is no page is the interface's", (told.code, told.text),
+               (404, "bad request 1 NoRoute\n"))
+
+
+def tell_apart():
+    """What one may not see is answered as what isn't there."""
+    with serving("apart") as visitor:
+        moments = re.compile(r"<time.*?</time>")
+        hidden, none = (moments.sub("", visitor.get(f"/desk/requests/{it}", "lin").text)
+                        .replace(f"{it}", "N") for it in (TALK, 77))
+        expect("a hidden request", hidden, none)
+
+
+def refusals_of(visitor):
+    """Each refusal that a form can meet: who sends what where, its code and what it says."""
+    at = f"/desk/requests/{TALK}"
+    new = {"subject": "A badge", "requestors": ""}
+    yield "bob", f"{at}/reply", {"text": ""}, 400, "refused 3 BadText"
+    yield "bob", f"{at}/comment", {"text": "a" * 20_001}, 400, "refused 3 BadText"
+    yield "bob", "/desk/queues/support/new", new | {"subject": "a" * 201}, 400, "refused 3 BadText"
+    yield "bob", "/desk/requests/99/take", {}, 404, "refused 4 NotFound"
+    yield "lin", f"{at}/reply", {"text": "mine"}, 404, "refused 4 NotFound"
+    yield "bob", f"{at}/give", {"person": "<b>nobody"}, 400, "refused 5 UnknownName"
+    yield "bob", f"{at}/status", {"status": "<b>"}, 400, "refused 5 UnknownName"
+    yield "bob", "/desk/queues/support/new", new | {"requestors": "zoe"}, 400, \
+        "refused 5 UnknownName"
+    yield "ann", f"{at}/take", {}, 403, "refused 6 Denied TakeTicket"
+    yield "ann", f"{at}/comment", {"text": "may I?"}, 403, "refused 6 Denied CommentOnTicket"
+    yield "bob", "/desk/queues", {"queue": "more", "lifecycle": "default", "level": ""}, 403, \
+        "refused 6 Denied AdminQueue"
+    yield "bob", f"{at}/level", {"level": "standard"}, 409, "refused 7 NoChange"
+    yield "dora", "/desk/requests/9/status", {"status": "delivered"}, 409, "refused 8 NoTransition"
+    yield "bob", f"{at}/status", {"status": "resolved"}, 409, "refused 9 OpenDependency"
+    yield "cid", f"{at}/take", {}, 409, "refused 10 Owned"
+    yield "bob", f"/desk/requests/{FREE}/steal", {}, 409, "refused 11 NotOwned"
+    yield "cid", f"{at}/untake", {}, 409, "refused 12 NotOwner"
+    yield "dora", "/desk/queues", {"queue": "support", "lifecycle": "default", "level": ""}, 409, \
+        "refused 13 Exists"
+    yield "bob", f"{at}/link", {"kind": "RefersTo", "other": str(TALK)}, 400, "refused 14 SelfLink"
+
+
+def refused():
+    """Each refusal has a page of its own, which keeps what was typed and changes nothing."""
+    with serving("refused") as visitor:
+        before = visitor.told(f"/requests/{TALK}/history").body
+        for person, place, fields, code, said in refusals_of(visitor):
+            what = f"{person} sends {fields!r:.60} to {place}"
+            reply = visitor.post(place, fields, person)
+            page(what, reply, code)
+            holds(f"{what}: it doesn't say {said}", said in reply.text)
+            shown = markup.texts(reply.text)
+            typed = [fields[it] for it in ("text", "subject", "requestors") if fields.get(it)]
+            lost = [it[:40] for it in typed if code != 404 and not any(it in one for one in shown)]
+            expect(f"{what}: what was typed and isn't kept", lost, [])
+        expect("the history after refusals", visitor.told(f"/requests/{TALK}/history").body, before)
+
+
+def filed(visitor, text):
+    """The pages that show a text: of a new request with it, of its queue, and of forms with it that
+    were refused."""
+    queue = "t%d" % filed.count
+    filed.count += 1
+    expect("a queue is opened", visitor.post("/desk/queues", {
+        "queue": queue, "lifecycle": "default", "level": ""}, "dora").code, 303)
+    made = visitor.post(f"/desk/queues/{queue}/new", {"subject": text, "requestors": "ann"}, "dora")
+    at = (made.head("location") or "").partition("#")[0]
+    for act in ("reply", "comment"):
+        expect(f"{act} of {text!r}", visitor.post(f"{at}/{act}", {"text": text}, "dora").code, 303)
+    yield "a queue", visitor.get(f"/desk/queues/{queue}", "dora")
+    yield "a request", visitor.get(at, "dora")
+    yield "a refused reply", visitor.post(f"{at}/reply", {"text": text + "\0"}, "dora")
+    yield "a refused comment", visitor.post(f"{at}/comment", {"text": text}, "ann")
+    yield "a refused request", visitor.post(f"/desk/queues/{queue}/new", {
+        "subject": text, "requestors": text}, "dora")
+
+
+filed.count = 0
+
+
+def same():
+    """Whatever text is written, the elements of a page and their attributes are those that it has
+    with a plain text, and the text comes back whole."""
+    with serving("same") as visitor:
+        plain = [(what, markup.tree(it.text)) for what, it in filed(visitor, "x")]
+        found = 0
+        for text in HOSTILE:
+            for (what, tree), (_, reply) in zip(plain, filed(visitor, text)):
+                holds(f"{what} with {text!r} has other elements", markup.tree(reply.text) == tree)
+                if what != "a refused reply":
+                    found += 1
+                    holds(f"{what} doesn't show {text!r}",
+                          any(text in it for it in markup.texts(reply.text)))
+        tally.floor("same: pages with hostile texts", found, 80)
+        for what, answers in (
+            ("an address", [visitor.get(f"/desk/{it}") for it in ("x", "<script>1</script>")]),
+            ("signing in", [visitor.post("/sign-in", {"token": it, "next": it}, None)
+                            for it in ("x", "\"><script>alert(1)</script>")])):
+            expect(f"{what} that would be markup", answers[1].text, answers[0].text)
+
+
+OTHERS = [("another site", ["Sec-Fetch-Site: cross-site"]),
+          ("a sister", ["Sec-Fetch-Site: same-site"]), 
+          ("another origin", ["Origin: http://evil.example"]), ("no origin told", ["Origin: null"]),
+          ("another port", ["Origin: http://127.0.0.1:1"]),
+          ("two lines", ["Sec-Fetch-Site: same-origin", "Sec-Fetch-Site: cross-site"])]
+
+
+def posts():
+    """Forms of other sites are refused, those of the desk's own pages and of programs are taken."""
+    with serving("posts") as visitor:
+        own = [("its own page", ["Sec-Fetch-Site: same-origin"]),
+               ("no page", ["Sec-Fetch-Site: none"]), 
+               ("its own origin", [f"Origin: {visitor.origin}"]), ("a program", [])]
+        at = f"/desk/requests/{LAST}"
+        for what, lines in OTHERS:
+            for place, fields in ((f"{at}/untake", {}), ("/sign-out", {}),
+                                  ("/sign-in", {"token": TOKENS["ann"], "next": "/"})):
+                reply = visitor.post(place, fields, "bob", lines)
+                page(f"{what} sends to {place}", reply, 403)
+                holds(f"{what}, {place}: it isn't told", "bad request 6 OtherSite" in reply.text)
+                expect(f"{what}, {place}: a cookie", reply.head("set-cookie"), None)
+        shown = visitor.told(f"/requests/{LAST}").text
+        holds("another site changed the owner", "owner: bob\n" in shown)
+        for what, lines in own:
+            for act in ("untake", "take"):
+                reply = visitor.post(f"{at}/{act}", {}, "bob", lines)
+                expect(f"{what} sends {act}", (reply.code, reply.head("location"), reply.body),
+                       (303, f"{at}#reply", b""))
+
+
+def bodies():
+    """Bodies that no form of the desk makes."""
+    with serving("bodies") as visitor:
+        at = f"/desk/requests/{TALK}"
+        for what, place, body in (
+            ("a field twice", f"{at}/give", "person=cid&person=ann"),
+            ("a field too much", f"{at}/take", "person=cid"),
+            ("a field that lacks", f"{at}/watch", "role=cc"),
+            ("no field", f"{at}/reply", ""),
+            ("half an escape", f"{at}/reply", "text=%4"),
+            ("an escape that is none", f"{at}/reply", "text=%zz"),
+            ("no UTF-8", f"{at}/reply", "text=%ff%fe"),
+            ("a number that is none", "/desk/go", "number=12a"),
+            ("a number too large", "/desk/go", "number=4294967296"),
+            ("a role that is none", f"{at}/watch", "role=owner&person=ann"),
+            ("a kind that is none", f"{at}/link", "kind=Likes&other=1"),
+        ):
+            reply = visitor.post(place, body)
+            page(what, reply, 400)
+            holds(f"{what}: it isn't told", "bad request 4 BadBody" in reply.text)
+        for what, text, wanted in (("CR LF", "a\nb", "a\\nb"), ("two", "\n\nx", "\\n\\nx"),
+                                   ("a plus and a space", "1 + 1", "1 + 1")):
+            expect(f"{what}: it is taken", visitor.post(f"{at}/reply", {"text": text}).code, 303)
+            last = visitor.told(f"/requests/{TALK}/history").text.splitlines()[-1]
+            expect(f"{what}: as it is kept", last.partition("reply ")[2], wanted)
+        expect("a lone CR", visitor.post(f"{at}/reply", "text=a%0Db").code, 400)
+        longest = {"text": "漢" * 20_000}
+        expect("the longest text", visitor.post(f"{at}/reply", longest).code, 303)
+        holds("it is shown whole", longest["text"] in visitor.get(at).text)
+        reply = visitor.post(f"{at}/reply", "text=" + "a" * 300_000)
+        expect("a body that is too long", (reply.code, "bad message 1 TooLong" in reply.text),
+               (400, True))
+
+
+def methods():
+    """Methods that a place doesn't take, and places that only take a form."""
+    with serving("methods") as visitor:
+        for line, allow in (("PUT /", "GET"), ("POST /", "GET"), ("DELETE /desk/overdue", "GET"),
+                            ("PATCH /desk/go", "GET, POST"), ("POST /style.css", "GET"),
+                            (f"PUT /desk/requests/{TALK}/take", "GET, POST")):
+            reply = visitor.send(line, visitor.lines_of("bob"), "")
+            page(line, reply, 405)
+            expect(f"{line}: what is allowed", reply.head("allow"), allow)
+        reply = visitor.send("HEAD /", visitor.lines_of("bob"))
+        expect("HEAD", (reply.code, reply.body), (405, b""))
+        for place, to in ((f"/desk/requests/{TALK}/reply", f"/desk/requests/{TALK}"),
+                          ("/desk/queues", "/"), ("/desk/go", "/"), ("/sign-out", "/")):
+            reply = visitor.get(place)
+            expect(f"GET {place}", (reply.code, reply.head("location")), (303, to))
+
+
+def cookies():
+    """Who one is, by cookies and tokens; where signing in leads to."""
+    with serving("cookies") as visitor:
+        token = TOKENS["bob"]
+        for what, lines, code in (
+            ("one among others", [f"Cookie: a=b; desk={token}; c"], 200),
+            ("lines of their own", ["Cookie: a=b", f"cookie:desk={token}"], 200),
+            ("two", [f"Cookie: desk={token}; desk={token}"], 403),
+            ("two lines", [f"Cookie: desk={token}", f"Cookie: desk={TOKENS['ann']}"], 403),
+            ("another name", [f"Cookie: desks={token}"], 403),
+            ("an unknown one", ["Cookie: desk=0123456789abcdef"], 403),
+            ("a token of the interface", [f"Desk-Token: {token}"], 403),
+        ):
+            reply = visitor.send("GET /", ["Host: 127.0.0.1", *lines])
+            expect(f"a cookie: {what}", reply.code, code)
+        told = visitor.send("GET /queues", visitor.lines_of("bob"))
+        expect("a cookie at the interface", (told.code, told.text),
+               (403, "refused 1 UnknownCaller\n"))
+        kept, gone = "; Path=/; Max-Age=2592000", "desk=; Path=/; Max-Age=0"
+        ways = "; HttpOnly; SameSite=Strict"
+        for fields, cookie, to in (
+            ({"token": f" {token}\t", "next": "/desk/overdue"}, f"desk={token}; Path=/{ways}",
+             "/desk/overdue"),
+            ({"token": token, "next": "/", "keep": "yes"}, f"desk={token}{kept}{ways}", "/"),
+            *(({"token": token, "next": it}, f"desk={token}; Path=/{ways}", "/") for it in (
+                "//evil.example", "https://evil.example/", "/desk/go", "/\\evil.example",
+                "/sign-out", "javascript:alert(1)", "/desk/requests/1/take", "")),
+        ):
+            reply = visitor.post("/sign-in", fields, None)
+            expect(f"signing in with {fields}",
+                   (reply.code, reply.head("set-cookie"), reply.head("location")),
+                   (303, cookie, to))
+        reply = visitor.post("/sign-out", {})
+        expect("signing out", (reply.code, reply.head("set-cookie"), reply.head("location")),
+               (303, gone + ways, "/sign-in"))
+        reply = visitor.post("/sign-in", {"token": "typed-by-mistake", "next": "/"}, None)
+        page("a wrong token", reply, 403)
+        holds("a wrong token is repeated", "typed-by-mistake" not in reply.text)
+
+
+PARTS = {"shown": shown, "apart": tell_apart, "refused": refused, "same": same, "posts": posts,
+         "bodies": bodies, "methods": methods, "cookies": cookies}

@@ -1,0 +1,69 @@
+"""A visitor without a browser: asks for pages with a person's cookie, and sends forms as a browser
+would, or as it never would."""
+import urllib.parse
+from dataclasses import dataclass
+
+from client import ask
+
+from browser.office import TOKENS
+
+
+@dataclass
+class Reply:
+    code: int
+    heads: list
+    body: bytes
+
+    @property
+    def text(self):
+        return self.body.decode("utf-8", errors="replace")
+
+    def head(self, name):
+        """The value of a head line; none where there isn't exactly one."""
+        found = [value for it, value in self.heads if it == name.lower()]
+        return found[0] if len(found) == 1 else None
+
+
+def reply_of(data):
+    head, _, body = data.partition(b"\r\n\r\n")
+    first, *lines = head.decode("latin-1").split("\r\n")
+    words = first.split()
+    code = int(words[1]) if len(words) > 1 and words[1].isdigit() else 0
+    return Reply(code, [(name.lower(), value.strip()) for name, _, value in
+                        (it.partition(":") for it in lines)], body)
+
+
+def form(fields):
+    """The fields as a browser writes them: line breaks are CR LF."""
+    return urllib.parse.urlencode({name: value.replace("\n", "\r\n")
+                                   for name, value in fields.items()})
+
+
+class Visitor:
+    def __init__(self, port):
+        self.port, self.origin = port, f"http://127.0.0.1:{port}"
+
+    def send(self, line, lines=(), body=None):
+        """The reply to a message with just these lines."""
+        given = body.encode() if isinstance(body, str) else body
+        length = [f"Content-Length: {len(given)}"] if given is not None else []
+        head = "".join(f"{it}\r\n" for it in (f"{line} HTTP/1.1", *lines, *length))
+        return reply_of(ask(self.port, head.encode() + b"\r\n" + (given or b"")))
+
+    def lines_of(self, person, more=()):
+        cookie = [f"Cookie: desk={TOKENS[person]}"] if person else []
+        return [f"Host: 127.0.0.1:{self.port}", *cookie, *more]
+
+    def get(self, path, person="bob", more=()):
+        return self.send(f"GET {path}", self.lines_of(person, more))
+
+    def post(self, path, fields, person="bob", more=None):
+        """A form, of the desk's own pages unless other lines say otherwise."""
+        origin = [f"Origin: {self.origin}", "Sec-Fetch-Site: same-origin"] if more is None else more
+        kind = "Content-Type: application/x-www-form-urlencoded"
+        body = fields if isinstance(fields, (str, bytes)) else form(fields)
+        return self.send(f"POST {path}", self.lines_of(person, [kind, *origin]), body)
+
+    def told(self, path, person="bob"):
+        """What the interface for programs answers."""
+        return self.send(f"GET {path}", ["Host: 127.0.0.1", f"Desk-Token: {TOKENS[person]}"])
