@@ -13,7 +13,7 @@ pub mod laws;
 pub use beforehand::refused_beforehand;
 pub use decision::decide;
 pub use desk_model::{
-    Answer, Change, Command, Dependency, Dossier, Entry, EntryKind, Facts, LateLine, Line, LinkKind,
-    LinkRow, Links, Load, QueueRow, Refusal, RequestRow, Scope, SeenRequest, Shown, Topic, Turn,
-    WatchRole, Watcher, due_of, is_kind, is_role, may_show, sees_queue,
+    Answer, Change, Command, Dependency, Dossier, Entry, EntryKind, Facts, LateLine, Line,
+    LinkKind, LinkRow, Links, Load, QueueRow, Refusal, RequestRow, Scope, SeenRequest, Shown,
+    Topic, Turn, WatchRole, Watcher, due_of, is_kind, is_role, may_show, sees_queue,
 };

@@ -114,7 +114,16 @@ fn refused_page(
                 subject: subject.as_str(),
                 requestors: requestors.as_str(),
             };
-            ask_refusal_page(alloc, refusal, caller, moment, queue.as_str(), typed, "", &[])
+            ask_refusal_page(
+                alloc,
+                refusal,
+                caller,
+                moment,
+                queue.as_str(),
+                typed,
+                "",
+                &[],
+            )
         }
         Sent::Reply { id, text } => {
             reply_refusal_page(alloc, refusal, caller, moment, *id, text.as_str())

@@ -114,11 +114,7 @@ fn listed(
 }
 
 /// The lifecycle of the queue of that name among these.
-fn lifecycle_in<'s>(
-    settings: &'s Settings,
-    queue: &str,
-    rows: &[QueueRow],
-) -> Option<&'s Lifecycle>
+fn lifecycle_in<'s>(settings: &'s Settings, queue: &str, rows: &[QueueRow]) -> Option<&'s Lifecycle>
     ensures { option_map (λ l. l.now) result
         ≡ form.lifecycle_in settings.now queue.now rows.now }
 {

@@ -13,11 +13,7 @@ use text_core::{Sequence, Text};
 use wire_core::code_of_refusal;
 
 /// The reply with a page.
-pub(crate) fn with_page(
-    alloc: Global,
-    status: u16,
-    page: Vec<u8>,
-) -> Result<Vec<u8>, AllocError>
+pub(crate) fn with_page(alloc: Global, status: u16, page: Vec<u8>) -> Result<Vec<u8>, AllocError>
     requires { IsStatusCode status }
     ensures { IfOk result (λ out. out.items ≡ form.with_page status page.items) }
 {

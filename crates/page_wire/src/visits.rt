@@ -91,12 +91,7 @@ fn fixed(alloc: Global, visit: &Visit) -> Result<Vec<u8>, AllocError>
 }
 
 /// Leads to a page, with the cookie of one who signed in.
-fn signed_in(
-    alloc: Global,
-    token: &Text,
-    keep: bool,
-    next: &Page,
-) -> Result<Vec<u8>, AllocError>
+fn signed_in(alloc: Global, token: &Text, keep: bool, next: &Page) -> Result<Vec<u8>, AllocError>
     ensures { IfOk result (λ out. out.items ≡ form.signed_in token.now keep next.now) }
 {
     let place = page_path(alloc, next)?;

@@ -41,7 +41,15 @@ impl<S: Backend> Desk<S> {
         ensures same { settings_of S.Store self.new ≡ settings_of S.Store self.old }
     {
         let show = Command::Show { id };
-        ask(alloc, &mut self.store, &self.settings, at, caller, id, &show)
+        ask(
+            alloc,
+            &mut self.store,
+            &self.settings,
+            at,
+            caller,
+            id,
+            &show,
+        )
     }
 }
 
