@@ -2,8 +2,9 @@
 use Rattle.std.specs.Prelude.{◌≡◌, ◌⊎◌, ℕ, Bool, true, not, ◌&&◌, List, [], ◌∷◌, ◌++◌}
 use Rattle.std.specs.Prelude.{length, nat_lt, ℤ, pos, neg_ℤ, ◌+ℤ◌, ◌≤ℤ◌, int_le}
 use Rattle.std.specs.Prelude.{int_lt, unsigned_abs, if◌then◌else◌, Result, Ok, Err}
+use Rattle.std.specs.Prelude.{Option, Some, None}
 use Rattle.std.specs.List.{list_all}
-use Rattle.hours_core.specs.Moment.{end_minute}
+use Rattle.hours_core.specs.Moment.{end_minute, is_due_moment}
 use Rattle.hours_core.specs.declared.fault.HoursFault.{HoursFault}
 use Rattle.hours_core.specs.declared.fault.HoursFault.TheVariants.{BadOffset, ChangesOutOfOrder}
 use Rattle.hours_core.specs.declared.fault.HoursFault.TheVariants.{TooManyChanges}
@@ -26,6 +27,11 @@ offset_at first (change ∷ changes) m = offset_at (offset_after first change m)
 -- the local minute of a moment, which is never negative since moments begin in 2000
 abbrev pub local_minute : Offsets → ℕ → ℕ
 local_minute zone m = unsigned_abs (pos m +ℤ offset_at zone.first zone.changes m)
+
+-- what clocks show at a moment, where that may be a moment too
+abbrev pub local_time : Offsets → ℕ → Option ℕ
+local_time zone m =
+    if is_due_moment (local_minute zone m) then Some (local_minute zone m) else None
 
 -- less than a day
 abbrev pub is_offset : ℤ → Bool

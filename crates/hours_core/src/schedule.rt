@@ -53,8 +53,9 @@ impl Schedule {
         years: (i64, i64),
     ) -> Result<Schedule, AllocError>
         requires { list_all spec.is_day week.now ≡ true }
-        ensures { IfOk result (λ s. (m : ℕ) → spec.is_open s m ≡ spec.is_open
+        ensures hours { IfOk result (λ s. (m : ℕ) → spec.is_open s m ≡ spec.is_open
             (record { zone = zone; week = week.now; holidays = holidays.now; years = years }) m) }
+        ensures zone { IfOk result (λ s. s.zone ≡ zone) }
     {
         let week = copy_of(alloc, week)?;
         let holidays = Holidays::new(alloc, holidays)?;
@@ -64,6 +65,13 @@ impl Schedule {
             holidays,
             years,
         })
+    }
+
+    /// The zone that it was given in.
+    pub fn into_zone(self) -> Zone
+        ensures { result ≡ self.zone }
+    {
+        self.zone
     }
 
     /// The runs of open minutes, found by changes of the zone, days and intervals.
@@ -118,7 +126,7 @@ impl Schedule {
 }
 
 /// The minute with the offset added.
-fn shifted(m: u32, offset: i64) -> u32
+pub(crate) fn shifted(m: u32, offset: i64) -> u32
     requires { (first_minute ≤ m) × (m ≤ end_minute)
         × (neg_ℤ (pos 1439) ≤ℤ offset) × (offset ≤ℤ pos 1439) }
     ensures { pos result ≡ pos m +ℤ offset }
