@@ -1,7 +1,12 @@
+mod HeadWritten
+mod Laid
 mod Lists
 mod Numbers
+mod PathBytes
 mod Posted
+mod ReadBack
 mod ReplyBack
 mod Returns
 mod Rows
 mod Shallow
+mod Visible

@@ -39,7 +39,7 @@ numerals = numerals_by_fold AreDigits are_digits after folds
 pub decimal_digits : (n : ℕ) → n < 2 ^ 64 → list_all is_digit (decimal n) ≡ true
 decimal_digits n small = digits_decimal numerals n small
 
-decimal_value : (n : ℕ) → n < 2 ^ 64 → value_of (decimal n) ≡ n
+pub decimal_value : (n : ℕ) → n < 2 ^ 64 → value_of (decimal n) ≡ n
 unfolding after
 decimal_value n small = digits_value-decimal numerals n small
 

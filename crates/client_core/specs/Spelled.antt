@@ -1,5 +1,5 @@
 -- The row of the table of paths at which a command is asked for, and the values that make it.
-use Rattle.std.specs.Prelude.{◌≡◌, ◌<◌, ℕ, false, List, [], length, get_or, codes}
+use Rattle.std.specs.Prelude.{◌≡◌, ◌<◌, ◌^◌, ℕ, false, List, [], length, get_or, codes}
 use Rattle.desk_model.specs.declared.command.Command.{Command}
 use Rattle.desk_model.specs.declared.command.Command.TheVariants as command
 use Rattle.desk_model.specs.declared.rows.LinkKind.{LinkKind}
@@ -22,11 +22,13 @@ abbrev pub many_of : Command → List (List ℕ)
 many_of (command.Create queue subject status requestors) = requestors
 many_of _ = []
 
--- by these values the row's form makes just this command, without a flag
+-- by these values the row's form makes just this command, without a flag; numbers are of 32 bits
 pub record Makes (place : ℕ) (v : Values) (command : Command) : Type 0 where
   pub within : place < length paths
   pub makes : made (row_at place).leads v (many_of command) ≡ command
   pub plain : v.away ≡ false
+  pub id : v.id < 2 ^ 32
+  pub other : v.other < 2 ^ 32
 
 abbrev pub role_name : WatchRole → List ℕ
 role_name Requestor = codes "requestor"

@@ -3,7 +3,10 @@ ghost use Rattle.std.specs.Prelude.{◌≡◌, ◌<◌, ◌^◌, false, Some, le
 ghost use Rattle.message_core.specs.Reply.{IsReply, bytes_of};
 ghost use Rattle.message_core.specs.declared.reply.Reply.{Reply};
 ghost use Rattle.client_core.specs.Asked.{SaysWhatIsMade};
+ghost use Rattle.client_core.specs.ReadBack.{AsksForIt, LeadsToItsRow, ReadsBack};
 ghost use Rattle.client_core.specs.Reply.{answer_in};
+
+use route_core::laws::rows_law;
 
 /// Of a reply that is sent with its text, which is shorter than 4 GiB, the code and the text come
 /// back.
@@ -18,3 +21,26 @@ pub fn reply_law()
 pub fn asked_law()
     ensures { SaysWhatIsMade }
 {}
+
+/// The path that is written for a row of the table leads `route_core` to just that row, and names what
+/// the values say: for each number of 32 bits, and each queue, also where that is no name.
+pub fn path_law()
+    ensures { LeadsToItsRow }
+{
+    rows_law();
+}
+
+/// What is written for a row of the table is read by `message_core` as one message, and as nothing else,
+/// whatever follows: it has the row's method and path, the token, and the body that was written.
+pub fn message_law()
+    ensures { ReadsBack }
+{}
+
+/// What is written for a command is read as one message, and this asks `route_core` for just that
+/// command, as the person of the token: by any settings that have the token, where a queue that stands
+/// in the path has a name.
+pub fn read_law()
+    ensures { AsksForIt }
+{
+    rows_law();
+}
