@@ -5,7 +5,8 @@
 //! - By `read_law` a server reads these bytes as one message, which asks for just that command as the
 //!   person of the token. Its parts are laws by themselves: `message_law` goes from the bytes to the
 //!   message, `path_law` from the path to the row, and `asked_law` from the body to the command.
-//! - `answer_in` takes just the replies that a desk makes; by `reply_law` each of them comes back.
+//! - `answer_in` takes just the replies that a desk makes. By `reply_law` each that has its text comes
+//!   back.
 #![tactic(auto)]
 
 mod body;
