@@ -1,5 +1,5 @@
 -- What is posted at a row of the table is read as the command that its values make.
-use Rattle.std.proofs.Common.{◌≡◌, ◌∙◌, ◌<◌, ◌^◌, ℕ, true, false, zero, suc, List, [], ◌∷◌}
+use Rattle.std.proofs.Common.{◌≡◌, ◌∙◌, ◌<◌, ◌^◌, ℕ, Bool, true, false, zero, suc, List, [], ◌∷◌}
 use Rattle.std.proofs.Common.{Option, Some, None, length, get_or, map, refl, ap, arith}
 use Rattle.std.proofs.Common.{codes, nat_lt, option_and_then}
 use Rattle.std.proofs.lemmas.Bool.{lt-ltb}
@@ -12,7 +12,7 @@ use Rattle.text_core.specs.Form.{is_name}
 use Rattle.desk_model.specs.declared.rows.LinkKind.TheVariants.{DependsOn, MemberOf, RefersTo}
 use Rattle.desk_model.specs.declared.rows.WatchRole.{WatchRole}
 use Rattle.desk_model.specs.declared.rows.WatchRole.TheVariants.{Requestor, Cc, AdminCc}
-use Rattle.desk_forms.specs.Paths.{Row, get, post}
+use Rattle.desk_forms.specs.Paths.{Row, post}
 use Rattle.desk_forms.specs.Table as table
 use Rattle.desk_forms.specs.Table.{act, made, paths, request}
 use Rattle.desk_forms.specs.Values.{Values}
@@ -21,28 +21,31 @@ use Rattle.desk_forms.specs.declared.links.NamedKind.TheVariants.{Plain, Inverse
 use Rattle.desk_forms.specs.declared.paths.Method.{Method}
 use Rattle.desk_forms.specs.declared.paths.Method.TheVariants.{Get, Post}
 use Rattle.desk_forms.specs.declared.table.Form.TheVariants as form
-use Rattle.route_core.specs.Commands.{members_for}
+use Rattle.route_core.specs.Commands.{members_for, said}
 use Rattle.route_core.specs.Members.{texts_in}
+use Rattle.route_core.specs.Places.{at}
 use Rattle.route_core.specs.Said.{said_by}
-use Rattle.client_core.specs.Asked.{CanTell, SaysWhatIsMade}
-use Rattle.client_core.specs.Body.{WritesBy, members}
+use Rattle.client_core.specs.Asked.{SaysWhatIsMade, has_queue}
+use Rattle.client_core.specs.Body.{Writes, WritesBy, members}
 use Rattle.client_core.specs.Spelled.{row_at}
-use Rattle.client_core.specs.Target.{named}
+use Rattle.client_core.specs.Target.{named, queue_text}
 
 -- the members that are read: of a GET none are
 abbrev posted_by : Method → Members → Members
 posted_by Get ms = no_members
 posted_by Post ms = ms
 
+-- a queue as it is told, if it stands in the path
+abbrev pub told : Bool → Values → Values
+told true v = record v { queue = queue_text v.queue }
+told false v = v
+
 abbrev Back : Row → Type 0
-Back row = (v : Values) (many : List (List ℕ)) → CanTell row v
+Back row = (v : Values) (many : List (List ℕ)) → v.other < 2 ^ 32 → v.away ≡ false
     → said_by row.leads (named row.parts v) (posted_by row.method (members row v many))
-    ≡ Some (made row.leads v many)
+    ≡ Some (made row.leads (told (has_queue row.parts) v) many)
 
 -- ---- by forms
-
-list_back : Back (get table.requests form.List)
-list_back v many can = rw (can.name refl) refl
 
 open_by : (v : Values) (many : List (List ℕ)) (o : Option (List ℕ)) → v.maybe ≡ o
     → said_by form.OpenQueue (named table.queues v)
@@ -61,11 +64,10 @@ texts_back [] = refl
 texts_back (t ∷ ts) = rw (texts_back ts) refl
 
 create_by : (v : Values) (many : List (List ℕ)) (o : Option (List ℕ)) → v.maybe ≡ o
-    → is_name v.queue ≡ true
     → said_by form.Create (named table.requests v)
-    (members (post table.requests form.Create) v many) ≡ Some (made form.Create v many)
-create_by v many None is name = rw (is, name, texts_back many) refl
-create_by v many (Some t) is name = rw (is, name, texts_back many) refl
+    (members (post table.requests form.Create) v many) ≡ Some (made form.Create (told true v) many)
+create_by v many None is = rw (is, texts_back many) refl
+create_by v many (Some t) is = rw (is, texts_back many) refl
 
 watch_by : (v : Values) (many : List (List ℕ)) (r : WatchRole) → v.role ≡ r
     → said_by form.Watch (named (act (codes "watch")) v)
@@ -114,7 +116,7 @@ low v small = lt-ltb v.other (2 ^ 32) small
 
 each_back : Backs paths
 unfolding paths
-each_back = (λ v many can. refl, (λ v many can. open_by v many v.maybe refl, (list_back, (λ v many can. create_by v many v.maybe refl (can.name refl), (λ v many can. refl, (λ v many can. refl, (λ v many can. refl, (λ v many can. refl, (λ v many can. refl, (λ v many can. refl, (λ v many can. refl, (λ v many can. refl, (λ v many can. refl, (λ v many can. watch_by v many v.role refl, (λ v many can. unwatch_by v many v.role refl, (λ v many can. link_by v many v.link refl can.plain (low v can.other), (λ v many can. unlink_by v many v.link refl (low v can.other), (λ v many can. level_by v many v.maybe refl, (λ v many can. refl, (λ v many can. refl, tt))))))))))))))))))))
+each_back = (λ v many small plain. refl, (λ v many small plain. open_by v many v.maybe refl, (λ v many small plain. refl, (λ v many small plain. create_by v many v.maybe refl, (λ v many small plain. refl, (λ v many small plain. refl, (λ v many small plain. refl, (λ v many small plain. refl, (λ v many small plain. refl, (λ v many small plain. refl, (λ v many small plain. refl, (λ v many small plain. refl, (λ v many small plain. refl, (λ v many small plain. watch_by v many v.role refl, (λ v many small plain. unwatch_by v many v.role refl, (λ v many small plain. link_by v many v.link refl plain (low v small), (λ v many small plain. unlink_by v many v.link refl (low v small), (λ v many small plain. level_by v many v.maybe refl, (λ v many small plain. refl, (λ v many small plain. refl, tt))))))))))))))))))))
 
 at_place : (rows : List Row) (i : ℕ) (d : Row) → Backs rows → i < length rows → Back (get_or rows i d)
 at_place [] i d all low = absurd (omega arith)
@@ -133,9 +135,24 @@ read_back Get ms content is = refl
 read_back Post ms [] (text, is) = absurd (none_read ms is)
 read_back Post ms (b ∷ bs) (text, is) = rw (is_utf8-from_IsUtf8 (b ∷ bs) text, is) refl
 
-pub says : SaysWhatIsMade
-says place v many content within can writes =
+pub said_back : (place : ℕ) (v : Values) (many : List (List ℕ)) (content : List ℕ)
+    → place < length paths → v.other < 2 ^ 32 → v.away ≡ false
+    → Writes (row_at place) v many content
+    → said (at (row_at place) (named (row_at place).parts v)) content
+    ≡ Some (made (row_at place).leads (told (has_queue (row_at place).parts) v) many)
+said_back place v many content within small plain writes =
     let row = row_at place in
     ap (option_and_then (said_by row.leads (named row.parts v)))
     (read_back row.method (members row v many) content writes)
-    ∙ at_place paths place _ each_back within v many can
+    ∙ at_place paths place _ each_back within v many small plain
+
+-- a queue with a name is told as it is
+as_is : (has : Bool) (v : Values) → (has ≡ true → is_name v.queue ≡ true) → told has v ≡ v
+as_is true v name = rw (name refl) refl
+as_is false v name = refl
+
+pub says : SaysWhatIsMade
+says place v many content within can writes =
+    let row = row_at place in
+    said_back place v many content within can.other can.plain writes
+    ∙ ap (λ (w : Values). Some (made row.leads w many)) (as_is (has_queue row.parts) v can.name)

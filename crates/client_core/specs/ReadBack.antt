@@ -1,8 +1,7 @@
 -- What a server reads of a message that asks for a command: where its path leads, what its head and
 -- its body are, and the command.
-use Rattle.std.specs.Prelude.{◌≡◌, ◌<◌, ◌^◌, ℕ, true, List, ◌++◌, Option, Some, Result, Ok, codes, ⊤}
+use Rattle.std.specs.Prelude.{◌≡◌, ◌<◌, ◌^◌, ℕ, true, List, ◌++◌, Option, Some, Result, Ok, codes}
 use Rattle.std.specs.Prelude.{length}
-use Rattle.text_core.specs.Form.{is_name}
 use Rattle.settings_core.specs.Settings.{person_of_token}
 use Rattle.settings_core.specs.Tokens.{is_token}
 use Rattle.settings_core.specs.declared.settings.Settings.{Settings}
@@ -20,7 +19,7 @@ use Rattle.route_core.specs.Commands.{asked_at, command_of, path_in}
 use Rattle.route_core.specs.Places.{at}
 use Rattle.client_core.specs.Message.{Asks, AsksAt, is_host}
 use Rattle.client_core.specs.Spelled.{row_at}
-use Rattle.client_core.specs.Target.{named, target}
+use Rattle.client_core.specs.Target.{named, queue_text, target}
 
 -- the path of a row leads to just that row, and names what the values say
 abbrev pub LeadsToItsRow : Type 0
@@ -56,18 +55,19 @@ ReadsBack =
     → (asks : AsksAt host token (row_at place) v many bytes)
     → AreReadAs bytes (message_for token (row_at place) v asks.content)
 
--- a queue that stands in the path has a name
-abbrev pub NamesQueue : Command → Type 0
-NamesQueue (command.List queue) = is_name queue ≡ true
-NamesQueue (command.Create queue subject status requestors) = is_name queue ≡ true
-NamesQueue other = ⊤
+-- the command, whose queue in the path, where that is no name, is told as `%`, which is none either
+abbrev pub as_told : Command → Command
+as_told (command.List queue) = command.List (queue_text queue)
+as_told (command.Create queue subject status requestors) =
+    command.Create (queue_text queue) subject status requestors
+as_told other = other
 
--- by settings that have the token, its person asks for just the command
+-- by settings that have the token, its person asks for the command as it is told
 abbrev pub AsksForIt : Type 0
 AsksForIt =
     (settings : Settings) (host token person : List ℕ) (command : Command) (bytes : List ℕ)
     → is_host host ≡ true → is_token token ≡ true
     → person_of_token settings token ≡ Some person
-    → NamesQueue command → Asks host token command bytes
+    → Asks host token command bytes
     → (message : Message) × AreReadAs bytes message
-    × (command_of settings message ≡ Ok (person, command))
+    × (command_of settings message ≡ Ok (person, as_told command))

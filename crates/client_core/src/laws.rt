@@ -37,8 +37,8 @@ pub fn message_law()
 {}
 
 /// What is written for a command is read as one message, and this asks `route_core` for just that
-/// command, as the person of the token: by any settings that have the token, where a queue that stands
-/// in the path has a name.
+/// command, as the person of the token, by any settings that have the token. A queue in the path that
+/// is no name is told as one that is none either.
 pub fn read_law()
     ensures { AsksForIt }
 {
