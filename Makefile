@@ -10,7 +10,7 @@ demo:
 	cd crates/desk && rt try < ../../examples/printer.desk
 
 # The gate: every proof, every must-fail edit, every test and every stored run. From nothing it takes
-# 90 to 130 minutes on four cores; what passed on this machine and hasn't changed isn't proved again.
+# more than 95 minutes on four cores; what passed on this machine and hasn't changed isn't proved again.
 test:
 	rt ci
 
