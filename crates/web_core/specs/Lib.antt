@@ -1,4 +1,4 @@
 pub mod Framing
 pub mod Messages
-pub mod Refusals
+pub mod Shut
 pub mod Web

@@ -6,7 +6,7 @@ ghost use Rattle.server_core.specs.Served.{Act, Serves, answers};
 ghost use Rattle.web_core.specs.Framing as form;
 ghost use Rattle.web_core.specs.Web as web;
 
-use crate::web::WebDesk;
+use crate::desk::WebDesk;
 use server_core::laws;
 use store_core::Backend;
 
