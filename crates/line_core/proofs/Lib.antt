@@ -1,1 +1,2 @@
+pub mod AllLines
 pub mod LineLemmas

@@ -49,6 +49,13 @@ IsTaken TooLong old new text =
 IsTaken End old new text = Consumes old new [] × IsAtEnd new
 IsTaken Fault old new text = TakesSome old new
 
+-- lines were taken one after the other up to the end of the stream, and these are their texts
+abbrev pub TakesAll : Option (List ℕ) → List (List ℕ) → Type 0
+TakesAll old [] = IsAtEnd old
+TakesAll old (text ∷ texts) =
+    (new : Option (List ℕ)) × (bytes : List ℕ) × (ended : Bool) × IsFirst old new bytes ended
+    × (text ≡ text_of bytes ended) × TakesAll new texts
+
 -- ---- byte by byte
 
 -- a byte was taken, or the stream has ended

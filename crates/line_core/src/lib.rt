@@ -5,6 +5,7 @@
 //! beginning is held.
 #![tactic(auto)]
 
+pub mod laws;
 mod lines;
 
 pub use lines::{LINE_LIMIT, Taken, take_line};
