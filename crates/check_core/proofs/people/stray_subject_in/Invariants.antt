@@ -1,0 +1,11 @@
+use Rattle.std.proofs.Common.{◌≡◌, ◌+◌, drop}
+use Rattle.toml.specs.View.{items_view, table_view}
+use Rattle.check_core.specs.People.{stray_subject_in}
+use Rattle.check_core.proofs.people.stray_subject_in.Given as goal
+
+abbrev pub invariant-loop-grant : goal.invariant-loop-grant
+invariant-loop-grant l =
+    (l.number ≡ l.grant-index) ×
+    (stray_subject_in (table_view l.table) (l.number + 1)
+    (items_view (drop l.grant-index l.grants.items))
+    ≡ stray_subject_in (table_view l.table) 1 (items_view l.grants.items))

@@ -1,0 +1,74 @@
+-- The first member of a group, and the first grant, whose person or group isn't there.
+use Rattle.std.specs.Prelude.{ℕ, ◌+◌, Bool, true, false, not, ◌&&◌, ◌||◌, List, Option, Some, None, codes}
+use Rattle.std.specs.Prelude.{is_some, if◌then◌else◌}
+use Rattle.std.specs.Option.{option_map, option_or}
+use Rattle.std.specs.Str.{bytes_eq}
+use Rattle.toml.specs.Data.{Data, Items, no_items, item, Members, no_members, member, get_member}
+use Rattle.settings_parts.specs.PeopleParts.{after}
+use Rattle.settings_parts.specs.Values.{items_at, items_of, members_of, table_at}
+use Rattle.check_core.specs.Values.{text_in, text_of}
+
+-- one of the items is the text
+abbrev pub has_text : Items → List ℕ → Bool
+has_text no_items name = false
+has_text (item d ds) name = bytes_eq (text_of d) name || has_text ds name
+
+abbrev pub is_person : Members → List ℕ → Bool
+is_person ms name = has_text (items_at (codes "persons") ms) name
+
+abbrev pub is_group : Members → List ℕ → Bool
+is_group ms name = is_some (get_member name (table_at (codes "groups") ms))
+
+-- ---- members
+
+abbrev pub stray_among : Members → Items → Option (List ℕ)
+stray_among ms no_items = None
+stray_among ms (item d ds) =
+    if is_person ms (text_of d) || is_group ms (text_of d) then stray_among ms ds
+    else Some (text_of d)
+
+abbrev pub stray_of : Members → Data → Option (List ℕ)
+stray_of ms group = stray_among ms (items_of group)
+
+abbrev pub stray_member_in : Members → Members → Option (List ℕ × List ℕ)
+stray_member_in ms no_members = None
+stray_member_in ms (member k d groups) =
+    option_or (option_map (λ name. (k, name)) (stray_of ms d)) (stray_member_in ms groups)
+
+-- the first group with a member that is neither a person nor a group, and the member
+abbrev pub stray_member : Members → Option (List ℕ × List ℕ)
+stray_member ms = stray_member_in ms (table_at (codes "groups") ms)
+
+-- ---- grants
+
+abbrev pub is_person_if_any : Members → Option (List ℕ) → Bool → Bool
+is_person_if_any ms (Some person) other = is_person ms person
+is_person_if_any ms None other = other
+
+abbrev pub is_group_if_any : Members → Option (List ℕ) → Bool
+is_group_if_any ms (Some group) = is_group ms group
+is_group_if_any ms None = true
+
+-- the person or the group that a grant is for is there
+abbrev pub is_there : Members → List ℕ → Bool
+is_there ms to =
+    is_person_if_any ms (after to (codes "person:")) (is_group_if_any ms (after to (codes "group:")))
+
+abbrev pub has_item : Items → Bool
+has_item no_items = false
+has_item (item d ds) = true
+
+-- a grant has a right
+abbrev pub grants_any : Data → Bool
+grants_any grant = has_item (items_at (codes "rights") (members_of grant))
+
+abbrev pub stray_subject_in : Members → ℕ → Items → Option (ℕ × List ℕ)
+stray_subject_in ms n no_items = None
+stray_subject_in ms n (item d ds) =
+    if grants_any d && not (is_there ms (text_in (codes "to") d))
+    then Some (n, text_in (codes "to") d)
+    else stray_subject_in ms (n + 1) ds
+
+-- the first grant of any right for a person or a group that isn't there, and for whom it is
+abbrev pub stray_subject : Members → Option (ℕ × List ℕ)
+stray_subject ms = stray_subject_in ms 1 (items_at (codes "grant") ms)

@@ -1,0 +1,163 @@
+//! The first member of a group, and the first grant, whose person or group isn't there.
+
+ghost use Rattle.std.specs.Prelude.{◌≡◌};
+ghost use Rattle.std.specs.Option.{option_copied, option_map};
+ghost use Rattle.toml.specs.View.{array_view, table_view, view};
+ghost use Rattle.settings_parts.specs.PeopleParts.{after};
+ghost use Rattle.check_core.specs.People as spec;
+
+use crate::values::{text_at, text_of};
+use settings_parts::values::{array_at, has_key, table_at, table_of};
+use toml::value::Array;
+use toml::{Table, Value};
+
+/// What the name of a person begins with, where a grant is for one.
+const PERSON: &str = "person:";
+
+/// What the name of a group begins with.
+const GROUP: &str = "group:";
+
+/// The first group that has a member which is neither a person nor a group: its name, and the
+/// member.
+pub fn stray_member(table: &Table) -> Option<(&str, &str)>
+    ensures { option_map (λ f. (f.0.now, f.1.now)) result
+        ≡ spec.stray_member (table_view table.now) }
+{
+    match table_at(table, "groups") {
+        Some(groups) => stray_member_in(table, groups),
+        None => None,
+    }
+}
+
+fn stray_member_in<'t>(table: &Table, groups: &'t Table) -> Option<(&'t str, &'t str)>
+    ensures { option_map (λ f. (f.0.now, f.1.now)) result
+        ≡ spec.stray_member_in (table_view table.now) (table_view groups.now) }
+{
+    for (group, value) in groups.iter() {
+        if let Some(member) = stray_of(table, value) {
+            return Some((group.as_str(), member));
+        }
+    }
+    None
+}
+
+/// The first of a group's members that is neither a person nor a group.
+fn stray_of<'t>(table: &Table, group: &'t Value) -> Option<&'t str>
+    ensures { option_copied result ≡ spec.stray_of (table_view table.now) (view group.now) }
+{
+    match group.as_array() {
+        Some(members) => stray_among(table, members),
+        None => None,
+    }
+}
+
+fn stray_among<'t>(table: &Table, members: &'t Array) -> Option<&'t str>
+    ensures { option_copied result
+        ≡ spec.stray_among (table_view table.now) (array_view members.now) }
+{
+    for value in members {
+        let member = text_of(value);
+        if !is_person(table, member) && !is_group(table, member) {
+            return Some(member);
+        }
+    }
+    None
+}
+
+/// The first grant of any right for a person or a group that isn't there: which it is, from 1, and
+/// for whom.
+pub fn stray_subject(table: &Table) -> Option<(usize, &str)>
+    ensures { option_map (λ f. (f.0, f.1.now)) result
+        ≡ spec.stray_subject (table_view table.now) }
+{
+    match array_at(table, "grant") {
+        Some(grants) => stray_subject_in(table, grants),
+        None => None,
+    }
+}
+
+fn stray_subject_in<'t>(table: &Table, grants: &'t Array) -> Option<(usize, &'t str)>
+    ensures { option_map (λ f. (f.0, f.1.now)) result
+        ≡ spec.stray_subject_in (table_view table.now) 1 (array_view grants.now) }
+{
+    let mut number = 0;
+    for grant in grants {
+        number += 1;
+        let to = text_at(grant, "to");
+        if grants_any(grant) && !is_there(table, to) {
+            return Some((number, to));
+        }
+    }
+    None
+}
+
+/// Whether a grant has a right.
+fn grants_any(grant: &Value) -> bool
+    ensures { result ≡ spec.grants_any (view grant.now) }
+{
+    match table_of(grant) {
+        Some(table) => match array_at(table, "rights") {
+            Some(rights) => has_item(rights),
+            None => false,
+        },
+        None => false,
+    }
+}
+
+fn has_item(list: &Array) -> bool
+    ensures { result ≡ spec.has_item (array_view list.now) }
+{
+    match list.as_slice() {
+        [] => false,
+        [_, ..] => true,
+    }
+}
+
+/// Whether the person or the group that a grant is for is there.
+fn is_there(table: &Table, to: &str) -> bool
+    ensures { result ≡ spec.is_there (table_view table.now) to.now }
+{
+    match after(to, PERSON) {
+        Some(person) => is_person(table, person),
+        None => match after(to, GROUP) {
+            Some(group) => is_group(table, group),
+            None => true,
+        },
+    }
+}
+
+/// What follows in the text, where it begins so.
+fn after<'a>(text: &'a str, start: &str) -> Option<&'a str>
+    ensures { option_copied result ≡ after text.now start.now }
+{
+    text.strip_prefix(start)
+}
+
+fn is_person(table: &Table, name: &str) -> bool
+    ensures { result ≡ spec.is_person (table_view table.now) name.now }
+{
+    match array_at(table, "persons") {
+        Some(persons) => has_text(persons, name),
+        None => false,
+    }
+}
+
+fn has_text(list: &Array, name: &str) -> bool
+    ensures { result ≡ spec.has_text (array_view list.now) name.now }
+{
+    for value in list {
+        if text_of(value) == name {
+            return true;
+        }
+    }
+    false
+}
+
+fn is_group(table: &Table, name: &str) -> bool
+    ensures { result ≡ spec.is_group (table_view table.now) name.now }
+{
+    match table_at(table, "groups") {
+        Some(groups) => has_key(groups, name),
+        None => false,
+    }
+}

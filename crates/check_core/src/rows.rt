@@ -1,0 +1,207 @@
+//! The first name in the rows of a desk's tables that settings don't know.
+
+ghost use Rattle.std.specs.Prelude.{◌≡◌, find};
+ghost use Rattle.std.specs.Option.{option_map};
+ghost use Rattle.std.specs.Str.{bytes_eq};
+ghost use Rattle.settings_core.specs.Settings.{lifecycle_named};
+ghost use Rattle.desk_model.specs.Lifecycles as lifecycles;
+ghost use Rattle.check_core.specs.Rows as spec;
+
+use desk_model::{Entry, QueueRow, RequestRow, WatchRole, Watcher};
+use settings_core::Settings;
+use text_core::Text;
+
+/// A row of the tables.
+#[derive(Clone, Copy)]
+pub enum Row<'r> {
+    /// The queue of this name.
+    Queue(&'r str),
+    /// The request of this number.
+    Request(u32),
+    /// The entry of this number, in the second place, of the request of the first.
+    Entry(u32, u32),
+}
+
+/// What a name in a row is.
+#[derive(Clone, Copy)]
+pub enum What {
+    Lifecycle,
+    Level,
+    Status,
+    Owner,
+    Requestor,
+    Cc,
+    AdminCc,
+    /// Who made an entry.
+    Actor,
+}
+
+/// A name that settings don't know: where it stands, what it is, and the name.
+#[derive(Clone, Copy)]
+pub struct Stray<'r> {
+    pub row: Row<'r>,
+    pub what: What,
+    pub name: &'r str,
+}
+
+/// The first queue whose lifecycle or level the settings don't know, and that name.
+pub fn stray_queue<'r>(settings: &Settings, queues: &'r [QueueRow]) -> Option<Stray<'r>>
+    ensures { option_map spec.seen result ≡ spec.stray_queue settings.now queues.now }
+{
+    for queue in queues {
+        if let Some((what, name)) = stray_of_queue(settings, queue) {
+            let row = Row::Queue(queue.name.as_str());
+            return Some(Stray { row, what, name });
+        }
+    }
+    None
+}
+
+/// The lifecycle of a queue, or else its level, where the settings don't know it.
+fn stray_of_queue<'r>(settings: &Settings, queue: &'r QueueRow) -> Option<(What, &'r str)>
+    ensures { option_map (λ f. (f.0, f.1.now)) result
+        ≡ spec.stray_of_queue settings.now queue.now }
+{
+    if settings.lifecycle(queue.lifecycle.as_str()).is_none() {
+        return Some((What::Lifecycle, queue.lifecycle.as_str()));
+    }
+    stray_level(settings, &queue.level)
+}
+
+fn stray_level<'r>(settings: &Settings, level: &'r Option<Text>) -> Option<(What, &'r str)>
+    ensures { option_map (λ f. (f.0, f.1.now)) result ≡ spec.stray_level settings.now level.now }
+{
+    match level {
+        Some(level) => {
+            if settings.level(level.as_str()).is_some() {
+                None
+            } else {
+                Some((What::Level, level.as_str()))
+            }
+        }
+        None => None,
+    }
+}
+
+/// The first request whose status isn't one of the lifecycle of its queue, among these, or whose
+/// level or owner the settings don't know, and that name.
+pub fn stray_request<'r>(
+    settings: &Settings,
+    queues: &[QueueRow],
+    requests: &'r [RequestRow],
+) -> Option<Stray<'r>>
+    ensures { option_map spec.seen result
+        ≡ spec.stray_request settings.now queues.now requests.now }
+{
+    for request in requests {
+        if let Some((what, name)) = stray_of_request(settings, queues, request) {
+            let row = Row::Request(request.id);
+            return Some(Stray { row, what, name });
+        }
+    }
+    None
+}
+
+/// The status of a request, or else its level, or else its owner, where it isn't known.
+fn stray_of_request<'r>(
+    settings: &Settings,
+    queues: &[QueueRow],
+    request: &'r RequestRow,
+) -> Option<(What, &'r str)>
+    ensures { option_map (λ f. (f.0, f.1.now)) result
+        ≡ spec.stray_of_request settings.now queues.now request.now }
+{
+    if !knows_status(settings, queues, request) {
+        return Some((What::Status, request.status.as_str()));
+    }
+    match stray_level(settings, &request.level) {
+        Some(found) => Some(found),
+        None => stray_owner(settings, &request.owner),
+    }
+}
+
+fn knows_status(settings: &Settings, queues: &[QueueRow], request: &RequestRow) -> bool
+    ensures { result ≡ spec.knows_status settings.now queues.now request.now }
+{
+    match queue_named(queues, &request.queue) {
+        Some(queue) => has_status(settings, queue, &request.status),
+        None => false,
+    }
+}
+
+fn queue_named<'q>(queues: &'q [QueueRow], name: &Text) -> Option<&'q QueueRow>
+    ensures { option_map (λ q. q.now) result
+        ≡ find (λ q. bytes_eq q.name name.now) queues.now }
+{
+    queues
+        .iter()
+        .find(|queue| queue.name.as_str() == name.as_str())
+}
+
+/// Whether the lifecycle of the queue is known and has the status.
+fn has_status(settings: &Settings, queue: &QueueRow, status: &Text) -> bool
+    ensures { result
+        ≡ lifecycles.has_status (lifecycle_named settings.now queue.now.lifecycle) status.now }
+{
+    match settings.lifecycle(queue.lifecycle.as_str()) {
+        Some(lifecycle) => lifecycle.class(status.as_str()).is_some(),
+        None => false,
+    }
+}
+
+fn stray_owner<'r>(settings: &Settings, owner: &'r Option<Text>) -> Option<(What, &'r str)>
+    ensures { option_map (λ f. (f.0, f.1.now)) result ≡ spec.stray_owner settings.now owner.now }
+{
+    match owner {
+        Some(owner) => {
+            if settings.people().knows(owner.as_str()) {
+                None
+            } else {
+                Some((What::Owner, owner.as_str()))
+            }
+        }
+        None => None,
+    }
+}
+
+/// The first watcher whom the settings don't know.
+pub fn stray_watcher<'r>(settings: &Settings, watchers: &'r [Watcher]) -> Option<Stray<'r>>
+    ensures { option_map spec.seen result ≡ spec.stray_watcher settings.now watchers.now }
+{
+    for watcher in watchers {
+        if !settings.people().knows(watcher.person.as_str()) {
+            return Some(Stray {
+                row: Row::Request(watcher.id),
+                what: what_of(watcher.role),
+                name: watcher.person.as_str(),
+            });
+        }
+    }
+    None
+}
+
+fn what_of(role: WatchRole) -> What
+    ensures { result ≡ spec.what_of role }
+{
+    match role {
+        WatchRole::Requestor => What::Requestor,
+        WatchRole::Cc => What::Cc,
+        WatchRole::AdminCc => What::AdminCc,
+    }
+}
+
+/// The first entry that somebody made whom the settings don't know.
+pub fn stray_entry<'r>(settings: &Settings, entries: &'r [Entry]) -> Option<Stray<'r>>
+    ensures { option_map spec.seen result ≡ spec.stray_entry settings.now entries.now }
+{
+    for entry in entries {
+        if !settings.people().knows(entry.actor.as_str()) {
+            return Some(Stray {
+                row: Row::Entry(entry.id, entry.number),
+                what: What::Actor,
+                name: entry.actor.as_str(),
+            });
+        }
+    }
+    None
+}

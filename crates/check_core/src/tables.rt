@@ -1,0 +1,128 @@
+//! What is wrong first with tables, by settings.
+
+ghost use Rattle.store_tables.specs.Calls.{Spares};
+ghost use Rattle.store_core.specs.Seen.{state_of};
+
+use crate::rows::{Stray, stray_entry, stray_queue, stray_request, stray_watcher};
+use desk_model::RequestRow;
+use service_core::AttachFault;
+use settings_core::Settings;
+use std::alloc::{AllocError, Global};
+use store_core::{Backend, Store, StoreFault};
+
+/// What is wrong first with tables: their version, a row that is no value of its type, or a name
+/// that the settings don't know. The tables stay as they are.
+#[tactic(auto, using(store_tables::proofs::Spared::joined, store_tables::proofs::Spared::unread))]
+pub fn first_fault<S: Backend>(
+    alloc: Global,
+    store: &mut Store<S>,
+    settings: &Settings,
+) -> Result<Option<String>, AllocError>
+    ensures kept { Spares (state_of S.Store store.old) (state_of S.Store store.new) }
+{
+    match store.version() {
+        Ok(1 | 2) => match first_stray(alloc, store, settings) {
+            Ok(None) => Ok(None),
+            Ok(Some(told)) => Ok(Some(format!(in alloc; "attach: {told}")?)),
+            Err(AttachFault::NoMemory) => Err(AllocError),
+            Err(fault) => Ok(Some(format!(in alloc; "attach: {fault}")?)),
+        },
+        Ok(_) => store_told(alloc, StoreFault::WrongVersion),
+        Err(fault) => store_told(alloc, fault),
+    }
+}
+
+fn store_told(alloc: Global, fault: StoreFault) -> Result<Option<String>, AllocError> {
+    Ok(Some(format!(in alloc; "store: {fault}")?))
+}
+
+/// The first name in the rows that the settings don't know, in words: of a queue, a request, a
+/// watcher, or one who made an entry. The tables stay as they are.
+#[tactic(auto, using(store_tables::proofs::Spared::joined, store_tables::proofs::Spared::unread))]
+fn first_stray<S: Backend>(
+    alloc: Global,
+    store: &mut Store<S>,
+    settings: &Settings,
+) -> Result<Option<String>, AttachFault>
+    ensures kept { Spares (state_of S.Store store.old) (state_of S.Store store.new) }
+{
+    let queues = match store.queues(alloc) {
+        Ok(queues) => queues,
+        Err(fault) => return Err(AttachFault::Store(fault)),
+    };
+    let requests = match store.requests(alloc) {
+        Ok(requests) => requests,
+        Err(fault) => return Err(AttachFault::Store(fault)),
+    };
+    if let Some(stray) = stray_queue(settings, queues.as_slice()) {
+        return told(alloc, stray);
+    }
+    if let Some(stray) = stray_request(settings, queues.as_slice(), requests.as_slice()) {
+        return told(alloc, stray);
+    }
+    match stray_watch(alloc, store, settings)? {
+        Some(stray) => Ok(Some(stray)),
+        None => stray_actor(alloc, store, settings, requests.as_slice()),
+    }
+}
+
+/// The first watcher whom the settings don't know, in words.
+fn stray_watch<S: Backend>(
+    alloc: Global,
+    store: &mut Store<S>,
+    settings: &Settings,
+) -> Result<Option<String>, AttachFault>
+    ensures kept { Spares (state_of S.Store store.old) (state_of S.Store store.new) }
+{
+    match store.watchers(alloc) {
+        Ok(watchers) => match stray_watcher(settings, watchers.as_slice()) {
+            Some(stray) => told(alloc, stray),
+            None => Ok(None),
+        },
+        Err(fault) => Err(AttachFault::Store(fault)),
+    }
+}
+
+/// The first entry of these requests that somebody made whom the settings don't know, in words.
+#[tactic(auto, using(store_tables::proofs::Spared::joined, store_tables::proofs::Spared::unread))]
+fn stray_actor<S: Backend>(
+    alloc: Global,
+    store: &mut Store<S>,
+    settings: &Settings,
+    requests: &[RequestRow],
+) -> Result<Option<String>, AttachFault>
+    ensures kept { Spares (state_of S.Store store.old) (state_of S.Store store.new) }
+{
+    for request in requests {
+        if let Some(told) = stray_actor_of(alloc, store, settings, request.id)? {
+            return Ok(Some(told));
+        }
+    }
+    Ok(None)
+}
+
+/// The first entry of a request that somebody made whom the settings don't know, in words.
+fn stray_actor_of<S: Backend>(
+    alloc: Global,
+    store: &mut Store<S>,
+    settings: &Settings,
+    id: u32,
+) -> Result<Option<String>, AttachFault>
+    ensures kept { Spares (state_of S.Store store.old) (state_of S.Store store.new) }
+{
+    match store.entries_of(alloc, id) {
+        Ok(entries) => match stray_entry(settings, entries.as_slice()) {
+            Some(stray) => told(alloc, stray),
+            None => Ok(None),
+        },
+        Err(fault) => Err(AttachFault::Store(fault)),
+    }
+}
+
+/// A name that the settings don't know, in words.
+fn told(alloc: Global, stray: Stray<'_>) -> Result<Option<String>, AttachFault> {
+    match format!(in alloc; "{stray}") {
+        Ok(told) => Ok(Some(told)),
+        Err(_) => Err(AttachFault::NoMemory),
+    }
+}

@@ -1,0 +1,80 @@
+//! What is wrong, in words for people.
+
+use crate::rows::{Row, Stray, What};
+use crate::seats::{Seat, Trail};
+use crate::wrong::Wrong;
+use settings_form::form::Place;
+use std::fmt;
+
+impl fmt::Display for Seat<'_> {
+    fn fmt<W: fmt::Write>(&self, f: &mut fmt::Formatter<W>) -> fmt::Result {
+        let Trail {
+            around,
+            key,
+            number,
+        } = self.trail;
+        match self.place {
+            Place::Top => write!(f, "the text"),
+            Place::Grant => write!(f, "[[grant]] {number}"),
+            Place::Groups | Place::Tokens | Place::Lifecycles | Place::Calendars | Place::Levels =>
+                write!(f, "[{key}]"),
+            Place::Lifecycle => write!(f, "[lifecycle.{key}]"),
+            Place::Calendar => write!(f, "[calendar.{key}]"),
+            Place::Level => write!(f, "[level.{key}]"),
+            Place::Transitions | Place::RightNames => write!(f, "[lifecycle.{around}.{key}]"),
+            Place::Limit => write!(f, "[level.{around}.{key}]"),
+        }
+    }
+}
+
+impl fmt::Display for Wrong<'_> {
+    fn fmt<W: fmt::Write>(&self, f: &mut fmt::Formatter<W>) -> fmt::Result {
+        match *self {
+            Wrong::Key(seat, key) => write!(f, "the key `{key}` of {seat}"),
+            Wrong::Calendar(name) => write!(f, "[calendar.{name}]"),
+            Wrong::Lifecycle(name) => write!(f, "[lifecycle.{name}]"),
+            Wrong::Member(group, name) => write!(f, "`{name}`, a member of the group `{group}`"),
+            Wrong::Subject(number, to) => write!(f, "`{to}` in [[grant]] {number}"),
+            Wrong::People => write!(f, "`persons`, [groups] and [[grant]]"),
+            Wrong::Right(number, right) => write!(f, "the right `{right}` in [[grant]] {number}"),
+            Wrong::CalendarOf(level, name) => write!(f, "the calendar `{name}` in [level.{level}]"),
+            Wrong::StatusOf(level, name) => write!(f, "the status `{name}` in [level.{level}]"),
+            Wrong::PersonOf(_, person) => write!(f, "`{person}`, the person of a token"),
+            Wrong::Token(_, person) => write!(f, "a token of `{person}`"),
+            Wrong::Level(name) => write!(f, "a limit in [level.{name}]"),
+            Wrong::Count(key) => write!(f, "the key `{key}` of the text"),
+        }
+    }
+}
+
+impl fmt::Display for What {
+    fn fmt<W: fmt::Write>(&self, f: &mut fmt::Formatter<W>) -> fmt::Result {
+        f.write_str(match self {
+            What::Lifecycle => "lifecycle",
+            What::Level => "level",
+            What::Status => "status",
+            What::Owner => "owner",
+            What::Requestor => "requestor",
+            What::Cc => "cc",
+            What::AdminCc => "admincc",
+            What::Actor => "person who made it",
+        })
+    }
+}
+
+impl fmt::Display for Row<'_> {
+    fn fmt<W: fmt::Write>(&self, f: &mut fmt::Formatter<W>) -> fmt::Result {
+        match *self {
+            Row::Queue(name) => write!(f, "queue `{name}`"),
+            Row::Request(id) => write!(f, "request {id}"),
+            Row::Entry(id, number) => write!(f, "request {id}, entry {number}"),
+        }
+    }
+}
+
+impl fmt::Display for Stray<'_> {
+    fn fmt<W: fmt::Write>(&self, f: &mut fmt::Formatter<W>) -> fmt::Result {
+        let Stray { row, what, name } = *self;
+        write!(f, "{row}: the settings don't know the {what} `{name}`")
+    }
+}
