@@ -1,5 +1,7 @@
 //! A load over tables.
-ghost use Rattle.std.specs.Prelude.{◌≡◌, false};
+ghost use Rattle.std.specs.Prelude.{◌≡◌, false, None};
+ghost use Rattle.desk_program.specs.Opening.{IsNotOpened};
+ghost use Rattle.desk_load.specs.Ending.{EndsLoad};
 
 use crate::progress::Told;
 use desk_program::{InputFault, open_desk, tell_input_fault};
@@ -20,7 +22,7 @@ const REFUSED: u8 = 1;
 const FAILED_WRITE: u8 = 4;
 
 /// Loads the lines of the standard input over these tables, and gives them back, if there was a
-/// desk.
+/// desk. Where there was none, its fault is printed, as `open_desk` says.
 pub fn load_over<S: Backend + Drop, W: Write>(
     rt: &HostRuntime,
     plan: Plan,
@@ -29,6 +31,8 @@ pub fn load_over<S: Backend + Drop, W: Write>(
     output: &mut W,
 ) -> (u8, Option<Connection<S>>)
     requires { tables.in_transaction ≡ false }
+    ensures { result.1 ≡ None → IsNotOpened S.Store settings.now tables
+        (W.contents output.old) (W.contents output.new) result.0 }
 {
     match open_desk(rt.alloc(), Store::adopt(tables), settings, output) {
         Ok(mut desk) => {
@@ -72,7 +76,10 @@ fn load_from<S: Backend, R: Read, W: Write>(
 }
 
 /// The exit status of a load. A failed read is told.
-fn status_of<W: Write>(loaded: &Loaded, output: &mut W) -> u8 {
+fn status_of<W: Write>(loaded: &Loaded, output: &mut W) -> u8
+    ensures { EndsLoad loaded.now.ending loaded.now.refused
+        (W.contents output.old) (W.contents output.new) result }
+{
     match loaded.ending {
         Ending::Input | Ending::Refused => { if loaded.refused { REFUSED } else { DONE } }
         Ending::Read => tell_input_fault(InputFault::Read, output),

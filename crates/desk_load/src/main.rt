@@ -1,13 +1,14 @@
 //! The program `desk_load`: lines of commands from the standard input, loaded into a file of tables.
 #![tactic(auto)]
 
+mod check;
 mod files;
 mod load;
 mod options;
 mod progress;
 mod tables;
 
-use options::asked_of;
+use options::{Task, asked_of};
 use std::process::ExitCode;
 use std::{env, io};
 
@@ -20,7 +21,8 @@ const FAILED_WRITE: u8 = 4;
 /// `desk_load --db FILE --settings FILE` answers the lines of the standard input on the desk of that
 /// file, and prints each answer that tells more than that a command is done, with its line's number.
 /// With `--all` it prints each, with `--stop` the first refusal ends it, and with `--from N` it
-/// begins with line N. All else is `bad words`.
+/// begins with line N. With `--check` it reads no line, and prints what is wrong first with the
+/// settings and the file. All else is `bad words`.
 fn main(rt: HostRuntime) -> ExitCode {
     match words_of(&rt) {
         Ok(words) => ExitCode::from(run(&rt, words.as_slice())),
@@ -39,7 +41,10 @@ fn words_of(rt: &HostRuntime) -> io::Result<Vec<String>> {
 
 fn run(rt: &HostRuntime, words: &[String]) -> u8 {
     match asked_of(rt.alloc(), words) {
-        Some(asked) => tables::run(rt, &asked),
+        Some(asked) => match asked.task {
+            Task::Load(plan) => tables::run(rt, &asked, plan),
+            Task::Check => check::run(rt, &asked),
+        },
         None => refuse(rt),
     }
 }

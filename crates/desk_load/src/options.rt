@@ -11,13 +11,22 @@ pub struct Asked<'w> {
     pub tables: &'w str,
     /// The path of the settings file.
     pub settings: &'w str,
-    /// Which lines are answered, and which answers are printed.
-    pub plan: Plan,
+    /// What is to be done with them.
+    pub task: Task,
 }
 
-/// What words ask of the program: `--db FILE --settings FILE` and maybe `--all`, `--stop` and
-/// `--from N`, in any order. None where they are other words, an option stands there twice, or N
-/// isn't a number from 1 to the greatest u64.
+/// What is to be done with settings and tables.
+#[derive(Clone, Copy)]
+pub enum Task {
+    /// Lines are loaded: which are answered, and which answers are printed.
+    Load(Plan),
+    /// What is wrong first is told.
+    Check,
+}
+
+/// What words ask of the program: `--db FILE --settings FILE`, and then `--check`, or maybe `--all`,
+/// `--stop` and `--from N`, in any order. None where they are other words, an option stands there
+/// twice, or N isn't written in digits alone as a number from 1 to the greatest u64.
 pub fn asked_of<'w>(alloc: Global, words: &'w [String]) -> Option<Asked<'w>> {
     let Ok(command) = command_line(alloc) else {
         return None;
@@ -33,20 +42,42 @@ fn asked_by<'w>(matches: &ArgMatches<'w>) -> Option<Asked<'w>> {
     Some(Asked {
         tables: matches.get_str("db")?,
         settings: matches.get_str("settings")?,
-        plan: Plan {
-            passed: passed_by(matches.get_str("from"))?,
-            all: matches.get_flag("all"),
-            stop: matches.get_flag("stop"),
-        },
+        task: task_by(matches)?,
     })
+}
+
+/// The task of the matches: a check has no word of a load beside it.
+fn task_by(matches: &ArgMatches<'_>) -> Option<Task> {
+    let from = matches.get_str("from");
+    let plan = Plan {
+        passed: passed_by(from)?,
+        all: matches.get_flag("all"),
+        stop: matches.get_flag("stop"),
+    };
+    if !matches.get_flag("check") {
+        Some(Task::Load(plan))
+    } else if from.is_none() && !plan.all && !plan.stop {
+        Some(Task::Check)
+    } else {
+        None
+    }
 }
 
 /// How many lines are passed over before the line of a number, if that is one; none of all, where
 /// there is no number.
 fn passed_by(word: Option<&str>) -> Option<u64> {
     match word {
-        Some(word) => word.parse::<u64>().ok()?.checked_sub(1),
+        Some(word) => number_of(word)?.checked_sub(1),
         None => Some(0),
+    }
+}
+
+/// The number that a word of digits alone writes, if it is at most the greatest u64.
+fn number_of(word: &str) -> Option<u64> {
+    if word.as_bytes().iter().all(|byte| byte.is_ascii_digit()) {
+        word.parse::<u64>().ok()
+    } else {
+        None
     }
 }
 
@@ -59,6 +90,7 @@ fn command_line<'w>(alloc: Global) -> Result<App<'w>, AllocError> {
     let command = command.arg(option(alloc, "settings").required(true))?;
     let command = command.arg(option(alloc, "from"))?;
     let command = command.arg(flag(alloc, "all"))?;
+    let command = command.arg(flag(alloc, "check"))?;
     command.arg(flag(alloc, "stop"))
 }
 

@@ -1,12 +1,15 @@
 //! How far a load has come, told on the standard error.
 
 use load_core::Progress;
+use std::io::IsTerminal;
 use std::time::{Clock, Duration};
 
-/// The lines that were answered, told once a second and at the end.
+/// The lines that were answered, told at the end, and on a terminal once a second.
 #[derive(Drop)]
 pub struct Told<'r> {
     rt: &'r HostRuntime,
+    /// Whether the standard error is a terminal.
+    is_watched: bool,
     /// The moment at which the load began.
     begun: Duration,
     /// The number of the last line that was answered, or of the last that was passed over.
@@ -22,6 +25,7 @@ impl<'r> Told<'r> {
     pub fn new(rt: &'r HostRuntime, passed: u64) -> Told<'r> {
         Told {
             rt,
+            is_watched: rt.stderr().is_terminal(),
             begun: now(rt),
             line: passed,
             answered: 0,
@@ -43,7 +47,7 @@ impl<'r> Progress for Told<'r> {
         self.line = line;
         self.answered = self.answered.saturating_add(1);
         let second = now(self.rt).saturating_sub(self.begun).as_secs();
-        if second > self.second {
+        if self.is_watched && second > self.second {
             self.second = second;
             self.tell();
         }
