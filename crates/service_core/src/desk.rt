@@ -1,10 +1,13 @@
 //! The desk over its tables.
-ghost use Rattle.std.specs.Prelude.{◌≡◌};
+ghost use Rattle.std.specs.Prelude.{◌≡◌, IfErr, IfOk};
+ghost use Rattle.sqlite.specs.State.{HasCleanDisk};
 ghost use Rattle.store_tables.specs.Calls.{Spares};
 ghost use Rattle.store_core.specs.Limits.{limited};
 ghost use Rattle.store_core.specs.Seen.{connection_of};
 ghost use Rattle.service_core.specs.Seen.{settings_of, tables_of};
 
+use desk_core::Refusal;
+use desk_lists::or_unavailable;
 use settings_core::Settings;
 use store_core::{Backend, Store};
 
@@ -42,5 +45,18 @@ impl<S: Backend> Desk<S> {
         ensures same { settings_of S.Store self.new ≡ settings_of S.Store self.old }
     {
         self.store.set_step_limit(limit);
+    }
+
+    /// Whether the store under the desk is open: a fault of the disk shuts it for good, and no
+    /// command is done any more. `Unavailable` where memory or the store refuses to tell. The tables
+    /// stay as they are.
+    pub fn is_open(&mut self) -> Result<bool, Refusal>
+        ensures live { HasCleanDisk (tables_of S.Store self.new)
+            → IfOk result (λ live. live ≡ (tables_of S.Store self.old).is_open) }
+        ensures kept { Spares (tables_of S.Store self.old) (tables_of S.Store self.new) }
+        ensures fault { IfErr result (λ refusal. refusal ≡ Refusal.Unavailable) }
+        ensures same { settings_of S.Store self.new ≡ settings_of S.Store self.old }
+    {
+        or_unavailable(self.store.is_open())
     }
 }

@@ -1,5 +1,6 @@
 //! A store is opened, and its tables are made.
 ghost use Rattle.std.specs.Prelude.{◌≡◌, ◌≢◌, false, IfErr, IfOk, OnErr};
+ghost use Rattle.sqlite.specs.State.{HasCleanDisk};
 ghost use Rattle.sqlite.specs.Steps.{over_memory};
 ghost use Rattle.store_tables.specs.Calls.{Answers, AreLeft, Lasts, Spares, WasClean};
 ghost use Rattle.store_tables.specs.Making.{IsBlank, IsOfMeta, MakesDesk, ReadsMeta, RefusesBlank};
@@ -89,5 +90,16 @@ impl<S: Alter> Store<S> {
         ensures kept { Spares (state_of S.Store self.old) (state_of S.Store self.new) }
     {
         reads::version::version(&mut self.tables)
+    }
+
+    /// Whether the connection is open: a fault of the disk shuts it for good. `Refused` where the
+    /// store or memory refuses to tell. The tables stay as they are.
+    pub fn is_open(&mut self) -> Result<bool, StoreFault>
+        ensures live { HasCleanDisk (state_of S.Store self.new)
+            → IfOk result (λ live. live ≡ (state_of S.Store self.old).is_open) }
+        ensures kept { Spares (state_of S.Store self.old) (state_of S.Store self.new) }
+        ensures fault { IfErr result (λ e. e ≡ StoreFault.Refused) }
+    {
+        reads::open::is_open(&mut self.tables)
     }
 }

@@ -16,6 +16,7 @@ pub mod ReadLemmas
 pub mod ReadOn
 pub mod ReadingLemmas
 pub mod RowLemmas
+pub mod ShutLemmas
 pub mod Spared
 pub mod StandLemmas
 pub mod StayLemmas

@@ -4,6 +4,9 @@ use Rattle.std.specs.Prelude.{Result}
 use Rattle.std.specs.List.{AllZip}
 use Rattle.sqlite.specs.Listing.{understood}
 use Rattle.sqlite.specs.Order.{Row}
+use Rattle.sqlite.specs.declared.error.Error.{Error}
+use Rattle.sqlite.specs.declared.error.Error.TheVariants.{SqliteFailure}
+use Rattle.sqlite.specs.declared.error.ErrorCode.TheVariants.{Closed}
 use Rattle.sqlite_disk.specs.Disk.{MoreFaults}
 use Rattle.sqlite.specs.State.{State, HasCleanDisk, Shown}
 use Rattle.sqlite.specs.Schema.{Schema}
@@ -43,6 +46,10 @@ pub record Spares (old new : State) : Type 0 where
   pub clean : HasCleanDisk new → HasCleanDisk old
   pub lasts : Lasts old new
   pub left : AreLeft old new
+
+-- what is answered over a connection that is shut
+abbrev pub shut : Error
+shut = SqliteFailure Closed
 
 -- whatever tables there are, the text is no statement that gives back rows of what it writes
 abbrev pub ReadsAlone : List ℕ → Type 0

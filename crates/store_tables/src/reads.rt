@@ -9,6 +9,7 @@ pub mod lists_entries;
 pub mod lists_links;
 pub mod lists_requests;
 pub mod lists_watchers;
+pub mod open;
 pub mod queue_count;
 pub mod queues;
 pub mod request_numbers;
