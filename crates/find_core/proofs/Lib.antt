@@ -1,0 +1,3 @@
+mod PageLemmas
+pub mod PlaceLemmas
+mod ViewLemmas
