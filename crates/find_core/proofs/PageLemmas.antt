@@ -2,9 +2,8 @@
 use Rattle.std.proofs.Common.{◌≡◌, ◌∙◌, ◌<◌, ℕ, zero, suc, Bool, true, false, cond, List, [], ◌∷◌}
 use Rattle.std.proofs.Common.{◌++◌, arith, filter, map, take, Option, Some, None, refl, ap, sym, subst}
 use Rattle.std.specs.List.{AllByRecursion}
-use Rattle.std.proofs.lemmas.Bool.{ltb-true}
 use Rattle.sqlite_trees.specs.Tree.{IsAscending}
-use Rattle.sqlite_trees.proofs.ListLemmas.{ascending-filter, ascending-map, ascending_weaker}
+use Rattle.sqlite_trees.proofs.ListLemmas.{ascending-filter, ascending-map}
 use Rattle.sqlite_trees.proofs.ListLemmas.{filter_all}
 use Rattle.settings_core.specs.declared.settings.Settings.{Settings}
 use Rattle.desk_model.specs.Desk.{Desk, Request}
@@ -12,7 +11,6 @@ use Rattle.desk_model.specs.Facts.{seen_request}
 use Rattle.desk_model.specs.IsDesk.{IsDesk}
 use Rattle.desk_model.specs.Rights.{may_show}
 use Rattle.desk_core.proofs.InView.{filter_within}
-use Rattle.desk_core.proofs.Rising.{by, climbs, numbered_rise, numbers_go_on}
 use Rattle.find_core.specs.Conditions.{is_asked}
 use Rattle.find_core.specs.Find.{Sight, found_among, sight_on, sights}
 use Rattle.find_core.specs.Laws.{GoesOn, last_among}
@@ -20,7 +18,8 @@ use Rattle.find_core.specs.Places.{in_direction, is_after, is_before, limit_of, 
 use Rattle.find_core.specs.declared.search.Found.{Found}
 use Rattle.find_core.specs.declared.search.Place.{Place}
 use Rattle.find_core.specs.declared.search.Search.{Search}
-use Rattle.find_core.proofs.PlaceLemmas.{ascending_of, before_back, before_on, direction_rises}
+use Rattle.find_core.proofs.PlaceLemmas.{before_back, before_on, direction_rises}
+use Rattle.find_core.proofs.RisingLemmas.{requests_rise}
 
 -- ---- lists
 
@@ -120,15 +119,6 @@ module _ {X : Type 0} (place : X → Place) (descending : Bool) (xs : List X)
 
 module _ (s : Settings) (at : ℕ) (caller : List ℕ) (search : Search) (desk : Desk)
     (is : IsDesk desk) where
-  requests_rise : IsAscending (λ (a b : Request). a.row.id < b.row.id) desk.requests
-  requests_rise =
-      let number : Request → ℕ = λ r. r.row.id in
-      ascending_weaker (λ a b. by number a b ≡ true) (λ (a b : Request). a.row.id < b.row.id)
-      (λ a b low. ltb-true a.row.id b.row.id low) desk.requests
-      (ascending_of (by number) desk.requests
-      (climbs (by number) desk.requests (numbers_go_on number)
-      (numbered_rise number 1 desk.requests is.requests)))
-
   pub found_rise : IsAscending (λ (a b : Found). a.id < b.id)
       (found_among at search (sights s caller desk))
   found_rise =
@@ -140,7 +130,7 @@ module _ (s : Settings) (at : ℕ) (caller : List ℕ) (search : Search) (desk :
       (ascending-map (λ (a b : Sight). a.found.id < b.found.id) (sight_on s caller desk)
       (filter shows desk.requests)
       (ascending-filter (λ (a b : Request). a.row.id < b.row.id) shows desk.requests
-      requests_rise)))
+      (requests_rise desk is))))
 
   pub goes_on : (limit : ℕ) (after : Option Place) → GoesOn s at caller search limit after desk
   goes_on limit after =

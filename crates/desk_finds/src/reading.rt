@@ -1,0 +1,103 @@
+//! The rows that a search goes over, and what is told of one request.
+ghost use Rattle.std.specs.Prelude.{◌≡◌, IfErr};
+ghost use Rattle.desk_model.specs.Facts.{facts_on_request};
+ghost use Rattle.store_tables.specs.Calls.{Spares, Tells};
+ghost use Rattle.store_core.specs.Due.{TellsDue};
+ghost use Rattle.store_core.specs.Rows.{TellsDated};
+ghost use Rattle.store_core.specs.Seen.{state_of};
+ghost use Rattle.desk_finds.specs.Found.{ArePart, asked_on, theirs_on, told_at};
+
+use desk_core::{Command, Entry, Facts, Refusal, RequestRow, Watcher};
+use desk_lists::or_unavailable;
+use find_core::{Search, asked_rows, told};
+use hours_core::Minute;
+use settings_core::Settings;
+use std::alloc::Global;
+use store_core::{Backend, Store};
+use text_core::Text;
+
+/// A row of a request and its due moment.
+pub(crate) type Dated = (RequestRow, Option<Minute>);
+
+/// The rows of the requests that the caller may show and that meet the search but for its words, in
+/// the order of their numbers. `Unavailable` where memory or the store refused. The tables stay as
+/// they are.
+#[tactic(auto, using(store_tables::proofs::Spared::joined, store_tables::proofs::Spared::stands))]
+pub(crate) fn asked<S: Backend>(
+    alloc: Global,
+    store: &mut Store<S>,
+    settings: &Settings,
+    at: u32,
+    caller: &str,
+    search: &Search,
+) -> Result<Vec<Dated>, Refusal>
+    ensures told { TellsDue settings.now
+        (λ desk rows. rows.items ≡ asked_on settings.now at caller.now search.now desk)
+        (state_of S.Store store.old) (state_of S.Store store.new) result }
+    ensures kept { Spares (state_of S.Store store.old) (state_of S.Store store.new) }
+    ensures fault { IfErr result (λ refusal. refusal ≡ Refusal.Unavailable) }
+{
+    let own = or_unavailable(store.watches_of(alloc, caller))?;
+    let theirs = watches_of(alloc, store, &search.requestor)?;
+    let queues = or_unavailable(store.queues(alloc))?;
+    let rows = rows_in(alloc, store, &search.queue)?;
+    let (own, theirs, queues) = (own.as_slice(), theirs.as_slice(), queues.as_slice());
+    Ok(asked_rows(settings, at, caller, search, own, theirs, queues, rows))
+}
+
+/// The watches of a person, if one is given.
+fn watches_of<S: Backend>(
+    alloc: Global,
+    store: &mut Store<S>,
+    person: &Option<Text>,
+) -> Result<Vec<Watcher>, Refusal>
+    ensures told { Tells (λ desk watches. watches.items ≡ theirs_on desk person.now)
+        (state_of S.Store store.old) (state_of S.Store store.new) result }
+    ensures kept { Spares (state_of S.Store store.old) (state_of S.Store store.new) }
+    ensures fault { IfErr result (λ refusal. refusal ≡ Refusal.Unavailable) }
+{
+    match person {
+        Some(person) => or_unavailable(store.watches_of(alloc, person.as_str())),
+        None => Ok(Vec::new(alloc)),
+    }
+}
+
+/// The rows of a queue, or of all where none is given, each with its due moment.
+fn rows_in<S: Backend>(
+    alloc: Global,
+    store: &mut Store<S>,
+    queue: &Option<Text>,
+) -> Result<Vec<Dated>, Refusal>
+    ensures told { TellsDated (λ due desk rows. ArePart queue.now due desk rows.items)
+        (state_of S.Store store.old) (state_of S.Store store.new) result }
+    ensures kept { Spares (state_of S.Store store.old) (state_of S.Store store.new) }
+    ensures fault { IfErr result (λ refusal. refusal ≡ Refusal.Unavailable) }
+{
+    match queue {
+        Some(queue) => or_unavailable(store.dated_requests_of(alloc, queue)),
+        None => or_unavailable(store.dated_requests(alloc)),
+    }
+}
+
+/// The facts of a request, and the entries of its history that the caller is told. `Unavailable`
+/// where memory or the store refused. The tables stay as they are.
+#[tactic(auto, using(store_tables::proofs::Spared::joined, store_tables::proofs::Spared::stands_for))]
+pub(crate) fn history<S: Backend>(
+    alloc: Global,
+    store: &mut Store<S>,
+    settings: &Settings,
+    caller: &str,
+    id: u32,
+) -> Result<(Facts, Vec<Entry>), Refusal>
+    ensures facts { Tells (λ desk told. told.0 ≡ facts_on_request desk id)
+        (state_of S.Store store.old) (state_of S.Store store.new) result }
+    ensures told { Tells (λ desk told. told.1.items ≡ told_at settings.now caller.now desk id)
+        (state_of S.Store store.old) (state_of S.Store store.new) result }
+    ensures kept { Spares (state_of S.Store store.old) (state_of S.Store store.new) }
+    ensures fault { IfErr result (λ refusal. refusal ≡ Refusal.Unavailable) }
+{
+    let facts = or_unavailable(store.facts_for(alloc, &Command::Show { id }))?;
+    let entries = or_unavailable(store.entries_of(alloc, id))?;
+    let told = told(settings, caller, &facts.request, entries);
+    Ok((facts, told))
+}
