@@ -1,4 +1,4 @@
 mod PageLemmas
 pub mod PlaceLemmas
 pub mod RisingLemmas
-mod ViewLemmas
+pub mod ViewLemmas

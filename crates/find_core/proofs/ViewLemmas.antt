@@ -20,7 +20,11 @@ use Rattle.desk_model.specs.declared.rows.Entry.{Entry}
 use Rattle.desk_model.specs.declared.rows.QueueRow.{QueueRow}
 use Rattle.desk_model.proofs.StayLemmas.{stays_told}
 use Rattle.desk_core.proofs.InView.{filter_within, queue_kept}
-use Rattle.find_core.specs.Find.{Sight, sight_in, sight_on, sights}
+use Rattle.find_core.specs.Find.{Sight, findings_among, refusal_of, sight_in, sight_on, sights}
+use Rattle.find_core.specs.Find.{unless_refused}
+use Rattle.find_core.specs.Laws.{TellsOfTheView}
+use Rattle.find_core.specs.declared.search.Place.{Place}
+use Rattle.find_core.specs.declared.search.Search.{Search}
 
 module _ (s : Settings) (caller : List ℕ) where
   abbrev shows : Request → Bool
@@ -84,3 +88,9 @@ module _ (s : Settings) (caller : List ℕ) where
   sights_of_view desk =
       ap (map (sight_on s caller (view s caller desk))) (shown_still desk.requests)
       ∙ sights_alike desk desk.requests (λ test e. e)
+
+pub of_the_view : (s : Settings) (at : ℕ) (caller : List ℕ) (search : Search) (limit : ℕ)
+    (after : Option Place) (desk : Desk) → TellsOfTheView s at caller search limit after desk
+of_the_view s at caller search limit after desk =
+    ap (λ (ts : List Sight). unless_refused (refusal_of s at caller)
+    (findings_among at search limit after ts)) (sights_of_view s caller desk)

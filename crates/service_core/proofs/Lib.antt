@@ -11,3 +11,4 @@ pub mod WrittenAlike
 pub mod Linked
 pub mod Told
 pub mod SightLemmas
+pub mod FoundAlike
