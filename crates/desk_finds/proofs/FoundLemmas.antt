@@ -1,5 +1,5 @@
 -- What is found of the rows that were read is what is found on the desk.
-use Rattle.std.proofs.Common.{◌≡◌, ◌∙◌, ◌<◌, ℕ, Bool, true, false, cond, ◌&&◌, List, [], ◌∷◌, filter}
+use Rattle.std.proofs.Common.{◌≡◌, ◌∙◌, ◌<◌, ◌+◌, ◌++◌, get_or, take, ℕ, Bool, true, false, cond, ◌&&◌, List, [], ◌∷◌, filter}
 use Rattle.std.proofs.Common.{find, length, map, Option, Some, None, refl, ap, ap₂, sym, subst}
 use Rattle.std.specs.Prelude.{filter_map}
 use Rattle.std.specs.Cmp.Lexicographic.{texts_ties}
@@ -7,7 +7,7 @@ use Rattle.std.specs.List.{AllByRecursion, cons_option}
 use Rattle.std.specs.Option.{option_map, option_map_or}
 use Rattle.std.specs.Str.{bytes_eq}
 use Rattle.std.proofs.lemmas.Bool.{and_parts}
-use Rattle.std.proofs.lemmas.List.{length-map}
+use Rattle.std.proofs.lemmas.List.{length-map, map-append, take_more}
 use Rattle.std.proofs.lemmas.List.Elements.{recursion_from_All}
 use Rattle.sqlite_trees.proofs.ListLemmas.{all-filter, all_weaker, ascending-filter}
 use Rattle.sqlite_trees.proofs.ListLemmas.{ascending-map}
@@ -49,7 +49,8 @@ use Rattle.store_tables.specs.Selection.{is_filed_in}
 use Rattle.store_core.specs.Due.{due_of_row}
 use Rattle.store_core.specs.Rows.{dated_rows}
 use Rattle.desk_lists.proofs.Reported.{Alike, HaveDues, have_dues, requestors_alike, shows_alike}
-use Rattle.desk_lists.proofs.Reported.{watches_in_order, watches_on}
+use Rattle.desk_lists.proofs.Reported.{watches_on}
+use Rattle.desk_reports.specs.Rows.{QueuesRise}
 use Rattle.desk_finds.specs.Found.{ArePart, asked_on, dated_on, found_of, met_on, placed_by, theirs_on}
 use Rattle.desk_finds.specs.Found.{told_at}
 
@@ -152,12 +153,26 @@ module _ (s : Settings) (at : ℕ) (caller : List ℕ) (search : Search) (desk :
       by (r ∷ rs) = (refl, by rs)
   requestors_are is (Some person) = requestors_alike person desk is
 
-  pub left_on : IsDesk desk → (rows : List Dated) → ArePart search.queue due desk rows
+  left_on : IsDesk desk → (rows : List Dated) → ArePart search.queue due desk rows
       → filter left rows ≡ asked_on s at caller search desk
   left_on is rows part =
       part_left search.queue refl rows part
       ∙ left_are desk.requests (shows_alike s caller desk is) (have_dues s desk is)
       (requestors_are is search.requestor)
+
+  -- what was judged by lists that are the desk's
+  pub asked_from : IsDesk desk → (mine others : List Watcher) (queues : List QueueRow)
+      (rows result : List Dated)
+      → mine ≡ own → others ≡ theirs → queues ≡ desk.queues → ArePart search.queue due desk rows
+      → (QueuesRise queues → result ≡ filter (is_left s at caller search mine others queues) rows)
+      → result ≡ asked_on s at caller search desk
+  asked_from is mine others queues rows result mine_is others_is queues_is part made =
+      let here = subst (λ (qs : List QueueRow). QueuesRise qs
+      → result ≡ filter (is_left s at caller search mine others qs) rows) queues_is made in
+      here is.queues
+      ∙ ap₂ (λ (ws vs : List Watcher). filter (is_left s at caller search ws vs desk.queues) rows)
+      mine_is others_is
+      ∙ left_on is rows part
 
 -- ---- lists
 
@@ -188,6 +203,31 @@ some_same {X} (x ∷ xs) (y ∷ ys) e =
     let one : x ≡ y = cc in
     let others : map Some xs ≡ map Some ys = cc in
     ap₂ (λ (z : X) (zs : List X). z ∷ zs) one (some_same xs ys others)
+
+filter_map-append : {X Y : Type 0} (f : X → Option Y) (xs ys : List X)
+    → filter_map f (xs ++ ys) ≡ filter_map f xs ++ filter_map f ys
+filter_map-append f [] ys = refl
+filter_map-append {X} {Y} f (x ∷ xs) ys = by (f x) (filter_map-append f xs ys)
+  where
+    by : (o : Option Y) → filter_map f (xs ++ ys) ≡ filter_map f xs ++ filter_map f ys
+        → cons_option o (filter_map f (xs ++ ys)) ≡ cons_option o (filter_map f xs) ++ filter_map f ys
+    by None rest = rest
+    by (Some y) rest = ap (λ (zs : List Y). y ∷ zs) rest
+
+-- a loop's step, where something is made of some
+pub filter_map_more : {X Y : Type 0} (f : X → Option Y) (xs : List X) (i : ℕ) (d : X)
+    → i < length xs
+    → filter_map f (take (i + 1) xs)
+    ≡ filter_map f (take i xs) ++ cons_option (f (get_or xs i d)) []
+filter_map_more f xs i d low =
+    ap (filter_map f) (take_more xs i d low)
+    ∙ filter_map-append f (take i xs) (get_or xs i d ∷ [])
+
+-- and of each
+pub map_more : {X Y : Type 0} (f : X → Y) (xs : List X) (i : ℕ) (d : X) → i < length xs
+    → map f (take (i + 1) xs) ≡ map f (take i xs) ++ f (get_or xs i d) ∷ []
+map_more f xs i d low =
+    ap (map f) (take_more xs i d low) ∙ map-append f (take i xs) (get_or xs i d ∷ [])
 
 -- ---- what is found of them
 

@@ -1,5 +1,8 @@
 //! A search: which rows are found, in which order, and those of a page as they are told.
-ghost use Rattle.std.specs.Prelude.{◌≡◌, IfErr, IfOk, Some, filter_map, length, map};
+ghost use Rattle.std.specs.Prelude.{◌++◌, ◌≡◌, [], IfErr, IfOk, OnOk, Some, filter_map, length};
+ghost use Rattle.std.specs.Prelude.{map};
+ghost use Rattle.std.specs.List.{cons_option};
+ghost use Rattle.std.specs.Option.{option_map};
 ghost use Rattle.find_core.specs.Find.{findings};
 ghost use Rattle.find_core.specs.Rows.{place_if};
 ghost use Rattle.store_tables.specs.Calls.{Spares, Tells};
@@ -10,8 +13,9 @@ ghost use Rattle.desk_finds.specs.Found.{found_of, is_by_last, placed_by, told_a
 use crate::reading::{Dated, asked, history};
 use desk_core::Refusal;
 use find_core::{Findings, Found, Order, Place, Placed, Search, place_if};
+use hours_core::Minute;
 use settings_core::Settings;
-use std::alloc::Global;
+use std::alloc::{AllocError, Global};
 use store_core::{Backend, Store};
 use text_core::Sequence;
 
@@ -80,11 +84,24 @@ fn placed<S: Backend>(
     let mut placed = Vec::new(alloc);
     for dated in rows {
         let place = place_of(alloc, store, settings, caller, search, dated)?;
-        if let Some(place) = place {
-            placed.push((place, dated.1))?;
-        }
+        put(&mut placed, place, dated.1)?;
     }
     Ok(placed)
+}
+
+/// Puts a place with a due moment to the others, if there is one.
+fn put(
+    placed: &mut Vec<Placed>,
+    place: Option<Place>,
+    due: Option<Minute>,
+) -> Result<(), AllocError>
+    ensures { OnOk result (placed.new.items
+        ≡ placed.old.items ++ cons_option (option_map (λ p. (p, due)) place) []) }
+{
+    if let Some(place) = place {
+        placed.push((place, due))?;
+    }
+    Ok(())
 }
 
 /// Where a row stands, if the words are found in it. Its history is read only where the search
@@ -137,7 +154,8 @@ fn found<S: Backend>(
 {
     let mut rows = Vec::new(alloc);
     for placed in page {
-        rows.push(found_at(alloc, store, settings, caller, placed)?)?;
+        let found = found_at(alloc, store, settings, caller, placed)?;
+        rows.push(found)?;
     }
     Ok(rows)
 }

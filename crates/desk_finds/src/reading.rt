@@ -38,7 +38,7 @@ pub(crate) fn asked<S: Backend>(
     ensures fault { IfErr result (λ refusal. refusal ≡ Refusal.Unavailable) }
 {
     let own = or_unavailable(store.watches_of(alloc, caller))?;
-    let theirs = watches_of(alloc, store, &search.requestor)?;
+    let theirs = watches_by(alloc, store, &search.requestor)?;
     let queues = or_unavailable(store.queues(alloc))?;
     let rows = rows_in(alloc, store, &search.queue)?;
     let (own, theirs, queues) = (own.as_slice(), theirs.as_slice(), queues.as_slice());
@@ -46,7 +46,7 @@ pub(crate) fn asked<S: Backend>(
 }
 
 /// The watches of a person, if one is given.
-fn watches_of<S: Backend>(
+fn watches_by<S: Backend>(
     alloc: Global,
     store: &mut Store<S>,
     person: &Option<Text>,
@@ -57,7 +57,10 @@ fn watches_of<S: Backend>(
     ensures fault { IfErr result (λ refusal. refusal ≡ Refusal.Unavailable) }
 {
     match person {
-        Some(person) => or_unavailable(store.watches_of(alloc, person.as_str())),
+        Some(person) => {
+            let watches = or_unavailable(store.watches_of(alloc, person.as_str()))?;
+            Ok(watches)
+        }
         None => Ok(Vec::new(alloc)),
     }
 }
@@ -74,8 +77,14 @@ fn rows_in<S: Backend>(
     ensures fault { IfErr result (λ refusal. refusal ≡ Refusal.Unavailable) }
 {
     match queue {
-        Some(queue) => or_unavailable(store.dated_requests_of(alloc, queue)),
-        None => or_unavailable(store.dated_requests(alloc)),
+        Some(queue) => {
+            let rows = or_unavailable(store.dated_requests_of(alloc, queue))?;
+            Ok(rows)
+        }
+        None => {
+            let rows = or_unavailable(store.dated_requests(alloc))?;
+            Ok(rows)
+        }
     }
 }
 
@@ -96,7 +105,8 @@ pub(crate) fn history<S: Backend>(
     ensures kept { Spares (state_of S.Store store.old) (state_of S.Store store.new) }
     ensures fault { IfErr result (λ refusal. refusal ≡ Refusal.Unavailable) }
 {
-    let facts = or_unavailable(store.facts_for(alloc, &Command::Show { id }))?;
+    let show = Command::Show { id };
+    let facts = or_unavailable(store.facts_for(alloc, &show))?;
     let entries = or_unavailable(store.entries_of(alloc, id))?;
     let told = told(settings, caller, &facts.request, entries);
     Ok((facts, told))

@@ -24,7 +24,7 @@ pub(crate) fn shown(
 }
 
 /// Whether a person may show a request, by watches in the order of their requests.
-pub fn is_shown(
+pub(crate) fn is_shown(
     settings: &Settings,
     person: &str,
     watches: &[Watcher],
@@ -37,7 +37,7 @@ pub fn is_shown(
 }
 
 /// The watches of that request, of watches in the order of their requests.
-pub fn watches_of(watches: &[Watcher], id: u32) -> &[Watcher]
+fn watches_of(watches: &[Watcher], id: u32) -> &[Watcher]
     ensures { WatchesRise watches.now
         → (person : List ℕ) (role : WatchRole)
         → watchers.is_watching person id role result.now

@@ -3,22 +3,22 @@ ghost use Rattle.std.specs.Prelude.{◌≡◌, true, Some, filter, nat_le, nat_l
 ghost use Rattle.std.specs.Option.{option_map, option_map_or};
 ghost use Rattle.desk_model.specs.Due.{is_live_class};
 ghost use Rattle.desk_model.specs.Lifecycles.{is_inactive_class};
-ghost use Rattle.desk_reports.specs.Rows.{QueuesRise, WatchesRise};
+ghost use Rattle.desk_reports.specs.Rows.{QueuesRise};
 ghost use Rattle.find_core.specs.Conditions as conditions;
 ghost use Rattle.find_core.specs.Find.{class_in};
 ghost use Rattle.find_core.specs.Rows as rows;
 
 use crate::search::{OwnerAsked, Search, StatusAsked};
-use desk_core::{QueueRow, RequestRow, WatchRole, Watcher, is_role};
-use desk_reports::{is_shown, queue_named, watches_of};
+use desk_core::{QueueRow, RequestRow, WatchRole, Watcher, is_role, may_show};
+use desk_reports::queue_named;
 use hours_core::Minute;
 use lifecycle_core::Class;
 use settings_core::Settings;
 use text_core::Text;
 
 /// Those of the rows that the person may show and that meet the search but for its words, in their
-/// order. The person's own watches and those of the requestor who is asked for stand in the order
-/// of their requests, and the queues in that of their names.
+/// order: by the person's own watches, and those of the requestor who is asked for. The queues stand
+/// in the order of their names.
 pub fn asked_rows(
     settings: &Settings,
     at: u32,
@@ -29,8 +29,7 @@ pub fn asked_rows(
     queues: &[QueueRow],
     mut rows: Vec<(RequestRow, Option<Minute>)>,
 ) -> Vec<(RequestRow, Option<Minute>)>
-    ensures { WatchesRise own.now → WatchesRise theirs.now → QueuesRise queues.now
-        → result.items ≡ filter (rows.is_left settings.now at person.now search.now own.now
+    ensures { QueuesRise queues.now → result.items ≡ filter (rows.is_left settings.now at person.now search.now own.now
         theirs.now queues.now) rows.items }
 {
     rows.retain(|dated| is_left(settings, at, person, search, own, theirs, queues, dated));
@@ -47,13 +46,12 @@ fn is_left(
     queues: &[QueueRow],
     dated: &(RequestRow, Option<Minute>),
 ) -> bool
-    ensures { WatchesRise own.now → WatchesRise theirs.now → QueuesRise queues.now
-        → result ≡ rows.is_left settings.now at person.now search.now own.now
+    ensures { QueuesRise queues.now → result ≡ rows.is_left settings.now at person.now search.now own.now
         theirs.now queues.now dated.now }
 {
     let class = class_of(settings, queue_named(queues, &dated.0.queue), &dated.0.status);
     let requested = is_requested(&search.requestor, theirs, dated.0.id);
-    meets(at, search, class, requested, dated) && is_shown(settings, person, own, &dated.0)
+    meets(at, search, class, requested, dated) && may_show(settings, person, &dated.0, own)
 }
 
 /// Whether a row meets the search but for its words, where its status has this class, and where
@@ -95,10 +93,10 @@ pub(crate) fn class_of(
 
 /// Whether the person who is asked for is a requestor, by that person's watches.
 fn is_requested(asked: &Option<Text>, theirs: &[Watcher], id: u32) -> bool
-    ensures { WatchesRise theirs.now → result ≡ rows.is_requested asked.now theirs.now id }
+    ensures { result ≡ rows.is_requested asked.now theirs.now id }
 {
     match asked {
-        Some(person) => requests(person, watches_of(theirs, id), id),
+        Some(person) => requests(person, theirs, id),
         None => true,
     }
 }
