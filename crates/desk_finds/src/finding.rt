@@ -23,6 +23,7 @@ use text_core::Sequence;
 /// keep: those of a page that come after a place, or from the first on, at most so many, and how
 /// many there are on all pages. `Unavailable` where memory or the store refused. The tables stay as
 /// they are.
+#[tactic(auto, using(store_tables::proofs::Spared::joined, store_tables::proofs::Spared::stands_for))]
 pub fn find<S: Backend>(
     alloc: Global,
     store: &mut Store<S>,
@@ -67,6 +68,7 @@ fn count_of(placed: &[Placed]) -> Result<u32, Refusal>
 const MOST_REQUESTS: usize = 4_294_967_295;
 
 /// Where those of the rows stand in which the words are found.
+#[tactic(auto, using(store_tables::proofs::Spared::joined, store_tables::proofs::Spared::stands_for))]
 fn placed<S: Backend>(
     alloc: Global,
     store: &mut Store<S>,
@@ -106,6 +108,7 @@ fn put(
 
 /// Where a row stands, if the words are found in it. Its history is read only where the search
 /// looks into it.
+#[tactic(auto, using(store_tables::proofs::Spared::joined, store_tables::proofs::Spared::stands_for))]
 fn place_of<S: Backend>(
     alloc: Global,
     store: &mut Store<S>,
@@ -139,6 +142,7 @@ fn is_by_last(order: Order) -> bool
 }
 
 /// The requests at these places as they are found.
+#[tactic(auto, using(store_tables::proofs::Spared::joined, store_tables::proofs::Spared::stands_for))]
 fn found<S: Backend>(
     alloc: Global,
     store: &mut Store<S>,
@@ -161,6 +165,7 @@ fn found<S: Backend>(
 }
 
 /// The request at a place as it is found; `Unavailable` where it isn't there.
+#[tactic(auto, using(store_tables::proofs::Spared::joined, store_tables::proofs::Spared::stands_for))]
 fn found_at<S: Backend>(
     alloc: Global,
     store: &mut Store<S>,
