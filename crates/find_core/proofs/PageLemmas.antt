@@ -65,23 +65,25 @@ module _ {X : Type 0} (before : X → X → Bool)
       → last_among (take n xs) ≡ Some last → xs ≡ take n xs ++ filter (before last) xs
   further zero xs last up e = cc
   further (suc n) [] last up e = cc
-  further (suc n) (x ∷ xs) last up e = by (take n xs) refl
+  further (suc n) (x ∷ xs) last up e =
+      by (λ later. further n xs last up.1 later) (take n xs) refl
     where
-      by : (front : List X) → take n xs ≡ front
+      by : (last_among (take n xs) ≡ Some last → xs ≡ take n xs ++ filter (before last) xs)
+          → (front : List X) → take n xs ≡ front
           → x ∷ xs ≡ (x ∷ take n xs) ++ filter (before last) (x ∷ xs)
-      by [] none =
+      by rest [] none =
           let it : last_among (x ∷ []) ≡ Some last =
           ap (λ (ys : List X). last_among (x ∷ ys)) (sym none) ∙ e in
           let same : x ≡ last = cc in
           rw (none, ← same, not_itself x, filter_all (before x) xs up.0) refl
-      by (y ∷ ys) some =
+      by rest (y ∷ ys) some =
           let later : last_among (take n xs) ≡ Some last =
           ap last_among some ∙ ap (λ (zs : List X). last_among (x ∷ zs)) (sym some) ∙ e in
           let low : before x last ≡ true =
           of_last (λ z. before x z ≡ true) (take n xs) last
           (all_taken (λ z. before x z ≡ true) n xs up.0) later in
           rw (back x last low)
-          (ap (λ (zs : List X). x ∷ zs) (further n xs last up.1 later))
+          (ap (λ (zs : List X). x ∷ zs) (rest later))
 
 -- ---- pages
 

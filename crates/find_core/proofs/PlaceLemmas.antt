@@ -51,11 +51,17 @@ not_tied Less = refl
 not_tied Equal = refl
 not_tied Greater = refl
 
+tied_not : (o : Ordering) → o ≡ Equal → is_eq o ≡ false → ⊥
+tied_not o same differ = let no : true ≡ false = sym (ap is_eq same) ∙ differ in cc
+
 -- places with different numbers differ
 pub places_differ : (a b : Place) → a.id < b.id → is_eq (place_order a b) ≡ false
 places_differ a b low =
     ap (λ o. is_eq (ordering_then (nat_cmp a.key b.key) o)) (sym (nat_cmp_is a.id b.id Less low))
     ∙ not_tied (nat_cmp a.key b.key)
+
+pub never_tied : (a b : Place) → a.id < b.id → place_order a b ≡ Equal → ⊥
+never_tied a b low same = tied_not (place_order a b) same (places_differ a b low)
 
 -- ---- an order keeps what is made of rows
 

@@ -6,7 +6,7 @@ ghost use Rattle.desk_model.specs.Lifecycles.{is_inactive_class};
 ghost use Rattle.desk_reports.specs.Rows.{QueuesRise};
 ghost use Rattle.find_core.specs.Conditions as conditions;
 ghost use Rattle.find_core.specs.Find.{class_in};
-ghost use Rattle.find_core.specs.Rows as rows;
+ghost use Rattle.find_core.specs.Rows as judged;
 
 use crate::search::{OwnerAsked, Search, StatusAsked};
 use desk_core::{QueueRow, RequestRow, WatchRole, Watcher, is_role, may_show};
@@ -29,7 +29,7 @@ pub fn asked_rows(
     queues: &[QueueRow],
     mut rows: Vec<(RequestRow, Option<Minute>)>,
 ) -> Vec<(RequestRow, Option<Minute>)>
-    ensures { QueuesRise queues.now → result.items ≡ filter (rows.is_left settings.now at person.now search.now own.now
+    ensures { QueuesRise queues.now → result.items ≡ filter (judged.is_left settings.now at person.now search.now own.now
         theirs.now queues.now) rows.items }
 {
     rows.retain(|dated| is_left(settings, at, person, search, own, theirs, queues, dated));
@@ -46,7 +46,7 @@ fn is_left(
     queues: &[QueueRow],
     dated: &(RequestRow, Option<Minute>),
 ) -> bool
-    ensures { QueuesRise queues.now → result ≡ rows.is_left settings.now at person.now search.now own.now
+    ensures { QueuesRise queues.now → result ≡ judged.is_left settings.now at person.now search.now own.now
         theirs.now queues.now dated.now }
 {
     let class = class_of(settings, queue_named(queues, &dated.0.queue), &dated.0.status);
@@ -63,7 +63,7 @@ fn meets(
     requested: bool,
     dated: &(RequestRow, Option<Minute>),
 ) -> bool
-    ensures { result ≡ rows.row_meets at search.now class requested dated.now }
+    ensures { result ≡ judged.row_meets at search.now class requested dated.now }
 {
     let (row, due) = dated;
     is_in(&search.queue, &row.queue)
@@ -93,7 +93,7 @@ pub(crate) fn class_of(
 
 /// Whether the person who is asked for is a requestor, by that person's watches.
 fn is_requested(asked: &Option<Text>, theirs: &[Watcher], id: u32) -> bool
-    ensures { result ≡ rows.is_requested asked.now theirs.now id }
+    ensures { result ≡ judged.is_requested asked.now theirs.now id }
 {
     match asked {
         Some(person) => requests(person, theirs, id),
@@ -103,7 +103,7 @@ fn is_requested(asked: &Option<Text>, theirs: &[Watcher], id: u32) -> bool
 
 /// Whether the person is a requestor of the request by these watches.
 fn requests(person: &Text, watches: &[Watcher], id: u32) -> bool
-    ensures { result ≡ rows.is_requested (Some person.now) watches.now id }
+    ensures { result ≡ judged.is_requested (Some person.now) watches.now id }
 {
     watches.iter().any(|watch| {
         watch.id == id && is_role(WatchRole::Requestor, watch.role) && watch.person == *person

@@ -28,12 +28,20 @@ pub fn told(
     ensures { result.items ≡ rows.told_with
         (rows.shows_comments settings.now person.now request.now) entries.items }
 {
-    let comments = match request {
-        Some(request) => request.shows_comments_to(settings, person),
-        None => true,
-    };
+    let comments = shows_comments(settings, person, request);
     entries.retain(|entry| !entry.kind.is_comment() || comments);
     entries
+}
+
+/// Whether the person may see the comments of a request; those of one that isn't there hide
+/// nothing.
+fn shows_comments(settings: &Settings, person: &str, request: &Option<SeenRequest>) -> bool
+    ensures { result ≡ rows.shows_comments settings.now person.now request.now }
+{
+    match request {
+        Some(request) => request.shows_comments_to(settings, person),
+        None => true,
+    }
 }
 
 /// Where a row stands, if the words of the search are found in it, or among the entries that are

@@ -1,7 +1,7 @@
 //! Whether words stand in texts.
 ghost use Rattle.std.specs.Prelude.{◌≡◌, ◌∷◌};
 ghost use Rattle.std.specs.List.{list_any};
-ghost use Rattle.find_core.specs.Words as words;
+ghost use Rattle.find_core.specs.Words as matching;
 ghost use Rattle.find_core.specs.Find as find;
 ghost use Rattle.find_core.specs.Find.{replies_of};
 
@@ -11,7 +11,7 @@ use text_core::Text;
 /// Whether each of the words stands in the subject, or in the text of a reply or a comment that is
 /// among these entries, if those are to be looked through.
 pub(crate) fn has_words(words: &[Text], subject: &Text, entries: &[Entry]) -> bool
-    ensures { result ≡ words.has_words words.now (subject.now ∷ replies_of entries.now) }
+    ensures { result ≡ matching.has_words words.now (subject.now ∷ replies_of entries.now) }
 {
     words
         .iter()
@@ -20,7 +20,7 @@ pub(crate) fn has_words(words: &[Text], subject: &Text, entries: &[Entry]) -> bo
 
 /// Whether the word stands in the text of a reply or a comment.
 fn is_replied(word: &Text, entries: &[Entry]) -> bool
-    ensures { result ≡ list_any (words.stands_in word.now) (replies_of entries.now) }
+    ensures { result ≡ list_any (matching.stands_in word.now) (replies_of entries.now) }
 {
     entries
         .iter()
@@ -40,16 +40,16 @@ fn is_written(kind: EntryKind) -> bool
 
 /// Whether the word stands in the text, where a large letter of ASCII is as good as a small one.
 fn stands_in(word: &Text, text: &Text) -> bool
-    ensures { result ≡ words.stands_in word.now text.now }
+    ensures { result ≡ matching.stands_in word.now text.now }
 {
     stands_among(word.as_str().as_bytes(), text.as_str().as_bytes())
 }
 
 fn stands_among(word: &[u8], text: &[u8]) -> bool
-    ensures { result ≡ words.stands_in word.now text.now }
+    ensures { result ≡ matching.stands_in word.now text.now }
 {
     let mut rest = text;
-    while let [_, further @ ..] = rest {
+    'places: while let [_, further @ ..] = rest {
         if begins(word, rest) {
             return true;
         }
@@ -60,15 +60,15 @@ fn stands_among(word: &[u8], text: &[u8]) -> bool
 
 /// Whether the text begins with the word.
 fn begins(word: &[u8], text: &[u8]) -> bool
-    ensures { result ≡ words.begins word.now text.now }
+    ensures { result ≡ matching.begins word.now text.now }
 {
-    let mut word = word;
-    let mut text = text;
-    while let [letter, letters @ ..] = word {
-        match text {
+    let mut left = word;
+    let mut rest = text;
+    'letters: while let [letter, letters @ ..] = left {
+        match rest {
             [other, others @ ..] if letter.eq_ignore_ascii_case(other) => {
-                word = letters;
-                text = others;
+                left = letters;
+                rest = others;
             }
             _ => return false,
         }
