@@ -12,3 +12,4 @@ pub mod Linked
 pub mod Told
 pub mod SightLemmas
 pub mod FoundAlike
+pub mod FindLemmas

@@ -37,12 +37,22 @@ impl<S: Backend> Desk<S> {
         ensures named { IfErr result (λ refusal. names_its_right refusal ≡ true) }
         ensures same { settings_of S.Store self.new ≡ settings_of S.Store self.old }
     {
-        let (store, settings) = (&mut self.store, &self.settings);
-        look(alloc, store, settings, at, caller, search, limit, after)
+        let overdue = Command::Overdue;
+        look(
+            alloc,
+            &mut self.store,
+            &self.settings,
+            at,
+            caller,
+            &overdue,
+            search,
+            limit,
+            after,
+        )
     }
 }
 
-/// The same. What every desk refuses costs no look.
+/// The same. What every desk refuses, a search as well as the list of what is late, costs no look.
 #[tactic(auto, using(store_tables::proofs::Spared::unread))]
 fn look<S: Backend>(
     alloc: Global,
@@ -50,16 +60,18 @@ fn look<S: Backend>(
     settings: &Settings,
     at: u32,
     caller: &str,
+    overdue: &Command,
     search: &Search,
     limit: u32,
     after: Option<Place>,
 ) -> Result<Findings, Refusal>
+    requires { overdue.now ≡ Command.Overdue }
     ensures found { FindsOn settings.now at caller.now search.now limit after result
         (state_of S.Store store.old) (state_of S.Store store.new) }
     ensures kept { Spares (state_of S.Store store.old) (state_of S.Store store.new) }
     ensures named { IfErr result (λ refusal. names_its_right refusal ≡ true) }
 {
-    match refused_beforehand(settings, at, caller, &Command::Overdue) {
+    match refused_beforehand(settings, at, caller, overdue) {
         Some(refusal) => Err(refusal),
         None => desk_finds::find(alloc, store, settings, at, caller, search, limit, after),
     }
