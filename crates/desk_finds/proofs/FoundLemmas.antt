@@ -1,5 +1,5 @@
 -- What is found of the rows that were read is what is found on the desk.
-use Rattle.std.proofs.Common.{◌≡◌, ◌∙◌, ◌<◌, ◌+◌, ◌++◌, get_or, take, ℕ, Bool, true, false, cond, ◌&&◌, List, [], ◌∷◌, filter}
+use Rattle.std.proofs.Common.{◌≡◌, ◌∙◌, ◌<◌, ◌+◌, ◌++◌, get_or, take, ℕ, Bool, true, false, cond, ◌&&◌, ◌||◌, List, [], ◌∷◌, filter}
 use Rattle.std.proofs.Common.{find, length, map, Option, Some, None, refl, ap, ap₂, sym, subst}
 use Rattle.std.specs.Prelude.{filter_map}
 use Rattle.std.specs.Cmp.Lexicographic.{texts_ties}
@@ -30,15 +30,18 @@ use Rattle.desk_model.specs.declared.rows.WatchRole.TheVariants.{Requestor}
 use Rattle.desk_core.proofs.EachRequest.{found_each}
 use Rattle.desk_core.proofs.InView.{filter_within}
 use Rattle.find_core.specs.Conditions.{has_requestor, is_asked, is_in, meets, texts_sought}
-use Rattle.find_core.specs.Find.{Sight, class_in, findings, found_among, sight_in, sight_on}
+use Rattle.find_core.specs.Find.{Sight, class_in, findings, found_among, last_of, replies_of}
+use Rattle.find_core.specs.Find.{sight_in, sight_on}
 use Rattle.find_core.specs.Find.{sights}
 use Rattle.find_core.specs.Ordered.{AreApart, Placed}
-use Rattle.find_core.specs.Places.{page, place_of}
+use Rattle.find_core.specs.Places.{page, place_in, place_of}
 use Rattle.find_core.specs.Rows.{Dated, is_left, is_requested, place_if, row_meets}
 use Rattle.find_core.specs.Rows.{shows_comments, told_with}
 use Rattle.find_core.specs.Words.{has_words}
 use Rattle.find_core.specs.declared.search.Findings.{Findings}
 use Rattle.find_core.specs.declared.search.Found.{Found}
+use Rattle.find_core.specs.declared.search.Order.{Order}
+use Rattle.find_core.specs.declared.search.Order.TheVariants.{ByNumber, ByDue, ByLast}
 use Rattle.find_core.specs.declared.search.Place.{Place}
 use Rattle.find_core.specs.declared.search.Search.{Search}
 use Rattle.find_core.proofs.PlaceLemmas.{page_made}
@@ -52,7 +55,7 @@ use Rattle.desk_lists.proofs.Reported.{Alike, HaveDues, have_dues, requestors_al
 use Rattle.desk_lists.proofs.Reported.{watches_on}
 use Rattle.desk_reports.specs.Rows.{QueuesRise}
 use Rattle.desk_finds.specs.Found.{ArePart, asked_on, dated_on, found_of, met_on, placed_by, theirs_on}
-use Rattle.desk_finds.specs.Found.{told_at}
+use Rattle.desk_finds.specs.Found.{is_by_last, looks_inside, told_at}
 
 abbrev pub as_findings : List Found → ℕ → Findings
 as_findings rows count = record { rows = rows; count = count }
@@ -228,6 +231,29 @@ pub map_more : {X Y : Type 0} (f : X → Y) (xs : List X) (i : ℕ) (d : X) → 
     → map f (take (i + 1) xs) ≡ map f (take i xs) ++ f (get_or xs i d) ∷ []
 map_more f xs i d low =
     ap (map f) (take_more xs i d low) ∙ map-append f (take i xs) (get_or xs i d ∷ [])
+
+-- ---- where the history doesn't count
+
+neither : (a b : Bool) → (a || b) ≡ false → (a ≡ false) × (b ≡ false)
+neither true b e = cc
+neither false b e = (refl, e)
+
+place_same : (order : Order) (id : ℕ) (due : Option ℕ) (a b : ℕ) → is_by_last order ≡ false
+    → place_in order id due a ≡ place_in order id due b
+place_same ByNumber id due a b e = refl
+place_same ByDue id due a b e = refl
+place_same ByLast id due a b e = cc
+
+pub unread : (search : Search) (dated : Dated) (entries : List Entry)
+    → looks_inside search ≡ false → place_if search dated [] ≡ place_if search dated entries
+unread search dated entries none =
+    let parts = neither search.in_replies (is_by_last search.order) none in
+    let found : Bool → List (List ℕ) → Bool =
+    λ inside replies. has_words search.words (dated.0.subject ∷ cond inside replies []) in
+    ap₂ (λ (b : Bool) (p : Place). cond b (Some p) None)
+    (ap (λ b. found b []) parts.0 ∙ sym (ap (λ b. found b (replies_of entries)) parts.0))
+    (place_same search.order dated.0.id dated.1 dated.0.created (last_of dated.0.created entries)
+    parts.1)
 
 -- ---- what is found of them
 

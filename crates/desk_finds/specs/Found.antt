@@ -1,5 +1,5 @@
 -- What is read of the tables for a search.
-use Rattle.std.specs.Prelude.{◌≡◌, ℕ, Bool, true, false, List, [], filter, map, Option, Some, None}
+use Rattle.std.specs.Prelude.{◌≡◌, ℕ, Bool, true, false, ◌||◌, List, [], filter, map, Option, Some, None}
 use Rattle.std.specs.Option.{option_map, option_map_or}
 use Rattle.settings_core.specs.declared.settings.Settings.{Settings}
 use Rattle.desk_model.specs.Desk.{Desk, Request}
@@ -64,3 +64,7 @@ found_of settings caller desk placed =
 abbrev pub is_by_last : Order → Bool
 is_by_last ByLast = true
 is_by_last other = false
+
+-- the history of a request counts for the search
+abbrev pub looks_inside : Search → Bool
+looks_inside search = search.in_replies || is_by_last search.order

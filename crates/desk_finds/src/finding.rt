@@ -8,7 +8,8 @@ ghost use Rattle.find_core.specs.Rows.{place_if};
 ghost use Rattle.store_tables.specs.Calls.{Spares, Tells};
 ghost use Rattle.store_core.specs.Due.{TellsDue};
 ghost use Rattle.store_core.specs.Seen.{state_of};
-ghost use Rattle.desk_finds.specs.Found.{found_of, is_by_last, placed_by, told_at};
+ghost use Rattle.desk_finds.specs.Found.{found_of, is_by_last, looks_inside};
+ghost use Rattle.desk_finds.specs.Found.{placed_by, told_at};
 
 use crate::reading::{Dated, asked, history};
 use desk_core::Refusal;
@@ -123,13 +124,20 @@ fn place_of<S: Backend>(
     ensures kept { Spares (state_of S.Store store.old) (state_of S.Store store.new) }
     ensures fault { IfErr result (λ refusal. refusal ≡ Refusal.Unavailable) }
 {
-    if search.in_replies || is_by_last(search.order) {
+    if looks_inside(search) {
         let (facts, told) = history(alloc, store, settings, caller, dated.0.id)?;
         drop(facts);
         Ok(place_if(search, dated, told.as_slice()))
     } else {
         Ok(place_if(search, dated, &[]))
     }
+}
+
+/// Whether the history of a request counts for the search.
+fn looks_inside(search: &Search) -> bool
+    ensures { result ≡ looks_inside search.now }
+{
+    search.in_replies || is_by_last(search.order)
 }
 
 fn is_by_last(order: Order) -> bool

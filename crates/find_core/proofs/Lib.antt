@@ -2,3 +2,4 @@ mod PageLemmas
 pub mod PlaceLemmas
 pub mod RisingLemmas
 pub mod ViewLemmas
+mod WordLemmas

@@ -75,7 +75,10 @@ module _ {X : Type 0} (before : X → X → Bool)
           let it : last_among (x ∷ []) ≡ Some last =
           ap (λ (ys : List X). last_among (x ∷ ys)) (sym none) ∙ e in
           let same : x ≡ last = cc in
-          rw (none, ← same, not_itself x, filter_all (before x) xs up.0) refl
+          let kept : filter (before x) (x ∷ xs) ≡ xs =
+          rw (not_itself x) (filter_all (before x) xs up.0) in
+          rw none (ap (λ (ys : List X). x ∷ ys)
+          (sym kept ∙ ap (λ (z : X). filter (before z) (x ∷ xs)) same))
       by rest (y ∷ ys) some =
           let later : last_among (take n xs) ≡ Some last =
           ap last_among some ∙ ap (λ (zs : List X). last_among (x ∷ zs)) (sym some) ∙ e in

@@ -1,5 +1,5 @@
 //! Whether words stand in texts.
-ghost use Rattle.std.specs.Prelude.{◌≡◌, ◌∷◌};
+ghost use Rattle.std.specs.Prelude.{◌≡◌, ◌&&◌, ◌∷◌};
 ghost use Rattle.std.specs.List.{list_any};
 ghost use Rattle.find_core.specs.Words as matching;
 ghost use Rattle.find_core.specs.Find as find;
@@ -21,6 +21,13 @@ pub(crate) fn has_words(words: &[Text], subject: &Text, entries: &[Entry]) -> bo
 /// Whether the word stands in the text of a reply or a comment.
 fn is_replied(word: &Text, entries: &[Entry]) -> bool
     ensures { result ≡ list_any (matching.stands_in word.now) (replies_of entries.now) }
+{
+    is_in_one(word, entries)
+}
+
+fn is_in_one(word: &Text, entries: &[Entry]) -> bool
+    ensures { result
+        ≡ list_any (λ e. find.is_written e.kind && matching.stands_in word.now e.body) entries.now }
 {
     entries
         .iter()
