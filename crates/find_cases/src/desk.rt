@@ -60,8 +60,16 @@ const ACTS: &[(u32, &str, Act)] = &[
     (0, "root", Act::Open("helpdesk", "usual")),
     (0, "root", Act::Open("buying", "")),
     (10, "dora", Act::File("helpdesk", "Toner is empty", "dora")),
-    (20, "ann", Act::File("helpdesk", "toner of Mrs Groß", "dora")),
-    (30, "bob", Act::File("helpdesk", "Printer 100% full_of paper", "bob")),
+    (
+        20,
+        "ann",
+        Act::File("helpdesk", "toner of Mrs Groß", "dora"),
+    ),
+    (
+        30,
+        "bob",
+        Act::File("helpdesk", "Printer 100% full_of paper", "bob"),
+    ),
     (40, "root", Act::File("buying", "Toner, 20 boxes", "root")),
     (50, "ann", Act::File("helpdesk", "Screen flickers", "ann")),
     (60, "ann", Act::Take(2)),

@@ -9,10 +9,7 @@ use lifecycle_core::Class;
 use text_core::{Text, Texts};
 
 /// Tells how many there are, and each row of the page; or why it was refused.
-pub(crate) fn tell(
-    rt: &HostRuntime,
-    found: Result<Findings, Refusal>,
-) -> Result<()> {
+pub(crate) fn tell(rt: &HostRuntime, found: Result<Findings, Refusal>) -> Result<()> {
     match found {
         Ok(findings) => tell_findings(rt, &findings),
         Err(refusal) => {
@@ -47,7 +44,11 @@ fn tell_row(rt: &HostRuntime, row: &Found) -> Result<()> {
     let subject = row.subject.as_str();
     print!(rt; " \"{subject}\"")?;
     tell_persons(rt, &row.requestors)?;
-    println!(rt; " {} to {}", minutes_after(row.filed), minutes_after(row.last))?;
+    println!(rt;
+        " {} to {}",
+        minutes_after(row.filed),
+        minutes_after(row.last)
+    )?;
     Ok(())
 }
 

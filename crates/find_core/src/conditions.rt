@@ -49,7 +49,11 @@ fn is_left(
     ensures { QueuesRise queues.now → result ≡ judged.is_left settings.now at person.now search.now own.now
         theirs.now queues.now dated.now }
 {
-    let class = class_of(settings, queue_named(queues, &dated.0.queue), &dated.0.status);
+    let class = class_of(
+        settings,
+        queue_named(queues, &dated.0.queue),
+        &dated.0.status,
+    );
     let requested = is_requested(&search.requestor, theirs, dated.0.id);
     meets(at, search, class, requested, dated) && may_show(settings, person, &dated.0, own)
 }

@@ -13,9 +13,7 @@ use text_core::Text;
 pub(crate) fn has_words(words: &[Text], subject: &Text, entries: &[Entry]) -> bool
     ensures { result ≡ matching.has_words words.now (subject.now ∷ replies_of entries.now) }
 {
-    words
-        .iter()
-        .all(|word| stands_in(word, subject) || is_replied(word, entries))
+    words.iter().all(|word| stands_in(word, subject) || is_replied(word, entries))
 }
 
 /// Whether the word stands in the text of a reply or a comment.
@@ -29,9 +27,7 @@ fn is_in_one(word: &Text, entries: &[Entry]) -> bool
     ensures { result
         ≡ list_any (λ e. find.is_written e.kind && matching.stands_in word.now e.body) entries.now }
 {
-    entries
-        .iter()
-        .any(|entry| is_written(entry.kind) && stands_in(word, &entry.body))
+    entries.iter().any(|entry| is_written(entry.kind) && stands_in(word, &entry.body))
 }
 
 /// Whether an entry has a text that somebody wrote.
