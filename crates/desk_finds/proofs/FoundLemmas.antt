@@ -29,7 +29,8 @@ use Rattle.desk_model.specs.declared.rows.Watcher.{Watcher}
 use Rattle.desk_model.specs.declared.rows.WatchRole.TheVariants.{Requestor}
 use Rattle.desk_core.proofs.EachRequest.{found_each}
 use Rattle.desk_core.proofs.InView.{filter_within}
-use Rattle.find_core.specs.Conditions.{has_requestor, is_asked, is_in, meets, texts_sought}
+use Rattle.find_core.specs.Conditions.{has_owner, has_requestor, has_status, is_asked, is_due}
+use Rattle.find_core.specs.Conditions.{is_filed, is_in, meets, texts_sought}
 use Rattle.find_core.specs.Find.{Sight, class_in, findings, found_among, last_of, replies_of}
 use Rattle.find_core.specs.Find.{sight_in, sight_on}
 use Rattle.find_core.specs.Find.{sights}
@@ -89,10 +90,16 @@ module _ (s : Settings) (at : ℕ) (caller : List ℕ) (search : Search) (desk :
   left_in : (asked : Option (List ℕ)) → search.queue ≡ asked → (row : RequestRow)
       → left (dated_by due row) ≡ true → is_in asked row.queue ≡ true
   left_in asked same row e =
-      let whole = and_parts (row_meets at search (class_in s (find (λ q. bytes_eq q.name row.queue)
-      desk.queues) row.status) (is_requested search.requestor theirs row.id) (dated_by due row))
+      let class = class_in s (find (λ q. bytes_eq q.name row.queue) desk.queues) row.status in
+      let requested = is_requested search.requestor theirs row.id in
+      let rest = has_status search.status class row.status
+      && (has_owner search.owner row.owner
+      && (requested && (is_due at search.late (due row)
+      && is_filed search.filed_from search.filed_to row.created))) in
+      let whole = and_parts (row_meets at search class requested (dated_by due row))
       (may_show_by s caller row own) e in
-      ap (λ a. is_in a row.queue) (sym same) ∙ (and_parts (is_in search.queue row.queue) _ whole.0).0
+      ap (λ a. is_in a row.queue) (sym same)
+      ∙ (and_parts (is_in search.queue row.queue) rest whole.0).0
 
   part_left : (asked : Option (List ℕ)) → search.queue ≡ asked → (rows : List Dated)
       → ArePart asked due desk rows → filter left rows ≡ filter left (dated_rows due desk)
