@@ -1,7 +1,9 @@
 //! The rows that a search goes over, and what is told of one request.
 ghost use Rattle.std.specs.Prelude.{◌≡◌, IfErr};
 ghost use Rattle.desk_model.specs.Facts.{facts_on_request};
+ghost use Rattle.find_core.specs.Rows.{shows_comments, told_with};
 ghost use Rattle.store_tables.specs.Calls.{Spares, Tells};
+ghost use Rattle.store_tables.specs.Contents.{history_at};
 ghost use Rattle.store_core.specs.Due.{TellsDue};
 ghost use Rattle.store_core.specs.Rows.{TellsDated};
 ghost use Rattle.store_core.specs.Seen.{state_of};
@@ -105,9 +107,49 @@ pub(crate) fn history<S: Backend>(
     ensures kept { Spares (state_of S.Store store.old) (state_of S.Store store.new) }
     ensures fault { IfErr result (λ refusal. refusal ≡ Refusal.Unavailable) }
 {
+    let facts = facts_at(alloc, store, id)?;
+    match told_of(alloc, store, settings, caller, id, &facts) {
+        Ok(told) => Ok((facts, told)),
+        Err(refusal) => {
+            drop(facts);
+            Err(refusal)
+        }
+    }
+}
+
+/// The facts of a request.
+fn facts_at<S: Backend>(
+    alloc: Global,
+    store: &mut Store<S>,
+    id: u32,
+) -> Result<Facts, Refusal>
+    ensures told { Tells (λ desk facts. facts ≡ facts_on_request desk id)
+        (state_of S.Store store.old) (state_of S.Store store.new) result }
+    ensures kept { Spares (state_of S.Store store.old) (state_of S.Store store.new) }
+    ensures fault { IfErr result (λ refusal. refusal ≡ Refusal.Unavailable) }
+{
     let show = Command::Show { id };
-    let facts = or_unavailable(store.facts_for(alloc, &show))?;
+    let read = store.facts_for(alloc, &show);
+    drop(show);
+    let facts = or_unavailable(read)?;
+    Ok(facts)
+}
+
+/// The entries that the caller is told of a request of these facts.
+fn told_of<S: Backend>(
+    alloc: Global,
+    store: &mut Store<S>,
+    settings: &Settings,
+    caller: &str,
+    id: u32,
+    facts: &Facts,
+) -> Result<Vec<Entry>, Refusal>
+    ensures told { Tells (λ desk told. told.items ≡ told_with
+        (shows_comments settings.now caller.now facts.now.request) (history_at desk id))
+        (state_of S.Store store.old) (state_of S.Store store.new) result }
+    ensures kept { Spares (state_of S.Store store.old) (state_of S.Store store.new) }
+    ensures fault { IfErr result (λ refusal. refusal ≡ Refusal.Unavailable) }
+{
     let entries = or_unavailable(store.entries_of(alloc, id))?;
-    let told = told(settings, caller, &facts.request, entries);
-    Ok((facts, told))
+    Ok(told(settings, caller, &facts.request, entries))
 }

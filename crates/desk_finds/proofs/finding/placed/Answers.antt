@@ -15,7 +15,7 @@ pub loop-dated-preserved : goal.loop-dated-preserved
 loop-dated-preserved g c =
     let rows = c.args.rows.now in
     let i = c.loop-dated.dated-index in
-    let row = c.loop-dated-item.result in
+    let row = c.dated-item.result in
     let low : i < length rows = search rules in
     let so_far = c.loop-dated.invariant in
     record {
@@ -27,7 +27,7 @@ loop-dated-preserved g c =
           c.in_ok-put.ensures
           ∙ ap₂ (λ (xs : List Placed) (o : Option Place).
           xs ++ cons_option (option_map (λ p. (p, row.1)) o) []) before here
-          ∙ ap (λ d. filter_map f _ ++ cons_option (f d) []) c.loop-dated-item.is
+          ∙ ap (λ d. filter_map f _ ++ cons_option (f d) []) c.dated-item.is
           ∙ sym (filter_map_more f rows i row low);
       kept = joined so_far.kept c.place_of.ensures.kept;
     }
