@@ -1,10 +1,11 @@
-use Rattle.std.proofs.Common.{◌≡◌, ◌∙◌, ◌<◌, ◌++◌, [], List, None, Option, ap, ap₂, get_or, length}
+use Rattle.std.proofs.Common.{◌≡◌, ◌∙◌, ◌<◌, ◌++◌, [], List, None, Option, ap, ap₂, length, take}
 use Rattle.std.proofs.Common.{rules, sym}
 use Rattle.std.specs.Prelude.{filter_map}
 use Rattle.std.specs.List.{cons_option}
 use Rattle.std.specs.Option.{option_map}
 use Rattle.std.proofs.lemmas.List.{take_all}
 use Rattle.find_core.specs.Ordered.{Placed}
+use Rattle.find_core.specs.Rows.{Dated}
 use Rattle.find_core.specs.declared.search.Place.{Place}
 use Rattle.store_tables.proofs.Spared.{joined, stands_for}
 use Rattle.desk_finds.specs.Found.{placed_by}
@@ -27,7 +28,7 @@ loop-dated-preserved g c =
           c.in_ok-put.ensures
           ∙ ap₂ (λ (xs : List Placed) (o : Option Place).
           xs ++ cons_option (option_map (λ p. (p, row.1)) o) []) before here
-          ∙ ap (λ d. filter_map f _ ++ cons_option (f d) []) c.dated-item.is
+          ∙ ap (λ (d : Dated). filter_map f (take i rows) ++ cons_option (f d) []) c.dated-item.is
           ∙ sym (filter_map_more f rows i row low);
       kept = joined so_far.kept c.place_of.ensures.kept;
     }
