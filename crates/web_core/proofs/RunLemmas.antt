@@ -18,16 +18,16 @@ IsRun {D} settings_in tables_in answers old new =
     × WasClean (tables_in old) (tables_in new)
 
 runs_both : {D : Type 0} (settings_in : D → Settings) (tables_in : D → State)
-    (Told : D → List ℕ → D → Type 0) (answers : List Answered) (old new : D)
+    (answers : List Answered) (old new : D)
     → Runs (λ a at message reply b. StepsAt (settings_in a) (tables_in a) at message reply (tables_in b)
-    × (settings_in b ≡ settings_in a) × Told a reply b) answers old new
+    × (settings_in b ≡ settings_in a)) answers old new
     → IsRun settings_in tables_in answers old new
-runs_both {D} settings_in tables_in Told [] old new same =
+runs_both {D} settings_in tables_in [] old new same =
     let stays : IsRun settings_in tables_in [] old old =
     ((λ desk is stands clean. (desk, refl, stands)), λ clean. clean) in
     subst (λ (d : D). IsRun settings_in tables_in [] old d) (sym same) stays
-runs_both {D} settings_in tables_in Told (a ∷ rest) old new (mid, (step, same, told), runs) =
-    let others = runs_both settings_in tables_in Told rest mid new runs in
+runs_both {D} settings_in tables_in (a ∷ rest) old new (mid, (step, same), runs) =
+    let others = runs_both settings_in tables_in rest mid new runs in
     let run =
     subst (λ (s : Settings). RunsAnswersOn s rest (tables_in mid) (tables_in new)) same
     others.0 in (
@@ -42,19 +42,19 @@ runs_both {D} settings_in tables_in Told (a ∷ rest) old new (mid, (step, same,
 
 -- what a server has done is a run of messages
 pub served_messages : {D : Type 0} (settings_in : D → Settings) (tables_in : D → State)
-    (Told : D → List ℕ → D → Type 0) (stated : List ℕ → ℕ) (shuts : D → Bool) (Failed : Type 0)
+    (stated : List ℕ → ℕ) (shuts : D → Bool) (Failed : Type 0)
     → ((acts : List Act) (olds news : List Conn) (desk next : D)
     → Serves stated (λ a at message reply b. StepsAt (settings_in a) (tables_in a) at message reply (tables_in b)
-    × (settings_in b ≡ settings_in a) × Told a reply b) shuts acts olds desk news next
+    × (settings_in b ≡ settings_in a)) shuts acts olds desk news next
     → Runs (λ a at message reply b. StepsAt (settings_in a) (tables_in a) at message reply (tables_in b)
-    × (settings_in b ≡ settings_in a) × Told a reply b) (answers acts) desk next)
+    × (settings_in b ≡ settings_in a)) (answers acts) desk next)
     → (places most : ℕ) (old new : D) (r : Result Ending AllocError)
     → IfOk r (λ ending. IsServed stated (λ a at message reply b. StepsAt (settings_in a) (tables_in a) at message reply (tables_in b)
-    × (settings_in b ≡ settings_in a) × Told a reply b) shuts Failed places most old ending new)
+    × (settings_in b ≡ settings_in a)) shuts Failed places most old ending new)
     → IfOk r (λ ending. RunsSome (settings_in old) (tables_in old) (tables_in new))
-served_messages settings_in tables_in Told stated shuts Failed law places most old new (Err e) served = tt
-served_messages settings_in tables_in Told stated shuts Failed law places most old new (Ok ending)
+served_messages settings_in tables_in stated shuts Failed law places most old new (Err e) served = tt
+served_messages settings_in tables_in stated shuts Failed law places most old new (Ok ending)
     (news, count, (acts, serves, told), ends) =
     let run =
-    runs_both settings_in tables_in Told (answers acts) old new (law acts _ news old new serves) in
+    runs_both settings_in tables_in (answers acts) old new (law acts _ news old new serves) in
     (answers acts, run.0, run.1)

@@ -1,4 +1,3 @@
 pub mod Framing
 pub mod Messages
-pub mod Refusals
 pub mod Web

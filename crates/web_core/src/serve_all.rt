@@ -5,6 +5,7 @@ ghost use Rattle.server_core.specs.Served.{IsServed};
 ghost use Rattle.web_core.specs.Framing as form;
 ghost use Rattle.web_core.specs.Messages.{RunsSome};
 ghost use Rattle.web_core.specs.Web as web;
+ghost use Rattle.web_core.specs.Web.{IsShut};
 
 use crate::web::WebDesk;
 use server_core::laws::run_law;
@@ -17,9 +18,8 @@ use store_core::Backend;
 /// abstract desk's step gives: a page's, or the interface's.
 ///
 /// It ends by `Counted` where it has answered as many as it was to, by `Network` only where an
-/// accept or a wait has failed, and by `Shut` only where the last eight messages in a row were
-/// answered by the code 503. `AllocError` where there is no memory for the places: then
-/// nothing is done.
+/// accept or a wait has failed, and by `Shut` only where the store is shut. `AllocError` where there
+/// is no memory for the places: then nothing is done.
 pub fn serve_web<H: Host, S: Backend>(
     alloc: Global,
     host: &mut H,
@@ -31,6 +31,8 @@ pub fn serve_web<H: Host, S: Backend>(
         (tables_of S.Store desk.old.desk) (tables_of S.Store desk.new.desk)) }
     ensures served { IfOk result (λ ending. IsServed form.stated (web.Steps S.Store)
         (web.shuts S.Store) (H.has_failed host.new ≡ true) places most desk.old ending desk.new) }
+    ensures shut { IfOk result (λ ending. ending ≡ Ending.Shut
+        → IsShut (tables_of S.Store desk.new.desk)) }
     ensures err { OnErr result (desk.new ≡ desk.old) }
 {
     run_law::<WebDesk<S>>();

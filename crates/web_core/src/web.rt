@@ -1,11 +1,12 @@
 //! A desk that answers messages over HTTP.
-ghost use Rattle.std.specs.Prelude.{◌≡◌};
+ghost use Rattle.std.specs.Prelude.{◌≡◌, false, true};
 ghost use Rattle.connection_core.specs.Reply.{bytes_of};
 ghost use Rattle.service_core.specs.Seen.{settings_of, tables_of};
 ghost use Rattle.web_core.specs.Messages.{StepsAt};
+ghost use Rattle.web_core.specs.Web.{IsShut};
 
 use crate::framing::stated;
-use crate::refusals::refused_after;
+use crate::shut::is_shut_after;
 use connection_core::{Framing, Reply};
 use message_core::unavailable_reply;
 use page_wire::answer_bytes;
@@ -15,29 +16,27 @@ use std::alloc::Global;
 use store_core::Backend;
 use wire_core::Routes;
 
-/// After how many messages in a row that were answered by the code 503 a desk counts as shut.
-const SHUT_AFTER: u32 = 8;
-
-/// A desk over tables, and how many of the last messages in a row it has answered by the code 503: a
-/// fault of the disk shuts its store for good, and then it has no other answer to a command.
+/// A desk over tables, and whether it was seen that its store is shut: a fault of the disk shuts that
+/// for good, and then no command is done any more.
 #[derive(Drop)]
 pub struct WebDesk<S: Backend> {
     pub(crate) desk: Desk<S>,
     pub(crate) routes: Option<Routes>,
-    pub(crate) refused: u32,
+    pub(crate) is_shut: bool,
+    ghost seen: { is_shut ≡ true → IsShut (tables_of S.Store desk) },
 }
 
 impl<S: Backend> WebDesk<S> {
-    /// The desk, which has refused nothing yet, and the router of its paths. Where there is no
-    /// memory for that one the paths are gone over without it.
+    /// The desk, whose store counts as open, and the router of its paths. Where there is no memory
+    /// for that one the paths are gone over without it.
     pub fn new(alloc: Global, desk: Desk<S>) -> WebDesk<S>
         ensures desk { result.desk ≡ desk }
-        ensures refused { result.refused ≡ 0 }
+        ensures open { result.is_shut ≡ false }
     {
         WebDesk {
             desk,
             routes: Routes::new(alloc).ok(),
-            refused: 0,
+            is_shut: false,
         }
     }
 
@@ -88,11 +87,11 @@ impl<S: Backend> server_core::Desk for WebDesk<S> {
 
     fn step(&mut self, alloc: Global, minute: u32, message: &[u8]) -> Reply {
         let reply = answer_to(alloc, self.routes.as_ref(), minute, message, &mut self.desk);
-        self.refused = refused_after(self.refused, reply.bytes());
+        self.is_shut = is_shut_after(&reply, &mut self.desk);
         reply
     }
 
     fn is_shut(&self) -> bool {
-        SHUT_AFTER <= self.refused
+        self.is_shut
     }
 }

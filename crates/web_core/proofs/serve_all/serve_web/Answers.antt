@@ -1,13 +1,12 @@
 -- what it has done is a run of messages
 use Rattle.std.proofs.Common.{◌≡◌, true}
 use Rattle.service_core.specs.Seen.{settings_of, tables_of}
-use Rattle.web_core.specs.Refusals.{refused_after}
 use Rattle.web_core.proofs.RunLemmas.{served_messages}
 use Rattle.web_core.proofs.serve_all.serve_web.Goals as goal
 
 pub returns-clause-ran : goal.returns-clause-ran
 returns-clause-ran g c =
     served_messages (λ d. settings_of g.S.Store d.desk) (λ d. tables_of g.S.Store d.desk)
-    (λ a reply b. b.refused ≡ refused_after a.refused reply) _ _
+    _ _
     (g.H.Host.has_failed c.serve.new.host ≡ true) c.run_law.ensures c.args.places c.args.most
     c.args.desk.now c.serve.new.desk c.serve.result c.serve.ensures.ok
