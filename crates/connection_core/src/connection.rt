@@ -92,7 +92,14 @@ impl Connection {
         &self.reply.bytes()[self.sent..]
     }
 
-    /// The peer has sent these.
+    /// Room for so many more bytes of its message. `AllocError` where memory is refused.
+    pub fn reserve(&mut self, count: usize) -> Result<(), AllocError>
+        ensures { seen self.new ≡ seen self.old }
+    {
+        self.came.reserve(count)
+    }
+
+    /// The peer has sent these. `AllocError` where there is no room for them and memory is refused.
     pub fn take<F: Framing>(&mut self, bytes: &[u8]) -> Result<(), AllocError>
         ensures ok { OnOk result (seen self.new ≡ machine.takes F.stated (seen self.old) bytes.now) }
         ensures err { OnErr result (seen self.new ≡ seen self.old) }

@@ -15,9 +15,28 @@ pub struct Slot<S> {
     pub connection: Connection,
 }
 
-/// One read: what came is taken.
-#[tactic(auto, using(crate::proofs::StreamLemmas::reads_end, crate::proofs::StreamLemmas::reads_came, crate::proofs::StreamLemmas::reads_broke, crate::proofs::StreamLemmas::reads_fault, crate::proofs::StreamLemmas::reads_nothing))]
+/// One read: what came is taken. Where there is no memory for it nothing is read, and it is tried
+/// again at the next turn.
+#[tactic(auto, using(crate::proofs::StreamLemmas::reads_nothing))]
 pub fn read_some<F: Framing, S: Read>(
+    alloc: Global,
+    stream: &mut S,
+    connection: &mut Connection,
+    mark: &mut Mark,
+    buffer: &mut [u8],
+)
+    ensures { Reads F.stated (S.remaining stream.old) (S.remaining stream.new)
+        (seen connection.old) (seen connection.new) }
+{
+    match connection.reserve(buffer.len()) {
+        Ok(()) => read_into::<F, S>(alloc, stream, connection, mark, buffer),
+        Err(_) => {}
+    }
+}
+
+/// One read, for which there is room.
+#[tactic(auto, using(crate::proofs::StreamLemmas::reads_end, crate::proofs::StreamLemmas::reads_came, crate::proofs::StreamLemmas::reads_broke, crate::proofs::StreamLemmas::reads_fault, crate::proofs::StreamLemmas::reads_nothing))]
+fn read_into<F: Framing, S: Read>(
     alloc: Global,
     stream: &mut S,
     connection: &mut Connection,

@@ -1,7 +1,7 @@
 -- what was read has come, and where there is no memory for it the connection is dropped
 use Rattle.connection_core.specs.Seen.{seen}
 use Rattle.server_core.proofs.StreamLemmas.{reads_broke, reads_came}
-use Rattle.server_core.proofs.slot.read_some.Goals as goal
+use Rattle.server_core.proofs.slot.read_into.Goals as goal
 
 pub returns-in-Ok-take : goal.returns-in-Ok-take
 returns-in-Ok-take g c =
