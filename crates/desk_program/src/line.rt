@@ -6,6 +6,7 @@
 ghost use Rattle.std.specs.Prelude.{◌≡◌, ◌≤◌, ◌+◌, [], map, true, false, is_ok, IfOk};
 ghost use Rattle.std.specs.Prelude.{IfErr, OnErr, string_bytes};
 ghost use Rattle.std.specs.Vec.{vec_capacity, vec_len};
+ghost use Rattle.store_tables.specs.Calls.{Lasts, WasClean};
 ghost use Rattle.service_core.specs.Seen.{settings_of, tables_of};
 ghost use Rattle.desk_model.specs.Refusals.{names_its_right};
 ghost use Rattle.desk_texts.specs.Short.{is_short};
@@ -40,6 +41,7 @@ pub enum Line {
 /// comment, `bad words` for one that spells no command, else the text of what came of it. The line
 /// has no line feed. `AllocError` stands for the text `refused 16 Unavailable`, and the desk stays as
 /// it was.
+#[tactic(auto, using(store_tables::proofs::Lasting::same))]
 pub fn answer_line<S: Backend>(
     alloc: Global,
     desk: &mut Desk<S>,
@@ -51,6 +53,8 @@ pub fn answer_line<S: Backend>(
     ensures err { OnErr result (LineLeads (settings_of S.Store desk.old)
         (line_of text.now) unavailable_text
         (tables_of S.Store desk.old) (tables_of S.Store desk.new)) }
+    ensures honest { WasClean (tables_of S.Store desk.old) (tables_of S.Store desk.new) }
+    ensures lasts { Lasts (tables_of S.Store desk.old) (tables_of S.Store desk.new) }
     ensures same { settings_of S.Store desk.new ≡ settings_of S.Store desk.old }
 {
     match line_of(alloc, text) {
@@ -73,6 +77,7 @@ pub fn answer_line<S: Backend>(
 
 /// What a command prints, after it is done. A change of the desk is made only once there is room
 /// for its answer.
+#[tactic(auto, using(store_tables::proofs::Lasting::same))]
 fn answer_command<S: Backend>(
     alloc: Global,
     desk: &mut Desk<S>,
@@ -86,6 +91,8 @@ fn answer_command<S: Backend>(
     ensures err { OnErr result (LineLeads (settings_of S.Store desk.old)
         (Line.Asked at caller.now command.now) unavailable_text
         (tables_of S.Store desk.old) (tables_of S.Store desk.new)) }
+    ensures honest { WasClean (tables_of S.Store desk.old) (tables_of S.Store desk.new) }
+    ensures lasts { Lasts (tables_of S.Store desk.old) (tables_of S.Store desk.new) }
     ensures same { settings_of S.Store desk.new ≡ settings_of S.Store desk.old }
 {
     match Vec::with_capacity(alloc, SHORT_TEXT) {
