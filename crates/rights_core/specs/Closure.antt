@@ -1,12 +1,11 @@
--- Which groups list a name, and which are reached from there by way of others.
-use Rattle.std.specs.Prelude.{◌≡◌, ℕ, ◌+◌, ◌<◌, Bool, false, not, ◌||◌, List, [], ◌++◌}
+-- Which groups list a name, and what marking them finds.
+use Rattle.std.specs.Prelude.{◌≡◌, ℕ, ◌+◌, ◌<◌, Bool, false, not, List, [], ◌++◌}
 use Rattle.std.specs.Prelude.{count_by, length, nat_eq, String, Vec, IsTrue}
 use Rattle.std.specs.HashMap.{HashMap, get_by_text}
 use Rattle.std.specs.List.{list_any, slice_index_or}
 use Rattle.std.specs.Option.{option_map_or}
-use Rattle.std.specs.Str.{bytes_eq}
 use Rattle.rights_core.specs.declared.parts.Group.{Group}
-use Rattle.rights_core.specs.People.{is_among, leads}
+use Rattle.rights_core.specs.People.{is_among}
 
 abbrev pub no_group : Group
 no_group = record { name = []; members = [] }
@@ -32,18 +31,6 @@ abbrev pub IsListers : {Y Z S : Type 0} → List Group → HashMap (String Y) (V
 IsListers groups kept =
     (name : List ℕ) (place : ℕ)
     → has_place (places_under kept name) place ≡ lists_at groups place name
-
--- a chain of groups leads from the group to the name, or it is that group's own
-abbrev pub reaches : List Group → List ℕ → List ℕ → Bool
-reaches groups name group = bytes_eq name group || leads groups name group
-
--- at each group's place there are its name and those of the groups around it
-abbrev pub AreOuter : List Group → List (List (List ℕ)) → Type 0
-AreOuter groups outer =
-    (place : ℕ)
-    → place < length groups
-    → (group : List ℕ)
-    → is_among (slice_index_or outer place []) group ≡ reaches groups (name_at groups place) group
 
 -- the place is there, and marked
 abbrev pub is_marked : List Bool → ℕ → Bool

@@ -1,6 +1,7 @@
-//! The groups around a group: those that list it, those that list these, and so on.
+//! The groups around a person: those that list it, those that list these, and so on.
 ghost use Rattle.std.specs.Prelude.{◌≡◌, ℕ, List, length, IfOk, OnOk};
 ghost use Rattle.rights_core.specs.Closure as words;
+ghost use Rattle.rights_core.specs.People.{leads};
 ghost use Rattle.text_core.specs.Texts as texts;
 
 use crate::listers::{Listers, listed};
@@ -8,37 +9,21 @@ use crate::parts::Group;
 use std::alloc::{AllocError, Global};
 use text_core::{Text, Texts};
 
-/// For each group its name and those of the groups around it.
-pub(crate) fn outer_of_groups(
+/// The names of the groups from which a chain leads to the person. Each group is looked at once.
+pub(crate) fn outer_of(
     alloc: Global,
     groups: &[Group],
     listers: &Listers,
-) -> Result<Vec<Texts>, AllocError>
-    requires { words.IsListers groups.now listers.now }
-    ensures { IfOk result (λ o. words.AreOuter groups.now o.items) }
-{
-    let mut outer = Vec::with_capacity(alloc, groups.len())?;
-    for group in groups {
-        outer.push(outer_of(alloc, groups, listers, group.name.as_str())?)?;
-    }
-    Ok(outer)
-}
-
-/// The name, and those of the groups from which a chain leads to it. One may stand there twice.
-fn outer_of(
-    alloc: Global,
-    groups: &[Group],
-    listers: &Listers,
-    name: &str,
+    person: &str,
 ) -> Result<Texts, AllocError>
     requires { words.IsListers groups.now listers.now }
     ensures { IfOk result (λ found. (group : List ℕ) →
-        texts.is_among found group ≡ words.reaches groups.now name.now group) }
+        texts.is_among found group ≡ leads groups.now person.now group) }
 {
     let mut marks = vec![in alloc; false; groups.len()]?;
     let marks = marks.as_mut_slice();
     let mut found = Vec::new(alloc);
-    found.push(Text::new(alloc, name)?)?;
+    mark(groups, listed(listers, person), &mut found, marks)?;
     let mut next = 0;
     while next < found.len() {
         let places = listed(listers, found[next].as_str());

@@ -4,8 +4,6 @@ use Rattle.std.specs.Map.{update}
 use Rattle.std.specs.Str.{bytes_eq}
 use Rattle.std.proofs.lemmas.List.{get_or_default}
 use Rattle.std.proofs.lemmas.Map.Text.{btree_map_updates_text}
-use Rattle.rights_core.specs.Closure.{has_place}
-use Rattle.rights_core.proofs.Around.{around_lists}
 use Rattle.rights_core.proofs.Kept.{one_more_person}
 use Rattle.rights_core.proofs.memberships.memberships.Goals as goal
 
@@ -25,18 +23,7 @@ loop-person-preserved c =
     (c.as_str-person.ensures
     ∙ c.person-item.is
     ∙ get_or_default c.args.persons.now c.loop-person.person-index _ [] c.loop-person-test.true)
-    (λ group.
-    c.in_ok-names.ensures group
-    ∙ around_lists
-    c.args.groups.now
-    c.as_slice.result.now
-    c.as_str-person.result.now
-    c.listed.result.now
-    (rw c.as_slice.ensures.value c.in_ok-outer.ensures)
-    (λ place.
-    ap (λ places. has_place places place) c.listed.ensures
-    ∙ c.in_ok-listers.ensures c.as_str-person.result.now place)
-    group)
+    c.in_ok-names.ensures
     (λ q.
     btree_map_updates_text
     (string_bytes c.in_ok-from_str.field-0)
