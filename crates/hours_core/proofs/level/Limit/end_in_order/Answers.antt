@@ -1,4 +1,4 @@
-use Rattle.std.proofs.Common.{◌≡◌, ◌+◌, ◌-◌, ◌<◌, ◌≤◌, List, Some, true, false, inl, inr, take}
+use Rattle.std.proofs.Common.{◌≡◌, ◌+◌, ◌-◌, List, Some, true, false, inl, inr, take}
 use Rattle.std.proofs.Common.{refl, sym, subst, ◌∙◌, arith}
 use Rattle.std.proofs.lemmas.Grind.{common_steps}
 use Rattle.text_core.specs.Texts.{is_among}
