@@ -1,6 +1,6 @@
 -- Which groups list a name, and what marking them finds.
 use Rattle.std.specs.Prelude.{◌≡◌, ℕ, ◌+◌, ◌<◌, Bool, false, not, List, [], ◌++◌}
-use Rattle.std.specs.Prelude.{count_by, length, nat_eq, String, Vec, IsTrue}
+use Rattle.std.specs.Prelude.{count_by, length, map, nat_eq, String, Vec, IsTrue}
 use Rattle.std.specs.HashMap.{HashMap, get_by_text}
 use Rattle.std.specs.List.{list_any, slice_index_or}
 use Rattle.std.specs.Option.{option_map_or}
@@ -31,6 +31,14 @@ abbrev pub IsListers : {Y Z S : Type 0} → List Group → HashMap (String Y) (V
 IsListers groups kept =
     (name : List ℕ) (place : ℕ)
     → has_place (places_under kept name) place ≡ lists_at groups place name
+
+-- which of the marks are of this turn
+abbrev pub marked_in : ℕ → List ℕ → List Bool
+marked_in turn marks = map (nat_eq turn) marks
+
+-- all marks are of earlier turns
+abbrev pub AreBefore : ℕ → List ℕ → Type 0
+AreBefore turn marks = (place : ℕ) → slice_index_or marks place 0 < turn
 
 -- the place is there, and marked
 abbrev pub is_marked : List Bool → ℕ → Bool

@@ -22,10 +22,12 @@ pub(crate) fn memberships(
     ensures { IfOk result (λ m. IsMemberships persons.now groups.now m) }
 {
     let listers = listers_of(alloc, groups)?;
+    let mut marks = vec![in alloc; 0usize; groups.len()]?;
+    let marks = marks.as_mut_slice();
     let mut kept: Memberships = BTreeMap::new(alloc);
-    for person in persons {
+    for (earlier, person) in persons.iter().enumerate() {
         let person = person.as_str();
-        let names = outer_of(alloc, groups, &listers, person)?;
+        let names = outer_of(alloc, groups, &listers, marks, earlier + 1, person)?;
         kept.insert(String::from_str(alloc, person)?, names)?;
     }
     Ok(kept)
