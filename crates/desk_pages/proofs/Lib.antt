@@ -15,3 +15,4 @@ pub mod Refusals
 pub mod Requests
 pub mod SignIns
 pub mod Tables
+pub mod Writes

@@ -1,7 +1,7 @@
 //! What holds of every page of the desk: each text stands in text or in a value. So whatever people
 //! write, the markup that is read in a page is that of the page with every text empty, and it tells
 //! no more than what is named here.
-ghost use Rattle.std.specs.Prelude.{ℕ, Bool, List, []};
+ghost use Rattle.std.specs.Prelude.{ℕ, Bool, List, Option, [], true};
 ghost use Rattle.lifecycle_core.specs.declared.parts.Parts.{Parts};
 ghost use Rattle.settings_core.specs.declared.settings.Settings.{Settings};
 ghost use Rattle.desk_model.specs.declared.answer.Dossier.{Dossier};
@@ -20,8 +20,12 @@ ghost use Rattle.desk_pages.specs.RefusalPage.{
   ask_refusal_markup,
   ask_refusal_page,
   comment_refusal_page,
+  filed_markup,
+  filed_page,
   refusal_markup,
   refusal_page,
+  replied_markup,
+  replied_page,
   reply_refusal_page,
   request_refusal_markup,
   request_refusal_page,
@@ -82,29 +86,36 @@ pub fn new_page_law()
 {}
 
 /// The page of a refusal tells by its markup whether a right is lacking, and whether what was asked
-/// for is there; and no more of what was typed than the form that it was typed into.
+/// for is there; and no more of what was typed than the form that it was typed into, and whether a
+/// status was chosen with a reply. So do the pages that say that of two commands one was done.
 pub fn refusal_page_law()
     ensures plain { (why : Refusal) (caller : List ℕ) (moment : ℕ)
         → HasMarkup (refusal_page why caller moment) (refusal_markup why) }
     ensures request { (why : Refusal) (caller : List ℕ) (moment id : ℕ)
         → HasMarkup (request_refusal_page why caller moment id) (request_refusal_markup why) }
     ensures reply { (why : Refusal) (caller : List ℕ) (moment id : ℕ) (text : List ℕ)
-        → HasMarkup (reply_refusal_page why caller moment id text)
-        (typed_markup why (markup_of (form.reply [] []))) }
+        (status : Option (List ℕ))
+        → HasMarkup (reply_refusal_page why caller moment id text status)
+        (typed_markup why (form.reply_markup status true)) }
     ensures comment { (why : Refusal) (caller : List ℕ) (moment id : ℕ) (text : List ℕ)
         → HasMarkup (comment_refusal_page why caller moment id text)
         (typed_markup why (markup_of (form.comment [] []))) }
     ensures ask { (why : Refusal) (caller : List ℕ) (moment : ℕ)
-        (queue subject requestors usual : List ℕ) (statuses : List (List ℕ))
-        → HasMarkup (ask_refusal_page why caller moment queue subject requestors usual statuses)
-        (ask_refusal_markup why usual statuses) }
+        (queue subject text requestors usual : List ℕ) (statuses : List (List ℕ))
+        → HasMarkup (ask_refusal_page why caller moment queue subject text requestors usual
+        statuses) (ask_refusal_markup why usual statuses) }
+    ensures filed { (why : Refusal) (caller : List ℕ) (moment id : ℕ) (text : List ℕ)
+        → HasMarkup (filed_page why caller moment id text) (filed_markup why) }
+    ensures replied { (why : Refusal) (caller : List ℕ) (moment id : ℕ)
+        → HasMarkup (replied_page why caller moment id) (replied_markup why) }
 {}
 
 /// The page of a request tells by its markup whether the request is due, whether it is late, whether
 /// local time stands beside its moments, whether the caller is a requestor of it, how many persons
 /// and other requests each of its lists has, and the kinds of its entries in their order. Of what may
 /// change it the markup tells which moves there are and how many levels and suggested names, and
-/// which level is the present one, but not who owns the request.
+/// which level is the present one, but not who owns the request; and whether it can be closed with a
+/// reply.
 pub fn request_page_law()
     ensures { (caller : List ℕ) (moment : ℕ) (settings : Settings) (dossier : Dossier)
         → HasMarkup (request_page caller moment settings dossier)

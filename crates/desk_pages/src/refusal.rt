@@ -2,7 +2,9 @@
 ghost use Rattle.std.specs.Prelude.{◌≡◌, ◌++◌, IfOk, OnOk};
 ghost use Rattle.page_core.specs.Page.{page_bytes};
 ghost use Rattle.desk_pages.specs.RefusalPage as form;
-ghost use Rattle.desk_pages.specs.Refused.{notice_of, to_queues, write_close, write_open};
+ghost use Rattle.desk_pages.specs.Refused.{notice_of, request_crumb, to_queues, to_request};
+ghost use Rattle.desk_pages.specs.Refused.{write_close, write_open};
+ghost use Rattle.std.specs.Option.{option_map};
 ghost use Rattle.desk_pages.specs.Write.{comment, reply};
 ghost use Rattle.std.specs.Prelude.{decimal};
 ghost use Rattle.desk_pages.specs.Ask.{ask};
@@ -17,6 +19,7 @@ use crate::write::{put_comment, put_reply};
 use desk_model::Refusal;
 use hours_core::Minute;
 use itoa::Buffer;
+use page_core::{Part, put_parts};
 use std::alloc::{AllocError, Global};
 use text_core::Text;
 
@@ -74,7 +77,8 @@ fn put_on_request(out: &mut Vec<u8>, refusal: &Refusal, id: u32) -> Result<(), A
     put_way_to_request(out, is_found(refusal), id)
 }
 
-/// The page of a reply that was refused, for a caller at a moment, with the text that was typed.
+/// The page of a reply that was refused, for a caller at a moment, with the text that was typed and
+/// the status that was chosen.
 pub fn reply_refusal_page(
     alloc: Global,
     refusal: &Refusal,
@@ -82,14 +86,16 @@ pub fn reply_refusal_page(
     moment: Minute,
     id: u32,
     text: &str,
+    status: Option<&str>,
 ) -> Result<Vec<u8>, AllocError>
-    ensures { IfOk result (λ page. page.items
-        ≡ page_bytes (form.reply_refusal_page refusal.now caller.now moment id text.now)) }
+    ensures { IfOk result (λ page. page.items ≡ page_bytes
+        (form.reply_refusal_page refusal.now caller.now moment id text.now
+        (option_map (λ s. s.now) status.entry))) }
 {
     let mut out = Vec::new(alloc);
     put_top(&mut out, heading_of(refusal), Place::Elsewhere, caller)?;
     put_why(&mut out, refusal, id)?;
-    put_reply_form(&mut out, id, text)?;
+    put_reply_form(&mut out, id, text, status, true)?;
     put_way_to_request(&mut out, is_found(refusal), id)?;
     put_bottom(&mut out, moment)?;
     Ok(out)
@@ -124,13 +130,21 @@ fn put_why(out: &mut Vec<u8>, refusal: &Refusal, id: u32) -> Result<(), AllocErr
     put_refusal(out, refusal)
 }
 
-fn put_reply_form(out: &mut Vec<u8>, id: u32, text: &str) -> Result<(), AllocError>
+fn put_reply_form(
+    out: &mut Vec<u8>,
+    id: u32,
+    text: &str,
+    status: Option<&str>,
+    ticked: bool,
+) -> Result<(), AllocError>
     ensures { OnOk result (out.new.items ≡ out.old.items ++ page_bytes
-        (write_open ++ (reply (decimal id) text.now ++ write_close))) }
+        (write_open
+        ++ (reply (decimal id) text.now (option_map (λ s. s.now) status.entry) ticked
+        ++ write_close))) }
 {
     let mut number = Buffer::new();
     put_write_open(out)?;
-    put_reply(out, number.format(id), text)?;
+    put_reply(out, number.format(id), text, status, ticked)?;
     put_write_close(out)
 }
 
@@ -157,7 +171,7 @@ pub fn ask_refusal_page(
 ) -> Result<Vec<u8>, AllocError>
     ensures { IfOk result (λ page. page.items ≡ page_bytes
         (form.ask_refusal_page refusal.now caller.now moment queue.now typed.entry.subject.now
-        typed.entry.requestors.now usual.now statuses.now)) }
+        typed.entry.text.now typed.entry.requestors.now usual.now statuses.now)) }
 {
     let mut out = Vec::new(alloc);
     put_top(&mut out, heading_of(refusal), Place::Elsewhere, caller)?;
@@ -166,6 +180,99 @@ pub fn ask_refusal_page(
     put_way_to_queue(&mut out, is_found(refusal), queue)?;
     put_bottom(&mut out, moment)?;
     Ok(out)
+}
+
+/// The page for a caller at a moment whose new request is filed, with this number, but whose text
+/// was refused: it says so, and the form for a reply has the text.
+pub fn filed_page(
+    alloc: Global,
+    refusal: &Refusal,
+    caller: &str,
+    moment: Minute,
+    id: u32,
+    text: &str,
+) -> Result<Vec<u8>, AllocError>
+    ensures { IfOk result (λ page. page.items
+        ≡ page_bytes (form.filed_page refusal.now caller.now moment id text.now)) }
+{
+    let mut out = Vec::new(alloc);
+    put_top(&mut out, heading_of(refusal), Place::Elsewhere, caller)?;
+    put_why_on(&mut out, refusal, id)?;
+    put_filed_note(&mut out, id)?;
+    put_reply_form(&mut out, id, text, None, false)?;
+    put_back(&mut out, id)?;
+    put_bottom(&mut out, moment)?;
+    Ok(out)
+}
+
+/// The page for a caller at a moment whose reply to the request of this number was sent, but whose
+/// choice of a status was refused: it says so.
+pub fn replied_page(
+    alloc: Global,
+    refusal: &Refusal,
+    caller: &str,
+    moment: Minute,
+    id: u32,
+) -> Result<Vec<u8>, AllocError>
+    ensures { IfOk result (λ page. page.items
+        ≡ page_bytes (form.replied_page refusal.now caller.now moment id)) }
+{
+    let mut out = Vec::new(alloc);
+    put_top(&mut out, heading_of(refusal), Place::Elsewhere, caller)?;
+    put_why_on(&mut out, refusal, id)?;
+    put_replied_note(&mut out)?;
+    put_back(&mut out, id)?;
+    put_bottom(&mut out, moment)?;
+    Ok(out)
+}
+
+/// Puts why something was refused on a request that is there.
+fn put_why_on(out: &mut Vec<u8>, refusal: &Refusal, id: u32) -> Result<(), AllocError>
+    ensures { OnOk result (out.new.items ≡ out.old.items ++ page_bytes
+        (request_crumb (decimal id) ++ notice_of refusal.now)) }
+{
+    let mut number = Buffer::new();
+    put_request_crumb(out, number.format(id))?;
+    put_refusal(out, refusal)
+}
+
+fn put_back(out: &mut Vec<u8>, id: u32) -> Result<(), AllocError>
+    ensures { OnOk result (out.new.items ≡ out.old.items ++ page_bytes (to_request (decimal id))) }
+{
+    let mut number = Buffer::new();
+    put_to_request(out, number.format(id))
+}
+
+fn put_filed_note(out: &mut Vec<u8>, id: u32) -> Result<(), AllocError>
+    ensures { OnOk result (out.new.items
+        ≡ out.old.items ++ page_bytes (form.filed_note (decimal id))) }
+{
+    let mut number = Buffer::new();
+    put_filed(out, number.format(id))
+}
+
+#[tactic(auto, unfolding(crate::specs::RefusalPage::filed_note))]
+fn put_filed(out: &mut Vec<u8>, id: &str) -> Result<(), AllocError>
+    ensures { OnOk result (out.new.items ≡ out.old.items ++ page_bytes (form.filed_note id.now)) }
+{
+    put_parts(
+        out,
+        &[
+            Part::Markup("<p>Request "),
+            Part::Text(id),
+            Part::Markup(" is filed, but its text was not sent. Here it is still.</p>\n"),
+        ],
+    )
+}
+
+#[tactic(auto, unfolding(crate::specs::RefusalPage::replied_note))]
+fn put_replied_note(out: &mut Vec<u8>) -> Result<(), AllocError>
+    ensures { OnOk result (out.new.items ≡ out.old.items ++ page_bytes form.replied_note) }
+{
+    put_parts(
+        out,
+        &[Part::Markup("<p>Your reply was sent, but the status was not changed.</p>\n")],
+    )
 }
 
 /// Whether what was asked for is there, as far as the caller may know.

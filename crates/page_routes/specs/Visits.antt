@@ -12,6 +12,7 @@ use Rattle.browser_core.specs.Site.{is_own_post}
 use Rattle.browser_core.specs.Texts.{text_in}
 use Rattle.browser_core.specs.Trim.{trimmed}
 use Rattle.browser_core.specs.declared.form.Field.{Field}
+use Rattle.desk_forms.specs.Fields.{filled}
 use Rattle.desk_forms.specs.Number.{number_of}
 use Rattle.desk_forms.specs.Paths.{InQueue, Nothing, OnRequest}
 use Rattle.desk_forms.specs.declared.paths.Method.{Method}
@@ -110,13 +111,15 @@ abbrev pub typed : List ℕ → List Field → List ℕ
 typed name fields = unwrap_or (value_of name fields) []
 
 abbrev pub sent_on : Form → ℕ → List Field → Sent
-sent_on forms.Reply id fields = sends.Reply id (typed (codes "text") fields)
+sent_on forms.Reply id fields =
+    sends.Reply id (typed (codes "text") fields) (filled (value_of (codes "status") fields))
 sent_on forms.Comment id fields = sends.Comment id (typed (codes "text") fields)
 sent_on _ id fields = sends.Change id
 
 abbrev pub sent_in : List ℕ → List Field → Sent
 sent_in queue fields =
     sends.New queue (typed (codes "subject") fields) (typed (codes "requestors") fields)
+    (typed (codes "text") fields)
 
 abbrev pub acted : List ℕ → Sent → Option Command → Answer
 acted caller sent None = Err BadBody

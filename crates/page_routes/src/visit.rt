@@ -24,17 +24,20 @@ use text_core::Text;
 pub enum Sent {
     /// To open a queue: done or refused, it leads to `/`.
     Queue,
-    /// To file a request in the queue: done, it leads to the end of the new request's history, and
-    /// refused to the queue.
+    /// To file a request in the queue, and to send its first text, where one was typed: done, it
+    /// leads to the end of the new request's history, and refused to the queue.
     New {
         queue: Text,
         subject: Text,
         requestors: Text,
+        text: Text,
     },
-    /// To reply to the request: done, it leads to the end of its history, and refused to it.
+    /// To reply to the request, and to move it to a status, where one was chosen: done, it leads to
+    /// the end of its history, and refused to it.
     Reply {
         id: u32,
         text: Text,
+        status: Option<Text>,
     },
     /// To comment on the request: the same.
     Comment {
