@@ -41,7 +41,8 @@ pub use new::new_page;
 pub use overdue::overdue_page;
 pub use queue::queue_page;
 pub use refusal::{
-    ask_refusal_page, comment_refusal_page, refusal_page, reply_refusal_page, request_refusal_page,
+    ask_refusal_page, comment_refusal_page, filed_page, refusal_page, replied_page,
+    reply_refusal_page, request_refusal_page,
 };
 pub use request::request_page;
 pub use sign_in::sign_in_page;
