@@ -1,0 +1,25 @@
+-- where no queue is seen nothing is told, and else what those have that are seen
+use Rattle.std.proofs.Common.{◌∙◌, ◌==◌, ap, length, sym}
+use Rattle.store_tables.specs.Contents.{contents_of}
+use Rattle.store_tables.proofs.Spared.{stands}
+use Rattle.store_core.specs.Due.{due_of_row}
+use Rattle.desk_finds.proofs.LoadLemmas.{none_seen, some_seen}
+use Rattle.desk_finds.proofs.loading.queue_loads.Goals as goal
+
+pub returns-then-is_empty-clause-told : goal.returns-then-is_empty-clause-told
+returns-then-is_empty-clause-told g c desk is stand clean =
+    c.from.ensures
+    ∙ c.new.ensures.items
+    ∙ none_seen c.args.settings.now c.args.at c.args.caller.now desk c.in_ok-queues.queues.items
+    (c.in_ok-queues.ensures.told desk is (due_of_row c.args.settings.now desk, stand) clean)
+    (ap (λ qs. length qs == 0) (sym c.as_slice.ensures.value)
+    ∙ sym c.is_empty.ensures ∙ c.if-is_empty.true)
+
+pub returns-else-is_empty-clause-told : goal.returns-else-is_empty-clause-told
+returns-else-is_empty-clause-told g c desk is stand clean =
+    let s = c.args.settings.now in
+    let due = due_of_row s desk in
+    let first = stands c.seen.ensures.kept (contents_of due desk) stand in
+    some_seen s c.args.at c.args.caller.now desk c.in_ok-queues.queues.items c.loads.result
+    (c.in_ok-queues.ensures.told desk is (due, stand) (c.loads.ensures.kept.clean clean))
+    (c.loads.ensures.told desk is first clean)

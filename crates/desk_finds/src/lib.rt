@@ -1,0 +1,9 @@
+//! What a search finds in the tables: the rows are read here, and judged by `find_core`.
+#![tactic(auto)]
+
+mod finding;
+mod loading;
+mod reading;
+
+pub use finding::find;
+pub use loading::queue_loads;

@@ -1,0 +1,82 @@
+//! What each queue has open: the queues and the rows are read here, and counted by `find_core`.
+ghost use Rattle.std.specs.Prelude.{◌≡◌, IfErr, filter, map};
+ghost use Rattle.desk_model.specs.Rights.{sees_queue};
+ghost use Rattle.find_core.specs.Find.{sights};
+ghost use Rattle.find_core.specs.Loads as loads;
+ghost use Rattle.store_tables.specs.Calls.{Spares, Tells};
+ghost use Rattle.store_core.specs.Due.{TellsDue};
+ghost use Rattle.store_core.specs.Seen.{state_of};
+
+use crate::reading::asked;
+use desk_core::{QueueRow, Refusal};
+use desk_lists::or_unavailable;
+use find_core::{QueueLoad, open_ones, queues_seen};
+use settings_core::Settings;
+use std::alloc::Global;
+use store_core::{Backend, Store};
+use text_core::Sequence;
+
+/// What each queue that the caller may see has open, of the requests that the caller may show, and
+/// how much of that was due before the moment, by the due moments that the tables keep. For a
+/// caller who sees no queue no request is read. `Unavailable` where memory or the store refused.
+/// The tables stay as they are.
+#[tactic(auto, using(store_tables::proofs::Spared::joined, store_tables::proofs::Spared::stands))]
+pub fn queue_loads<S: Backend>(
+    alloc: Global,
+    store: &mut Store<S>,
+    settings: &Settings,
+    at: u32,
+    caller: &str,
+) -> Result<Sequence<QueueLoad>, Refusal>
+    ensures told { TellsDue settings.now
+        (λ desk told. told ≡ loads.queue_loads settings.now at caller.now desk)
+        (state_of S.Store store.old) (state_of S.Store store.new) result }
+    ensures kept { Spares (state_of S.Store store.old) (state_of S.Store store.new) }
+    ensures fault { IfErr result (λ refusal. refusal ≡ Refusal.Unavailable) }
+{
+    let queues = seen(alloc, store, settings, caller)?;
+    if queues.as_slice().is_empty() {
+        Ok(Sequence::from(Vec::new(alloc)))
+    } else {
+        loads(alloc, store, settings, at, caller, queues)
+    }
+}
+
+/// The queues that the caller may see.
+fn seen<S: Backend>(
+    alloc: Global,
+    store: &mut Store<S>,
+    settings: &Settings,
+    caller: &str,
+) -> Result<Vec<QueueRow>, Refusal>
+    ensures told { Tells
+        (λ desk seen. seen.items ≡ filter (sees_queue settings.now caller.now) desk.queues)
+        (state_of S.Store store.old) (state_of S.Store store.new) result }
+    ensures kept { Spares (state_of S.Store store.old) (state_of S.Store store.new) }
+    ensures fault { IfErr result (λ refusal. refusal ≡ Refusal.Unavailable) }
+{
+    let queues = or_unavailable(store.queues(alloc))?;
+    Ok(queues_seen(settings, caller, queues))
+}
+
+/// What each of these queues has open.
+#[tactic(auto, using(store_tables::proofs::Spared::joined, store_tables::proofs::Spared::stands))]
+fn loads<S: Backend>(
+    alloc: Global,
+    store: &mut Store<S>,
+    settings: &Settings,
+    at: u32,
+    caller: &str,
+    queues: Vec<QueueRow>,
+) -> Result<Sequence<QueueLoad>, Refusal>
+    ensures told { TellsDue settings.now (λ desk told. told
+        ≡ map (loads.load_among at (sights settings.now caller.now desk)) queues.items)
+        (state_of S.Store store.old) (state_of S.Store store.new) result }
+    ensures kept { Spares (state_of S.Store store.old) (state_of S.Store store.new) }
+    ensures fault { IfErr result (λ refusal. refusal ≡ Refusal.Unavailable) }
+{
+    let search = open_ones(alloc);
+    let rows = asked(alloc, store, settings, at, caller, &search)?;
+    let told = find_core::queue_loads(alloc, at, queues, rows.as_slice())?;
+    Ok(told)
+}

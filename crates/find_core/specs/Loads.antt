@@ -1,0 +1,68 @@
+-- What each queue has open, and how much of that is late.
+use Rattle.std.specs.Prelude.{ℕ, Bool, true, false, ◌&&◌, List, [], filter, length, map}
+use Rattle.std.specs.Prelude.{Option, Some, None, Result}
+use Rattle.std.specs.List.{count_by}
+use Rattle.settings_core.specs.declared.settings.Settings.{Settings}
+use Rattle.desk_model.specs.Desk.{Desk}
+use Rattle.desk_model.specs.Rights.{sees_queue}
+use Rattle.desk_model.specs.declared.refusal.Refusal.{Refusal}
+use Rattle.desk_model.specs.declared.rows.QueueRow.{QueueRow}
+use Rattle.find_core.specs.Conditions.{is_due, is_in}
+use Rattle.find_core.specs.Find.{Sight, found_among, refusal_of, sights, unless_refused}
+use Rattle.find_core.specs.Rows.{Dated}
+use Rattle.find_core.specs.declared.loads.QueueLoad.{QueueLoad}
+use Rattle.find_core.specs.declared.search.Order.TheVariants.{ByNumber}
+use Rattle.find_core.specs.declared.search.OwnerAsked.TheVariants.{Anyone}
+use Rattle.find_core.specs.declared.search.Search.{Search}
+use Rattle.find_core.specs.declared.search.StatusAsked.TheVariants.{Open}
+
+-- the search for what is open, in a queue or in all, or only for what of it is late
+abbrev pub open_in : Option (List ℕ) → Bool → Search
+open_in queue late =
+    record {
+      words = [];
+      in_replies = false;
+      queue = queue;
+      status = Open;
+      owner = Anyone;
+      requestor = None;
+      late = late;
+      filed_from = None;
+      filed_to = None;
+      order = ByNumber;
+      descending = false;
+    }
+
+-- how many requests the search for what is open in a queue finds, and that for what of it is late
+abbrev pub load_among : ℕ → List Sight → QueueRow → QueueLoad
+load_among at requests queue =
+    record {
+      queue = queue;
+      «open» = length (found_among at (open_in (Some queue.name) false) requests);
+      late = length (found_among at (open_in (Some queue.name) true) requests);
+    }
+
+-- of each queue that the caller may see, by the requests that the caller may show
+abbrev pub queue_loads : Settings → ℕ → List ℕ → Desk → List QueueLoad
+queue_loads settings at caller desk =
+    map (load_among at (sights settings caller desk))
+    (filter (sees_queue settings caller) desk.queues)
+
+-- what comes of asking for them
+abbrev pub loads_outcome : Settings → ℕ → List ℕ → Desk → Result (List QueueLoad) Refusal
+loads_outcome settings at caller desk =
+    unless_refused (refusal_of settings at caller) (queue_loads settings at caller desk)
+
+-- ---- of the rows of open requests
+
+-- the row counts for the queue, or for what of it is late
+abbrev pub is_counted : ℕ → Bool → List ℕ → Dated → Bool
+is_counted at late queue dated = is_due at late dated.1 && is_in (Some queue) dated.0.queue
+
+abbrev pub load_of : ℕ → List Dated → QueueRow → QueueLoad
+load_of at rows queue =
+    record {
+      queue = queue;
+      «open» = count_by (is_counted at false queue.name) rows;
+      late = count_by (is_counted at true queue.name) rows;
+    }

@@ -1,0 +1,63 @@
+//! What each queue has open.
+ghost use Rattle.std.specs.Prelude.{◌≡◌, true, IfErr};
+ghost use Rattle.desk_model.specs.Refusals.{names_its_right};
+ghost use Rattle.store_tables.specs.Calls.{Spares};
+ghost use Rattle.store_core.specs.Seen.{state_of};
+ghost use Rattle.service_core.specs.Loading.{LoadsOn};
+ghost use Rattle.service_core.specs.Seen.{settings_of, tables_of};
+
+use crate::desk::Desk;
+use desk_core::{Command, Refusal, refused_beforehand};
+use find_core::QueueLoad;
+use settings_core::Settings;
+use std::alloc::Global;
+use store_core::{Backend, Store};
+use text_core::Sequence;
+
+impl<S: Backend> Desk<S> {
+    /// Of each queue that the caller may see, in the order of their names: how many of its requests
+    /// are open, and how many of those were due before the moment. They are as many as searches for
+    /// them find, and so what the caller may not show doesn't count. The moment is in minutes since
+    /// 1970-01-01 00:00 UTC.
+    ///
+    /// `UnknownCaller` or `BadMoment` comes of what every desk refuses. `Unavailable` may come in
+    /// place of any answer, where memory or the store refused. The tables stay as they are,
+    /// whatever rows they have.
+    pub fn queue_loads(
+        &mut self,
+        alloc: Global,
+        at: u32,
+        caller: &str,
+    ) -> Result<Sequence<QueueLoad>, Refusal>
+        ensures told { LoadsOn (settings_of S.Store self.old) at caller.now result
+            (tables_of S.Store self.old) (tables_of S.Store self.new) }
+        ensures kept { Spares (tables_of S.Store self.old) (tables_of S.Store self.new) }
+        ensures named { IfErr result (λ refusal. names_its_right refusal ≡ true) }
+        ensures same { settings_of S.Store self.new ≡ settings_of S.Store self.old }
+    {
+        let overdue = Command::Overdue;
+        look(alloc, &mut self.store, &self.settings, at, caller, &overdue)
+    }
+}
+
+/// The same. What every desk refuses, as it does to the list of what is late, costs no look.
+#[tactic(auto, using(store_tables::proofs::Spared::unread))]
+fn look<S: Backend>(
+    alloc: Global,
+    store: &mut Store<S>,
+    settings: &Settings,
+    at: u32,
+    caller: &str,
+    overdue: &Command,
+) -> Result<Sequence<QueueLoad>, Refusal>
+    requires { overdue.now ≡ Command.Overdue }
+    ensures told { LoadsOn settings.now at caller.now result
+        (state_of S.Store store.old) (state_of S.Store store.new) }
+    ensures kept { Spares (state_of S.Store store.old) (state_of S.Store store.new) }
+    ensures named { IfErr result (λ refusal. names_its_right refusal ≡ true) }
+{
+    match refused_beforehand(settings, at, caller, overdue) {
+        Some(refusal) => Err(refusal),
+        None => desk_finds::queue_loads(alloc, store, settings, at, caller),
+    }
+}
