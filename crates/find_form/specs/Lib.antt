@@ -1,0 +1,6 @@
+pub mod Address
+pub mod Faults
+pub mod Form
+pub mod Own
+pub mod Shown
+pub mod Sought
