@@ -6,6 +6,7 @@ use Rattle.page_core.proofs.Shows.{Shows, both, each_shows, has_markup, shows}
 use Rattle.desk_pages.specs.declared.frame.Place.TheVariants.{Elsewhere}
 use Rattle.desk_pages.specs.Ask.{ask, ask_end, ask_markup, requestors_field, status_end}
 use Rattle.desk_pages.specs.Ask.{status_field, status_markup, status_part, status_row, subject_field}
+use Rattle.desk_pages.specs.Ask.{text_field}
 use Rattle.desk_pages.specs.New.{crumbs, new_content, new_markup, new_page, title}
 use Rattle.desk_pages.specs.Pieces.{chosen}
 use Rattle.desk_pages.proofs.Frames.{bottom_shows, top_shows}
@@ -15,6 +16,10 @@ subject_shows : (queue subject : List ℕ)
     → Shows (subject_field queue subject) (markup_of (subject_field [] []))
 unfolding subject_field
 subject_shows queue subject = shows _ _ refl refl
+
+text_shows : (text : List ℕ) → Shows (text_field text) (markup_of (text_field []))
+unfolding text_field
+text_shows text = shows _ _ refl refl
 
 requestors_show : (requestors caller : List ℕ)
     → Shows (requestors_field requestors caller) (markup_of (requestors_field [] []))
@@ -43,12 +48,13 @@ ask_end_shows : Shows ask_end (markup_of ask_end)
 unfolding ask_end
 ask_end_shows = shows _ _ refl refl
 
-pub ask_shows : (queue caller subject requestors usual : List ℕ) (statuses : List (List ℕ))
-    → Shows (ask queue caller subject requestors usual statuses) (ask_markup usual statuses)
-ask_shows queue caller subject requestors usual statuses =
+pub ask_shows : (queue caller subject text requestors usual : List ℕ) (statuses : List (List ℕ))
+    → Shows (ask queue caller subject text requestors usual statuses) (ask_markup usual statuses)
+ask_shows queue caller subject text requestors usual statuses =
     both _ _ _ _ (subject_shows queue subject)
+    (both _ _ _ _ (text_shows text)
     (both _ _ _ _ (requestors_show requestors caller)
-    (both _ _ _ _ (statuses_show usual statuses) ask_end_shows))
+    (both _ _ _ _ (statuses_show usual statuses) ask_end_shows)))
 
 crumbs_show : (queue : List ℕ) → Shows (crumbs queue) (markup_of (crumbs []))
 unfolding crumbs
@@ -60,5 +66,5 @@ unfolding new_content
 new_has queue caller moment usual statuses = has_markup _ _
     (both _ _ _ _ (top_shows title Elsewhere caller)
     (both _ _ _ _
-    (both _ _ _ _ (crumbs_show queue) (ask_shows queue caller [] [] usual statuses))
+    (both _ _ _ _ (crumbs_show queue) (ask_shows queue caller [] [] [] usual statuses))
     (bottom_shows moment)))

@@ -7,6 +7,7 @@ use Rattle.settings_core.specs.Settings.{levels_of, lifecycle_named}
 use Rattle.settings_core.specs.declared.named.Named.{Named}
 use Rattle.settings_core.specs.declared.settings.Settings.{Settings}
 use Rattle.desk_model.specs.declared.answer.Dossier.{Dossier}
+use Rattle.desk_model.specs.declared.answer.Shown.{Shown}
 use Rattle.page_core.specs.Markup.{HasMarkup, markup_of}
 use Rattle.page_core.proofs.Shows.{Shows, both, each_shows, has_markup, shows}
 use Rattle.desk_pages.specs.Change.{change, change_end, change_head, change_markup, field_forms}
@@ -17,7 +18,7 @@ use Rattle.desk_pages.specs.Fields.{watch_form}
 use Rattle.desk_pages.specs.Owner.{give_form, owner_form, steal_form, take_form, untake_form}
 use Rattle.desk_pages.specs.Pieces.{chosen, word}
 use Rattle.desk_pages.proofs.Offers.{moves_show}
-use Rattle.desk_pages.proofs.Persons.{people_show}
+use Rattle.desk_pages.proofs.Persons.{owners_show, people_show}
 use Rattle.desk_pages.proofs.Tables.{chosen_shows}
 
 take_shows : (id : List ℕ) → Shows (take_form id) (markup_of (take_form []))
@@ -47,9 +48,11 @@ give_shows : (id : List ℕ) → Shows (give_form id) (markup_of (give_form []))
 unfolding give_form
 give_shows id = shows _ _ refl refl
 
-owner_forms_show : (id caller : List ℕ) (owner : Option (List ℕ))
-    → Shows (owner_forms id caller owner) owner_forms_markup
-owner_forms_show id caller owner = both _ _ _ _ (owner_shows id caller owner) (give_shows id)
+owner_forms_show : (id caller : List ℕ) (settings : Settings) (shown : Shown)
+    → Shows (owner_forms id caller settings shown) (owner_forms_markup caller settings shown)
+owner_forms_show id caller settings shown =
+    both _ _ _ _ (owner_shows id caller shown.row.owner)
+    (both _ _ _ _ (give_shows id) (owners_show caller settings shown))
 
 level_head_shows : (id : List ℕ) → Shows (level_head id) (markup_of (level_head []))
 unfolding level_head
@@ -108,7 +111,7 @@ change_shows caller settings dossier =
     both _ _ _ _ (head_shows (is_open caller dossier.shown))
     (both _ _ _ _
     (moves_show id (lifecycle_named settings dossier.queue.lifecycle) dossier.shown.row.status)
-    (both _ _ _ _ (owner_forms_show id caller dossier.shown.row.owner)
+    (both _ _ _ _ (owner_forms_show id caller settings dossier.shown)
     (both _ _ _ _ (field_forms_show id settings dossier.shown.row.level)
     (both _ _ _ _ (people_show caller dossier.shown) end_shows))))
 

@@ -3,19 +3,20 @@ use Rattle.std.proofs.Common.{ℕ, List, [], refl}
 use Rattle.page_core.specs.Markup.{markup_of}
 use Rattle.page_core.proofs.Shows.{Shows, both, shows}
 use Rattle.desk_pages.specs.declared.frame.Place.{Place}
-use Rattle.desk_pages.specs.declared.frame.Place.TheVariants.{Home, Late, Workload, Elsewhere}
+use Rattle.desk_pages.specs.declared.frame.Place.TheVariants.{Home, Find, Late, Workload, Elsewhere}
 use Rattle.desk_pages.specs.Frame.{account, bare_foot, bare_head, bottom, bottom_markup, close, foot}
-use Rattle.desk_pages.specs.Frame.{head, is_home, is_late, is_workload, places, top, top_markup}
+use Rattle.desk_pages.specs.Frame.{head, is_find, is_home, is_late, is_workload, places, top, top_markup}
 use Rattle.desk_pages.specs.Pieces.{time, word}
 
 head_shows : (title : List ℕ) → Shows (head title) (markup_of (head []))
 unfolding head
 head_shows title = shows _ _ refl refl
 
-places_show : (at : Place) → Shows (places (is_home at) (is_late at) (is_workload at))
-    (markup_of (places (is_home at) (is_late at) (is_workload at)))
+places_show : (at : Place) → Shows (places (is_home at) (is_find at) (is_late at) (is_workload at))
+    (markup_of (places (is_home at) (is_find at) (is_late at) (is_workload at)))
 unfolding places word
 places_show Home = shows _ _ refl refl
+places_show Find = shows _ _ refl refl
 places_show Late = shows _ _ refl refl
 places_show Workload = shows _ _ refl refl
 places_show Elsewhere = shows _ _ refl refl

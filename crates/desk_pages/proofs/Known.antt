@@ -12,7 +12,7 @@ use Rattle.desk_pages.specs.Facts.{facts_close, facts_markup, filed_close, level
 use Rattle.desk_pages.specs.Facts.{level_markup, state_facts, state_of}
 use Rattle.desk_pages.specs.Local.{clock, local, local_at, local_markup}
 use Rattle.desk_pages.specs.Pieces.{dash, word}
-use Rattle.desk_pages.specs.Queue.{is_late}
+use Rattle.desk_pages.specs.Rows.{is_late}
 use Rattle.desk_pages.proofs.Frames.{time_shows}
 use Rattle.desk_pages.proofs.Linked.{links_show, roles_show}
 use Rattle.desk_pages.proofs.Tables.{due_shows}

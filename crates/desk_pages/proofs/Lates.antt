@@ -6,7 +6,7 @@ use Rattle.page_core.specs.Markup.{HasMarkup, markup_of}
 use Rattle.page_core.proofs.Shows.{Shows, both, each_shows, has_markup, shows}
 use Rattle.desk_pages.specs.declared.frame.Place.TheVariants.{Late}
 use Rattle.desk_pages.specs.Pieces.{time, word}
-use Rattle.desk_pages.specs.Queue.{is_of}
+use Rattle.desk_pages.specs.Rows.{is_of}
 use Rattle.desk_pages.specs.Overdue.{late_by, late_cells, late_head, late_opening, late_row}
 use Rattle.desk_pages.specs.Overdue.{late_row_markup, late_top, overdue_markup, overdue_page, span}
 use Rattle.desk_pages.proofs.Frames.{bottom_shows, time_shows, top_shows}

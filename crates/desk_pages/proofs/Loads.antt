@@ -8,7 +8,7 @@ use Rattle.page_core.specs.Page.{Part}
 use Rattle.page_core.proofs.Shows.{Shows, both, each_shows, has_markup, shows}
 use Rattle.desk_pages.specs.declared.frame.Place.TheVariants.{Workload}
 use Rattle.desk_pages.specs.Pieces.{word}
-use Rattle.desk_pages.specs.Queue.{is_of}
+use Rattle.desk_pages.specs.Rows.{is_of}
 use Rattle.desk_pages.specs.Workload.{bars, is_any, load_cells, load_opening, load_row}
 use Rattle.desk_pages.specs.Workload.{load_row_markup, load_top, load_total, markup_of_load, most}
 use Rattle.desk_pages.specs.Workload.{workload_markup, workload_page}

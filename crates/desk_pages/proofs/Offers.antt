@@ -8,7 +8,7 @@ use Rattle.desk_pages.specs.Moves.{button, closings, closings_markup, fold_end, 
 use Rattle.desk_pages.specs.Moves.{folded_markup, has_offer, leads_on, move_form, move_form_markup}
 use Rattle.desk_pages.specs.Moves.{moves, moves_end, moves_head, moves_markup, offer, offer_markup}
 use Rattle.desk_pages.specs.Moves.{offers, offers_markup}
-use Rattle.desk_pages.specs.Queue.{word_of_class}
+use Rattle.desk_pages.specs.Rows.{word_of_class}
 use Rattle.desk_pages.proofs.Tables.{if_shows, nothing_shows}
 
 moves_head_shows : (id : List ℕ) → Shows (moves_head id) (markup_of (moves_head []))

@@ -6,7 +6,7 @@ use Rattle.page_core.specs.Markup.{markup_of}
 use Rattle.page_core.specs.Page.{Part, Markup, Text}
 use Rattle.desk_pages.specs.Pieces.{chosen}
 
--- the form for a new request, up to who asks
+-- the form for a new request, up to its first text
 unfoldable pub subject_field : List ℕ → List ℕ → List Part
 subject_field queue subject =
     Markup (codes "<form class=\"sheet\" method=\"post\" action=\"/desk/queues/")
@@ -15,8 +15,17 @@ subject_field queue subject =
     ∷ Markup (codes "<input id=\"subject\" name=\"subject\" value=\"")
     ∷ Text subject
     ∷ Markup (codes "\" dir=\"auto\" required>\n<p>")
-    ∷ Markup (codes "One line of at most 200 characters. On the next page you can")
-    ∷ Markup (codes " write as much as you like.</p>\n")
+    ∷ Markup (codes "One line of at most 200 characters.</p>\n")
+    ∷ []
+
+-- its first text
+unfoldable pub text_field : List ℕ → List Part
+text_field text =
+    Markup (codes "<label for=\"text\">What is to be said?</label>\n")
+    ∷ Markup (codes "<textarea id=\"text\" name=\"text\" rows=\"5\" dir=\"auto\">\n")
+    ∷ Text text
+    ∷ Markup (codes "</textarea>\n<p>You can leave it empty, and write on")
+    ∷ Markup (codes " the next page.</p>\n")
     ∷ []
 
 -- who asks
@@ -61,11 +70,12 @@ status_part usual [] = []
 status_part usual (status ∷ statuses) =
     status_field ++ (flat_map (status_row usual) (status ∷ statuses) ++ status_end)
 
--- the form in a queue for a caller, with a subject and requestors that were typed
-abbrev pub ask : List ℕ → List ℕ → List ℕ → List ℕ → List ℕ → List (List ℕ) → List Part
-ask queue caller subject requestors usual statuses =
+-- the form in a queue for a caller, with a subject, a text and requestors that were typed
+abbrev pub ask : List ℕ → List ℕ → List ℕ → List ℕ → List ℕ → List ℕ → List (List ℕ) → List Part
+ask queue caller subject text requestors usual statuses =
     subject_field queue subject
-    ++ (requestors_field requestors caller ++ (status_part usual statuses ++ ask_end))
+    ++ (text_field text
+    ++ (requestors_field requestors caller ++ (status_part usual statuses ++ ask_end)))
 
 -- its markup: how many statuses there are, and which is the usual one
 abbrev pub status_markup : List ℕ → List (List ℕ) → List ℕ
@@ -78,4 +88,5 @@ status_markup usual (status ∷ statuses) =
 abbrev pub ask_markup : List ℕ → List (List ℕ) → List ℕ
 ask_markup usual statuses =
     markup_of (subject_field [] [])
-    ++ (markup_of (requestors_field [] []) ++ (status_markup usual statuses ++ markup_of ask_end))
+    ++ (markup_of (text_field [])
+    ++ (markup_of (requestors_field [] []) ++ (status_markup usual statuses ++ markup_of ask_end)))

@@ -10,6 +10,7 @@ use Rattle.page_core.specs.Page.{Part, Markup}
 use Rattle.desk_pages.specs.Fields.{level_form, level_markup, link_form, link_markup, watch_form}
 use Rattle.desk_pages.specs.Moves.{moves, moves_markup}
 use Rattle.desk_pages.specs.Owner.{give_form, owner_form, take_form}
+use Rattle.desk_pages.specs.Owners.{owners, owners_markup}
 use Rattle.desk_pages.specs.People.{people, people_markup}
 use Rattle.desk_pages.specs.Pieces.{word}
 
@@ -30,9 +31,10 @@ change_end =
 abbrev pub is_open : List ℕ → Shown → Bool
 is_open caller shown = not (is_among shown.requestors caller)
 
--- who owns it
-abbrev pub owner_forms : List ℕ → List ℕ → Option (List ℕ) → List Part
-owner_forms id caller owner = owner_form id caller owner ++ give_form id
+-- who owns it, and who may
+abbrev pub owner_forms : List ℕ → List ℕ → Settings → Shown → List Part
+owner_forms id caller settings shown =
+    owner_form id caller shown.row.owner ++ (give_form id ++ owners caller settings shown)
 
 -- its level, its watchers and its links
 abbrev pub field_forms : List ℕ → Settings → Option (List ℕ) → List Part
@@ -44,7 +46,7 @@ abbrev pub change_of : List ℕ → List ℕ → Settings → Dossier → List P
 change_of id caller settings dossier =
     change_head (is_open caller dossier.shown)
     ++ (moves id (lifecycle_named settings dossier.queue.lifecycle) dossier.shown.row.status
-    ++ (owner_forms id caller dossier.shown.row.owner
+    ++ (owner_forms id caller settings dossier.shown
     ++ (field_forms id settings dossier.shown.row.level
     ++ (people caller dossier.shown ++ change_end))))
 
@@ -54,8 +56,10 @@ change caller settings dossier =
 
 -- its markup: whether it is unfolded, which moves and how many levels and names there are, and which
 -- is the present level; not who owns the request
-abbrev pub owner_forms_markup : List ℕ
-owner_forms_markup = markup_of (take_form []) ++ markup_of (give_form [])
+abbrev pub owner_forms_markup : List ℕ → Settings → Shown → List ℕ
+owner_forms_markup caller settings shown =
+    markup_of (take_form [])
+    ++ (markup_of (give_form []) ++ owners_markup caller settings shown)
 
 abbrev pub field_forms_markup : Settings → Option (List ℕ) → List ℕ
 field_forms_markup settings level =
@@ -65,6 +69,6 @@ abbrev pub change_markup : List ℕ → Settings → Dossier → List ℕ
 change_markup caller settings dossier =
     markup_of (change_head (is_open caller dossier.shown))
     ++ (moves_markup (lifecycle_named settings dossier.queue.lifecycle) dossier.shown.row.status
-    ++ (owner_forms_markup
+    ++ (owner_forms_markup caller settings dossier.shown
     ++ (field_forms_markup settings dossier.shown.row.level
     ++ (people_markup caller dossier.shown ++ markup_of change_end))))

@@ -15,7 +15,7 @@ use Rattle.page_core.specs.Page.{Part, Markup, Text}
 use Rattle.desk_pages.specs.Lists.{links_markup, links_told, roles, roles_markup}
 use Rattle.desk_pages.specs.Local.{local, local_at, local_markup}
 use Rattle.desk_pages.specs.Pieces.{dash, time, time_of, time_or_dash, word}
-use Rattle.desk_pages.specs.Queue.{is_late, word_of_class}
+use Rattle.desk_pages.specs.Rows.{is_late, word_of_class}
 
 -- the class of a status, if there is such a lifecycle
 abbrev pub class_in : Option Parts → List ℕ → Option Class

@@ -17,17 +17,19 @@ head title =
     ∷ Text title
     ∷ Markup (codes " ")
     ∷ Markup dash
-    ∷ Markup (codes " Desk</title>\n<link rel=\"stylesheet\" href=\"/style.css?1\">\n")
+    ∷ Markup (codes " Desk</title>\n<link rel=\"stylesheet\" href=\"/style.css?2\">\n")
     ∷ Markup (codes "</head>\n<body>\n<a class=\"skip\" href=\"#main\">")
     ∷ Markup (codes "Skip to the content</a>\n<header>\n<b>Desk</b>\n")
     ∷ []
 
 -- the places that each page leads to
-unfoldable pub places : Bool → Bool → Bool → List Part
-places home late load =
+unfoldable pub places : Bool → Bool → Bool → Bool → List Part
+places home find late load =
     Markup (codes "<nav>\n<a href=\"/\"")
     ∷ Markup (word home (codes " aria-current=\"page\""))
-    ∷ Markup (codes ">Queues</a>\n<a href=\"/desk/overdue\"")
+    ∷ Markup (codes ">Home</a>\n<a href=\"/desk/find\"")
+    ∷ Markup (word find (codes " aria-current=\"page\""))
+    ∷ Markup (codes ">Find</a>\n<a href=\"/desk/overdue\"")
     ∷ Markup (word late (codes " aria-current=\"page\""))
     ∷ Markup (codes ">Late</a>\n<a href=\"/desk/workload\"")
     ∷ Markup (word load (codes " aria-current=\"page\""))
@@ -70,7 +72,7 @@ bare_head title =
     ∷ Text title
     ∷ Markup (codes " ")
     ∷ Markup dash
-    ∷ Markup (codes " Desk</title>\n<link rel=\"stylesheet\" href=\"/style.css?1\">\n")
+    ∷ Markup (codes " Desk</title>\n<link rel=\"stylesheet\" href=\"/style.css?2\">\n")
     ∷ Markup (codes "</head>\n<body class=\"bare\">\n<main>\n")
     ∷ []
 
@@ -85,6 +87,10 @@ abbrev pub is_home : Place → Bool
 is_home place.Home = true
 is_home _ = false
 
+abbrev pub is_find : Place → Bool
+is_find place.Find = true
+is_find _ = false
+
 abbrev pub is_late : Place → Bool
 is_late place.Late = true
 is_late _ = false
@@ -96,7 +102,7 @@ is_workload _ = false
 -- what stands above the content
 abbrev pub top : List ℕ → Place → List ℕ → List Part
 top title at caller =
-    head title ++ (places (is_home at) (is_late at) (is_workload at) ++ account caller)
+    head title ++ (places (is_home at) (is_find at) (is_late at) (is_workload at) ++ account caller)
 
 -- what stands below it, for a page that was made at this moment
 abbrev pub bottom : ℕ → List Part
@@ -106,7 +112,7 @@ bottom moment = foot ++ (time_of moment ++ close)
 abbrev pub top_markup : Place → List ℕ
 top_markup at =
     markup_of (head [])
-    ++ (markup_of (places (is_home at) (is_late at) (is_workload at)) ++ markup_of (account []))
+    ++ (markup_of (places (is_home at) (is_find at) (is_late at) (is_workload at)) ++ markup_of (account []))
 
 abbrev pub bottom_markup : List ℕ
 bottom_markup = markup_of foot ++ (markup_of (time [] []) ++ markup_of close)

@@ -3,6 +3,7 @@ pub mod Change
 pub mod Facts
 pub mod Fault
 pub mod Fields
+pub mod Find
 pub mod Frame
 pub mod History
 pub mod Home
@@ -12,12 +13,14 @@ pub mod Moves
 pub mod New
 pub mod Overdue
 pub mod Owner
+pub mod Owners
 pub mod People
 pub mod Pieces
-pub mod Queue
 pub mod RefusalPage
 pub mod Refused
 pub mod Request
+pub mod Rows
+pub mod Search
 pub mod SignIn
 pub mod Workload
 pub mod Write

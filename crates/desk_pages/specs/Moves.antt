@@ -1,5 +1,6 @@
 -- The moves of a request that are offered.
-use Rattle.std.specs.Prelude.{ℕ, Bool, List, [], ◌∷◌, ◌++◌, Option, Some, None, codes}
+use Rattle.std.specs.Prelude.{ℕ, Bool, if◌then◌else◌, List, [], ◌∷◌, ◌++◌, Option, Some, None}
+use Rattle.std.specs.Prelude.{codes}
 use Rattle.std.specs.List.{flat_map, list_any}
 use Rattle.std.specs.Str.{bytes_eq}
 use Rattle.lifecycle_core.specs.declared.parts.Parts.{Parts}
@@ -7,7 +8,7 @@ use Rattle.lifecycle_core.specs.Lifecycle.{class_of, may_move}
 use Rattle.page_core.specs.Markup.{markup_of}
 use Rattle.page_core.specs.Page.{Part, Markup, Text}
 use Rattle.desk_pages.specs.Pieces.{parts_if, word}
-use Rattle.desk_pages.specs.Queue.{word_of_class}
+use Rattle.desk_pages.specs.Rows.{word_of_class}
 
 -- the form up to its first status
 unfoldable pub moves_head : List ℕ → List Part
@@ -86,6 +87,16 @@ move_form id lifecycle from =
 abbrev pub moves : List ℕ → Option Parts → List ℕ → List Part
 moves id None from = []
 moves id (Some lifecycle) from = parts_if (leads_on lifecycle from) (move_form id lifecycle from)
+
+-- the first inactive status, where the lifecycle lets a request move to it from this one
+abbrev pub closing_among : Parts → List ℕ → List (List ℕ) → Option (List ℕ)
+closing_among lifecycle from [] = None
+closing_among lifecycle from (first ∷ others) =
+    if may_move lifecycle from first then Some first else None
+
+abbrev pub closing : Option Parts → List ℕ → Option (List ℕ)
+closing None from = None
+closing (Some lifecycle) from = closing_among lifecycle from lifecycle.inactive
 
 -- its markup: which moves there are
 abbrev pub offer_markup : Parts → List ℕ → List ℕ → List ℕ

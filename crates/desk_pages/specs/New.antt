@@ -24,7 +24,7 @@ title = codes "New request"
 
 -- the content: the form with nothing typed
 unfoldable pub new_content : List ℕ → List ℕ → List ℕ → List (List ℕ) → List Part
-new_content queue caller usual statuses = crumbs queue ++ ask queue caller [] [] usual statuses
+new_content queue caller usual statuses = crumbs queue ++ ask queue caller [] [] [] usual statuses
 
 -- the page, for a caller at a moment
 abbrev pub new_page : List ℕ → List ℕ → ℕ → List ℕ → List (List ℕ) → List Part

@@ -8,7 +8,7 @@ use Rattle.page_core.specs.Markup.{markup_of}
 use Rattle.page_core.specs.Page.{Part, Markup, Text}
 use Rattle.desk_pages.specs.Frame.{bottom, bottom_markup, top, top_markup}
 use Rattle.desk_pages.specs.Pieces.{quote, table_end, time_of, word}
-use Rattle.desk_pages.specs.Queue.{is_of}
+use Rattle.desk_pages.specs.Rows.{is_of}
 use Rattle.desk_pages.specs.declared.frame.Place.TheVariants as place
 
 -- two numbers, each with its unit

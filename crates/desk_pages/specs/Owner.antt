@@ -35,7 +35,7 @@ give_form id =
     Markup (codes "<form method=\"post\" action=\"/desk/requests/")
     ∷ Text id
     ∷ Markup (codes "/give\">\n<label for=\"person\">Give it to</label>\n")
-    ∷ Markup (codes "<input id=\"person\" name=\"person\" list=\"people\"")
+    ∷ Markup (codes "<input id=\"person\" name=\"person\" list=\"owners\"")
     ∷ Markup (codes " autocapitalize=\"none\" spellcheck=\"false\" autocomplete=\"off\"")
     ∷ Markup (codes " required>\n<button>Give</button>\n</form>\n")
     ∷ []

@@ -6,7 +6,7 @@ use Rattle.desk_model.specs.declared.answer.Shown.{Shown}
 use Rattle.page_core.specs.Markup.{markup_of}
 use Rattle.page_core.specs.Page.{Part, Markup, Text}
 use Rattle.desk_pages.specs.Pieces.{parts_if, word}
-use Rattle.desk_pages.specs.Queue.{is_of}
+use Rattle.desk_pages.specs.Rows.{is_of}
 
 unfoldable pub people_head : List Part
 people_head =

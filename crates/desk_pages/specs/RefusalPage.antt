@@ -1,14 +1,16 @@
 -- The page of a refusal, and the way back from it.
-use Rattle.std.specs.Prelude.{ℕ, Bool, true, false, List, [], ◌++◌, decimal}
+use Rattle.std.specs.Prelude.{ℕ, Bool, true, false, List, [], ◌∷◌, ◌++◌, Option, None, codes}
+use Rattle.std.specs.Prelude.{decimal}
 use Rattle.desk_model.specs.declared.refusal.Refusal.{Refusal}
 use Rattle.desk_model.specs.declared.refusal.Refusal.TheVariants as refusal
 use Rattle.page_core.specs.Markup.{markup_of}
-use Rattle.page_core.specs.Page.{Part}
+use Rattle.page_core.specs.Page.{Part, Markup, Text}
 use Rattle.desk_pages.specs.Ask.{ask, ask_markup}
 use Rattle.desk_pages.specs.Frame.{bottom, bottom_markup, top, top_markup}
-use Rattle.desk_pages.specs.Refused.{heading_of, is_denied, notice, notice_of, request_crumb}
+use Rattle.desk_pages.specs.Refused.{heading_of, is_denied, notice, notice_after, notice_of}
+use Rattle.desk_pages.specs.Refused.{request_crumb}
 use Rattle.desk_pages.specs.Refused.{to_queue, to_queues, to_request, write_close, write_open}
-use Rattle.desk_pages.specs.Write.{comment, reply}
+use Rattle.desk_pages.specs.Write.{comment, reply, reply_markup}
 use Rattle.desk_pages.specs.declared.frame.Place.TheVariants as place
 
 -- what was asked for is there, as far as the caller may know
@@ -51,21 +53,56 @@ typed_page why caller moment id form =
     ((crumb (is_found why) id ++ notice_of why)
     ++ ((write_open ++ (form ++ write_close)) ++ way_to_request (is_found why) id))
 
-abbrev pub reply_refusal_page : Refusal → List ℕ → ℕ → ℕ → List ℕ → List Part
-reply_refusal_page why caller moment id text =
-    typed_page why caller moment id (reply (decimal id) text)
+-- and the status that was chosen
+abbrev pub reply_refusal_page : Refusal → List ℕ → ℕ → ℕ → List ℕ → Option (List ℕ) → List Part
+reply_refusal_page why caller moment id text status =
+    typed_page why caller moment id (reply (decimal id) text status true)
 
 abbrev pub comment_refusal_page : Refusal → List ℕ → ℕ → ℕ → List ℕ → List Part
 comment_refusal_page why caller moment id text =
     typed_page why caller moment id (comment (decimal id) text)
 
--- a new request is refused: the form has the subject and the requestors that were typed
-abbrev pub ask_refusal_page : Refusal → List ℕ → ℕ → List ℕ → List ℕ → List ℕ → List ℕ
+-- a new request is refused: the form has the subject, the text and the requestors that were typed
+abbrev pub ask_refusal_page : Refusal → List ℕ → ℕ → List ℕ → List ℕ → List ℕ → List ℕ → List ℕ
     → List (List ℕ) → List Part
-ask_refusal_page why caller moment queue subject requestors usual statuses =
+ask_refusal_page why caller moment queue subject text requestors usual statuses =
     refused why caller moment
     (notice_of why
-    ++ (ask queue caller subject requestors usual statuses ++ way_to_queue (is_found why) queue))
+    ++ (ask queue caller subject text requestors usual statuses
+    ++ way_to_queue (is_found why) queue))
+
+-- ---- of two commands the second is refused
+
+-- what was done, and what was not
+unfoldable pub filed_note : List ℕ → List Part
+filed_note id =
+    Markup (codes "<p>Request ")
+    ∷ Text id
+    ∷ Markup (codes " is filed, but its text was not sent. Here it is still.</p>\n")
+    ∷ []
+
+unfoldable pub replied_note : List ℕ → List Part
+replied_note status =
+    Markup (codes "<p>Your reply was sent, but the request was not made ")
+    ∷ Text status
+    ∷ Markup (codes ".</p>\n")
+    ∷ []
+
+-- a new request is filed, and its text is refused: the form has it
+abbrev pub filed_page : Refusal → List ℕ → ℕ → ℕ → List ℕ → List Part
+filed_page why caller moment id text =
+    refused why caller moment
+    ((request_crumb (decimal id) ++ notice_after why)
+    ++ (filed_note (decimal id)
+    ++ ((write_open ++ (reply (decimal id) text None false ++ write_close))
+    ++ to_request (decimal id))))
+
+-- a reply is sent, and the move to this status is refused
+abbrev pub replied_page : Refusal → List ℕ → ℕ → ℕ → List ℕ → List Part
+replied_page why caller moment id status =
+    refused why caller moment
+    ((request_crumb (decimal id) ++ notice_after why)
+    ++ (replied_note status ++ to_request (decimal id)))
 
 -- ---- the markup of these pages
 
@@ -100,6 +137,18 @@ typed_markup why form =
     refused_markup ((crumb_markup (is_found why) ++ notice_markup why)
     ++ ((markup_of write_open ++ (form ++ markup_of write_close))
     ++ way_to_request_markup (is_found why)))
+
+abbrev pub filed_markup : Refusal → List ℕ
+filed_markup why =
+    refused_markup ((markup_of (request_crumb []) ++ notice_markup why)
+    ++ (markup_of (filed_note [])
+    ++ ((markup_of write_open ++ (reply_markup None false ++ markup_of write_close))
+    ++ markup_of (to_request []))))
+
+abbrev pub replied_markup : Refusal → List ℕ
+replied_markup why =
+    refused_markup ((markup_of (request_crumb []) ++ notice_markup why)
+    ++ (markup_of (replied_note []) ++ markup_of (to_request [])))
 
 abbrev pub ask_refusal_markup : Refusal → List ℕ → List (List ℕ) → List ℕ
 ask_refusal_markup why usual statuses =

@@ -168,3 +168,16 @@ abbrev pub notice_of : Refusal → List Part
 notice_of why =
     notice (heading_of why) (front_of why) (right_of why) (back_of why) (decimal (number_of why))
     (name_of why) (is_denied why)
+
+-- ---- of the second of two commands, after the first was done
+
+-- it isn't said that nothing was changed
+unfoldable pub front_after : Refusal → List ℕ
+front_after refusal.Unavailable =
+    codes "The desk couldn" ++ (quote ++ (codes "t do this just now: please try again in a moment."))
+front_after other = front_of other
+
+abbrev pub notice_after : Refusal → List Part
+notice_after why =
+    notice (heading_of why) (front_after why) (right_of why) (back_of why) (decimal (number_of why))
+    (name_of why) (is_denied why)

@@ -1,5 +1,7 @@
 -- The page of a request: what is known of it, what happened, and what may be written to it.
-use Rattle.std.specs.Prelude.{ℕ, List, [], ◌∷◌, ◌++◌, codes, decimal}
+use Rattle.std.specs.Prelude.{ℕ, false, if◌then◌else◌, List, [], ◌∷◌, ◌++◌, Option, None, codes}
+use Rattle.std.specs.Prelude.{decimal}
+use Rattle.settings_core.specs.Settings.{lifecycle_named}
 use Rattle.settings_core.specs.declared.settings.Settings.{Settings}
 use Rattle.desk_model.specs.declared.answer.Dossier.{Dossier}
 use Rattle.page_core.specs.Markup.{markup_of}
@@ -8,7 +10,8 @@ use Rattle.desk_pages.specs.Change.{change, change_markup, is_open}
 use Rattle.desk_pages.specs.Facts.{facts, facts_markup}
 use Rattle.desk_pages.specs.Frame.{bottom, bottom_markup, top, top_markup}
 use Rattle.desk_pages.specs.History.{history, history_markup}
-use Rattle.desk_pages.specs.Write.{comment, reply}
+use Rattle.desk_pages.specs.Moves.{closing}
+use Rattle.desk_pages.specs.Write.{comment, reply, reply_markup}
 use Rattle.desk_pages.specs.declared.frame.Place.TheVariants as place
 
 -- the number and the subject
@@ -54,10 +57,17 @@ request_end =
     Markup (codes "</div>\n")
     ∷ []
 
+-- the status to which it can be moved with a reply, but by no requestor
+abbrev pub closing_for : List ℕ → Settings → Dossier → Option (List ℕ)
+closing_for caller settings dossier =
+    if is_open caller dossier.shown
+    then closing (lifecycle_named settings dossier.queue.lifecycle) dossier.shown.row.status
+    else None
+
 -- what may be written to the request of this number
-abbrev pub writing : List ℕ → List Part
-writing id =
-    reply_open ++ (reply id [] ++ (comment_open ++ (comment id [] ++ comment_close)))
+abbrev pub writing : List ℕ → Option (List ℕ) → List Part
+writing id status =
+    reply_open ++ (reply id [] status false ++ (comment_open ++ (comment id [] ++ comment_close)))
 
 -- what is told of the request of this number, to a caller at a moment
 abbrev pub request_told : List ℕ → List ℕ → ℕ → Settings → Dossier → List Part
@@ -69,7 +79,8 @@ request_told id caller moment settings dossier =
 -- what may be done with it
 abbrev pub request_acts : List ℕ → List ℕ → Settings → Dossier → List Part
 request_acts id caller settings dossier =
-    writing id ++ (change caller settings dossier ++ request_end)
+    writing id (closing_for caller settings dossier)
+    ++ (change caller settings dossier ++ request_end)
 
 -- the content of the page
 abbrev pub request_content : List ℕ → ℕ → Settings → Dossier → List Part
@@ -83,10 +94,10 @@ request_page caller moment settings dossier =
     top (request_title dossier.shown.row.id dossier.shown.row.subject) place.Elsewhere caller
     ++ (request_content caller moment settings dossier ++ bottom moment)
 
-abbrev pub writing_markup : List ℕ
-writing_markup =
+abbrev pub writing_markup : Option (List ℕ) → List ℕ
+writing_markup status =
     markup_of reply_open
-    ++ (markup_of (reply [] [])
+    ++ (reply_markup status false
     ++ (markup_of comment_open ++ (markup_of (comment [] []) ++ markup_of comment_close)))
 
 abbrev pub told_markup : List ℕ → ℕ → Settings → Dossier → List ℕ
@@ -100,5 +111,6 @@ abbrev pub request_markup : List ℕ → ℕ → Settings → Dossier → List �
 request_markup caller moment settings dossier =
     top_markup place.Elsewhere
     ++ ((told_markup caller moment settings dossier
-    ++ (writing_markup ++ (change_markup caller settings dossier ++ markup_of request_end)))
+    ++ (writing_markup (closing_for caller settings dossier)
+    ++ (change_markup caller settings dossier ++ markup_of request_end)))
     ++ bottom_markup)

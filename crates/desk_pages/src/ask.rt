@@ -14,6 +14,8 @@ use text_core::Text;
 pub struct Typed<'t> {
     /// What was typed for the subject.
     pub subject: &'t str,
+    /// What was typed for the first text.
+    pub text: &'t str,
     /// What was typed for the requestors.
     pub requestors: &'t str,
 }
@@ -29,10 +31,11 @@ pub(crate) fn put_ask(
     statuses: &[Text],
 ) -> Result<(), AllocError>
     ensures { OnOk result (out.new.items ≡ out.old.items ++ page_bytes
-        (form.ask queue.now caller.now typed.entry.subject.now typed.entry.requestors.now usual.now
-        statuses.now)) }
+        (form.ask queue.now caller.now typed.entry.subject.now typed.entry.text.now
+        typed.entry.requestors.now usual.now statuses.now)) }
 {
     put_subject_field(out, queue, typed.subject)?;
+    put_text_field(out, typed.text)?;
     put_requestors_field(out, typed.requestors, caller)?;
     put_statuses(out, usual, statuses)?;
     put_ask_end(out)
@@ -78,8 +81,23 @@ fn put_subject_field<'t>(
             Part::Markup("<input id=\"subject\" name=\"subject\" value=\""),
             Part::Text(subject),
             Part::Markup("\" dir=\"auto\" required>\n<p>"),
-            Part::Markup("One line of at most 200 characters. On the next page you can"),
-            Part::Markup(" write as much as you like.</p>\n"),
+            Part::Markup("One line of at most 200 characters.</p>\n"),
+        ],
+    )
+}
+
+#[tactic(auto, unfolding(crate::specs::Ask::text_field))]
+fn put_text_field(out: &mut Vec<u8>, text: &str) -> Result<(), AllocError>
+    ensures { OnOk result (out.new.items ≡ out.old.items ++ page_bytes (form.text_field text.now)) }
+{
+    put_parts(
+        out,
+        &[
+            Part::Markup("<label for=\"text\">What is to be said?</label>\n"),
+            Part::Markup("<textarea id=\"text\" name=\"text\" rows=\"5\" dir=\"auto\">\n"),
+            Part::Text(text),
+            Part::Markup("</textarea>\n<p>You can leave it empty, and write on"),
+            Part::Markup(" the next page.</p>\n"),
         ],
     )
 }

@@ -8,19 +8,21 @@ ghost use Rattle.desk_pages.specs.Moves.{moves};
 use crate::fields::{put_level_form, put_link_form, put_watch_form};
 use crate::moves::put_moves;
 use crate::owner::{put_give_form, put_owner_form};
+use crate::owners::put_owners;
 use crate::people::put_people;
 use crate::pieces::word;
 use desk_model::{Dossier, Shown};
 use itoa::Buffer;
 use page_core::{Part, put_parts};
 use settings_core::Settings;
-use std::alloc::AllocError;
+use std::alloc::{AllocError, Global};
 use text_core::Text;
 
 /// Puts the part by which a request is changed: the moves that the lifecycle of its queue has from
 /// its status, its owner, level, watchers and links. For a requestor it is folded at first. Rights
 /// aren't looked at, so what is offered may be refused.
 pub(crate) fn put_change(
+    alloc: Global,
     out: &mut Vec<u8>,
     caller: &str,
     settings: &Settings,
@@ -31,6 +33,7 @@ pub(crate) fn put_change(
 {
     let mut digits = Buffer::new();
     put_change_of(
+        alloc,
         out,
         digits.format(dossier.shown.row.id),
         caller,
@@ -40,6 +43,7 @@ pub(crate) fn put_change(
 }
 
 fn put_change_of(
+    alloc: Global,
     out: &mut Vec<u8>,
     id: &str,
     caller: &str,
@@ -52,7 +56,7 @@ fn put_change_of(
     let row = &dossier.shown.row;
     put_change_head(out, is_open(caller, &dossier.shown))?;
     put_moves_in(out, id, settings, &dossier.queue.lifecycle, &row.status)?;
-    put_owner_forms(out, id, caller, &row.owner)?;
+    put_owner_forms(alloc, out, id, caller, settings, &dossier.shown)?;
     put_field_forms(out, id, settings, &row.level)?;
     put_people(out, caller, &dossier.shown)?;
     put_change_end(out)
@@ -85,16 +89,19 @@ fn put_moves_in(
 }
 
 fn put_owner_forms(
+    alloc: Global,
     out: &mut Vec<u8>,
     id: &str,
     caller: &str,
-    owner: &Option<Text>,
+    settings: &Settings,
+    shown: &Shown,
 ) -> Result<(), AllocError>
     ensures { OnOk result (out.new.items
-        ≡ out.old.items ++ page_bytes (form.owner_forms id.now caller.now owner.now)) }
+        ≡ out.old.items ++ page_bytes (form.owner_forms id.now caller.now settings.now shown.now)) }
 {
-    put_owner_form(out, id, caller, owner)?;
-    put_give_form(out, id)
+    put_owner_form(out, id, caller, &shown.row.owner)?;
+    put_give_form(out, id)?;
+    put_owners(alloc, out, caller, settings, shown)
 }
 
 fn put_field_forms(

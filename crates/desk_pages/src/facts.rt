@@ -7,7 +7,7 @@ ghost use Rattle.desk_pages.specs.Facts as form;
 use crate::lists::{put_links, put_roles};
 use crate::local::{local_at, put_local};
 use crate::pieces::{name_or, put_minute, put_minute_or_dash, word};
-use crate::queue::{class_word, is_late};
+use crate::rows::{class_word, is_late};
 use desk_model::{Dossier, RequestRow, Shown};
 use hours_core::{Calendar, Minute};
 use page_core::{Part, put_parts};

@@ -12,6 +12,7 @@ use std::alloc::AllocError;
 #[derive(Clone, Copy)]
 pub enum Place {
     Home,
+    Find,
     Late,
     Workload,
     /// None of them.
@@ -29,7 +30,7 @@ pub(crate) fn put_top(
         ≡ out.old.items ++ page_bytes (form.top title.now at caller.now)) }
 {
     put_head(out, title)?;
-    put_places(out, is_home(at), is_late(at), is_workload(at))?;
+    put_places(out, is_home(at), is_find(at), is_late(at), is_workload(at))?;
     put_account(out, caller)
 }
 
@@ -47,6 +48,12 @@ fn is_home(at: Place) -> bool
     ensures { result ≡ form.is_home at }
 {
     matches!(at, Place::Home)
+}
+
+fn is_find(at: Place) -> bool
+    ensures { result ≡ form.is_find at }
+{
+    matches!(at, Place::Find)
 }
 
 fn is_late(at: Place) -> bool
@@ -76,7 +83,7 @@ pub(crate) fn put_head(out: &mut Vec<u8>, title: &str) -> Result<(), AllocError>
             Part::Text(title),
             Part::Markup(" "),
             Part::Markup("–"),
-            Part::Markup(" Desk</title>\n<link rel=\"stylesheet\" href=\"/style.css?1\">\n"),
+            Part::Markup(" Desk</title>\n<link rel=\"stylesheet\" href=\"/style.css?2\">\n"),
             Part::Markup("</head>\n<body>\n<a class=\"skip\" href=\"#main\">"),
             Part::Markup("Skip to the content</a>\n<header>\n<b>Desk</b>\n"),
         ],
@@ -87,18 +94,21 @@ pub(crate) fn put_head(out: &mut Vec<u8>, title: &str) -> Result<(), AllocError>
 pub(crate) fn put_places(
     out: &mut Vec<u8>,
     home: bool,
+    find: bool,
     late: bool,
     load: bool,
 ) -> Result<(), AllocError>
     ensures { OnOk result (out.new.items
-        ≡ out.old.items ++ page_bytes (form.places home late load)) }
+        ≡ out.old.items ++ page_bytes (form.places home find late load)) }
 {
     put_parts(
         out,
         &[
             Part::Markup("<nav>\n<a href=\"/\""),
             Part::Markup(word(home, " aria-current=\"page\"")),
-            Part::Markup(">Queues</a>\n<a href=\"/desk/overdue\""),
+            Part::Markup(">Home</a>\n<a href=\"/desk/find\""),
+            Part::Markup(word(find, " aria-current=\"page\"")),
+            Part::Markup(">Find</a>\n<a href=\"/desk/overdue\""),
             Part::Markup(word(late, " aria-current=\"page\"")),
             Part::Markup(">Late</a>\n<a href=\"/desk/workload\""),
             Part::Markup(word(load, " aria-current=\"page\"")),
@@ -159,7 +169,7 @@ pub(crate) fn put_bare_head(out: &mut Vec<u8>, title: &str) -> Result<(), AllocE
             Part::Text(title),
             Part::Markup(" "),
             Part::Markup("–"),
-            Part::Markup(" Desk</title>\n<link rel=\"stylesheet\" href=\"/style.css?1\">\n"),
+            Part::Markup(" Desk</title>\n<link rel=\"stylesheet\" href=\"/style.css?2\">\n"),
             Part::Markup("</head>\n<body class=\"bare\">\n<main>\n"),
         ],
     )

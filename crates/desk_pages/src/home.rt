@@ -1,162 +1,199 @@
 //! The first page.
-ghost use Rattle.std.specs.Prelude.{◌≡◌, ◌++◌, IfOk, OnOk, codes};
+ghost use Rattle.std.specs.Prelude.{◌≡◌, ◌++◌, IfOk, OnOk};
 ghost use Rattle.std.specs.List.{flat_map};
-ghost use Rattle.std.specs.Option.{option_copied};
-ghost use Rattle.desk_texts.specs.Texts.Workload.{all_live, all_overdue};
 ghost use Rattle.page_core.specs.Page.{page_bytes};
 ghost use Rattle.desk_pages.specs.Home as form;
 ghost use Rattle.desk_pages.specs.Pieces.{choice};
 
 use crate::frame::{Place, put_bottom, put_top};
 use crate::pieces::{name_or, put_choice, word};
-use crate::queue::is_of;
-use crate::workload::{late_sum, live_sum};
-use desk_model::{Load, QueueRow};
+use crate::rows::put_table;
+use find_core::{Findings, QueueLoad};
 use hours_core::Minute;
 use itoa::Buffer;
 use page_core::{Part, put_parts};
 use std::alloc::{AllocError, Global};
 use text_core::Text;
 
-/// The first page, for a caller at a moment: how much is open and late of these owners', the
-/// queues, and a form for another one with the names of lifecycles and levels to choose from.
+/// The first page, for a caller at a moment: what is open of what the caller owns and asked for,
+/// what each queue has open and late, what is open and nobody owns, and a form for another queue
+/// with the names of lifecycles and levels to choose from.
 pub fn home_page(
     alloc: Global,
     caller: &str,
     moment: Minute,
-    queues: &[QueueRow],
-    loads: &[Load],
+    own: &Findings,
+    asked: &Findings,
+    loads: &[QueueLoad],
+    free: &Findings,
     lifecycles: &[Text],
     levels: &[Text],
 ) -> Result<Vec<u8>, AllocError>
-    ensures { IfOk result (λ page. page.items ≡ page_bytes
-        (form.home_page caller.now moment queues.now loads.now lifecycles.now levels.now)) }
+    ensures { IfOk result (λ page. page.items ≡ page_bytes (form.home_page caller.now moment own.now
+        asked.now loads.now free.now lifecycles.now levels.now)) }
 {
     let mut out = Vec::new(alloc);
-    put_top(&mut out, "Queues", Place::Home, caller)?;
-    put_tiles(&mut out, caller, loads)?;
-    put_queues(&mut out, queues)?;
-    put_opening_form(&mut out, lifecycles, levels)?;
+    put_top(&mut out, "Home", Place::Home, caller)?;
+    put_home_content(
+        &mut out, caller, moment, own, asked, loads, free, lifecycles, levels,
+    )?;
     put_bottom(&mut out, moment)?;
     Ok(out)
 }
 
-fn put_tiles(out: &mut Vec<u8>, caller: &str, loads: &[Load]) -> Result<(), AllocError>
-    ensures { OnOk result (out.new.items
-        ≡ out.old.items ++ page_bytes (form.home_top ++ form.tiles caller.now loads.now)) }
+#[tactic(auto, unfolding(crate::specs::Home::home_content))]
+fn put_home_content(
+    out: &mut Vec<u8>,
+    caller: &str,
+    moment: Minute,
+    own: &Findings,
+    asked: &Findings,
+    loads: &[QueueLoad],
+    free: &Findings,
+    lifecycles: &[Text],
+    levels: &[Text],
+) -> Result<(), AllocError>
+    ensures { OnOk result (out.new.items ≡ out.old.items ++ page_bytes (form.home_content caller.now
+        moment own.now asked.now loads.now free.now lifecycles.now levels.now)) }
 {
     put_home_top(out)?;
-    put_own_tile(out, caller, loads)?;
-    put_free_tile(out, loads)?;
-    put_all_tile(out, loads)
+    put_own_lists(out, caller, moment, own, asked)?;
+    put_queues(out, loads)?;
+    put_free(out, caller, moment, free)?;
+    put_opening_form(out, lifecycles, levels)
 }
 
-fn put_own_tile(out: &mut Vec<u8>, caller: &str, loads: &[Load]) -> Result<(), AllocError>
+#[tactic(auto, unfolding(crate::specs::Home::own_lists))]
+fn put_own_lists(
+    out: &mut Vec<u8>,
+    caller: &str,
+    moment: Minute,
+    own: &Findings,
+    asked: &Findings,
+) -> Result<(), AllocError>
     ensures { OnOk result (out.new.items ≡ out.old.items
-        ++ page_bytes (form.load_tile (codes "You own") (form.own_load caller.now loads.now))) }
+        ++ page_bytes (form.own_lists caller.now moment own.now asked.now)) }
 {
-    put_load_tile(out, "You own", own_load(caller, loads))
+    put_own(out, caller, moment, own)?;
+    put_asked(out, caller, moment, asked)
 }
 
-fn put_free_tile(out: &mut Vec<u8>, loads: &[Load]) -> Result<(), AllocError>
+fn put_own(
+    out: &mut Vec<u8>,
+    caller: &str,
+    moment: Minute,
+    own: &Findings,
+) -> Result<(), AllocError>
     ensures { OnOk result (out.new.items ≡ out.old.items
-        ++ page_bytes (form.load_tile (codes "Nobody owns") (form.free_load loads.now))) }
+        ++ page_bytes (form.own_list caller.now moment own.now)) }
 {
-    put_load_tile(out, "Nobody owns", free_load(loads))
-}
-
-fn put_all_tile(out: &mut Vec<u8>, loads: &[Load]) -> Result<(), AllocError>
-    ensures { OnOk result (out.new.items ≡ out.old.items ++ page_bytes
-        (form.tile_of (codes "All that you may see") (all_live loads.now) (all_overdue loads.now))) }
-{
-    put_tile_of(
+    put_section(
         out,
-        "All that you may see",
-        live_sum(loads),
-        late_sum(loads),
+        "You own",
+        "owner=Me&state=open&order=due",
+        caller,
+        moment,
+        own,
     )
 }
 
-/// Puts how much an owner has to do.
-#[tactic(auto, unfolding(crate::specs::Home::load_tile))]
-fn put_load_tile(out: &mut Vec<u8>, whose: &str, load: Option<&Load>) -> Result<(), AllocError>
+fn put_asked(
+    out: &mut Vec<u8>,
+    caller: &str,
+    moment: Minute,
+    asked: &Findings,
+) -> Result<(), AllocError>
     ensures { OnOk result (out.new.items ≡ out.old.items
-        ++ page_bytes (form.load_tile whose.now (option_copied load.entry))) }
+        ++ page_bytes (form.asked_list caller.now moment asked.now)) }
 {
-    put_tile_of(out, whose, live_of(load), late_of(load))
+    put_section(
+        out,
+        "You asked for",
+        "requestor=Me&state=open&order=due",
+        caller,
+        moment,
+        asked,
+    )
 }
 
-/// What the caller has to do.
-#[tactic(auto, unfolding(crate::specs::Home::own_load))]
-fn own_load<'l>(caller: &str, loads: &'l [Load]) -> Option<&'l Load>
-    ensures { option_copied result ≡ form.own_load caller.now loads.entry.now }
+fn put_free(
+    out: &mut Vec<u8>,
+    caller: &str,
+    moment: Minute,
+    free: &Findings,
+) -> Result<(), AllocError>
+    ensures { OnOk result (out.new.items ≡ out.old.items
+        ++ page_bytes (form.free_list caller.now moment free.now)) }
 {
-    loads.iter().find(|load| is_of(caller, &load.owner))
+    put_section(
+        out,
+        "Nobody owns",
+        "owner=Nobody&state=open&order=due",
+        caller,
+        moment,
+        free,
+    )
 }
 
-/// What nobody owns.
-#[tactic(auto, unfolding(crate::specs::Home::free_load))]
-fn free_load(loads: &[Load]) -> Option<&Load>
-    ensures { option_copied result ≡ form.free_load loads.entry.now }
+/// Puts how many of a list there are, and the first of them if there are any.
+#[tactic(auto, unfolding(crate::specs::Home::section))]
+fn put_section(
+    out: &mut Vec<u8>,
+    title: &str,
+    query: &str,
+    caller: &str,
+    moment: Minute,
+    found: &Findings,
+) -> Result<(), AllocError>
+    ensures { OnOk result (out.new.items ≡ out.old.items
+        ++ page_bytes (form.section title.now query.now caller.now moment found.now)) }
 {
-    loads.iter().find(|load| load.owner.is_none())
-}
-
-/// How many requests an owner has; none, where there is no such owner.
-fn live_of(load: Option<&Load>) -> u128
-    ensures { result ≡ form.live_of (option_copied load.entry) }
-{
-    match load {
-        Some(load) => u128::from(load.live),
-        None => 0,
+    let mut digits = Buffer::new();
+    put_section_top(out, title, digits.format(found.count))?;
+    if found.count == 0 {
+        return Ok(());
     }
+    put_table(out, title, caller, moment, found.rows.as_slice())?;
+    put_rest_link(out, query)
 }
 
-/// How many of them are late.
-fn late_of(load: Option<&Load>) -> u128
-    ensures { result ≡ form.late_of (option_copied load.entry) }
-{
-    match load {
-        Some(load) => u128::from(load.overdue),
-        None => 0,
-    }
-}
-
-#[tactic(auto, unfolding(crate::specs::Home::tile_of))]
-fn put_tile_of(out: &mut Vec<u8>, whose: &str, live: u128, late: u128) -> Result<(), AllocError>
+#[tactic(auto, unfolding(crate::specs::Home::queues))]
+fn put_queues(out: &mut Vec<u8>, loads: &[QueueLoad]) -> Result<(), AllocError>
     ensures { OnOk result (out.new.items
-        ≡ out.old.items ++ page_bytes (form.tile_of whose.now live late)) }
-{
-    let mut live_digits = Buffer::new();
-    let mut late_digits = Buffer::new();
-    put_tile(
-        out,
-        whose,
-        live_digits.format(live),
-        late != 0,
-        late_digits.format(late),
-    )
-}
-
-fn put_queues(out: &mut Vec<u8>, queues: &[QueueRow]) -> Result<(), AllocError>
-    ensures { OnOk result (out.new.items ≡ out.old.items
-        ++ page_bytes (form.queues_head ++ flat_map form.queue_row queues.now)) }
+        ≡ out.old.items ++ page_bytes (form.queues loads.now)) }
 {
     put_queues_head(out)?;
-    put_queue_rows(out, queues)
+    put_queue_rows(out, loads)?;
+    put_queues_end(out)
 }
 
-fn put_queue_rows(out: &mut Vec<u8>, queues: &[QueueRow]) -> Result<(), AllocError>
+fn put_queue_rows(out: &mut Vec<u8>, loads: &[QueueLoad]) -> Result<(), AllocError>
     ensures { OnOk result (out.new.items
-        ≡ out.old.items ++ page_bytes (flat_map form.queue_row queues.now)) }
+        ≡ out.old.items ++ page_bytes (flat_map form.queue_row loads.now)) }
 {
-    for queue in queues {
-        let level = name_or(&queue.level, "–");
-        put_queue_cells(out, queue.name.as_str(), queue.lifecycle.as_str(), level)?;
+    for load in loads {
+        put_queue_row(out, load)?;
     }
     Ok(())
 }
 
+fn put_queue_row(out: &mut Vec<u8>, load: &QueueLoad) -> Result<(), AllocError>
+    ensures { OnOk result (out.new.items
+        ≡ out.old.items ++ page_bytes (form.queue_row load.now)) }
+{
+    let mut open = Buffer::new();
+    let mut late = Buffer::new();
+    put_queue_cells(
+        out,
+        load.queue.name.as_str(),
+        open.format(load.open),
+        late.format(load.late),
+        load.late != 0,
+        name_or(&load.queue.level, "–"),
+    )
+}
+
+#[tactic(auto, unfolding(crate::specs::Home::opening_form))]
 fn put_opening_form(
     out: &mut Vec<u8>,
     lifecycles: &[Text],
@@ -184,53 +221,58 @@ fn put_choices(out: &mut Vec<u8>, names: &[Text]) -> Result<(), AllocError>
 
 #[tactic(auto, unfolding(crate::specs::Home::home_top))]
 fn put_home_top(out: &mut Vec<u8>) -> Result<(), AllocError>
-    ensures { OnOk result (out.new.items ≡ out.old.items ++ page_bytes form.home_top) }
+    ensures { OnOk result (out.new.items
+        ≡ out.old.items ++ page_bytes form.home_top) }
 {
-    put_parts(
-        out,
-        &[Part::Markup("<h1>Queues</h1>\n<dl class=\"tiles\">\n")],
-    )
+    put_parts(out, &[Part::Markup("<h1>Home</h1>\n")])
 }
 
-#[tactic(auto, unfolding(crate::specs::Home::tile))]
-fn put_tile<'t>(
-    out: &mut Vec<u8>,
-    whose: &'t str,
-    live: &'t str,
-    is_late: bool,
-    late: &'t str,
-) -> Result<(), AllocError>
+#[tactic(auto, unfolding(crate::specs::Home::section_top))]
+fn put_section_top<'t>(out: &mut Vec<u8>, title: &'t str, count: &'t str) -> Result<(), AllocError>
     ensures { OnOk result (out.new.items
-        ≡ out.old.items ++ page_bytes (form.tile whose.now live.now is_late late.now)) }
+        ≡ out.old.items ++ page_bytes (form.section_top title.now count.now)) }
 {
     put_parts(
         out,
         &[
-            Part::Markup("<div><dt>"),
-            Part::Text(whose),
-            Part::Markup("</dt><dd><b>"),
-            Part::Text(live),
-            Part::Markup("</b> open</dd><dd"),
-            Part::Markup(word(is_late, " class=\"late\"")),
-            Part::Markup("><a href=\"/desk/overdue\"><b>"),
-            Part::Text(late),
-            Part::Markup("</b> late</a></dd></div>\n"),
+            Part::Markup("<h2>"),
+            Part::Text(title),
+            Part::Markup(" <small>"),
+            Part::Text(count),
+            Part::Markup(" open</small></h2>\n"),
+        ],
+    )
+}
+
+#[tactic(auto, unfolding(crate::specs::Home::rest_link))]
+fn put_rest_link(out: &mut Vec<u8>, query: &str) -> Result<(), AllocError>
+    ensures { OnOk result (out.new.items
+        ≡ out.old.items ++ page_bytes (form.rest_link query.now)) }
+{
+    put_parts(
+        out,
+        &[
+            Part::Markup("<p><a href=\"/desk/find?"),
+            Part::Text(query),
+            Part::Markup("\">All of them</a></p>\n"),
         ],
     )
 }
 
 #[tactic(auto, unfolding(crate::specs::Home::queues_head))]
 fn put_queues_head(out: &mut Vec<u8>) -> Result<(), AllocError>
-    ensures { OnOk result (out.new.items ≡ out.old.items ++ page_bytes form.queues_head) }
+    ensures { OnOk result (out.new.items
+        ≡ out.old.items ++ page_bytes form.queues_head) }
 {
     put_parts(
         out,
         &[
-            Part::Markup("</dl>\n<table class=\"queues\">\n<caption>"),
+            Part::Markup("<table class=\"queues\">\n<caption>"),
             Part::Markup("The queues that you may see</caption>\n<thead><tr>"),
-            Part::Markup("<th scope=\"col\">Queue</th><th scope=\"col\">Lifecycle</th>"),
-            Part::Markup("<th scope=\"col\">Level</th><th scope=\"col\"><span class=\"off\">"),
-            Part::Markup("New request</span></th></tr></thead>\n<tbody>\n"),
+            Part::Markup("<th scope=\"col\">Queue</th><th scope=\"col\">Open</th>"),
+            Part::Markup("<th scope=\"col\">Late</th><th scope=\"col\">Level</th>"),
+            Part::Markup("<th scope=\"col\"><span class=\"off\">New request</span></th>"),
+            Part::Markup("</tr></thead>\n<tbody>\n"),
         ],
     )
 }
@@ -239,11 +281,13 @@ fn put_queues_head(out: &mut Vec<u8>) -> Result<(), AllocError>
 fn put_queue_cells<'t>(
     out: &mut Vec<u8>,
     name: &'t str,
-    lifecycle: &'t str,
+    count: &'t str,
+    late: &'t str,
+    is_late: bool,
     level: &'t str,
 ) -> Result<(), AllocError>
     ensures { OnOk result (out.new.items
-        ≡ out.old.items ++ page_bytes (form.queue_cells name.now lifecycle.now level.now)) }
+        ≡ out.old.items ++ page_bytes (form.queue_cells name.now count.now late.now is_late level.now)) }
 {
     put_parts(
         out,
@@ -253,7 +297,11 @@ fn put_queue_cells<'t>(
             Part::Markup("\">"),
             Part::Text(name),
             Part::Markup("</a></th><td>"),
-            Part::Text(lifecycle),
+            Part::Text(count),
+            Part::Markup("</td><td"),
+            Part::Markup(word(is_late, " class=\"late\"")),
+            Part::Markup(">"),
+            Part::Text(late),
             Part::Markup("</td><td>"),
             Part::Text(level),
             Part::Markup("</td><td><a href=\"/desk/queues/"),
@@ -265,14 +313,23 @@ fn put_queue_cells<'t>(
     )
 }
 
+#[tactic(auto, unfolding(crate::specs::Home::queues_end))]
+fn put_queues_end(out: &mut Vec<u8>) -> Result<(), AllocError>
+    ensures { OnOk result (out.new.items
+        ≡ out.old.items ++ page_bytes form.queues_end) }
+{
+    put_parts(out, &[Part::Markup("</tbody>\n</table>\n")])
+}
+
 #[tactic(auto, unfolding(crate::specs::Home::queue_form))]
 fn put_queue_form(out: &mut Vec<u8>) -> Result<(), AllocError>
-    ensures { OnOk result (out.new.items ≡ out.old.items ++ page_bytes form.queue_form) }
+    ensures { OnOk result (out.new.items
+        ≡ out.old.items ++ page_bytes form.queue_form) }
 {
     put_parts(
         out,
         &[
-            Part::Markup("</tbody>\n</table>\n<details>\n<summary>Open a queue</summary>\n"),
+            Part::Markup("<details>\n<summary>Open a queue</summary>\n"),
             Part::Markup("<form class=\"sheet\" method=\"post\" action=\"/desk/queues\">\n"),
             Part::Markup("<label for=\"queue\">Name</label>\n"),
             Part::Markup("<input id=\"queue\" name=\"queue\" autocapitalize=\"none\""),
@@ -286,24 +343,29 @@ fn put_queue_form(out: &mut Vec<u8>) -> Result<(), AllocError>
 
 #[tactic(auto, unfolding(crate::specs::Home::level_choice))]
 fn put_level_choice(out: &mut Vec<u8>) -> Result<(), AllocError>
-    ensures { OnOk result (out.new.items ≡ out.old.items ++ page_bytes form.level_choice) }
+    ensures { OnOk result (out.new.items
+        ≡ out.old.items ++ page_bytes form.level_choice) }
 {
     put_parts(
         out,
         &[
             Part::Markup("</select>\n<label for=\"level\">Level</label>\n"),
-            Part::Markup("<select id=\"level\" name=\"level\">\n<option value=\"\">none"),
-            Part::Markup("</option>\n"),
+            Part::Markup("<select id=\"level\" name=\"level\">\n<option value=\"\">"),
+            Part::Markup("none</option>\n"),
         ],
     )
 }
 
 #[tactic(auto, unfolding(crate::specs::Home::home_end))]
 fn put_home_end(out: &mut Vec<u8>) -> Result<(), AllocError>
-    ensures { OnOk result (out.new.items ≡ out.old.items ++ page_bytes form.home_end) }
+    ensures { OnOk result (out.new.items
+        ≡ out.old.items ++ page_bytes form.home_end) }
 {
     put_parts(
         out,
-        &[Part::Markup("</select>\n<button>Open the queue</button>\n</form>\n</details>\n")],
+        &[
+            Part::Markup("</select>\n<button>Open the queue</button>\n</form>\n"),
+            Part::Markup("</details>\n"),
+        ],
     )
 }

@@ -9,7 +9,9 @@ mod change;
 mod facts;
 mod fault;
 mod fields;
+mod find;
 mod frame;
+mod half;
 mod history;
 mod home;
 mod laws;
@@ -19,27 +21,30 @@ mod moves;
 mod new;
 mod overdue;
 mod owner;
+mod owners;
 mod people;
 mod pieces;
-mod queue;
 mod refusal;
 mod refused;
 mod request;
+mod rows;
+mod search;
 mod sign_in;
 mod workload;
 mod write;
 
 pub use ask::Typed;
 pub use fault::fault_page;
+pub use find::{find_fault_page, find_page};
 pub use frame::Place;
+pub use half::{filed_page, replied_page};
 pub use home::home_page;
 pub use laws::{
-    fault_page_law, home_page_law, new_page_law, overdue_page_law, queue_page_law,
-    refusal_page_law, request_page_law, sign_in_page_law, workload_page_law,
+    fault_page_law, find_page_law, home_page_law, new_page_law, overdue_page_law, refusal_page_law,
+    request_page_law, sign_in_page_law, workload_page_law,
 };
 pub use new::new_page;
 pub use overdue::overdue_page;
-pub use queue::queue_page;
 pub use refusal::{
     ask_refusal_page, comment_refusal_page, refusal_page, reply_refusal_page, request_refusal_page,
 };

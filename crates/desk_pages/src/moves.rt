@@ -4,7 +4,7 @@ ghost use Rattle.std.specs.Option.{option_map};
 ghost use Rattle.page_core.specs.Page.{page_bytes};
 ghost use Rattle.desk_pages.specs.Moves as form;
 
-use crate::queue::class_word;
+use crate::rows::class_word;
 use lifecycle_core::Lifecycle;
 use page_core::{Part, put_parts};
 use std::alloc::AllocError;
@@ -40,6 +40,27 @@ fn put_moves_by(
         put_move_form(out, id, lifecycle, from)?;
     }
     Ok(())
+}
+
+/// The first inactive status of a lifecycle, where it lets a request move to that from this one.
+pub(crate) fn closing<'l>(lifecycle: Option<&'l Lifecycle>, from: &str) -> Option<&'l str>
+    ensures { option_map (λ s. s.now) result
+        ≡ form.closing (option_map (λ l. l.now) lifecycle.entry) from.now }
+{
+    match lifecycle {
+        Some(lifecycle) => closing_by(lifecycle, from),
+        None => None,
+    }
+}
+
+fn closing_by<'l>(lifecycle: &'l Lifecycle, from: &str) -> Option<&'l str>
+    ensures { option_map (λ s. s.now) result
+        ≡ form.closing_among lifecycle.entry.now from.now lifecycle.entry.now.inactive }
+{
+    match lifecycle.parts().inactive.as_slice() {
+        [first, ..] if lifecycle.may_move(from, first.as_str()) => Some(first.as_str()),
+        _ => None,
+    }
 }
 
 /// Whether there is a move from this status.

@@ -50,6 +50,7 @@ fn put_content(
 {
     let nothing = Typed {
         subject: "",
+        text: "",
         requestors: "",
     };
     put_crumbs(out, queue)?;

@@ -7,7 +7,7 @@ ghost use Rattle.desk_pages.specs.Overdue as form;
 
 use crate::frame::{Place, put_bottom, put_top};
 use crate::pieces::{name_or, put_minute, put_table_end, word};
-use crate::queue::is_of;
+use crate::rows::is_of;
 use desk_model::LateLine;
 use hours_core::Minute;
 use itoa::Buffer;

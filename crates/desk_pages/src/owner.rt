@@ -85,7 +85,7 @@ pub(crate) fn put_give_form(out: &mut Vec<u8>, id: &str) -> Result<(), AllocErro
             Part::Markup("<form method=\"post\" action=\"/desk/requests/"),
             Part::Text(id),
             Part::Markup("/give\">\n<label for=\"person\">Give it to</label>\n"),
-            Part::Markup("<input id=\"person\" name=\"person\" list=\"people\""),
+            Part::Markup("<input id=\"person\" name=\"person\" list=\"owners\""),
             Part::Markup(" autocapitalize=\"none\" spellcheck=\"false\" autocomplete=\"off\""),
             Part::Markup(" required>\n<button>Give</button>\n</form>\n"),
         ],

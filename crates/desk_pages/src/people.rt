@@ -5,7 +5,7 @@ ghost use Rattle.page_core.specs.Page.{page_bytes};
 ghost use Rattle.desk_pages.specs.People as form;
 ghost use Rattle.desk_pages.specs.Pieces.{parts_if};
 
-use crate::queue::is_of;
+use crate::rows::is_of;
 use desk_model::Shown;
 use page_core::{Part, put_parts};
 use std::alloc::AllocError;
@@ -25,7 +25,7 @@ pub(crate) fn put_people(out: &mut Vec<u8>, caller: &str, shown: &Shown) -> Resu
     put_people_end(out)
 }
 
-fn put_persons(out: &mut Vec<u8>, names: &[Text]) -> Result<(), AllocError>
+pub(crate) fn put_persons(out: &mut Vec<u8>, names: &[Text]) -> Result<(), AllocError>
     ensures { OnOk result (out.new.items
         ≡ out.old.items ++ page_bytes (flat_map form.person names.now)) }
 {
@@ -86,7 +86,7 @@ fn put_person(out: &mut Vec<u8>, name: &str) -> Result<(), AllocError>
 }
 
 #[tactic(auto, unfolding(crate::specs::People::people_end))]
-fn put_people_end(out: &mut Vec<u8>) -> Result<(), AllocError>
+pub(crate) fn put_people_end(out: &mut Vec<u8>) -> Result<(), AllocError>
     ensures { OnOk result (out.new.items ≡ out.old.items ++ page_bytes form.people_end) }
 {
     put_parts(out, &[Part::Markup("</datalist>\n")])

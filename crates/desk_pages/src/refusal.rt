@@ -3,6 +3,7 @@ ghost use Rattle.std.specs.Prelude.{◌≡◌, ◌++◌, IfOk, OnOk};
 ghost use Rattle.page_core.specs.Page.{page_bytes};
 ghost use Rattle.desk_pages.specs.RefusalPage as form;
 ghost use Rattle.desk_pages.specs.Refused.{notice_of, to_queues, write_close, write_open};
+ghost use Rattle.std.specs.Option.{option_map};
 ghost use Rattle.desk_pages.specs.Write.{comment, reply};
 ghost use Rattle.std.specs.Prelude.{decimal};
 ghost use Rattle.desk_pages.specs.Ask.{ask};
@@ -74,7 +75,8 @@ fn put_on_request(out: &mut Vec<u8>, refusal: &Refusal, id: u32) -> Result<(), A
     put_way_to_request(out, is_found(refusal), id)
 }
 
-/// The page of a reply that was refused, for a caller at a moment, with the text that was typed.
+/// The page of a reply that was refused, for a caller at a moment, with the text that was typed and
+/// the status that was chosen.
 pub fn reply_refusal_page(
     alloc: Global,
     refusal: &Refusal,
@@ -82,14 +84,16 @@ pub fn reply_refusal_page(
     moment: Minute,
     id: u32,
     text: &str,
+    status: Option<&str>,
 ) -> Result<Vec<u8>, AllocError>
-    ensures { IfOk result (λ page. page.items
-        ≡ page_bytes (form.reply_refusal_page refusal.now caller.now moment id text.now)) }
+    ensures { IfOk result (λ page. page.items ≡ page_bytes
+        (form.reply_refusal_page refusal.now caller.now moment id text.now
+        (option_map (λ s. s.now) status.entry))) }
 {
     let mut out = Vec::new(alloc);
     put_top(&mut out, heading_of(refusal), Place::Elsewhere, caller)?;
     put_why(&mut out, refusal, id)?;
-    put_reply_form(&mut out, id, text)?;
+    put_reply_form(&mut out, id, text, status, true)?;
     put_way_to_request(&mut out, is_found(refusal), id)?;
     put_bottom(&mut out, moment)?;
     Ok(out)
@@ -124,13 +128,21 @@ fn put_why(out: &mut Vec<u8>, refusal: &Refusal, id: u32) -> Result<(), AllocErr
     put_refusal(out, refusal)
 }
 
-fn put_reply_form(out: &mut Vec<u8>, id: u32, text: &str) -> Result<(), AllocError>
+pub(crate) fn put_reply_form(
+    out: &mut Vec<u8>,
+    id: u32,
+    text: &str,
+    status: Option<&str>,
+    ticked: bool,
+) -> Result<(), AllocError>
     ensures { OnOk result (out.new.items ≡ out.old.items ++ page_bytes
-        (write_open ++ (reply (decimal id) text.now ++ write_close))) }
+        (write_open
+        ++ (reply (decimal id) text.now (option_map (λ s. s.now) status.entry) ticked
+        ++ write_close))) }
 {
     let mut number = Buffer::new();
     put_write_open(out)?;
-    put_reply(out, number.format(id), text)?;
+    put_reply(out, number.format(id), text, status, ticked)?;
     put_write_close(out)
 }
 
@@ -157,7 +169,7 @@ pub fn ask_refusal_page(
 ) -> Result<Vec<u8>, AllocError>
     ensures { IfOk result (λ page. page.items ≡ page_bytes
         (form.ask_refusal_page refusal.now caller.now moment queue.now typed.entry.subject.now
-        typed.entry.requestors.now usual.now statuses.now)) }
+        typed.entry.text.now typed.entry.requestors.now usual.now statuses.now)) }
 {
     let mut out = Vec::new(alloc);
     put_top(&mut out, heading_of(refusal), Place::Elsewhere, caller)?;

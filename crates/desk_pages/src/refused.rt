@@ -68,6 +68,18 @@ fn front_of(refusal: &Refusal) -> &'static str
     }
 }
 
+/// The same of the second of two commands, after the first was done: it isn't said that nothing was
+/// changed.
+#[tactic(auto, unfolding(crate::specs::Refused::front_after))]
+fn front_after(refusal: &Refusal) -> &'static str
+    ensures { result.now ≡ form.front_after refusal.now }
+{
+    match refusal {
+        Refusal::Unavailable => "The desk couldn’t do this just now: please try again in a moment.",
+        _ => front_of(refusal),
+    }
+}
+
 /// The right that is lacking.
 fn right_of(refusal: &Refusal) -> &str
     ensures { result.now ≡ form.right_of refusal.entry.now }
@@ -100,6 +112,24 @@ pub(crate) fn put_refusal(out: &mut Vec<u8>, refusal: &Refusal) -> Result<(), Al
         out,
         heading_of(refusal),
         front_of(refusal),
+        right_of(refusal),
+        back_of(refusal),
+        number.format(u32::from(refusal.number())),
+        refusal.name(),
+        is_denied(refusal),
+    )
+}
+
+/// Puts the same of the second of two commands, after the first was done.
+pub(crate) fn put_refusal_after(out: &mut Vec<u8>, refusal: &Refusal) -> Result<(), AllocError>
+    ensures { OnOk result (out.new.items
+        ≡ out.old.items ++ page_bytes (form.notice_after refusal.now)) }
+{
+    let mut number = Buffer::new();
+    put_notice(
+        out,
+        heading_of(refusal),
+        front_after(refusal),
         right_of(refusal),
         back_of(refusal),
         number.format(u32::from(refusal.number())),

@@ -1,5 +1,6 @@
 //! The page of a request.
 ghost use Rattle.std.specs.Prelude.{◌≡◌, ◌++◌, IfOk, OnOk, string_bytes};
+ghost use Rattle.std.specs.Option.{option_map};
 ghost use Rattle.page_core.specs.Page.{page_bytes};
 ghost use Rattle.desk_pages.specs.Request as form;
 
@@ -7,6 +8,7 @@ use crate::change::{is_open, put_change};
 use crate::facts::put_facts;
 use crate::frame::{Place, put_bottom, put_top};
 use crate::history::put_history;
+use crate::moves::closing;
 use crate::write::{put_comment, put_reply};
 use desk_model::{Dossier, RequestRow};
 use hours_core::Minute;
@@ -34,7 +36,7 @@ pub fn request_page(
     let title = title_of(alloc, row.id, row.subject.as_str())?;
     let mut out = Vec::new(alloc);
     put_top(&mut out, title.as_str(), Place::Elsewhere, caller)?;
-    put_content(&mut out, caller, moment, settings, dossier)?;
+    put_content(alloc, &mut out, caller, moment, settings, dossier)?;
     put_bottom(&mut out, moment)?;
     Ok(out)
 }
@@ -49,6 +51,7 @@ fn title_of(alloc: Global, id: u32, subject: &str) -> Result<String, AllocError>
 }
 
 fn put_content(
+    alloc: Global,
     out: &mut Vec<u8>,
     caller: &str,
     moment: Minute,
@@ -61,7 +64,7 @@ fn put_content(
     let mut digits = Buffer::new();
     let id = digits.format(dossier.shown.row.id);
     put_told(out, id, caller, moment, settings, dossier)?;
-    put_acts(out, id, caller, settings, dossier)
+    put_acts(alloc, out, id, caller, settings, dossier)
 }
 
 /// Puts what is told of the request of this number.
@@ -85,6 +88,7 @@ fn put_told(
 
 /// Puts what may be done with it.
 fn put_acts(
+    alloc: Global,
     out: &mut Vec<u8>,
     id: &str,
     caller: &str,
@@ -94,8 +98,8 @@ fn put_acts(
     ensures { OnOk result (out.new.items ≡ out.old.items ++ page_bytes
         (form.request_acts id.now caller.now settings.now dossier.now)) }
 {
-    put_writing(out, id)?;
-    put_change(out, caller, settings, dossier)?;
+    put_writing(out, id, closing_for(caller, settings, dossier))?;
+    put_change(alloc, out, caller, settings, dossier)?;
     put_request_end(out)
 }
 
@@ -106,11 +110,26 @@ fn put_heading(out: &mut Vec<u8>, id: &str, row: &RequestRow) -> Result<(), Allo
     put_request_head(out, row.queue.as_str(), id, row.subject.as_str())
 }
 
-fn put_writing(out: &mut Vec<u8>, id: &str) -> Result<(), AllocError>
-    ensures { OnOk result (out.new.items ≡ out.old.items ++ page_bytes (form.writing id.now)) }
+/// The status to which the request can be moved with a reply: the first inactive one, but by no
+/// requestor.
+fn closing_for<'s>(caller: &str, settings: &'s Settings, dossier: &Dossier) -> Option<&'s str>
+    ensures { option_map (λ s. s.now) result
+        ≡ form.closing_for caller.now settings.entry.now dossier.now }
+{
+    if is_open(caller, &dossier.shown) {
+        let lifecycle = settings.lifecycle(dossier.queue.lifecycle.as_str());
+        closing(lifecycle, dossier.shown.row.status.as_str())
+    } else {
+        None
+    }
+}
+
+fn put_writing(out: &mut Vec<u8>, id: &str, status: Option<&str>) -> Result<(), AllocError>
+    ensures { OnOk result (out.new.items ≡ out.old.items ++ page_bytes
+        (form.writing id.now (option_map (λ s. s.now) status.entry))) }
 {
     put_reply_open(out)?;
-    put_reply(out, id, "")?;
+    put_reply(out, id, "", status, false)?;
     put_comment_open(out)?;
     put_comment(out, id, "")?;
     put_comment_close(out)

@@ -8,7 +8,7 @@ ghost use Rattle.desk_pages.specs.Workload as form;
 
 use crate::frame::{Place, put_bottom, put_top};
 use crate::pieces::{name_or, word};
-use crate::queue::is_of;
+use crate::rows::is_of;
 use desk_model::Load;
 use hours_core::Minute;
 use itoa::Buffer;

@@ -134,8 +134,8 @@ details { margin-top: 1rem }
 
 .sheet { max-width: 40rem; padding: 1rem 1.25rem 1.25rem; background: var(--sheet); border: 1px solid var(--line); border-radius: .5rem }
 .sheet label { display: block; font-weight: 600; margin-bottom: .25rem }
-.sheet > :is(input, select) { margin-bottom: .75rem }
-.sheet > input:has(+ p) { margin-bottom: .25rem }
+.sheet > :is(input, select, textarea) { margin-bottom: .75rem }
+.sheet > :is(input, textarea):has(+ p) { margin-bottom: .25rem }
 .sheet p { color: var(--soft); font-size: .875rem; margin-bottom: .75rem }
 .sheet > button { margin-top: .25rem }
 
@@ -283,12 +283,12 @@ meter + meter::-moz-meter-bar { background: repeating-linear-gradient(135deg, va
 .bare h1 { padding-top: .75rem; border-top: .25rem solid var(--fill) }
 .bare form { padding: 1.25rem; margin-bottom: 1rem; background: var(--sheet); border: 1px solid var(--line); border-radius: .5rem }
 .bare label { display: block; margin-bottom: .375rem; font-weight: 600 }
-.bare .line { display: flex; align-items: center; gap: .5rem; margin: .875rem 0; font-weight: 400 }
+:is(.bare, .write) .line { display: flex; align-items: center; gap: .5rem; margin: .875rem 0; font-weight: 400 }
 .bare form button { width: 100% }
 
 /* Small screens: each row of a list becomes a few lines */
 
-@media (max-width: 44rem) {
+@media (max-width: 52rem) {
   h1 { font-size: 1.1875rem }
   .list thead { position: absolute; width: 1px; height: 1px; overflow: hidden; clip-path: inset(50%) }
   .list { border: 0; background: none }

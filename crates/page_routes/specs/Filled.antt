@@ -32,9 +32,10 @@ needed forms.Link = codes "kind" ∷ codes "other" ∷ []
 needed forms.Unlink = codes "kind" ∷ codes "other" ∷ []
 needed _ = []
 
--- that which it may send
+-- those that it may send: with a new request the first text, and with a reply a status
 abbrev pub others : Form → List (List ℕ)
-others forms.Create = codes "status" ∷ []
+others forms.Create = codes "status" ∷ codes "text" ∷ []
+others forms.Reply = codes "status" ∷ []
 others _ = []
 
 -- ---- the command

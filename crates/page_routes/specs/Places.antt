@@ -1,5 +1,7 @@
 -- The places of the pages, by the bytes of their paths.
-use Rattle.std.specs.Prelude.{ℕ, Bool, true, false, ◌||◌, if◌then◌else◌, List, take, drop, length}
+use Rattle.std.specs.Prelude.{ℕ, nat_le, Bool, true, false, ◌&&◌, ◌||◌, if◌then◌else◌}
+use Rattle.std.specs.Prelude.{List, [], take, drop, length, unwrap_or}
+use Rattle.std.specs.List.{list_all}
 use Rattle.std.specs.Prelude.{Option, Some, None, codes}
 use Rattle.std.specs.Option.{option_and_then, option_map, option_or}
 use Rattle.std.specs.Str.{bytes_eq}
@@ -11,9 +13,13 @@ use Rattle.desk_forms.specs.declared.paths.Method.{Method}
 use Rattle.desk_forms.specs.declared.paths.Method.TheVariants.{Get, Post}
 use Rattle.desk_forms.specs.declared.table.Form.{Form}
 use Rattle.desk_forms.specs.declared.table.Form.TheVariants as forms
+use Rattle.find_core.specs.declared.search.Place as find
+use Rattle.find_form.specs.Address as address
+use Rattle.find_form.specs.declared.shown.Start.{Start}
+use Rattle.find_form.specs.declared.shown.Start.TheVariants.{First, After, Before}
 use Rattle.page_routes.specs.declared.page.Page.{Page}
 use Rattle.page_routes.specs.declared.page.Page.TheVariants.{Home, Queue, New, Request, Overdue}
-use Rattle.page_routes.specs.declared.page.Page.TheVariants.{Workload}
+use Rattle.page_routes.specs.declared.page.Page.TheVariants.{Workload, Find}
 use Rattle.page_routes.specs.declared.place.Place.{Place}
 use Rattle.page_routes.specs.declared.place.Place.TheVariants as places
 
@@ -92,6 +98,43 @@ in_requests rest =
     option_and_then (λ id. request_page id (rest_after 47 rest))
     (option_and_then number_of (text_in (before 47 rest)))
 
+-- ---- searches
+
+-- the place of a key and a number
+abbrev pub place_in : List ℕ → Option find.Place
+place_in rest =
+    option_and_then (λ key. option_and_then (address.place_in key)
+    (text_in (unwrap_or (rest_after 47 rest) []))) (text_in (before 47 rest))
+
+abbrev pub start_behind : Option (List ℕ) → Option (List ℕ) → Option Start
+start_behind (Some rest) rest_before = option_map After (place_in rest)
+start_behind None (Some rest) = option_map Before (place_in rest)
+start_behind None None = None
+
+-- where a page of a search begins
+abbrev pub start_of : List ℕ → Option Start
+start_of path =
+    if bytes_eq path (codes "/desk/find") then Some First
+    else start_behind (behind (codes "/desk/find/after/") path)
+    (behind (codes "/desk/find/before/") path)
+
+-- a byte that may stand in an address: U+0021 to U+007E
+abbrev pub is_shown : ℕ → Bool
+is_shown b = nat_le 33 b && nat_le b 126
+
+abbrev pub query_in : List ℕ → Option (List ℕ)
+query_in query =
+    option_and_then (λ text. if list_all is_shown query then Some text else None) (text_in query)
+
+abbrev pub find_with : Option Start → Option (List ℕ) → Option Place
+find_with (Some start) (Some query) = Some (places.Page (Find query start))
+find_with start query = None
+
+abbrev pub find_at : List ℕ → List ℕ → Option Place
+find_at path query = find_with (start_of path) (query_in query)
+
+-- ---- all
+
 abbrev pub below : Option (List ℕ) → Option (List ℕ) → Option Place
 below (Some rest) requests = in_queues rest
 below None (Some rest) = in_requests rest
@@ -102,6 +145,12 @@ abbrev pub place_of : List ℕ → Option Place
 place_of path =
     option_or (fixed path)
     (below (behind (codes "/desk/queues/") path) (behind (codes "/desk/requests/") path))
+
+-- the place of a target: of its path, and of a search by what stands behind the question mark
+abbrev pub place_at : List ℕ → Option Place
+place_at target =
+    option_or (place_of (path_in target))
+    (find_at (path_in target) (unwrap_or (rest_after 63 target) []))
 
 -- ---- methods
 

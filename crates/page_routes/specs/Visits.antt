@@ -12,6 +12,7 @@ use Rattle.browser_core.specs.Site.{is_own_post}
 use Rattle.browser_core.specs.Texts.{text_in}
 use Rattle.browser_core.specs.Trim.{trimmed}
 use Rattle.browser_core.specs.declared.form.Field.{Field}
+use Rattle.desk_forms.specs.Fields.{filled}
 use Rattle.desk_forms.specs.Number.{number_of}
 use Rattle.desk_forms.specs.Paths.{InQueue, Nothing, OnRequest}
 use Rattle.desk_forms.specs.declared.paths.Method.{Method}
@@ -19,7 +20,7 @@ use Rattle.desk_forms.specs.declared.paths.Method.TheVariants.{Get, Post}
 use Rattle.desk_forms.specs.declared.table.Form.{Form}
 use Rattle.desk_forms.specs.declared.table.Form.TheVariants as forms
 use Rattle.page_routes.specs.Filled.{command_in}
-use Rattle.page_routes.specs.Places.{method_named, path_in, place_of, takes_post}
+use Rattle.page_routes.specs.Places.{method_named, place_at, takes_post}
 use Rattle.page_routes.specs.declared.fault.PageFault.{PageFault}
 use Rattle.page_routes.specs.declared.fault.PageFault.TheVariants.{NoRoute, BadMethod, OtherSite}
 use Rattle.page_routes.specs.declared.fault.PageFault.TheVariants.{BadBody}
@@ -66,13 +67,13 @@ got settings lines _ = visits.Leads pages.Home
 
 -- ---- signing in
 
--- a page's own path leads there, and all else to `/`
+-- a page's own address leads there, and all else to `/`
 abbrev pub page_or_home : Option Place → Page
 page_or_home (Some (places.Page page)) = page
 page_or_home _ = pages.Home
 
 abbrev pub next_in : List Field → Page
-next_in fields = page_or_home (place_of (unwrap_or (value_of (codes "next") fields) []))
+next_in fields = page_or_home (place_at (unwrap_or (value_of (codes "next") fields) []))
 
 abbrev pub if_known : Settings → List ℕ → Option (List ℕ)
 if_known settings token = if is_some (person_of_token settings token) then Some token else None
@@ -110,13 +111,15 @@ abbrev pub typed : List ℕ → List Field → List ℕ
 typed name fields = unwrap_or (value_of name fields) []
 
 abbrev pub sent_on : Form → ℕ → List Field → Sent
-sent_on forms.Reply id fields = sends.Reply id (typed (codes "text") fields)
+sent_on forms.Reply id fields =
+    sends.Reply id (typed (codes "text") fields) (filled (value_of (codes "status") fields))
 sent_on forms.Comment id fields = sends.Comment id (typed (codes "text") fields)
 sent_on _ id fields = sends.Change id
 
 abbrev pub sent_in : List ℕ → List Field → Sent
 sent_in queue fields =
     sends.New queue (typed (codes "subject") fields) (typed (codes "requestors") fields)
+    (typed (codes "text") fields)
 
 abbrev pub acted : List ℕ → Sent → Option Command → Answer
 acted caller sent None = Err BadBody
@@ -173,4 +176,4 @@ visited_at settings message lines (Some place) =
 -- what a message with these header lines asks of the pages, or its fault
 abbrev pub visit_of : Settings → Message → Lines → Answer
 visit_of settings message lines =
-    visited_at settings message lines (place_of (path_in message.target))
+    visited_at settings message lines (place_at message.target)

@@ -5,7 +5,7 @@ ghost use Rattle.browser_core.specs.Form as form;
 ghost use Rattle.page_routes.specs.Visits as visits;
 
 use crate::fault::PageFault;
-use crate::filled::{command_in, number_at, typed};
+use crate::filled::{command_in, filled_value, number_at, typed};
 use crate::page::Page;
 use crate::place::Place;
 use crate::visit::{Sent, Visit};
@@ -105,10 +105,7 @@ fn sent_on(alloc: Global, act: Form, id: u32, fields: &[Field]) -> Result<Sent, 
     ensures { IfOk result (λ sent. sent ≡ visits.sent_on act id fields.now) }
 {
     match act {
-        Form::Reply => Ok(Sent::Reply {
-            id,
-            text: Text::new(alloc, typed(fields, "text"))?,
-        }),
+        Form::Reply => replied(alloc, id, fields),
         Form::Comment => Ok(Sent::Comment {
             id,
             text: Text::new(alloc, typed(fields, "text"))?,
@@ -117,15 +114,29 @@ fn sent_on(alloc: Global, act: Form, id: u32, fields: &[Field]) -> Result<Sent, 
     }
 }
 
+/// What was sent with the form for a reply.
+fn replied(alloc: Global, id: u32, fields: &[Field]) -> Result<Sent, AllocError>
+    ensures { IfOk result (λ sent. sent ≡ visits.sent_on Form.Reply id fields.now) }
+{
+    let text = Text::new(alloc, typed(fields, "text"))?;
+    let status = match filled_value(fields, "status") {
+        Some(status) => Some(Text::new(alloc, status)?),
+        None => None,
+    };
+    Ok(Sent::Reply { id, text, status })
+}
+
 /// What was sent with the form for a new request.
 fn sent_in(alloc: Global, queue: Text, fields: &[Field]) -> Result<Sent, AllocError>
     ensures { IfOk result (λ sent. sent ≡ visits.sent_in queue fields.now) }
 {
     let subject = Text::new(alloc, typed(fields, "subject"))?;
     let requestors = Text::new(alloc, typed(fields, "requestors"))?;
+    let text = Text::new(alloc, typed(fields, "text"))?;
     Ok(Sent::New {
         queue,
         subject,
         requestors,
+        text,
     })
 }

@@ -42,13 +42,14 @@ fn others(of: Form) -> &'static [&'static str]
     ensures { map (λ n. n.now) result.now ≡ filled.others of }
 {
     match of {
-        Form::Create => &["status"],
+        Form::Create => &["status", "text"],
+        Form::Reply => &["status"],
         _ => &[],
     }
 }
 
 /// The value of a field, where an empty one is none.
-fn filled_value<'f>(fields: &'f [Field], name: &str) -> Option<&'f str>
+pub(crate) fn filled_value<'f>(fields: &'f [Field], name: &str) -> Option<&'f str>
     ensures { option_map (λ t. t.now) result ≡ given.filled (value_in name.now fields.now) }
 {
     match value_of(fields, name) {

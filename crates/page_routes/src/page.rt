@@ -3,6 +3,7 @@
 ghost use Rattle.std.specs.Prelude.{◌≡◌, ◌++◌, codes, decimal, string_bytes, IfOk};
 ghost use Rattle.page_routes.specs.Paths as paths;
 
+use find_form::{Start, place_text};
 use std::alloc::{AllocError, Global};
 use text_core::Text;
 
@@ -21,6 +22,8 @@ pub enum Page {
     Overdue,
     /// `/desk/workload`
     Workload,
+    /// `/desk/find?QUERY`, `/desk/find/after/PLACE?QUERY` or `/desk/find/before/PLACE?QUERY`
+    Find { query: Text, start: Start },
 }
 
 /// The path of a page. `AllocError` where memory is refused.
@@ -34,6 +37,7 @@ pub fn page_path(alloc: Global, page: &Page) -> Result<Text, AllocError>
         Page::Request(id) => request_path(alloc, *id),
         Page::Overdue => Text::new(alloc, "/desk/overdue"),
         Page::Workload => Text::new(alloc, "/desk/workload"),
+        Page::Find { query, start } => find_path(alloc, query.as_str(), *start),
     }
 }
 
@@ -55,5 +59,44 @@ fn request_path(alloc: Global, id: u32) -> Result<Text, AllocError>
     ensures { IfOk result (λ path. path ≡ codes "/desk/requests/" ++ decimal id) }
 {
     let path = format!(in alloc; "/desk/requests/{id}")?;
+    Ok(Text::from(path))
+}
+
+fn find_path(alloc: Global, query: &str, start: Start) -> Result<Text, AllocError>
+    ensures { IfOk result (λ path. path ≡ paths.find_path query.now start) }
+{
+    match start {
+        Start::First => first_path(alloc, query),
+        Start::After(place) => {
+            let place = place_text(alloc, place)?;
+            after_path(alloc, query, place.as_str())
+        }
+        Start::Before(place) => {
+            let place = place_text(alloc, place)?;
+            before_path(alloc, query, place.as_str())
+        }
+    }
+}
+
+fn first_path(alloc: Global, query: &str) -> Result<Text, AllocError>
+    ensures { IfOk result (λ path. path ≡ codes "/desk/find?" ++ query.now) }
+{
+    let path = format!(in alloc; "/desk/find?{query}")?;
+    Ok(Text::from(path))
+}
+
+fn after_path(alloc: Global, query: &str, place: &str) -> Result<Text, AllocError>
+    ensures { IfOk result (λ path.
+        path ≡ codes "/desk/find/after/" ++ (place.now ++ (codes "?" ++ query.now))) }
+{
+    let path = format!(in alloc; "/desk/find/after/{place}?{query}")?;
+    Ok(Text::from(path))
+}
+
+fn before_path(alloc: Global, query: &str, place: &str) -> Result<Text, AllocError>
+    ensures { IfOk result (λ path.
+        path ≡ codes "/desk/find/before/" ++ (place.now ++ (codes "?" ++ query.now))) }
+{
+    let path = format!(in alloc; "/desk/find/before/{place}?{query}")?;
     Ok(Text::from(path))
 }

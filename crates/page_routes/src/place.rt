@@ -1,6 +1,7 @@
 //! The places of the pages.
 
-ghost use Rattle.std.specs.Prelude.{◌≡◌, codes, IfOk};
+ghost use Rattle.std.specs.Prelude.{◌≡◌, [], codes, unwrap_or, IfOk};
+ghost use Rattle.std.specs.List.{list_all};
 ghost use Rattle.std.specs.Option.{option_and_then, option_map};
 ghost use Rattle.browser_core.specs.Texts as texts;
 ghost use Rattle.desk_forms.specs.Number.{number_of};
@@ -11,6 +12,7 @@ use browser_core::{cut, text_in};
 use desk_forms::number_of_word;
 use desk_forms::paths::Method;
 use desk_forms::table::Form;
+use find_form::{Start, place_in};
 use std::alloc::{AllocError, Global};
 use text_core::{Text, is_name};
 
@@ -35,6 +37,11 @@ const QUEUES: &str = "/desk/queues/";
 
 /// What paths of requests begin with.
 const REQUESTS: &str = "/desk/requests/";
+
+/// What paths of a search begin with that begin after a place, and before one.
+const AFTER: &str = "/desk/find/after/";
+
+const BEFORE: &str = "/desk/find/before/";
 
 /// Whether a target is a place of the pages, up to its first `?`: `/`, `/sign-in`, `/sign-out`,
 /// `/style.css`, `/desk`, and all that begins with `/desk/`. All others are the interface's.
@@ -210,6 +217,107 @@ fn below(alloc: Global, path: &[u8]) -> Result<Option<Place>, AllocError>
     match behind(REQUESTS, path) {
         Some(rest) => Ok(in_requests(rest)),
         None => Ok(None),
+    }
+}
+
+/// The place of a target, if it has one: that of its path, and for a search what stands behind its
+/// question mark.
+pub(crate) fn place_at(alloc: Global, target: &[u8]) -> Result<Option<Place>, AllocError>
+    ensures { IfOk result (λ place. place ≡ places.place_at target.now) }
+{
+    let (path, query) = cut(target, b'?');
+    match place_of(alloc, path)? {
+        Some(place) => Ok(Some(place)),
+        None => find_at(alloc, path, query_of(query)),
+    }
+}
+
+fn query_of(rest: Option<&[u8]>) -> &[u8]
+    ensures { result.now ≡ unwrap_or (option_map (λ r. r.now) rest.entry) [] }
+{
+    match rest {
+        Some(rest) => rest,
+        None => &[],
+    }
+}
+
+/// The page of a search, if the path is one of it and the query can stand in an address.
+fn find_at(alloc: Global, path: &[u8], query: &[u8]) -> Result<Option<Place>, AllocError>
+    ensures { IfOk result (λ place. place ≡ places.find_at path.now query.now) }
+{
+    match (start_of(path), query_in(query)) {
+        (Some(start), Some(query)) => {
+            let query = Text::new(alloc, query)?;
+            Ok(Some(Place::Page(Page::Find { query, start })))
+        }
+        _ => Ok(None),
+    }
+}
+
+/// The query, where each of its bytes may stand in an address.
+fn query_in(query: &[u8]) -> Option<&str>
+    ensures { option_map (λ q. q.now) result ≡ places.query_in query.now }
+{
+    match text_in(query) {
+        Some(text) => {
+            if stands_in_address(query) {
+                Some(text)
+            } else {
+                None
+            }
+        }
+        None => None,
+    }
+}
+
+fn stands_in_address(query: &[u8]) -> bool
+    ensures { result ≡ list_all places.is_shown query.now }
+{
+    query.iter().all(|b| b'!' <= *b && *b <= b'~')
+}
+
+/// Where a page of a search begins, by its path.
+fn start_of(path: &[u8]) -> Option<Start>
+    ensures { result ≡ places.start_of path.now }
+{
+    if path == b"/desk/find".as_slice() {
+        return Some(Start::First);
+    }
+    match behind(AFTER, path) {
+        Some(rest) => after_in(rest),
+        None => match behind(BEFORE, path) {
+            Some(rest) => before_in(rest),
+            None => None,
+        },
+    }
+}
+
+fn after_in(rest: &[u8]) -> Option<Start>
+    ensures { result ≡ option_map Start.After (places.place_in rest.now) }
+{
+    match find_place(rest) {
+        Some(place) => Some(Start::After(place)),
+        None => None,
+    }
+}
+
+fn before_in(rest: &[u8]) -> Option<Start>
+    ensures { result ≡ option_map Start.Before (places.place_in rest.now) }
+{
+    match find_place(rest) {
+        Some(place) => Some(Start::Before(place)),
+        None => None,
+    }
+}
+
+/// The place in what is found, of its key and its number.
+fn find_place(rest: &[u8]) -> Option<find_core::Place>
+    ensures { result ≡ places.place_in rest.now }
+{
+    let (key, id) = cut(rest, b'/');
+    match (text_in(key), text_in(query_of(id))) {
+        (Some(key), Some(id)) => place_in(key, id),
+        _ => None,
     }
 }
 

@@ -8,7 +8,7 @@ ghost use Rattle.page_routes.specs.Visits as visits;
 use crate::fault::PageFault;
 use crate::filled::typed;
 use crate::page::Page;
-use crate::place::{Place, place_of};
+use crate::place::{Place, place_at};
 use crate::visit::Visit;
 use browser_core::{Field, fields_of, has, has_fields, text_in, trimmed};
 use settings_core::Settings;
@@ -69,11 +69,11 @@ fn if_known<'t>(settings: &Settings, token: &'t str) -> Option<&'t str>
     }
 }
 
-/// The page whose path is in the field `next`, or else `/`.
+/// The page whose address is in the field `next`, or else `/`.
 fn next_in(alloc: Global, fields: &[Field]) -> Result<Page, AllocError>
     ensures { IfOk result (λ page. page ≡ visits.next_in fields.now) }
 {
-    let place = place_of(alloc, typed(fields, "next").as_bytes())?;
+    let place = place_at(alloc, typed(fields, "next").as_bytes())?;
     Ok(page_or_home(place))
 }
 

@@ -10,7 +10,7 @@ use crate::ask::asked_by;
 use crate::fault::PageFault;
 use crate::lines::{caller_of, is_own};
 use crate::page::Page;
-use crate::place::{Place, method_named, path_in, place_of, takes_post};
+use crate::place::{Place, method_named, place_at, takes_post};
 use crate::sign::signing;
 use desk_forms::paths::Method;
 use desk_model::Command;
@@ -24,17 +24,20 @@ use text_core::Text;
 pub enum Sent {
     /// To open a queue: done or refused, it leads to `/`.
     Queue,
-    /// To file a request in the queue: done, it leads to the end of the new request's history, and
-    /// refused to the queue.
+    /// To file a request in the queue, and to send its first text, where one was typed: done, it
+    /// leads to the end of the new request's history, and refused to the queue.
     New {
         queue: Text,
         subject: Text,
         requestors: Text,
+        text: Text,
     },
-    /// To reply to the request: done, it leads to the end of its history, and refused to it.
+    /// To reply to the request, and to move it to a status, where one was chosen: done, it leads to
+    /// the end of its history, and refused to it.
     Reply {
         id: u32,
         text: Text,
+        status: Option<Text>,
     },
     /// To comment on the request: the same.
     Comment {
@@ -105,7 +108,7 @@ pub fn visit_of(alloc: Global, settings: &Settings, request: &Request) -> Result
         fault ≢ PageFault.NoMemory
         → visits.visit_of settings.now request.now.message (values_in h) ≡ Err fault) }
 {
-    match place_of(alloc, path_in(request.message.target.as_slice()))? {
+    match place_at(alloc, request.message.target.as_slice())? {
         Some(place) => visited(alloc, settings, request, place),
         None => Err(PageFault::NoRoute),
     }

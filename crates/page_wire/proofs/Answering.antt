@@ -21,7 +21,7 @@ use Rattle.page_routes.specs.declared.visit.Visit.{Visit}
 use Rattle.page_routes.specs.declared.visit.Visit.TheVariants.{Look, Act}
 use Rattle.page_routes.specs.Places.{is_page_path, path_in}
 use Rattle.page_routes.specs.Visits.{visit_of}
-use Rattle.service_core.specs.TableSteps.{LeadsOn, ask_by}
+use Rattle.service_core.specs.TableSteps.{LeadsOn}
 use Rattle.wire_core.specs.Replies.{is_head}
 use Rattle.wire_core.specs.Runs.{RepliesOn, Sent as Message, replied_of}
 use Rattle.wire_core.specs.Steps.{StaysOn}
@@ -30,8 +30,8 @@ use Rattle.wire_core.proofs.Stepping.{leads_wider}
 use Rattle.page_wire.specs.Faults.{fault_reply}
 use Rattle.page_wire.specs.Steps.{AskedStepsOn, AsksAt, By, IsAnsweredOn, IsAnswerTo, IsReadOf}
 use Rattle.page_wire.specs.Steps.{PageSteps}
-use Rattle.page_wire.specs.Replies.{form_reply}
-use Rattle.page_wire.specs.Steps.{DoesOn, LookStepsOn, RequestStepsOn, SentStepsOn, VisitStepsOn}
+use Rattle.page_wire.specs.Forms.{FormStepsOn}
+use Rattle.page_wire.specs.Steps.{LookStepsOn, RequestStepsOn, SentStepsOn, VisitStepsOn}
 
 -- ---- what was read
 
@@ -155,13 +155,12 @@ pub act_visit : {X F : Type 0} (s : Settings) (at : ℕ) (visit : Visit) (caller
     (command : Command) (sent : Sent) (moment : ℕ) (r : Result X F) (bytes : List ℕ)
     (old new : State) → visit ≡ Act caller command sent
     → Some moment ≡ (if is_due_moment at then Some at else None)
-    → OnOk r (DoesOn s (ask_by moment caller command) (form_reply caller moment sent) bytes old new)
+    → OnOk r (FormStepsOn s moment caller command sent bytes old new)
     → OnOk r (VisitStepsOn s at visit bytes old new)
 act_visit s at visit caller command sent moment (Ok x) bytes old new asked is steps =
     let when = is_moment (is_due_moment at) at moment is in
     let now =
-    subst (λ n. DoesOn s (ask_by n caller command) (form_reply caller n sent) bytes old new) when.1
-    steps in
+    subst (λ n. FormStepsOn s n caller command sent bytes old new) when.1 steps in
     subst (λ (v : Visit). VisitStepsOn s at v bytes old new) (sym asked)
     (at_its_moment s at (Act caller command sent) bytes old new when.0 now)
 act_visit s at visit caller command sent moment (Err e) bytes old new asked is steps = tt

@@ -1,5 +1,5 @@
 -- The step of a message leaves a well-formed desk.
-use Rattle.std.proofs.Common.{◌≡◌, ℕ, Bool, true, false, List, [], Option, Some, Result, Ok}
+use Rattle.std.proofs.Common.{◌≡◌, ℕ, Bool, true, false, List, [], None, Option, Some, Result, Ok}
 use Rattle.std.proofs.Common.{Err, inl, inr}
 use Rattle.std.proofs.Common.{sym, subst}
 use Rattle.settings_core.specs.declared.settings.Settings.{Settings}
@@ -7,7 +7,16 @@ use Rattle.desk_model.specs.Desk.{Desk}
 use Rattle.desk_model.specs.IsDesk.{IsDesk}
 use Rattle.desk_model.specs.Step.{Ask, Outcome}
 use Rattle.desk_model.specs.declared.answer.Answer.{Answer}
+use Rattle.desk_model.specs.declared.command.Command.{Command}
 use Rattle.desk_model.specs.declared.refusal.Refusal.{Refusal}
+use Rattle.find_core.specs.declared.search.Search.{Search}
+use Rattle.find_form.specs.Form.{form_of}
+use Rattle.find_form.specs.Shown.{is_back}
+use Rattle.find_form.specs.Sought.{search_of}
+use Rattle.find_form.specs.declared.fault.FindFault.{FindFault}
+use Rattle.find_form.specs.declared.form.FindForm.{FindForm}
+use Rattle.find_form.specs.declared.shown.Start.{Start}
+use Rattle.find_form.specs.declared.shown.Start.TheVariants.{First}
 use Rattle.httparse.specs.Grammar.{RequestHead}
 use Rattle.hours_core.specs.Moment.{is_due_moment}
 use Rattle.message_core.specs.Head.{StartsWith}
@@ -20,6 +29,7 @@ use Rattle.message_core.specs.declared.request.Request.{Request}
 use Rattle.page_routes.specs.declared.fault.PageFault.{PageFault}
 use Rattle.page_routes.specs.declared.page.Page as routes
 use Rattle.page_routes.specs.declared.page.Page.TheVariants as page
+use Rattle.page_routes.specs.declared.visit.Sent.{Sent as Typed}
 use Rattle.page_routes.specs.declared.visit.Visit.{Visit}
 use Rattle.page_routes.specs.declared.visit.Visit.TheVariants as visit
 use Rattle.page_routes.specs.Places.{is_page_path, path_in}
@@ -27,8 +37,12 @@ use Rattle.page_routes.specs.Visits.{visit_of}
 use Rattle.wire_core.specs.Replies.{is_head}
 use Rattle.wire_core.specs.Runs.{Sent}
 use Rattle.wire_core.proofs.Serving.{formed_stream}
-use Rattle.page_wire.specs.Steps.{AsksAt, By, Does, DoesBoth, Follows, IsAnswerTo, LookSteps}
-use Rattle.page_wire.specs.Steps.{PageSteps, RequestSteps, SentSteps, Tells, VisitSteps}
+use Rattle.page_wire.specs.Forms.{AfterFirst, FormSteps, SecondSteps}
+use Rattle.page_wire.specs.Next.{next_command}
+use Rattle.page_wire.specs.Replies.{queue_query}
+use Rattle.page_wire.specs.Steps.{AsksAt, By, Does, IsAnswerTo, LookSteps, PageSteps}
+use Rattle.page_wire.specs.Steps.{RequestSteps, SearchSteps, SentSteps, Tells, TypedSteps}
+use Rattle.page_wire.specs.Steps.{VisitSteps}
 
 told : (reply : List ℕ) (old new : Desk) (bytes : List ℕ) → IsDesk old
     → Tells reply old bytes new → IsDesk new
@@ -38,36 +52,65 @@ does : (s : Settings) (ask : Ask) (reply : Outcome → List ℕ) (old new : Desk
     → Does s ask reply old bytes new → IsDesk new
 does s ask reply old new bytes (outcome, step, same) = step.formed
 
-follows : (s : Settings) (second : Ask) (refused : Refusal → List ℕ)
-    (reply : Answer → Outcome → List ℕ) (outcome : Outcome) (mid new : Desk) (bytes : List ℕ)
-    → IsDesk mid → Follows s second refused reply outcome mid bytes new → IsDesk new
-follows s second refused reply (Err refusal) mid new bytes is tells =
-    told (refused refusal) mid new bytes is tells
-follows s second refused reply (Ok answer) mid new bytes is steps =
-    does s second (reply answer) mid new bytes steps
+-- what is typed into a search
+searches : (s : Settings) (at : ℕ) (caller query : List ℕ) (start : Start) (form : FindForm)
+    (asked : Result Search FindFault) (old new : Desk) (bytes : List ℕ) → IsDesk old
+    → SearchSteps s at caller query start form asked old bytes new → IsDesk new
+searches s at caller query start form (Ok search) old new bytes is (result, found, steps) =
+    told _ old new bytes is steps
+searches s at caller query start form (Err fault) old new bytes is steps =
+    told _ old new bytes is steps
 
-both : (s : Settings) (first second : Ask) (refused : Refusal → List ℕ)
-    (reply : Answer → Outcome → List ℕ) (old new : Desk) (bytes : List ℕ)
-    → DoesBoth s first second refused reply old bytes new → IsDesk new
-both s first second refused reply old new bytes (outcome, mid, step, rest) =
-    follows s second refused reply outcome mid new bytes step.formed rest
+typed : (s : Settings) (at : ℕ) (caller query : List ℕ) (start : Start) (form : Option FindForm)
+    (old new : Desk) (bytes : List ℕ) → IsDesk old
+    → TypedSteps s at caller query start form old bytes new → IsDesk new
+typed s at caller query start (Some form) old new bytes is steps =
+    searches s at caller query start form (search_of caller (is_back start) form) old new bytes is
+    steps
+typed s at caller query start None old new bytes is steps = told _ old new bytes is steps
 
 look : (s : Settings) (at : ℕ) (caller : List ℕ) (page : routes.Page) (old new : Desk)
     (bytes : List ℕ) → IsDesk old → LookSteps s at caller page old bytes new → IsDesk new
-look s at caller page.Home old new bytes is steps = both _ _ _ _ _ old new bytes steps
-look s at caller (page.Queue queue) old new bytes is steps = both _ _ _ _ _ old new bytes steps
+look s at caller page.Home old new bytes is
+    (own, asked, free, loads, owns, asks, frees, tells, steps) =
+    told _ old new bytes is steps
+look s at caller (page.Queue queue) old new bytes is steps =
+    typed s at caller (queue_query queue) First (form_of (queue_query queue)) old new bytes is steps
+look s at caller (page.Find query start) old new bytes is steps =
+    typed s at caller query start (form_of query) old new bytes is steps
 look s at caller (page.New queue) old new bytes is steps = does _ _ _ old new bytes steps
 look s at caller (page.Request id) old new bytes is (result, tells, steps) =
     told _ old new bytes is steps
 look s at caller page.Overdue old new bytes is steps = does _ _ _ old new bytes steps
 look s at caller page.Workload old new bytes is steps = does _ _ _ old new bytes steps
 
+-- a form
+second : (s : Settings) (at : ℕ) (caller : List ℕ) (sent : Typed) (answer : Answer)
+    (next : Option Command) (mid new : Desk) (bytes : List ℕ) → IsDesk mid
+    → SecondSteps s at caller sent answer next mid bytes new → IsDesk new
+second s at caller sent answer None mid new bytes is (told, same) = subst IsDesk (sym same) is
+second s at caller sent answer (Some command) mid new bytes is (outcome, step, told) = step.formed
+
+after_first : (s : Settings) (at : ℕ) (caller : List ℕ) (sent : Typed) (outcome : Outcome)
+    (mid new : Desk) (bytes : List ℕ) → IsDesk mid
+    → AfterFirst s at caller sent outcome mid bytes new → IsDesk new
+after_first s at caller sent (Err refusal) mid new bytes is (told, same) =
+    subst IsDesk (sym same) is
+after_first s at caller sent (Ok answer) mid new bytes is steps =
+    second s at caller sent answer (next_command sent answer) mid new bytes is steps
+
+form : (s : Settings) (at : ℕ) (caller : List ℕ) (command : Command) (sent : Typed)
+    (old new : Desk) (bytes : List ℕ) → FormSteps s at caller command sent old bytes new
+    → IsDesk new
+form s at caller command sent old new bytes (outcome, mid, step, rest) =
+    after_first s at caller sent outcome mid new bytes step.formed rest
+
 asks : (s : Settings) (at : ℕ) (visit : Visit) (old new : Desk) (bytes : List ℕ) → IsDesk old
     → AsksAt s at visit old bytes new → IsDesk new
 asks s at (visit.Look caller page) old new bytes is steps =
     look s at caller page old new bytes is steps
 asks s at (visit.Act caller command sent) old new bytes is steps =
-    does _ _ _ old new bytes steps
+    form s at caller command sent old new bytes steps
 asks s at other old new bytes is (fixed, same) = subst IsDesk (sym same) is
 
 by : (b : Bool) (Yes No : Type 0) (new : Desk) → (Yes → IsDesk new) → (No → IsDesk new)

@@ -3,6 +3,7 @@ use Rattle.std.proofs.Common.{◌≡◌, ◌∙◌, ℕ, List, Option, Some, Non
 use Rattle.std.proofs.Common.{refl, sym, subst, inl, inr}
 use Rattle.std.specs.Prelude.{Vec}
 use Rattle.sqlite.specs.State.{State}
+use Rattle.sqlite.specs.Store.{Ghosts}
 use Rattle.settings_core.specs.declared.settings.Settings.{Settings}
 use Rattle.desk_model.specs.Commands.{IsReading}
 use Rattle.desk_model.specs.Desk.{Desk}
@@ -12,21 +13,30 @@ use Rattle.desk_model.specs.declared.answer.Answer.{Answer}
 use Rattle.desk_model.specs.declared.answer.Dossier.{Dossier}
 use Rattle.desk_model.specs.declared.command.Command.{Command}
 use Rattle.desk_model.specs.declared.refusal.Refusal.{Refusal}
+use Rattle.find_core.specs.declared.loads.QueueLoad.{QueueLoad}
+use Rattle.find_core.specs.declared.search.Findings.{Findings}
+use Rattle.find_core.specs.declared.search.Search.{Search}
+use Rattle.find_form.specs.Own.{asked_by, owned_by, unowned}
+use Rattle.find_form.specs.Shown.{place_of}
+use Rattle.find_form.specs.declared.shown.Start.{Start}
 use Rattle.service_core.specs.Dossiers.{DossierOn}
+use Rattle.service_core.specs.Finding.{FindsOn}
+use Rattle.service_core.specs.Loading.{LoadsOn}
+use Rattle.service_core.specs.Seen.{settings_of, tables_of}
 use Rattle.service_core.specs.TableSteps.{LeadsOn, StepsOn, ask_by}
+use Rattle.service_core.specs.declared.desk.Desk as service
 use Rattle.service_core.proofs.Stepping.{unchanged}
 use Rattle.store_core.specs.Due.{due_of_row}
+use Rattle.store_tables.proofs.Lasting as lasting
 use Rattle.store_tables.proofs.Spared.{stands}
 use Rattle.store_tables.specs.Calls.{Spares, WasClean}
 use Rattle.store_tables.specs.Contents.{contents_of}
 use Rattle.wire_core.specs.Steps.{StaysOn}
-use Rattle.page_wire.specs.Replies.{request_reply}
-use Rattle.page_wire.specs.Steps.{DoesBoth, DoesOn, LooksAt}
-
-abbrev pub BothOn : Settings → Ask → Ask → (Refusal → List ℕ) → (Answer → Outcome → List ℕ)
-    → List ℕ → State → State → Type 0
-BothOn s first second refused reply bytes =
-    LeadsOn s (λ desk after. DoesBoth s first second refused reply desk bytes after)
+use Rattle.page_routes.specs.declared.visit.Sent.{Sent}
+use Rattle.page_wire.specs.Forms.{FormStepsOn, IsTold, SecondStepsOn}
+use Rattle.page_wire.specs.Next.{next_command}
+use Rattle.page_wire.specs.Replies.{done_reply, home_reply, refused_reply, request_reply}
+use Rattle.page_wire.specs.Steps.{DoesOn, Finds, HomeSteps, LookedBy, LooksAt, Tells}
 
 -- ---- a command that reads leaves the desk
 
@@ -58,16 +68,6 @@ pub spared_if : {X E : Type 0} (s : Settings) (r : Result X E) (old new : State)
 spared_if s (Ok x) old new kept = tt
 spared_if s (Err e) old new kept = spared_stays s old new kept
 
--- of two calls, by settings that the first leaves
-pub stays_twice : (s t : Settings) (old mid new : State) → t ≡ s → WasClean mid new
-    → StaysOn s old mid → StaysOn t mid new → StaysOn s old new
-stays_twice s t old mid new same honest first second desk is stand clean =
-    let one = first desk is stand (honest clean) in
-    let formed = subst IsDesk (sym one.1) is in
-    let two =
-    subst (λ (u : Settings). StaysOn u mid new) same second one.0 formed one.2 clean in
-    (two.0, two.1 ∙ one.1, two.2)
-
 -- the same command at the same moment
 pub at_moment : (s : Settings) (n m : ℕ) (caller : List ℕ) (command : Command) (outcome : Outcome)
     (old new : State) → n ≡ m → StepsOn s (ask_by n caller command) outcome old new
@@ -91,42 +91,53 @@ pub stays_if : {X E : Type 0} (s : Settings) (ask : Ask) (outcome : Outcome) (r 
 stays_if s ask outcome (Ok x) old new reads steps = tt
 stays_if s ask outcome (Err e) old new reads steps = reading_stays s ask outcome old new reads steps
 
--- the first command was refused
-pub does_first : {A E : Type 0} (s : Settings) (first second : Ask)
-    (refused : Refusal → List ℕ) (reply : Answer → Outcome → List ℕ) (refusal : Refusal)
-    (r : Result (Vec ℕ A) E) (old new : State) → StepsOn s first (Err refusal) old new
-    → IfOk r (λ out. out.items ≡ refused refusal)
-    → IfOk r (λ out. BothOn s first second refused reply out.items old new)
-does_first s first second refused reply refusal (Ok out) old new steps told =
-    λ desk is stand clean. let step = steps desk is stand clean in
-    (step.0, (Err refusal, step.0, step.1, (told, refl)), step.2)
-does_first s first second refused reply refusal (Err e) old new steps told = tt
+-- the first page
+pub homes : {A E : Type 0} (s : Settings) (at : ℕ) (caller : List ℕ)
+    (own asked free : Result Findings Refusal) (loads : Result (List QueueLoad) Refusal)
+    (r : Result (Vec ℕ A) E) (old one two three new : State)
+    → FindsOn s at caller (owned_by caller) 20 None own old one
+    → FindsOn s at caller (asked_by caller) 20 None asked one two
+    → FindsOn s at caller unowned 20 None free two three → LoadsOn s at caller loads three new
+    → Spares one two → Spares two three → Spares three new
+    → IfOk r (λ out. out.items ≡ home_reply s caller at own asked loads free)
+    → IfOk r (λ out. LeadsOn s (λ desk after. HomeSteps s at caller desk out.items after) old new)
+homes s at caller own asked free loads (Ok out) old one two three new owns asks frees tells second third
+    fourth told =
+    λ desk is stand clean. let after_three = fourth.clean clean in
+    let after_two = third.clean after_three in
+    let first = owns desk is stand (second.clean after_two) in
+    let next = asks desk is first.1 after_two in
+    let then = frees desk is next.1 after_three in
+    let last = tells desk is then.1 clean in
+    (desk, (own, asked, free, loads, first.0, next.0, then.0, last.0, (told, refl)), last.1)
+homes s at caller own asked free loads (Err e) old one two three new owns asks frees tells second third
+    fourth told = tt
 
--- both were asked
-pub does_both : {A E : Type 0} (s t : Settings) (first second : Ask)
-    (refused : Refusal → List ℕ) (reply : Answer → Outcome → List ℕ) (answer : Answer)
-    (outcome : Outcome) (r : Result (Vec ℕ A) E) (old mid new : State) → t ≡ s
-    → WasClean mid new → StepsOn s first (Ok answer) old mid → StepsOn t second outcome mid new
-    → IfOk r (λ out. out.items ≡ reply answer outcome)
-    → IfOk r (λ out. BothOn s first second refused reply out.items old new)
-does_both s t first second refused reply answer outcome (Ok out) old mid new same honest one two
-    told =
-    λ desk is stand clean. let step = one desk is stand (honest clean) in
-    let last =
-    subst (λ (u : Settings). StepsOn u second outcome mid new) same two step.0 step.1.formed
-    step.2 clean in
-    (last.0, (Ok answer, step.0, step.1, (outcome, last.1, told)), last.2)
-does_both s t first second refused reply answer outcome (Err e) old mid new same honest one two
-    told = tt
+-- the page of what is found
+pub finds : {A E : Type 0} (s : Settings) (at : ℕ) (caller : List ℕ) (start : Start)
+    (search : Search) (reply : Result Findings Refusal → List ℕ) (result : Result Findings Refusal)
+    (r : Result (Vec ℕ A) E) (old new : State)
+    → FindsOn s at caller search 101 (place_of start) result old new
+    → IfOk r (λ out. out.items ≡ reply result)
+    → IfOk r (λ out. LeadsOn s
+    (λ desk after. Finds s at caller start search reply desk out.items after) old new)
+finds s at caller start search reply result (Ok out) old new tells told =
+    λ desk is stand clean. let found = tells desk is stand clean in
+    (desk, (result, found.0, (told, refl)), found.1)
+finds s at caller start search reply result (Err e) old new tells told = tt
 
-pub stays_both : {X E : Type 0} (s t : Settings) (first second : Ask) (told outcome : Outcome)
-    (r : Result X E) (old mid new : State) → t ≡ s → WasClean mid new → IsReading first.command
-    → IsReading second.command → StepsOn s first told old mid → StepsOn t second outcome mid new
-    → OnErr r (StaysOn s old new)
-stays_both s t first second told outcome (Ok x) old mid new same honest reads also one two = tt
-stays_both s t first second told outcome (Err e) old mid new same honest reads also one two =
-    stays_twice s t old mid new same honest (reading_stays s first told old mid reads one)
-    (reading_stays t second outcome mid new also two)
+-- a page that asks the desk for nothing
+pub tells_fixed : {A E : Type 0} (s : Settings) (reply : List ℕ) (r : Result (Vec ℕ A) E)
+    (tables : State) → IfOk r (λ out. out.items ≡ reply)
+    → IfOk r (λ out. LeadsOn s (λ desk after. Tells reply desk out.items after) tables tables)
+tells_fixed s reply (Ok out) tables told =
+    λ desk is stand clean. (desk, (told, refl), stand)
+tells_fixed s reply (Err e) tables told = tt
+
+pub stays_fixed : {X E : Type 0} (s : Settings) (r : Result X E) (tables : State)
+    → OnErr r (StaysOn s tables tables)
+stays_fixed s (Ok x) tables = tt
+stays_fixed s (Err e) tables = λ desk is stand clean. (desk, refl, stand)
 
 -- the page of a dossier
 pub looks : {A E : Type 0} (s : Settings) (at : ℕ) (caller : List ℕ) (id : ℕ)
@@ -141,21 +152,78 @@ looks s at caller id result (Err e) old new tells told = tt
 
 -- ---- a form
 
-pub acts : (s : Settings) (ask : Ask) (reply : Outcome → List ℕ) (outcome : Outcome)
-    (bytes : List ℕ) (old new : State) → StepsOn s ask outcome old new → bytes ≡ reply outcome
-    → DoesOn s ask reply bytes old new
-acts s ask reply outcome bytes old new steps told desk is stand clean =
-    let step = steps desk is stand clean in (step.0, (outcome, step.1, told), step.2)
+-- its command was refused
+pub form_refused : {X E : Type 0} (s : Settings) (at : ℕ) (caller : List ℕ) (command : Command)
+    (sent : Sent) (refusal : Refusal) (r : Result X E) (bytes : List ℕ) (old new : State)
+    → StepsOn s (ask_by at caller command) (Err refusal) old new
+    → OnOk r (bytes ≡ refused_reply caller at sent refusal)
+    → OnOk r (FormStepsOn s at caller command sent bytes old new)
+form_refused s at caller command sent refusal (Ok x) bytes old new steps told =
+    λ desk is stand clean. let step = steps desk is stand clean in
+    (step.0, (Err refusal, step.0, step.1, (told, refl)), step.2)
+form_refused s at caller command sent refusal (Err e) bytes old new steps told = tt
 
-pub acts_if : {X E : Type 0} (s : Settings) (ask : Ask) (reply : Outcome → List ℕ)
-    (outcome : Outcome) (r : Result X E) (bytes : List ℕ) (old new : State)
-    → StepsOn s ask outcome old new → OnOk r (bytes ≡ reply outcome)
-    → OnOk r (DoesOn s ask reply bytes old new)
-acts_if s ask reply outcome (Ok x) bytes old new steps told =
-    acts s ask reply outcome bytes old new steps told
-acts_if s ask reply outcome (Err e) bytes old new steps told = tt
+-- its command was done, and the second one followed, by settings that the first leaves
+pub form_done : (s t : Settings) (at : ℕ) (caller : List ℕ) (command : Command) (sent : Sent)
+    (answer : Answer) (second : Option Command) (bytes : List ℕ) (old mid new : State) → t ≡ s
+    → WasClean mid new → second ≡ next_command sent answer
+    → StepsOn s (ask_by at caller command) (Ok answer) old mid
+    → SecondStepsOn t at caller sent answer second bytes mid new
+    → FormStepsOn s at caller command sent bytes old new
+form_done s t at caller command sent answer second bytes old mid new same honest is one two =
+    λ desk formed stand clean. let step = one desk formed stand (honest clean) in
+    let next =
+    subst (λ (c : Option Command). SecondStepsOn t at caller sent answer c bytes mid new) is two in
+    let last =
+    subst (λ (u : Settings). SecondStepsOn u at caller sent answer (next_command sent answer) bytes
+    mid new) same next step.0 step.1.formed step.2 clean in
+    (last.0, (Ok answer, step.0, step.1, last.1), last.2)
+
+-- there is no second command
+pub no_second : (s : Settings) (at : ℕ) (caller : List ℕ) (sent : Sent) (answer : Answer)
+    (bytes : List ℕ) (tables : State) → bytes ≡ done_reply sent answer
+    → SecondStepsOn s at caller sent answer None bytes tables tables
+no_second s at caller sent answer bytes tables told desk is stand clean =
+    (desk, (told, refl), stand)
+
+-- this came of it
+pub second_told : (s : Settings) (at : ℕ) (caller : List ℕ) (sent : Sent) (answer : Answer)
+    (command : Command) (outcome : Outcome) (bytes : List ℕ) (old new : State)
+    → StepsOn s (ask_by at caller command) outcome old new
+    → IsTold caller at sent answer outcome bytes
+    → SecondStepsOn s at caller sent answer (Some command) bytes old new
+second_told s at caller sent answer command outcome bytes old new steps told desk is stand clean =
+    let step = steps desk is stand clean in (step.0, (outcome, step.1, told), step.2)
 
 pub stays_with : {X E : Type 0} (P : Type 0) (s : Settings) (r : Result X E) (old new : State)
     → OnErr r P → Spares old new → OnErr r (P × StaysOn s old new)
 stays_with P s (Ok x) old new holds kept = tt
 stays_with P s (Err e) old new holds kept = (holds, spared_stays s old new kept)
+
+-- ---- the readings for a page, as they end
+
+-- the desk is asked for nothing
+pub looked_fixed : {S A E : Type 0} (g : Ghosts S) (desk : service.Desk S g) (reply : List ℕ)
+    (r : Result (Vec ℕ A) E) → IfOk r (λ out. out.items ≡ reply)
+    → LookedBy g desk desk (Tells reply) r
+looked_fixed g desk reply r told = record {
+  ok = tells_fixed (settings_of g desk) reply r (tables_of g desk) told;
+  err = stays_fixed (settings_of g desk) r (tables_of g desk);
+  honest = λ clean. clean;
+  lasts = lasting.same (tables_of g desk);
+  same = refl;
+}
+
+-- out of memory before the desk is asked for anything
+pub looked_out : {S A E : Type 0} (g : Ghosts S) (desk : service.Desk S g)
+    (LeadsTo : Desk → List ℕ → Desk → Type 0) (r : Result (Vec ℕ A) E) (e : E) → r ≡ Err e
+    → LookedBy g desk desk LeadsTo r
+looked_out {S} {A} {E} g desk LeadsTo r e is =
+    subst (λ (x : Result (Vec ℕ A) E). LookedBy g desk desk LeadsTo x) (sym is)
+    (record {
+      ok = tt;
+      err = λ at formed stand clean. (at, refl, stand);
+      honest = λ clean. clean;
+      lasts = lasting.same (tables_of g desk);
+      same = refl;
+    })

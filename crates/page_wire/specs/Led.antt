@@ -24,7 +24,7 @@ led_home = led_front ++ (path_of Home ++ led_back)
 -- where the form leads
 abbrev pub led_by : Sent → List ℕ
 led_by sent.Queue = led_home
-led_by (sent.New queue subject requestors) = led_home
-led_by (sent.Reply id text) = led_to id
+led_by (sent.New queue subject requestors text) = led_home
+led_by (sent.Reply id text status) = led_to id
 led_by (sent.Comment id text) = led_to id
 led_by (sent.Change id) = led_to id

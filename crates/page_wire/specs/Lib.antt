@@ -1,5 +1,7 @@
 pub mod Faults
+pub mod Forms
 pub mod Led
+pub mod Next
 pub mod Replies
 pub mod Steps
 pub mod Visits

@@ -1,6 +1,6 @@
 -- The reply to what a browser asks for.
-use Rattle.std.specs.Prelude.{ℕ, Bool, true, false, List, [], Option, Some, None, Ok, Err}
-use Rattle.std.specs.Prelude.{Result, find, map, option_and_then}
+use Rattle.std.specs.Prelude.{ℕ, Bool, true, false, List, [], ◌++◌, Option, Some, None, Ok, Err}
+use Rattle.std.specs.Prelude.{Result, codes, find, map, option_and_then, unwrap_or}
 use Rattle.std.specs.Str.{bytes_eq}
 use Rattle.lifecycle_core.specs.declared.parts.Parts.{Parts}
 use Rattle.settings_core.specs.Settings.{levels_of, lifecycle_named, lifecycles_of}
@@ -10,17 +10,26 @@ use Rattle.desk_model.specs.Step.{Outcome}
 use Rattle.desk_model.specs.declared.answer.Answer.{Answer}
 use Rattle.desk_model.specs.declared.answer.Answer.TheVariants as answer
 use Rattle.desk_model.specs.declared.answer.Dossier.{Dossier}
-use Rattle.desk_model.specs.declared.answer.Line.{Line}
 use Rattle.desk_model.specs.declared.refusal.Refusal.{Refusal}
 use Rattle.desk_model.specs.declared.refusal.Refusal.TheVariants.{Unavailable}
 use Rattle.desk_model.specs.declared.rows.QueueRow.{QueueRow}
+use Rattle.find_core.specs.declared.loads.QueueLoad.{QueueLoad}
+use Rattle.find_core.specs.declared.search.Findings.{Findings}
+use Rattle.find_core.specs.declared.search.Order.{Order}
+use Rattle.find_form.specs.Faults.{sentence_of}
+use Rattle.find_form.specs.Shown.{found_page}
+use Rattle.find_form.specs.declared.fault.FindFault.{FindFault}
+use Rattle.find_form.specs.declared.fault.FindFault.TheVariants.{NoMemory}
+use Rattle.find_form.specs.declared.form.FindForm.{FindForm}
+use Rattle.find_form.specs.declared.shown.Start.{Start}
 use Rattle.page_core.specs.Page.{Part, page_bytes}
+use Rattle.desk_pages.specs.Find.{find_fault_page, find_page}
 use Rattle.desk_pages.specs.Home.{home_page}
 use Rattle.desk_pages.specs.New.{new_page}
 use Rattle.desk_pages.specs.Overdue.{overdue_page}
-use Rattle.desk_pages.specs.Queue.{queue_page}
-use Rattle.desk_pages.specs.RefusalPage.{ask_refusal_page, comment_refusal_page, refusal_page}
-use Rattle.desk_pages.specs.RefusalPage.{reply_refusal_page, request_refusal_page}
+use Rattle.desk_pages.specs.RefusalPage.{ask_refusal_page, comment_refusal_page, filed_page}
+use Rattle.desk_pages.specs.RefusalPage.{refusal_page, replied_page, reply_refusal_page}
+use Rattle.desk_pages.specs.RefusalPage.{request_refusal_page}
 use Rattle.desk_pages.specs.Request.{request_page}
 use Rattle.desk_pages.specs.SignIn.{sign_in_page}
 use Rattle.desk_pages.specs.Workload.{workload_page}
@@ -91,25 +100,39 @@ abbrev pub lifecycle_in : Settings → List ℕ → List QueueRow → Option Par
 lifecycle_in settings queue rows =
     option_and_then (λ row. lifecycle_named settings row.lifecycle) (row_named queue rows)
 
--- after the queues, how much is to do
-abbrev pub home_reply : Settings → List ℕ → ℕ → Answer → Outcome → List ℕ
-home_reply settings caller at (answer.Queues rows) (Ok (answer.Workload loads)) =
-    with_page 200 (page_bytes (home_page caller at rows loads (names_of (lifecycles_of settings))
-    (names_of (levels_of settings))))
-home_reply settings caller at told (Err refusal) = refused caller at refusal
-home_reply settings caller at told (Ok other) = no_answer caller at
+-- what the caller owns and asked for, what each queue has, and what nobody owns: the first refusal
+-- of them is told
+abbrev pub home_reply : Settings → List ℕ → ℕ → Result Findings Refusal → Result Findings Refusal
+    → Result (List QueueLoad) Refusal → Result Findings Refusal → List ℕ
+home_reply settings caller at (Ok own) (Ok asked) (Ok loads) (Ok free) =
+    with_page 200 (page_bytes (home_page caller at own asked loads free
+    (names_of (lifecycles_of settings)) (names_of (levels_of settings))))
+home_reply settings caller at (Err refusal) asked loads free = refused caller at refusal
+home_reply settings caller at (Ok own) (Err refusal) loads free = refused caller at refusal
+home_reply settings caller at (Ok own) (Ok asked) (Err refusal) free = refused caller at refusal
+home_reply settings caller at (Ok own) (Ok asked) (Ok loads) (Err refusal) =
+    refused caller at refusal
 
--- the requests of a queue, with the lifecycle of its row
-abbrev pub listed : List ℕ → List ℕ → ℕ → Option Parts → List Line → List ℕ
-listed queue caller at (Some lifecycle) lines =
-    with_page 200 (page_bytes (queue_page queue caller at lifecycle lines))
-listed queue caller at None lines = no_answer caller at
+-- ---- searches
 
-abbrev pub queue_reply : Settings → List ℕ → List ℕ → ℕ → Answer → Outcome → List ℕ
-queue_reply settings queue caller at (answer.Listed lines) (Ok (answer.Queues rows)) =
-    listed queue caller at (lifecycle_in settings queue rows) lines
-queue_reply settings queue caller at told (Err refusal) = refused caller at refusal
-queue_reply settings queue caller at told (Ok other) = no_answer caller at
+-- the fields of the search for what is open in a queue
+abbrev pub queue_query : List ℕ → List ℕ
+queue_query queue = codes "queue=" ++ (queue ++ codes "&state=open")
+
+abbrev pub find_reply : List ℕ → ℕ → List ℕ → Start → FindForm → Order → Result Findings Refusal
+    → List ℕ
+find_reply caller at query start form order (Ok found) =
+    with_page 200 (page_bytes (find_page caller at query start form (found_page order start found)))
+find_reply caller at query start form order (Err refusal) = refused caller at refusal
+
+abbrev pub is_no_memory : FindFault → Bool
+is_no_memory NoMemory = true
+is_no_memory other = false
+
+-- what was typed is no search
+abbrev pub find_fault_reply : List ℕ → ℕ → FindFault → FindForm → List ℕ
+find_fault_reply caller at fault form =
+    with_page 400 (page_bytes (find_fault_page caller at (sentence_of fault) form))
 
 -- the statuses in which a request may be filed, and the usual one, where the queue is told
 abbrev pub asks : List ℕ → List ℕ → ℕ → Option Parts → List Part
@@ -150,15 +173,27 @@ done_reply sent other = led_by sent
 -- refused: its page, with what was typed
 abbrev pub refused_form : List ℕ → ℕ → Sent → Refusal → List Part
 refused_form caller at sent.Queue refusal = refusal_page refusal caller at
-refused_form caller at (sent.New queue subject requestors) refusal =
-    ask_refusal_page refusal caller at queue subject requestors [] []
-refused_form caller at (sent.Reply id text) refusal =
-    reply_refusal_page refusal caller at id text
+refused_form caller at (sent.New queue subject requestors text) refusal =
+    ask_refusal_page refusal caller at queue subject text requestors [] []
+refused_form caller at (sent.Reply id text status) refusal =
+    reply_refusal_page refusal caller at id text status
 refused_form caller at (sent.Comment id text) refusal =
     comment_refusal_page refusal caller at id text
 refused_form caller at (sent.Change id) refusal = request_refusal_page refusal caller at id
 
-abbrev pub form_reply : List ℕ → ℕ → Sent → Outcome → List ℕ
-form_reply caller at sent (Ok answer) = done_reply sent answer
-form_reply caller at sent (Err refusal) =
+abbrev pub refused_reply : List ℕ → ℕ → Sent → Refusal → List ℕ
+refused_reply caller at sent refusal =
     with_page (code_of_refusal refusal) (page_bytes (refused_form caller at sent refusal))
+
+-- its first command done and its second refused: what was done and what wasn't, with a text that
+-- wasn't sent; no other form has a second command
+abbrev pub half_form : List ℕ → ℕ → Sent → Answer → Refusal → List Part
+half_form caller at (sent.New queue subject requestors text) (answer.Created id) refusal =
+    filed_page refusal caller at id text
+half_form caller at (sent.Reply id text status) answer refusal =
+    replied_page refusal caller at id (unwrap_or status [])
+half_form caller at other answer refusal = refusal_page refusal caller at
+
+abbrev pub half_reply : List ℕ → ℕ → Sent → Answer → Refusal → List ℕ
+half_reply caller at sent answer refusal =
+    with_page (code_of_refusal refusal) (page_bytes (half_form caller at sent answer refusal))

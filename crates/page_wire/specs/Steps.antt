@@ -1,7 +1,7 @@
 -- The step of a message that asks for a page: from a desk to the bytes of a reply and the desk
 -- afterwards.
-use Rattle.std.specs.Prelude.{◌≡◌, ◌⊎◌, ℕ, Bool, true, false, List, [], Option, Some, Result, Ok}
-use Rattle.std.specs.Prelude.{Err, IfOk, OnErr, Vec}
+use Rattle.std.specs.Prelude.{◌≡◌, ◌≢◌, ◌⊎◌, ℕ, Bool, true, false, List, [], Option, Some, None}
+use Rattle.std.specs.Prelude.{Result, Ok, Err, IfOk, OnErr, Vec}
 use Rattle.sqlite.specs.State.{State}
 use Rattle.sqlite.specs.Store.{Ghosts}
 use Rattle.httparse.specs.Grammar.{RequestHead}
@@ -13,6 +13,22 @@ use Rattle.desk_model.specs.declared.answer.Answer.{Answer}
 use Rattle.desk_model.specs.declared.answer.Dossier.{Dossier}
 use Rattle.desk_model.specs.declared.command.Command.TheVariants as command
 use Rattle.desk_model.specs.declared.refusal.Refusal.{Refusal}
+use Rattle.desk_model.specs.declared.refusal.Refusal.TheVariants.{Unavailable}
+use Rattle.find_core.specs.Find.{outcome_of}
+use Rattle.find_core.specs.Loads.{loads_outcome}
+use Rattle.find_core.specs.declared.loads.QueueLoad.{QueueLoad}
+use Rattle.find_core.specs.declared.search.Findings.{Findings}
+use Rattle.find_core.specs.declared.search.Place.{Place}
+use Rattle.find_core.specs.declared.search.Search.{Search}
+use Rattle.find_form.specs.Form.{filled, form_of}
+use Rattle.find_form.specs.Own.{asked_by, owned_by, unowned}
+use Rattle.find_form.specs.Shown.{is_back, place_of}
+use Rattle.find_form.specs.Sought.{search_of}
+use Rattle.find_form.specs.declared.fault.FindFault.{FindFault}
+use Rattle.find_form.specs.declared.fault.FindFault.TheVariants.{Fields}
+use Rattle.find_form.specs.declared.form.FindForm.{FindForm}
+use Rattle.find_form.specs.declared.shown.Start.{Start}
+use Rattle.find_form.specs.declared.shown.Start.TheVariants.{First}
 use Rattle.message_core.specs.Head.{StartsWith}
 use Rattle.message_core.specs.Request.{ReadsRequested, values_in}
 use Rattle.message_core.specs.declared.limits.BodyLimit.TheVariants.{ByPlace}
@@ -26,14 +42,16 @@ use Rattle.page_routes.specs.declared.visit.Visit.TheVariants as visit
 use Rattle.page_routes.specs.Places.{is_page_path, path_in}
 use Rattle.page_routes.specs.Visits.{visit_of}
 use Rattle.service_core.specs.Dossiers.{IsDossier}
+use Rattle.service_core.specs.Finding.{FindsOn}
 use Rattle.service_core.specs.Seen.{settings_of, tables_of}
 use Rattle.service_core.specs.TableSteps.{IsStep, LeadsOn, ask_by}
 use Rattle.service_core.specs.declared.desk.Desk as service
-use Rattle.store_tables.specs.Calls.{Lasts, WasClean}
+use Rattle.store_tables.specs.Calls.{Lasts, Spares, WasClean}
 use Rattle.wire_core.specs.Replies.{is_head}
 use Rattle.wire_core.specs.Runs.{IsReplyTo, Sent}
 use Rattle.wire_core.specs.Steps.{LeavesOut, StaysOn}
 use Rattle.page_wire.specs.Faults.{fault_reply}
+use Rattle.page_wire.specs.Forms.{FormSteps}
 use Rattle.page_wire.specs.Replies as replies
 use Rattle.page_wire.specs.Visits.{IsFixed}
 
@@ -52,20 +70,6 @@ abbrev pub Does : Settings → Ask → (Outcome → List ℕ) → Desk → List 
 Does settings ask reply old bytes new =
     (outcome : Outcome) × IsStep settings ask old outcome new × (bytes ≡ reply outcome)
 
--- after a first command that was refused nothing follows, and else the second one
-abbrev pub Follows : Settings → Ask → (Refusal → List ℕ) → (Answer → Outcome → List ℕ) → Outcome
-    → Desk → List ℕ → Desk → Type 0
-Follows settings second refused reply (Err refusal) mid bytes new = Tells (refused refusal) mid bytes new
-Follows settings second refused reply (Ok answer) mid bytes new =
-    Does settings second (reply answer) mid bytes new
-
--- two commands, the second where the first isn't refused
-abbrev pub DoesBoth : Settings → Ask → Ask → (Refusal → List ℕ) → (Answer → Outcome → List ℕ)
-    → Desk → List ℕ → Desk → Type 0
-DoesBoth settings first second refused reply old bytes new =
-    (outcome : Outcome) × (mid : Desk) × IsStep settings first old outcome mid
-    × Follows settings second refused reply outcome mid bytes new
-
 -- ---- a page
 
 -- a request's page is of its dossier, and the desk stays
@@ -74,14 +78,62 @@ LooksAt settings at caller id old bytes new =
     (result : Result Dossier Refusal) × IsDossier settings at caller id old result
     × Tells (replies.request_reply settings caller at result) old bytes new
 
+-- this is found, or memory or the store refused
+abbrev pub IsFound : Settings → ℕ → List ℕ → Search → ℕ → Option Place → Result Findings Refusal
+    → Desk → Type 0
+IsFound settings at caller search limit after result desk =
+    result ≢ Err Unavailable → result ≡ outcome_of settings at caller search limit after desk
+
+-- each queue has so much, or memory or the store refused
+abbrev pub AreLoads : Settings → ℕ → List ℕ → Result (List QueueLoad) Refusal → Desk → Type 0
+AreLoads settings at caller result desk =
+    result ≢ Err Unavailable → result ≡ loads_outcome settings at caller desk
+
+-- the first page: at most 20 rows of each of its lists
+abbrev pub HomeSteps : Settings → ℕ → List ℕ → Desk → List ℕ → Desk → Type 0
+HomeSteps settings at caller old bytes new =
+    (own asked free : Result Findings Refusal) × (loads : Result (List QueueLoad) Refusal)
+    × IsFound settings at caller (owned_by caller) 20 None own old
+    × IsFound settings at caller (asked_by caller) 20 None asked old
+    × IsFound settings at caller unowned 20 None free old
+    × AreLoads settings at caller loads old
+    × Tells (replies.home_reply settings caller at own asked loads free) old bytes new
+
+-- a page of what is found, of which one row more is sought than it shows
+abbrev pub Finds : Settings → ℕ → List ℕ → Start → Search → (Result Findings Refusal → List ℕ)
+    → Desk → List ℕ → Desk → Type 0
+Finds settings at caller start search reply old bytes new =
+    (result : Result Findings Refusal)
+    × IsFound settings at caller search 101 (place_of start) result old
+    × Tells (reply result) old bytes new
+
+-- what was typed is sought, or told not to be a search
+abbrev pub SearchSteps : Settings → ℕ → List ℕ → List ℕ → Start → FindForm → Result Search FindFault
+    → Desk → List ℕ → Desk → Type 0
+SearchSteps settings at caller query start form (Ok search) =
+    Finds settings at caller start search
+    (replies.find_reply caller at query start form search.order)
+SearchSteps settings at caller query start form (Err fault) =
+    Tells (replies.find_fault_reply caller at fault form)
+
+abbrev pub TypedSteps : Settings → ℕ → List ℕ → List ℕ → Start → Option FindForm
+    → Desk → List ℕ → Desk → Type 0
+TypedSteps settings at caller query start (Some form) =
+    SearchSteps settings at caller query start form (search_of caller (is_back start) form)
+TypedSteps settings at caller query start None =
+    Tells (replies.find_fault_reply caller at Fields (filled []))
+
+-- what these fields of an address ask
+abbrev pub FindSteps : Settings → ℕ → List ℕ → List ℕ → Start → Desk → List ℕ → Desk → Type 0
+FindSteps settings at caller query start =
+    TypedSteps settings at caller query start (form_of query)
+
 -- what a page asks, and its reply
 abbrev pub LookSteps : Settings → ℕ → List ℕ → routes.Page → Desk → List ℕ → Desk → Type 0
-LookSteps settings at caller page.Home =
-    DoesBoth settings (ask_by at caller command.Queues) (ask_by at caller command.Workload)
-    (replies.refused caller at) (replies.home_reply settings caller at)
+LookSteps settings at caller page.Home = HomeSteps settings at caller
 LookSteps settings at caller (page.Queue queue) =
-    DoesBoth settings (ask_by at caller (command.List queue)) (ask_by at caller command.Queues)
-    (replies.refused caller at) (replies.queue_reply settings queue caller at)
+    FindSteps settings at caller (replies.queue_query queue) First
+LookSteps settings at caller (page.Find query start) = FindSteps settings at caller query start
 LookSteps settings at caller (page.New queue) =
     Does settings (ask_by at caller command.Queues) (replies.new_reply settings queue caller at)
 LookSteps settings at caller (page.Request id) = LooksAt settings at caller id
@@ -99,8 +151,7 @@ Stays visit old bytes new = IsFixed visit bytes × (new ≡ old)
 -- what a visit asks of the desk
 abbrev pub AsksAt : Settings → ℕ → Visit → Desk → List ℕ → Desk → Type 0
 AsksAt settings at (visit.Look caller page) = LookSteps settings at caller page
-AsksAt settings at (visit.Act caller command sent) =
-    Does settings (ask_by at caller command) (replies.form_reply caller at sent)
+AsksAt settings at (visit.Act caller command sent) = FormSteps settings at caller command sent
 AsksAt settings at other = Stays other
 
 -- a moment that no clock of the desk can show has no page, and the desk is asked for nothing
@@ -154,15 +205,29 @@ abbrev pub LookStepsOn : Settings → ℕ → List ℕ → routes.Page → List 
 LookStepsOn settings at caller page bytes =
     LeadsOn settings (λ desk after. LookSteps settings at caller page desk bytes after)
 
--- how the reading for a page ends: with the reply of its step, or out of memory with the desk as it
--- was; what was written lasts, and the settings stay
-pub record Looked {S A E : Type 0} (g : Ghosts S) (old new : service.Desk S g) (at : ℕ)
-    (caller : List ℕ) (page : routes.Page) (result : Result (Vec ℕ A) E) : Type 0 where
-  pub ok : IfOk result (λ out. LookStepsOn (settings_of g old) at caller page out.items
-      (tables_of g old) (tables_of g new))
+-- how the reading for a page ends: with the reply of these steps, or out of memory with the desk as
+-- it was; what was written lasts, and the settings stay
+pub record LookedBy {S A E : Type 0} (g : Ghosts S) (old new : service.Desk S g)
+    (LeadsTo : Desk → List ℕ → Desk → Type 0) (result : Result (Vec ℕ A) E) : Type 0 where
+  pub ok : IfOk result (λ out. LeadsOn (settings_of g old)
+      (λ desk after. LeadsTo desk out.items after) (tables_of g old) (tables_of g new))
   pub err : OnErr result (StaysOn (settings_of g old) (tables_of g old) (tables_of g new))
   pub honest : WasClean (tables_of g old) (tables_of g new)
   pub lasts : Lasts (tables_of g old) (tables_of g new)
+  pub same : settings_of g new ≡ settings_of g old
+
+abbrev pub Looked : {S A E : Type 0} → (g : Ghosts S) → service.Desk S g → service.Desk S g → ℕ
+    → List ℕ → routes.Page → Result (Vec ℕ A) E → Type 0
+Looked g old new at caller page result =
+    LookedBy g old new (LookSteps (settings_of g old) at caller page) result
+
+-- how a search for a page ends, and the tables stay
+pub record Sought {S : Type 0} (g : Ghosts S) (old new : service.Desk S g) (at : ℕ)
+    (caller : List ℕ) (search : Search) (limit : ℕ) (after : Option Place)
+    (result : Result Findings Refusal) : Type 0 where
+  pub found : FindsOn (settings_of g old) at caller search limit after result (tables_of g old)
+      (tables_of g new)
+  pub kept : Spares (tables_of g old) (tables_of g new)
   pub same : settings_of g new ≡ settings_of g old
 
 abbrev pub AskedStepsOn : Settings → ℕ → Request → List ℕ → State → State → Type 0

@@ -2,16 +2,22 @@
 ghost use Rattle.std.specs.Prelude.{◌≡◌, IfOk};
 ghost use Rattle.std.specs.Option.{option_map};
 ghost use Rattle.page_core.specs.Page.{page_bytes};
+ghost use Rattle.settings_core.specs.Settings.{levels_of, lifecycles_of};
+ghost use Rattle.desk_pages.specs.Home.{home_page};
 ghost use Rattle.page_wire.specs.Replies as form;
 
 use crate::replies::{refused, with_page};
-use desk_core::{Answer, Dossier, Line, QueueRow, Refusal};
-use desk_pages::{home_page, new_page, overdue_page, queue_page, request_page, workload_page};
+use desk_core::{Answer, Dossier, QueueRow, Refusal};
+use desk_pages::{
+    find_fault_page, find_page, home_page, new_page, overdue_page, request_page, workload_page,
+};
+use find_core::{Findings, Order, QueueLoad};
+use find_form::{FindFault, FindForm, Start, found_page};
 use hours_core::Minute;
 use lifecycle_core::Lifecycle;
 use settings_core::{Named, Settings};
 use std::alloc::{AllocError, Global};
-use text_core::Text;
+use text_core::{Sequence, Text};
 
 /// What came of a command.
 type Outcome = Result<Answer, Refusal>;
@@ -23,36 +29,106 @@ fn no_answer(alloc: Global, caller: &str, moment: Minute) -> Result<Vec<u8>, All
     refused(alloc, caller, moment, &Refusal::Unavailable)
 }
 
-/// The first page: the queues that were told, and how much is to do.
+/// What is open of what the caller owns, asked for, and may take.
+type Found = Result<Findings, Refusal>;
+
+/// What each queue has.
+type Loads = Result<Sequence<QueueLoad>, Refusal>;
+
+/// The first page, of what was found, or of the first refusal.
 pub(crate) fn home_reply(
     alloc: Global,
     settings: &Settings,
     caller: &str,
     moment: Minute,
-    told: &Answer,
-    outcome: &Outcome,
+    own: &Found,
+    asked: &Found,
+    loads: &Loads,
+    free: &Found,
 ) -> Result<Vec<u8>, AllocError>
-    ensures { IfOk result (λ out. out.items
-        ≡ form.home_reply settings.now caller.now moment told.now outcome.now) }
+    ensures { IfOk result (λ out. out.items ≡ form.home_reply settings.now caller.now moment own.now
+        asked.now loads.now free.now) }
 {
-    match (told, outcome) {
-        (_, Err(refusal)) => refused(alloc, caller, moment, refusal),
-        (Answer::Queues(rows), Ok(Answer::Workload(loads))) => {
-            let lifecycles = names_of(alloc, settings.lifecycles())?;
-            let levels = names_of(alloc, settings.levels())?;
-            let page = home_page(
+    match (own, asked, loads, free) {
+        (Ok(own), Ok(asked), Ok(loads), Ok(free)) => {
+            let page = home(
                 alloc,
+                settings,
                 caller,
                 moment,
-                rows.as_slice(),
+                own,
+                asked,
                 loads.as_slice(),
-                lifecycles.as_slice(),
-                levels.as_slice(),
+                free,
             )?;
             with_page(alloc, 200, page)
         }
-        _ => no_answer(alloc, caller, moment),
+        (Err(refusal), _, _, _) => refused(alloc, caller, moment, refusal),
+        (_, Err(refusal), _, _) => refused(alloc, caller, moment, refusal),
+        (_, _, Err(refusal), _) => refused(alloc, caller, moment, refusal),
+        (_, _, _, Err(refusal)) => refused(alloc, caller, moment, refusal),
     }
+}
+
+fn home(
+    alloc: Global,
+    settings: &Settings,
+    caller: &str,
+    moment: Minute,
+    own: &Findings,
+    asked: &Findings,
+    loads: &[QueueLoad],
+    free: &Findings,
+) -> Result<Vec<u8>, AllocError>
+    ensures { IfOk result (λ page. page.items ≡ page_bytes (home_page caller.now moment own.now
+        asked.now loads.now free.now (form.names_of (lifecycles_of settings.now))
+        (form.names_of (levels_of settings.now)))) }
+{
+    let lifecycles = names_of(alloc, settings.lifecycles())?;
+    let levels = names_of(alloc, settings.levels())?;
+    let (lifecycles, levels) = (lifecycles.as_slice(), levels.as_slice());
+    home_page(
+        alloc, caller, moment, own, asked, loads, free, lifecycles, levels,
+    )
+}
+
+/// The page of a search from there on, of what was found in this order.
+pub(crate) fn find_reply(
+    alloc: Global,
+    caller: &str,
+    moment: Minute,
+    query: &str,
+    start: Start,
+    typed: &FindForm,
+    order: Order,
+    found: Found,
+) -> Result<Vec<u8>, AllocError>
+    ensures { IfOk result (λ out. out.items
+        ≡ form.find_reply caller.now moment query.now start typed.now order found) }
+{
+    match found {
+        Ok(found) => {
+            let shown = found_page(order, start, found);
+            let page = find_page(alloc, caller, moment, query, start, typed, &shown)?;
+            with_page(alloc, 200, page)
+        }
+        Err(refusal) => refused(alloc, caller, moment, &refusal),
+    }
+}
+
+/// The page of what was typed and is no search.
+pub(crate) fn find_fault_reply(
+    alloc: Global,
+    caller: &str,
+    moment: Minute,
+    fault: FindFault,
+    typed: &FindForm,
+) -> Result<Vec<u8>, AllocError>
+    ensures { IfOk result (λ out. out.items
+        ≡ form.find_fault_reply caller.now moment fault typed.now) }
+{
+    let page = find_fault_page(alloc, caller, moment, fault.sentence(), typed)?;
+    with_page(alloc, 400, page)
 }
 
 /// The names of these.
@@ -64,53 +140,6 @@ fn names_of<T>(alloc: Global, all: &[Named<T>]) -> Result<Vec<Text>, AllocError>
         names.push(named.name.clone()?)?;
     }
     Ok(names)
-}
-
-/// The page of a queue: its requests that were told, by the lifecycle of its row.
-pub(crate) fn queue_reply(
-    alloc: Global,
-    settings: &Settings,
-    queue: &str,
-    caller: &str,
-    moment: Minute,
-    told: &Answer,
-    outcome: &Outcome,
-) -> Result<Vec<u8>, AllocError>
-    ensures { IfOk result (λ out. out.items
-        ≡ form.queue_reply settings.now queue.now caller.now moment told.now outcome.now) }
-{
-    match (told, outcome) {
-        (_, Err(refusal)) => refused(alloc, caller, moment, refusal),
-        (Answer::Listed(lines), Ok(Answer::Queues(rows))) => listed(
-            alloc,
-            queue,
-            caller,
-            moment,
-            lifecycle_in(settings, queue, rows.as_slice()),
-            lines.as_slice(),
-        ),
-        _ => no_answer(alloc, caller, moment),
-    }
-}
-
-fn listed(
-    alloc: Global,
-    queue: &str,
-    caller: &str,
-    moment: Minute,
-    lifecycle: Option<&Lifecycle>,
-    lines: &[Line],
-) -> Result<Vec<u8>, AllocError>
-    ensures { IfOk result (λ out. out.items ≡ form.listed queue.now caller.now moment
-        (option_map (λ l. l.now) lifecycle.entry) lines.now) }
-{
-    match lifecycle {
-        Some(lifecycle) => {
-            let page = queue_page(alloc, queue, caller, moment, lifecycle, lines)?;
-            with_page(alloc, 200, page)
-        }
-        None => no_answer(alloc, caller, moment),
-    }
 }
 
 /// The lifecycle of the queue of that name among these.

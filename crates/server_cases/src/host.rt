@@ -8,7 +8,7 @@ use std::alloc::Global;
 use std::str;
 
 /// 2026-03-06 17:30 UTC, the minute of each message.
-const MINUTE: u32 = 29_546_970;
+pub const MINUTE: u32 = 29_546_970;
 
 /// How long the network lasts, in milliseconds.
 const LASTS: u64 = 100_000;

@@ -5,8 +5,10 @@ mod broken;
 mod cases;
 mod client;
 mod desk;
+mod forms;
 mod host;
 mod lots;
+mod searches;
 mod stream;
 
 use anyhow::Result;
@@ -14,8 +16,10 @@ use broken::run_broken;
 use cases::{CASES, Case, clients_of};
 use client::{Client, End, Takes};
 use desk::Echo;
+use forms::run_forms;
 use host::{FAIR, FakeHost, Weather};
 use lots::Lots;
+use searches::run_searches;
 use server_core::{Ending, serve};
 use std::alloc::AllocError;
 
@@ -150,5 +154,7 @@ fn main(rt: HostRuntime) -> Result<()> {
     run_resets(&rt)?;
     run_failing_writes(&rt)?;
     run_lots(&rt)?;
-    run_broken(&rt)
+    run_broken(&rt)?;
+    run_forms(&rt)?;
+    run_searches(&rt)
 }

@@ -1,4 +1,5 @@
-use Rattle.desk_pages.proofs.Refusals.{ask_refusal_has, comment_refusal_has, refusal_has}
+use Rattle.desk_pages.proofs.Refusals.{ask_refusal_has, comment_refusal_has, filed_has}
+use Rattle.desk_pages.proofs.Refusals.{refusal_has, replied_has}
 use Rattle.desk_pages.proofs.Refusals.{reply_refusal_has, request_refusal_has}
 use Rattle.desk_pages.proofs.laws.refusal_page_law.Goals as goal
 
@@ -16,3 +17,9 @@ returns-clause-comment c = comment_refusal_has
 
 pub returns-clause-ask : goal.returns-clause-ask
 returns-clause-ask c = ask_refusal_has
+
+pub returns-clause-filed : goal.returns-clause-filed
+returns-clause-filed c = filed_has
+
+pub returns-clause-replied : goal.returns-clause-replied
+returns-clause-replied c = replied_has

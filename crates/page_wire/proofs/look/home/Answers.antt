@@ -1,70 +1,48 @@
--- what both commands come to, the second by the settings that the first leaves
-use Rattle.std.proofs.Common.{◌≡◌, ◌∙◌, Err, IfOk, Ok, refl, subst}
+-- each list is found, and what each queue has, over the tables that the call before left
+use Rattle.std.proofs.Common.{◌≡◌, ◌∙◌, IfOk, None, subst}
 use Rattle.settings_core.specs.declared.settings.Settings.{Settings}
-use Rattle.desk_model.specs.declared.command.Command.TheVariants.{Queues, Workload}
+use Rattle.find_form.specs.Own.{asked_by, owned_by, unowned}
+use Rattle.service_core.specs.Finding.{FindsOn}
+use Rattle.service_core.specs.Loading.{LoadsOn}
 use Rattle.service_core.specs.Seen.{settings_of, tables_of}
-use Rattle.service_core.specs.TableSteps.{ask_by}
-use Rattle.store_tables.proofs.Lasting.{on}
-use Rattle.page_wire.specs.Replies.{home_reply, refused}
-use Rattle.page_wire.proofs.Steps.{at_moment, does_both, does_first, spared_if, stays_both}
+use Rattle.store_tables.proofs.Spared.{joined}
+use Rattle.page_wire.specs.Replies.{home_reply}
+use Rattle.page_wire.proofs.Steps.{homes, spared_if}
 use Rattle.page_wire.proofs.look.home.Goals as goal
 
-pub returns-in-Ok : goal.returns-in-Ok
-returns-in-Ok g c =
-    let settings = settings_of g.S.Store c.args.desk.now in
-    let later = settings_of g.S.Store c.execute.new.self in
+pub returns : goal.returns
+returns g c =
+    let s = settings_of g.S.Store c.args.desk.now in
     let caller = c.args.caller.now in
     let at = c.args.moment in
     let old = tables_of g.S.Store c.args.desk.now in
-    let mid = tables_of g.S.Store c.execute.new.self in
-    let new = tables_of g.S.Store c.execute-outcome.new.self in
-    let told =
-    subst (λ (s : Settings). IfOk c.home_reply-reply.result (λ out. out.items
-    ≡ home_reply s c.args.caller.now c.args.moment c.in-Ok.told c.execute-outcome.result))
-    (c.settings.ensures ∙ c.execute-outcome.ensures.same ∙ c.execute.ensures.same)
-    c.home_reply-reply.ensures in
-    let ok =
-    does_both settings later (ask_by at caller Queues) (ask_by at caller Workload) (refused caller at)
-    (home_reply settings c.args.caller.now c.args.moment) c.in-Ok.told c.execute-outcome.result c.home_reply-reply.result old mid
-    new c.execute.ensures.same c.execute-outcome.ensures.honest
-    (at_moment settings c.get.result at caller Queues (Ok c.in-Ok.told) old mid c.get.ensures.number
-    c.in-Ok.ensures.step)
-    (at_moment later c.get-in-Ok.result at caller Workload c.execute-outcome.result mid new
-    c.get-in-Ok.ensures.number c.execute-outcome.ensures.step) told in
-    let err =
-    stays_both settings later (ask_by c.get.result caller Queues)
-    (ask_by c.get-in-Ok.result caller Workload) (Ok c.in-Ok.told) c.execute-outcome.result
-    c.home_reply-reply.result old mid new c.execute.ensures.same c.execute-outcome.ensures.honest refl
-    refl c.in-Ok.ensures.step c.execute-outcome.ensures.step in
+    let one = tables_of g.S.Store c.first_of-own.new.desk in
+    let two = tables_of g.S.Store c.first_of-asked.new.desk in
+    let three = tables_of g.S.Store c.first_of-free.new.desk in
+    let new = tables_of g.S.Store c.queue_loads-loads.new.self in
+    let own = c.first_of-own.ensures (owned_by caller) c.owned_by.ensures in
+    let asked = c.first_of-asked.ensures (asked_by caller) c.asked_by.ensures in
+    let free = c.first_of-free.ensures unowned c.unowned.ensures in
+    let same_two = asked.same ∙ own.same in
+    let same_three = free.same ∙ same_two in
+    let same_new = c.queue_loads-loads.ensures.same ∙ same_three in
+    let asks = subst (λ (u : Settings). FindsOn u at caller (asked_by caller) 20 None
+    c.first_of-asked.result one two) own.same asked.found in
+    let frees = subst (λ (u : Settings). FindsOn u at caller unowned 20 None
+    c.first_of-free.result two three) same_two free.found in
+    let loads = subst (λ (u : Settings). LoadsOn u at caller c.queue_loads-loads.result three new)
+    same_three (subst (λ n. LoadsOn (settings_of g.S.Store c.first_of-free.new.desk) n caller
+    c.queue_loads-loads.result three new) c.get.ensures.number c.queue_loads-loads.ensures.told) in
+    let told = subst (λ (u : Settings). IfOk c.home_reply-reply.result (λ out. out.items
+    ≡ home_reply u caller at c.first_of-own.result c.first_of-asked.result c.queue_loads-loads.result
+    c.first_of-free.result)) (c.settings-settings.ensures ∙ same_new) c.home_reply-reply.ensures in
+    let kept = joined (joined (joined own.kept asked.kept) free.kept) c.queue_loads-loads.ensures.kept in
     record {
-      ok = ok;
-      err = err;
-      honest = λ clean. c.execute.ensures.honest (c.execute-outcome.ensures.honest clean);
-      lasts = on c.execute-outcome.ensures.honest c.execute.ensures.lasts c.execute-outcome.ensures.lasts;
-      same = c.execute-outcome.ensures.same ∙ c.execute.ensures.same;
-    }
-
-pub returns-in-Err : goal.returns-in-Err
-returns-in-Err g c =
-    let settings = settings_of g.S.Store c.args.desk.now in
-    let caller = c.args.caller.now in
-    let at = c.args.moment in
-    let old = tables_of g.S.Store c.args.desk.now in
-    let new = tables_of g.S.Store c.execute.new.self in
-    let ok =
-    does_first settings (ask_by at caller Queues) (ask_by at caller Workload) (refused caller at)
-    (home_reply settings c.args.caller.now c.args.moment) c.in-Err.refusal c.refused.result old new
-    (at_moment settings c.get.result at caller Queues (Err c.in-Err.refusal) old new
-    c.get.ensures.number c.in-Err.ensures.step)
-    c.refused.ensures in
-    let err =
-    spared_if (settings_of g.S.Store c.args.desk.now) c.refused.result
-    (tables_of g.S.Store c.args.desk.now) (tables_of g.S.Store c.execute.new.self)
-    c.in-Err.ensures.refused in
-    record {
-      ok = ok;
-      err = err;
-      honest = c.execute.ensures.honest;
-      lasts = c.execute.ensures.lasts;
-      same = c.execute.ensures.same;
+      ok = homes s at caller c.first_of-own.result c.first_of-asked.result c.first_of-free.result
+          c.queue_loads-loads.result c.home_reply-reply.result old one two three new own.found asks frees
+          loads asked.kept free.kept c.queue_loads-loads.ensures.kept told;
+      err = spared_if s c.home_reply-reply.result old new kept;
+      honest = kept.clean;
+      lasts = kept.lasts;
+      same = same_new;
     }

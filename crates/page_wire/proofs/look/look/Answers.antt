@@ -1,7 +1,7 @@
 -- each page is the one that is asked for
 use Rattle.std.proofs.Common.{◌∙◌, ap, subst, sym}
 use Rattle.page_routes.specs.declared.page.Page.{Page}
-use Rattle.page_routes.specs.declared.page.Page.TheVariants.{New}
+use Rattle.page_routes.specs.declared.page.Page.TheVariants.{New, Queue}
 use Rattle.page_wire.specs.Steps.{Looked}
 use Rattle.page_wire.proofs.look.look.Goals as goal
 
@@ -13,12 +13,13 @@ returns-in-Home g c =
 pub returns-in-Queue : goal.returns-in-Queue
 returns-in-Queue g c =
     subst (λ (page : Page). Looked g.S.Store c.args.desk.now c.queue.new.desk c.args.moment
-    c.args.caller.now page c.queue.result) (sym c.in-Queue.is) c.queue.ensures
+    c.args.caller.now page c.queue.result) (ap Queue c.as_str.ensures ∙ sym c.in-Queue.is)
+    c.queue.ensures
 
 pub returns-in-New : goal.returns-in-New
 returns-in-New g c =
     subst (λ (page : Page). Looked g.S.Store c.args.desk.now c.new.new.desk c.args.moment
-    c.args.caller.now page c.new.result) (ap New c.as_str.ensures ∙ sym c.in-New.is) c.new.ensures
+    c.args.caller.now page c.new.result) (ap New c.as_str-in-New.ensures ∙ sym c.in-New.is) c.new.ensures
 
 pub returns-in-Request : goal.returns-in-Request
 returns-in-Request g c =

@@ -1,10 +1,13 @@
--- the page of the queue of this name
-use Rattle.std.proofs.Common.{subst}
-use Rattle.page_routes.specs.declared.page.Page.TheVariants.{Queue}
-use Rattle.page_wire.specs.Steps.{Looked}
+-- the search for what is open in the queue
+use Rattle.std.proofs.Common.{◌∙◌, subst}
+use Rattle.find_form.specs.declared.shown.Start.TheVariants.{First}
+use Rattle.service_core.specs.Seen.{settings_of}
+use Rattle.page_wire.specs.Steps.{FindSteps, LookedBy}
 use Rattle.page_wire.proofs.look.queue.Goals as goal
 
 pub returns-in-Ok : goal.returns-in-Ok
 returns-in-Ok g c =
-    subst (λ name. Looked g.S.Store c.args.desk.now c.list-reply.new.desk c.args.moment
-    c.args.caller.now (Queue name) c.list-reply.result) c.as_str.ensures c.list-reply.ensures
+    subst (λ query. LookedBy g.S.Store c.args.desk.now c.find-reply.new.desk
+    (FindSteps (settings_of g.S.Store c.args.desk.now) c.args.moment c.args.caller.now query First)
+    c.find-reply.result) (c.as_str.ensures ∙ c.in-Ok.ensures)
+    c.find-reply.ensures

@@ -1,0 +1,53 @@
+-- what came of the command, and of the second one where there is one
+use Rattle.std.proofs.Common.{◌≡◌, ◌∙◌, Err, Ok, ap}
+use Rattle.std.specs.Option.{option_and_then}
+use Rattle.service_core.specs.Seen.{settings_of, tables_of}
+use Rattle.store_tables.proofs.Lasting.{on}
+use Rattle.page_wire.specs.Next.{with_text}
+use Rattle.page_wire.proofs.Steps.{at_moment, form_done, form_refused, stays_with}
+use Rattle.page_wire.proofs.act.act_with.Goals as goal
+
+pub returns-in-Ok-clause-ok : goal.returns-in-Ok-clause-ok
+returns-in-Ok-clause-ok g c =
+    let settings = settings_of g.S.Store c.args.desk.now in
+    let later = settings_of g.S.Store c.execute.new.self in
+    let caller = c.args.caller.now in
+    let at = c.args.moment in
+    let old = tables_of g.S.Store c.args.desk.now in
+    let mid = tables_of g.S.Store c.execute.new.self in
+    let new = tables_of g.S.Store c.act_on.new.desk in
+    form_done settings later at caller c.args.command.now c.args.sent.now c.in-Ok.answer
+    c.next_command-second.result c.act_on.new.room.items old mid new c.execute.ensures.same
+    c.act_on.ensures.honest
+    (c.next_command-second.ensures
+    ∙ ap (option_and_then (with_text c.args.sent.now c.in-Ok.answer)) c.requires.text)
+    (at_moment settings c.get.result at caller c.args.command.now (Ok c.in-Ok.answer) old mid
+    c.get.ensures.number c.in-Ok.ensures.step) c.act_on.ensures.step
+
+pub returns-in-Ok-clause-honest : goal.returns-in-Ok-clause-honest
+returns-in-Ok-clause-honest g c = λ clean. c.execute.ensures.honest (c.act_on.ensures.honest clean)
+
+pub returns-in-Ok-clause-same : goal.returns-in-Ok-clause-same
+returns-in-Ok-clause-same g c = c.act_on.ensures.same ∙ c.execute.ensures.same
+
+pub returns-in-Ok-clause-lasts : goal.returns-in-Ok-clause-lasts
+returns-in-Ok-clause-lasts g c =
+    on c.act_on.ensures.honest c.execute.ensures.lasts c.act_on.ensures.lasts
+
+pub returns-in-Err-clause-ok : goal.returns-in-Err-clause-ok
+returns-in-Err-clause-ok g c =
+    let settings = settings_of g.S.Store c.args.desk.now in
+    let caller = c.args.caller.now in
+    let at = c.args.moment in
+    let old = tables_of g.S.Store c.args.desk.now in
+    let new = tables_of g.S.Store c.execute.new.self in
+    form_refused settings at caller c.args.command.now c.args.sent.now c.in-Err.refusal
+    c.put_refused.result c.put_refused.new.room.items old new
+    (at_moment settings c.get.result at caller c.args.command.now (Err c.in-Err.refusal) old new
+    c.get.ensures.number c.in-Err.ensures.step) c.put_refused.ensures.ok
+
+pub returns-in-Err-clause-err : goal.returns-in-Err-clause-err
+returns-in-Err-clause-err g c =
+    stays_with (c.put_refused.new.room ≡ c.args.room.now) (settings_of g.S.Store c.args.desk.now)
+    c.put_refused.result (tables_of g.S.Store c.args.desk.now)
+    (tables_of g.S.Store c.execute.new.self) c.put_refused.ensures.err c.in-Err.ensures.refused
