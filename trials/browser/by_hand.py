@@ -147,8 +147,9 @@ def folds():
     with serving("folds") as visitor:
         browser = signed_in(visitor, "bob", AT)
         expect("moves that are seen", browser.run(
-            "[...document.querySelectorAll('[name=status]')].filter(it => it.checkVisibility())"
-            ".map(it => it.value)"), ["new", "stalled", "resolved"])
+            "[...document.querySelectorAll('button[name=status]')]"
+            ".filter(it => it.checkVisibility()).map(it => it.value)"),
+               ["new", "stalled", "resolved"])
         folded = ".more [name=status][value=rejected]"
         expect("what is folded", browser.run(
             "[...document.querySelectorAll('details.more [name=status]')].map(it => it.value)"),
@@ -203,7 +204,7 @@ def refusing():
     """A refused move says so; its address can be loaded again; a refused reply is kept."""
     with serving("refusing") as visitor:
         browser = signed_in(visitor, "bob", AT)
-        browser.follow("[name=status][value=resolved]")
+        browser.follow("button[name=status][value=resolved]")
         holds("a refused move isn't told", "refused 9 OpenDependency" in browser.text())
         browser.follow("main .button")
         expect("it leads back", browser.path(), AT)
@@ -219,6 +220,36 @@ def refusing():
         expect("and is taken once it is right", last_of(visitor), "reply shorter")
 
 
+def at_once():
+    """A request is filed with its first text, and a reply moves its request as well. Where the move
+    is refused, the reply stands and the page says so."""
+    with serving("once") as visitor:
+        browser = signed_in(visitor, "bob", "/desk/queues/support/new")
+        browser.put("#subject", "A badge")
+        browser.put("#text", TEXT)
+        browser.put("#requestors", "ann")
+        browser.follow(".sheet button")
+        number = LAST + 1
+        expect("it leads to", browser.run("location.pathname + location.hash"),
+               f"/desk/requests/{number}#reply")
+        expect("its text as it is shown", browser.run(
+            "[...document.querySelectorAll('.history > li > div')].at(-1).textContent"), TEXT)
+        browser.put("[action$='/reply'] textarea", "It lies at the front desk.")
+        browser.press("[type=checkbox][value=resolved]")
+        browser.follow("[action$='/reply'] button")
+        expect("replied and moved", (visitor.told(f"/requests/{number}/history").text.count(
+            "reply It lies"), last_of(visitor, number)), (1, "status open resolved"))
+        browser.open(visitor.origin + AT)
+        browser.put("[action$='/reply'] textarea", "It comes on Monday.")
+        browser.press("[type=checkbox][value=resolved]")
+        browser.follow("[action$='/reply'] button")
+        holds("a refused move isn't told", "refused 9 OpenDependency" in browser.text()
+              and "Your reply was sent, but the request was not made resolved." in browser.text())
+        expect("the reply stands", last_of(visitor), "reply It comes on Monday.")
+        browser.follow("main .button")
+        expect("it leads back", browser.path(), AT)
+
+
 def rows(browser):
     """The numbers of the requests that are seen in a list."""
     return browser.run("[...document.querySelectorAll('tbody tr')].filter(it =>"
@@ -232,18 +263,21 @@ def choices():
         lines = [(int(it[:7]), it[8:28].strip(), it[29:49].strip())
                  for it in visitor.told("/queues/support/requests").text.splitlines()[1:]]
         is_open = [it for it in lines if it[1] not in ("resolved", "rejected", "deleted")]
-        wanted = {"open": is_open, "mine": [it for it in is_open if it[2] == "bob"],
+        is_open.reverse()
+        wanted = {"mine": [it for it in is_open if it[2] == "bob"],
                   "nobody": [it for it in is_open if it[2] == "Nobody"],
-                  "late": [it for it in lines if it[0] in LATE],
-                  "closed": [it for it in lines if it not in is_open], "all": lines}
+                  "late": [it for it in is_open if it[0] in LATE], "all": is_open}
         browser = signed_in(visitor, "bob", "/desk/queues/support")
         for name, chosen in wanted.items():
             browser.press(f"#{name}")
             expect(f"{name} in a queue", rows(browser), [it[0] for it in chosen])
-        browser.press("#open")
+        browser.press("#all")
         browser.key("ArrowRight")
         expect("by the keys", (browser.run(FOCUS + " && document.activeElement.id"), rows(browser)),
                ("mine", [it[0] for it in wanted["mine"]]))
+        browser.open(f"{visitor.origin}/desk/queues/support")
+        browser.follow("main a[href$='state=closed']")
+        expect("closed ones", rows(browser), [it[0] for it in reversed(lines) if it not in is_open])
         browser.open(f"{visitor.origin}/desk/queues/building")
         holds("an empty queue doesn't say so", browser.run(SHOWS.format(".none")) == 1)
         browser.open(f"{visitor.origin}/desk/overdue")
@@ -254,18 +288,58 @@ def choices():
         expect("late, mine", rows(browser), [2])
 
 
+def searching():
+    """A search by its form keeps what was typed, and its address is another's search too. What is
+    no search says why, and keeps what was typed."""
+    with serving("searching") as visitor:
+        told = visitor.told("/queues/support/requests").text.splitlines()[1:]
+        browser = signed_in(visitor, "bob", "/desk/find?queue=support")
+        expect("all of a queue", rows(browser), [int(it[:7]) for it in reversed(told)])
+        browser.press("summary")
+        browser.put("#words", "PRINT")
+        browser.of_element("#state", "it.value = 'open'")
+        browser.of_element("#order", "it.value = 'oldest'")
+        browser.follow("details button")
+        found = [int(it[:7]) for it in told if "print" in it.lower()
+                 and it[8:28].strip() not in ("resolved", "rejected", "deleted")]
+        holds("nothing would be found", found)
+        expect("words in a queue", rows(browser), found)
+        expect("what was typed", browser.run("['words', 'queue', 'state', 'order'].map(it =>"
+               " document.getElementById(it).value)"), ["PRINT", "support", "open", "oldest"])
+        address = browser.run("location.pathname + location.search")
+        browser.open(f"{visitor.origin}/desk/find?owner=Me&state=open&order=due")
+        mine = rows(browser)
+        browser.open(f"{visitor.origin}/desk/find?owner=bob&state=open&order=due")
+        expect("Me is who looks", rows(browser), mine)
+        browser.press("summary")
+        browser.put("#owner", "No Name")
+        browser.put("#words", "<b>")
+        browser.follow("details button")
+        holds("a wrong name isn't told", browser.has(".alert") and browser.has("details[open]"))
+        expect("it is kept", browser.run("['words', 'owner'].map(it =>"
+               " document.getElementById(it).value)"), ["<b>", "No Name"])
+        browser.open(f"{visitor.origin}/sign-in")
+    with serving("searched") as visitor:
+        browser = signed_in(visitor, "ann", address)
+        holds("a colleague isn't led to it", browser.path() == "/desk/find")
+        holds("one finds what one may not see", set(rows(browser)) <= set(found))
+
+
 def counting():
     """Home and the workload tell the same numbers, and who is late is marked."""
     with serving("counting") as visitor:
         browser = signed_in(visitor)
-        home = browser.run("[...document.querySelectorAll('.tiles b')].map(it =>"
-                           " Number(it.textContent))")
+        home = browser.run("[...document.querySelectorAll('h2 small')].map(it =>"
+                           " parseInt(it.textContent))")
+        queues = browser.run("[...document.querySelectorAll('.queues tbody tr')].map(it =>"
+                             " [1, 2].map(n => Number(it.cells[n].innerText)))")
         browser.follow("nav a[href='/desk/workload']")
         cells = browser.run("Object.fromEntries([...document.querySelectorAll("
                             "'tbody tr, tfoot tr')].map(it => [it.cells[0].innerText.trim(),"
                             " [1, 2].map(n => Number(it.cells[n].innerText))]))")
-        expect("home beside the workload", home, [*cells["bob"], *cells["Nobody"], *cells["Total"]])
-        expect("late in all", home[5], len(LATE))
+        expect("home beside the workload", [home[0], home[2]], [cells["bob"][0], cells["Nobody"][0]])
+        expect("the queues beside it", [sum(it) for it in zip(*queues)], cells["Total"])
+        expect("late in all", sum(it[1] for it in queues), len(LATE))
         expect("where one is", browser.text("nav [aria-current=page]"), "Workload")
         browser.open(f"{visitor.origin}/desk/requests/2")
         holds("what is late isn't marked", "late" in browser.text(".facts .late"))
@@ -399,5 +473,6 @@ def leaving():
 
 PARTS = {"signing": signing_in, "writing": writing, "owning": owning, "changing": changing,
          "pressing": one_press, "folds": folds, "filing": filing, "refusing": refusing,
-         "choices": choices, "counting": counting, "moments": local_time, "keys": keys,
-         "others": other_sites, "leaving": leaving}
+         "at-once": at_once, "choices": choices, "searching": searching,
+         "counting": counting, "moments": local_time,
+         "keys": keys, "others": other_sites, "leaving": leaving}

@@ -11,7 +11,7 @@ PAGES = ["/", "/desk/queues/support", "/desk/queues/purchases", "/desk/queues/bu
          "/desk/queues/support/new", f"/desk/requests/{TALK}", f"/desk/requests/{FREE}",
          "/desk/requests/9", "/desk/overdue", "/desk/workload", "/desk/requests/99",
          "/desk/nothing"]
-WIDTHS = (320, 390, 600, 704, 720, 960, 1280, 1920)
+WIDTHS = (320, 390, 600, 704, 720, 832, 848, 960, 1280, 1920)
 MANY = 1_000
 # seconds until a page of a thousand requests is there
 SOON = 10
@@ -104,7 +104,7 @@ def hostile():
         for text in ["x", *HOSTILE]:
             queue = f"t{filed.count}"
             made = list(filed(visitor, text))
-            expect(f"{text!r}: the pages made", len(made), 5)
+            expect(f"{text!r}: the pages made", len(made), 8)
             at = next(it for it in re.findall(r"/desk/requests/\d+", made[0][1].text))
             for place in (f"/desk/queues/{queue}", at):
                 browser.open(visitor.origin + place)
@@ -114,7 +114,7 @@ def hostile():
                 expect(f"{place}: complaints", browser.complaints(), [])
                 holds(f"{place}: {text!r} opens a box", not browser.wait(
                     "Page.javascriptDialogOpening", 0.01))
-            expect(f"{text!r} as it is shown", browser.run(WRITTEN), [text, text])
+            expect(f"{text!r} as it is shown", browser.run(WRITTEN), [text, text, text])
             # a title has its spaces put together
             holds(f"{text!r} as a title", text in browser.run("document.title") or "\u2028" in text)
         ways = set(browser.run("[...document.querySelectorAll('[dir=auto]')].map(it =>"
@@ -151,17 +151,28 @@ def many():
         browser.open(f"{visitor.origin}/desk/queues/building")
         took = time.monotonic() - begun
         holds(f"a queue of {MANY} took {took:.1f} seconds", took < SOON)
-        expect("rows", browser.run(SHOWS.format("tbody tr")), MANY)
+        expect("rows", browser.run(SHOWS.format("tbody tr")), 100)
+        holds("it isn't told how many there are", f"Found: {MANY}" in browser.text("main"))
         browser.press("#mine")
         expect("rows of hers", browser.run(SHOWS.format("tbody tr")), 0)
         holds("it isn't said that there are none", browser.run(SHOWS.format(".none")) == 1)
         browser.press("#nobody")
-        expect("rows of nobody", browser.run(SHOWS.format("tbody tr")), MANY)
+        expect("rows of nobody", browser.run(SHOWS.format("tbody tr")), 100)
         for width in (320, 1280):
             browser.window(width)
             wide = browser.run("document.documentElement.scrollWidth")
             holds(f"many rows are {wide} wide in {width}", wide <= width)
-        browser.follow("tbody tr:last-child a")
+        first = browser.text("tbody")
+        pages = 1
+        while browser.has("a[rel=next]"):
+            browser.follow("a[rel=next]")
+            pages += 1
+        expect("pages", pages, MANY // 100)
+        browser.follow("a[rel=prev]")
+        while browser.has("a[rel=prev]"):
+            browser.follow("a[rel=prev]")
+        expect("the first page once more", browser.text("tbody"), first)
+        browser.follow("tbody tr:first-child a")
         holds("the last one isn't there", f"Room {MANY - 1}:" in browser.text("h1"))
 
 

@@ -11,9 +11,11 @@ UNKNOWN = re.compile(r'proprietary attribute "(aria-current|inputmode|autocapita
 FORBIDDEN = {"script", "style", "img", "iframe", "object", "embed", "base", "svg", "math"}
 # where an address stands
 ADDRESSES = {"href", "action", "formaction", "src", "background", "cite", "data", "poster", "ping"}
-# the sentence of what a page may lead to: places of the desk, numbers and names alone
+# the sentence of what a page may lead to: places of the desk, numbers and names alone, and the
+# fields of a search as they came
 PLACE = re.compile(r"|/|#[a-z]+|/sign-(in|out)|/style\.css\?\d+|/desk/(go|queues|overdue|workload)"
-                   r"|/desk/queues/[a-z][a-z0-9_-]{0,19}(/new)?|/desk/requests/\d+(/[a-z]+)?")
+                   r"|/desk/queues/[a-z][a-z0-9_-]{0,19}(/new)?|/desk/requests/\d+(/[a-z]+)?"
+                   r"|/desk/find(/(after|before)/(\d+|none)/\d+)?(\?[!-~]*)?")
 FIELDS = {"input", "select", "textarea"}
 
 
@@ -115,14 +117,15 @@ def forbidden(found):
 
 
 def whole(page, found):
-    """What each page has: its language, a title, one main part, and posts as its only forms."""
+    """What each page has: its language, a title, one main part, and posts as its only forms but
+    that for a search."""
     has = dict(found)
     wrong = [] if page.startswith("<!DOCTYPE html>\n") else ["it doesn't begin as HTML"]
     wrong += [] if has.get("html", {}).get("lang") == "en" else ["no language is told"]
     wrong += [f"{name} stands {count} times" for name in ("title", "main")
               if (count := sum(it == name for it, _ in found)) != 1]
     wrong += [f"a form by {it.get('method')}" for name, it in found
-              if name == "form" and it.get("method") != "post"]
+              if name == "form" and it.get("method") != "post" and it.get("action") != "/desk/find"]
     return wrong
 
 

@@ -15,13 +15,18 @@ SHOWN = [("bob", it, 200) for it in (
     "/", "/desk/queues/support", "/desk/queues/purchases", "/desk/queues/building",
     "/desk/queues/support/new", f"/desk/requests/{TALK}", f"/desk/requests/{FREE}",
     f"/desk/requests/{TRICKY}", "/desk/requests/6", "/desk/requests/9", "/desk/overdue",
-    "/desk/workload", "/?from=elsewhere")]
+    "/desk/workload", "/?from=elsewhere", "/desk/find", "/desk/find?words=the&replies=yes",
+    "/desk/find?queue=support&state=closed&order=due-last", "/desk/find/after/none/3?order=due",
+    "/desk/find/before/3/3?owner=Me&late=yes", "/desk/find?words=%22%3E%3Cb%3E&queue=support")]
 SHOWN += [("ann", it, 200) for it in ("/", "/desk/queues/support", f"/desk/requests/{TALK}",
                                       "/desk/overdue", "/desk/workload")]
 SHOWN += [("eva", "/desk/requests/9", 200), ("dora", "/", 200),
           ("lin", "/desk/queues/building", 200)]
 SHOWN += [("ann", "/desk/requests/9", 404), ("bob", "/desk/requests/99", 404),
-          ("bob", "/desk/queues/nowhere", 404), ("bob", "/desk", 404),
+          ("bob", "/desk/queues/nowhere", 200), ("bob", "/desk", 404),
+          ("bob", "/desk/find?word=x", 400), ("bob", "/desk/find?words=%", 400),
+          ("bob", "/desk/find?from=x&words=%22%3E%3Cb%3E", 400),
+          ("bob", "/desk/find/after/x/1", 404), ("bob", "/desk/findings", 404),
           ("bob", "/desk/nothing", 404), ("bob", "/desk/requests/x", 404),
           ("bob", "/desk/queues/<script>", 404),
           ("bob", "/desk/requests/4294967296", 404), (None, "/", 403), (None, "/sign-in", 200),
@@ -124,6 +129,44 @@ def refused():
         expect("the history after refusals", visitor.told(f"/requests/{TALK}/history").body, before)
 
 
+def half_done():
+    """Of two commands that a form asks for the second is refused: the page says what was done and
+    what wasn't, and has a text that wasn't sent. After a refused first nothing is done."""
+    with serving("half") as visitor:
+        new, text = "/desk/queues/support/new", "It is <b>locked</b>.\n\n\tSince noon."
+        reply = visitor.post(new, {"subject": "A door", "requestors": "ann", "text": text}, "eva")
+        page("a text that is refused", reply, 404)
+        holds("it isn't said that it is filed", f"Request {LAST + 1} is filed, but its text was "
+              "not sent." in reply.text)
+        holds("its text is lost", any(text in it for it in markup.texts(reply.text)))
+        told = visitor.told(f"/requests/{LAST + 1}/history").text
+        expect("what was done", [it.split()[4] for it in told.splitlines()], ["create"])
+        at = f"/desk/requests/{TALK}"
+        before = visitor.told(f"/requests/{TALK}/history").text
+        for status, code, said in (("resolved", 409, "refused 9 OpenDependency"),
+                                   ("none", 400, "refused 5 UnknownName")):
+            reply = visitor.post(f"{at}/reply", {"text": status, "status": status})
+            page(f"{status} that is refused", reply, code)
+            holds(f"{status}: it isn't said", said in reply.text
+                  and f"Your reply was sent, but the request was not made {status}." in reply.text)
+            after = visitor.told(f"/requests/{TALK}/history").text
+            holds(f"{status}: the reply isn't all that was done", after.startswith(before)
+                  and [it.split()[4] for it in after[len(before):].splitlines()] == ["reply"])
+            before = after
+        count = visitor.told("/queues/support/requests").body
+        for place, fields in ((new, {"subject": "", "requestors": "", "text": text}),
+                              (f"{at}/reply", {"text": "", "status": "stalled"})):
+            page(f"a refused first at {place}", visitor.post(place, fields), 400)
+        expect("the history after them", visitor.told(f"/requests/{TALK}/history").text, before)
+        expect("the queue after them", visitor.told("/queues/support/requests").body, count)
+        for text in ("", " \t\n "):
+            reply = visitor.post(new, {"subject": "A door", "requestors": "", "text": text})
+            expect(f"the text {text!r}", reply.code, 303)
+            number = re.search(r"/(\d+)#", reply.head("location") or "/0#")[1]
+            expect(f"the entries with the text {text!r}", visitor.told(
+                f"/requests/{number}/history").text.count("\n"), 1)
+
+
 def filed(visitor, text):
     """The pages that show a text: of a new request with it, of its queue, and of forms with it that
     were refused."""
@@ -140,7 +183,12 @@ def filed(visitor, text):
     yield "a refused reply", visitor.post(f"{at}/reply", {"text": text + "\0"}, "dora")
     yield "a refused comment", visitor.post(f"{at}/comment", {"text": text}, "ann")
     yield "a refused request", visitor.post(f"/desk/queues/{queue}/new", {
-        "subject": text, "requestors": text}, "dora")
+        "subject": text, "requestors": text, "text": text}, "dora")
+    yield "a refused text", visitor.post(f"/desk/queues/{queue}/new", {
+        "subject": text, "requestors": "ann", "text": text}, "lin")
+    yield "a refused status", visitor.post(f"{at}/reply", {"text": text, "status": text}, "dora")
+    yield "a refused reply with a status", visitor.post(
+        f"{at}/reply", {"text": text + "\0", "status": text}, "dora")
 
 
 filed.count = 0
@@ -155,7 +203,7 @@ def same():
         for text in HOSTILE:
             for (what, tree), (_, reply) in zip(plain, filed(visitor, text)):
                 holds(f"{what} with {text!r} has other elements", markup.tree(reply.text) == tree)
-                if what != "a refused reply":
+                if what not in ("a refused reply", "a refused reply with a status"):
                     found += 1
                     holds(f"{what} doesn't show {text!r}",
                           any(text in it for it in markup.texts(reply.text)))
@@ -288,5 +336,5 @@ def cookies():
         holds("a wrong token is repeated", "typed-by-mistake" not in reply.text)
 
 
-PARTS = {"shown": shown, "apart": tell_apart, "refused": refused, "same": same, "posts": posts,
-         "bodies": bodies, "methods": methods, "cookies": cookies}
+PARTS = {"shown": shown, "apart": tell_apart, "refused": refused, "half": half_done, "same": same,
+         "posts": posts, "bodies": bodies, "methods": methods, "cookies": cookies}

@@ -8,6 +8,8 @@ from browser.trial import serving, signed_in
 PICTURES = {
     "home": ("bob", "/"), "home-dora": ("dora", "/"), "queue": ("bob", "/desk/queues/support"),
     "queue-user": ("ann", "/desk/queues/support"), "queue-empty": ("bob", "/desk/queues/building"),
+    "find": ("bob", "/desk/find?words=the&replies=yes"),
+    "find-none": ("bob", "/desk/find?from=x"), "home-ann": ("ann", "/"),
     "new": ("bob", "/desk/queues/support/new"), "request": ("bob", f"/desk/requests/{TALK}"),
     "request-user": ("ann", f"/desk/requests/{TALK}"),
     "request-free": ("bob", f"/desk/requests/{FREE}"),
@@ -39,7 +41,7 @@ def take(folder):
                     "the printer on the first floor.")
         browser.follow("[action$='/reply'] button")
         shoot(browser, folder, "replied")
-        browser.follow("[name=status][value=resolved]")
+        browser.follow("button[name=status][value=resolved]")
         shoot(browser, folder, "refused")
         browser.follow("[action='/sign-out'] button")
         shoot(browser, folder, "sign-in")
