@@ -1,15 +1,17 @@
 -- Which minutes one stay more pauses.
-use Rattle.std.proofs.Common.{◌≡◌, ℕ, ◌+◌, ◌<◌, ◌≤◌, true, false, ◌||◌, List, length, take}
+use Rattle.std.proofs.Common.{◌≡◌, ℕ, zero, suc, ◌+◌, ◌<◌, ◌≤◌, true, false, ◌||◌, List, [], ◌∷◌}
+use Rattle.std.proofs.Common.{length, take, nat_le}
 use Rattle.std.proofs.Common.{get_or, unwrap_or, Option, Some, None, inl, inr, refl, ap, sym, ◌∙◌}
 use Rattle.std.proofs.Common.{arith}
 use Rattle.std.specs.List.{list_any}
 use Rattle.std.proofs.lemmas.Bool.{cases_lt, lt-ltb, le-ltb, le-leb, lt-leb, and_from, and_left}
-use Rattle.std.proofs.lemmas.Bool.{and_right, or_from, or_left, or_right}
-use Rattle.std.proofs.lemmas.List.Folds.{list_any_more}
+use Rattle.std.proofs.lemmas.Bool.{and_right, and_parts, or_from, or_left, or_parts, or_right}
+use Rattle.std.proofs.lemmas.Bool.{leb-true}
+use Rattle.std.proofs.lemmas.List.Folds.{list_any_at, list_any_more}
 use Rattle.text_core.specs.Texts.{is_among}
 use Rattle.hours_core.specs.Least.{NoneHolds, AllHold}
 use Rattle.hours_core.specs.Moment.{end_minute}
-use Rattle.hours_core.specs.Pauses.{is_before, pauses, is_paused}
+use Rattle.hours_core.specs.Pauses.{are_in_order, is_before, pauses, is_paused}
 use Rattle.hours_core.specs.declared.stay.Stay.{Stay}
 
 -- where a stay ends, and `END` while it lasts
@@ -79,3 +81,52 @@ pub still_clear : (ignored : List (List ℕ)) (xs : List Stay) (i : ℕ) (x : St
 still_clear ignored xs i x m next to h e none less clear =
     λ k low high. one_more ignored xs i x k h e
     ∙ or_from _ _ (none k low (omega arith)) (clear k low high)
+
+-- ---- stays that begin in order
+
+none_early : (ignored : List (List ℕ)) (e : ℕ) (xs : List Stay) (k : ℕ) → are_in_order e xs ≡ true
+    → k < e → is_paused ignored xs k ≡ false
+unfolding is_paused
+none_early ignored e [] k order h = refl
+none_early ignored e (x ∷ xs) k order h =
+    let parts = and_parts (nat_le e x.from) (are_in_order x.from xs) order in
+    let low = leb-true e x.from parts.0 in
+    or_from _ _ (earlier ignored x k (omega (arith, low)))
+    (none_early ignored x.from xs k parts.1 (omega (arith, low)))
+
+-- before a stay begins those after it pause nothing
+pub clear_before : (ignored : List (List ℕ)) (e : ℕ) (xs : List Stay) (i : ℕ) (x : Stay) (k : ℕ)
+    → are_in_order e xs ≡ true → i < length xs → x ≡ get_or xs i x
+    → is_paused ignored (take i xs) k ≡ false → k < x.from → is_paused ignored xs k ≡ false
+unfolding is_paused
+clear_before ignored e [] i x k order h is none low = refl
+clear_before ignored e (y ∷ ys) zero x k order h is none low =
+    let parts = and_parts (nat_le e y.from) (are_in_order y.from ys) order in
+    let same : x.from ≡ y.from = ap (λ (s : Stay). s.from) is in
+    or_from _ _ (earlier ignored y k (omega (arith, low, same)))
+    (none_early ignored y.from ys k parts.1 (omega (arith, low, same)))
+clear_before ignored e (y ∷ ys) (suc i) x k order h is none low =
+    let parts = and_parts (nat_le e y.from) (are_in_order y.from ys) order in
+    let before = or_parts _ _ none in
+    or_from _ _ before.0 (clear_before ignored y.from ys i x k parts.1 (omega arith) is before.1 low)
+
+-- a stay pauses its minutes, whatever the others do
+pub paused_by : (ignored : List (List ℕ)) (xs : List Stay) (i : ℕ) (x : Stay) (k : ℕ)
+    → i < length xs → x ≡ get_or xs i x → is_among ignored x.status ≡ true → x.from ≤ k
+    → k < end_of x → is_paused ignored xs k ≡ true
+unfolding is_paused
+paused_by ignored xs i x k h e is low high =
+    list_any_at (pauses ignored k) xs i x h
+    (ap (pauses ignored k) (sym e) ∙ within ignored x k is low high)
+
+-- the stays pause no minute from there on
+abbrev pub AreOver : List (List ℕ) → List Stay → ℕ → Type 0
+AreOver ignored xs place = NoneHolds (is_paused ignored xs) place end_minute
+
+pub over_more : (ignored : List (List ℕ)) (xs : List Stay) (i : ℕ) (x : Stay) (place to : ℕ)
+    → i < length xs → x ≡ get_or xs i x → AreOver ignored (take i xs) place → place ≤ to
+    → ((k : ℕ) → to ≤ k → k < end_minute → pauses ignored k x ≡ false)
+    → AreOver ignored (take (i + 1) xs) to
+over_more ignored xs i x place to h e over less none =
+    λ k low high. one_more ignored xs i x k h e
+    ∙ or_from _ _ (over k (omega arith) high) (none k low high)

@@ -1,6 +1,6 @@
 -- Halving finds the first span that reaches a mark, and how often it reads.
 use Rattle.std.proofs.Common.{◌≡◌, ℕ, zero, suc, ◌+◌, ◌/◌, ◌^◌, ◌<◌, ◌≤◌, Bool, true, false}
-use Rattle.std.proofs.Common.{List, [], ◌∷◌, length, get_or, slice_get, Some, ap, ◌∙◌}
+use Rattle.std.proofs.Common.{List, [], ◌∷◌, length, get_or, slice_get, Option, Some, ap, ◌∙◌}
 use Rattle.std.proofs.Common.{refl, sym, arith}
 use Rattle.std.specs.List.{list_all, find}
 use Rattle.std.specs.Int.Digits.{digits_of}
@@ -98,6 +98,18 @@ halvings_rise a b h =
 halved : (n left : ℕ) → 0 < n → left ≤ n / 2 → halvings left + 1 ≤ halvings n
 halved n left some h =
     omega (arith, length-digits_of_step 2 n (omega arith) some, halvings_rise left (n / 2) h)
+
+-- what is read or found in spans is so in those that are the same
+pub read_too : (xs ys : List Span) (i : ℕ) (s : Span) → xs ≡ ys
+    → ((d : Span) → s ≡ get_or xs i d) → (d : Span) → s ≡ get_or ys i d
+read_too xs ys i s same read d = read d ∙ ap (λ zs. get_or zs i d) same
+
+pub found_too : (p : Span → Bool) (xs ys : List Span) (r : Option Span) → xs ≡ ys → r ≡ find p xs
+    → r ≡ find p ys
+found_too p xs ys r same found = found ∙ ap (find p) same
+
+pub halved_too : (xs ys : List Span) → xs ≡ ys → halvings (length xs) ≡ halvings (length ys)
+halved_too xs ys same = ap (λ zs. halvings (length zs)) same
 
 -- the span at an index is found there
 pub found_there : (xs : List Span) (i : ℕ) (s : Span) → i < length xs

@@ -1,4 +1,5 @@
 pub mod Calendar
+pub mod Counted
 pub mod Counting
 pub mod Date
 pub mod Fault

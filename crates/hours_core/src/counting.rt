@@ -26,7 +26,9 @@ impl Calendar {
     pub fn is_open(&self, m: Minute) -> bool
         ensures { result ≡ opens self.now m }
     {
-        match first_held(&self.spans, m.get(), &mut Probes::new()) {
+        let mut probes = Probes::new();
+        let mut spans = self.spans.counted(&mut probes);
+        match first_held(&mut spans, m.get()) {
             Some(first) => first == m.get(),
             None => false,
         }
@@ -51,7 +53,8 @@ impl Calendar {
         ensures some { 0 < length (spans_of self.now) → at_least probes.old 1 ≤ probes.new }
         ensures kept { probes.old ≤ probes.new }
     {
-        let first = first_held(&self.spans, m.get(), probes)?;
+        let mut spans = self.spans.counted(probes);
+        let first = first_held(&mut spans, m.get())?;
         Some(Minute::at(first))
     }
 
@@ -76,14 +79,18 @@ impl Calendar {
         ensures found { 0 < n → IsSome result → at_least probes.old 2 ≤ probes.new }
         ensures kept { probes.old ≤ probes.new }
     {
-        let end = end_of_count(&self.spans, m.get(), n, probes)?;
+        let mut spans = self.spans.counted(probes);
+        let end = end_of_count(&mut spans, m.get(), n)?;
         Some(Minute::at(end))
     }
+
     /// How many minutes are open from one to before another.
     pub(crate) fn open_between(&self, a: u32, b: u32) -> u32
         requires { a ≤ b }
         ensures { result ≡ count (opens self.now) a b }
     {
-        minutes_between(&self.spans, a, b, &mut Probes::new())
+        let mut probes = Probes::new();
+        let mut spans = self.spans.counted(&mut probes);
+        minutes_between(&mut spans, a, b)
     }
 }

@@ -9,6 +9,7 @@ mod counting;
 mod date;
 mod fault;
 mod holidays;
+mod in_order;
 mod level;
 mod moment;
 mod pauses;

@@ -1,4 +1,4 @@
-//! Zones by a rule, minute by minute.
+//! Zones by a rule, from stretch to stretch of one offset.
 
 ghost use Rattle.std.specs.Prelude.{◌≡◌, ◌≢◌, ◌≤◌, ◌<◌, ◌-◌, ◌+◌, ◌+ℤ◌, ◌≤ℤ◌, pos, suc, true, false};
 ghost use Rattle.std.specs.Prelude.{IfOk, IfErr, IsOk};

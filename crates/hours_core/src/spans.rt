@@ -1,7 +1,10 @@
 //! Runs of open minutes in order, and reads of them that are counted.
+//!
+//! The fields are private, so a span is read only by `CountedSpans::read`, which counts.
 
 ghost use Rattle.std.specs.Prelude.{◌≡◌, ◌<◌, ◌≤◌, ℕ, ◌+◌, ◌||◌, []};
 ghost use Rattle.std.specs.Prelude.{length, min, OnOk, slice_index_or};
+ghost use Rattle.hours_core.specs.Counted.{HaveOneCount, reads_of, spans_in};
 ghost use Rattle.hours_core.specs.Hours.{is_within};
 ghost use Rattle.hours_core.specs.Moment.{first_minute, end_minute};
 ghost use Rattle.hours_core.specs.Spans.{is_held, minutes_of, AreSpans, end_of};
@@ -28,8 +31,6 @@ impl Span {
 }
 
 /// The runs of open minutes in order, with at least a minute between two of them.
-///
-/// A span is read only by `read`, which counts.
 #[derive(Drop)]
 pub struct Spans {
     items: Vec<Span>,
@@ -76,6 +77,46 @@ impl Probes {
     {
         self.count
     }
+
+    /// One span more was read.
+    fn add_one(&mut self)
+        ensures counted { self.new ≡ min (self.old + 1) u32.MAX }
+        ensures kept { self.old ≤ self.new }
+    {
+        self.count = self.count.saturating_add(1);
+    }
+}
+
+/// Spans that are lent with the count of their reads. What is handed these, and neither, can read
+/// no span without counting it.
+#[derive(Drop)]
+pub struct CountedSpans<'a> {
+    spans: &'a Spans,
+    probes: &'a mut Probes,
+}
+
+impl<'a> CountedSpans<'a> {
+    /// How many spans there are.
+    pub fn len(&self) -> usize
+        ensures number { result ≡ length (spans_in self.now) }
+        ensures spans { AreSpans first_minute 0 (spans_in self.now) }
+    {
+        self.spans.len()
+    }
+
+    /// The span at the index, which counts as one more.
+    pub fn read(&mut self, index: usize) -> Span
+        requires { index < length (spans_in self.old) }
+        ensures one { HaveOneCount self.new self.old }
+        ensures same { spans_in self.new ≡ spans_in self.old }
+        ensures span { (other : Span)
+            → result ≡ slice_index_or (spans_in self.old) index other }
+        ensures counted { reads_of self.new ≡ min (reads_of self.old + 1) u32.MAX }
+        ensures kept { reads_of self.old ≤ reads_of self.new }
+    {
+        self.probes.add_one();
+        self.spans.at(index)
+    }
 }
 
 impl Spans {
@@ -96,14 +137,22 @@ impl Spans {
         self.items.len()
     }
 
-    /// The span at the index, which counts as one more.
-    pub fn read(&self, index: usize, probes: &mut Probes) -> Span
-        requires { index < length self.now }
-        ensures span { (other : Span) → result ≡ slice_index_or self.now index other }
-        ensures counted { probes.new ≡ min (probes.old + 1) u32.MAX }
-        ensures kept { probes.old ≤ probes.new }
+    /// The spans for reading, with the count that each read adds one to.
+    pub fn counted<'a>(&'a self, probes: &'a mut Probes) -> CountedSpans<'a>
+        ensures one { result.probes.ghost_name ≡ probes.entry.ghost_name }
+        ensures spans { spans_in result ≡ self.now }
+        ensures count { reads_of result ≡ probes.old }
     {
-        probes.count = probes.count.saturating_add(1);
+        CountedSpans {
+            spans: self,
+            probes,
+        }
+    }
+
+    fn at(&self, index: usize) -> Span
+        requires { index < length self.now }
+        ensures { (other : Span) → result ≡ slice_index_or self.now index other }
+    {
         self.items[index]
     }
 

@@ -1,4 +1,4 @@
-//! The end of a limit, from pause to pause.
+//! The end of a limit: in one pass where the stays begin in order, else from pause to pause.
 
 ghost use Rattle.std.specs.Prelude.{◌≡◌, ◌≤◌, ◌+◌};
 ghost use Rattle.hours_core.specs.Calendar.{opens};
@@ -9,6 +9,7 @@ ghost use Rattle.hours_core.specs.Moment.{end_minute};
 ghost use Rattle.hours_core.specs.Pauses.{is_paused};
 
 use crate::calendar::Calendar;
+use crate::in_order::begin_in_order;
 use crate::level::Limit;
 use crate::moment::{END, Minute};
 use crate::pauses::ahead_of;
@@ -16,7 +17,7 @@ use crate::stay::Stay;
 use text_core::Texts;
 
 impl Limit {
-    fn minutes(self) -> u32
+    pub(crate) fn minutes(self) -> u32
         ensures { result ≡ spec.minutes_of self }
     {
         match self {
@@ -26,7 +27,7 @@ impl Limit {
     }
 
     /// How many minutes of the limit's kind there are from one to before another.
-    fn count_between(self, calendar: &Calendar, a: u32, b: u32) -> u32
+    pub(crate) fn count_between(self, calendar: &Calendar, a: u32, b: u32) -> u32
         requires { a ≤ b }
         ensures { result ≡ count (spec.kind_of self (opens calendar.now)) a b }
     {
@@ -38,7 +39,7 @@ impl Limit {
 
     /// The first minute before which so many minutes of the limit's kind have passed from this one
     /// on.
-    fn end_of_count(self, calendar: &Calendar, m: Minute, minutes: u32) -> Option<Minute>
+    pub(crate) fn end_of_count(self, calendar: &Calendar, m: Minute, minutes: u32) -> Option<Minute>
         ensures { IsLeast (has_passed (spec.kind_of self (opens calendar.now)) m minutes) m
             (end_minute + 1) result }
     {
@@ -50,6 +51,24 @@ impl Limit {
 
     /// The end of the limit, where minutes of the stays in these statuses don't count.
     pub(crate) fn end(
+        self,
+        calendar: &Calendar,
+        begin: Minute,
+        ignored: &Texts,
+        stays: &[Stay],
+    ) -> Option<Minute>
+        ensures { result
+            ≡ spec.end_of (opens calendar.now) (is_paused ignored.now stays.now) self begin }
+    {
+        if begin_in_order(stays) {
+            self.end_in_order(calendar, begin, ignored, stays)
+        } else {
+            self.end_by_walk(calendar, begin, ignored, stays)
+        }
+    }
+
+    /// The same, in a walk over the stays for each pause.
+    fn end_by_walk(
         self,
         calendar: &Calendar,
         begin: Minute,

@@ -1,12 +1,12 @@
 -- What marking one more place does.
 use Rattle.std.proofs.Common.{◌≡◌, ℕ, ◌+◌, ◌<◌, Bool, true, false, not, cond, ◌||◌, List, []}
-use Rattle.std.proofs.Common.{◌∷◌}
+use Rattle.std.proofs.Common.{◌∷◌, suc, replicate}
 use Rattle.std.proofs.Common.{◌++◌, length, get_or, take, nat_eq, ⊎_elim, refl, sym, ap, subst}
 use Rattle.std.proofs.Common.{arith}
 use Rattle.std.proofs.Common.{get_or-set_same, get_or-set_other, IsTrue, ◌⊎◌, inl, inr, append-nil}
 use Rattle.std.proofs.Common.{append_assoc, ◌∙◌}
 use Rattle.std.proofs.Math.ListN.{set}
-use Rattle.std.proofs.lemmas.Bool.{cases_eq, false≢true, or_cases, or_left, or_right}
+use Rattle.std.proofs.lemmas.Bool.{cases_eq, false≢true, ne_eqb, or_cases, or_left, or_right}
 use Rattle.std.proofs.lemmas.Grind.{common_steps}
 use Rattle.std.proofs.lemmas.List.Folds.{list_any-append, list_any_more}
 use Rattle.std.proofs.lemmas.List.Sums.{sum_by-set}
@@ -15,7 +15,7 @@ use Rattle.std.specs.List.{sum_by}
 use Rattle.std.specs.Str.{bytes_eq}
 use Rattle.rights_core.specs.declared.parts.Group.{Group}
 use Rattle.rights_core.specs.Closure.{is_marked, unmarked_count, has_place, name_at}
-use Rattle.rights_core.specs.Closure.{AllMarkedPass, Marks}
+use Rattle.rights_core.specs.Closure.{AllMarkedPass, AreBefore, Marks, marked_in}
 use Rattle.text_core.specs.Texts.{is_among}
 
 marked_kept : (marks : List Bool) (i : ℕ)
@@ -228,3 +228,30 @@ mark_one groups places found marks found' marks' i inside within unmarked m =
         (or_cases (bytes_eq name text) false last))
         (or_cases (is_among names text) (bytes_eq name text || false)
         (sym (with_last names name text) ∙ e))
+
+-- ---- marks that tell the turn
+
+-- those of earlier turns aren't of this one
+pub none_in : (turn : ℕ) (marks : List ℕ) → AreBefore turn marks
+    → marked_in turn marks ≡ replicate (length marks) false
+none_in turn [] before = refl
+none_in turn (m ∷ marks) before =
+    let less : m < turn = before 0 in
+    let other : nat_eq turn m ≡ false = ne_eqb turn m (λ e. omega (arith, less, e)) in
+    rw (other, none_in turn marks (λ k. before (suc k))) refl
+
+-- none is of a later one, with one more of this
+pub before_more : (turn : ℕ) (marks : List ℕ) (i : ℕ)
+    → i < length marks
+    → AreBefore (turn + 1) marks
+    → AreBefore (turn + 1) (set marks i turn)
+before_more turn marks i inside before k =
+    ⊎_elim
+    (λ here.
+    omega (
+      arith,
+      ap (λ j. get_or (set marks i turn) j 0) here,
+      get_or-set_same marks i turn 0 inside,
+    ))
+    (λ other. rw (get_or-set_other marks i k turn 0 other) (before k))
+    (cases_eq k i)

@@ -1,12 +1,11 @@
--- Which groups list a name, and which are reached from there by way of others.
-use Rattle.std.specs.Prelude.{◌≡◌, ℕ, ◌+◌, ◌<◌, Bool, false, not, ◌||◌, List, [], ◌++◌}
-use Rattle.std.specs.Prelude.{count_by, length, nat_eq, String, Vec, IsTrue}
+-- Which groups list a name, and what marking them finds.
+use Rattle.std.specs.Prelude.{◌≡◌, ℕ, ◌+◌, ◌<◌, Bool, false, not, List, [], ◌++◌}
+use Rattle.std.specs.Prelude.{count_by, length, map, nat_eq, String, Vec, IsTrue}
 use Rattle.std.specs.HashMap.{HashMap, get_by_text}
 use Rattle.std.specs.List.{list_any, slice_index_or}
 use Rattle.std.specs.Option.{option_map_or}
-use Rattle.std.specs.Str.{bytes_eq}
 use Rattle.rights_core.specs.declared.parts.Group.{Group}
-use Rattle.rights_core.specs.People.{is_among, leads}
+use Rattle.rights_core.specs.People.{is_among}
 
 abbrev pub no_group : Group
 no_group = record { name = []; members = [] }
@@ -33,17 +32,13 @@ IsListers groups kept =
     (name : List ℕ) (place : ℕ)
     → has_place (places_under kept name) place ≡ lists_at groups place name
 
--- a chain of groups leads from the group to the name, or it is that group's own
-abbrev pub reaches : List Group → List ℕ → List ℕ → Bool
-reaches groups name group = bytes_eq name group || leads groups name group
+-- which of the marks are of this turn
+abbrev pub marked_in : ℕ → List ℕ → List Bool
+marked_in turn marks = map (nat_eq turn) marks
 
--- at each group's place there are its name and those of the groups around it
-abbrev pub AreOuter : List Group → List (List (List ℕ)) → Type 0
-AreOuter groups outer =
-    (place : ℕ)
-    → place < length groups
-    → (group : List ℕ)
-    → is_among (slice_index_or outer place []) group ≡ reaches groups (name_at groups place) group
+-- all marks are of earlier turns
+abbrev pub AreBefore : ℕ → List ℕ → Type 0
+AreBefore turn marks = (place : ℕ) → slice_index_or marks place 0 < turn
 
 -- the place is there, and marked
 abbrev pub is_marked : List Bool → ℕ → Bool

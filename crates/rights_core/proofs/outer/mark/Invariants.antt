@@ -1,13 +1,17 @@
-use Rattle.std.proofs.Common.{take}
-use Rattle.rights_core.specs.Closure.{Marks}
+use Rattle.std.proofs.Common.{◌≡◌, ◌+◌, length, take}
+use Rattle.rights_core.specs.Closure.{AreBefore, Marks, marked_in}
 use Rattle.rights_core.proofs.outer.mark.Given as goal
 
 abbrev pub invariant-loop-place : goal.invariant-loop-place
-invariant-loop-place l =
-    Marks
-    l.groups
-    (take l.place-index l.places)
-    l.initial.found.items
-    l.initial.marks
-    l.found.items
-    l.marks
+invariant-loop-place l = record {
+  marked :
+      Marks
+      l.groups
+      (take l.place-index l.places)
+      l.initial.found.items
+      (marked_in l.turn l.initial.marks)
+      l.found.items
+      (marked_in l.turn l.marks);
+  size : length l.marks ≡ length l.groups;
+  before : AreBefore (l.turn + 1) l.initial.marks → AreBefore (l.turn + 1) l.marks;
+}

@@ -3,7 +3,7 @@ use Rattle.std.proofs.Common.{if◌then◌else◌, ap, ◌∙◌, arith}
 use Rattle.std.proofs.lemmas.Int.{ints}
 use Rattle.hours_core.specs.Calendar.{zone_of}
 use Rattle.hours_core.specs.Moment.{is_due_moment}
-use Rattle.hours_core.specs.Zone.{Offsets, offset_at}
+use Rattle.hours_core.specs.Zone.{offset_at}
 use Rattle.hours_core.proofs.calendar.Calendar.local_time.Goals as goal
 
 -- what clocks show, by the sum

@@ -4,7 +4,7 @@ use Rattle.hours_core.specs.Counting.{count}
 use Rattle.hours_core.specs.Limit.{counts, kind_of, minutes_of}
 use Rattle.hours_core.specs.Moment.{end_minute}
 use Rattle.hours_core.specs.Pauses.{is_paused}
-use Rattle.hours_core.proofs.level.Limit.end.Given as goal
+use Rattle.hours_core.proofs.level.Limit.end_by_walk.Given as goal
 
 -- what counts up to the place, and what is left, are the limit's minutes
 abbrev pub invariant-loop-place : goal.invariant-loop-place

@@ -9,7 +9,7 @@ use Rattle.hours_core.proofs.CountLemmas.{at_once}
 use Rattle.hours_core.proofs.LeastLemmas.{count-start, is_least}
 use Rattle.hours_core.proofs.StretchLemmas.{from_place}
 use Rattle.hours_core.proofs.WalkLemmas.{skip, take_all, ends_here}
-use Rattle.hours_core.proofs.level.Limit.end.Goals as goal
+use Rattle.hours_core.proofs.level.Limit.end_by_walk.Goals as goal
 
 pub returns-then-left-eq0 : goal.returns-then-left-eq0
 returns-then-left-eq0 c =
