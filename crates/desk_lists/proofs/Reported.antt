@@ -21,17 +21,20 @@ use Rattle.sqlite_trees.specs.Tree.{IsAscending}
 use Rattle.sqlite_trees.proofs.ListLemmas.{all_weaker}
 use Rattle.sqlite_trees.proofs.ListLemmas.{ascending-filter, ascending_weaker}
 use Rattle.settings_core.specs.declared.settings.Settings.{Settings}
+use Rattle.text_core.specs.Texts.{is_among}
 use Rattle.desk_model.specs.Desk.{Desk, Request, queue_at}
 use Rattle.desk_model.specs.Due.{due_of, due_on}
 use Rattle.desk_model.specs.Facts.{seen_request}
 use Rattle.desk_model.specs.IsDesk.{IsDesk, are_numbered}
 use Rattle.desk_model.specs.Rights.{may_show}
 use Rattle.desk_model.specs.Stays.{stays_of}
-use Rattle.desk_model.specs.Watchers.{is_role, may_show_by, watchers_of}
+use Rattle.desk_model.specs.Watchers.{is_role, is_watching, may_show_by, watchers_of}
 use Rattle.desk_model.specs.declared.rows.Watcher.{Watcher}
 use Rattle.desk_model.specs.declared.rows.WatchRole.{WatchRole}
+use Rattle.desk_model.specs.declared.rows.WatchRole.TheVariants.{Requestor}
 use Rattle.desk_core.proofs.EachRequest.{found_each}
 use Rattle.desk_core.proofs.Roles.{roles_law, watchers_tell}
+use Rattle.desk_core.specs.Shown.{TellsRoles}
 use Rattle.store_tables.specs.Contents.{watchers}
 use Rattle.store_tables.specs.Orders.{by_watcher}
 use Rattle.store_tables.specs.Selection.{is_of_person}
@@ -125,20 +128,39 @@ any_of_one person id n role (x ∷ xs) r numbered there =
           (sym (ap (λ b. cond b (Some x) (find (λ y. y.row.id == id) xs)) other.0) ∙ there)
     ]
 
+-- a person's own watches tell the roles on each request
+own_tell : (person : List ℕ) (desk : Desk) → IsDesk desk → (r : Request)
+    → find (λ x. x.row.id == r.row.id) desk.requests ≡ Some r
+    → TellsRoles person r (watches_on desk person)
+own_tell person desk is r there role =
+    any_kept (stands_in person r.row.id role) (is_of_person person)
+    (λ w stands.
+    let rest = and_parts (w.id == r.row.id) (is_role role w.role && bytes_eq w.person person)
+    stands in (and_parts (is_role role w.role) (bytes_eq w.person person) rest.1).1)
+    (watchers desk)
+    ∙ any_of_one person r.row.id 1 role desk.requests r is.requests there
+    ∙ watchers_tell person r role
+
 pub shows_alike : (s : Settings) (person : List ℕ) (desk : Desk) → IsDesk desk
     → AllByRecursion (λ r. may_show_by s person r.row (watches_on desk person)
     ≡ may_show s person (seen_request r)) desk.requests
 shows_alike s person desk is =
     all_weaker (λ r. find (λ x. x.row.id == r.row.id) desk.requests ≡ Some r)
     (λ r. may_show_by s person r.row (watches_on desk person) ≡ may_show s person (seen_request r))
-    (λ r there. roles_law s person r (watches_on desk person)
-    (λ role. any_kept (stands_in person r.row.id role) (is_of_person person)
-    (λ w stands.
-    let rest = and_parts (w.id == r.row.id) (is_role role w.role && bytes_eq w.person person)
-    stands in (and_parts (is_role role w.role) (bytes_eq w.person person) rest.1).1)
-    (watchers desk)
-    ∙ any_of_one person r.row.id 1 role desk.requests r is.requests there
-    ∙ watchers_tell person r role)) desk.requests
+    (λ r there. roles_law s person r (watches_on desk person) (own_tell person desk is r there))
+    desk.requests
+    (recursion_from_All (λ r. find (λ x. x.row.id == r.row.id) desk.requests ≡ Some r)
+    desk.requests (found_each 1 desk.requests is.requests))
+
+-- and so do they tell whether the person is a requestor
+pub requestors_alike : (person : List ℕ) (desk : Desk) → IsDesk desk
+    → AllByRecursion (λ r. is_watching person r.row.id Requestor (watches_on desk person)
+    ≡ is_among r.requestors person) desk.requests
+requestors_alike person desk is =
+    all_weaker (λ r. find (λ x. x.row.id == r.row.id) desk.requests ≡ Some r)
+    (λ r. is_watching person r.row.id Requestor (watches_on desk person)
+    ≡ is_among r.requestors person)
+    (λ r there. own_tell person desk is r there Requestor) desk.requests
     (recursion_from_All (λ r. find (λ x. x.row.id == r.row.id) desk.requests ≡ Some r)
     desk.requests (found_each 1 desk.requests is.requests))
 

@@ -11,3 +11,5 @@ pub mod WrittenAlike
 pub mod Linked
 pub mod Told
 pub mod SightLemmas
+pub mod FoundAlike
+pub mod FindLemmas

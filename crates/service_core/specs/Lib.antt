@@ -3,6 +3,7 @@ pub mod Attaching
 pub mod Decided
 pub mod Dossiers
 pub mod Fault
+pub mod Finding
 pub mod Renewing
 pub mod Seen
 pub mod Shown

@@ -1,10 +1,14 @@
 //! Laws over two desks and their tables, each as the contract of a function that does nothing. They
-//! speak of the words of `execute_all` and of `stream` alone, and so of each list of commands that
-//! is executed, and of each list of requests that is written row by row.
-ghost use Rattle.std.specs.Prelude.{ℕ, List};
+//! speak of the words of `execute_all`, of `stream` and of `find` alone, and so of each list of
+//! commands that is executed, of each list of requests that is written row by row, and of each
+//! search.
+ghost use Rattle.std.specs.Prelude.{ℕ, List, Option};
 ghost use Rattle.settings_core.specs.declared.settings.Settings.{Settings};
 ghost use Rattle.desk_model.specs.Step.{Ask};
+ghost use Rattle.find_core.specs.declared.search.Place.{Place};
+ghost use Rattle.find_core.specs.declared.search.Search.{Search};
 ghost use Rattle.service_core.specs.Alike.{AnswersAlike, WritesAlike};
+ghost use Rattle.service_core.specs.Finding.{FindsAlike};
 
 use store_core::Backend;
 
@@ -19,4 +23,12 @@ pub fn alike_law<S: Backend, T: Backend>()
 /// text, where no write failed and none was out of memory.
 pub fn written_alike_law<S: Backend, T: Backend>()
     ensures { (settings : Settings) (ask : Ask) → WritesAlike S.Store T.Store settings ask }
+{}
+
+/// Nothing leaks by searching: two desks that a caller sees alike give that caller equal findings,
+/// where neither was out of memory.
+pub fn found_alike_law<S: Backend, T: Backend>()
+    ensures { (settings : Settings) (at : ℕ) (caller : List ℕ) (search : Search) (limit : ℕ)
+        (after : Option Place)
+        → FindsAlike S.Store T.Store settings at caller search limit after }
 {}

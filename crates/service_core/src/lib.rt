@@ -8,6 +8,7 @@ pub mod desk;
 mod dossier;
 mod execute;
 pub mod fault;
+mod find;
 mod known;
 mod links;
 mod queues;

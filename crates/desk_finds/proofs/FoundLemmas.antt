@@ -1,0 +1,412 @@
+-- What is found of the rows that were read is what is found on the desk.
+use Rattle.std.proofs.Common.{◌≡◌, ◌∙◌, ◌<◌, ◌+◌, ◌++◌, get_or, take, ℕ, Bool, true, false, cond, ◌&&◌, ◌||◌, List, [], ◌∷◌, filter}
+use Rattle.std.proofs.Common.{find, length, map, Option, Some, None, refl, ap, ap₂, sym, subst}
+use Rattle.std.specs.Prelude.{filter_map}
+use Rattle.std.specs.Cmp.Lexicographic.{texts_ties}
+use Rattle.std.specs.List.{AllByRecursion, cons_option}
+use Rattle.std.specs.Option.{option_map, option_map_or}
+use Rattle.std.specs.Str.{bytes_eq}
+use Rattle.std.proofs.lemmas.Bool.{and_parts}
+use Rattle.std.proofs.lemmas.List.{length-map, map-append, take_more}
+use Rattle.std.proofs.lemmas.List.Elements.{recursion_from_All}
+use Rattle.sqlite_trees.proofs.ListLemmas.{all-filter, all_weaker, ascending-filter}
+use Rattle.sqlite_trees.proofs.ListLemmas.{ascending-map}
+use Rattle.sqlite_trees.proofs.ListLemmas.{filter-map, map-map}
+use Rattle.sqlite_trees.specs.Tree.{IsAscending}
+use Rattle.settings_core.specs.declared.settings.Settings.{Settings}
+use Rattle.desk_model.specs.Desk.{Desk, Request, request_at}
+use Rattle.desk_model.specs.Due.{due_on}
+use Rattle.desk_model.specs.Facts.{queue_of, seen_request}
+use Rattle.desk_model.specs.IsDesk.{IsDesk}
+use Rattle.desk_model.specs.Readings.History.{entries_told}
+use Rattle.desk_model.specs.Rights.{may_show}
+use Rattle.desk_model.specs.Watchers.{is_watching, may_show_by}
+use Rattle.desk_model.specs.declared.facts.SeenRequest.{SeenRequest}
+use Rattle.desk_model.specs.declared.rows.Entry.{Entry}
+use Rattle.desk_model.specs.declared.rows.RequestRow.{RequestRow}
+use Rattle.desk_model.specs.declared.rows.QueueRow.{QueueRow}
+use Rattle.desk_model.specs.declared.rows.Watcher.{Watcher}
+use Rattle.desk_model.specs.declared.rows.WatchRole.TheVariants.{Requestor}
+use Rattle.desk_core.proofs.EachRequest.{found_each}
+use Rattle.desk_core.proofs.InView.{filter_within}
+use Rattle.find_core.specs.Conditions.{has_owner, has_requestor, has_status, is_asked, is_due}
+use Rattle.find_core.specs.Conditions.{is_filed, is_in, meets, texts_sought}
+use Rattle.find_core.specs.Find.{Sight, class_in, findings, found_among, last_of, replies_of}
+use Rattle.find_core.specs.Find.{sight_in, sight_on}
+use Rattle.find_core.specs.Find.{sights}
+use Rattle.find_core.specs.Ordered.{AreApart, Placed}
+use Rattle.find_core.specs.Places.{page, place_in, place_of}
+use Rattle.find_core.specs.Rows.{Dated, is_left, is_requested, place_if, row_meets}
+use Rattle.find_core.specs.Rows.{shows_comments, told_with}
+use Rattle.find_core.specs.Words.{has_words}
+use Rattle.find_core.specs.declared.search.Findings.{Findings}
+use Rattle.find_core.specs.declared.search.Found.{Found}
+use Rattle.find_core.specs.declared.search.Order.{Order}
+use Rattle.find_core.specs.declared.search.Order.TheVariants.{ByNumber, ByDue, ByLast}
+use Rattle.find_core.specs.declared.search.Place.{Place}
+use Rattle.find_core.specs.declared.search.Search.{Search}
+use Rattle.find_core.proofs.PlaceLemmas.{page_made}
+use Rattle.find_core.proofs.RisingLemmas.{requests_rise}
+use Rattle.store_tables.specs.Contents.{request_rows}
+use Rattle.store_tables.specs.Dated.{dated_by}
+use Rattle.store_tables.specs.Selection.{is_filed_in}
+use Rattle.store_core.specs.Due.{due_of_row}
+use Rattle.store_core.specs.Rows.{dated_rows}
+use Rattle.desk_lists.proofs.Reported.{Alike, HaveDues, have_dues, requestors_alike, shows_alike}
+use Rattle.desk_lists.proofs.Reported.{watches_on}
+use Rattle.desk_reports.specs.Rows.{QueuesRise}
+use Rattle.desk_finds.specs.Found.{ArePart, asked_on, dated_on, found_of, met_on, placed_by, theirs_on}
+use Rattle.desk_finds.specs.Found.{is_by_last, looks_inside, told_at}
+
+abbrev pub as_findings : List Found → ℕ → Findings
+as_findings rows count = record { rows = rows; count = count }
+
+-- ---- the rows that are left
+
+-- the rows of the queue that is asked for hold all that meet the search
+kept_in_queue : (queue : List ℕ) (row : RequestRow) → bytes_eq row.queue queue ≡ true
+    → is_filed_in queue row ≡ true
+kept_in_queue queue row same = sym (texts_ties row.queue queue) ∙ same
+
+module _ (s : Settings) (at : ℕ) (caller : List ℕ) (search : Search) (desk : Desk) where
+  abbrev due : RequestRow → Option ℕ
+  due = due_of_row s desk
+
+  abbrev own : List Watcher
+  own = watches_on desk caller
+
+  abbrev theirs : List Watcher
+  theirs = theirs_on desk search.requestor
+
+  abbrev left : Dated → Bool
+  left = is_left s at caller search own theirs desk.queues
+
+  abbrev shows : Request → Bool
+  shows r = may_show s caller (seen_request r)
+
+  abbrev met : Request → Bool
+  met r = meets at search (sight_on s caller desk r).found
+
+  left_in : (asked : Option (List ℕ)) → search.queue ≡ asked → (row : RequestRow)
+      → left (dated_by due row) ≡ true → is_in asked row.queue ≡ true
+  left_in asked same row e =
+      let class = class_in s (find (λ q. bytes_eq q.name row.queue) desk.queues) row.status in
+      let requested = is_requested search.requestor theirs row.id in
+      let rest = has_status search.status class row.status
+      && (has_owner search.owner row.owner
+      && (requested && (is_due at search.late (due row)
+      && is_filed search.filed_from search.filed_to row.created))) in
+      let whole = and_parts (row_meets at search class requested (dated_by due row))
+      (may_show_by s caller row own) e in
+      ap (λ a. is_in a row.queue) (sym same)
+      ∙ (and_parts (is_in search.queue row.queue) rest whole.0).0
+
+  part_left : (asked : Option (List ℕ)) → search.queue ≡ asked → (rows : List Dated)
+      → ArePart asked due desk rows → filter left rows ≡ filter left (dated_rows due desk)
+  part_left None same rows all = ap (filter left) all
+  part_left (Some queue) same rows filed =
+      ap (filter left) filed
+      ∙ filter-map left (dated_by due) (filter (is_filed_in queue) (request_rows desk))
+      ∙ ap (map (dated_by due)) (filter_within (λ row. left (dated_by due row)) (is_filed_in queue)
+      (λ row e. kept_in_queue queue row (left_in (Some queue) same row e)) (request_rows desk))
+      ∙ sym (filter-map left (dated_by due) (request_rows desk))
+
+  abbrev Requestors : List Request → Type 0
+  Requestors rs =
+      AllByRecursion (λ r. is_requested search.requestor theirs r.row.id
+      ≡ has_requestor search.requestor r.requestors) rs
+
+  -- a row is left where its request may be shown and meets the search
+  left_alike : (r : Request)
+      → may_show_by s caller r.row own ≡ shows r → due r.row ≡ due_on s desk r
+      → is_requested search.requestor theirs r.row.id ≡ has_requestor search.requestor r.requestors
+      → left (dated_by due r.row) ≡ (met r && shows r)
+  left_alike r may dues requested =
+      let class = class_in s (find (λ q. bytes_eq q.name r.row.queue) desk.queues) r.row.status in
+      ap (λ b. row_meets at search class (is_requested search.requestor theirs r.row.id)
+      (r.row, due r.row) && b) may
+      ∙ ap₂ (λ (b : Bool) (o : Option ℕ). row_meets at search class b (r.row, o) && shows r)
+      requested dues
+
+  left_are : (rs : List Request) → Alike s caller own rs → HaveDues s desk rs → Requestors rs
+      → filter left (map (dated_by due) (map (λ r. r.row) rs))
+      ≡ map (dated_on s desk) (filter met (filter shows rs))
+  left_are [] alike dues requested = refl
+  left_are (r ∷ rs) alike dues requested =
+      let rest = left_are rs alike.1 dues.1 requested.1 in
+      let others : List Dated = filter left (map (dated_by due) (map (λ r. r.row) rs)) in
+      ap₂ (λ (b : Bool) (o : Option ℕ). cond b ((r.row, o) ∷ others) others)
+      (left_alike r alike.0 dues.0 requested.0) dues.0
+      ∙ elim (shows r) as (λ b. cond (met r && b) (dated_on s desk r ∷ others) others
+      ≡ map (dated_on s desk) (filter met (cond b (r ∷ filter shows rs) (filter shows rs)))) [
+        | true ↦ elim (met r) as (λ c. cond (c && true) (dated_on s desk r ∷ others) others
+            ≡ map (dated_on s desk) (cond c (r ∷ filter met (filter shows rs))
+            (filter met (filter shows rs)))) [
+              | true ↦ ap (λ (ds : List Dated). dated_on s desk r ∷ ds) rest
+              | false ↦ rest
+            ]
+        | false ↦ elim (met r) as (λ c. cond (c && false) (dated_on s desk r ∷ others) others
+            ≡ map (dated_on s desk) (filter met (filter shows rs))) [
+              | true ↦ rest
+              | false ↦ rest
+            ]
+      ]
+
+  -- who is asked for is a requestor by the own watches
+  requestors_are : IsDesk desk → (asked : Option (List ℕ))
+      → AllByRecursion (λ r. is_requested asked (theirs_on desk asked) r.row.id
+      ≡ has_requestor asked r.requestors) desk.requests
+  requestors_are is None = by desk.requests
+    where
+      by : (rs : List Request) → AllByRecursion (λ (r : Request). true ≡ true) rs
+      by [] = tt
+      by (r ∷ rs) = (refl, by rs)
+  requestors_are is (Some person) = requestors_alike person desk is
+
+  left_on : IsDesk desk → (rows : List Dated) → ArePart search.queue due desk rows
+      → filter left rows ≡ asked_on s at caller search desk
+  left_on is rows part =
+      part_left search.queue refl rows part
+      ∙ left_are desk.requests (shows_alike s caller desk is) (have_dues s desk is)
+      (requestors_are is search.requestor)
+
+  -- what was judged by lists that are the desk's
+  pub asked_from : IsDesk desk → (mine others : List Watcher) (queues : List QueueRow)
+      (rows result : List Dated)
+      → mine ≡ own → others ≡ theirs → queues ≡ desk.queues → ArePart search.queue due desk rows
+      → (QueuesRise queues → result ≡ filter (is_left s at caller search mine others queues) rows)
+      → result ≡ asked_on s at caller search desk
+  asked_from is mine others queues rows result mine_is others_is queues_is part made =
+      let here = subst (λ (qs : List QueueRow). QueuesRise qs
+      → result ≡ filter (is_left s at caller search mine others qs) rows) queues_is made in
+      here is.queues
+      ∙ ap₂ (λ (ws vs : List Watcher). filter (is_left s at caller search ws vs desk.queues) rows)
+      mine_is others_is
+      ∙ left_on is rows part
+
+-- ---- lists
+
+both_kept : {X : Type 0} (p q : X → Bool) (xs : List X)
+    → filter (λ x. p x && q x) xs ≡ filter q (filter p xs)
+both_kept p q [] = refl
+both_kept {X} p q (x ∷ xs) =
+    let rest = both_kept p q xs in
+    let both : List X = filter (λ y. p y && q y) xs in
+    elim (p x) as (λ b. cond (b && q x) (x ∷ both) both
+    ≡ filter q (cond b (x ∷ filter p xs) (filter p xs))) [
+      | true ↦ ap (λ (ys : List X). cond (q x) (x ∷ ys) ys) rest
+      | false ↦ rest
+    ]
+
+map_same : {X Y : Type 0} (f g : X → Y) (xs : List X) → AllByRecursion (λ x. f x ≡ g x) xs
+    → map f xs ≡ map g xs
+map_same f g [] same = refl
+map_same {X} {Y} f g (x ∷ xs) same =
+    ap₂ (λ (y : Y) (ys : List Y). y ∷ ys) same.0 (map_same f g xs same.1)
+
+some_same : {X : Type 0} (xs ys : List X) → map Some xs ≡ map Some ys → xs ≡ ys
+some_same [] [] e = refl
+some_same [] (y ∷ ys) e = cc
+some_same (x ∷ xs) [] e = cc
+some_same {X} (x ∷ xs) (y ∷ ys) e =
+    let first : Some x ≡ Some y = cc in
+    let one : x ≡ y = cc in
+    let others : map Some xs ≡ map Some ys = cc in
+    ap₂ (λ (z : X) (zs : List X). z ∷ zs) one (some_same xs ys others)
+
+filter_map-append : {X Y : Type 0} (f : X → Option Y) (xs ys : List X)
+    → filter_map f (xs ++ ys) ≡ filter_map f xs ++ filter_map f ys
+filter_map-append f [] ys = refl
+filter_map-append {X} {Y} f (x ∷ xs) ys = by (f x) (filter_map-append f xs ys)
+  where
+    by : (o : Option Y) → filter_map f (xs ++ ys) ≡ filter_map f xs ++ filter_map f ys
+        → cons_option o (filter_map f (xs ++ ys)) ≡ cons_option o (filter_map f xs) ++ filter_map f ys
+    by None rest = rest
+    by (Some y) rest = ap (λ (zs : List Y). y ∷ zs) rest
+
+-- a loop's step, where something is made of some
+pub filter_map_more : {X Y : Type 0} (f : X → Option Y) (xs : List X) (i : ℕ) (d : X)
+    → i < length xs
+    → filter_map f (take (i + 1) xs)
+    ≡ filter_map f (take i xs) ++ cons_option (f (get_or xs i d)) []
+filter_map_more f xs i d low =
+    ap (filter_map f) (take_more xs i d low)
+    ∙ filter_map-append f (take i xs) (get_or xs i d ∷ [])
+
+-- and of each
+pub map_more : {X Y : Type 0} (f : X → Y) (xs : List X) (i : ℕ) (d : X) → i < length xs
+    → map f (take (i + 1) xs) ≡ map f (take i xs) ++ f (get_or xs i d) ∷ []
+map_more f xs i d low =
+    ap (map f) (take_more xs i d low) ∙ map-append f (take i xs) (get_or xs i d ∷ [])
+
+-- ---- where the history doesn't count
+
+neither : (a b : Bool) → (a || b) ≡ false → (a ≡ false) × (b ≡ false)
+neither true b e = cc
+neither false b e = (refl, e)
+
+place_same : (order : Order) (id : ℕ) (due : Option ℕ) (a b : ℕ) → is_by_last order ≡ false
+    → place_in order id due a ≡ place_in order id due b
+place_same ByNumber id due a b e = refl
+place_same ByDue id due a b e = refl
+place_same ByLast id due a b e = cc
+
+pub unread : (search : Search) (dated : Dated) (entries : List Entry)
+    → looks_inside search ≡ false → place_if search dated [] ≡ place_if search dated entries
+unread search dated entries none =
+    let parts = neither search.in_replies (is_by_last search.order) none in
+    let found : Bool → List (List ℕ) → Bool =
+    λ inside replies. has_words search.words (dated.0.subject ∷ cond inside replies []) in
+    ap₂ (λ (b : Bool) (p : Place). cond b (Some p) None)
+    (ap (λ b. found b []) parts.0 ∙ sym (ap (λ b. found b (replies_of entries)) parts.0))
+    (place_same search.order dated.0.id dated.1 dated.0.created (last_of dated.0.created entries)
+    parts.1)
+
+-- ---- what is found of them
+
+module _ (s : Settings) (at : ℕ) (caller : List ℕ) (search : Search) (desk : Desk) where
+  abbrev sight : Request → Sight
+  sight = sight_on s caller desk
+
+  abbrev has : Request → Bool
+  has r = has_words search.words (texts_sought search r.row.subject (sight r).replies)
+
+  abbrev place : Request → Place
+  place r = place_of search.order (sight r).found
+
+  abbrev as_placed : Request → Placed
+  as_placed r = (place r, due_on s desk r)
+
+  abbrev as_found : Request → Found
+  as_found r = (sight r).found
+
+  abbrev There : Request → Type 0
+  There r = request_at desk r.row.id ≡ Some r
+
+  told_there : (r : Request) → There r
+      → told_at s caller desk r.row.id ≡ entries_told s caller r
+  told_there r there =
+      ap (λ (o : Option Request). told_with
+      (shows_comments s caller (option_map seen_request o)) (option_map_or (λ x. x.entries) o []))
+      there
+
+  placed_there : (r : Request) → There r
+      → placed_by s caller search desk (dated_on s desk r)
+      ≡ cond (has r) (Some (as_placed r)) None
+  placed_there r there =
+      let due : Option ℕ = due_on s desk r in
+      let beside : Place → Placed = λ p. (p, due) in
+      ap (λ (es : List Entry). option_map beside (place_if search (dated_on s desk r) es))
+      (told_there r there)
+      ∙ elim (has r) as (λ b. option_map beside (cond b (Some (place r)) None)
+      ≡ cond b (Some (as_placed r)) None) [
+        | true ↦ refl
+        | false ↦ refl
+      ]
+
+  placed_are : (rs : List Request) → AllByRecursion There rs
+      → filter_map (placed_by s caller search desk) (map (dated_on s desk) rs)
+      ≡ map as_placed (filter has rs)
+  placed_are [] there = refl
+  placed_are (r ∷ rs) there =
+      let rest = placed_are rs there.1 in
+      let others : List Placed = filter_map (placed_by s caller search desk)
+      (map (dated_on s desk) rs) in
+      ap (λ (o : Option Placed). cons_option o others) (placed_there r there.0)
+      ∙ elim (has r) as (λ b. cons_option (cond b (Some (as_placed r)) None) others
+      ≡ map as_placed (cond b (r ∷ filter has rs) (filter has rs))) [
+        | true ↦ ap (λ (ps : List Placed). as_placed r ∷ ps) rest
+        | false ↦ rest
+      ]
+
+  found_there : (r : Request) → There r
+      → found_of s caller desk (as_placed r) ≡ Some (as_found r)
+  found_there r there =
+      ap₂ (λ (o : Option Request) (es : List Entry). option_map (λ (x : SeenRequest). (sight_in s
+      (queue_of desk o) (due_on s desk r) es x.requestors x.row).found) (option_map seen_request o))
+      there (told_there r there)
+
+  abbrev kept : List Request
+  kept = filter has (met_on s at caller search desk)
+
+  founds_are : found_among at search (sights s caller desk) ≡ map as_found kept
+  founds_are =
+      let shown = filter (λ r. may_show s caller (seen_request r)) desk.requests in
+      let asked : Sight → Bool = λ t. is_asked at search t.found t.replies in
+      ap (map (λ (t : Sight). t.found)) (filter-map asked sight shown)
+      ∙ map-map (λ (t : Sight). t.found) sight (filter (λ r. asked (sight r)) shown)
+      ∙ ap (map as_found) (both_kept (λ r. meets at search (sight r).found) has shown)
+
+  all_there : IsDesk desk → AllByRecursion There desk.requests
+  all_there is = recursion_from_All There desk.requests (found_each 1 desk.requests is.requests)
+
+  shown_there : IsDesk desk → AllByRecursion There (met_on s at caller search desk)
+  shown_there is =
+      all-filter There (λ r. meets at search (sight r).found)
+      (filter (λ r. may_show s caller (seen_request r)) desk.requests)
+      (all-filter There (λ r. may_show s caller (seen_request r)) desk.requests (all_there is))
+
+  apart : IsDesk desk → AreApart (map as_placed kept)
+  apart is =
+      let R : Request → Request → Type 0 = λ a b. a.row.id < b.row.id in
+      ascending-map (λ (a b : Placed). a.0.id < b.0.id) as_placed kept
+      (ascending-filter R has (met_on s at caller search desk)
+      (ascending-filter R (λ r. meets at search (sight r).found)
+      (filter (λ r. may_show s caller (seen_request r)) desk.requests)
+      (ascending-filter R (λ r. may_show s caller (seen_request r)) desk.requests
+      (requests_rise desk is))))
+
+  abbrev with_found : Placed → Place × Option Found
+  with_found p = (p.0, found_of s caller desk p)
+
+  abbrev at_place : Found → Place × Option Found
+  at_place f = (place_of search.order f, Some f)
+
+  pairs_are : IsDesk desk
+      → map with_found (map as_placed kept) ≡ map at_place (map as_found kept)
+  pairs_are is =
+      map-map with_found as_placed kept
+      ∙ map_same (λ r. with_found (as_placed r)) (λ r. at_place (as_found r)) kept
+      (all_weaker There (λ r. with_found (as_placed r) ≡ at_place (as_found r))
+      (λ r there. ap (λ (o : Option Found). (place r, o)) (found_there r there)) kept
+      (all-filter There has (met_on s at caller search desk) (shown_there is)))
+      ∙ sym (map-map at_place as_found kept)
+
+  rows_are : IsDesk desk → (limit : ℕ) (after : Option Place)
+      → map (found_of s caller desk)
+      (page search.descending limit after (λ p. p.0) (map as_placed kept))
+      ≡ map Some (page search.descending limit after (place_of search.order) (map as_found kept))
+  rows_are is limit after =
+      let d = search.descending in
+      let one : Place × Option Found → Place = λ q. q.0 in
+      let other : Place × Option Found → Option Found = λ q. q.1 in
+      sym (map-map other with_found (page d limit after (λ p. p.0) (map as_placed kept)))
+      ∙ ap (map other) (sym (page_made with_found one d limit after (map as_placed kept))
+      ∙ ap (page d limit after one) (pairs_are is)
+      ∙ page_made at_place one d limit after (map as_found kept))
+      ∙ map-map other at_place (page d limit after (place_of search.order) (map as_found kept))
+
+  -- what was read and put together is what is found
+  pub findings_are : IsDesk desk → (limit : ℕ) (after : Option Place) (rows : List Dated)
+      (placed behind : List Placed) (found : List Found) (count : ℕ)
+      → rows ≡ asked_on s at caller search desk
+      → placed ≡ filter_map (placed_by s caller search desk) rows
+      → (AreApart placed → behind ≡ page search.descending limit after (λ p. p.0) placed)
+      → map Some found ≡ map (found_of s caller desk) behind
+      → count ≡ length placed
+      → as_findings found count ≡ findings s at caller search limit after desk
+  findings_are is limit after rows placed behind found count rows_is placed_is behind_is found_is
+      count_is =
+      let all : placed ≡ map as_placed kept =
+      placed_is ∙ ap (filter_map (placed_by s caller search desk)) rows_is
+      ∙ placed_are (met_on s at caller search desk) (shown_there is) in
+      let turned = subst (λ (ps : List Placed). AreApart ps
+      → behind ≡ page search.descending limit after (λ p. p.0) ps) all behind_is in
+      let rows_found = some_same found
+      (page search.descending limit after (place_of search.order) (map as_found kept))
+      (found_is ∙ ap (map (found_of s caller desk)) (turned (apart is)) ∙ rows_are is limit after) in
+      ap₂ as_findings
+      (rows_found
+      ∙ ap (page search.descending limit after (place_of search.order)) (sym founds_are))
+      (count_is ∙ ap length all ∙ length-map kept as_placed ∙ sym (length-map kept as_found)
+      ∙ ap length (sym founds_are))

@@ -1,0 +1,5 @@
+mod PageLemmas
+pub mod PlaceLemmas
+pub mod RisingLemmas
+pub mod ViewLemmas
+mod WordLemmas

@@ -1,0 +1,201 @@
+//! What a search asks of a row, but for the words.
+ghost use Rattle.std.specs.Prelude.{◌≡◌, true, Some, filter, nat_le, nat_lt};
+ghost use Rattle.std.specs.Option.{option_map, option_map_or};
+ghost use Rattle.desk_model.specs.Due.{is_live_class};
+ghost use Rattle.desk_model.specs.Lifecycles.{is_inactive_class};
+ghost use Rattle.desk_reports.specs.Rows.{QueuesRise};
+ghost use Rattle.find_core.specs.Conditions as conditions;
+ghost use Rattle.find_core.specs.Find.{class_in};
+ghost use Rattle.find_core.specs.Rows as judged;
+
+use crate::search::{OwnerAsked, Search, StatusAsked};
+use desk_core::{QueueRow, RequestRow, WatchRole, Watcher, is_role, may_show};
+use desk_reports::queue_named;
+use hours_core::Minute;
+use lifecycle_core::Class;
+use settings_core::Settings;
+use text_core::Text;
+
+/// Those of the rows that the person may show and that meet the search but for its words, in their
+/// order: by the person's own watches, and those of the requestor who is asked for. The queues stand
+/// in the order of their names.
+pub fn asked_rows(
+    settings: &Settings,
+    at: u32,
+    person: &str,
+    search: &Search,
+    own: &[Watcher],
+    theirs: &[Watcher],
+    queues: &[QueueRow],
+    mut rows: Vec<(RequestRow, Option<Minute>)>,
+) -> Vec<(RequestRow, Option<Minute>)>
+    ensures { QueuesRise queues.now → result.items ≡ filter (judged.is_left settings.now at person.now search.now own.now
+        theirs.now queues.now) rows.items }
+{
+    rows.retain(|dated| is_left(settings, at, person, search, own, theirs, queues, dated));
+    rows
+}
+
+fn is_left(
+    settings: &Settings,
+    at: u32,
+    person: &str,
+    search: &Search,
+    own: &[Watcher],
+    theirs: &[Watcher],
+    queues: &[QueueRow],
+    dated: &(RequestRow, Option<Minute>),
+) -> bool
+    ensures { QueuesRise queues.now → result ≡ judged.is_left settings.now at person.now search.now own.now
+        theirs.now queues.now dated.now }
+{
+    let class = class_of(
+        settings,
+        queue_named(queues, &dated.0.queue),
+        &dated.0.status,
+    );
+    let requested = is_requested(&search.requestor, theirs, dated.0.id);
+    meets(at, search, class, requested, dated) && may_show(settings, person, &dated.0, own)
+}
+
+/// Whether a row meets the search but for its words, where its status has this class, and where
+/// the requestor who is asked for is one of its own or not.
+fn meets(
+    at: u32,
+    search: &Search,
+    class: Option<Class>,
+    requested: bool,
+    dated: &(RequestRow, Option<Minute>),
+) -> bool
+    ensures { result ≡ judged.row_meets at search.now class requested dated.now }
+{
+    let (row, due) = dated;
+    is_in(&search.queue, &row.queue)
+        && has_status(&search.status, class, &row.status)
+        && has_owner(&search.owner, &row.owner)
+        && requested
+        && is_due(at, search.late, *due)
+        && is_filed(search.filed_from, search.filed_to, row.created)
+}
+
+/// The class of a status in the lifecycle of a queue, if both are known.
+pub(crate) fn class_of(
+    settings: &Settings,
+    queue: Option<&QueueRow>,
+    status: &Text,
+) -> Option<Class>
+    ensures { result ≡ class_in settings.now (option_map (λ q. q.now) queue.entry) status.now }
+{
+    match queue {
+        Some(queue) => match settings.lifecycle(queue.lifecycle.as_str()) {
+            Some(lifecycle) => lifecycle.class(status.as_str()),
+            None => None,
+        },
+        None => None,
+    }
+}
+
+/// Whether the person who is asked for is a requestor, by that person's watches.
+fn is_requested(asked: &Option<Text>, theirs: &[Watcher], id: u32) -> bool
+    ensures { result ≡ judged.is_requested asked.now theirs.now id }
+{
+    match asked {
+        Some(person) => requests(person, theirs, id),
+        None => true,
+    }
+}
+
+/// Whether the person is a requestor of the request by these watches.
+fn requests(person: &Text, watches: &[Watcher], id: u32) -> bool
+    ensures { result ≡ judged.is_requested (Some person.now) watches.now id }
+{
+    watches.iter().any(|watch| {
+        watch.id == id && is_role(WatchRole::Requestor, watch.role) && watch.person == *person
+    })
+}
+
+fn is_in(asked: &Option<Text>, queue: &Text) -> bool
+    ensures { result ≡ conditions.is_in asked.now queue.now }
+{
+    match asked {
+        Some(asked) => queue == asked,
+        None => true,
+    }
+}
+
+fn has_status(asked: &StatusAsked, class: Option<Class>, status: &Text) -> bool
+    ensures { result ≡ conditions.has_status asked.now class status.now }
+{
+    match asked {
+        StatusAsked::Any => true,
+        StatusAsked::One(asked) => status == asked,
+        StatusAsked::Open => is_live(class),
+        StatusAsked::Inactive => is_inactive(class),
+    }
+}
+
+fn is_live(class: Option<Class>) -> bool
+    ensures { result ≡ is_live_class class }
+{
+    match class {
+        Some(Class::Initial) => true,
+        Some(Class::Active) => true,
+        _ => false,
+    }
+}
+
+fn is_inactive(class: Option<Class>) -> bool
+    ensures { result ≡ is_inactive_class class }
+{
+    match class {
+        Some(Class::Inactive) => true,
+        _ => false,
+    }
+}
+
+fn has_owner(asked: &OwnerAsked, owner: &Option<Text>) -> bool
+    ensures { result ≡ conditions.has_owner asked.now owner.now }
+{
+    match asked {
+        OwnerAsked::Anyone => true,
+        OwnerAsked::Nobody => owner.is_none(),
+        OwnerAsked::Person(asked) => match owner {
+            Some(owner) => owner == asked,
+            None => false,
+        },
+    }
+}
+
+fn is_due(at: u32, late: bool, due: Option<Minute>) -> bool
+    ensures { result ≡ conditions.is_due at late due }
+{
+    !late
+        || match due {
+            Some(due) => due.get() < at,
+            None => false,
+        }
+}
+
+fn is_filed(from: Option<Minute>, to: Option<Minute>, filed: Minute) -> bool
+    ensures { result ≡ conditions.is_filed from to filed }
+{
+    is_from(from, filed) && is_before(to, filed)
+}
+
+fn is_from(from: Option<Minute>, filed: Minute) -> bool
+    ensures { result ≡ option_map_or (λ moment. nat_le moment filed) from true }
+{
+    match from {
+        Some(from) => from.get() <= filed.get(),
+        None => true,
+    }
+}
+
+fn is_before(to: Option<Minute>, filed: Minute) -> bool
+    ensures { result ≡ option_map_or (λ moment. nat_lt filed moment) to true }
+{
+    match to {
+        Some(to) => filed.get() < to.get(),
+        None => true,
+    }
+}

@@ -1,0 +1,78 @@
+//! What a search finds.
+ghost use Rattle.std.specs.Prelude.{◌≡◌, true, IfErr};
+ghost use Rattle.desk_model.specs.Refusals.{names_its_right};
+ghost use Rattle.store_tables.specs.Calls.{Spares};
+ghost use Rattle.store_core.specs.Seen.{state_of};
+ghost use Rattle.service_core.specs.Finding.{FindsOn};
+ghost use Rattle.service_core.specs.Seen.{settings_of, tables_of};
+
+use crate::desk::Desk;
+use desk_core::{Command, Refusal, refused_beforehand};
+use find_core::{Findings, Place, Search};
+use settings_core::Settings;
+use std::alloc::Global;
+use store_core::{Backend, Store};
+
+impl<S: Backend> Desk<S> {
+    /// What a search finds of the requests that the caller may show: at most `limit` of them, which
+    /// come after a place in the order of the search, or from the first on, and how many there are
+    /// in all. A limit of none counts as 1, and one above 500 as 500. The moment is in minutes
+    /// since 1970-01-01 00:00 UTC.
+    ///
+    /// `UnknownCaller` or `BadMoment` comes of what every desk refuses. `Unavailable` may come in
+    /// place of any answer, where memory or the store refused. The tables stay as they are,
+    /// whatever rows they have.
+    pub fn find(
+        &mut self,
+        alloc: Global,
+        at: u32,
+        caller: &str,
+        search: &Search,
+        limit: u32,
+        after: Option<Place>,
+    ) -> Result<Findings, Refusal>
+        ensures found { FindsOn (settings_of S.Store self.old) at caller.now search.now limit after
+            result (tables_of S.Store self.old) (tables_of S.Store self.new) }
+        ensures kept { Spares (tables_of S.Store self.old) (tables_of S.Store self.new) }
+        ensures named { IfErr result (λ refusal. names_its_right refusal ≡ true) }
+        ensures same { settings_of S.Store self.new ≡ settings_of S.Store self.old }
+    {
+        let overdue = Command::Overdue;
+        look(
+            alloc,
+            &mut self.store,
+            &self.settings,
+            at,
+            caller,
+            &overdue,
+            search,
+            limit,
+            after,
+        )
+    }
+}
+
+/// The same. What every desk refuses, a search as well as the list of what is late, costs no look.
+#[tactic(auto, using(store_tables::proofs::Spared::unread))]
+fn look<S: Backend>(
+    alloc: Global,
+    store: &mut Store<S>,
+    settings: &Settings,
+    at: u32,
+    caller: &str,
+    overdue: &Command,
+    search: &Search,
+    limit: u32,
+    after: Option<Place>,
+) -> Result<Findings, Refusal>
+    requires { overdue.now ≡ Command.Overdue }
+    ensures found { FindsOn settings.now at caller.now search.now limit after result
+        (state_of S.Store store.old) (state_of S.Store store.new) }
+    ensures kept { Spares (state_of S.Store store.old) (state_of S.Store store.new) }
+    ensures named { IfErr result (λ refusal. names_its_right refusal ≡ true) }
+{
+    match refused_beforehand(settings, at, caller, overdue) {
+        Some(refusal) => Err(refusal),
+        None => desk_finds::find(alloc, store, settings, at, caller, search, limit, after),
+    }
+}
