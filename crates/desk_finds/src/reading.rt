@@ -118,11 +118,7 @@ pub(crate) fn history<S: Backend>(
 }
 
 /// The facts of a request.
-fn facts_at<S: Backend>(
-    alloc: Global,
-    store: &mut Store<S>,
-    id: u32,
-) -> Result<Facts, Refusal>
+fn facts_at<S: Backend>(alloc: Global, store: &mut Store<S>, id: u32) -> Result<Facts, Refusal>
     ensures told { Tells (λ desk facts. facts ≡ facts_on_request desk id)
         (state_of S.Store store.old) (state_of S.Store store.new) result }
     ensures kept { Spares (state_of S.Store store.old) (state_of S.Store store.new) }
