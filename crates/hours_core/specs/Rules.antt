@@ -1,5 +1,5 @@
 -- Zones by a rule: what its text says becomes a first offset and changes.
-use Rattle.std.specs.Prelude.{◌≡◌, ℕ, zero, suc, ◌+◌, ◌-◌, ◌*◌, ◌/◌, ◌<◌, ◌≤◌, Bool}
+use Rattle.std.specs.Prelude.{◌≡◌, ◌≢◌, ℕ, zero, suc, ◌+◌, ◌-◌, ◌*◌, ◌/◌, ◌<◌, ◌≤◌, Bool}
 use Rattle.std.specs.Prelude.{not, ◌&&◌, List, [], ◌∷◌, ◌++◌, length, nat_lt, ℤ, pos}
 use Rattle.std.specs.Prelude.{◌+ℤ◌, ◌*ℤ◌, if◌then◌else◌, Option, Some, None, Result, Ok, Err}
 use Rattle.std.specs.Int.RustNames.{int_div}
@@ -12,7 +12,7 @@ use Rattle.hours_core.specs.Moment.{first_minute, end_minute}
 use Rattle.hours_core.specs.Zone.{Offsets, is_offset, offset_at}
 use Rattle.hours_core.specs.declared.fault.HoursFault.{HoursFault}
 use Rattle.hours_core.specs.declared.fault.HoursFault.TheVariants.{BadYears, BadRule, BadOffset}
-use Rattle.hours_core.specs.declared.fault.HoursFault.TheVariants.{TooManyChanges}
+use Rattle.hours_core.specs.declared.fault.HoursFault.TheVariants.{TooManyChanges, NoMemory}
 
 -- the seconds by which local time is ahead of UTC at a minute
 abbrev pub seconds_of : TzText → ℕ → ℤ
@@ -75,6 +75,20 @@ zone_by (Some rule) years =
 abbrev pub zone_by_rule : List ℕ → ℤ × ℤ → Result Offsets HoursFault
 zone_by_rule text years =
     if not (are_years years) then Err BadYears else zone_by (read_whole text) years
+
+-- the zone of the offsets that a zone of jiff has in these years and on the days just before and
+-- after them, or their least fault
+abbrev pub zone_like : TimeZone → ℤ × ℤ → Result Offsets HoursFault
+zone_like zone years =
+    if not (are_years years) then Err BadYears
+    else zone_in (λ m. jiff_offset zone (nanos m)) (first_asked years)
+    (end_asked years - suc (first_asked years))
+
+-- what is answered for a text, but for want of memory, is that of the zone that jiff reads it as
+abbrev pub GoesByJiff : List ℕ → ℤ × ℤ → Result Offsets HoursFault → Type 0
+GoesByJiff text years answer =
+    (zone : TimeZone) → IsPosixZone text zone → answer ≢ Err NoMemory
+    → answer ≡ zone_like zone years
 
 -- a moment whose day, in UTC, lies in the years, or is the day just before or after them
 abbrev pub IsAsked : ℤ × ℤ → ℕ → Type 0

@@ -28,6 +28,7 @@ impl Zone {
         ensures err { IfErr result
             (λ e. e ≢ HoursFault.NoMemory → spec.zone_by_rule text.now years ≡ Err e) }
         ensures offsets { IfOk result (spec.FollowsRule text.now years) }
+        ensures jiff { spec.GoesByJiff text.now years result }
     {
         if !are_years(years) {
             return Err(HoursFault::BadYears);

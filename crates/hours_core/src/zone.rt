@@ -77,7 +77,8 @@ impl Zone {
     /// The minutes by which local time is ahead of UTC at the minute, or behind where they are
     /// negative. It takes no memory.
     pub fn offset_at(&self, minute: Minute) -> i32
-        ensures { result ≡ spec.offset_at self.now.first self.now.changes minute }
+        ensures value { result ≡ spec.offset_at self.now.first self.now.changes minute }
+        ensures last { spec.IsOffsetAt self.now.first self.now.changes minute result }
     {
         self.ahead_at(minute.get()) as i32
     }

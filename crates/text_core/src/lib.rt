@@ -5,11 +5,13 @@
 #![tactic(auto)]
 
 mod form;
+mod lookup;
 mod sequence;
 mod text;
 mod texts;
 
 pub use form::{is_name, is_right_name, is_subject, is_text};
+pub use lookup::{Lookup, distinct};
 pub use sequence::Sequence;
 pub use text::Text;
 pub use texts::{Texts, is_among, repeats_text, shares_text};

@@ -1,7 +1,9 @@
 -- The offset that the text of a rule gives at an instant.
-use Rattle.std.specs.Prelude.{ℕ, ℤ, pos, ◌*◌, ◌+ℤ◌, ◌-ℤ◌, ◌*ℤ◌, ◌<ℤ◌, ◌&&◌, ◌||◌, int_lt}
-use Rattle.std.specs.Prelude.{Option, Some, None, [], if◌then◌else◌}
+use Rattle.std.specs.Prelude.{◌≡◌, ℕ, ℤ, pos, ◌*◌, ◌+ℤ◌, ◌-ℤ◌, ◌*ℤ◌, ◌<ℤ◌, ◌&&◌, ◌||◌, int_lt}
+use Rattle.std.specs.Prelude.{Option, Some, None, List, [], if◌then◌else◌}
 use Rattle.std.specs.Prelude.{unsigned_abs}
+use Rattle.jiff.specs.Placed.{IsPosixZone}
+use Rattle.jiff.specs.Words.{offset_at as jiff_offset}
 use Rattle.jiff_core.specs.Calendar.{days_from_civil}
 use Rattle.jiff_core.specs.Timestamp.{nanos_of_seconds}
 use Rattle.jiff_tz.specs.PosixRule.{match_some, rule_day, clamp_to, first_nanosecond}
@@ -53,6 +55,11 @@ seconds_at rule n =
     match_some rule.dst rule.std_seconds (λ summer.
     if in_window (summer_in summer (year_of_nanos n) rule.std_seconds) n then summer.seconds
     else rule.std_seconds)
+
+-- at every instant a rule says the offset of the zone that jiff reads its text as
+abbrev pub GoesByJiff : List ℕ → TzText → Type 0
+GoesByJiff text rule =
+    (zone : TimeZone) → IsPosixZone text zone → (n : ℤ) → seconds_at rule n ≡ jiff_offset zone n
 
 -- the zone is that of a rule
 abbrev pub IsRule : TimeZone → Type 0

@@ -5,15 +5,15 @@ use Rattle.std.proofs.lemmas.Map.Text.{hash_set_updates_text}
 use Rattle.std.specs.HashSet.{contains_text}
 use Rattle.std.specs.Str.{bytes_eq}
 use Rattle.text_core.specs.Texts.{is_among, repeats_text}
-use Rattle.rights_core.proofs.Repeats.{repeats_front, repeats_more, set_more}
-use Rattle.rights_core.proofs.directory.distinct.Goals as goal
+use Rattle.text_core.proofs.Lookups.{repeats_front, repeats_more, set_more}
+use Rattle.text_core.proofs.lookup.distinct.Goals as goal
 
 not_of : (a b : Bool) → a ≡ not b → b ≡ not a
 not_of a true e = sym (ap not e)
 not_of a false e = sym (ap not e)
 
-pub returns-then-not-branch-clause-some : goal.returns-then-not-branch-clause-some
-returns-then-not-branch-clause-some c =
+pub returns-then-not-branch-clause-once : goal.returns-then-not-branch-clause-once
+returns-then-not-branch-clause-once c =
     let texts = c.args.texts.now in
     let i = c.loop-text.text-index in
     let text = c.text-item.result in

@@ -1,7 +1,7 @@
 use Rattle.std.proofs.Common.{◌≡◌, false, take}
 use Rattle.text_core.specs.Texts.{repeats_text}
-use Rattle.rights_core.specs.Directory.{IsSetOf}
-use Rattle.rights_core.proofs.directory.distinct.Given as goal
+use Rattle.text_core.specs.Lookup.{IsSetOf}
+use Rattle.text_core.proofs.lookup.distinct.Given as goal
 
 abbrev pub invariant-loop-text : goal.invariant-loop-text
 invariant-loop-text l = record {

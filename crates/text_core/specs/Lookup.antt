@@ -1,4 +1,4 @@
--- Persons and groups, found by name.
+-- A set of the texts of a list.
 use Rattle.std.specs.Prelude.{◌≡◌, ℕ, List, String}
 use Rattle.std.specs.HashSet.{HashSet, contains_text}
 use Rattle.text_core.specs.Texts.{is_among}
