@@ -5,7 +5,7 @@ ghost use Rattle.text_core.specs.Lookup.{IsSetOf};
 ghost use Rattle.text_core.specs.Texts as words;
 
 use crate::text::Text;
-use crate::texts::{is_among, repeats_text};
+use crate::texts::{Texts, is_among, repeats_text};
 use std::alloc::{AllocError, Global};
 use std::collections::HashSet;
 use std::marker::Model;
@@ -60,6 +60,59 @@ impl<'a> Lookup<'a> {
     {
         texts.iter().any(|t| self.contains(t.as_str()))
     }
+}
+
+/// Texts in order, of which one is found by a set of them. They are seen as the list.
+#[derive(Drop)]
+pub struct IndexedTexts {
+    texts: Texts,
+    set: HashSet<String>,
+}
+
+impl Model for IndexedTexts {
+    ghost use Rattle.std.specs.Prelude.{ℕ, List};
+    ghost use Rattle.text_core.specs.Lookup.{IsSetOf};
+
+    ghost Value = { List (List ℕ) };
+
+    ghost view = { λ t. t.texts };
+
+    ghost invariant = { λ t. IsSetOf t.texts t.set };
+}
+
+impl IndexedTexts {
+    /// The texts with a set of them.
+    pub fn new(alloc: Global, texts: Texts) -> Result<IndexedTexts, AllocError>
+        ensures { IfOk result (λ t. t ≡ texts) }
+    {
+        let set = set_of(alloc, texts.as_slice())?;
+        Ok(IndexedTexts { texts, set })
+    }
+
+    /// The texts, to be looked at.
+    pub fn as_slice(&self) -> &[Text]
+        ensures { result.now ≡ self.now }
+    {
+        self.texts.as_slice()
+    }
+
+    /// Whether the text is one of these.
+    pub fn contains(&self, text: &str) -> bool
+        ensures { result ≡ words.is_among self.now text.now }
+    {
+        self.set.contains(text)
+    }
+}
+
+/// The texts as a set.
+fn set_of(alloc: Global, texts: &[Text]) -> Result<HashSet<String>, AllocError>
+    ensures { IfOk result (IsSetOf texts.now) }
+{
+    let mut set = HashSet::with_capacity(alloc, texts.len())?;
+    for text in texts {
+        set.insert(String::from_str(alloc, text.as_str())?)?;
+    }
+    Ok(set)
 }
 
 /// The texts as a set, or `None` where one stands twice.
