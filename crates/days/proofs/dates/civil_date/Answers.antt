@@ -2,8 +2,8 @@ use Rattle.std.proofs.Common.{◌≡◌, ℤ, pos, ◌+ℤ◌, arith, ap, ◌∙
 use Rattle.std.proofs.lemmas.Int.{to_z-of_z}
 use Rattle.jiff.specs.Words.{epoch_day, IsEpochDay}
 use Rattle.jiff.proofs.SpanFacts.{signed_arith, date_add-days, can_add-days}
-use Rattle.hours_core.proofs.DateLemmas.{epoch_day-first, year_from_first}
-use Rattle.hours_core.proofs.date.civil_date.Goals as goal
+use Rattle.days.proofs.DateLemmas.{epoch_day-first, year_from_first}
+use Rattle.days.proofs.dates.civil_date.Goals as goal
 
 pub returns-clause-number : goal.returns-clause-number
 returns-clause-number c =

@@ -1,7 +1,7 @@
 use Rattle.std.proofs.Common.{arith}
 use Rattle.std.proofs.lemmas.Int.{ints}
-use Rattle.hours_core.proofs.DateLemmas.{only}
-use Rattle.hours_core.proofs.date.date_of_day.Goals as goal
+use Rattle.days.proofs.DateLemmas.{only}
+use Rattle.days.proofs.dates.date_of_day.Goals as goal
 
 pub returns-clause-calendar : goal.returns-clause-calendar
 returns-clause-calendar c = (

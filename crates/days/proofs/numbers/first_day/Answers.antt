@@ -1,7 +1,7 @@
 use Rattle.std.proofs.Common.{rules}
-use Rattle.zone_rules.specs.Rule.{first_day_of}
-use Rattle.zone_rules.proofs.DayLemmas.{first_day_range}
-use Rattle.zone_rules.proofs.days.first_day.Goals as goal
+use Rattle.days.specs.Dates.{first_day_of}
+use Rattle.days.proofs.DayLemmas.{earlier_days, first_day_range, later_days}
+use Rattle.days.proofs.numbers.first_day.Goals as goal
 
 number : goal.returns-clause-number
 unfolding first_day_of
@@ -14,3 +14,13 @@ pub returns-clause-range : goal.returns-clause-range
 returns-clause-range c =
     let e = number c in
     rw e (first_day_range c.args.year c.requires.0 c.requires.1)
+
+pub returns-clause-before : goal.returns-clause-before
+returns-clause-before c =
+    let e = number c in
+    rw e (λ day. earlier_days c.args.year day c.requires.0 c.requires.1)
+
+pub returns-clause-after : goal.returns-clause-after
+returns-clause-after c =
+    let e = number c in
+    rw e (λ day. later_days c.args.year day c.requires.0 c.requires.1)

@@ -1,7 +1,7 @@
 use Rattle.std.proofs.Common.{FitsSigned, w64, rules, arith}
 use Rattle.std.proofs.lemmas.Int.{ints}
-use Rattle.zone_rules.proofs.DayLemmas.{hours_since, small_day}
-use Rattle.zone_rules.proofs.days.hours_since_first.Goals as goal
+use Rattle.days.proofs.DayLemmas.{hours_since, small_day}
+use Rattle.days.proofs.numbers.hours_since_first.Goals as goal
 
 pub returns-clause-hours : goal.returns-clause-hours
 returns-clause-hours c =
