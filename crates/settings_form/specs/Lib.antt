@@ -1,4 +1,3 @@
-pub mod Fault
 pub mod Form
 pub mod TextForms
 pub mod Kinds

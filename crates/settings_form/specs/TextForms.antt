@@ -1,11 +1,10 @@
 -- The forms of texts.
 use Rattle.std.specs.Prelude.{ℕ, ◌+◌, ◌-◌, ◌*◌, ◌==◌, eqb, nat_le, Bool, true}
 use Rattle.std.specs.Prelude.{false, not, ◌&&◌, ◌||◌, if◌then◌else◌, List, []}
-use Rattle.std.specs.Prelude.{◌∷◌, length, slice_index, codes, pos, unsigned_abs}
+use Rattle.std.specs.Prelude.{◌∷◌, length, slice_index, codes}
 use Rattle.std.specs.Str.{bytes_eq}
 use Rattle.std.specs.List.{starts_with, list_any, before_first, after_first}
-use Rattle.jiff.specs.Words.{days_in_month}
-use Rattle.jiff_core.specs.Calendar.{days_from_civil}
+use Rattle.days.specs.Dates.{is_date, day_number}
 use Rattle.text_core.specs.Form as text
 use Rattle.settings_form.specs.declared.form.TextForm.{TextForm}
 use Rattle.settings_form.specs.declared.form.TextForm.TheVariants.{Any, Name, To, RightKey}
@@ -57,16 +56,6 @@ fits (p ∷ ps) (b ∷ bs) = is_like p b && fits ps bs
 -- the number of two digits
 abbrev pub two : List ℕ → ℕ → ℕ
 two s i = (slice_index s i - 48) * 10 + (slice_index s (i + 1) - 48)
-
--- a day of 2000 to 2099
-abbrev pub is_date : ℕ → ℕ → ℕ → Bool
-is_date y m d =
-    nat_le 2000 y && nat_le y 2099 && nat_le 1 m && nat_le m 12
-    && nat_le 1 d && nat_le d (days_in_month (pos y) m)
-
--- the number of a day, where 1970-01-01 is day 0
-abbrev pub day_number : ℕ → ℕ → ℕ → ℕ
-day_number y m d = if is_date y m d then unsigned_abs (days_from_civil (pos y) m d) else 0
 
 abbrev pub year_of : List ℕ → ℕ
 year_of s = two s 0 * 100 + two s 2

@@ -4,9 +4,9 @@ ghost use Rattle.std.specs.Prelude.{◌≡◌, ◌<◌, ◌≤◌, slice_index};
 ghost use Rattle.std.specs.List.{list_any};
 ghost use Rattle.settings_form.specs.TextForms as spec;
 
-use crate::dates::{day_number, is_date};
 use crate::form::TextForm;
-use text_core::is_name;
+use days::{day_number, is_date};
+use text_core::{is_digit, is_name};
 
 /// The minutes of an hour.
 const HOUR: u32 = 60;
@@ -78,7 +78,7 @@ fn is_like(pattern: u8, byte: u8) -> bool
     ensures { result ≡ spec.is_like pattern byte }
 {
     if pattern == b'0' {
-        b'0' <= byte && byte <= b'9'
+        is_digit(byte)
     } else {
         byte == pattern
     }

@@ -1,10 +1,8 @@
 -- The offset that the text of a rule gives at an instant.
 use Rattle.std.specs.Prelude.{◌≡◌, ℕ, ℤ, pos, ◌*◌, ◌+ℤ◌, ◌-ℤ◌, ◌*ℤ◌, ◌<ℤ◌, ◌&&◌, ◌||◌, int_lt}
 use Rattle.std.specs.Prelude.{Option, Some, None, List, [], if◌then◌else◌}
-use Rattle.std.specs.Prelude.{unsigned_abs}
 use Rattle.jiff.specs.Placed.{IsPosixZone}
 use Rattle.jiff.specs.Words.{offset_at as jiff_offset}
-use Rattle.jiff_core.specs.Calendar.{days_from_civil}
 use Rattle.jiff_core.specs.Timestamp.{nanos_of_seconds}
 use Rattle.jiff_tz.specs.PosixRule.{match_some, rule_day, clamp_to, first_nanosecond}
 use Rattle.jiff_tz.specs.PosixRule.{last_nanosecond, nanos_per_day, saturating_add, int_same}
@@ -20,10 +18,6 @@ use Rattle.jiff_tz.specs.declared.timezone.TimeZone.TheVariants.{Posix}
 -- the last minute that is asked for: 2100-01-01 00:00
 abbrev pub end_of_rules : ℕ
 end_of_rules = 68374080
-
--- the number of days from 1970-01-01 to the year's 1 January
-unfoldable pub first_day_of : ℤ → ℕ
-first_day_of year = unsigned_abs (days_from_civil year 1 1)
 
 -- the minute's first second, as an instant
 abbrev pub nanos : ℕ → ℤ

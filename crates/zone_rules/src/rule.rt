@@ -5,7 +5,7 @@ ghost use Rattle.jiff.specs.Words.{next_at, offset_at as zone_offset, plain_zone
 ghost use Rattle.jiff_tz.specs.declared.timezone.TimeZone.{TimeZone as Zone};
 ghost use Rattle.zone_rules.specs.Rule.{GoesByJiff, IsBefore, nanos, seconds_at, end_of_rules};
 
-use crate::days::next_year;
+use crate::years::next_year;
 use jiff::Timestamp;
 use jiff::tz::TimeZone;
 use std::marker::Model;

@@ -1,4 +1,4 @@
-use Rattle.std.proofs.Common.{sym}
+use Rattle.std.proofs.Common.{rules, sym}
 use Rattle.zone_rules.proofs.TextLemmas.{read_seconds}
 use Rattle.zone_rules.proofs.rule.Rule.read.Goals as goal
 
