@@ -28,7 +28,7 @@ before_years : (years : ℤ × ℤ) (year : ℕ) → pos year <ℤ years.0 → i
 before_years years year early =
     first_false (int_le years.0 (pos year)) _ (int_le-no years.0 (pos year) early)
 
-after_years : (years : ℤ × ℤ) (year : ℕ) → years.1 +ℤ pos 1 ≤ℤ pos year
+after_years : (years : ℤ × ℤ) (year : ℕ) → (years.1 +ℤ pos 1) ≤ℤ pos year
     → is_between years year ≡ false
 after_years years year late =
     second_false (int_le years.0 (pos year)) _ (int_le-no (pos year) years.1 (omega (arith, ints)))

@@ -69,7 +69,7 @@ impl<'a> Schedule<'a> {
 
     /// The zone that it was given in.
     pub fn into_zone(self) -> Zone
-        ensures { result ≡ self.zone }
+        ensures { result ≡ self.entry.zone }
     {
         self.zone
     }
