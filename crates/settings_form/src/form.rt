@@ -75,78 +75,82 @@ pub enum Keys {
 }
 
 /// A key that the table must have.
-const fn must(key: &'static str, kind: Kind) -> Row {
-    Row {
-        key,
-        is_required: true,
-        kind,
-    }
+macro_rules! must {
+    ($key:expr, $kind:expr) => {
+        Row {
+            key: $key,
+            is_required: true,
+            kind: $kind,
+        }
+    };
 }
 
 /// A key that the table may have.
-const fn may(key: &'static str, kind: Kind) -> Row {
-    Row {
-        key,
-        is_required: false,
-        kind,
-    }
+macro_rules! may {
+    ($key:expr, $kind:expr) => {
+        Row {
+            key: $key,
+            is_required: false,
+            kind: $kind,
+        }
+    };
 }
 
 static TOP: [Row; 9] = [
-    may("max_requests", One(Integer)),
-    may("max_entries", One(Integer)),
-    may("persons", Many(Text(TextForm::Any))),
-    may("groups", One(Table(Place::Groups))),
-    may("grant", Many(Table(Place::Grant))),
-    may("tokens", One(Table(Place::Tokens))),
-    may("lifecycle", One(Table(Place::Lifecycles))),
-    may("calendar", One(Table(Place::Calendars))),
-    may("level", One(Table(Place::Levels))),
+    may!("max_requests", One(Integer)),
+    may!("max_entries", One(Integer)),
+    may!("persons", Many(Text(TextForm::Any))),
+    may!("groups", One(Table(Place::Groups))),
+    may!("grant", Many(Table(Place::Grant))),
+    may!("tokens", One(Table(Place::Tokens))),
+    may!("lifecycle", One(Table(Place::Lifecycles))),
+    may!("calendar", One(Table(Place::Calendars))),
+    may!("level", One(Table(Place::Levels))),
 ];
 
 static GRANT: [Row; 3] = [
-    must("to", One(Text(TextForm::To))),
-    must("rights", Many(Text(TextForm::Any))),
-    may("queue", One(Text(TextForm::Any))),
+    must!("to", One(Text(TextForm::To))),
+    must!("rights", Many(Text(TextForm::Any))),
+    may!("queue", One(Text(TextForm::Any))),
 ];
 
 static LIFECYCLE: [Row; 7] = [
-    must("initial", Many(Text(TextForm::Any))),
-    must("active", Many(Text(TextForm::Any))),
-    must("create", Many(Text(TextForm::Any))),
-    must("on_create", One(Text(TextForm::Any))),
-    may("inactive", Many(Text(TextForm::Any))),
-    may("transitions", One(Table(Place::Transitions))),
-    may("rights", One(Table(Place::RightNames))),
+    must!("initial", Many(Text(TextForm::Any))),
+    must!("active", Many(Text(TextForm::Any))),
+    must!("create", Many(Text(TextForm::Any))),
+    must!("on_create", One(Text(TextForm::Any))),
+    may!("inactive", Many(Text(TextForm::Any))),
+    may!("transitions", One(Table(Place::Transitions))),
+    may!("rights", One(Table(Place::RightNames))),
 ];
 
 static CALENDAR: [Row; 12] = [
-    may("years", One(Pair)),
-    may("offset", One(Integer)),
-    may("changes", Many(Pair)),
-    may("rule", One(Text(TextForm::Any))),
-    may("holidays", Many(Text(TextForm::Day))),
-    may("sun", Many(Text(TextForm::Interval))),
-    may("mon", Many(Text(TextForm::Interval))),
-    may("tue", Many(Text(TextForm::Interval))),
-    may("wed", Many(Text(TextForm::Interval))),
-    may("thu", Many(Text(TextForm::Interval))),
-    may("fri", Many(Text(TextForm::Interval))),
-    may("sat", Many(Text(TextForm::Interval))),
+    may!("years", One(Pair)),
+    may!("offset", One(Integer)),
+    may!("changes", Many(Pair)),
+    may!("rule", One(Text(TextForm::Any))),
+    may!("holidays", Many(Text(TextForm::Day))),
+    may!("sun", Many(Text(TextForm::Interval))),
+    may!("mon", Many(Text(TextForm::Interval))),
+    may!("tue", Many(Text(TextForm::Interval))),
+    may!("wed", Many(Text(TextForm::Interval))),
+    may!("thu", Many(Text(TextForm::Interval))),
+    may!("fri", Many(Text(TextForm::Interval))),
+    may!("sat", Many(Text(TextForm::Interval))),
 ];
 
 static LEVEL: [Row; 6] = [
-    must("calendar", One(Text(TextForm::Any))),
-    may("start_immediately", One(Boolean)),
-    may("response", One(Table(Place::Limit))),
-    may("keep_in_loop", One(Table(Place::Limit))),
-    may("resolve", One(Table(Place::Limit))),
-    may("ignore", Many(Text(TextForm::Any))),
+    must!("calendar", One(Text(TextForm::Any))),
+    may!("start_immediately", One(Boolean)),
+    may!("response", One(Table(Place::Limit))),
+    may!("keep_in_loop", One(Table(Place::Limit))),
+    may!("resolve", One(Table(Place::Limit))),
+    may!("ignore", Many(Text(TextForm::Any))),
 ];
 
 static LIMIT: [Row; 2] = [
-    may("real_minutes", One(Integer)),
-    may("business_minutes", One(Integer)),
+    may!("real_minutes", One(Integer)),
+    may!("business_minutes", One(Integer)),
 ];
 
 /// The keys of a table.
