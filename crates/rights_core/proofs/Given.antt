@@ -52,7 +52,7 @@ kept_under : {Y Z S : Type 0} (given : HashMap (String Y) (Vec Grant Z) S) (i : 
     → i < length given.entries
     → get_or given.entries i e ≡ e
     → grants_to given (string_bytes e.0) ≡ e.1.items
-kept_under given i e unique inside here =
+kept_under {Y} {Z} {S} given i e unique inside here =
     let at : slice_get given.entries i ≡ Some e =
     slice_get_read given.entries (length given.entries) i e refl inside (sym here) in
     let found : lookup (string_eq e.0) given.entries ≡ Some e.1 =
