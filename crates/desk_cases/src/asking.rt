@@ -6,9 +6,8 @@
 use crate::calls::execute;
 use crate::failure::Failure;
 use crate::served::Sent;
-use crate::telling::text_of;
 use desk_core::Command;
-use service_core::Desk;
+use service_core::{Desk, outcome_text};
 use std::alloc::Global;
 use store_core::Backend;
 use wire_core::{Message, command_of, read_message};
@@ -81,7 +80,7 @@ fn put_outcome<S: Backend>(
     let line = format!(in alloc; "{caller}: ")?;
     text.extend_from_slice(line.as_bytes())?;
     let outcome = execute(alloc, desk, at, caller, command);
-    let told = text_of(alloc, &outcome);
+    let told = outcome_text(alloc, &outcome);
     drop(outcome);
     let told = told?;
     text.extend_from_slice(told.as_bytes())?;

@@ -6,6 +6,7 @@
 use crate::asks::asks_of;
 use crate::calls;
 use crate::failure::Failure;
+use crate::queries::ask_database;
 use crate::stores::adopted;
 use crate::telling::{tell_given_back, tell_run};
 use service_core::{AttachFault, Desk};
@@ -14,28 +15,37 @@ use sqlite::MemStore;
 use std::alloc::Global;
 use store_core::{Backend, Store};
 
-/// Attaches the settings to the tables, and asks all commands at once.
+/// Attaches the settings to the tables, and asks all commands at once. Then the queries are asked of
+/// the tables.
 pub(crate) fn run_case(
-    rt: &HostRuntime,
+    alloc: Global,
+    out: &mut String,
     statements: &str,
-    settings: &str,
-    commands: &str,
+    list: &str,
+    queries: &str,
 ) -> Result<(), Failure> {
-    match attach(rt.alloc(), statements, settings)? {
+    let (settings, commands) = list.split_once(COMMANDS).ok_or(Failure::BadLine)?;
+    match attach(alloc, statements, settings)? {
         Ok(desk) => {
             let mut desk = desk;
-            let told = ask_all(rt, &mut desk, commands);
-            drop(desk);
-            told
+            let told = ask_all(alloc, out, &mut desk, commands);
+            let (store, settings) = desk.detach();
+            drop(settings);
+            let asked = ask_database(out, store.release(), queries);
+            told?;
+            asked
         }
         Err((fault, store)) => {
             let mut store = store;
-            let told = tell_given_back(rt, fault, &mut store);
+            let told = tell_given_back(alloc, out, fault, &mut store);
             drop(store);
             told
         }
     }
 }
+
+/// What stands between settings and commands.
+pub(crate) const COMMANDS: &str = "%%\n";
 
 /// A desk over the tables that the statements make, with the settings.
 pub(crate) fn attached(
@@ -70,12 +80,13 @@ fn attach(
 
 /// Asks all commands at once.
 fn ask_all<S: Backend>(
-    rt: &HostRuntime,
+    alloc: Global,
+    out: &mut String,
     desk: &mut Desk<S>,
     commands: &str,
 ) -> Result<(), Failure> {
-    let asks = asks_of(rt.alloc(), commands)?;
-    tell_run(rt, desk, asks.as_slice())
+    let asks = asks_of(alloc, commands)?;
+    tell_run(alloc, out, desk, asks.as_slice())
 }
 
 /// A store with the tables of an empty desk, or with those that the statements make.

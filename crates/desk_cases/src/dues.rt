@@ -24,10 +24,15 @@ type Dated = (RequestRow, Option<Minute>);
 
 /// Asks the commands one after the other. After each, the due moments are written that the tables
 /// have, and that this person is shown.
-pub(crate) fn run(rt: &HostRuntime, course: &Course<'_>, caller: &str) -> Result<(), Failure> {
-    let mut desk = attached(rt.alloc(), course.statements, course.settings)?;
+pub(crate) fn run(
+    alloc: Global,
+    out: &mut String,
+    course: &Course<'_>,
+    caller: &str,
+) -> Result<(), Failure> {
+    let mut desk = attached(alloc, course.statements, course.settings)?;
     for ask in course.asks.iter() {
-        desk = told_after(rt, desk, ask, caller)?;
+        desk = told_after(alloc, out, desk, ask, caller)?;
     }
     drop(desk);
     Ok(())
@@ -35,13 +40,14 @@ pub(crate) fn run(rt: &HostRuntime, course: &Course<'_>, caller: &str) -> Result
 
 /// Asks a command, writes both due moments of each request, and gives a desk over the tables back.
 fn told_after<S: Backend + Drop>(
-    rt: &HostRuntime,
+    alloc: Global,
+    out: &mut String,
     desk: Desk<S>,
     ask: &Ask,
     caller: &str,
 ) -> Result<Desk<S>, Failure> {
-    let (mut desk, dated) = asked_and_read(rt.alloc(), desk, ask)?;
-    match tell_read(rt, &mut desk, ask.0, caller, dated) {
+    let (mut desk, dated) = asked_and_read(alloc, desk, ask)?;
+    match tell_read(alloc, out, &mut desk, ask.0, caller, dated) {
         Ok(()) => Ok(desk),
         Err(failure) => {
             drop(desk);
@@ -74,26 +80,28 @@ fn asked_and_read<S: Backend + Drop>(
 }
 
 fn tell_read<S: Backend>(
-    rt: &HostRuntime,
+    alloc: Global,
+    out: &mut String,
     desk: &mut Desk<S>,
     at: u32,
     caller: &str,
     dated: Result<Vec<Dated>, StoreFault>,
 ) -> Result<(), Failure> {
     let dated = dated?;
-    tell_each(rt, desk, at, caller, dated.as_slice())
+    tell_each(alloc, out, desk, at, caller, dated.as_slice())
 }
 
 fn tell_each<S: Backend>(
-    rt: &HostRuntime,
+    alloc: Global,
+    out: &mut String,
     desk: &mut Desk<S>,
     at: u32,
     caller: &str,
     dated: &[Dated],
 ) -> Result<(), Failure> {
     for (request, due) in dated {
-        let shown = shown(rt.alloc(), desk, at, caller, request.id)?;
-        tell_both(rt, request.id, *due, shown_due(shown.as_str()))?;
+        let shown = shown(alloc, desk, at, caller, request.id)?;
+        tell_both(out, request.id, *due, shown_due(shown.as_str()))?;
     }
     Ok(())
 }
@@ -114,10 +122,10 @@ fn shown<S: Backend>(
     Ok(text?)
 }
 
-fn tell_both(rt: &HostRuntime, id: u32, due: Option<Minute>, shown: &str) -> Result<(), Failure> {
-    print!(rt; "  {id}: ")?;
-    print_due(rt, due)?;
-    println!(rt; ", shown {shown}")?;
+fn tell_both(out: &mut String, id: u32, due: Option<Minute>, shown: &str) -> Result<(), Failure> {
+    write!(out, "  {id}: ")?;
+    put_due(out, due)?;
+    writeln!(out, ", shown {shown}")?;
     Ok(())
 }
 
@@ -131,19 +139,23 @@ fn shown_due(text: &str) -> &str {
     ""
 }
 
-fn print_due(rt: &HostRuntime, due: Option<Minute>) -> Result<(), Failure> {
+fn put_due(out: &mut String, due: Option<Minute>) -> Result<(), Failure> {
     match due {
-        Some(moment) => print!(rt; "{}", str::from_utf8(&minute_text(moment)).unwrap_or(""))?,
-        None => print!(rt; "{NEVER}")?,
+        Some(moment) => write!(
+            out,
+            "{}",
+            str::from_utf8(&minute_text(moment)).unwrap_or("")
+        )?,
+        None => write!(out, "{NEVER}")?,
     }
     Ok(())
 }
 
 impl Line for Dated {
-    fn put(&self, rt: &HostRuntime) -> Result<(), Failure> {
-        print!(rt; "  {}: ", self.0.id)?;
-        print_due(rt, self.1)?;
-        println!(rt; "")?;
+    fn put(&self, out: &mut String) -> Result<(), Failure> {
+        write!(out, "  {}: ", self.0.id)?;
+        put_due(out, self.1)?;
+        writeln!(out)?;
         Ok(())
     }
 }

@@ -1,7 +1,7 @@
 //! Messages whose first one meets a failure at each of its calls in turn.
 
 use crate::failure::Failure;
-use crate::messages::replies;
+use crate::messages::{Before, replies};
 use crate::served::{Manner, Sent};
 
 /// More calls than a message takes.
@@ -20,17 +20,22 @@ const LEFT: &str = "left:";
 /// that is more than it takes. Nothing is to be written of that message, and the others are to be
 /// answered as on a desk that it never came to. Tells how many reads it takes, and where it is
 /// wrong.
-pub(crate) fn reads(rt: &HostRuntime, before: &str, sent: &[Sent]) -> Result<(), Failure> {
+pub(crate) fn reads(
+    rt: &HostRuntime,
+    out: &mut String,
+    before: Before<'_>,
+    sent: &[Sent],
+) -> Result<(), Failure> {
     let whole = answered(rt, before, sent, Manner::BYTES)?;
     let others = answered(rt, before, sent.get(1..).unwrap_or(&[]), Manner::BYTES)?;
     for count in 0..MOST {
         let manner = Manner::streams(Some(count), u32::MAX, true);
         let text = answered(rt, before, sent, manner)?;
         if text.as_str() == whole.as_str() {
-            return tell_whole(rt, "read", count);
+            return tell_whole(out, "read", count);
         }
         if text.as_str().strip_prefix(READ) != Some(others.as_str()) {
-            tell_wrong(rt, count)?;
+            tell_wrong(out, count)?;
         }
     }
     Err(Failure::BadLine)
@@ -39,28 +44,33 @@ pub(crate) fn reads(rt: &HostRuntime, before: &str, sent: &[Sent]) -> Result<(),
 /// Lets the writer of the first message's reply fail after each number of writes, a byte each.
 /// Those bytes are to be written and no more, and the others are to be answered as on a desk that
 /// the first message came to. Tells how many writes the reply takes, and where it is wrong.
-pub(crate) fn writes(rt: &HostRuntime, before: &str, sent: &[Sent]) -> Result<(), Failure> {
+pub(crate) fn writes(
+    rt: &HostRuntime,
+    out: &mut String,
+    before: Before<'_>,
+    sent: &[Sent],
+) -> Result<(), Failure> {
     let whole = answered(rt, before, sent, Manner::BYTES)?;
     let first = answered(rt, before, sent.get(..1).unwrap_or(&[]), Manner::BYTES)?;
     for count in 0..MOST {
         let text = answered(rt, before, sent, Manner::streams(None, count, true))?;
         if text.as_str() == whole.as_str() {
-            return tell_whole(rt, "written", count);
+            return tell_whole(out, "written", count);
         }
         if !is_cut(text.as_str(), first.as_str(), whole.as_str(), count) {
-            tell_wrong(rt, count)?;
+            tell_wrong(out, count)?;
         }
     }
     Err(Failure::BadLine)
 }
 
-fn tell_whole(rt: &HostRuntime, what: &str, count: u32) -> Result<(), Failure> {
-    println!(rt; "{what} whole by {count} calls")?;
+fn tell_whole(out: &mut String, what: &str, count: u32) -> Result<(), Failure> {
+    writeln!(out, "{what} whole by {count} calls")?;
     Ok(())
 }
 
-fn tell_wrong(rt: &HostRuntime, count: u32) -> Result<(), Failure> {
-    println!(rt; "wrong after {count} calls")?;
+fn tell_wrong(out: &mut String, count: u32) -> Result<(), Failure> {
+    writeln!(out, "wrong after {count} calls")?;
     Ok(())
 }
 
@@ -81,7 +91,7 @@ fn is_cut(text: &str, first: &str, whole: &str, count: u32) -> bool {
 /// The replies to the messages, without what is left of each.
 fn answered(
     rt: &HostRuntime,
-    before: &str,
+    before: Before<'_>,
     sent: &[Sent],
     manner: Manner,
 ) -> Result<String, Failure> {

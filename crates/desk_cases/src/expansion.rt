@@ -1,20 +1,21 @@
-//! Texts of cases in which words stand for others.
+//! Texts of cases in which words in `<<` and `>>` stand for others:
+//!
+//! - `<<3*TEXT>>` for the text three times, in which `@` is the number of the time, from 1,
+//! - `<<byte 255>>` for that byte,
+//! - `<<end>>` for the end of the part,
+//! - `<<NAME>>` for the text of the file `texts/NAME`.
 
 use std::alloc::{AllocError, Global};
 
-/// A text that cases name.
-#[derive(Clone, Copy)]
-pub(crate) struct Named<'t> {
-    pub(crate) name: &'t str,
-    pub(crate) text: &'t str,
+/// A text that cases name, by the last name of its file.
+#[derive(Drop)]
+pub(crate) struct Named {
+    pub(crate) file: String,
+    pub(crate) text: String,
 }
 
-/// The case of a text whose words in `<<` and `>>` stand for others.
-pub(crate) fn expanded(
-    alloc: Global,
-    named: &[Named<'_>],
-    text: &str,
-) -> Result<Vec<u8>, AllocError> {
+/// The text whose words in `<<` and `>>` stand for others.
+pub(crate) fn expanded(alloc: Global, named: &[Named], text: &str) -> Result<Vec<u8>, AllocError> {
     let mut case = Vec::new(alloc);
     for piece in text.split("<<") {
         match piece.split_once(">>") {
@@ -33,7 +34,7 @@ pub(crate) fn expanded(
 fn put_word(
     alloc: Global,
     case: &mut Vec<u8>,
-    named: &[Named<'_>],
+    named: &[Named],
     word: &str,
 ) -> Result<(), AllocError> {
     if let Some((times, text)) = word.split_once('*') {
@@ -44,7 +45,7 @@ fn put_word(
         return Ok(());
     }
     for text in named {
-        if text.name == word {
+        if text.file.as_str().rsplit('/').next() == Some(word) {
             case.extend_from_slice(text.text.as_bytes())?;
         }
     }

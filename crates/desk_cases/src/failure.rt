@@ -8,7 +8,7 @@ use store_core::StoreFault;
 use wire_core::WordsFault;
 
 /// Why the cases end.
-#[derive(Drop)]
+#[derive(Debug, Drop)]
 pub enum Failure {
     Io(io::Error),
     /// Memory was refused.

@@ -1,11 +1,9 @@
-//! Cases of the crates below the desk:
+//! Cases of the crates below the desk, by the part that they have:
 //!
-//! - `calls`, of text_core, lifecycle_core and desk_words;
+//! - `calls`, of text_core, lifecycle_core, desk_words and the words of the program;
 //! - `hours`, of calendars and moments;
 //! - `people`, of persons, groups and grants;
-//! - `settings`, of texts and what they are read as.
-//!
-//! Each part says in its module how a case stands there. A name that is none ends all.
+//! - `settings` and `questions`, of texts and what they are read as.
 
 mod calls;
 mod hours;
@@ -14,15 +12,21 @@ mod questions;
 mod settings;
 mod spelling;
 
+use crate::cases::{part_of, part_or_none};
 use crate::failure::Failure;
+use std::alloc::Global;
 
-/// Runs the cases of the part of that name.
-pub(crate) fn run_part(rt: &HostRuntime, name: &str, cases: &str) -> Result<(), Failure> {
-    match name {
-        "calls" => Ok(calls::run(rt, cases)?),
-        "hours" => hours::run(rt, cases),
-        "people" => people::run(rt, cases),
-        "settings" => Ok(settings::run(rt, cases)?),
-        _ => Err(Failure::BadLine),
+/// Adds what comes of a case that has one of these parts.
+pub(crate) fn run_case(alloc: Global, out: &mut String, text: &str) -> Result<(), Failure> {
+    if let Some(lines) = part_of(text, "calls") {
+        return calls::run_case(alloc, out, lines);
     }
+    if let Some(lines) = part_of(text, "hours") {
+        return hours::run_case(alloc, out, lines);
+    }
+    if let Some(lines) = part_of(text, "people") {
+        return people::run_case(alloc, out, lines);
+    }
+    let settings = part_of(text, "settings").ok_or(Failure::BadLine)?;
+    settings::run_case(alloc, out, settings, part_or_none(text, "questions"))
 }

@@ -15,29 +15,41 @@ const LIMITS: u32 = 17;
 /// line for each limit tells whether all answers and the rows that are left are those of the
 /// course, and the last ones whether some command was `Unavailable` under the least limit, and
 /// under the greatest.
-pub(crate) fn run(rt: &HostRuntime, course: &Course<'_>) -> Result<(), Failure> {
+pub(crate) fn run(alloc: Global, out: &mut String, course: &Course<'_>) -> Result<(), Failure> {
     let mut limit = 1u32;
     let mut least = None;
     let mut greatest = None;
     for _ in 0..LIMITS {
-        let count = unavailable(rt.alloc(), course, limit)?;
+        let count = unavailable(alloc, course, limit)?;
         let told = if count.is_some() { "ok" } else { "wrong" };
-        println!(rt; "  {limit}: {told}")?;
+        writeln!(out, "  {limit}: {told}")?;
         least = least.or(count);
         greatest = count;
         limit = limit.saturating_mul(2);
     }
-    tell(rt, "least", least)?;
-    tell(rt, "greatest", greatest)
+    tell(out, "least", least)?;
+    tell(out, "greatest", greatest)
 }
 
-fn tell(rt: &HostRuntime, which: &str, count: Option<u32>) -> Result<(), Failure> {
+/// Tells whether a limit of no step is as one of one step.
+pub(crate) fn run_without(
+    alloc: Global,
+    out: &mut String,
+    course: &Course<'_>,
+) -> Result<(), Failure> {
+    let none = unavailable(alloc, course, 0)?;
+    let one = unavailable(alloc, course, 1)?;
+    writeln!(out, "  as under one step: {}", none == one && one.is_some())?;
+    Ok(())
+}
+
+fn tell(out: &mut String, which: &str, count: Option<u32>) -> Result<(), Failure> {
     let told = match count {
         Some(0) => "none",
         Some(_) => "some",
         None => "wrong",
     };
-    println!(rt; "  Unavailable under the {which}: {told}")?;
+    writeln!(out, "  Unavailable under the {which}: {told}")?;
     Ok(())
 }
 

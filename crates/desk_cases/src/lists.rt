@@ -1,6 +1,5 @@
 //! What is read of a store: a line for the call, and one for each row.
 
-use crate::asks::command_of;
 use crate::changes::number;
 use crate::failure::Failure;
 use crate::stores::tell;
@@ -8,6 +7,7 @@ use desk_core::{
     Command, Entry, Facts, LinkKind, LinkRow, QueueRow, RequestRow, Turn, WatchRole, Watcher,
 };
 use hours_core::Stay;
+use std::alloc::Global;
 use store_core::{Backend, Store, StoreFault};
 use text_core::Text;
 
@@ -16,33 +16,34 @@ const NONE: &str = "-";
 
 /// A row, which is written as a line.
 pub(crate) trait Line {
-    fn put(&self, rt: &HostRuntime) -> Result<(), Failure>;
+    fn put(&self, out: &mut String) -> Result<(), Failure>;
 }
 
 /// Writes a call with the rows that it read, a line each, or with its fault.
 pub(crate) fn tell_rows<T: Line + Drop>(
-    rt: &HostRuntime,
+    out: &mut String,
     line: &str,
     read: Result<Vec<T>, StoreFault>,
 ) -> Result<(), Failure> {
     match read {
-        Ok(rows) => put_rows(rt, line, rows.as_slice()),
-        Err(fault) => tell(rt, line, Err(fault)),
+        Ok(rows) => put_rows(out, line, rows.as_slice()),
+        Err(fault) => tell(out, line, Err(fault)),
     }
 }
 
-fn put_rows<T: Line>(rt: &HostRuntime, line: &str, rows: &[T]) -> Result<(), Failure> {
-    println!(rt; "{line}:")?;
+fn put_rows<T: Line>(out: &mut String, line: &str, rows: &[T]) -> Result<(), Failure> {
+    writeln!(out, "{line}:")?;
     for row in rows {
-        row.put(rt)?;
+        row.put(out)?;
     }
     Ok(())
 }
 
 impl Line for QueueRow {
-    fn put(&self, rt: &HostRuntime) -> Result<(), Failure> {
+    fn put(&self, out: &mut String) -> Result<(), Failure> {
         let level = optional(&self.level);
-        println!(rt;
+        writeln!(
+            out,
             "  {} {} {level}",
             self.name.as_str(),
             self.lifecycle.as_str()
@@ -52,7 +53,7 @@ impl Line for QueueRow {
 }
 
 impl Line for RequestRow {
-    fn put(&self, rt: &HostRuntime) -> Result<(), Failure> {
+    fn put(&self, out: &mut String) -> Result<(), Failure> {
         let id = self.id;
         let queue = self.queue.as_str();
         let status = self.status.as_str();
@@ -60,45 +61,58 @@ impl Line for RequestRow {
         let level = optional(&self.level);
         let turn = turn(self.turn);
         let since = self.since.get();
-        println!(rt; "  {id} {queue} {status} {owner} {level} {turn} {since}")?;
+        write!(
+            out,
+            "  {id} {queue} {status} {owner} {level} {turn} {since}"
+        )?;
+        let created = self.created.get();
+        let opened = self.opened.get();
+        writeln!(out, " | {created} {opened} {}", self.subject.as_str())?;
         Ok(())
     }
 }
 
 impl Line for Watcher {
-    fn put(&self, rt: &HostRuntime) -> Result<(), Failure> {
+    fn put(&self, out: &mut String) -> Result<(), Failure> {
         let id = self.id;
         let role = role(self.role);
-        println!(rt; "  {id} {role} {}", self.person.as_str())?;
+        writeln!(out, "  {id} {role} {}", self.person.as_str())?;
         Ok(())
     }
 }
 
 impl Line for LinkRow {
-    fn put(&self, rt: &HostRuntime) -> Result<(), Failure> {
+    fn put(&self, out: &mut String) -> Result<(), Failure> {
         let source = self.source;
         let kind = kind(self.kind);
         let target = self.target;
-        println!(rt; "  {source} {kind} {target}")?;
+        writeln!(out, "  {source} {kind} {target}")?;
         Ok(())
     }
 }
 
 impl Line for Entry {
-    fn put(&self, rt: &HostRuntime) -> Result<(), Failure> {
+    fn put(&self, out: &mut String) -> Result<(), Failure> {
         let number = self.number;
-        println!(rt; "  {number} {} {}", self.actor.as_str(), self.body.as_str())?;
+        write!(
+            out,
+            "  {number} {} {}",
+            self.actor.as_str(),
+            self.body.as_str()
+        )?;
+        let moment = self.moment.get();
+        writeln!(out, " | {moment} {:?} {}", self.kind, self.head.as_str())?;
         Ok(())
     }
 }
 
 impl Line for Stay {
-    fn put(&self, rt: &HostRuntime) -> Result<(), Failure> {
+    fn put(&self, out: &mut String) -> Result<(), Failure> {
         let status = self.status.as_str();
         let from = self.from.get();
         match self.until {
-            Some(until) => println!(rt; "  {status} {from} {}", until.get())?,
-            None => println!(rt; "  {status} {from} {NONE}")?,
+            Some(until) => writeln!(out, "  {status} {from} {}", until.get())?,
+            None => writeln!(out, "  {status} {from} {NONE}")?,
         }
         Ok(())
     }
@@ -106,84 +120,58 @@ impl Line for Stay {
 
 /// The requests, or those of a queue.
 pub fn requests<S: Backend>(
-    rt: &HostRuntime,
+    alloc: Global,
+    out: &mut String,
     line: &str,
     store: &mut Store<S>,
     queue: &str,
 ) -> Result<(), Failure> {
     if queue.is_empty() {
-        return tell_rows(rt, line, store.requests(rt.alloc()));
+        return tell_rows(out, line, store.requests(alloc));
     }
-    let queue = Text::new(rt.alloc(), queue)?;
-    tell_rows(rt, line, store.requests_of(rt.alloc(), &queue))
-}
-
-/// The entries of a request.
-pub fn entries<S: Backend>(
-    rt: &HostRuntime,
-    line: &str,
-    store: &mut Store<S>,
-    id: &str,
-) -> Result<(), Failure> {
-    tell_rows(rt, line, store.entries_of(rt.alloc(), number(id)?))
-}
-
-/// The stays of a request in its statuses.
-pub fn stays<S: Backend>(
-    rt: &HostRuntime,
-    line: &str,
-    store: &mut Store<S>,
-    id: &str,
-) -> Result<(), Failure> {
-    tell_rows(rt, line, store.stays_of(rt.alloc(), number(id)?))
+    let queue = Text::new(alloc, queue)?;
+    tell_rows(out, line, store.requests_of(alloc, &queue))
 }
 
 /// What a move of a request looks at: its status, how many entries it has, and the statuses of what
 /// it depends on.
 pub fn facts<S: Backend>(
-    rt: &HostRuntime,
+    alloc: Global,
+    out: &mut String,
     line: &str,
     store: &mut Store<S>,
     id: &str,
 ) -> Result<(), Failure> {
     let command = Command::SetStatus {
         id: number(id)?,
-        status: Text::new(rt.alloc(), "resolved")?,
+        status: Text::new(alloc, "resolved")?,
     };
-    tell_facts(rt, line, store, &command)
+    tell_facts(alloc, out, line, store, &command)
 }
 
-/// The same of what the command looks at that the words spell.
-pub fn facts_for<S: Backend>(
-    rt: &HostRuntime,
-    line: &str,
-    store: &mut Store<S>,
-    words: &str,
-) -> Result<(), Failure> {
-    let command = command_of(rt.alloc(), words)?;
-    tell_facts(rt, line, store, &command)
-}
-
-fn tell_facts<S: Backend>(
-    rt: &HostRuntime,
+/// The same of what the command looks at.
+pub(crate) fn tell_facts<S: Backend>(
+    alloc: Global,
+    out: &mut String,
     line: &str,
     store: &mut Store<S>,
     command: &Command,
 ) -> Result<(), Failure> {
-    match store.facts_for(rt.alloc(), command) {
-        Ok(facts) => seen(rt, line, &facts),
-        Err(fault) => tell(rt, line, Err(fault)),
+    match store.facts_for(alloc, command) {
+        Ok(facts) => seen(out, line, &facts),
+        Err(fault) => tell(out, line, Err(fault)),
     }
 }
 
-fn seen(rt: &HostRuntime, line: &str, facts: &Facts) -> Result<(), Failure> {
-    println!(rt; "{line}:")?;
+fn seen(out: &mut String, line: &str, facts: &Facts) -> Result<(), Failure> {
+    writeln!(out, "{line}:")?;
     if let Some(request) = &facts.request {
         let count = request.entry_count;
-        println!(rt; "  {} {count}", request.row.status.as_str())?;
+        writeln!(out, "  {} {count}", request.row.status.as_str())?;
     }
     for dependency in facts.dependencies.as_slice() {
-        println!(rt;
+        writeln!(
+            out,
             "  {} {}",
             dependency.lifecycle.as_str(),
             dependency.status.as_str()

@@ -2,18 +2,30 @@
 
 use crate::asks::asks_of;
 use crate::calls::execute_all;
+use crate::cases::{part_of, part_or_none};
 use crate::changes::number;
-use crate::desks::attached;
+use crate::desks::{COMMANDS, attached};
+use crate::each;
 use crate::expansion::{Named, expanded};
 use crate::failure::Failure;
 use crate::served::{LEFT, Manner, Sent, served};
-use crate::{ASKED, COMMANDS, each};
 use service_core::Desk;
 use std::alloc::Global;
 use store_core::Backend;
 
 /// What begins a message, before its moment.
-pub(crate) const BEGIN: &str = "\n> ";
+const BEGIN: &str = "> ";
+
+/// What begins a message after another one.
+const NEXT: &str = "\n> ";
+
+/// The tables, settings and commands that messages find.
+#[derive(Clone, Copy)]
+pub(crate) struct Before<'b> {
+    pub(crate) tables: &'b str,
+    pub(crate) settings: &'b str,
+    pub(crate) commands: &'b str,
+}
 
 /// Serves the messages of a case in each of three manners, each over a desk of its own: one after
 /// the other, the same a byte at a time, and all in a list. The replies are written as the first
@@ -21,41 +33,65 @@ pub(crate) const BEGIN: &str = "\n> ";
 /// the same. Where lines name other manners, the replies of each are written in place of that.
 pub(crate) fn run_case(
     rt: &HostRuntime,
-    named: &[Named<'_>],
+    out: &mut String,
+    named: &[Named],
     text: &str,
+    messages: &str,
+) -> Result<(), Failure> {
+    let tables = expanded(rt.alloc(), named, part_or_none(text, "tables"))?;
+    let desk = expanded(rt.alloc(), named, part_or_none(text, "desk"))?;
+    let desk = str::from_utf8(desk.as_slice()).unwrap_or("");
+    let (settings, commands) = desk.split_once(COMMANDS).ok_or(Failure::BadLine)?;
+    let before = Before {
+        tables: str::from_utf8(tables.as_slice()).unwrap_or(""),
+        settings,
+        commands,
+    };
+    let sent = sent_in(rt.alloc(), named, messages)?;
+    match part_of(text, "manners") {
+        Some(manners) => serve_by_each(rt, out, before, sent.as_slice(), manners),
+        None => serve_alike(rt, out, before, sent.as_slice()),
+    }
+}
+
+fn serve_by_each(
+    rt: &HostRuntime,
+    out: &mut String,
+    before: Before<'_>,
+    sent: &[Sent],
     manners: &str,
 ) -> Result<(), Failure> {
-    let (before, messages) = text.split_once(BEGIN).ok_or(Failure::BadLine)?;
-    let before = expanded(rt.alloc(), named, before)?;
-    let sent = sent_in(rt.alloc(), named, messages)?;
-    let before = str::from_utf8(before.as_slice()).unwrap_or("");
-    if manners.is_empty() {
-        return serve_alike(rt, before, sent.as_slice());
-    }
     for line in manners.lines() {
-        println!(rt; "{line}")?;
-        serve_by(rt, before, sent.as_slice(), line)?;
+        writeln!(out, "{line}")?;
+        serve_by(rt, out, before, sent, line)?;
     }
     Ok(())
 }
 
 /// Serves the messages as the line states it.
-fn serve_by(rt: &HostRuntime, before: &str, sent: &[Sent], line: &str) -> Result<(), Failure> {
+fn serve_by(
+    rt: &HostRuntime,
+    out: &mut String,
+    before: Before<'_>,
+    sent: &[Sent],
+    line: &str,
+) -> Result<(), Failure> {
     match line {
-        "each_read_fails" => each::reads(rt, before, sent),
-        "each_write_fails" => each::writes(rt, before, sent),
+        "each_read_fails" => each::reads(rt, out, before, sent),
+        "each_write_fails" => each::writes(rt, out, before, sent),
         _ => {
             let text = replies(rt, before, sent, manner_of(line)?)?;
-            print!(rt; "{}", str::from_utf8(text.as_slice()).unwrap_or(""))?;
+            out.push_str(str::from_utf8(text.as_slice()).unwrap_or(""))?;
             Ok(())
         }
     }
 }
 
 /// The messages of a case.
-fn sent_in(alloc: Global, named: &[Named<'_>], messages: &str) -> Result<Vec<Sent>, Failure> {
+fn sent_in(alloc: Global, named: &[Named], messages: &str) -> Result<Vec<Sent>, Failure> {
     let mut sent = Vec::new(alloc);
-    for message in messages.strip_suffix("\n").unwrap_or(messages).split(BEGIN) {
+    let messages = messages.strip_prefix(BEGIN).ok_or(Failure::BadLine)?;
+    for message in messages.strip_suffix("\n").unwrap_or(messages).split(NEXT) {
         let (moment, text) = message.split_once('\n').ok_or(Failure::BadLine)?;
         let moment = number(moment)?;
         let text = expanded(alloc, named, text)?;
@@ -78,33 +114,37 @@ fn with_returns(alloc: Global, text: &[u8]) -> Result<Vec<u8>, Failure> {
     Ok(bytes)
 }
 
-fn serve_alike(rt: &HostRuntime, before: &str, sent: &[Sent]) -> Result<(), Failure> {
+fn serve_alike(
+    rt: &HostRuntime,
+    out: &mut String,
+    before: Before<'_>,
+    sent: &[Sent],
+) -> Result<(), Failure> {
     let whole = replies(rt, before, sent, Manner::Whole)?;
     let bytes = replies(rt, before, sent, Manner::BYTES)?;
     let list = replies(rt, before, sent, Manner::List)?;
-    print!(rt; "{}", str::from_utf8(whole.as_slice()).unwrap_or(""))?;
+    out.push_str(str::from_utf8(whole.as_slice()).unwrap_or(""))?;
     let alike = whole.as_slice() == bytes.as_slice();
-    println!(rt;
-        "a byte at a time: {}",
-        if alike { "same" } else { "differs" }
-    )?;
+    writeln!(out, "a byte at a time: {}", same_or_not(alike))?;
     let rest = whole.as_slice().strip_prefix(list.as_slice());
     let alike = rest.unwrap_or(&[]).starts_with(LEFT);
-    println!(rt; "in a list: {}", if alike { "same" } else { "differs" })?;
+    writeln!(out, "in a list: {}", same_or_not(alike))?;
     Ok(())
+}
+
+fn same_or_not(alike: bool) -> &'static str {
+    if alike { "same" } else { "differs" }
 }
 
 /// The replies to messages over a desk of their own.
 pub(crate) fn replies(
     rt: &HostRuntime,
-    before: &str,
+    before: Before<'_>,
     sent: &[Sent],
     manner: Manner,
 ) -> Result<Vec<u8>, Failure> {
-    let (statements, asked) = before.split_once(ASKED).ok_or(Failure::BadLine)?;
-    let (settings, commands) = asked.split_once(COMMANDS).ok_or(Failure::BadLine)?;
-    let mut desk = attached(rt.alloc(), statements, settings)?;
-    let replies = served_after(rt, commands, sent, manner, &mut desk);
+    let mut desk = attached(rt.alloc(), before.tables, before.settings)?;
+    let replies = served_after(rt, before.commands, sent, manner, &mut desk);
     drop(desk);
     replies
 }

@@ -10,13 +10,18 @@ use std::alloc::Global;
 use store_core::{Backend, Store};
 
 /// Opens such files, and tells that they are refused, or what is found.
-pub(crate) fn run(rt: &HostRuntime, course: &Course<'_>, words: &str) -> Result<(), Failure> {
-    let way = way_of(rt.alloc(), course)?;
-    let disks = spoiled(rt.alloc(), &way, words)?;
-    match found_on(rt.alloc(), &way, disks) {
-        Found::Refused => println!(rt; "  refused")?,
-        Found::Other => println!(rt; "  other rows")?,
-        Found::After(count) => println!(rt; "  found: {count}")?,
+pub(crate) fn run(
+    alloc: Global,
+    out: &mut String,
+    course: &Course<'_>,
+    words: &str,
+) -> Result<(), Failure> {
+    let way = way_of(alloc, course)?;
+    let disks = spoiled(alloc, &way, words)?;
+    match found_on(alloc, &way, disks) {
+        Found::Refused => writeln!(out, "  refused")?,
+        Found::Other => writeln!(out, "  other rows")?,
+        Found::After(count) => writeln!(out, "  found: {count}")?,
     }
     Ok(())
 }

@@ -22,18 +22,23 @@ pub(crate) struct Stop {
 /// the files are opened again. What is found then are the tables after the commands that were
 /// answered, or after one more, and the others go on from there to their answers and rows; else it
 /// is wrong. A line is written wherever the number of commands that are found isn't that of the stop
-/// before, and at the end how many calls there are.
-pub(crate) fn run(rt: &HostRuntime, course: &Course<'_>, stop: Stop) -> Result<(), Failure> {
-    let way = way_of(rt.alloc(), course)?;
+/// before, and at the end whether there are calls.
+pub(crate) fn run(
+    alloc: Global,
+    out: &mut String,
+    course: &Course<'_>,
+    stop: Stop,
+) -> Result<(), Failure> {
+    let way = way_of(alloc, course)?;
     let count = course.asks.len();
     let mut last = None;
     for calls in 0..MOST {
-        let (answered, found) = stopped(rt.alloc(), &way, stop, calls)?;
+        let (answered, found) = stopped(alloc, &way, stop, calls)?;
         if found.is_none() || found != last {
-            tell(rt, calls, found)?;
+            tell(out, calls, found)?;
         }
         if answered == Some(count) {
-            println!(rt; "  calls: {calls}")?;
+            writeln!(out, "  calls: {}", some_or_none(calls))?;
             return Ok(());
         }
         last = found;
@@ -41,10 +46,14 @@ pub(crate) fn run(rt: &HostRuntime, course: &Course<'_>, stop: Stop) -> Result<(
     Err(Failure::BadLine)
 }
 
-fn tell(rt: &HostRuntime, calls: u64, found: Option<usize>) -> Result<(), Failure> {
+fn some_or_none(calls: u64) -> &'static str {
+    if calls > 0 { "some" } else { "none" }
+}
+
+fn tell(out: &mut String, calls: u64, found: Option<usize>) -> Result<(), Failure> {
     match found {
-        Some(count) => println!(rt; "  found: {count}")?,
-        None => println!(rt; "  wrong after {calls} calls")?,
+        Some(count) => writeln!(out, "  found: {count}")?,
+        None => writeln!(out, "  wrong after {calls} calls")?,
     }
     Ok(())
 }
@@ -78,6 +87,20 @@ fn found_after(answered: Option<usize>, found: Found) -> Option<usize> {
 }
 
 impl Stop {
+    pub(crate) fn log(loses: bool) -> Stop {
+        Stop {
+            is_log: true,
+            loses,
+        }
+    }
+
+    pub(crate) fn tables(loses: bool) -> Stop {
+        Stop {
+            is_log: false,
+            loses,
+        }
+    }
+
     /// Files with these tables, one of which stops after so many calls.
     fn disks(self, alloc: Global, tables: &[u8], calls: u64) -> Result<Disks, Failure> {
         if self.is_log {

@@ -1,9 +1,12 @@
 //! Cases of a store: its calls.
 
+use crate::answers::{Answering, answer_lines};
+use crate::asks::command_of;
 use crate::changes::{change_of, number};
 use crate::dues;
 use crate::failure::Failure;
-use crate::lists::{entries, facts, facts_for, requests, stays, tell_rows};
+use crate::lists::{facts, requests, tell_facts, tell_rows};
+use crate::queries::ask_database;
 use desk_core::Change;
 use desk_model::stays::stays_after;
 use hours_core::Stay;
@@ -12,13 +15,19 @@ use std::alloc::Global;
 use store_core::{Backend, Store, StoreFault};
 use text_core::Sequence;
 
-/// Answers each call of a store over the tables.
-pub(crate) fn run_case(rt: &HostRuntime, statements: &str, calls: &str) -> Result<(), Failure> {
-    let mut store = opened(rt.alloc(), statements)?;
-    for line in calls.lines() {
-        answer(rt, &mut store, line)?;
-    }
-    Ok(())
+/// Answers each call of a store over the tables. Then the queries are asked of them.
+pub(crate) fn run_case(
+    alloc: Global,
+    out: &mut String,
+    statements: &str,
+    calls: &str,
+    queries: &str,
+) -> Result<(), Failure> {
+    let mut store = opened(alloc, statements)?;
+    let answered = answer_lines(alloc, out, &mut store, calls);
+    let asked = ask_database(out, store.release(), queries);
+    answered?;
+    asked
 }
 
 /// A store without tables, or with those that the statements make.
@@ -39,36 +48,38 @@ pub(crate) fn adopted(alloc: Global, statements: &str) -> Result<Store<MemStore>
     Ok(Store::adopt(conn))
 }
 
-/// Writes a call with its answer.
-fn answer<S: Backend>(rt: &HostRuntime, store: &mut Store<S>, line: &str) -> Result<(), Failure> {
-    let (call, rest) = line.split_once(' ').unwrap_or((line, ""));
-    match call {
-        "queues" => tell_rows(rt, line, store.queues(rt.alloc())),
-        "requests" => requests(rt, line, store, rest),
-        "watchers" => tell_rows(rt, line, store.watchers(rt.alloc())),
-        "links" => tell_rows(rt, line, store.links(rt.alloc())),
-        "entries" => entries(rt, line, store, rest),
-        "stays" => stays(rt, line, store, rest),
-        "dues" => tell_rows(rt, line, store.dated_requests(rt.alloc())),
-        _ => answer_on_some(rt, store, line, call, rest),
+impl<S: Backend> Answering for Store<S> {
+    fn answer(&mut self, alloc: Global, out: &mut String, line: &str) -> Result<(), Failure> {
+        let (call, rest) = line.split_once(' ').unwrap_or((line, ""));
+        match call {
+            "queues" => tell_rows(out, line, self.queues(alloc)),
+            "requests" => requests(alloc, out, line, self, rest),
+            "watchers" => tell_rows(out, line, self.watchers(alloc)),
+            "links" => tell_rows(out, line, self.links(alloc)),
+            "entries" => tell_rows(out, line, self.entries_of(alloc, number(rest)?)),
+            "stays" => tell_rows(out, line, self.stays_of(alloc, number(rest)?)),
+            "dues" => tell_rows(out, line, self.dated_requests(alloc)),
+            _ => answer_on_some(alloc, out, self, line, call, rest),
+        }
     }
 }
 
 /// Writes a call that reads some rows, with its answer.
 fn answer_on_some<S: Backend>(
-    rt: &HostRuntime,
+    alloc: Global,
+    out: &mut String,
     store: &mut Store<S>,
     line: &str,
     call: &str,
     rest: &str,
 ) -> Result<(), Failure> {
     match call {
-        "version" => version(rt, line, store),
-        "links_from" => tell_rows(rt, line, store.links_from(rt.alloc(), number(rest)?)),
-        "links_to" => tell_rows(rt, line, store.links_to(rt.alloc(), number(rest)?)),
-        "facts" => facts(rt, line, store, rest),
-        "facts_for" => facts_for(rt, line, store, rest),
-        _ => tell(rt, line, written(rt.alloc(), store, call, rest)?),
+        "version" => version(out, line, store),
+        "links_from" => tell_rows(out, line, store.links_from(alloc, number(rest)?)),
+        "links_to" => tell_rows(out, line, store.links_to(alloc, number(rest)?)),
+        "facts" => facts(alloc, out, line, store, rest),
+        "facts_for" => tell_facts(alloc, out, line, store, &command_of(alloc, rest)?),
+        _ => tell(out, line, written(alloc, store, call, rest)?),
     }
 }
 
@@ -127,28 +138,28 @@ fn stays_with<S: Backend>(
     Ok(Sequence::from(stays_after(before, entries)?))
 }
 
-fn version<S: Backend>(rt: &HostRuntime, line: &str, store: &mut Store<S>) -> Result<(), Failure> {
+fn version<S: Backend>(out: &mut String, line: &str, store: &mut Store<S>) -> Result<(), Failure> {
     match store.version() {
         Ok(version) => {
-            println!(rt; "{line}: {version}")?;
+            writeln!(out, "{line}: {version}")?;
             Ok(())
         }
-        Err(fault) => tell(rt, line, Err(fault)),
+        Err(fault) => tell(out, line, Err(fault)),
     }
 }
 
 /// Writes a call, and whether it was done.
 pub(crate) fn tell(
-    rt: &HostRuntime,
+    out: &mut String,
     line: &str,
     done: Result<(), StoreFault>,
 ) -> Result<(), Failure> {
     match done {
-        Ok(()) => println!(rt; "{line}: ok")?,
+        Ok(()) => writeln!(out, "{line}: ok")?,
         Err(fault) => {
             let number = fault.number();
             let name = fault.name();
-            println!(rt; "{line}: {number} {name}")?;
+            writeln!(out, "{line}: {number} {name}")?;
         }
     }
     Ok(())

@@ -3,7 +3,6 @@
 //! What owns much is given back by `drop`, whose proof stands once; at the end of its scope it
 //! would be taken apart for each function's own proof.
 
-use crate::ASKED;
 use crate::calls::{Outcome, Reply, execute_all, serve_all};
 use crate::changes::number;
 use crate::desks::attached;
@@ -12,9 +11,6 @@ use crate::lots::{Drawn, Urn, draw, urn_of};
 use service_core::outcome_text;
 use std::alloc::{AllocError, Global};
 use wire_core::ServeFault;
-
-/// What stands between settings and the lines of which lists are made.
-pub(crate) const LOTS: &str = "@@\n";
 
 /// What came of all commands.
 #[derive(Drop)]
@@ -33,13 +29,17 @@ struct Tally {
 /// new desk at once, and of another new desk by messages. It is written how often each line was
 /// accepted, how often each refusal came, how many replies had another text, and how many texts and
 /// replies found no memory.
-pub(crate) fn run_case(rt: &HostRuntime, case: &str, counts: &str) -> Result<(), Failure> {
-    let (_, asked) = case.split_once(ASKED).ok_or(Failure::BadLine)?;
-    let (settings, lines) = asked.split_once(LOTS).ok_or(Failure::BadLine)?;
+pub(crate) fn run_case(
+    alloc: Global,
+    out: &mut String,
+    settings: &str,
+    lines: &str,
+    counts: &str,
+) -> Result<(), Failure> {
     let (lists, count) = counts.trim_end().split_once(' ').ok_or(Failure::BadLine)?;
-    let urn = urn_of(rt.alloc(), lines)?;
-    let tally = counted(rt.alloc(), settings, &urn, number(lists)?, number(count)?)?;
-    tell(rt, &urn, &tally)
+    let urn = urn_of(alloc, lines)?;
+    let tally = counted(alloc, settings, &urn, number(lists)?, number(count)?)?;
+    Ok(tell(out, &urn, &tally)?)
 }
 
 fn counted(
@@ -147,20 +147,14 @@ fn is_reply(alloc: Global, outcome: &Outcome, reply: Option<&Reply>) -> Result<b
     })
 }
 
-fn tell(rt: &HostRuntime, urn: &Urn<'_>, tally: &Tally) -> Result<(), Failure> {
+fn tell(out: &mut String, urn: &Urn<'_>, tally: &Tally) -> Result<(), AllocError> {
     for (line, count) in urn.lines.iter().zip(tally.accepted.iter()) {
-        tell_accepted(rt, line, *count)?;
+        let (words, _) = line.split_once('|').unwrap_or((*line, ""));
+        writeln!(out, "accepted {}: {words}", *count)?;
     }
     for (number, count) in tally.refused.iter().enumerate().skip(1) {
-        println!(rt; "refused {number}: {}", *count)?;
+        writeln!(out, "refused {number}: {}", *count)?;
     }
-    println!(rt; "replies with another text: {}", tally.differ)?;
-    println!(rt; "texts and replies without memory: {}", tally.lacking)?;
-    Ok(())
-}
-
-fn tell_accepted(rt: &HostRuntime, line: &str, count: u32) -> Result<(), Failure> {
-    let (words, _) = line.split_once('|').unwrap_or((line, ""));
-    println!(rt; "accepted {count}: {words}")?;
-    Ok(())
+    writeln!(out, "replies with another text: {}", tally.differ)?;
+    writeln!(out, "texts and replies without memory: {}", tally.lacking)
 }

@@ -3,73 +3,61 @@
 use crate::asks::Ask;
 use crate::calls::{Outcome, execute_all};
 use crate::failure::Failure;
-use service_core::{AttachFault, Desk, answer_text, refusal_text};
-use std::alloc::Global;
+use service_core::{AttachFault, Desk, outcome_text};
+use std::alloc::{AllocError, Global};
 use store_core::{Backend, Store, StoreFault};
 
 /// Writes that the settings are attached and what comes of each command, all asked at once.
 pub(crate) fn tell_run<S: Backend>(
-    rt: &HostRuntime,
+    alloc: Global,
+    out: &mut String,
     desk: &mut Desk<S>,
     asks: &[Ask],
 ) -> Result<(), Failure> {
     let room = desk.settings().max_requests();
-    println!(rt; "attach: ok, room for {room} requests")?;
-    let outcomes = execute_all(rt.alloc(), desk, asks)?;
-    tell_outcomes(rt, outcomes.as_slice())
+    writeln!(out, "attach: ok, room for {room} requests")?;
+    let outcomes = execute_all(alloc, desk, asks)?;
+    Ok(tell_outcomes(alloc, out, outcomes.as_slice())?)
 }
 
-fn tell_outcomes(rt: &HostRuntime, outcomes: &[Outcome]) -> Result<(), Failure> {
+fn tell_outcomes(alloc: Global, out: &mut String, outcomes: &[Outcome]) -> Result<(), AllocError> {
     for outcome in outcomes {
-        tell_outcome(rt, outcome)?;
+        out.push_str(outcome_text(alloc, outcome)?.as_str())?;
     }
     Ok(())
-}
-
-fn tell_outcome(rt: &HostRuntime, outcome: &Outcome) -> Result<(), Failure> {
-    let text = text_of(rt.alloc(), outcome)?;
-    print!(rt; "{}", text.as_str())?;
-    Ok(())
-}
-
-/// The text of what came of a command.
-pub(crate) fn text_of(alloc: Global, outcome: &Outcome) -> Result<String, Failure> {
-    match outcome {
-        Ok(answer) => Ok(answer_text(alloc, answer)?),
-        Err(refusal) => Ok(refusal_text(alloc, refusal)?),
-    }
 }
 
 /// Writes why the settings can't be attached, and how many rows the store lists that is given back.
 pub(crate) fn tell_given_back<S: Backend>(
-    rt: &HostRuntime,
+    alloc: Global,
+    out: &mut String,
     fault: AttachFault,
     store: &mut Store<S>,
 ) -> Result<(), Failure> {
     let number = fault.number();
     let name = fault.name();
-    println!(rt; "attach: {number} {name}")?;
-    tell_count(rt, "queues", store.queues(rt.alloc()))?;
-    tell_count(rt, "requests", store.requests(rt.alloc()))?;
-    tell_count(rt, "watchers", store.watchers(rt.alloc()))?;
-    tell_count(rt, "entries of 1", store.entries_of(rt.alloc(), 1))
+    writeln!(out, "attach: {number} {name}")?;
+    tell_count(out, "queues", store.queues(alloc))?;
+    tell_count(out, "requests", store.requests(alloc))?;
+    tell_count(out, "watchers", store.watchers(alloc))?;
+    tell_count(out, "entries of 1", store.entries_of(alloc, 1))
 }
 
 /// Writes how many rows were read, or why they weren't.
 fn tell_count<T: Drop>(
-    rt: &HostRuntime,
+    out: &mut String,
     call: &str,
     read: Result<Vec<T>, StoreFault>,
 ) -> Result<(), Failure> {
     match read {
         Ok(rows) => {
             let count = rows.len();
-            println!(rt; "{call}: {count}")?;
+            writeln!(out, "{call}: {count}")?;
         }
         Err(fault) => {
             let number = fault.number();
             let name = fault.name();
-            println!(rt; "{call}: {number} {name}")?;
+            writeln!(out, "{call}: {number} {name}")?;
         }
     }
     Ok(())

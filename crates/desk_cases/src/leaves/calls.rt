@@ -8,44 +8,46 @@
 
 mod forms;
 mod lifecycles;
+mod options;
 mod words;
 
+use crate::answers::{Answering, answer_lines};
+use crate::failure::Failure;
 use crate::leaves::calls::forms::form_answer;
 use crate::leaves::calls::lifecycles::lifecycle_answer;
+use crate::leaves::calls::options::{one_command_answer, serving_answer};
 use crate::leaves::calls::words::{command_answer, words_answer};
 use desk_words::words_of;
 use lifecycle_core::Lifecycle;
 use std::alloc::{AllocError, Global};
-use std::io;
 
-/// Writes each line with its answer.
-pub fn run(rt: &HostRuntime, cases: &str) -> io::Result<()> {
-    let mut lifecycle = None;
-    let written = write_answers(rt, cases, &mut lifecycle);
-    drop(lifecycle);
-    written
+/// Adds each line with its answer.
+pub fn run_case(alloc: Global, out: &mut String, lines: &str) -> Result<(), Failure> {
+    let mut asked = Asked { lifecycle: None };
+    let answered = answer_lines(alloc, out, &mut asked, lines);
+    drop(asked);
+    answered
 }
 
-fn write_answers(
-    rt: &HostRuntime,
-    cases: &str,
-    lifecycle: &mut Option<Lifecycle>,
-) -> io::Result<()> {
-    for line in cases.lines() {
-        write_answer(rt, line, lifecycle)?;
+/// The lifecycle that was built last, which questions are about.
+#[derive(Drop)]
+struct Asked {
+    lifecycle: Option<Lifecycle>,
+}
+
+impl Answering for Asked {
+    fn answer(&mut self, alloc: Global, out: &mut String, line: &str) -> Result<(), Failure> {
+        if line.is_empty() || line.starts_with('#') {
+            writeln!(out, "{line}")?;
+            return Ok(());
+        }
+        let answer = answer_to(alloc, &mut self.lifecycle, line)?;
+        writeln!(out, "{line} => {}", answer.as_str())?;
+        Ok(())
     }
-    Ok(())
 }
 
-fn write_answer(rt: &HostRuntime, line: &str, lifecycle: &mut Option<Lifecycle>) -> io::Result<()> {
-    if line.is_empty() || line.starts_with('#') {
-        return println!(rt; "{line}");
-    }
-    let answer = answer_to(rt.alloc(), lifecycle, line)?;
-    println!(rt; "{line} => {answer}")
-}
-
-/// The answer to a line. Questions about a lifecycle are about the one that was built last.
+/// The answer to a line.
 fn answer_to(
     alloc: Global,
     lifecycle: &mut Option<Lifecycle>,
@@ -55,6 +57,8 @@ fn answer_to(
     match call {
         "words" => words_answer(alloc, rest),
         "command" => command_answer(alloc, rest),
+        "serving" => serving_answer(alloc, rest),
+        "one_command" => one_command_answer(alloc, rest),
         _ => called(alloc, lifecycle, call, rest),
     }
 }

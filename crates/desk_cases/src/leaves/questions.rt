@@ -5,44 +5,53 @@ ghost use Rattle.std.specs.Prelude.{◌<◌};
 use hours_core::{Level, Limit, Minute};
 use rights_core::{People, Roles, right};
 use settings_core::Settings;
-use std::alloc::AllocError;
-use std::io;
+use std::alloc::{AllocError, Global};
 
 /// What stands where there is nothing to tell.
 const NONE: &str = "-";
 
 /// Answers a question to settings.
-pub fn ask(rt: &HostRuntime, settings: &Settings, question: &str) -> io::Result<()> {
+pub fn ask(
+    alloc: Global,
+    out: &mut String,
+    settings: &Settings,
+    question: &str,
+) -> Result<(), AllocError> {
     let (word, rest) = cut(question);
     match word {
         "token" => {
             let person = settings.person_of_token(rest).unwrap_or(NONE);
-            println!(rt; "{question}: {person}")
+            writeln!(out, "{question}: {person}")
         }
-        "lifecycle" => lifecycle(rt, settings, question, rest),
-        "move" => moves(rt, settings, question, rest),
-        "open" => open(rt, settings, question, rest),
-        "level" => level(rt, settings, question, rest),
+        "lifecycle" => lifecycle(out, settings, question, rest),
+        "move" => moves(out, settings, question, rest),
+        "open" => open(out, settings, question, rest),
+        "level" => level(out, settings, question, rest),
         "limits" => {
             let requests = settings.max_requests();
             let entries = settings.max_entries();
-            println!(rt; "{question}: {requests} {entries}")
+            writeln!(out, "{question}: {requests} {entries}")
         }
-        _ => ask_people(rt, settings.people(), question),
+        _ => ask_people(alloc, out, settings.people(), question),
     }
 }
 
 /// Answers a question to people, and passes over what is none.
-pub fn ask_people(rt: &HostRuntime, people: &People, question: &str) -> io::Result<()> {
+pub fn ask_people(
+    alloc: Global,
+    out: &mut String,
+    people: &People,
+    question: &str,
+) -> Result<(), AllocError> {
     let (word, rest) = cut(question);
     match word {
         "knows" => {
             let known = people.knows(rest);
-            println!(rt; "{question}: {known}")
+            writeln!(out, "{question}: {known}")
         }
-        "member" => member(rt, people, question, rest),
-        "holds" => holds(rt, people, question, rest),
-        "held" => held(rt, people, question, rest),
+        "member" => member(out, people, question, rest),
+        "holds" => holds(out, people, question, rest),
+        "held" => held(alloc, out, people, question, rest),
         _ => Ok(()),
     }
 }
@@ -53,38 +62,49 @@ fn cut(text: &str) -> (&str, &str) {
 }
 
 /// `member PERSON GROUP`
-fn member(rt: &HostRuntime, people: &People, question: &str, words: &str) -> io::Result<()> {
+fn member(
+    out: &mut String,
+    people: &People,
+    question: &str,
+    words: &str,
+) -> Result<(), AllocError> {
     let (person, group) = cut(words);
     let is_member = people.member(person, group);
-    println!(rt; "{question}: {is_member}")
+    writeln!(out, "{question}: {is_member}")
 }
 
 /// `holds PERSON RIGHT QUEUE [ROLE]`
-fn holds(rt: &HostRuntime, people: &People, question: &str, words: &str) -> io::Result<()> {
+fn holds(out: &mut String, people: &People, question: &str, words: &str) -> Result<(), AllocError> {
     let (person, rest) = cut(words);
     let (right, rest) = cut(rest);
     let (queue, role) = cut(rest);
     let holds = people.holds(person, right, queue, roles(role));
-    println!(rt; "{question}: {holds}")
+    writeln!(out, "{question}: {holds}")
 }
 
 /// `held PERSONS COUNT`: of so many questions about so many persons `p0`, `p1` and so on, the
 /// standard rights and the queues `q0` to `q49`, how many are answered with yes. So one line
 /// measures many calls.
-fn held(rt: &HostRuntime, people: &People, question: &str, words: &str) -> io::Result<()> {
+fn held(
+    alloc: Global,
+    out: &mut String,
+    people: &People,
+    question: &str,
+    words: &str,
+) -> Result<(), AllocError> {
     let (persons, count) = cut(words);
     let persons = persons.parse::<u32>().unwrap_or(0).max(1);
     let mut held = 0_u32;
     for number in 0..count.parse::<u32>().unwrap_or(0) {
-        if holds_in_turn(rt, people, persons, number)? {
+        if holds_in_turn(alloc, people, persons, number)? {
             held = held.saturating_add(1);
         }
     }
-    println!(rt; "{question}: {held}")
+    writeln!(out, "{question}: {held}")
 }
 
 fn holds_in_turn(
-    rt: &impl AllocGlobal,
+    alloc: Global,
     people: &People,
     persons: u32,
     number: u32,
@@ -93,8 +113,8 @@ fn holds_in_turn(
 {
     let person = number % persons;
     let queue = number / 7 % 50;
-    let person = format!(in rt.alloc(); "p{person}")?;
-    let queue = format!(in rt.alloc(); "q{queue}")?;
+    let person = format!(in alloc; "p{person}")?;
+    let queue = format!(in alloc; "q{queue}")?;
     let name = right::STANDARD[(number / 3 % 16) as usize];
     Ok(people.holds(person.as_str(), name, queue.as_str(), Roles::none()))
 }
@@ -110,74 +130,94 @@ fn roles(word: &str) -> Roles {
 }
 
 /// `lifecycle NAME`: the status of a request that is created without one.
-fn lifecycle(rt: &HostRuntime, settings: &Settings, question: &str, name: &str) -> io::Result<()> {
+fn lifecycle(
+    out: &mut String,
+    settings: &Settings,
+    question: &str,
+    name: &str,
+) -> Result<(), AllocError> {
     match settings.lifecycle(name) {
         Some(lifecycle) => {
             let status = lifecycle.on_create();
-            println!(rt; "{question}: {status}")
+            writeln!(out, "{question}: {status}")
         }
-        None => println!(rt; "{question}: {NONE}"),
+        None => writeln!(out, "{question}: {NONE}"),
     }
 }
 
 /// `move LIFECYCLE FROM TO`: whether it is allowed, and the right that it asks for.
-fn moves(rt: &HostRuntime, settings: &Settings, question: &str, words: &str) -> io::Result<()> {
+fn moves(
+    out: &mut String,
+    settings: &Settings,
+    question: &str,
+    words: &str,
+) -> Result<(), AllocError> {
     let (name, rest) = cut(words);
     let (from, to) = cut(rest);
     match settings.lifecycle(name) {
         Some(lifecycle) => {
             let may_move = lifecycle.may_move(from, to);
             let right = lifecycle.right_for(from, to);
-            println!(rt; "{question}: {may_move} {right}")
+            writeln!(out, "{question}: {may_move} {right}")
         }
-        None => println!(rt; "{question}: {NONE}"),
+        None => writeln!(out, "{question}: {NONE}"),
     }
 }
 
 /// `open CALENDAR MINUTE`
-fn open(rt: &HostRuntime, settings: &Settings, question: &str, words: &str) -> io::Result<()> {
+fn open(
+    out: &mut String,
+    settings: &Settings,
+    question: &str,
+    words: &str,
+) -> Result<(), AllocError> {
     let (name, minute) = cut(words);
     let minute = Minute::new(minute.parse().unwrap_or(0));
     match (settings.calendar(name), minute) {
         (Some(calendar), Some(minute)) => {
             let is_open = calendar.is_open(minute);
-            println!(rt; "{question}: {is_open}")
+            writeln!(out, "{question}: {is_open}")
         }
-        _ => println!(rt; "{question}: {NONE}"),
+        _ => writeln!(out, "{question}: {NONE}"),
     }
 }
 
 /// `level NAME`: its calendar, when the time begins, and its limits.
-fn level(rt: &HostRuntime, settings: &Settings, question: &str, name: &str) -> io::Result<()> {
+fn level(
+    out: &mut String,
+    settings: &Settings,
+    question: &str,
+    name: &str,
+) -> Result<(), AllocError> {
     match settings.level(name) {
         Some(level) => {
             let calendar = level.calendar.as_str();
             let begins = level.start_immediately;
-            println!(rt; "{question}: {calendar} {begins}")?;
-            ignored(rt, level)?;
-            limits(rt, level)
+            writeln!(out, "{question}: {calendar} {begins}")?;
+            ignored(out, level)?;
+            limits(out, level)
         }
-        None => println!(rt; "{question}: {NONE}"),
+        None => writeln!(out, "{question}: {NONE}"),
     }
 }
 
-fn ignored(rt: &HostRuntime, level: &Level) -> io::Result<()> {
+fn ignored(out: &mut String, level: &Level) -> Result<(), AllocError> {
     for status in level.ignore.as_slice() {
-        println!(rt; "  ignore: {}", status.as_str())?;
+        writeln!(out, "  ignore: {}", status.as_str())?;
     }
     Ok(())
 }
 
-fn limits(rt: &HostRuntime, level: &Level) -> io::Result<()> {
-    limit(rt, "response", level.response)?;
-    limit(rt, "keep_in_loop", level.keep_in_loop)?;
-    limit(rt, "resolve", level.resolve)
+fn limits(out: &mut String, level: &Level) -> Result<(), AllocError> {
+    limit(out, "response", level.response)?;
+    limit(out, "keep_in_loop", level.keep_in_loop)?;
+    limit(out, "resolve", level.resolve)
 }
 
-fn limit(rt: &HostRuntime, name: &str, limit: Option<Limit>) -> io::Result<()> {
+fn limit(out: &mut String, name: &str, limit: Option<Limit>) -> Result<(), AllocError> {
     match limit {
-        Some(Limit::RealMinutes(minutes)) => println!(rt; "  {name}: {minutes} real"),
-        Some(Limit::BusinessMinutes(minutes)) => println!(rt; "  {name}: {minutes} business"),
+        Some(Limit::RealMinutes(minutes)) => writeln!(out, "  {name}: {minutes} real"),
+        Some(Limit::BusinessMinutes(minutes)) => writeln!(out, "  {name}: {minutes} business"),
         None => Ok(()),
     }
 }

@@ -4,23 +4,25 @@ use crate::failure::Failure;
 use crate::leaves::hours::parts::Parts;
 use crate::leaves::spelling::{count, halves, moment, number};
 use hours_core::{Calendar, Level, Limit, Minute, Probes, Stay, Zone, date_of, minute_text};
+use std::alloc::Global;
 
 /// Writes the line and the answer of the call that it spells.
 pub fn answer(
-    rt: &(impl AllocGlobal + Print),
+    alloc: Global,
+    out: &mut String,
     parts: &Parts,
     calendar: Option<&Calendar>,
     line: &str,
 ) -> Result<(), Failure> {
     let (call, words) = halves(line, ' ')?;
     match call {
-        "minute" => show(rt, line, Minute::new(count(words)?)),
-        "in_order" => in_order(rt, line, words),
-        "date" => show_date(rt, line, moment(words)?),
-        "text" => show_text(rt, line, moment(words)?),
-        "by_rule" => by_rule(rt, line, words),
+        "minute" => show(out, line, Minute::new(count(words)?)),
+        "in_order" => in_order(out, line, words),
+        "date" => show_date(out, line, moment(words)?),
+        "text" => show_text(out, line, moment(words)?),
+        "by_rule" => by_rule(alloc, out, line, words),
         _ => match calendar {
-            Some(calendar) => asked(rt, parts, calendar, line, call, words),
+            Some(calendar) => asked(alloc, out, parts, calendar, line, call, words),
             None => Err(Failure::BadLine),
         },
     }
@@ -28,7 +30,8 @@ pub fn answer(
 
 /// Writes the answer of a call on a calendar.
 fn asked(
-    rt: &(impl AllocGlobal + Print),
+    alloc: Global,
+    out: &mut String,
     parts: &Parts,
     calendar: &Calendar,
     line: &str,
@@ -37,51 +40,52 @@ fn asked(
 ) -> Result<(), Failure> {
     match call {
         "is_open" => {
-            println!(rt; "{line}: {}", calendar.is_open(moment(words)?))?;
+            writeln!(out, "{line}: {}", calendar.is_open(moment(words)?))?;
             Ok(())
         }
-        "first_open" => show(rt, line, calendar.first_open(moment(words)?)),
+        "first_open" => show(out, line, calendar.first_open(moment(words)?)),
         "add_open" => {
             let (from, n) = halves(words, ' ')?;
-            show(rt, line, calendar.add_open(moment(from)?, count(n)?))
+            show(out, line, calendar.add_open(moment(from)?, count(n)?))
         }
-        "due_at_once" => due(rt, parts, calendar, line, words, true),
-        "due" => due(rt, parts, calendar, line, words, false),
-        "dues" => dues(rt, parts, calendar, line, words),
-        "bounded" => bounded(rt, calendar, line, words),
-        "greatest" => greatest(rt, calendar, line, words),
-        "ends" => ends(rt, calendar, line, words),
+        "due_at_once" => due(alloc, out, parts, calendar, line, words, true),
+        "due" => due(alloc, out, parts, calendar, line, words, false),
+        "dues" => dues(alloc, out, parts, calendar, line, words),
+        "bounded" => bounded(out, calendar, line, words),
+        "greatest" => greatest(out, calendar, line, words),
+        "ends" => ends(out, calendar, line, words),
         _ => Err(Failure::BadLine),
     }
 }
 
 /// Writes the number of the minute, or `-`.
-fn show(rt: &impl Print, line: &str, minute: Option<Minute>) -> Result<(), Failure> {
+fn show(out: &mut String, line: &str, minute: Option<Minute>) -> Result<(), Failure> {
     match minute {
-        Some(minute) => println!(rt; "{line}: {}", minute.get())?,
-        None => println!(rt; "{line}: -")?,
+        Some(minute) => writeln!(out, "{line}: {}", minute.get())?,
+        None => writeln!(out, "{line}: -")?,
     }
     Ok(())
 }
 
 /// Writes whether the first of two minutes is before the second.
-fn in_order(rt: &impl Print, line: &str, words: &str) -> Result<(), Failure> {
+fn in_order(out: &mut String, line: &str, words: &str) -> Result<(), Failure> {
     let (earlier, later) = halves(words, ' ')?;
     let earlier = moment(earlier)?;
     let later = moment(later)?;
-    println!(rt; "{line}: {}", earlier < later)?;
+    writeln!(out, "{line}: {}", earlier < later)?;
     Ok(())
 }
 
-fn show_date(rt: &impl Print, line: &str, minute: Minute) -> Result<(), Failure> {
+fn show_date(out: &mut String, line: &str, minute: Minute) -> Result<(), Failure> {
     let (year, month, day) = date_of(minute);
-    println!(rt; "{line}: {year} {month} {day}")?;
+    writeln!(out, "{line}: {year} {month} {day}")?;
     Ok(())
 }
 
-fn show_text(rt: &impl Print, line: &str, minute: Minute) -> Result<(), Failure> {
+fn show_text(out: &mut String, line: &str, minute: Minute) -> Result<(), Failure> {
     let text = minute_text(minute);
-    println!(rt;
+    writeln!(
+        out,
         "{line}: {}",
         str::from_utf8(text.as_slice()).unwrap_or("?")
     )?;
@@ -89,13 +93,13 @@ fn show_text(rt: &impl Print, line: &str, minute: Minute) -> Result<(), Failure>
 }
 
 /// Writes the offsets of a rule's zone at minutes, or its fault.
-fn by_rule(rt: &(impl AllocGlobal + Print), line: &str, words: &str) -> Result<(), Failure> {
+fn by_rule(alloc: Global, out: &mut String, line: &str, words: &str) -> Result<(), Failure> {
     let (years, rest) = years_of(words)?;
     let (rule, minutes) = rest.split_once(' ').unwrap_or((rest, ""));
-    match Zone::by_rule(rt.alloc(), rule, years) {
-        Ok(zone) => show_offsets(rt, line, &zone, minutes),
+    match Zone::by_rule(alloc, rule, years) {
+        Ok(zone) => show_offsets(out, line, &zone, minutes),
         Err(fault) => {
-            println!(rt; "{line}: {} {}", fault.number(), fault.name())?;
+            writeln!(out, "{line}: {} {}", fault.number(), fault.name())?;
             Ok(())
         }
     }
@@ -109,20 +113,21 @@ fn years_of(words: &str) -> Result<((i64, i64), &str), Failure> {
 }
 
 /// Writes the zone's offset at each minute.
-fn show_offsets(rt: &impl Print, line: &str, zone: &Zone, minutes: &str) -> Result<(), Failure> {
-    print!(rt; "{line}:")?;
+fn show_offsets(out: &mut String, line: &str, zone: &Zone, minutes: &str) -> Result<(), Failure> {
+    write!(out, "{line}:")?;
     for minute in minutes.split(' ') {
         if !minute.is_empty() {
-            print!(rt; " {}", zone.offset_at(moment(minute)?))?;
+            write!(out, " {}", zone.offset_at(moment(minute)?))?;
         }
     }
-    println!(rt)?;
+    writeln!(out)?;
     Ok(())
 }
 
 /// Writes when a limit is due, of a level that begins at once or with the opening.
 fn due(
-    rt: &(impl AllocGlobal + Print),
+    alloc: Global,
+    out: &mut String,
     parts: &Parts,
     calendar: &Calendar,
     line: &str,
@@ -131,9 +136,9 @@ fn due(
 ) -> Result<(), Failure> {
     let (from, limit) = halves(words, ' ')?;
     let limit = limit_of(limit)?;
-    let level = parts.level(rt.alloc(), start_immediately)?;
+    let level = parts.level(alloc, start_immediately)?;
     let due = level.limit_due(calendar, moment(from)?, limit, parts.stays());
-    show(rt, line, due)
+    show(out, line, due)
 }
 
 /// `real N` or `business N`
@@ -148,7 +153,8 @@ fn limit_of(words: &str) -> Result<Limit, Failure> {
 /// Counts a limit from each of so many minutes on, a day's round and round, and writes the sum of
 /// the moments at which it is due. So one line measures many calls.
 fn dues(
-    rt: &(impl AllocGlobal + Print),
+    alloc: Global,
+    out: &mut String,
     parts: &Parts,
     calendar: &Calendar,
     line: &str,
@@ -157,7 +163,7 @@ fn dues(
     let (from, rest) = halves(words, ' ')?;
     let (limit, calls) = rest.rsplit_once(' ').ok_or(Failure::BadLine)?;
     let (from, limit) = (count(from)?, limit_of(limit)?);
-    let level = parts.level(rt.alloc(), false)?;
+    let level = parts.level(alloc, false)?;
     let mut sum = 0u64;
     for call in 0..count(calls)? {
         let from = from.saturating_add(call % 1440);
@@ -165,7 +171,7 @@ fn dues(
             sum = sum.wrapping_add(due.get() as u64);
         }
     }
-    println!(rt; "{line}: {sum}")?;
+    writeln!(out, "{line}: {sum}")?;
     Ok(())
 }
 
@@ -190,7 +196,7 @@ fn probes_at(calendar: &Calendar, minute: Minute) -> (u32, u32) {
 
 /// Writes whether at each minute from the first to before the second both calls read a span, the
 /// first at most as many as the third word says and the other at most twice as many.
-fn bounded(rt: &impl Print, calendar: &Calendar, line: &str, words: &str) -> Result<(), Failure> {
+fn bounded(out: &mut String, calendar: &Calendar, line: &str, words: &str) -> Result<(), Failure> {
     let (from, rest) = halves(words, ' ')?;
     let (to, most) = halves(rest, ' ')?;
     let most = count(most)?;
@@ -201,13 +207,13 @@ fn bounded(rt: &impl Print, calendar: &Calendar, line: &str, words: &str) -> Res
             holds = holds && 0 < first && first <= most && 0 < add && add <= most.saturating_mul(2);
         }
     }
-    println!(rt; "{line}: {holds}")?;
+    writeln!(out, "{line}: {holds}")?;
     Ok(())
 }
 
 /// Goes over the minute of the day that the first word says, from one day to before another. Writes
 /// at how many of them a span begins, and the most spans that each call reads at one of these.
-fn greatest(rt: &impl Print, calendar: &Calendar, line: &str, words: &str) -> Result<(), Failure> {
+fn greatest(out: &mut String, calendar: &Calendar, line: &str, words: &str) -> Result<(), Failure> {
     let (opening, rest) = halves(words, ' ')?;
     let (from, to) = halves(rest, ' ')?;
     let opening = count(opening)?;
@@ -221,7 +227,7 @@ fn greatest(rt: &impl Print, calendar: &Calendar, line: &str, words: &str) -> Re
             most = (first.max(most.0), add.max(most.1));
         }
     }
-    println!(rt; "{line}: {starts} {} {}", most.0, most.1)?;
+    writeln!(out, "{line}: {starts} {} {}", most.0, most.1)?;
     Ok(())
 }
 
@@ -238,7 +244,7 @@ fn start_of_span(calendar: &Calendar, number: u32) -> Option<Minute> {
 
 /// Adds open minutes from each of so many minutes on, a day's round and round, and writes the sum
 /// of the ends. So one line measures many calls.
-fn ends(rt: &impl Print, calendar: &Calendar, line: &str, words: &str) -> Result<(), Failure> {
+fn ends(out: &mut String, calendar: &Calendar, line: &str, words: &str) -> Result<(), Failure> {
     let (from, rest) = halves(words, ' ')?;
     let (n, calls) = halves(rest, ' ')?;
     let (from, n) = (count(from)?, count(n)?);
@@ -248,7 +254,7 @@ fn ends(rt: &impl Print, calendar: &Calendar, line: &str, words: &str) -> Result
             sum = sum.wrapping_add(end.get() as u64);
         }
     }
-    println!(rt; "{line}: {sum}")?;
+    writeln!(out, "{line}: {sum}")?;
     Ok(())
 }
 

@@ -152,15 +152,15 @@ impl Parts {
     }
 
     /// The calendar of the parts. Writes how many spans it has, or the fault.
-    pub fn build(&self, rt: &(impl AllocGlobal + Print)) -> Result<Option<Calendar>, Failure> {
+    pub fn build(&self, alloc: Global, out: &mut String) -> Result<Option<Calendar>, Failure> {
         let week = self.week.as_slice().as_array().ok_or(Failure::BadLine)?;
-        match self.calendar(rt.alloc(), week) {
+        match self.calendar(alloc, week) {
             Ok(calendar) => {
-                println!(rt; "build: {} spans", calendar.spans())?;
+                writeln!(out, "build: {} spans", calendar.spans())?;
                 Ok(Some(calendar))
             }
             Err(fault) => {
-                println!(rt; "build: {} {}", fault.number(), fault.name())?;
+                writeln!(out, "build: {} {}", fault.number(), fault.name())?;
                 Ok(None)
             }
         }

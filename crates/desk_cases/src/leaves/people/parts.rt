@@ -38,20 +38,20 @@ impl HouseParts {
     }
 
     /// The people of the parts. Writes that they are built, or the fault.
-    pub fn build(&self, rt: &(impl AllocGlobal + Print)) -> Result<Option<People>, Failure> {
+    pub fn build(&self, alloc: Global, out: &mut String) -> Result<Option<People>, Failure> {
         let persons = self.persons.as_slice();
         match People::build(
-            rt.alloc(),
+            alloc,
             persons,
             self.groups.as_slice(),
             self.grants.as_slice(),
         ) {
             Ok(people) => {
-                println!(rt; "build: {} persons", persons.len())?;
+                writeln!(out, "build: {} persons", persons.len())?;
                 Ok(Some(people))
             }
             Err(fault) => {
-                println!(rt; "build: {} {}", fault.number(), fault.name())?;
+                writeln!(out, "build: {} {}", fault.number(), fault.name())?;
                 Ok(None)
             }
         }

@@ -2,22 +2,21 @@
 
 use settings_core::{Settings, SettingsFault};
 use std::alloc::{AllocError, Global};
-use std::io;
 
 /// The bytes that take the place of one of a text: a quote, an opening bracket, an equals sign, a
 /// line feed, and one that no text in UTF-8 has.
 const OTHERS: [u8; 5] = [b'"', b'[', b'=', b'\n', 0xff];
 
 /// Answers a question about the text cut off or changed.
-pub fn ask(rt: &HostRuntime, text: &str, question: &str) -> io::Result<()> {
+pub fn ask(alloc: Global, out: &mut String, text: &str, question: &str) -> Result<(), AllocError> {
     if question == "cuts" {
-        let (read, all) = cuts(rt.alloc(), text.as_bytes());
-        println!(rt; "cuts: {read} of {all}")?;
+        let (read, all) = cuts(alloc, text.as_bytes());
+        writeln!(out, "cuts: {read} of {all}")?;
     }
     if question == "changes" {
         for byte in OTHERS {
-            let (read, all) = changes(rt.alloc(), text.as_bytes(), byte)?;
-            println!(rt; "changes to {byte}: {read} of {all}")?;
+            let (read, all) = changes(alloc, text.as_bytes(), byte)?;
+            writeln!(out, "changes to {byte}: {read} of {all}")?;
         }
     }
     Ok(())
