@@ -61,6 +61,6 @@ models:
 # Each growth of the programs refused in turn, in some minutes once both are proved. It needs a C
 # compiler.
 sweep: desk
-	cd crates/desk_cases && rt run < stdin > /dev/null
+	cd crates/desk_cases && rt run -- data/script/no-input > /dev/null
 	trials/refused
 	trials/refused_pages

@@ -2,8 +2,7 @@
 //!
 //! In most parts words in `<<` and `>>` stand for others (`expansion.rt`).
 
-use crate::cases::{part_of, part_or_none};
-use crate::expansion::{Named, expanded};
+use crate::cases::{Case, str_of};
 use crate::failure::Failure;
 use crate::{desks, faults, leaves, messages, scripts, singles, stores, tally, trials};
 use std::alloc::Global;
@@ -28,57 +27,57 @@ pub(crate) fn answer_lines<A: Answering>(
 }
 
 /// Adds what comes of a case.
-pub(crate) fn answer(
-    rt: &HostRuntime,
-    named: &[Named],
-    text: &str,
-    out: &mut String,
-) -> Result<(), Failure> {
-    if let Some(sent) = part_of(text, "messages") {
-        return messages::run_case(rt, out, named, text, sent);
-    }
-    let tables = expanded(rt.alloc(), named, part_or_none(text, "tables"))?;
-    let tables = str::from_utf8(tables.as_slice()).unwrap_or("");
-    if let Some(commands) = part_of(text, "commands") {
-        return singles::run_case(rt, out, named, tables, text, commands);
-    }
-    answer_in_memory(rt.alloc(), out, named, tables, text)
+pub(crate) fn answer(rt: &HostRuntime, case: Case<'_>, out: &mut String) -> Result<(), Failure> {
+    let tables = case.expanded("tables")?;
+    answer_on(rt, case, out, str_of(tables.as_slice()))
 }
 
-/// Adds what comes of a case that needs no more than memory.
-fn answer_in_memory(
-    alloc: Global,
+/// Adds what comes of a case that has these tables.
+fn answer_on(
+    rt: &HostRuntime,
+    case: Case<'_>,
     out: &mut String,
-    named: &[Named],
     tables: &str,
-    text: &str,
 ) -> Result<(), Failure> {
-    if let Some(script) = part_of(text, "script") {
-        let script = expanded(alloc, named, script)?;
-        return match part_of(text, "streams") {
-            Some(lines) => faults::run_case(alloc, out, script.as_slice(), lines),
-            None => scripts::run_case(alloc, out, script.as_slice()),
-        };
+    if case.has("messages") {
+        return messages::run_case(rt, out, case, tables);
     }
-    if let Some(list) = part_of(text, "list") {
-        let list = expanded(alloc, named, list)?;
-        let list = str::from_utf8(list.as_slice()).unwrap_or("");
-        return match part_of(text, "trials") {
-            Some(lines) => trials::run_case(alloc, out, tables, list, lines),
-            None => desks::run_case(alloc, out, tables, list, part_or_none(text, "query")),
-        };
+    if case.has("commands") {
+        return singles::run_case(rt, out, case, tables);
     }
-    if let Some(calls) = part_of(text, "store") {
-        let calls = expanded(alloc, named, calls)?;
-        let calls = str::from_utf8(calls.as_slice()).unwrap_or("");
-        return stores::run_case(alloc, out, tables, calls, part_or_none(text, "query"));
+    if case.has("script") {
+        return answer_script(case, out);
     }
-    if let Some(lots) = part_of(text, "lots") {
-        let settings = expanded(alloc, named, part_or_none(text, "settings"))?;
-        let settings = str::from_utf8(settings.as_slice()).unwrap_or("");
-        let lots = expanded(alloc, named, lots)?;
-        let lots = str::from_utf8(lots.as_slice()).unwrap_or("");
-        return tally::run_case(alloc, out, settings, lots, part_or_none(text, "lists"));
+    if case.has("list") {
+        return answer_list(case, out, tables);
     }
-    leaves::run_case(alloc, out, text)
+    answer_calls(case, out, tables)
+}
+
+fn answer_script(case: Case<'_>, out: &mut String) -> Result<(), Failure> {
+    let script = case.expanded("script")?;
+    match case.part("streams") {
+        "" => scripts::run_case(case.alloc, out, script.as_slice()),
+        lines => faults::run_case(case.alloc, out, script.as_slice(), lines),
+    }
+}
+
+fn answer_list(case: Case<'_>, out: &mut String, tables: &str) -> Result<(), Failure> {
+    let list = case.expanded("list")?;
+    let list = str_of(list.as_slice());
+    match case.part("trials") {
+        "" => desks::run_case(case.alloc, out, tables, list, case.part("query")),
+        lines => trials::run_case(case.alloc, out, tables, list, lines),
+    }
+}
+
+fn answer_calls(case: Case<'_>, out: &mut String, tables: &str) -> Result<(), Failure> {
+    if case.has("store") {
+        let calls = case.part("store");
+        return stores::run_case(case.alloc, out, tables, calls, case.part("query"));
+    }
+    if case.has("lots") {
+        return tally::run_case(case, out);
+    }
+    leaves::run_case(case.alloc, out, case.text)
 }

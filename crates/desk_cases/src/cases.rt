@@ -27,9 +27,34 @@ pub(crate) fn part_of<'t>(text: &'t str, name: &str) -> Option<&'t str> {
     None
 }
 
-/// The part of that name, and none that isn't there.
-pub(crate) fn part_or_none<'t>(text: &'t str, name: &str) -> &'t str {
-    part_of(text, name).unwrap_or("")
+/// A case, and the texts that it may name.
+#[derive(Clone, Copy)]
+pub(crate) struct Case<'c> {
+    pub(crate) alloc: Global,
+    pub(crate) named: &'c [Named],
+    pub(crate) text: &'c str,
+}
+
+impl<'c> Case<'c> {
+    /// Whether it has a part of that name.
+    pub(crate) fn has(&self, name: &str) -> bool {
+        part_of(self.text, name).is_some()
+    }
+
+    /// The part of that name, which is empty where it isn't there.
+    pub(crate) fn part(&self, name: &str) -> &'c str {
+        part_of(self.text, name).unwrap_or("")
+    }
+
+    /// The part of that name, with what its words in `<<` and `>>` stand for.
+    pub(crate) fn expanded(&self, name: &str) -> Result<Vec<u8>, AllocError> {
+        expanded(self.alloc, self.named, self.part(name))
+    }
+}
+
+/// The bytes as a text, which is empty where they are none.
+pub(crate) fn str_of(bytes: &[u8]) -> &str {
+    str::from_utf8(bytes).unwrap_or("")
 }
 
 /// The kind and the name of the case in a file.
@@ -40,16 +65,22 @@ pub(crate) fn label_of(file: &str) -> &str {
 /// Tells whether what came of a case is what is wanted, and where it first differs.
 pub(crate) fn tell_compared(
     rt: &HostRuntime,
-    named: &[Named],
-    file: &str,
-    text: &str,
+    case: Case<'_>,
+    label: &str,
     told: &str,
 ) -> Result<bool, Failure> {
-    let label = label_of(file);
-    let wanted = expanded(rt.alloc(), named, part_or_none(text, "wanted"))?;
-    let wanted = str::from_utf8(wanted.as_slice()).unwrap_or("");
-    let told = with_ends(rt.alloc(), told, part_of(text, "ends"))?;
-    let told = told.as_str();
+    let wanted = case.expanded("wanted")?;
+    let wanted = str_of(wanted.as_slice());
+    match case.part("ends").trim_end() {
+        "" => tell_alike(rt, label, told, wanted),
+        most => {
+            let ends = ends_of(case.alloc, told, number(most)? as usize)?;
+            tell_alike(rt, label, ends.as_str(), wanted)
+        }
+    }
+}
+
+fn tell_alike(rt: &HostRuntime, label: &str, told: &str, wanted: &str) -> Result<bool, Failure> {
     if told == wanted {
         println!(rt; "{label} ok")?;
         return Ok(true);
@@ -59,16 +90,8 @@ pub(crate) fn tell_compared(
     Ok(false)
 }
 
-/// The text, or its ends where it is told how many lines they have.
-fn with_ends(alloc: Global, text: &str, ends: Option<&str>) -> Result<String, Failure> {
-    match ends {
-        Some(count) => ends_of(alloc, text, number(count.trim_end())? as usize),
-        None => Ok(String::from_str(alloc, text)?),
-    }
-}
-
 /// How many lines a text has and its sum, and so many of its lines at the front and at the end.
-fn ends_of(alloc: Global, text: &str, most: usize) -> Result<String, Failure> {
+fn ends_of(alloc: Global, text: &str, most: usize) -> Result<String, AllocError> {
     let mut ends = String::new(alloc);
     let count = text.lines().count();
     writeln!(ends, "{count} lines, sum {}", sum_of(text))?;

@@ -12,7 +12,7 @@ mod questions;
 mod settings;
 mod spelling;
 
-use crate::cases::{part_of, part_or_none};
+use crate::cases::part_of;
 use crate::failure::Failure;
 use std::alloc::Global;
 
@@ -28,5 +28,10 @@ pub(crate) fn run_case(alloc: Global, out: &mut String, text: &str) -> Result<()
         return people::run_case(alloc, out, lines);
     }
     let settings = part_of(text, "settings").ok_or(Failure::BadLine)?;
-    settings::run_case(alloc, out, settings, part_or_none(text, "questions"))
+    settings::run_case(
+        alloc,
+        out,
+        settings,
+        part_of(text, "questions").unwrap_or(""),
+    )
 }

@@ -45,7 +45,7 @@ mod trials;
 mod written;
 
 use crate::answers::answer;
-use crate::cases::{TEXTS, label_of, tell_compared};
+use crate::cases::{Case, TEXTS, label_of, str_of, tell_compared};
 use crate::expansion::Named;
 use crate::failure::Failure;
 use std::io::Read;
@@ -131,22 +131,40 @@ fn try_each(rt: &HostRuntime, named: &[Named], files: &[String]) -> Result<bool,
 /// Tries the case of a file, and tells what comes of it.
 fn try_case(rt: &HostRuntime, named: &[Named], file: &str) -> Result<bool, Failure> {
     let text = fs::read_to_string(rt, file)?;
+    let case = Case {
+        alloc: rt.alloc(),
+        named,
+        text: text.as_str(),
+    };
+    tell_case(rt, case, label_of(file))
+}
+
+fn tell_case(rt: &HostRuntime, case: Case<'_>, label: &str) -> Result<bool, Failure> {
     let mut told = String::new(rt.alloc());
-    let ended = answer(rt, named, text.as_str(), &mut told);
-    if let Err(failure) = ended {
-        println!(rt; "{}: ended by {failure:?}", label_of(file))?;
-        return Ok(false);
+    match answer(rt, case, &mut told) {
+        Ok(()) => tell_compared(rt, case, label, told.as_str()),
+        Err(failure) => {
+            println!(rt; "{label}: ended by {failure:?}")?;
+            Ok(false)
+        }
     }
-    tell_compared(rt, named, file, text.as_str(), told.as_str())
 }
 
 /// Writes what comes of the case that stands in the standard input.
 fn answer_input(rt: &HostRuntime, named: &[Named]) -> Result<bool, Failure> {
     let mut input = Vec::new(rt.alloc());
     rt.reader().read_to_end(&mut input)?;
+    let case = Case {
+        alloc: rt.alloc(),
+        named,
+        text: str_of(input.as_slice()),
+    };
+    write_told(rt, case)
+}
+
+fn write_told(rt: &HostRuntime, case: Case<'_>) -> Result<bool, Failure> {
     let mut told = String::new(rt.alloc());
-    let text = str::from_utf8(input.as_slice()).unwrap_or("");
-    let ended = answer(rt, named, text, &mut told);
+    let ended = answer(rt, case, &mut told);
     print!(rt; "{}", told.as_str())?;
     ended?;
     Ok(true)

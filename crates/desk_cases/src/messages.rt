@@ -2,7 +2,7 @@
 
 use crate::asks::asks_of;
 use crate::calls::execute_all;
-use crate::cases::{part_of, part_or_none};
+use crate::cases::{Case, str_of};
 use crate::changes::number;
 use crate::desks::{COMMANDS, attached};
 use crate::each;
@@ -34,23 +34,30 @@ pub(crate) struct Before<'b> {
 pub(crate) fn run_case(
     rt: &HostRuntime,
     out: &mut String,
-    named: &[Named],
-    text: &str,
-    messages: &str,
+    case: Case<'_>,
+    tables: &str,
 ) -> Result<(), Failure> {
-    let tables = expanded(rt.alloc(), named, part_or_none(text, "tables"))?;
-    let desk = expanded(rt.alloc(), named, part_or_none(text, "desk"))?;
-    let desk = str::from_utf8(desk.as_slice()).unwrap_or("");
+    let desk = case.expanded("desk")?;
+    let desk = str_of(desk.as_slice());
     let (settings, commands) = desk.split_once(COMMANDS).ok_or(Failure::BadLine)?;
     let before = Before {
-        tables: str::from_utf8(tables.as_slice()).unwrap_or(""),
+        tables,
         settings,
         commands,
     };
-    let sent = sent_in(rt.alloc(), named, messages)?;
-    match part_of(text, "manners") {
-        Some(manners) => serve_by_each(rt, out, before, sent.as_slice(), manners),
-        None => serve_alike(rt, out, before, sent.as_slice()),
+    serve_case(rt, out, case, before)
+}
+
+fn serve_case(
+    rt: &HostRuntime,
+    out: &mut String,
+    case: Case<'_>,
+    before: Before<'_>,
+) -> Result<(), Failure> {
+    let sent = sent_in(case.alloc, case.named, case.part("messages"))?;
+    match case.part("manners") {
+        "" => serve_alike(rt, out, before, sent.as_slice()),
+        manners => serve_by_each(rt, out, before, sent.as_slice(), manners),
     }
 }
 
@@ -81,7 +88,7 @@ fn serve_by(
         "each_write_fails" => each::writes(rt, out, before, sent),
         _ => {
             let text = replies(rt, before, sent, manner_of(line)?)?;
-            out.push_str(str::from_utf8(text.as_slice()).unwrap_or(""))?;
+            out.push_str(str_of(text.as_slice()))?;
             Ok(())
         }
     }
@@ -123,7 +130,7 @@ fn serve_alike(
     let whole = replies(rt, before, sent, Manner::Whole)?;
     let bytes = replies(rt, before, sent, Manner::BYTES)?;
     let list = replies(rt, before, sent, Manner::List)?;
-    out.push_str(str::from_utf8(whole.as_slice()).unwrap_or(""))?;
+    out.push_str(str_of(whole.as_slice()))?;
     let alike = whole.as_slice() == bytes.as_slice();
     writeln!(out, "a byte at a time: {}", same_or_not(alike))?;
     let rest = whole.as_slice().strip_prefix(list.as_slice());

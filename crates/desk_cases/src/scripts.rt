@@ -1,5 +1,6 @@
 //! Cases of a script.
 
+use crate::cases::str_of;
 use crate::failure::Failure;
 use desk_program::run_script;
 use std::alloc::Global;
@@ -9,7 +10,7 @@ pub(crate) fn run_case(alloc: Global, out: &mut String, script: &[u8]) -> Result
     let mut reader = script;
     let mut printed = Vec::new(alloc);
     let status = run_script(alloc, &mut reader, &mut printed);
-    out.push_str(str::from_utf8(printed.as_slice()).unwrap_or(""))?;
+    out.push_str(str_of(printed.as_slice()))?;
     writeln!(out, "status {status}")?;
     Ok(())
 }

@@ -3,10 +3,9 @@
 //! What owns much is given back by `drop`, whose proof stands once; at the end of its scope it
 //! would be taken apart for each function's own proof.
 
-use crate::cases::part_or_none;
+use crate::cases::{Case, str_of};
 use crate::changes::number;
 use crate::disks::{End, ended};
-use crate::expansion::{Named, expanded};
 use crate::failure::Failure;
 use crate::stores::opened;
 use crate::streams::Faltering;
@@ -14,7 +13,6 @@ use desk_program::{OneEnded, run_one, run_one_whole};
 use sqlite::{Connection, FileStore};
 use sqlite_disk::Disk;
 use std::alloc::Global;
-use std::str;
 use store_core::{Backend, Store};
 use wire_core::words_of;
 
@@ -30,16 +28,22 @@ use wire_core::words_of;
 pub(crate) fn run_case(
     rt: &HostRuntime,
     out: &mut String,
-    named: &[Named],
+    case: Case<'_>,
     statements: &str,
-    text: &str,
-    commands: &str,
 ) -> Result<(), Failure> {
-    let settings = expanded(rt.alloc(), named, part_or_none(text, "settings"))?;
-    let commands = expanded(rt.alloc(), named, commands)?;
-    let settings = str::from_utf8(settings.as_slice()).unwrap_or("");
-    let commands = str::from_utf8(commands.as_slice()).unwrap_or("");
-    let streams = part_or_none(text, "streams").trim_end();
+    let settings = case.expanded("settings")?;
+    run_with(rt, out, case, statements, str_of(settings.as_slice()))
+}
+
+fn run_with(
+    rt: &HostRuntime,
+    out: &mut String,
+    case: Case<'_>,
+    statements: &str,
+    settings: &str,
+) -> Result<(), Failure> {
+    let commands = case.part("commands");
+    let streams = case.part("streams").trim_end();
     if let Some(path) = streams.strip_prefix("on_file ") {
         return run_on_file(rt, out, settings, path, commands, false);
     }
@@ -120,7 +124,7 @@ fn run_alone<S: Backend + Drop>(
         &mut text,
     );
     let line = asked.line;
-    let text = str::from_utf8(text.as_slice()).unwrap_or("");
+    let text = str_of(text.as_slice());
     writeln!(out, "{line}: status {status}\n{text}")?;
     Ok(())
 }
@@ -249,7 +253,7 @@ fn tell_ended(
     failed: bool,
     taken: &[u8],
 ) -> Result<(), Failure> {
-    let text = str::from_utf8(taken).unwrap_or("");
+    let text = str_of(taken);
     writeln!(out, "{line}: status {status}, failed {failed}\n{text}")?;
     Ok(())
 }

@@ -4,6 +4,7 @@
 //! would be taken apart for each function's own proof.
 
 use crate::calls::{Outcome, Reply, execute_all, serve_all};
+use crate::cases::{Case, str_of};
 use crate::changes::number;
 use crate::desks::attached;
 use crate::failure::Failure;
@@ -29,7 +30,18 @@ struct Tally {
 /// new desk at once, and of another new desk by messages. It is written how often each line was
 /// accepted, how often each refusal came, how many replies had another text, and how many texts and
 /// replies found no memory.
-pub(crate) fn run_case(
+pub(crate) fn run_case(case: Case<'_>, out: &mut String) -> Result<(), Failure> {
+    let settings = case.expanded("settings")?;
+    run_with(case, out, str_of(settings.as_slice()))
+}
+
+fn run_with(case: Case<'_>, out: &mut String, settings: &str) -> Result<(), Failure> {
+    let lines = case.expanded("lots")?;
+    let lines = str_of(lines.as_slice());
+    tell_lots(case.alloc, out, settings, lines, case.part("lists"))
+}
+
+fn tell_lots(
     alloc: Global,
     out: &mut String,
     settings: &str,
