@@ -1,5 +1,6 @@
 //! Messages whose first one meets a failure at each of its calls in turn.
 
+use crate::cases::str_of;
 use crate::failure::Failure;
 use crate::messages::{Before, replies};
 use crate::served::{Manner, Sent};
@@ -32,10 +33,11 @@ pub(crate) fn reads(
         let manner = Manner::streams(Some(count), u32::MAX, true);
         let text = answered(rt, before, sent, manner)?;
         if text.as_str() == whole.as_str() {
-            return tell_whole(out, "read", count);
+            writeln!(out, "read whole by {count} calls")?;
+            return Ok(());
         }
         if text.as_str().strip_prefix(READ) != Some(others.as_str()) {
-            tell_wrong(out, count)?;
+            writeln!(out, "wrong after {count} calls")?;
         }
     }
     Err(Failure::BadLine)
@@ -55,23 +57,14 @@ pub(crate) fn writes(
     for count in 0..MOST {
         let text = answered(rt, before, sent, Manner::streams(None, count, true))?;
         if text.as_str() == whole.as_str() {
-            return tell_whole(out, "written", count);
+            writeln!(out, "written whole by {count} calls")?;
+            return Ok(());
         }
         if !is_cut(text.as_str(), first.as_str(), whole.as_str(), count) {
-            tell_wrong(out, count)?;
+            writeln!(out, "wrong after {count} calls")?;
         }
     }
     Err(Failure::BadLine)
-}
-
-fn tell_whole(out: &mut String, what: &str, count: u32) -> Result<(), Failure> {
-    writeln!(out, "{what} whole by {count} calls")?;
-    Ok(())
-}
-
-fn tell_wrong(out: &mut String, count: u32) -> Result<(), Failure> {
-    writeln!(out, "wrong after {count} calls")?;
-    Ok(())
 }
 
 /// Whether the text is that many bytes of the first reply, the fault, and the replies that the
@@ -96,7 +89,7 @@ fn answered(
     manner: Manner,
 ) -> Result<String, Failure> {
     let text = replies(rt, before, sent, manner)?;
-    let text = str::from_utf8(text.as_slice()).unwrap_or("");
+    let text = str_of(text.as_slice());
     let (text, _) = text.split_once(LEFT).unwrap_or((text, ""));
     Ok(String::from_str(rt.alloc(), text)?)
 }

@@ -38,16 +38,12 @@ pub(crate) fn run(
             tell(out, calls, found)?;
         }
         if answered == Some(count) {
-            writeln!(out, "  calls: {}", some_or_none(calls))?;
+            writeln!(out, "  calls: {}", if calls > 0 { "some" } else { "none" })?;
             return Ok(());
         }
         last = found;
     }
     Err(Failure::BadLine)
-}
-
-fn some_or_none(calls: u64) -> &'static str {
-    if calls > 0 { "some" } else { "none" }
 }
 
 fn tell(out: &mut String, calls: u64, found: Option<usize>) -> Result<(), Failure> {
@@ -87,20 +83,6 @@ fn found_after(answered: Option<usize>, found: Found) -> Option<usize> {
 }
 
 impl Stop {
-    pub(crate) fn log(loses: bool) -> Stop {
-        Stop {
-            is_log: true,
-            loses,
-        }
-    }
-
-    pub(crate) fn tables(loses: bool) -> Stop {
-        Stop {
-            is_log: false,
-            loses,
-        }
-    }
-
     /// Files with these tables, one of which stops after so many calls.
     fn disks(self, alloc: Global, tables: &[u8], calls: u64) -> Result<Disks, Failure> {
         if self.is_log {

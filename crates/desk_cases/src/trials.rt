@@ -58,8 +58,10 @@ fn try_files(
 ) -> Result<(), Failure> {
     let loses = rest == "lost";
     match trial {
-        "log_stops" => stops::run(alloc, out, course, Stop::log(loses)),
-        "tables_stop" => stops::run(alloc, out, course, Stop::tables(loses)),
+        "log_stops" | "tables_stop" => {
+            let is_log = trial == "log_stops";
+            stops::run(alloc, out, course, Stop { is_log, loses })
+        }
         "opened" => spoiled::run(alloc, out, course, rest),
         _ => Err(Failure::BadLine),
     }

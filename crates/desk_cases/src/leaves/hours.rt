@@ -21,7 +21,7 @@ use std::alloc::Global;
 
 /// Adds each call with its answer.
 pub fn run_case(alloc: Global, out: &mut String, lines: &str) -> Result<(), Failure> {
-    let mut asked = Asked {
+    let mut asked = Calendars {
         parts: Parts::new(alloc)?,
         calendar: None,
     };
@@ -32,12 +32,12 @@ pub fn run_case(alloc: Global, out: &mut String, lines: &str) -> Result<(), Fail
 
 /// The parts so far, and the calendar that was built last.
 #[derive(Drop)]
-struct Asked {
+struct Calendars {
     parts: Parts,
     calendar: Option<Calendar>,
 }
 
-impl Answering for Asked {
+impl Answering for Calendars {
     /// Takes a line that gives a part or builds the calendar, and adds any other with its answer.
     fn answer(&mut self, alloc: Global, out: &mut String, line: &str) -> Result<(), Failure> {
         if line.is_empty() || line.starts_with('#') {

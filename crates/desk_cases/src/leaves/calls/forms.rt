@@ -45,22 +45,14 @@ fn answer_on_two(
     other: &str,
 ) -> Result<Option<&'static str>, AllocError> {
     Ok(Some(match call {
-        "subject" => yes_or_no(is_subject_repeated(alloc, text, other)?),
-        "text" => yes_or_no(is_text_repeated(alloc, text, other)?),
+        "subject" => yes_or_no(is_subject(repeated(alloc, text, other)?.as_str())),
+        "text" => yes_or_no(is_text(repeated(alloc, text, other)?.as_str())),
         "order" => order_of(alloc, text, other)?,
         "among" => yes_or_no(among(alloc, text, other)?),
         "shares" => yes_or_no(shares(alloc, text, other)?),
         "same" => yes_or_no(same(alloc, text, other)?),
         _ => return Ok(None),
     }))
-}
-
-fn is_subject_repeated(alloc: Global, times: &str, text: &str) -> Result<bool, AllocError> {
-    Ok(is_subject(repeated(alloc, times, text)?.as_str()))
-}
-
-fn is_text_repeated(alloc: Global, times: &str, text: &str) -> Result<bool, AllocError> {
-    Ok(is_text(repeated(alloc, times, text)?.as_str()))
 }
 
 /// Whether the text is among the texts, by both calls that tell it.
