@@ -1,19 +1,22 @@
-"""Runs the cases of leaves on made input: crates/desk_cases/out/desk_cases, which
-"cd crates/desk_cases && rt run < stdin" makes. Another program is named as the one argument."""
+"""Runs cases of leaves on made input: crates/desk_cases/out/desk_cases, which
+"cd crates/desk_cases && rt run -- data/script/no-input" makes. Another program is named as the one argument."""
 import os
 import resource
 import subprocess
 import sys
+import tempfile
 
 TOP = os.path.dirname(os.path.dirname(os.path.abspath(__file__)))
 PROGRAM = os.path.join(TOP, "crates", "desk_cases", "out", "desk_cases")
 
 
-def run(text):
-    """The lines that the program writes, and the seconds of a processor that it takes."""
+def run(text, words=("-",)):
+    """The lines that the program writes, and the seconds of a processor that it takes. With the
+    files of cases as words, in which nothing is wanted, each differs."""
     program = sys.argv[1] if len(sys.argv) > 1 else PROGRAM
     before = resource.getrusage(resource.RUSAGE_CHILDREN)
-    done = subprocess.run([program], input=text.encode(), stdout=subprocess.PIPE, check=True)
+    done = subprocess.run([program, *words], input=text.encode(), stdout=subprocess.PIPE,
+                          check=words == ("-",))
     after = resource.getrusage(resource.RUSAGE_CHILDREN)
     seconds = after.ru_utime + after.ru_stime - before.ru_utime - before.ru_stime
     return done.stdout.decode().splitlines(), seconds
@@ -25,6 +28,16 @@ def more(text, added, times=1):
     _, without = run(text)
     lines, seconds = run(text + added * times)
     return lines[-1], max(0.0, seconds - without) / times
+
+
+def seconds_each(case, times):
+    """The seconds that one more of a case takes, which is run from a file so often."""
+    with tempfile.NamedTemporaryFile("w", suffix="-case") as file:
+        file.write(case)
+        file.flush()
+        _, once = run("", [file.name])
+        _, often = run("", [file.name] * (1 + times))
+    return max(0.0, often - once) / times
 
 
 def group_members(place, groups, persons):

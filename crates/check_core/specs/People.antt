@@ -1,10 +1,12 @@
 -- The first member of a group, and the first grant, whose person or group isn't there.
 use Rattle.std.specs.Prelude.{ℕ, ◌+◌, Bool, true, false, not, ◌&&◌, ◌||◌, List, Option, Some, None, codes}
 use Rattle.std.specs.Prelude.{is_some, if◌then◌else◌}
-use Rattle.std.specs.Option.{option_map, option_or}
+use Rattle.std.specs.Option.{option_map, option_map_or, option_or}
 use Rattle.std.specs.Str.{bytes_eq}
 use Rattle.toml.specs.Data.{Data, Items, no_items, item, Members, no_members, member, get_member}
-use Rattle.settings_parts.specs.PeopleParts.{after}
+use Rattle.rights_core.specs.declared.grant.Subject.{Subject}
+use Rattle.rights_core.specs.declared.grant.Subject.TheVariants.{Person, Group}
+use Rattle.settings_form.specs.Grantee.{subject_in}
 use Rattle.settings_parts.specs.Values.{items_at, items_of, members_of, table_at}
 use Rattle.check_core.specs.Values.{text_in, text_of}
 
@@ -41,18 +43,15 @@ stray_member ms = stray_member_in ms (table_at (codes "groups") ms)
 
 -- ---- grants
 
-abbrev pub is_person_if_any : Members → Option (List ℕ) → Bool → Bool
-is_person_if_any ms (Some person) other = is_person ms person
-is_person_if_any ms None other = other
-
-abbrev pub is_group_if_any : Members → Option (List ℕ) → Bool
-is_group_if_any ms (Some group) = is_group ms group
-is_group_if_any ms None = true
+-- the person or the group is there; everyone and a role always are
+abbrev pub is_known : Members → Subject → Bool
+is_known ms (Person name) = is_person ms name
+is_known ms (Group name) = is_group ms name
+is_known ms _ = true
 
 -- the person or the group that a grant is for is there
 abbrev pub is_there : Members → List ℕ → Bool
-is_there ms to =
-    is_person_if_any ms (after to (codes "person:")) (is_group_if_any ms (after to (codes "group:")))
+is_there ms to = option_map_or (is_known ms) (subject_in to) true
 
 abbrev pub has_item : Items → Bool
 has_item no_items = false

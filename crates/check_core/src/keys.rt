@@ -58,8 +58,8 @@ fn first_lacking(rows: &'static [Row], table: &Table) -> Option<&'static str>
         ≡ spec.first_lacking (map form.field_of rows.now) (table_view table.now) }
 {
     for row in rows {
-        if row.1 && lacks(table, row.0) {
-            return Some(row.0);
+        if row.is_required && lacks(table, row.key) {
+            return Some(row.key);
         }
     }
     None
@@ -81,7 +81,7 @@ fn lacks_all(rows: &[Row], table: &Table) -> bool
     ensures { result ≡ spec.lacks_all (map form.field_of rows.now) (table_view table.now) }
 {
     for row in rows {
-        if !lacks(table, row.0) {
+        if !lacks(table, row.key) {
             return false;
         }
     }
@@ -93,7 +93,7 @@ fn first_key(rows: &'static [Row]) -> Option<&'static str>
 {
     match rows {
         [] => None,
-        [row, ..] => Some(row.0),
+        [row, ..] => Some(row.key),
     }
 }
 

@@ -3,19 +3,14 @@
 ghost use Rattle.std.specs.Prelude.{◌≡◌};
 ghost use Rattle.std.specs.Option.{option_copied, option_map};
 ghost use Rattle.toml.specs.View.{array_view, table_view, view};
-ghost use Rattle.settings_parts.specs.PeopleParts.{after};
+ghost use Rattle.settings_form.specs.Grantee as form;
 ghost use Rattle.check_core.specs.People as spec;
 
 use crate::values::{text_at, text_of};
+use settings_form::grantee::{Grantee, grantee_of};
 use settings_parts::values::{array_at, has_key, table_at, table_of};
 use toml::value::Array;
 use toml::{Table, Value};
-
-/// What the name of a person begins with, where a grant is for one.
-const PERSON: &str = "person:";
-
-/// What the name of a group begins with.
-const GROUP: &str = "group:";
 
 /// The first group that has a member which is neither a person nor a group: its name, and the
 /// member.
@@ -117,20 +112,20 @@ fn has_item(list: &Array) -> bool
 fn is_there(table: &Table, to: &str) -> bool
     ensures { result ≡ spec.is_there (table_view table.now) to.now }
 {
-    match after(to, PERSON) {
-        Some(person) => is_person(table, person),
-        None => match after(to, GROUP) {
-            Some(group) => is_group(table, group),
-            None => true,
-        },
+    match grantee_of(to) {
+        Some(grantee) => is_known(table, grantee),
+        None => true,
     }
 }
 
-/// What follows in the text, where it begins so.
-fn after<'a>(text: &'a str, start: &str) -> Option<&'a str>
-    ensures { option_copied result ≡ after text.now start.now }
+fn is_known(table: &Table, grantee: Grantee<'_>) -> bool
+    ensures { result ≡ spec.is_known (table_view table.now) (form.subject_of grantee.entry) }
 {
-    text.strip_prefix(start)
+    match grantee {
+        Grantee::Person(name) => is_person(table, name),
+        Grantee::Group(name) => is_group(table, name),
+        Grantee::Everyone | Grantee::Role(_) => true,
+    }
 }
 
 fn is_person(table: &Table, name: &str) -> bool

@@ -8,7 +8,7 @@ use Rattle.hours_core.specs.Counting.{count_of_next, count, has_passed}
 use Rattle.hours_core.specs.Least.{NoneHolds, IsLeast}
 use Rattle.hours_core.specs.Moment.{first_minute, end_minute}
 use Rattle.hours_core.specs.Probes.{reaches}
-use Rattle.hours_core.specs.Spans.{is_held, minutes_of, AreSpans, held_before}
+use Rattle.hours_core.specs.Spans.{is_held, length_of, AreSpans, held_before}
 use Rattle.hours_core.specs.declared.search.Mark.TheVariants.{EndsAfter, Counts}
 use Rattle.hours_core.specs.declared.spans.Span.{Span}
 use Rattle.hours_core.proofs.LeastLemmas.{same_least, count-start}
@@ -21,7 +21,7 @@ none_held e b (x ∷ xs) m h k =
     let start = h.0 in
     let some = h.1 in
     rw (under x.start x.end m (omega arith))
-    (none_held (x.end + 1) (b + minutes_of x) xs m h.4 (omega arith))
+    (none_held (x.end + 1) (b + length_of x) xs m h.4 (omega arith))
 
 -- nothing is held after the end of all moments
 pub none_late : (e b : ℕ) (xs : List Span) (m : ℕ) → AreSpans e b xs → end_minute ≤ m
@@ -29,7 +29,7 @@ pub none_late : (e b : ℕ) (xs : List Span) (m : ℕ) → AreSpans e b xs → e
 none_late e b [] m h k = refl
 none_late e b (x ∷ xs) m h k =
     let to = h.2 in
-    rw (over x.start x.end m (omega arith)) (none_late (x.end + 1) (b + minutes_of x) xs m h.4 k)
+    rw (over x.start x.end m (omega arith)) (none_late (x.end + 1) (b + length_of x) xs m h.4 k)
 
 pub none_before : (e b : ℕ) (xs : List Span) (m : ℕ) → AreSpans e b xs → m ≤ e
     → held_before xs m ≡ 0
@@ -37,7 +37,7 @@ none_before e b [] m h k = refl
 none_before e b (x ∷ xs) m h k =
     let start = h.0 in
     let some = h.1 in
-    omega (arith, none_before (x.end + 1) (b + minutes_of x) xs m h.4 (omega arith))
+    omega (arith, none_before (x.end + 1) (b + length_of x) xs m h.4 (omega arith))
 
 one_if : Bool → ℕ
 one_if t = if t then 1 else 0
@@ -48,12 +48,12 @@ held_step : (e b : ℕ) (xs : List Span) (m : ℕ) → AreSpans e b xs
 held_step e b [] m h = refl
 held_step e b (x ∷ xs) m h =
     let some = h.1 in
-    let rest = held_step (x.end + 1) (b + minutes_of x) xs m h.4 in
+    let rest = held_step (x.end + 1) (b + length_of x) xs m h.4 in
     elim (cases_lt m x.end) [
       | inl early ↦
-          let none = none_held (x.end + 1) (b + minutes_of x) xs m h.4 (omega arith) in
-          let now = none_before (x.end + 1) (b + minutes_of x) xs m h.4 (omega arith) in
-          let next = none_before (x.end + 1) (b + minutes_of x) xs (m + 1) h.4 (omega arith) in
+          let none = none_held (x.end + 1) (b + length_of x) xs m h.4 (omega arith) in
+          let now = none_before (x.end + 1) (b + length_of x) xs m h.4 (omega arith) in
+          let next = none_before (x.end + 1) (b + length_of x) xs (m + 1) h.4 (omega arith) in
           elim (cases_lt m x.start) [
             | inl before ↦ rw (under x.start x.end m before, none) (omega (arith, now, next))
             | inr from ↦ rw (within x.start x.end m from early) (omega (arith, now, next))
@@ -77,7 +77,7 @@ counted e b xs a m h k = counted_next e b xs a (m - a) h ∙ ap (held_before xs)
 -- the last span tells how many minutes all of them hold
 pub all_held : (e b : ℕ) (xs : List Span) (last m : ℕ) (d : Span) → AreSpans e b xs
     → last + 1 ≡ length xs → end_minute ≤ m
-    → (get_or xs last d).before + minutes_of (get_or xs last d) ≡ b + held_before xs m
+    → (get_or xs last d).before + length_of (get_or xs last d) ≡ b + held_before xs m
 all_held e b [] last m d h n late = absurd (omega arith)
 all_held e b (x ∷ []) (suc last) m d h n late = absurd (omega arith)
 all_held e b (x ∷ y ∷ xs) zero m d h n late = absurd (omega arith)
@@ -93,7 +93,7 @@ all_held e b (x ∷ y ∷ xs) (suc last) m d h n late =
       arith,
       some,
       to,
-      all_held (x.end + 1) (b + minutes_of x) (y ∷ xs) last m d h.4 (omega arith) late,
+      all_held (x.end + 1) (b + length_of x) (y ∷ xs) last m d h.4 (omega arith) late,
     )
 
 -- no more minutes are held than there are
@@ -102,7 +102,7 @@ held_few e b [] m h = omega arith
 held_few e b (x ∷ xs) m h =
     let start = h.0 in
     let some = h.1 in
-    omega (arith, start, some, held_few (x.end + 1) (b + minutes_of x) xs m h.4)
+    omega (arith, start, some, held_few (x.end + 1) (b + length_of x) xs m h.4)
 
 -- the first open minute of the span that a search finds
 abbrev pub opening_of : ℕ → Option Span → Option ℕ
@@ -129,7 +129,7 @@ first_is e b (x ∷ xs) m h =
           (same_least (is_held xs) (is_held (x ∷ xs)) m end_minute
           (opening_of m (find (reaches (EndsAfter m)) xs))
           (λ k low. rw (over x.start x.end k (omega arith)) refl)
-          (first_is (x.end + 1) (b + minutes_of x) xs m h.4))
+          (first_is (x.end + 1) (b + length_of x) xs m h.4))
     ]
 
 option_weaker : {X : Type 0} (o : Option X) {P P' : Type 0} {Q Q' : X → Type 0} → (P → P')
@@ -150,14 +150,14 @@ passed_is e b (x ∷ xs) m h =
     let total = h.3 in
     elim (cases_lt m x.end) [
       | inl early ↦
-          let none = none_before (x.end + 1) (b + minutes_of x) xs m h.4 (omega arith) in
+          let none = none_before (x.end + 1) (b + length_of x) xs m h.4 (omega arith) in
           rw (lt-ltb m x.end early) (omega (arith, none), omega arith)
       | inr late ↦
           rw (le-ltb m x.end late)
           (option_weaker (find (reaches (EndsAfter m)) xs)
           (λ all y k. omega (arith, all y k))
           (λ s r. (omega (arith, r.0), omega (arith, r.1)))
-          (passed_is (x.end + 1) (b + minutes_of x) xs m h.4))
+          (passed_is (x.end + 1) (b + length_of x) xs m h.4))
     ]
 
 -- where a number of minutes ends: in this span
@@ -174,12 +174,12 @@ pub record IsEnd (e b : ℕ) (xs : List Span) (target : ℕ) (span : Span) : Typ
   pub less : (m : ℕ) → m < end_in target span → b + held_before xs m < target
 
 here_ends : (e b : ℕ) (x : Span) (xs : List Span) (target : ℕ) → AreSpans e b (x ∷ xs) → b < target
-    → target ≤ x.before + minutes_of x → IsEnd e b (x ∷ xs) target x
+    → target ≤ x.before + length_of x → IsEnd e b (x ∷ xs) target x
 here_ends e b x xs target h some within =
     let long = h.1 in
     let total = h.3 in
     let none : (m : ℕ) → m ≤ x.end → held_before xs m ≡ 0 =
-    λ m k. none_before (x.end + 1) (b + minutes_of x) xs m h.4 (omega arith) in
+    λ m k. none_before (x.end + 1) (b + length_of x) xs m h.4 (omega arith) in
     record {
       above = h.0;
       begun = omega arith;
@@ -190,7 +190,7 @@ here_ends e b x xs target h some within =
     }
 
 later_ends : (e b : ℕ) (x : Span) (xs : List Span) (target : ℕ) (s : Span) → AreSpans e b (x ∷ xs)
-    → IsEnd (x.end + 1) (b + minutes_of x) xs target s → IsEnd e b (x ∷ xs) target s
+    → IsEnd (x.end + 1) (b + length_of x) xs target s → IsEnd e b (x ∷ xs) target s
 later_ends e b x xs target s h r =
     let start = h.0 in
     let long = h.1 in
@@ -212,15 +212,15 @@ end_is e b [] target h some = λ m. omega arith
 end_is e b (x ∷ xs) target h some =
     let long = h.1 in
     let total = h.3 in
-    elim (cases_lt (x.before + minutes_of x) target) [
-      | inr within ↦ rw (le-leb target (x.before + minutes_of x) within)
+    elim (cases_lt (x.before + length_of x) target) [
+      | inr within ↦ rw (le-leb target (x.before + length_of x) within)
           (here_ends e b x xs target h some within)
       | inl more ↦
-          rw (lt-leb target (x.before + minutes_of x) more)
+          rw (lt-leb target (x.before + length_of x) more)
           (option_weaker (find (reaches (Counts target)) xs)
           (λ all m. omega (arith, all m))
           (λ s r. later_ends e b x xs target s h r)
-          (end_is (x.end + 1) (b + minutes_of x) xs target h.4 (omega arith)))
+          (end_is (x.end + 1) (b + length_of x) xs target h.4 (omega arith)))
     ]
 
 -- fewer minutes have passed than are asked for

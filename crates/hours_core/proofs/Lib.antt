@@ -1,5 +1,4 @@
 pub mod CountLemmas
-pub mod DateLemmas
 pub mod HolidayLemmas
 pub mod LeastLemmas
 pub mod LimitLemmas
@@ -12,4 +11,5 @@ pub mod SpanLemmas
 pub mod StretchLemmas
 pub mod TextLemmas
 pub mod WalkLemmas
+pub mod YearLemmas
 pub mod ZoneLemmas

@@ -2,25 +2,30 @@
 use Rattle.std.proofs.Common.{◌≡◌, ℕ, zero, suc, Bool, true, false, ◌&&◌, List, [], ◌∷◌, ◌++◌}
 use Rattle.std.proofs.Common.{◌+◌, ◌-◌, ◌*◌, ◌<◌, ◌≤◌, inl, inr, refl, sym, ap, ◌∙◌, arith, subst}
 use Rattle.std.proofs.Common.{ℤ, pos, ◌≤ℤ◌, ◌*ℤ◌, ◌+ℤ◌, int_le, if◌then◌else◌, length, nat_lt, not}
-use Rattle.std.proofs.Common.{◌≢◌, Ok, Err, Some}
+use Rattle.std.proofs.Common.{◌≢◌, Ok, Err, Some, None, Result, IfOk, IfErr}
+use Rattle.std.proofs.Math.Path.{fun_ext}
 use Rattle.std.specs.List.{list_all}
 use Rattle.std.specs.Ordering.{int_eq}
 use Rattle.std.proofs.lemmas.Bool.Decides.{leb_tells}
 use Rattle.std.proofs.lemmas.Int.{ints}
-use Rattle.hours_core.specs.Rules.{minutes_of, are_minutes, are_offsets, change_after, changes_of}
+use Rattle.hours_core.specs.Rules.{to_minutes, are_minutes, are_offsets, change_after, changes_of}
 use Rattle.std.specs.Int.Signed.{le_z_yes}
 use Rattle.std.proofs.lemmas.Float.{T_from_true}
 use Rattle.std.proofs.lemmas.Bool.Decides.{nat_tests}
-use Rattle.jiff.specs.Words.{read_whole}
-use Rattle.zone_rules.specs.Rule.{TzText, first_day_of, nanos}
-use Rattle.zone_rules.proofs.DayLemmas.{first_days_rise, first_day_range}
-use Rattle.zone_rules.proofs.TextLemmas.{read_seconds}
+use Rattle.jiff.specs.Placed.{IsPosixZone}
+use Rattle.jiff.specs.Words.{read_whole, offset_at as jiff_offset}
+use Rattle.days.specs.Dates.{first_day_of}
+use Rattle.days.proofs.DayLemmas.{first_days_rise, first_day_range}
+use Rattle.zone_rules.specs.Rule.{GoesByJiff, TimeZone, TzText, nanos}
+use Rattle.zone_rules.proofs.TextLemmas.{reads_none}
 use Rattle.hours_core.specs.Hours.{is_year, are_years}
 use Rattle.hours_core.specs.Moment.{first_minute, end_minute}
-use Rattle.hours_core.specs.Rules.{zone_in, zone_by, later_of, earlier_of, first_asked, end_asked}
-use Rattle.hours_core.specs.Rules.{IsAsked, FollowsRule, seconds_of}
+use Rattle.hours_core.specs.Rules.{zone_in, zone_by, first_asked, end_asked}
+use Rattle.hours_core.specs.Rules.{IsAsked, FollowsJiff, FollowsRule, seconds_of, zone_like}
 use Rattle.hours_core.specs.Zone.{Offsets, offset_at, is_offset}
+use Rattle.hours_core.specs.declared.fault.HoursFault.{HoursFault}
 use Rattle.hours_core.specs.declared.fault.HoursFault.TheVariants.{BadOffset, TooManyChanges}
+use Rattle.hours_core.specs.declared.fault.HoursFault.TheVariants.{BadYears, BadRule, NoMemory}
 use Rattle.hours_core.proofs.ZoneLemmas.{offset_at-last}
 
 both : (a b : Bool) → a ≡ true → b ≡ true → (a && b) ≡ true
@@ -135,7 +140,7 @@ change_left o first n e =
 abbrev pub Covers : (ℕ → ℤ) → ℕ → ℕ → ℕ → List (ℤ × ℤ) → ℤ → Type 0
 Covers s first minute end kept last =
     (n : ℕ) × (minute ≡ suc (first + n)) × (minute ≤ end) × (are_offsets s first n ≡ true)
-    × (kept ≡ changes_of (λ m. minutes_of (s m)) first n) × (last ≡ minutes_of (s (first + n)))
+    × (kept ≡ changes_of (λ m. to_minutes (s m)) first n) × (last ≡ to_minutes (s (first + n)))
 
 same_offsets : (s : ℕ → ℤ) (first n : ℕ) → are_minutes (s first) ≡ true
     → ((j : ℕ) → first ≤ j → j ≤ first + n → s j ≡ s first) → are_offsets s first n ≡ true
@@ -160,7 +165,7 @@ same_changes o first (suc n) same =
 -- as long as the first offset stays
 pub covers_first : (s : ℕ → ℤ) (first minute end : ℕ) (kept : List (ℤ × ℤ)) (last : ℤ)
     → first < minute → minute ≤ end → are_minutes (s first) ≡ true
-    → ((j : ℕ) → first ≤ j → j < minute → s j ≡ s first) → kept ≡ [] → last ≡ minutes_of (s first)
+    → ((j : ℕ) → first ≤ j → j < minute → s j ≡ s first) → kept ≡ [] → last ≡ to_minutes (s first)
     → Covers s first minute end kept last
 covers_first s first minute end kept last low high h same none start =
     let n : ℕ = minute - suc first in
@@ -170,9 +175,9 @@ covers_first s first minute end kept last low high h same none start =
       omega arith,
       high,
       same_offsets s first n h stays,
-      none ∙ sym (same_changes (λ m. minutes_of (s m)) first n
-          (λ j from to. ap minutes_of (stays j from to))),
-      start ∙ ap minutes_of (sym (stays (first + n) (omega arith) (omega arith))),
+      none ∙ sym (same_changes (λ m. to_minutes (s m)) first n
+          (λ j from to. ap to_minutes (stays j from to))),
+      start ∙ ap to_minutes (sym (stays (first + n) (omega arith) (omega arith))),
     )
 
 kept_next : (t : Bool) (o : ℕ → ℤ) (first n : ℕ) → int_eq (o (suc (first + n))) (o (first + n)) ≡ t
@@ -184,18 +189,18 @@ kept_next t o first n e = next_changes o first n ∙ rw e refl
 pub covers_on : (s : ℕ → ℤ) (first minute end next : ℕ) (kept more : List (ℤ × ℤ))
     (last offset now : ℤ)
     → Covers s first minute end kept last → minute < next → next ≤ end
-    → are_minutes (s minute) ≡ true → offset ≡ minutes_of (s minute)
+    → are_minutes (s minute) ≡ true → offset ≡ to_minutes (s minute)
     → ((j : ℕ) → minute ≤ j → j < next → s j ≡ s minute)
     → more ≡ kept ++ (if int_eq offset last then [] else (pos minute, offset) ∷ [])
     → now ≡ offset → Covers s first next end more now
 covers_on s first minute end next kept more last offset now (n, place, within, good, items, final)
     low high h e same added held =
-    let o : ℕ → ℤ = λ m. minutes_of (s m) in
+    let o : ℕ → ℤ = λ m. to_minutes (s m) in
     let m : ℕ = next - suc first in
     let here = ap s place in
     let stays : (j : ℕ) → suc (first + n) ≤ j → j ≤ first + m → s j ≡ s (suc (first + n)) =
     λ j from to. same j (omega arith) (omega arith) ∙ here in
-    let offset_is = e ∙ ap minutes_of here in
+    let offset_is = e ∙ ap to_minutes here in
     let test : int_eq offset last ≡ int_eq (o (suc (first + n))) (o (first + n)) =
     ap (λ x. int_eq x last) offset_is ∙ ap (λ x. int_eq (o (suc (first + n))) x) final in
     let one : more ≡ changes_of o first (suc n) =
@@ -212,19 +217,19 @@ covers_on s first minute end next kept more last offset now (n, place, within, g
       omega arith,
       high,
       offsets_on s first n m (omega arith) good (ap are_minutes (sym here) ∙ h) stays,
-      one ∙ sym (changes_on o first n m (omega arith) (λ j from to. ap minutes_of (stays j from to))),
-      held ∙ e ∙ ap minutes_of (here ∙ sym (stays (first + m) (omega arith) (omega arith))),
+      one ∙ sym (changes_on o first n m (omega arith) (λ j from to. ap to_minutes (stays j from to))),
+      held ∙ e ∙ ap to_minutes (here ∙ sym (stays (first + m) (omega arith) (omega arith))),
     )
 
 -- at the end all are known
 pub covers_all : (s : ℕ → ℤ) (first minute end : ℕ) (kept : List (ℤ × ℤ)) (last : ℤ)
     → Covers s first minute end kept last → end ≤ minute
     → (are_offsets s first (end - suc first) ≡ true)
-    × (kept ≡ changes_of (λ m. minutes_of (s m)) first (end - suc first))
+    × (kept ≡ changes_of (λ m. to_minutes (s m)) first (end - suc first))
 covers_all s first minute end kept last (n, place, within, good, items, final) done =
     let all : n ≡ end - suc first = omega arith in (
       ap (λ k. are_offsets s first k) (sym all) ∙ good,
-      items ∙ ap (λ k. changes_of (λ m. minutes_of (s m)) first k) all,
+      items ∙ ap (λ k. changes_of (λ m. to_minutes (s m)) first k) all,
     )
 
 -- at a minute without whole minutes none of it helps
@@ -251,7 +256,7 @@ pub zone_bad-first : (s : ℕ → ℤ) (first n : ℕ) → are_minutes (s first)
 zone_bad-first s first n h = zone_bad s first n (first_fails s first n h)
 
 pub zone_long : (s : ℕ → ℤ) (first n : ℕ) (kept : List (ℤ × ℤ)) → are_offsets s first n ≡ true
-    → kept ≡ changes_of (λ m. minutes_of (s m)) first n → 400 < length kept
+    → kept ≡ changes_of (λ m. to_minutes (s m)) first n → 400 < length kept
     → zone_in s first n ≡ Err TooManyChanges
 unfolding zone_in
 zone_long s first n kept h e long =
@@ -259,20 +264,20 @@ zone_long s first n kept h e long =
     rw (h, ← e, more) refl
 
 pub zone_good : (s : ℕ → ℤ) (first n : ℕ) (kept : List (ℤ × ℤ)) (zone : Offsets)
-    → are_offsets s first n ≡ true → kept ≡ changes_of (λ m. minutes_of (s m)) first n
-    → length kept ≤ 400 → zone.first ≡ minutes_of (s first) → zone.changes ≡ kept
+    → are_offsets s first n ≡ true → kept ≡ changes_of (λ m. to_minutes (s m)) first n
+    → length kept ≤ 400 → zone.first ≡ to_minutes (s first) → zone.changes ≡ kept
     → zone_in s first n ≡ Ok zone
 unfolding zone_in
 zone_good s first n kept zone h e short start changes =
     let few : nat_lt 400 (length kept) ≡ false = grind (arith, nat_tests) in
     rw (h, ← e, few, ← start, ← changes) refl
 
-less_than_day : (seconds : ℤ) → are_minutes seconds ≡ true → is_offset (minutes_of seconds) ≡ true
-less_than_day seconds h = right_of (int_eq (minutes_of seconds *ℤ pos 60) seconds) _ h
+less_than_day : (seconds : ℤ) → are_minutes seconds ≡ true → is_offset (to_minutes seconds) ≡ true
+less_than_day seconds h = right_of (int_eq (to_minutes seconds *ℤ pos 60) seconds) _ h
 
-whole : (seconds : ℤ) → are_minutes seconds ≡ true → minutes_of seconds *ℤ pos 60 ≡ seconds
+whole : (seconds : ℤ) → are_minutes seconds ≡ true → to_minutes seconds *ℤ pos 60 ≡ seconds
 whole seconds h =
-    let e = left_of (int_eq (minutes_of seconds *ℤ pos 60) seconds) _ h in
+    let e = left_of (int_eq (to_minutes seconds *ℤ pos 60) seconds) _ h in
     grind (arith, ints)
 
 all_append : (p : ℤ × ℤ → Bool) (xs ys : List (ℤ × ℤ)) → list_all p xs ≡ true
@@ -310,21 +315,21 @@ offset_among s first (suc n) m h low high = elim (leb_tells m (first + n)) [
 -- each kept offset is less than a day
 kept_offsets : (s : ℕ → ℤ) (first n : ℕ) → are_offsets s first n ≡ true
     → list_all (λ (change : ℤ × ℤ). is_offset change.1)
-    (changes_of (λ m. minutes_of (s m)) first n)
+    (changes_of (λ m. to_minutes (s m)) first n)
     ≡ true
 unfolding are_offsets changes_of
 kept_offsets s first zero h = refl
 kept_offsets s first (suc n) h =
-    all_append _ (changes_of (λ m. minutes_of (s m)) first n) _
+    all_append _ (changes_of (λ m. to_minutes (s m)) first n) _
     (kept_offsets s first n (left_of (are_offsets s first n) _ h))
-    (one_offset (int_eq (minutes_of (s (suc (first + n)))) (minutes_of (s (first + n))))
-    (pos (suc (first + n))) (minutes_of (s (suc (first + n))))
+    (one_offset (int_eq (to_minutes (s (suc (first + n)))) (to_minutes (s (first + n))))
+    (pos (suc (first + n))) (to_minutes (s (suc (first + n))))
     (less_than_day (s (suc (first + n))) (right_of (are_offsets s first n) _ h)))
 
 pub zone_offsets : (s : ℕ → ℤ) (first n : ℕ) → are_offsets s first n ≡ true
-    → (is_offset (minutes_of (s first))
+    → (is_offset (to_minutes (s first))
     && list_all (λ (change : ℤ × ℤ). is_offset change.1)
-    (changes_of (λ m. minutes_of (s m)) first n))
+    (changes_of (λ m. to_minutes (s m)) first n))
     ≡ true
 zone_offsets s first n h =
     both _ _ (less_than_day (s first) (first_offset s first n h)) (kept_offsets s first n h)
@@ -400,39 +405,28 @@ within_years year h = (
   le_is year (pos 2099) (right_of (int_le (pos 2000) year) _ h),
 )
 
-between : (a b c d : ℕ) → a < c → a < d → b < c → b < d → later_of a b < earlier_of c d
-between a b c d h k l m = grind (arith, nat_tests)
-
-pub not_after : (a b : ℕ) → earlier_of a b ≤ a
-not_after a b = grind (arith, nat_tests)
+-- the years are in order, from 2000 to 2099
+pub years_range : (years : ℤ × ℤ) → are_years years ≡ true
+    → (pos 2000 ≤ℤ years.0) × (years.0 ≤ℤ years.1) × (years.1 ≤ℤ pos 2099)
+years_range years h =
+    let ends = left_of (is_year years.0 && is_year years.1) _ h in
+    let first = within_years years.0 (left_of (is_year years.0) _ ends) in
+    let last = within_years years.1 (right_of (is_year years.0) _ ends) in
+    (first.0, le_is years.0 years.1 (right_of (is_year years.0 && is_year years.1) _ h), last.1)
 
 -- some minute is asked for
 pub some_asked : (years : ℤ × ℤ) → are_years years ≡ true → first_asked years < end_asked years
 some_asked years h =
-    let ends = left_of (is_year years.0 && is_year years.1) _ h in
-    let first = within_years years.0 (left_of (is_year years.0) _ ends) in
-    let last = within_years years.1 (right_of (is_year years.0) _ ends) in
-    let order = le_is years.0 years.1 (right_of (is_year years.0 && is_year years.1) _ h) in
-    let rise = first_days_rise years.0 (years.1 +ℤ pos 1) first.0 (omega (arith, ints))
+    let (first, order, last) = years_range years h in
+    let rise = first_days_rise years.0 (years.1 +ℤ pos 1) first (omega (arith, ints))
     (omega (arith, ints)) in
-    let low = first_day_range years.0 first.0 (omega (arith, ints)) in
-    between first_minute ((first_day_of years.0 - 1) * 1440) end_minute
-    ((first_day_of (years.1 +ℤ pos 1) + 1) * 1440)
-    (omega arith) (omega arith) (omega arith) (omega arith)
-
-at_most : (a b m : ℕ) → a ≤ m → b ≤ m → later_of a b ≤ m
-at_most a b m h k = grind (arith, nat_tests)
-
-below : (a b m : ℕ) → m < a → m < b → m < earlier_of a b
-below a b m h k = grind (arith, nat_tests)
+    let low = first_day_range years.0 first (omega (arith, ints)) in
+    omega arith
 
 -- the minutes that are asked for are those from the first one to before the end
 among_asked : (years : ℤ × ℤ) (m : ℕ) → IsAsked years m
     → (first_asked years ≤ m) × (m < end_asked years)
-among_asked years m (low, high, first, last) = (
-  at_most first_minute ((first_day_of years.0 - 1) * 1440) m low (omega arith),
-  below end_minute ((first_day_of (years.1 +ℤ pos 1) + 1) * 1440) m high (omega arith),
-)
+among_asked years m (low, high, first, last) = (omega arith, omega arith)
 
 by_tests : (a b : Bool) (whole zone : Offsets)
     → (if not a then Err BadOffset else (if b then Err TooManyChanges else Ok whole)) ≡ Ok zone
@@ -443,12 +437,12 @@ by_tests false b whole zone e = cc
 
 good_zone : (s : ℕ → ℤ) (first n : ℕ) (zone : Offsets) → zone_in s first n ≡ Ok zone
     → (are_offsets s first n ≡ true)
-    × (record { first = minutes_of (s first); changes = changes_of (λ m. minutes_of (s m)) first n }
+    × (record { first = to_minutes (s first); changes = changes_of (λ m. to_minutes (s m)) first n }
     ≡ zone)
 unfolding zone_in
 good_zone s first n zone e =
-    by_tests (are_offsets s first n) (nat_lt 400 (length (changes_of (λ m. minutes_of (s m)) first n)))
-    (record { first = minutes_of (s first); changes = changes_of (λ m. minutes_of (s m)) first n })
+    by_tests (are_offsets s first n) (nat_lt 400 (length (changes_of (λ m. to_minutes (s m)) first n)))
+    (record { first = to_minutes (s first); changes = changes_of (λ m. to_minutes (s m)) first n })
     zone e
 
 seconds_back : (s : ℕ → ℤ) (first n : ℕ) (zone : Offsets) (m : ℕ) → zone_in s first n ≡ Ok zone
@@ -456,15 +450,43 @@ seconds_back : (s : ℕ → ℤ) (first n : ℕ) (zone : Offsets) (m : ℕ) → 
 seconds_back s first n zone m e low high =
     let good = good_zone s first n zone e in
     ap (λ (z : Offsets). offset_at z.first z.changes m *ℤ pos 60) (sym good.1)
-    ∙ ap (λ o. o *ℤ pos 60) (offset_within (λ k. minutes_of (s k)) first n m low high)
+    ∙ ap (λ o. o *ℤ pos 60) (offset_within (λ k. to_minutes (s k)) first n m low high)
     ∙ whole (s m) (offset_among s first n m good.0 low high)
 
 -- the zone of a rule has the offsets of the zone that jiff reads
 pub follows : (text : List ℕ) (years : ℤ × ℤ) (rule : TzText) (offsets : Offsets)
-    → read_whole text ≡ Some rule → zone_by (Some rule) years ≡ Ok offsets
+    → GoesByJiff text rule → zone_by (Some rule) years ≡ Ok offsets
     → FollowsRule text years offsets
-follows text years rule offsets read built zone is m asked =
+follows text years rule offsets same built zone is m asked =
     let among = among_asked years m asked in
     seconds_back (seconds_of rule) (first_asked years)
     (end_asked years - suc (first_asked years)) offsets m built among.0 (omega arith)
-    ∙ sym (read_seconds text zone rule (nanos m) is read)
+    ∙ same zone is (nanos m)
+
+pub bad_years : (text : List ℕ) (years : ℤ × ℤ) → are_years years ≡ false
+    → FollowsJiff text years (Err BadYears)
+bad_years text years bad zone is other = rw bad refl
+
+pub no_rule : (text : List ℕ) (years : ℤ × ℤ) → read_whole text ≡ None
+    → FollowsJiff text years (Err BadRule)
+no_rule text years none zone is other = absurd (reads_none text zone none is)
+
+like_rule : (text : List ℕ) (years : ℤ × ℤ) (rule : TzText) (zone : TimeZone)
+    → are_years years ≡ true → GoesByJiff text rule → IsPosixZone text zone
+    → zone_by (Some rule) years ≡ zone_like zone years
+like_rule text years rule zone good same is =
+    let span : ℕ = end_asked years - suc (first_asked years) in
+    let seconds : seconds_of rule ≡ (λ m. jiff_offset zone (nanos m)) =
+    fun_ext (λ m. same zone is (nanos m)) in
+    rw good (ap (λ (s : ℕ → ℤ). zone_in s (first_asked years) span) seconds)
+
+-- what a rule's zone comes to is what the zone that jiff reads comes to
+pub follows_jiff : (text : List ℕ) (years : ℤ × ℤ) (rule : TzText)
+    (answer : Result Offsets HoursFault) → are_years years ≡ true → GoesByJiff text rule
+    → IfOk answer (λ z. zone_by (Some rule) years ≡ Ok z)
+    → IfErr answer (λ e. e ≢ NoMemory → zone_by (Some rule) years ≡ Err e)
+    → FollowsJiff text years answer
+follows_jiff text years rule (Ok offsets) good same ok err zone is other =
+    sym ok ∙ like_rule text years rule zone good same is
+follows_jiff text years rule (Err fault) good same ok err zone is other =
+    sym (err (λ e. other (ap Err e))) ∙ like_rule text years rule zone good same is

@@ -5,7 +5,7 @@ use Rattle.std.proofs.Math.Path.{fun_ext}
 use Rattle.hours_core.specs.Counting.{count}
 use Rattle.hours_core.specs.Moment.{first_minute}
 use Rattle.hours_core.specs.Runs.{IsRun, AreRuns}
-use Rattle.hours_core.specs.Spans.{AreSpans, is_held, minutes_of, held_before}
+use Rattle.hours_core.specs.Spans.{AreSpans, is_held, length_of, held_before}
 use Rattle.hours_core.specs.declared.spans.Span.{Span}
 use Rattle.hours_core.proofs.CountLemmas.{none_held, none_before, counted}
 use Rattle.hours_core.proofs.SpanLemmas.{within, over}
@@ -32,7 +32,7 @@ first_run opens e b x xs h =
       shut_after =
           h.held x.end (omega arith)
           ∙ rw (over x.start x.end x.end (omega arith))
-          (none_held (x.end + 1) (b + minutes_of x) xs x.end h.order.4 (omega arith));
+          (none_held (x.end + 1) (b + length_of x) xs x.end h.order.4 (omega arith));
       before = omega (
         arith,
         h.order.3,
@@ -42,7 +42,7 @@ first_run opens e b x xs h =
     }
 
 rest_of : (opens : ℕ → Bool) (e b : ℕ) (x : Span) (xs : List Span) → Rest opens e b (x ∷ xs)
-    → Rest opens (x.end + 1) (b + minutes_of x) xs
+    → Rest opens (x.end + 1) (b + length_of x) xs
 rest_of opens e b x xs h =
     let start = h.order.0 in
     let some = h.order.1 in
@@ -57,7 +57,7 @@ each_run : (opens : ℕ → Bool) (e b : ℕ) (xs : List Span) → Rest opens e 
 each_run opens e b [] h k d within = absurd (omega arith)
 each_run opens e b (x ∷ xs) h zero d within = first_run opens e b x xs h
 each_run opens e b (x ∷ xs) h (suc k) d within =
-    each_run opens (x.end + 1) (b + minutes_of x) xs (rest_of opens e b x xs h) k d (omega arith)
+    each_run opens (x.end + 1) (b + length_of x) xs (rest_of opens e b x xs h) k d (omega arith)
 
 held_runs : (xs : List Span) → AreSpans first_minute 0 xs → AreRuns (is_held xs) xs
 held_runs xs h =

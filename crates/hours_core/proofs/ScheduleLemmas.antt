@@ -1,15 +1,16 @@
 -- How the intervals of local days become spans of moments.
 use Rattle.std.proofs.Common.{◌≡◌, ℕ, ◌+◌, ◌-◌, ◌*◌, ◌/◌, ◌%◌, ◌<◌, ◌≤◌, Bool, true, false}
 use Rattle.std.proofs.Common.{◌&&◌, ◌||◌, ◌==◌, nat_le, nat_lt, List, [], ◌∷◌, min, max, ℤ}
-use Rattle.std.proofs.Common.{pos, ◌+ℤ◌, unsigned_abs, inl, inr, refl, sym, ◌∙◌, arith}
+use Rattle.std.proofs.Common.{◌⊎◌, pos, ◌+ℤ◌, unsigned_abs, inl, inr, refl, sym, ◌∙◌, arith}
 use Rattle.std.specs.List.{list_any}
 use Rattle.std.proofs.lemmas.Bool.{cases_lt, lt-ltb, le-ltb, le-leb}
 use Rattle.std.proofs.lemmas.Bool.{lt-leb, and_parts, leb-true, ltb-true}
 use Rattle.std.proofs.lemmas.Int.{ints}
-use Rattle.hours_core.specs.Hours.{Hours, is_open, is_open_on, is_within, are_intervals}
-use Rattle.hours_core.specs.Moment.{first_minute, end_minute}
+use Rattle.hours_core.specs.Date.{date_of_day}
+use Rattle.hours_core.specs.Hours.{Hours, is_between, is_open, is_open_on, is_within, are_intervals}
+use Rattle.hours_core.specs.Moment.{first_minute, end_minute, is_moment}
 use Rattle.hours_core.specs.Schedule.{HoldBefore}
-use Rattle.hours_core.specs.Spans.{is_held, end_of}
+use Rattle.hours_core.specs.Spans.{is_held, last_end}
 use Rattle.hours_core.specs.Zone.{Offsets, local_minute}
 use Rattle.hours_core.specs.declared.spans.Span.{Span}
 use Rattle.hours_core.proofs.SpanLemmas.{within, under, over, and-false, or-false}
@@ -96,7 +97,7 @@ pub held_more : (hours : Hours) (point next midnight day : ℕ) (intervals : Lis
     → ((m : ℕ) → is_held new m
     ≡ (is_held old m || (is_within m (point, next)
     && list_any (is_within (m - midnight)) intervals)))
-    → end_of first_minute new ≤ next
+    → last_end first_minute new ≤ next
     → HoldBefore hours next new
 held_more hours point next midnight day intervals old new before low begins order short high clock
     opens grown last = record {
@@ -136,31 +137,50 @@ held_more hours point next midnight day intervals old new before low begins orde
       last = last;
     }
 
--- before the first moment nothing is open
-pub none_yet : (hours : Hours) → HoldBefore hours first_minute []
+third_false : (a b c : Bool) → c ≡ false → (a && (b && c)) ≡ false
+third_false false b c e = refl
+third_false true false c e = refl
+third_false true true c e = e
+
+-- where no local day is of the years, nothing is open
+pub shut_beside : (hours : Hours) (first end : ℕ)
+    → ((m : ℕ) → first_minute ≤ m → m < end_minute → ((m < first) ⊎ (end ≤ m))
+    → is_between hours.years (date_of_day (local_minute hours.zone m / 1440)).0 ≡ false)
+    → (m : ℕ) → ((m < first) ⊎ (end ≤ m)) → is_open hours m ≡ false
 unfolding is_open
-none_yet hours = record {
+shut_beside hours first end beside m side =
+    elim (cases_lt m first_minute) [
+      | inl early ↦ rw (lt-leb first_minute m early) refl
+      | inr from ↦ elim (cases_lt m end_minute) [
+        | inr late ↦ rw (le-ltb m end_minute late, and-false (nat_le first_minute m)) refl
+        | inl within ↦
+            third_false (is_moment m) _
+            (is_between hours.years (date_of_day (local_minute hours.zone m / 1440)).0)
+            (beside m from within side)
+      ]
+    ]
+
+-- before the minutes of the years nothing is open
+pub none_yet : (hours : Hours) (first : ℕ) → first_minute ≤ first
+    → ((m : ℕ) → m < first → is_open hours m ≡ false) → HoldBefore hours first []
+none_yet hours first low shut = record {
   held = λ m.
-      elim (cases_lt m first_minute) [
-        | inl early ↦ rw (lt-ltb m first_minute early, lt-leb first_minute m early) refl
-        | inr from ↦ rw (le-ltb m first_minute from) refl
+      elim (cases_lt m first) [
+        | inl early ↦ rw (lt-ltb m first early, shut m early) refl
+        | inr from ↦ rw (le-ltb m first from) refl
       ];
-  last = omega arith;
+  last = low;
 }
 
--- before the end of all moments everything is
-pub all_held : (hours : Hours) (point m : ℕ) (spans : List Span) → HoldBefore hours point spans
-    → end_minute ≤ point → is_held spans m ≡ is_open hours m
-unfolding is_open
-all_held hours point m spans before h =
+-- before the end of the minutes of the years everything is
+pub all_held : (hours : Hours) (point end m : ℕ) (spans : List Span) → HoldBefore hours point spans
+    → end ≤ point → ((m : ℕ) → end ≤ m → is_open hours m ≡ false)
+    → is_held spans m ≡ is_open hours m
+all_held hours point end m spans before h shut =
     elim (cases_lt m point) [
       | inl early ↦ before.held m ∙ rw (lt-ltb m point early) refl
-      | inr late ↦ before.held m
-          ∙ rw (
-            le-ltb m point late,
-            le-ltb m end_minute (omega arith),
-            and-false (nat_le first_minute m),
-          ) refl
+      | inr late ↦
+          before.held m ∙ rw (le-ltb m point late) (sym (shut m (omega arith)))
     ]
 
 -- the order of holidays, and how often each is named, doesn't matter

@@ -10,7 +10,7 @@ use Rattle.std.proofs.lemmas.Int.Digits.{number_digits_of, all_below_base_digits
 use Rattle.std.proofs.lemmas.List.Folds.{list_all_at}
 use Rattle.std.proofs.lemmas.Option.{slice_get_past, slice_get-get_or}
 use Rattle.hours_core.specs.Probes.{reaches, halvings}
-use Rattle.hours_core.specs.Spans.{AreSpans, minutes_of}
+use Rattle.hours_core.specs.Spans.{AreSpans, length_of}
 use Rattle.hours_core.specs.declared.search.Mark.{Mark}
 use Rattle.hours_core.specs.declared.search.Mark.TheVariants.{EndsAfter, Counts}
 use Rattle.hours_core.specs.declared.spans.Span.{Span}
@@ -26,7 +26,7 @@ all_end m e b [] h k = refl
 all_end m e b (x ∷ xs) h k =
     let start = h.0 in
     let some = h.1 in
-    rw (lt-ltb m x.end (omega arith), all_end m (x.end + 1) (b + minutes_of x) xs h.4 (omega arith))
+    rw (lt-ltb m x.end (omega arith), all_end m (x.end + 1) (b + length_of x) xs h.4 (omega arith))
     refl
 
 all_count : (n e b : ℕ) (xs : List Span) → AreSpans e b xs → n ≤ b
@@ -35,24 +35,24 @@ all_count n e b [] h k = refl
 all_count n e b (x ∷ xs) h k =
     let before = h.3 in
     rw (
-      le-leb n (x.before + minutes_of x) (omega arith),
-      all_count n (x.end + 1) (b + minutes_of x) xs h.4 (omega arith),
+      le-leb n (x.before + length_of x) (omega arith),
+      all_count n (x.end + 1) (b + length_of x) xs h.4 (omega arith),
     ) refl
 
 ends_rise : (m e b : ℕ) (xs : List Span) → AreSpans e b xs → Rises (reaches (EndsAfter m)) xs
 ends_rise m e b [] h = tt
 ends_rise m e b (x ∷ xs) h = (
-  λ t. all_end m (x.end + 1) (b + minutes_of x) xs h.4 (omega (arith, ltb-true m x.end t)),
-  ends_rise m (x.end + 1) (b + minutes_of x) xs h.4,
+  λ t. all_end m (x.end + 1) (b + length_of x) xs h.4 (omega (arith, ltb-true m x.end t)),
+  ends_rise m (x.end + 1) (b + length_of x) xs h.4,
 )
 
 counts_rise : (n e b : ℕ) (xs : List Span) → AreSpans e b xs → Rises (reaches (Counts n)) xs
 counts_rise n e b [] h = tt
 counts_rise n e b (x ∷ xs) h =
     let before = h.3 in (
-      λ t. all_count n (x.end + 1) (b + minutes_of x) xs h.4
-          (omega (arith, leb-true n (x.before + minutes_of x) t)),
-      counts_rise n (x.end + 1) (b + minutes_of x) xs h.4,
+      λ t. all_count n (x.end + 1) (b + length_of x) xs h.4
+          (omega (arith, leb-true n (x.before + length_of x) t)),
+      counts_rise n (x.end + 1) (b + length_of x) xs h.4,
     )
 
 pub marks_rise : (mark : Mark) (e b : ℕ) (xs : List Span) → AreSpans e b xs

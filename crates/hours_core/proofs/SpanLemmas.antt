@@ -5,7 +5,7 @@ use Rattle.std.proofs.lemmas.Bool.{cases_lt, lt-ltb, le-ltb, le-leb, lt-leb}
 use Rattle.std.proofs.lemmas.List.Folds.{list_any-append}
 use Rattle.hours_core.specs.Hours.{is_within}
 use Rattle.hours_core.specs.Moment.{first_minute, end_minute}
-use Rattle.hours_core.specs.Spans.{is_in, is_held, minutes_of, AreSpans, end_of}
+use Rattle.hours_core.specs.Spans.{is_in, is_held, length_of, AreSpans, last_end}
 use Rattle.hours_core.specs.declared.spans.Span.{Span}
 
 -- within and without an interval
@@ -57,7 +57,7 @@ next_of earliest (span ∷ spans) = next_of (span.end + 1) spans
 
 abbrev pub total_of : ℕ → List Span → ℕ
 total_of before [] = before
-total_of before (span ∷ spans) = total_of (before + minutes_of span) spans
+total_of before (span ∷ spans) = total_of (before + length_of span) spans
 
 pub record IsNext (earliest before : ℕ) (spans : List Span) (span : Span) : Type 0 where
   pub from : next_of earliest spans ≤ span.start
@@ -69,18 +69,18 @@ pub join : (e b : ℕ) (xs : List Span) (s : Span) → AreSpans e b xs → IsNex
     → AreSpans e b (xs ++ s ∷ [])
 join e b [] s h n = (n.from, n.some, n.to, n.total, tt)
 join e b (x ∷ xs) s h n =
-    let rest : IsNext (x.end + 1) (b + minutes_of x) xs s =
+    let rest : IsNext (x.end + 1) (b + length_of x) xs s =
     record { from = n.from; some = n.some; to = n.to; total = n.total } in
-    (h.0, h.1, h.2, h.3, join (x.end + 1) (b + minutes_of x) xs s h.4 rest)
+    (h.0, h.1, h.2, h.3, join (x.end + 1) (b + length_of x) xs s h.4 rest)
 
 pub front : (e b : ℕ) (xs : List Span) (s : Span) → AreSpans e b (xs ++ s ∷ []) → AreSpans e b xs
 front e b [] s h = tt
-front e b (x ∷ xs) s h = (h.0, h.1, h.2, h.3, front (x.end + 1) (b + minutes_of x) xs s h.4)
+front e b (x ∷ xs) s h = (h.0, h.1, h.2, h.3, front (x.end + 1) (b + length_of x) xs s h.4)
 
 pub last : (e b : ℕ) (xs : List Span) (s : Span) → AreSpans e b (xs ++ s ∷ []) → IsNext e b xs s
 last e b [] s h = record { from = h.0; some = h.1; to = h.2; total = h.3 }
 last e b (x ∷ xs) s h =
-    let rest = last (x.end + 1) (b + minutes_of x) xs s h.4 in
+    let rest = last (x.end + 1) (b + length_of x) xs s h.4 in
     record { from = rest.from; some = rest.some; to = rest.to; total = rest.total }
 
 pub next_of-last : (e : ℕ) (xs : List Span) (s : Span) → next_of e (xs ++ s ∷ []) ≡ s.end + 1
@@ -88,13 +88,13 @@ next_of-last e [] s = refl
 next_of-last e (x ∷ xs) s = next_of-last (x.end + 1) xs s
 
 pub total_of-last : (b : ℕ) (xs : List Span) (s : Span)
-    → total_of b (xs ++ s ∷ []) ≡ total_of b xs + minutes_of s
+    → total_of b (xs ++ s ∷ []) ≡ total_of b xs + length_of s
 total_of-last b [] s = refl
-total_of-last b (x ∷ xs) s = total_of-last (b + minutes_of x) xs s
+total_of-last b (x ∷ xs) s = total_of-last (b + length_of x) xs s
 
-pub end_of-last : (e : ℕ) (xs : List Span) (s : Span) → end_of e (xs ++ s ∷ []) ≡ s.end
-end_of-last e [] s = refl
-end_of-last e (x ∷ xs) s = end_of-last x.end xs s
+pub last_end-last : (e : ℕ) (xs : List Span) (s : Span) → last_end e (xs ++ s ∷ []) ≡ s.end
+last_end-last e [] s = refl
+last_end-last e (x ∷ xs) s = last_end-last x.end xs s
 
 -- no more minutes are open than pass
 total_small : (e b : ℕ) (xs : List Span) → b ≤ e → AreSpans e b xs → total_of b xs ≤ next_of e xs
@@ -102,7 +102,7 @@ total_small e b [] h s = h
 total_small e b (x ∷ xs) h s =
     let start = s.0 in
     let some = s.1 in
-    total_small (x.end + 1) (b + minutes_of x) xs (omega arith) s.4
+    total_small (x.end + 1) (b + length_of x) xs (omega arith) s.4
 
 pub before_small : (xs : List Span) (s : Span) → AreSpans first_minute 0 (xs ++ s ∷ [])
     → s.before ≤ s.start
@@ -122,7 +122,7 @@ is_held-last xs s m =
 pub record Appends (old new : List Span) (start «end» : ℕ) : Type 0 where
   pub spans : AreSpans first_minute 0 new
   pub held : (m : ℕ) → is_held new m ≡ (is_held old m || is_within m (start, «end»))
-  pub last : end_of first_minute new ≡ «end»
+  pub last : last_end first_minute new ≡ «end»
 
 pub first_added : (xs : List Span) (start «end» : ℕ) → length xs ≡ 0 → first_minute ≤ start
     → start < «end» → «end» ≤ end_minute
@@ -153,28 +153,28 @@ lengthened xs s start e h touches some high =
           ∙ ap (λ (x : ℕ). is_within m (s.start, x) || is_within m (start, e)) (sym touches))
           ∙ or-assoc (is_held xs m) (is_in m s) (is_within m (start, e))
           ∙ ap (λ (b : Bool). b || is_within m (start, e)) (sym (is_held-last xs s m));
-      last = end_of-last first_minute xs t;
+      last = last_end-last first_minute xs t;
     }
 
 pub added : (xs : List Span) (s : Span) (start «end» : ℕ) → AreSpans first_minute 0 (xs ++ s ∷ [])
     → s.end < start → start < «end» → «end» ≤ end_minute
     → Appends (xs ++ s ∷ [])
-    ((xs ++ s ∷ []) ++ record { start = start; end = «end»; before = s.before + minutes_of s } ∷ [])
+    ((xs ++ s ∷ []) ++ record { start = start; end = «end»; before = s.before + length_of s } ∷ [])
     start «end»
 added xs s start e h gap some high =
     let n = last first_minute 0 xs s h in
     let ys = xs ++ s ∷ [] in
-    let t : Span = record { start = start; end = e; before = s.before + minutes_of s } in
+    let t : Span = record { start = start; end = e; before = s.before + length_of s } in
     let from : next_of first_minute ys ≤ start =
     rw (next_of-last first_minute xs s) (omega arith) in
     let total : t.before ≡ total_of 0 ys =
-    sym (total_of-last 0 xs s ∙ ap (λ (x : ℕ). x + minutes_of s) (sym n.total)) in
+    sym (total_of-last 0 xs s ∙ ap (λ (x : ℕ). x + length_of s) (sym n.total)) in
     let next : IsNext first_minute 0 ys t =
     record { from = from; some = some; to = high; total = total } in
     record {
       spans = join first_minute 0 ys t h next;
       held = λ m. is_held-last ys t m;
-      last = end_of-last first_minute ys t;
+      last = last_end-last first_minute ys t;
     }
 
 -- there are no more spans than minutes
@@ -185,7 +185,7 @@ few e b (x ∷ xs) h k =
     let start = h.0 in
     let some = h.1 in
     let to = h.2 in
-    omega (arith, few (x.end + 1) (b + minutes_of x) xs h.4 (omega arith))
+    omega (arith, few (x.end + 1) (b + length_of x) xs h.4 (omega arith))
 
 pub spans_fit : (xs : List Span) → AreSpans first_minute 0 xs → length xs < 2 ^ 32
 spans_fit xs h = omega (arith, few first_minute 0 xs h (omega arith))

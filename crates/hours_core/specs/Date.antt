@@ -1,25 +1,6 @@
--- The date of a day and the text of a minute, both in UTC.
-use Rattle.std.specs.Prelude.{◌≡◌, ℕ, zero, suc, ◌+◌, ◌/◌, ◌%◌, pos, nat_lt}
-use Rattle.std.specs.Prelude.{if◌then◌else◌, List, [], ◌∷◌, ◌++◌, codes}
-use Rattle.jiff.specs.Types.{Date}
-use Rattle.jiff.specs.Words.{epoch_day, days_in_month}
-
--- the year, month and day after these
-abbrev pub next_date : ℕ × ℕ × ℕ → ℕ × ℕ × ℕ
-next_date (year, month, day) =
-    if nat_lt day (days_in_month (pos year) month) then (year, month, day + 1)
-    else (if nat_lt month 12 then (year, month + 1, 1) else (year + 1, 1, 1))
-
--- the year, month and day that come so many days after 1970-01-01
-unfoldable pub date_of_day : ℕ → ℕ × ℕ × ℕ
-date_of_day zero = (1970, 1, 1)
-date_of_day (suc n) = next_date (date_of_day n)
-
--- a year, month and day are those of the calendar's date with this day number, where 1970-01-01 is
--- day 0
-abbrev pub IsDateOfDay : ℕ → ℕ × ℕ × ℕ → Type 0
-IsDateOfDay n r =
-    (d : Date) × (d.year ≡ pos r.0) × (d.month ≡ r.1) × (d.day ≡ r.2) × (epoch_day d ≡ pos n)
+-- The date and the text of a minute, both in UTC.
+use Rattle.std.specs.Prelude.{ℕ, ◌+◌, ◌/◌, ◌%◌, List, [], ◌∷◌, ◌++◌, codes}
+pub use Rattle.days.specs.Dates.{date_of_day, IsDateOfDay}
 
 -- the date of a minute: that of its day
 abbrev pub date_of_minute : ℕ → ℕ × ℕ × ℕ

@@ -1,7 +1,7 @@
 -- What a search for a span looks for, and how many spans it may read.
 use Rattle.std.specs.Prelude.{ℕ, ◌+◌, Bool, nat_le, nat_lt, length, min, max}
 use Rattle.std.specs.Int.Digits.{digits_of}
-use Rattle.hours_core.specs.Spans.{minutes_of}
+use Rattle.hours_core.specs.Spans.{length_of}
 use Rattle.hours_core.specs.declared.search.Mark.{Mark}
 use Rattle.hours_core.specs.declared.search.Mark.TheVariants.{EndsAfter, Counts}
 use Rattle.hours_core.specs.declared.spans.Span.{Span}
@@ -9,7 +9,7 @@ use Rattle.hours_core.specs.declared.spans.Span.{Span}
 -- a span ends after the minute, or so many minutes are open up to its end
 abbrev pub reaches : Mark → Span → Bool
 reaches (EndsAfter m) span = nat_lt m span.end
-reaches (Counts n) span = nat_le n (span.before + minutes_of span)
+reaches (Counts n) span = nat_le n (span.before + length_of span)
 
 -- how often a number can be halved until nothing is left
 abbrev pub halvings : ℕ → ℕ

@@ -14,8 +14,8 @@ abbrev pub is_held : List Span → ℕ → Bool
 is_held spans m = list_any (is_in m) spans
 
 -- how many minutes a span has
-abbrev pub minutes_of : Span → ℕ
-minutes_of span = span.end - span.start
+abbrev pub length_of : Span → ℕ
+length_of span = span.end - span.start
 
 -- the spans begin at a minute or later, each with a gap after the one before, and each has the
 -- number of minutes before it
@@ -24,12 +24,12 @@ AreSpans earliest before [] = Unit {0}
 AreSpans earliest before (span ∷ spans) =
     (earliest ≤ span.start) × (span.start < span.end) × (span.end ≤ end_minute)
     × (span.before ≡ before)
-    × AreSpans (span.end + 1) (before + minutes_of span) spans
+    × AreSpans (span.end + 1) (before + length_of span) spans
 
 -- where the last span ends, or what was given
-abbrev pub end_of : ℕ → List Span → ℕ
-end_of given [] = given
-end_of given (span ∷ spans) = end_of span.end spans
+abbrev pub last_end : ℕ → List Span → ℕ
+last_end given [] = given
+last_end given (span ∷ spans) = last_end span.end spans
 
 -- how many minutes before this one the spans hold
 abbrev pub held_before : List Span → ℕ → ℕ

@@ -10,6 +10,7 @@ use crate::moment::Minute;
 use crate::schedule::{Schedule, shifted};
 use crate::spans::Spans;
 use crate::week::{Intervals, is_week};
+use crate::years::are_years;
 use crate::zone::Zone;
 use std::alloc::Global;
 
@@ -67,16 +68,4 @@ impl Calendar {
         let offset = self.zone.ahead_at(minute);
         Minute::new(shifted(minute, offset))
     }
-}
-
-fn is_year(year: i64) -> bool
-    ensures { result ≡ spec.is_year year }
-{
-    2000 <= year && year <= 2099
-}
-
-pub(crate) fn are_years(years: (i64, i64)) -> bool
-    ensures { result ≡ spec.are_years years }
-{
-    is_year(years.0) && is_year(years.1) && years.0 <= years.1
 }

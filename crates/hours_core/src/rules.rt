@@ -2,17 +2,15 @@
 
 ghost use Rattle.std.specs.Prelude.{◌≡◌, ◌≢◌, ◌≤◌, ◌<◌, ◌-◌, ◌+◌, ◌+ℤ◌, ◌≤ℤ◌, pos, suc, true, false};
 ghost use Rattle.std.specs.Prelude.{IfOk, IfErr, IsOk};
-ghost use Rattle.zone_rules.specs.Rule.{first_day_of};
 ghost use Rattle.hours_core.specs.Moment.{end_minute};
-ghost use Rattle.hours_core.specs.Hours.{is_year, are_years as have_years};
+ghost use Rattle.hours_core.specs.Hours.{are_years as have_years};
 ghost use Rattle.hours_core.specs.Rules as spec;
 
-use crate::calendar::are_years;
 use crate::fault::HoursFault;
-use crate::moment::{END, START};
+use crate::years::{are_years, end_asked, first_asked};
 use crate::zone::{MAX_CHANGES, Zone, is_offset};
 use std::alloc::{AllocError, Global};
-use zone_rules::{Rule, first_day};
+use zone_rules::Rule;
 
 impl Zone {
     /// The zone of a rule such as `CET-1CEST,M3.5.0,M10.5.0/3`, in the years from the first to the
@@ -28,6 +26,7 @@ impl Zone {
         ensures err { IfErr result
             (λ e. e ≢ HoursFault.NoMemory → spec.zone_by_rule text.now years ≡ Err e) }
         ensures offsets { IfOk result (spec.FollowsRule text.now years) }
+        ensures jiff { spec.FollowsJiff text.now years result }
     {
         if !are_years(years) {
             return Err(HoursFault::BadYears);
@@ -47,22 +46,6 @@ fn zone_of(alloc: Global, rule: &Rule, years: (i64, i64)) -> Result<Zone, HoursF
         (λ e. e ≢ HoursFault.NoMemory → spec.zone_by (Some rule.now) years ≡ Err e) }
 {
     zone_between(alloc, rule, first_asked(years), end_asked(years))
-}
-
-/// The first minute of the day before the years, and no minute before the first moment.
-fn first_asked(years: (i64, i64)) -> u32
-    requires { have_years years ≡ true }
-    ensures { result ≡ spec.first_asked years }
-{
-    START.max((first_day(years.0) - 1) * 1440)
-}
-
-/// The end of the day after the years, and no minute from the end of all moments on.
-fn end_asked(years: (i64, i64)) -> u32
-    requires { have_years years ≡ true }
-    ensures { result ≡ spec.end_asked years }
-{
-    END.min((first_day(years.1 + 1) + 1) * 1440)
 }
 
 /// The zone of the rule's offsets from the first minute to before the end.
@@ -86,7 +69,7 @@ fn zone_between(alloc: Global, rule: &Rule, first: u32, end: u32) -> Result<Zone
 fn minutes_at(rule: &Rule, minute: u32) -> Result<i64, HoursFault>
     requires { minute ≤ end_minute }
     ensures ok { IfOk result (λ o. (spec.are_minutes (spec.seconds_of rule.now minute) ≡ true)
-        × (o ≡ spec.minutes_of (spec.seconds_of rule.now minute))) }
+        × (o ≡ spec.to_minutes (spec.seconds_of rule.now minute))) }
     ensures err { IfErr result (λ e. (e ≡ HoursFault.BadOffset)
         × (spec.are_minutes (spec.seconds_of rule.now minute) ≡ false)) }
 {
@@ -109,10 +92,10 @@ fn changes_between(
 ) -> Result<Vec<(i64, i64)>, HoursFault>
     requires range { (first < end) × (end ≤ end_minute) }
     requires minutes { spec.are_minutes (spec.seconds_of rule.now first) ≡ true }
-    requires start { start ≡ spec.minutes_of (spec.seconds_of rule.now first) }
+    requires start { start ≡ spec.to_minutes (spec.seconds_of rule.now first) }
     ensures ok { IfOk result (λ v.
         (spec.are_offsets (spec.seconds_of rule.now) first (end - suc first) ≡ true)
-        × (v.items ≡ spec.changes_of (λ m. spec.minutes_of (spec.seconds_of rule.now m)) first
+        × (v.items ≡ spec.changes_of (λ m. spec.to_minutes (spec.seconds_of rule.now m)) first
         (end - suc first))) }
     ensures err { IfErr result (λ e. e ≢ HoursFault.NoMemory → (e ≡ HoursFault.BadOffset)
         × (spec.are_offsets (spec.seconds_of rule.now) first (end - suc first) ≡ false)) }

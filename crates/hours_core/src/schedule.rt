@@ -8,14 +8,13 @@ ghost use Rattle.hours_core.specs.Hours as spec;
 ghost use Rattle.hours_core.specs.Moment.{first_minute, end_minute};
 ghost use Rattle.hours_core.specs.Runs.{AreRuns};
 ghost use Rattle.hours_core.specs.Schedule.{HoldBefore};
-ghost use Rattle.hours_core.specs.Spans.{is_held, end_of};
+ghost use Rattle.hours_core.specs.Spans.{is_held, last_end};
 ghost use Rattle.hours_core.specs.Zone.{offset_at};
 
 use crate::date::year_of_day;
 use crate::holidays::Holidays;
-use crate::moment::{END, START};
 use crate::spans::Spans;
-use crate::week::{DAY, Intervals, copy_of, intervals_of};
+use crate::week::{DAY, Intervals, intervals_of};
 use crate::zone::Zone;
 use std::alloc::{AllocError, Global};
 use std::marker::Model;
@@ -23,41 +22,42 @@ use std::marker::Model;
 /// Opening hours as they are given: in a zone's time by days of the week, from the first to the
 /// last year, but not on holidays.
 #[derive(Drop)]
-pub struct Schedule {
+pub struct Schedule<'a> {
     zone: Zone,
-    week: Vec<Intervals>,
+    week: &'a [Intervals],
     holidays: Holidays,
     years: (i64, i64),
 }
 
-impl Model for Schedule {
+impl<'a> Model for Schedule<'a> {
     ghost use Rattle.std.specs.Prelude.{◌≡◌, true};
     ghost use Rattle.std.specs.List.{list_all};
-    ghost use Rattle.hours_core.specs.Hours.{Hours, is_day};
+    ghost use Rattle.hours_core.specs.Hours.{Hours, are_years, is_day};
 
     ghost Value = { Hours };
 
     ghost view = { λ s.
-        record { zone = s.zone; week = s.week.items; holidays = s.holidays; years = s.years } };
+        record { zone = s.zone; week = s.week.now; holidays = s.holidays; years = s.years } };
 
-    ghost invariant = { λ s. list_all is_day s.week.items ≡ true };
+    ghost invariant = { λ s. (list_all is_day s.week.now ≡ true)
+        × (are_years s.years ≡ true) };
 }
 
-impl Schedule {
+impl<'a> Schedule<'a> {
     /// The schedule of these parts.
     pub fn new(
         alloc: Global,
         zone: Zone,
-        week: &[Intervals],
+        week: &'a [Intervals],
         holidays: &[u32],
         years: (i64, i64),
-    ) -> Result<Schedule, AllocError>
-        requires { list_all spec.is_day week.now ≡ true }
+    ) -> Result<Schedule<'a>, AllocError>
+        requires week { list_all spec.is_day week.now ≡ true }
+        requires years { spec.are_years years ≡ true }
         ensures hours { IfOk result (λ s. (m : ℕ) → spec.is_open s m ≡ spec.is_open
             (record { zone = zone; week = week.now; holidays = holidays.now; years = years }) m) }
         ensures zone { IfOk result (λ s. s.zone ≡ zone) }
     {
-        let week = copy_of(alloc, week)?;
         let holidays = Holidays::new(alloc, holidays)?;
         Ok(Schedule {
             zone,
@@ -69,19 +69,19 @@ impl Schedule {
 
     /// The zone that it was given in.
     pub fn into_zone(self) -> Zone
-        ensures { result ≡ self.zone }
+        ensures { result ≡ self.entry.zone }
     {
         self.zone
     }
 
-    /// The runs of open minutes, found by changes of the zone, days and intervals.
+    /// The runs of open minutes, found by changes of the zone, days of the years and intervals.
     pub fn spans(&self, alloc: Global) -> Result<Spans, AllocError>
         ensures { IfOk result (AreRuns (spec.is_open self.now)) }
     {
         let mut spans = Spans::new(alloc);
-        let mut from = START;
-        while from < END {
-            let to = self.zone.steady_until(from);
+        let (mut from, end) = self.zone.minutes_around(self.years);
+        while from < end {
+            let to = self.zone.steady_until(from).min(end);
             self.add_steady(&mut spans, from, to)?;
             from = to;
         }
@@ -120,7 +120,7 @@ impl Schedule {
         if self.holidays.has(day) || !is_between(self.years, day) {
             &[]
         } else {
-            intervals_of(self.week.as_slice(), day)
+            intervals_of(self.week, day)
         }
     }
 }
@@ -154,12 +154,12 @@ fn add_day(
 ) -> Result<(), AllocError>
     requires intervals { spec.are_intervals 0 intervals.now ≡ true }
     requires moments { (first_minute ≤ from) × (midnight ≤ from) × (from ≤ to) × (to ≤ end_minute) }
-    requires after { end_of first_minute spans.old ≤ from }
+    requires after { last_end first_minute spans.old ≤ from }
     ensures held { OnOk result ((m : ℕ) → is_held spans.new m
         ≡ (is_held spans.old m
         || (spec.is_within m (from, to)
         && list_any (spec.is_within (m - midnight)) intervals.now))) }
-    ensures end { OnOk result (end_of first_minute spans.new ≤ to) }
+    ensures end { OnOk result (last_end first_minute spans.new ≤ to) }
 {
     for interval in intervals {
         let start = from.max(midnight + interval.0 as u32);

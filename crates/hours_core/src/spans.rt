@@ -7,7 +7,7 @@ ghost use Rattle.std.specs.Prelude.{length, min, OnOk, slice_index_or};
 ghost use Rattle.hours_core.specs.Counted.{HaveOneCount, reads_of, spans_in};
 ghost use Rattle.hours_core.specs.Hours.{is_within};
 ghost use Rattle.hours_core.specs.Moment.{first_minute, end_minute};
-ghost use Rattle.hours_core.specs.Spans.{is_held, minutes_of, AreSpans, end_of};
+ghost use Rattle.hours_core.specs.Spans.{is_held, length_of, AreSpans, last_end};
 
 use std::alloc::{AllocError, Global};
 use std::marker::Model;
@@ -24,7 +24,7 @@ pub struct Span {
 impl Span {
     /// How many minutes the span has.
     pub fn minutes(self) -> u32
-        ensures { result ≡ minutes_of self }
+        ensures { result ≡ length_of self }
     {
         self.end.saturating_sub(self.start)
     }
@@ -160,12 +160,12 @@ impl Spans {
     /// ones.
     pub fn append(&mut self, start: u32, end: u32) -> Result<(), AllocError>
         requires from { first_minute ≤ start }
-        requires after { end_of first_minute self.old ≤ start }
+        requires after { last_end first_minute self.old ≤ start }
         requires some { start < end }
         requires to { end ≤ end_minute }
         ensures held { OnOk result
             ((m : ℕ) → is_held self.new m ≡ (is_held self.old m || is_within m (start, end))) }
-        ensures end { OnOk result (end_of first_minute self.new ≡ end) }
+        ensures end { OnOk result (last_end first_minute self.new ≡ end) }
     {
         let span = match self.items.pop() {
             Some(last) if last.end == start => Span { end, ..last },

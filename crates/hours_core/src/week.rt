@@ -1,10 +1,9 @@
 //! The opening hours of the days of a week.
 
-ghost use Rattle.std.specs.Prelude.{◌≡◌, ◌≤◌, true, IfOk};
+ghost use Rattle.std.specs.Prelude.{◌≡◌, ◌≤◌, true};
 ghost use Rattle.std.specs.List.{list_all};
 ghost use Rattle.hours_core.specs.Hours as spec;
 
-use std::alloc::{AllocError, Global};
 use text_core::Sequence;
 
 /// The intervals of a day in order, from their start to before their end, in minutes of the local
@@ -42,18 +41,6 @@ fn are_intervals(intervals: &[(u16, u16)]) -> bool
         earliest = interval.1;
     }
     true
-}
-
-/// A copy of the week.
-pub fn copy_of(alloc: Global, week: &[Intervals]) -> Result<Vec<Intervals>, AllocError>
-    ensures { IfOk result (λ days. days.items ≡ week.now) }
-{
-    let mut days = Vec::new(alloc);
-    for intervals in week {
-        let kept = Intervals::from(Vec::from_slice(alloc, intervals.as_slice())?);
-        days.push(kept)?;
-    }
-    Ok(days)
 }
 
 /// The intervals of a local day, by its weekday.

@@ -1,13 +1,16 @@
 //! The offset of local time, and when it changes.
 
-ghost use Rattle.std.specs.Prelude.{◌≡◌, ◌≢◌, ◌⊎◌, ◌<◌, ◌≤◌, ◌+◌, ℕ, ℤ, true, ◌&&◌};
+ghost use Rattle.std.specs.Prelude.{◌≡◌, ◌≢◌, ◌⊎◌, ◌<◌, ◌≤◌, ◌+◌, ◌/◌, ℕ, ℤ, true, false, ◌&&◌};
 ghost use Rattle.std.specs.Prelude.{length, pos, ◌+ℤ◌, ◌≤ℤ◌, neg_ℤ, IsOk, IfOk, IfErr};
 ghost use Rattle.std.specs.List.{list_all};
-ghost use Rattle.hours_core.specs.Moment.{end_minute};
+ghost use Rattle.hours_core.specs.Date.{date_of_day};
+ghost use Rattle.hours_core.specs.Hours as hours;
+ghost use Rattle.hours_core.specs.Moment.{first_minute, end_minute};
 ghost use Rattle.hours_core.specs.Zone as spec;
 
 use crate::fault::HoursFault;
 use crate::moment::{END, Minute};
+use crate::years::{end_asked, first_asked};
 use std::alloc::Global;
 use std::marker::Model;
 
@@ -35,8 +38,8 @@ impl Model for Zone {
 }
 
 impl Zone {
-    /// A zone whose local time is that many minutes before or after UTC, until each change, a
-    /// minute and the offset that holds from there on, has its turn.
+    /// A zone whose local time is that many minutes before or after UTC up to the first change. A
+    /// change is a minute, and the offset from there on.
     ///
     /// Refused are an offset of a day or more (`BadOffset`), a change outside of 0 to `END` or not
     /// after the one before (`ChangesOutOfOrder`), and more than 400 changes (`TooManyChanges`), in
@@ -77,7 +80,8 @@ impl Zone {
     /// The minutes by which local time is ahead of UTC at the minute, or behind where they are
     /// negative. It takes no memory.
     pub fn offset_at(&self, minute: Minute) -> i32
-        ensures { result ≡ spec.offset_at self.now.first self.now.changes minute }
+        ensures value { result ≡ spec.offset_at self.now.first self.now.changes minute }
+        ensures last { spec.IsOffsetAt self.now.first self.now.changes minute result }
     {
         self.ahead_at(minute.get()) as i32
     }
@@ -99,6 +103,21 @@ impl Zone {
             ≡ spec.offset_at self.now.first self.now.changes m }
     {
         next_change(self.changes.as_slice(), m)
+    }
+
+    /// The minutes, from the first to before the second, at which the local day may lie in the
+    /// years.
+    pub(crate) fn minutes_around(&self, years: (i64, i64)) -> (u32, u32)
+        requires { hours.are_years years ≡ true }
+        ensures range { (first_minute ≤ result.0) × (result.0 ≤ result.1)
+            × (result.1 ≤ end_minute) }
+        ensures beside { (m : ℕ) → first_minute ≤ m → m < end_minute
+            → ((m < result.0) ⊎ (result.1 ≤ m))
+            → hours.is_between years (date_of_day (spec.local_minute self.now m / 1440)).0
+            ≡ false }
+    {
+        let _changes = self.changes.as_slice(); // each offset is less than a day
+        (first_asked(years), end_asked(years))
     }
 }
 

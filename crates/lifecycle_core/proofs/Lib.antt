@@ -1,1 +1,2 @@
+pub mod Repeated
 pub mod Rights

@@ -1,3 +1,4 @@
 pub mod Fault
 pub mod Lifecycle
+pub mod Pairs
 pub mod Standard

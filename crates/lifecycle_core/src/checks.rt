@@ -2,30 +2,36 @@
 
 ghost use Rattle.std.specs.Prelude.{◌≡◌, ◌≢◌, IfSome};
 ghost use Rattle.std.specs.List.{list_all, list_any};
-ghost use Rattle.lifecycle_core.specs.Lifecycle as words;
 ghost use Rattle.lifecycle_core.specs.Fault as faults;
 ghost use Rattle.text_core.specs.Form.{is_name as is_name_of};
-ghost use Rattle.text_core.specs.Texts as texts;
 
 use crate::fault::LifecycleFault;
-use crate::parts::{ANY_STATUS, Move, MoveRight, Parts};
-use text_core::{Text, is_name, is_right_name, repeats_text, shares_text};
+use crate::pairs::repeats_pair;
+use crate::parts::{Move, MoveRight, Parts};
+use crate::statuses::Statuses;
+use std::alloc::Global;
+use text_core::{Text, is_name, is_right_name};
 
-/// The fault with the least number that applies to the parts.
+/// The fault with the least number that applies to the parts. What memory is refused is done
+/// without.
 #[tactic(auto, unfolding(crate::specs::Fault::fault_of))]
-pub(crate) fn fault_of(parts: &Parts) -> Option<LifecycleFault>
+pub(crate) fn fault_of(alloc: Global, parts: &Parts) -> Option<LifecycleFault>
     ensures least { result ≡ faults.fault_of parts.now }
     ensures of_parts { IfSome result (λ f. f ≢ LifecycleFault.NoMemory) }
 {
     if !has_names(parts) {
-        Some(LifecycleFault::BadName)
-    } else if has_repeats(parts) {
+        return Some(LifecycleFault::BadName);
+    }
+    let Some(statuses) = Statuses::of(alloc, parts) else {
+        return Some(LifecycleFault::Repeated);
+    };
+    if repeats_pair(alloc, parts.rights.as_slice()) {
         Some(LifecycleFault::Repeated)
     } else if parts.initial.is_empty() {
         Some(LifecycleFault::NoInitial)
     } else if parts.active.is_empty() {
         Some(LifecycleFault::NoActive)
-    } else if !knows_statuses(parts) {
+    } else if !statuses.are_known() {
         Some(LifecycleFault::UnknownStatus)
     } else if has_self_move(parts.moves.as_slice()) {
         Some(LifecycleFault::SelfMove)
@@ -34,13 +40,6 @@ pub(crate) fn fault_of(parts: &Parts) -> Option<LifecycleFault>
     } else {
         None
     }
-}
-
-/// Whether the text is a status of one of the three lists.
-fn is_status(parts: &Parts, text: &str) -> bool
-    ensures { result ≡ words.is_status parts.now text.now }
-{
-    parts.initial.contains(text) || parts.active.contains(text) || parts.inactive.contains(text)
 }
 
 /// Whether all statuses are names, and all rights right's names.
@@ -65,95 +64,6 @@ fn are_rights(rights: &[MoveRight]) -> bool
     rights
         .iter()
         .all(|entry| is_right_name(entry.right.as_str()))
-}
-
-/// Whether a status is named twice over the three lists, or a pair of statuses has two entries.
-fn has_repeats(parts: &Parts) -> bool
-    ensures { result ≡ faults.has_repeats parts.now }
-{
-    repeats_status(parts) || repeats_pair(parts.rights.as_slice())
-}
-
-#[tactic(auto, using(text_core::proofs::Repeats::repeats_in_three))]
-fn repeats_status(parts: &Parts) -> bool
-    ensures { result ≡ texts.repeats_text (words.statuses parts.now) }
-{
-    let initial = parts.initial.as_slice();
-    let active = parts.active.as_slice();
-    let inactive = parts.inactive.as_slice();
-    repeats_text(initial)
-        || repeats_text(active)
-        || shares_text(initial, active)
-        || repeats_text(inactive)
-        || shares_text(initial, inactive)
-        || shares_text(active, inactive)
-}
-
-/// Whether two entries are for one pair of statuses.
-fn repeats_pair(rights: &[MoveRight]) -> bool
-    ensures { result ≡ faults.repeats_pair rights.now }
-{
-    for (i, entry) in rights.iter().enumerate() {
-        if has_entry(&rights[i + 1..], entry) {
-            return true;
-        }
-    }
-    false
-}
-
-/// Whether an entry of the list is for the same pair.
-fn has_entry(rights: &[MoveRight], entry: &MoveRight) -> bool
-    ensures { result ≡ faults.has_entry rights.now entry.now }
-{
-    rights.iter().any(|other| {
-        other.from.as_str() == entry.from.as_str() && other.to.as_str() == entry.to.as_str()
-    })
-}
-
-/// Whether all that the parts name as statuses are such.
-fn knows_statuses(parts: &Parts) -> bool
-    ensures { result ≡ faults.knows_statuses parts.now }
-{
-    is_status(parts, parts.on_create.as_str())
-        && knows_texts(parts, parts.create.as_slice())
-        && knows_moves(parts, parts.moves.as_slice())
-        && knows_rights(parts, parts.rights.as_slice())
-}
-
-fn knows_texts(parts: &Parts, texts: &[Text]) -> bool
-    ensures { result ≡ list_all (words.is_status parts.now) texts.now }
-{
-    texts.iter().all(|t| is_status(parts, t.as_str()))
-}
-
-fn knows_moves(parts: &Parts, moves: &[Move]) -> bool
-    ensures { result ≡ list_all (faults.knows_move parts.now) moves.now }
-{
-    moves.iter().all(|m| knows_move(parts, m))
-}
-
-fn knows_rights(parts: &Parts, rights: &[MoveRight]) -> bool
-    ensures { result ≡ list_all (faults.knows_entry parts.now) rights.now }
-{
-    rights.iter().all(|entry| knows_entry(parts, entry))
-}
-
-fn knows_move(parts: &Parts, candidate: &Move) -> bool
-    ensures { result ≡ faults.knows_move parts.now candidate.now }
-{
-    is_status(parts, candidate.from.as_str()) && is_status(parts, candidate.to.as_str())
-}
-
-fn knows_entry(parts: &Parts, entry: &MoveRight) -> bool
-    ensures { result ≡ faults.knows_entry parts.now entry.now }
-{
-    is_status_or_any(parts, entry.from.as_str()) && is_status_or_any(parts, entry.to.as_str())
-}
-
-fn is_status_or_any(parts: &Parts, text: &str) -> bool
-    ensures { result ≡ faults.is_status_or_any parts.now text.now }
-{
-    text == ANY_STATUS || is_status(parts, text)
 }
 
 /// Whether a move leads from a status to itself.

@@ -58,7 +58,7 @@ impl Lifecycle {
         ensures err { IfErr result (λ e. e ≢ NoMemory → fault_of parts.now ≡ Some e) }
         ensures memory { IfErr result (λ e. e ≡ NoMemory → fault_of parts.now ≡ None) }
     {
-        match checks::fault_of(parts) {
+        match checks::fault_of(alloc, parts) {
             Some(fault) => Err(fault),
             None => Ok(Lifecycle {
                 parts: parts.copied(alloc)?,

@@ -1,5 +1,6 @@
 pub mod Around
 pub mod Chains
+pub mod Given
 pub mod Kept
 pub mod Listed
 pub mod Lists

@@ -1,5 +1,4 @@
 pub mod Closure
-pub mod Directory
 pub mod Index
 pub mod People
 pub mod Right

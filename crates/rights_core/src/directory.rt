@@ -3,14 +3,14 @@ ghost use Rattle.std.specs.Prelude.{◌≡◌, is_some, not, IfOk, IfSome};
 ghost use Rattle.std.specs.HashSet.{contains_text};
 ghost use Rattle.std.specs.List.{list_any};
 ghost use Rattle.text_core.specs.Texts as words;
-ghost use Rattle.rights_core.specs.Directory.{IsSetOf};
+ghost use Rattle.text_core.specs.Lookup.{IsSetOf};
 ghost use Rattle.rights_core.specs.RightsFaults as faults;
 
 use crate::parts::Group;
 use std::alloc::{AllocError, Global};
 use std::collections::HashSet;
 use std::marker::Model;
-use text_core::{Text, is_among, repeats_text};
+use text_core::{Text, distinct, is_among, repeats_text};
 
 /// The persons and the groups. They are found by sets of their names, and one after the other
 /// where sets were refused memory.
@@ -31,7 +31,7 @@ struct Names {
 impl<'a> Model for Directory<'a> {
     ghost use Rattle.std.specs.Prelude.{ℕ, List, IfSome};
     ghost use Rattle.rights_core.specs.declared.parts.Group.{Group};
-    ghost use Rattle.rights_core.specs.Directory.{IsSetOf};
+    ghost use Rattle.text_core.specs.Lookup.{IsSetOf};
     ghost use Rattle.rights_core.specs.RightsFaults.{group_names};
 
     ghost Value = { List (List ℕ) × List Group };
@@ -121,20 +121,6 @@ fn group_names(alloc: Global, groups: &[Group]) -> Result<Vec<Text>, AllocError>
         names.push(group.name.clone()?)?;
     }
     Ok(names)
-}
-
-/// The texts as a set, or none where one stands twice.
-fn distinct(alloc: Global, texts: &[Text]) -> Result<Option<HashSet<String>>, AllocError>
-    ensures some { IfOk result (λ s. is_some s ≡ not (words.repeats_text texts.now)) }
-    ensures set { IfOk result (λ o. IfSome o (IsSetOf texts.now)) }
-{
-    let mut set = HashSet::with_capacity(alloc, texts.len())?;
-    for text in texts {
-        if !set.insert(String::from_str(alloc, text.as_str())?)? {
-            return Ok(None);
-        }
-    }
-    Ok(Some(set))
 }
 
 /// Whether two of the persons and groups have one name.

@@ -1,20 +1,21 @@
 //! Grants under their rights and names, so that one is found without a walk over all.
 
 ghost use Rattle.std.specs.Prelude.{◌≡◌, ◌&&◌, ◌||◌, ◌++◌, ◌∷◌, [], ℕ, List};
-ghost use Rattle.std.specs.Prelude.{if◌then◌else◌, IfOk, OnOk};
+ghost use Rattle.std.specs.Prelude.{if◌then◌else◌, string_bytes, IfOk, OnOk};
 ghost use Rattle.std.specs.List.{list_any};
 ghost use Rattle.std.specs.Str.{bytes_eq};
 ghost use Rattle.rights_core.specs.Index as words;
 ghost use Rattle.rights_core.specs.Index.{IsGrantsByRight, is_meant_in, meets};
 ghost use Rattle.rights_core.specs.People.{covers as covers_queue};
 ghost use Rattle.rights_core.specs.Right.{super_user};
+ghost use Rattle.text_core.specs.Texts.{is_among};
 
 use crate::grant::{Grant, Subject};
 use crate::right::SUPER_USER;
 use crate::role::Roles;
 use std::alloc::{AllocError, Global};
 use std::collections::HashMap;
-use text_core::{Text, is_among};
+use text_core::IndexedTexts;
 
 /// The grants of each right, each under the name of its person or group, and else under no name.
 pub(crate) type GrantsByRight = HashMap<String, GrantsByName>;
@@ -85,7 +86,7 @@ pub(crate) fn give(
     right: &str,
     queue: &str,
     person: &str,
-    groups: &[Text],
+    groups: &IndexedTexts,
     roles: Roles,
 ) -> bool
     ensures { result
@@ -102,7 +103,7 @@ fn gives(
     right: &str,
     queue: &str,
     person: &str,
-    groups: &[Text],
+    groups: &IndexedTexts,
     roles: Roles,
 ) -> bool
     ensures { result ≡ words.meets_under kept.now right.now queue.now person.now groups.now roles }
@@ -115,7 +116,13 @@ fn gives(
 
 /// Whether one of the grants that are kept under no name, the person's or a group's covers the
 /// queue and means the person.
-fn gives_to(given: &GrantsByName, queue: &str, person: &str, groups: &[Text], roles: Roles) -> bool
+fn gives_to(
+    given: &GrantsByName,
+    queue: &str,
+    person: &str,
+    groups: &IndexedTexts,
+    roles: Roles,
+) -> bool
     ensures { result ≡ words.meets_to given.now queue.now person.now groups.now roles }
 {
     meet(granted(given, ""), queue, person, groups, roles)
@@ -123,19 +130,55 @@ fn gives_to(given: &GrantsByName, queue: &str, person: &str, groups: &[Text], ro
         || gives_to_groups(given, queue, person, groups, roles)
 }
 
-/// The same of those under a group's name.
+/// The same of those under a group's name. It looks at the names under which grants are kept, or at
+/// the groups, whichever are fewer.
 fn gives_to_groups(
     given: &GrantsByName,
     queue: &str,
     person: &str,
-    groups: &[Text],
+    groups: &IndexedTexts,
     roles: Roles,
 ) -> bool
     ensures { result ≡ list_any (λ name.
         list_any (meets queue.now person.now groups.now roles) (words.grants_to given.now name))
         groups.now }
 {
-    groups.iter().any(|g| meet(granted(given, g.as_str()), queue, person, groups, roles))
+    if given.len() < groups.as_slice().len() {
+        gives_to_names(given, queue, person, groups, roles)
+    } else {
+        gives_to_each(given, queue, person, groups, roles)
+    }
+}
+
+/// The same of each name under which grants are kept, where that is a group's.
+fn gives_to_names(
+    given: &GrantsByName,
+    queue: &str,
+    person: &str,
+    groups: &IndexedTexts,
+    roles: Roles,
+) -> bool
+    ensures { result ≡ list_any (λ e. is_among groups.now (string_bytes e.0)
+        && list_any (meets queue.now person.now groups.now roles) e.1.items) given.now.entries }
+{
+    given.iter().any(|(name, grants)| {
+        groups.contains(name.as_str()) && meet(grants.as_slice(), queue, person, groups, roles)
+    })
+}
+
+/// The same of each group.
+fn gives_to_each(
+    given: &GrantsByName,
+    queue: &str,
+    person: &str,
+    groups: &IndexedTexts,
+    roles: Roles,
+) -> bool
+    ensures { result ≡ list_any (λ name.
+        list_any (meets queue.now person.now groups.now roles) (words.grants_to given.now name))
+        groups.now }
+{
+    groups.as_slice().iter().any(|g| meet(granted(given, g.as_str()), queue, person, groups, roles))
 }
 
 /// The grants that are kept under the name.
@@ -146,7 +189,7 @@ fn granted<'a>(given: &'a GrantsByName, name: &str) -> &'a [Grant]
 }
 
 /// Whether one of the grants covers the queue and means the person.
-fn meet(grants: &[Grant], queue: &str, person: &str, groups: &[Text], roles: Roles) -> bool
+fn meet(grants: &[Grant], queue: &str, person: &str, groups: &IndexedTexts, roles: Roles) -> bool
     ensures { result ≡ list_any (meets queue.now person.now groups.now roles) grants.now }
 {
     grants.iter().any(|g| covers(g, queue) && is_meant(&g.subject, person, groups, roles))
@@ -162,13 +205,13 @@ fn covers(grant: &Grant, queue: &str) -> bool
     }
 }
 
-fn is_meant(subject: &Subject, person: &str, groups: &[Text], roles: Roles) -> bool
+fn is_meant(subject: &Subject, person: &str, groups: &IndexedTexts, roles: Roles) -> bool
     ensures { result ≡ is_meant_in groups.now person.now roles subject.now }
 {
     match subject {
         Subject::Everyone => true,
         Subject::Person(name) => name.as_str() == person,
-        Subject::Group(name) => is_among(groups, name.as_str()),
+        Subject::Group(name) => groups.contains(name.as_str()),
         Subject::Role(role) => roles.has(*role),
     }
 }

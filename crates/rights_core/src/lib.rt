@@ -1,7 +1,9 @@
 //! People: who is a member of which group, and who holds which right on which queue.
 //!
-//! People are built from persons, groups and grants, which are looked through for faults first.
-//! What they answer afterwards takes no memory.
+//! `People::build` gives the fault with the least number, or the people of these persons, groups and
+//! grants. `member` is true exactly where the person is known and a chain of groups leads there,
+//! circles included. Only `build` takes memory: it keeps for each person the groups around it, so
+//! that `holds` asks no more groups than there are names with a grant of the right.
 #![tactic(auto)]
 
 mod checks;

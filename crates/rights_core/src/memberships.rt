@@ -8,10 +8,10 @@ use crate::outer::outer_of;
 use crate::parts::Group;
 use std::alloc::{AllocError, Global};
 use std::collections::BTreeMap;
-use text_core::{Text, Texts};
+use text_core::{IndexedTexts, Text};
 
 /// The names of the groups that each person is a member of.
-pub(crate) type Memberships = BTreeMap<String, Texts>;
+pub(crate) type Memberships = BTreeMap<String, IndexedTexts>;
 
 /// The memberships of the persons in the groups.
 pub(crate) fn memberships(
@@ -27,7 +27,8 @@ pub(crate) fn memberships(
     let mut kept: Memberships = BTreeMap::new(alloc);
     for (earlier, person) in persons.iter().enumerate() {
         let person = person.as_str();
-        let names = outer_of(alloc, groups, &listers, marks, earlier + 1, person)?;
+        let around = outer_of(alloc, groups, &listers, marks, earlier + 1, person)?;
+        let names = IndexedTexts::new(alloc, around)?;
         kept.insert(String::from_str(alloc, person)?, names)?;
     }
     Ok(kept)

@@ -14,7 +14,7 @@ use crate::parts::{Group, Parts};
 use crate::role::Roles;
 use std::alloc::Global;
 use std::marker::Model;
-use text_core::{Text, is_among};
+use text_core::Text;
 
 /// Persons, groups of them, and what they are granted.
 ///
@@ -94,7 +94,7 @@ impl People {
             × words.IsChain self.now.groups group.now others person.now)) }
     {
         match self.memberships.get(person) {
-            Some(groups) => is_among(groups.as_slice(), group),
+            Some(groups) => groups.contains(group),
             None => false,
         }
     }
@@ -105,9 +105,7 @@ impl People {
         ensures { result ≡ words.holds self.now person.now right.now queue.now roles }
     {
         match self.memberships.get(person) {
-            Some(groups) => {
-                grants::give(&self.grants, right, queue, person, groups.as_slice(), roles)
-            }
+            Some(groups) => grants::give(&self.grants, right, queue, person, groups, roles),
             None => false, // nor what everyone holds
         }
     }

@@ -26,8 +26,9 @@ pub enum SettingsFault {
     /// A required key is absent, or a limit has neither unit.
     #[error("a table lacks a key that it must have, or a limit lacks both units")]
     Missing,
-    /// A value, or a key that is free, is of another kind or form.
-    #[error("a value, or a key of one's own, is of another kind or form than is allowed there")]
+    /// A value, or a key that is free, is of another kind or form, or a calendar has a rule beside
+    /// an offset or changes.
+    #[error("a value or a key is of another kind than is allowed there, or stands beside a rule")]
     WrongKind,
     /// A calendar has a fault.
     #[error("in a calendar: {0}")]
@@ -38,8 +39,9 @@ pub enum SettingsFault {
     /// The persons, groups and grants have a fault.
     #[error("among persons, groups and grants: {0}")]
     Rights(RightsFault),
-    /// A granted right, a level's calendar or a token's person isn't known.
-    #[error("a granted right, a level's calendar or a token's person isn't known")]
+    /// A granted right, a level's calendar, a status that a level ignores or a token's person isn't
+    /// known.
+    #[error("a granted right, a level's calendar or ignored status, or a token's person is unknown")]
     UnknownName,
     /// A token isn't 16 to 64 letters, digits, `-` and `_`.
     #[error("a token must be 16 to 64 letters, digits, `-` and `_`")]

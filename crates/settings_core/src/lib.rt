@@ -3,18 +3,22 @@
 //! A text has the keys that the tables of `settings_form` list. Where it is silent, settings know
 //! one person, `root`, who holds every right, one lifecycle and one calendar, both named `default`,
 //! and no level.
+//!
+//! `Settings::read` gives settings that the bytes state, part by part, or the fault with the least
+//! number over the whole text. `Settings::built_in` are those of no bytes. `people`, `lifecycle` and
+//! their like give the named part, and `SettingsFault::inner` the fault inside another.
 #![tactic(auto)]
 
 mod calendars;
-pub mod fault;
+mod fault;
 pub mod laws;
 mod levels;
 mod lifecycles;
 mod limits;
-pub mod named;
+mod named;
 mod names;
 mod people;
-pub mod settings;
+mod settings;
 mod tokens;
 
 pub use fault::SettingsFault;

@@ -5,6 +5,7 @@ ghost use Rattle.std.specs.List.{list_all};
 ghost use Rattle.settings_core.specs.Tokens as spec;
 
 use settings_parts::people::Token;
+use text_core::{is_digit, is_letter};
 
 /// The least bytes of a token.
 const LEAST_BYTES: usize = 16;
@@ -34,9 +35,5 @@ fn has_token_bytes(bytes: &[u8]) -> bool
 fn is_token_byte(byte: u8) -> bool
     ensures { result ≡ spec.is_token_byte byte }
 {
-    b'a' <= byte && byte <= b'z'
-        || b'A' <= byte && byte <= b'Z'
-        || b'0' <= byte && byte <= b'9'
-        || byte == b'-'
-        || byte == b'_'
+    is_letter(byte) || is_digit(byte) || byte == b'-' || byte == b'_'
 }

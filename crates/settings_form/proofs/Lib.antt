@@ -1,3 +1,3 @@
-pub mod DayLemmas
 pub mod Laws
+pub mod Prefixes
 pub mod Trees

@@ -117,7 +117,7 @@ kind_of p k = kind_by (keys p) k
 
 -- the keys as the code holds them
 abbrev pub field_of : Row → Field
-field_of r = record { key = r.0.now; is_required = r.1; kind = r.2 }
+field_of r = record { key = r.key.now; is_required = r.is_required; kind = r.kind }
 
 abbrev pub keys_of : KeysInCode → Keys
 keys_of (Listed rows) = listed (map field_of rows.now)

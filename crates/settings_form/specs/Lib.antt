@@ -1,5 +1,5 @@
-pub mod Fault
 pub mod Form
+pub mod Grantee
 pub mod TextForms
 pub mod Kinds
 pub mod Walk

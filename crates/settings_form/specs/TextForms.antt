@@ -1,29 +1,15 @@
 -- The forms of texts.
 use Rattle.std.specs.Prelude.{ℕ, ◌+◌, ◌-◌, ◌*◌, ◌==◌, eqb, nat_le, Bool, true}
 use Rattle.std.specs.Prelude.{false, not, ◌&&◌, ◌||◌, if◌then◌else◌, List, []}
-use Rattle.std.specs.Prelude.{◌∷◌, length, slice_index, codes, pos, unsigned_abs}
+use Rattle.std.specs.Prelude.{◌∷◌, length, slice_index, codes, is_some}
 use Rattle.std.specs.Str.{bytes_eq}
-use Rattle.std.specs.List.{starts_with, list_any, before_first, after_first}
-use Rattle.jiff.specs.Words.{days_in_month}
-use Rattle.jiff_core.specs.Calendar.{days_from_civil}
+use Rattle.std.specs.List.{list_any, before_first, after_first}
+use Rattle.days.specs.Dates.{is_date, day_number}
 use Rattle.text_core.specs.Form as text
+use Rattle.settings_form.specs.Grantee.{subject_in}
 use Rattle.settings_form.specs.declared.form.TextForm.{TextForm}
 use Rattle.settings_form.specs.declared.form.TextForm.TheVariants.{Any, Name, To, RightKey}
 use Rattle.settings_form.specs.declared.form.TextForm.TheVariants.{Day, Interval}
-
-abbrev pub is_role : List ℕ → Bool
-is_role s =
-    bytes_eq s (codes "role:owner") || bytes_eq s (codes "role:requestor")
-    || bytes_eq s (codes "role:cc") || bytes_eq s (codes "role:admincc")
-
-abbrev pub begins : List ℕ → List ℕ → Bool
-begins s start = starts_with eqb s start
-
--- whom a grant is for
-abbrev pub is_to : List ℕ → Bool
-is_to s =
-    bytes_eq s (codes "everyone") || is_role s
-    || begins s (codes "person:") || begins s (codes "group:")
 
 abbrev pub is_space : ℕ → Bool
 is_space b = eqb b 32
@@ -58,16 +44,6 @@ fits (p ∷ ps) (b ∷ bs) = is_like p b && fits ps bs
 abbrev pub two : List ℕ → ℕ → ℕ
 two s i = (slice_index s i - 48) * 10 + (slice_index s (i + 1) - 48)
 
--- a day of 2000 to 2099
-abbrev pub is_date : ℕ → ℕ → ℕ → Bool
-is_date y m d =
-    nat_le 2000 y && nat_le y 2099 && nat_le 1 m && nat_le m 12
-    && nat_le 1 d && nat_le d (days_in_month (pos y) m)
-
--- the number of a day, where 1970-01-01 is day 0
-abbrev pub day_number : ℕ → ℕ → ℕ → ℕ
-day_number y m d = if is_date y m d then unsigned_abs (days_from_civil (pos y) m d) else 0
-
 abbrev pub year_of : List ℕ → ℕ
 year_of s = two s 0 * 100 + two s 2
 
@@ -97,7 +73,7 @@ interval_of s = (minute_of (two s 0) (two s 3), minute_of (two s 6) (two s 9))
 abbrev pub has_form : TextForm → List ℕ → Bool
 has_form Any s = true
 has_form Name s = text.is_name s
-has_form To s = is_to s
+has_form To s = is_some (subject_in s)
 has_form RightKey s = is_right_key s
 has_form Day s = is_day s
 has_form Interval s = is_interval s

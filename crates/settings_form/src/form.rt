@@ -54,8 +54,14 @@ pub enum Kind {
     Many(Item),
 }
 
-/// A key of a table, whether the table must have it, and what stands at it.
-pub struct Row(pub &'static str, pub bool, pub Kind);
+/// A key of a table.
+pub struct Row {
+    pub key: &'static str,
+    /// Whether the table must have the key.
+    pub is_required: bool,
+    /// What stands at the key.
+    pub kind: Kind,
+}
 
 /// The keys of a table.
 #[derive(Clone, Copy)]
@@ -68,65 +74,83 @@ pub enum Keys {
     Free(TextForm, Kind),
 }
 
-const MUST: bool = true;
+/// A key that the table must have.
+macro_rules! must {
+    ($key:expr, $kind:expr) => {
+        Row {
+            key: $key,
+            is_required: true,
+            kind: $kind,
+        }
+    };
+}
 
-const MAY: bool = false;
+/// A key that the table may have.
+macro_rules! may {
+    ($key:expr, $kind:expr) => {
+        Row {
+            key: $key,
+            is_required: false,
+            kind: $kind,
+        }
+    };
+}
 
 static TOP: [Row; 9] = [
-    Row("max_requests", MAY, One(Integer)),
-    Row("max_entries", MAY, One(Integer)),
-    Row("persons", MAY, Many(Text(TextForm::Any))),
-    Row("groups", MAY, One(Table(Place::Groups))),
-    Row("grant", MAY, Many(Table(Place::Grant))),
-    Row("tokens", MAY, One(Table(Place::Tokens))),
-    Row("lifecycle", MAY, One(Table(Place::Lifecycles))),
-    Row("calendar", MAY, One(Table(Place::Calendars))),
-    Row("level", MAY, One(Table(Place::Levels))),
+    may!("max_requests", One(Integer)),
+    may!("max_entries", One(Integer)),
+    may!("persons", Many(Text(TextForm::Any))),
+    may!("groups", One(Table(Place::Groups))),
+    may!("grant", Many(Table(Place::Grant))),
+    may!("tokens", One(Table(Place::Tokens))),
+    may!("lifecycle", One(Table(Place::Lifecycles))),
+    may!("calendar", One(Table(Place::Calendars))),
+    may!("level", One(Table(Place::Levels))),
 ];
 
 static GRANT: [Row; 3] = [
-    Row("to", MUST, One(Text(TextForm::To))),
-    Row("rights", MUST, Many(Text(TextForm::Any))),
-    Row("queue", MAY, One(Text(TextForm::Any))),
+    must!("to", One(Text(TextForm::To))),
+    must!("rights", Many(Text(TextForm::Any))),
+    may!("queue", One(Text(TextForm::Any))),
 ];
 
 static LIFECYCLE: [Row; 7] = [
-    Row("initial", MUST, Many(Text(TextForm::Any))),
-    Row("active", MUST, Many(Text(TextForm::Any))),
-    Row("create", MUST, Many(Text(TextForm::Any))),
-    Row("on_create", MUST, One(Text(TextForm::Any))),
-    Row("inactive", MAY, Many(Text(TextForm::Any))),
-    Row("transitions", MAY, One(Table(Place::Transitions))),
-    Row("rights", MAY, One(Table(Place::RightNames))),
+    must!("initial", Many(Text(TextForm::Any))),
+    must!("active", Many(Text(TextForm::Any))),
+    must!("create", Many(Text(TextForm::Any))),
+    must!("on_create", One(Text(TextForm::Any))),
+    may!("inactive", Many(Text(TextForm::Any))),
+    may!("transitions", One(Table(Place::Transitions))),
+    may!("rights", One(Table(Place::RightNames))),
 ];
 
 static CALENDAR: [Row; 12] = [
-    Row("years", MAY, One(Pair)),
-    Row("offset", MAY, One(Integer)),
-    Row("changes", MAY, Many(Pair)),
-    Row("rule", MAY, One(Text(TextForm::Any))),
-    Row("holidays", MAY, Many(Text(TextForm::Day))),
-    Row("sun", MAY, Many(Text(TextForm::Interval))),
-    Row("mon", MAY, Many(Text(TextForm::Interval))),
-    Row("tue", MAY, Many(Text(TextForm::Interval))),
-    Row("wed", MAY, Many(Text(TextForm::Interval))),
-    Row("thu", MAY, Many(Text(TextForm::Interval))),
-    Row("fri", MAY, Many(Text(TextForm::Interval))),
-    Row("sat", MAY, Many(Text(TextForm::Interval))),
+    may!("years", One(Pair)),
+    may!("offset", One(Integer)),
+    may!("changes", Many(Pair)),
+    may!("rule", One(Text(TextForm::Any))),
+    may!("holidays", Many(Text(TextForm::Day))),
+    may!("sun", Many(Text(TextForm::Interval))),
+    may!("mon", Many(Text(TextForm::Interval))),
+    may!("tue", Many(Text(TextForm::Interval))),
+    may!("wed", Many(Text(TextForm::Interval))),
+    may!("thu", Many(Text(TextForm::Interval))),
+    may!("fri", Many(Text(TextForm::Interval))),
+    may!("sat", Many(Text(TextForm::Interval))),
 ];
 
 static LEVEL: [Row; 6] = [
-    Row("calendar", MUST, One(Text(TextForm::Any))),
-    Row("start_immediately", MAY, One(Boolean)),
-    Row("response", MAY, One(Table(Place::Limit))),
-    Row("keep_in_loop", MAY, One(Table(Place::Limit))),
-    Row("resolve", MAY, One(Table(Place::Limit))),
-    Row("ignore", MAY, Many(Text(TextForm::Any))),
+    must!("calendar", One(Text(TextForm::Any))),
+    may!("start_immediately", One(Boolean)),
+    may!("response", One(Table(Place::Limit))),
+    may!("keep_in_loop", One(Table(Place::Limit))),
+    may!("resolve", One(Table(Place::Limit))),
+    may!("ignore", Many(Text(TextForm::Any))),
 ];
 
 static LIMIT: [Row; 2] = [
-    Row("real_minutes", MAY, One(Integer)),
-    Row("business_minutes", MAY, One(Integer)),
+    may!("real_minutes", One(Integer)),
+    may!("business_minutes", One(Integer)),
 ];
 
 /// The keys of a table.
@@ -155,8 +179,8 @@ fn kind_in(rows: &[Row], key: &str) -> Option<Kind>
     ensures { result ≡ form.kind_in (map form.field_of rows.now) key.now }
 {
     for row in rows {
-        if key == row.0 {
-            return Some(row.2);
+        if key == row.key {
+            return Some(row.kind);
         }
     }
     None

@@ -160,7 +160,7 @@ fn lacks_one(rows: &[Row], table: &Table) -> bool
     ensures { result ≡ kinds.lacks_one (map form.field_of rows.now) (table_view table.now) }
 {
     for row in rows {
-        if row.1 && lacks(table, row.0) {
+        if row.is_required && lacks(table, row.key) {
             return true;
         }
     }
@@ -171,7 +171,7 @@ fn lacks_all(rows: &[Row], table: &Table) -> bool
     ensures { result ≡ kinds.lacks_all (map form.field_of rows.now) (table_view table.now) }
 {
     for row in rows {
-        if !lacks(table, row.0) {
+        if !lacks(table, row.key) {
             return false;
         }
     }

@@ -1,12 +1,13 @@
-//! The forms of texts in settings: names, days, times, whom a grant is for.
+//! The forms of texts in settings: names, days, times, rights of moves.
 
 ghost use Rattle.std.specs.Prelude.{◌≡◌, ◌<◌, ◌≤◌, slice_index};
 ghost use Rattle.std.specs.List.{list_any};
 ghost use Rattle.settings_form.specs.TextForms as spec;
 
-use crate::dates::{day_number, is_date};
 use crate::form::TextForm;
-use text_core::is_name;
+use crate::grantee::grantee_of;
+use days::{day_number, is_date};
+use text_core::{is_digit, is_name};
 
 /// The minutes of an hour.
 const HOUR: u32 = 60;
@@ -18,29 +19,11 @@ pub fn has_form(form: TextForm, text: &str) -> bool
     match form {
         TextForm::Any => true,
         TextForm::Name => is_name(text),
-        TextForm::To => is_to(text),
+        TextForm::To => grantee_of(text).is_some(),
         TextForm::RightKey => is_right_key(text),
         TextForm::Day => is_day(text.as_bytes()),
         TextForm::Interval => is_interval(text.as_bytes()),
     }
-}
-
-fn is_to(text: &str) -> bool
-    ensures { result ≡ spec.is_to text.now }
-{
-    text == "everyone" || is_role(text) || begins(text, "person:") || begins(text, "group:")
-}
-
-fn is_role(text: &str) -> bool
-    ensures { result ≡ spec.is_role text.now }
-{
-    text == "role:owner" || text == "role:requestor" || text == "role:cc" || text == "role:admincc"
-}
-
-pub fn begins(text: &str, start: &str) -> bool
-    ensures { result ≡ spec.begins text.now start.now }
-{
-    text.starts_with(start)
 }
 
 /// What stands before the first space and after it.
@@ -78,7 +61,7 @@ fn is_like(pattern: u8, byte: u8) -> bool
     ensures { result ≡ spec.is_like pattern byte }
 {
     if pattern == b'0' {
-        b'0' <= byte && byte <= b'9'
+        is_digit(byte)
     } else {
         byte == pattern
     }

@@ -14,42 +14,37 @@ abbrev pub is_from_one : ℕ → ℤ → Bool
 is_from_one most z = int_le (pos 1) z && int_le z (pos most)
 
 -- a number from 1 to the most
+abbrev pub within : ℕ → ℤ → Option ℕ
+within most z = if is_from_one most z then Some (unsigned_abs z) else None
+
+-- the same, where no such number is 0
 abbrev pub number_up_to : ℕ → ℤ → ℕ
-number_up_to most z = if is_from_one most z then unsigned_abs z else 0
+number_up_to most z = unwrap_or (within most z) 0
 
 -- the most minutes of a limit, a year of them
 abbrev pub most_minutes : ℕ
 most_minutes = 525600
 
-abbrev pub minutes_of : Option ℤ → ℕ
-minutes_of minutes = option_map_or (number_up_to most_minutes) minutes 0
+-- the limit of one number of minutes, from 1 to the most
+abbrev pub limit_in : Option ℤ → Option ℤ → Option Limit
+limit_in (Some z) None = option_map RealMinutes (within most_minutes z)
+limit_in None (Some z) = option_map BusinessMinutes (within most_minutes z)
+limit_in _ _ = None
 
--- the limit that a table states in real minutes or in business minutes
-abbrev pub limit_of : Members → Limit
+-- the limit that a table states, if it states one
+abbrev pub limit_of : Members → Option Limit
 limit_of ms =
-    if is_some (integer_at (codes "real_minutes") ms)
-    then RealMinutes (minutes_of (integer_at (codes "real_minutes") ms))
-    else BusinessMinutes (minutes_of (integer_at (codes "business_minutes") ms))
-
--- a table states one number of minutes, and it is from 1 to the most
-abbrev pub are_minutes : Option ℤ → Option ℤ → Bool
-are_minutes (Some z) None = is_from_one most_minutes z
-are_minutes None (Some z) = is_from_one most_minutes z
-are_minutes _ _ = false
-
-abbrev pub is_limit : Members → Bool
-is_limit ms =
-    are_minutes (integer_at (codes "real_minutes") ms) (integer_at (codes "business_minutes") ms)
+    limit_in (integer_at (codes "real_minutes") ms) (integer_at (codes "business_minutes") ms)
 
 abbrev pub limit_table : List ℕ → Members → Option Members
 limit_table k ms = option_and_then as_table (get_member k ms)
 
 -- the limit at a key
 abbrev pub limit_at : List ℕ → Members → Option Limit
-limit_at k ms = option_map limit_of (limit_table k ms)
+limit_at k ms = option_and_then limit_of (limit_table k ms)
 
 abbrev pub has_limit_at : List ℕ → Members → Bool
-has_limit_at k ms = option_map_or is_limit (limit_table k ms) true
+has_limit_at k ms = option_map_or (λ limit. is_some (limit_of limit)) (limit_table k ms) true
 
 -- each limit that the level has is one
 abbrev pub has_limits : Members → Bool

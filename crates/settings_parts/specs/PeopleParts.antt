@@ -1,50 +1,33 @@
 -- The persons, groups, grants and tokens of a settings text.
-use Rattle.std.specs.Prelude.{ℕ, ◌||◌, Bool, List, [], ◌∷◌, ◌++◌, map, drop, length}
+use Rattle.std.specs.Prelude.{ℕ, ◌||◌, Bool, List, [], ◌∷◌, ◌++◌, map}
 use Rattle.std.specs.Prelude.{Option, Some, None, is_some, unwrap_or, codes, if◌then◌else◌}
-use Rattle.std.specs.Str.{bytes_eq}
+use Rattle.std.specs.Option.{option_map_or}
 use Rattle.toml.specs.Data.{Items, no_items, item, Members, no_members, member, get_member, as_str}
 use Rattle.rights_core.specs.Right.{super_user}
 use Rattle.rights_core.specs.declared.grant.Grant.{Grant}
 use Rattle.rights_core.specs.declared.grant.Subject.{Subject}
 use Rattle.rights_core.specs.declared.grant.Subject.TheVariants as subject
-use Rattle.rights_core.specs.declared.role.Role.TheVariants.{Owner, Requestor, Cc, AdminCc}
 use Rattle.rights_core.specs.declared.parts.Group.{Group}
 use Rattle.rights_core.specs.declared.parts.Parts.{Parts}
-use Rattle.settings_form.specs.TextForms.{begins}
+use Rattle.settings_form.specs.Grantee.{subject_in}
 use Rattle.settings_parts.specs.Values.{text_at, texts_at, texts_of, members_of, table_at, items_at}
 use Rattle.settings_parts.specs.declared.people.Token.{Token}
-
--- what follows in a text, where it begins so
-abbrev pub after : List ℕ → List ℕ → Option (List ℕ)
-after text start = if begins text start then Some (drop (length start) text) else None
-
-abbrev pub named_subject : Option (List ℕ) → Option (List ℕ) → Subject
-named_subject (Some person) group = subject.Person person
-named_subject None group = subject.Group (unwrap_or group [])
-
--- the person or the group that a grant is for
-abbrev pub subject_named : List ℕ → Subject
-subject_named to = named_subject (after to (codes "person:")) (after to (codes "group:"))
-
--- whom a grant is for
-abbrev pub subject_of : List ℕ → Subject
-subject_of to =
-    if bytes_eq to (codes "everyone") then subject.Everyone
-    else (if bytes_eq to (codes "role:owner") then subject.Role Owner
-    else (if bytes_eq to (codes "role:requestor") then subject.Role Requestor
-    else (if bytes_eq to (codes "role:cc") then subject.Role Cc
-    else (if bytes_eq to (codes "role:admincc") then subject.Role AdminCc
-    else subject_named to))))
 
 abbrev pub grant_of : Subject → Option (List ℕ) → List ℕ → Grant
 grant_of subject queue right = record { right = right; subject = subject; queue = queue }
 
 -- one grant for each right
+abbrev pub grants_to : Subject → Members → List Grant
+grants_to subject ms =
+    map (grant_of subject (text_at (codes "queue") ms)) (texts_at (codes "rights") ms)
+
+-- none where the text says nobody, which is a fault of form
 abbrev pub grants_at : Members → List Grant
 grants_at ms =
-    map
-    (grant_of (subject_of (unwrap_or (text_at (codes "to") ms) [])) (text_at (codes "queue") ms))
-    (texts_at (codes "rights") ms)
+    option_map_or
+    (λ subject. grants_to subject ms)
+    (subject_in (unwrap_or (text_at (codes "to") ms) []))
+    []
 
 -- the grants of a list of tables
 abbrev pub grants_in : Items → List Grant

@@ -18,56 +18,43 @@ const MOST_MINUTES: u32 = 525_600;
 pub fn is_from_one(most: u32, number: i64) -> bool
     ensures { result ≡ spec.is_from_one most number }
 {
-    1 <= number && number <= most as i64
+    within(most, number).is_some()
 }
 
-/// The number where it is from 1 to the most.
+/// The number where it is from 1 to the most, and else 0.
 pub fn number_up_to(most: u32, number: i64) -> u32
     ensures { result ≡ spec.number_up_to most number }
 {
+    within(most, number).unwrap_or(0)
+}
+
+/// The number where it is from 1 to the most.
+fn within(most: u32, number: i64) -> Option<u32>
+    ensures { result ≡ spec.within most number }
+{
     if 1 <= number && number <= most as i64 {
-        number as u32
+        Some(number as u32)
     } else {
-        0
+        None
     }
 }
 
-fn minutes_of(minutes: Option<i64>) -> u32
-    ensures { result ≡ spec.minutes_of minutes }
-{
-    match minutes {
-        Some(number) => number_up_to(MOST_MINUTES, number),
-        None => 0,
-    }
-}
-
-/// The limit that a table states.
-fn limit_of(table: &Table) -> Limit
-    ensures { result ≡ spec.limit_of (table_view table.now) }
-{
-    let real = integer_at(table, "real_minutes");
-    if real.is_some() {
-        Limit::RealMinutes(minutes_of(real))
-    } else {
-        Limit::BusinessMinutes(minutes_of(integer_at(table, "business_minutes")))
-    }
-}
-
-fn are_minutes(real: Option<i64>, business: Option<i64>) -> bool
-    ensures { result ≡ spec.are_minutes real business }
+/// The limit of so many real or business minutes: one of the two, from 1 to a year of them.
+fn limit_in(real: Option<i64>, business: Option<i64>) -> Option<Limit>
+    ensures { result ≡ spec.limit_in real business }
 {
     match (real, business) {
-        (Some(minutes), None) => is_from_one(MOST_MINUTES, minutes),
-        (None, Some(minutes)) => is_from_one(MOST_MINUTES, minutes),
-        _ => false,
+        (Some(minutes), None) => Some(Limit::RealMinutes(within(MOST_MINUTES, minutes)?)),
+        (None, Some(minutes)) => Some(Limit::BusinessMinutes(within(MOST_MINUTES, minutes)?)),
+        _ => None,
     }
 }
 
-/// Whether a table states one limit, from 1 minute to a year of them.
-fn is_limit(table: &Table) -> bool
-    ensures { result ≡ spec.is_limit (table_view table.now) }
+/// The limit that a table states, or none where it doesn't state one.
+fn limit_of(table: &Table) -> Option<Limit>
+    ensures { result ≡ spec.limit_of (table_view table.now) }
 {
-    are_minutes(
+    limit_in(
         integer_at(table, "real_minutes"),
         integer_at(table, "business_minutes"),
     )
@@ -87,7 +74,7 @@ fn limit_at(table: &Table, key: &str) -> Option<Limit>
     ensures { result ≡ spec.limit_at key.now (table_view table.now) }
 {
     match limit_table(table, key) {
-        Some(limit) => Some(limit_of(limit)),
+        Some(limit) => limit_of(limit),
         None => None,
     }
 }
@@ -96,7 +83,7 @@ fn has_limit_at(table: &Table, key: &str) -> bool
     ensures { result ≡ spec.has_limit_at key.now (table_view table.now) }
 {
     match limit_table(table, key) {
-        Some(limit) => is_limit(limit),
+        Some(limit) => limit_of(limit).is_some(),
         None => true,
     }
 }

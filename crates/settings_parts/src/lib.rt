@@ -1,4 +1,6 @@
 //! The parts of settings, as a text without a fault of form states them.
+//!
+//! Nothing of such a text is lost: `laws::whole_law`.
 #![tactic(auto)]
 
 pub mod calendar;

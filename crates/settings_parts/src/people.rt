@@ -1,14 +1,15 @@
 //! Persons, groups, grants and tokens.
 
-ghost use Rattle.std.specs.Prelude.{◌≡◌, ◌++◌, [], IfOk, map, unwrap_or, codes};
+ghost use Rattle.std.specs.Prelude.{◌≡◌, ◌++◌, IfOk, map};
 ghost use Rattle.toml.specs.View.{array_view, table_view};
-ghost use Rattle.std.specs.Option.{option_copied};
+ghost use Rattle.settings_form.specs.Grantee as form;
 ghost use Rattle.settings_parts.specs.PeopleParts as spec;
 
 use crate::values::{
     array_at, has_key, table_at, text_at, text_of, text_or_empty, texts_at, texts_of,
 };
-use rights_core::{Grant, Group, Parts, Role, Subject, right};
+use rights_core::{Grant, Group, Parts, Subject, right};
+use settings_form::grantee::{Grantee, grantee_of};
 use std::alloc::{AllocError, Global};
 use text_core::{Sequence, Text, Texts};
 use toml::Table;
@@ -17,12 +18,6 @@ use toml::value::Array;
 /// The one person of a text that doesn't speak of people.
 const ROOT: &str = "root";
 
-/// What the name of a person begins with, where a grant is for one.
-const PERSON: &str = "person:";
-
-/// What the name of a group begins with.
-const GROUP: &str = "group:";
-
 /// A token and the person whom it stands for.
 #[derive(Drop)]
 pub struct Token {
@@ -30,48 +25,15 @@ pub struct Token {
     pub person: Text,
 }
 
-/// What follows in the text, where it begins so.
-fn after<'a>(text: &'a str, start: &str) -> Option<&'a str>
-    ensures { option_copied result ≡ spec.after text.now start.now }
+/// Whom a grant is for, with the name as a text of its own.
+fn subject_of(alloc: Global, grantee: Grantee<'_>) -> Result<Subject, AllocError>
+    ensures { IfOk result (λ s. s ≡ form.subject_of grantee.entry) }
 {
-    text.strip_prefix(start)
-}
-
-/// Whom a grant is for.
-fn subject_of(alloc: Global, to: &str) -> Result<Subject, AllocError>
-    ensures { IfOk result (λ s. s ≡ spec.subject_of to.now) }
-{
-    if to == "everyone" {
-        Ok(Subject::Everyone)
-    } else if to == "role:owner" {
-        Ok(Subject::Role(Role::Owner))
-    } else if to == "role:requestor" {
-        Ok(Subject::Role(Role::Requestor))
-    } else if to == "role:cc" {
-        Ok(Subject::Role(Role::Cc))
-    } else if to == "role:admincc" {
-        Ok(Subject::Role(Role::AdminCc))
-    } else {
-        named_subject(alloc, to)
-    }
-}
-
-/// The person or the group that a grant is for.
-fn named_subject(alloc: Global, to: &str) -> Result<Subject, AllocError>
-    ensures { IfOk result (λ s. s ≡ spec.subject_named to.now) }
-{
-    match after(to, PERSON) {
-        Some(name) => Ok(Subject::Person(Text::new(alloc, name)?)),
-        None => Ok(Subject::Group(group_of(alloc, to)?)),
-    }
-}
-
-fn group_of(alloc: Global, to: &str) -> Result<Text, AllocError>
-    ensures { IfOk result (λ t. t ≡ unwrap_or (spec.after to.now (codes "group:")) []) }
-{
-    match after(to, GROUP) {
-        Some(name) => Text::new(alloc, name),
-        None => Text::new(alloc, ""),
+    match grantee {
+        Grantee::Everyone => Ok(Subject::Everyone),
+        Grantee::Role(role) => Ok(Subject::Role(role)),
+        Grantee::Person(name) => Ok(Subject::Person(Text::new(alloc, name)?)),
+        Grantee::Group(name) => Ok(Subject::Group(Text::new(alloc, name)?)),
     }
 }
 
@@ -100,7 +62,23 @@ fn add_grants(alloc: Global, table: &Table, found: &mut Vec<Grant>) -> Result<()
         ≡ found.old.items ++ spec.grants_at (table_view table.now)) }
 {
     let to = text_or_empty(alloc, table, "to")?;
-    let subject = subject_of(alloc, to.as_str())?;
+    match grantee_of(to.as_str()) {
+        Some(grantee) => add_grants_to(alloc, grantee, table, found),
+        None => Ok(()),
+    }
+}
+
+/// One grant for each right of the table.
+fn add_grants_to(
+    alloc: Global,
+    grantee: Grantee<'_>,
+    table: &Table,
+    found: &mut Vec<Grant>,
+) -> Result<(), AllocError>
+    ensures { IfOk result (λ _. found.new.items
+        ≡ found.old.items ++ spec.grants_to (form.subject_of grantee.entry) (table_view table.now)) }
+{
+    let subject = subject_of(alloc, grantee)?;
     let queue = text_at(alloc, table, "queue")?;
     let rights = texts_at(alloc, table, "rights")?;
     push_grants(&subject, &queue, rights.as_slice(), found)

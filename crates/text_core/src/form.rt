@@ -56,6 +56,13 @@ pub fn is_text(text: &str) -> bool
     1 <= length && length <= MAX_TEXT_CHARACTERS && is_on_lines(text)
 }
 
+/// Whether the byte is `a` to `z` or `A` to `Z`.
+pub fn is_letter(byte: u8) -> bool
+    ensures { result ≡ form.is_letter byte }
+{
+    is_small_letter(byte) || is_large_letter(byte)
+}
+
 fn is_small_letter(byte: u8) -> bool
     ensures { result ≡ form.is_small_letter byte }
 {
@@ -68,7 +75,8 @@ fn is_large_letter(byte: u8) -> bool
     b'A' <= byte && byte <= b'Z'
 }
 
-fn is_digit(byte: u8) -> bool
+/// Whether the byte is `0` to `9`.
+pub fn is_digit(byte: u8) -> bool
     ensures { result ≡ form.is_digit byte }
 {
     b'0' <= byte && byte <= b'9'
@@ -89,9 +97,7 @@ fn has_name_bytes(bytes: &[u8]) -> bool
 fn has_letters(bytes: &[u8]) -> bool
     ensures { result ≡ list_all form.is_letter bytes.now }
 {
-    bytes
-        .iter()
-        .all(|b| is_small_letter(*b) || is_large_letter(*b))
+    bytes.iter().all(|b| is_letter(*b))
 }
 
 fn is_control(character: char) -> bool

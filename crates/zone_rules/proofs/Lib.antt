@@ -1,3 +1,3 @@
 pub mod RuleLemmas
 pub mod TextLemmas
-pub mod DayLemmas
+pub mod YearLemmas

@@ -70,6 +70,14 @@ read_seconds text Unknown rule n is read = absurd is
 read_seconds text (Fixed o) rule n is read = absurd is
 read_seconds text (Tzif z) rule n is read = absurd is
 
+-- jiff reads a text that is no rule as no zone
+pub reads_none : (text : List ℕ) (zone : Zone) → read_whole text ≡ None → IsPosixZone text zone → ⊥
+reads_none text (Posix tz) none is = cc
+reads_none text UTC none is = is
+reads_none text Unknown none is = is
+reads_none text (Fixed o) none is = is
+reads_none text (Tzif z) none is = is
+
 -- in one year, up to the next transition, the offset of a rule's zone stays
 rule_stays : (zone : Zone) (n b : ℤ) → IsRule zone → n ≤ℤ b → year_of_nanos n ≡ year_of_nanos b
     → neg_ℤ (pos 377_705_023_201_000_000_000) ≤ℤ n → b ≤ℤ pos 253_402_207_200_999_999_999

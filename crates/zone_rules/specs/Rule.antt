@@ -1,8 +1,8 @@
 -- The offset that the text of a rule gives at an instant.
-use Rattle.std.specs.Prelude.{ℕ, ℤ, pos, ◌*◌, ◌+ℤ◌, ◌-ℤ◌, ◌*ℤ◌, ◌<ℤ◌, ◌&&◌, ◌||◌, int_lt}
-use Rattle.std.specs.Prelude.{Option, Some, None, [], if◌then◌else◌}
-use Rattle.std.specs.Prelude.{unsigned_abs}
-use Rattle.jiff_core.specs.Calendar.{days_from_civil}
+use Rattle.std.specs.Prelude.{◌≡◌, ℕ, ℤ, pos, ◌*◌, ◌+ℤ◌, ◌-ℤ◌, ◌*ℤ◌, ◌<ℤ◌, ◌&&◌, ◌||◌, int_lt}
+use Rattle.std.specs.Prelude.{Option, Some, None, List, [], if◌then◌else◌}
+use Rattle.jiff.specs.Placed.{IsPosixZone}
+use Rattle.jiff.specs.Words.{offset_at as jiff_offset}
 use Rattle.jiff_core.specs.Timestamp.{nanos_of_seconds}
 use Rattle.jiff_tz.specs.PosixRule.{match_some, rule_day, clamp_to, first_nanosecond}
 use Rattle.jiff_tz.specs.PosixRule.{last_nanosecond, nanos_per_day, saturating_add, int_same}
@@ -18,10 +18,6 @@ use Rattle.jiff_tz.specs.declared.timezone.TimeZone.TheVariants.{Posix}
 -- the last minute that is asked for: 2100-01-01 00:00
 abbrev pub end_of_rules : ℕ
 end_of_rules = 68374080
-
--- the number of days from 1970-01-01 to the year's 1 January
-unfoldable pub first_day_of : ℤ → ℕ
-first_day_of year = unsigned_abs (days_from_civil year 1 1)
 
 -- the minute's first second, as an instant
 abbrev pub nanos : ℕ → ℤ
@@ -53,6 +49,11 @@ seconds_at rule n =
     match_some rule.dst rule.std_seconds (λ summer.
     if in_window (summer_in summer (year_of_nanos n) rule.std_seconds) n then summer.seconds
     else rule.std_seconds)
+
+-- at every instant a rule says the offset of the zone that jiff reads its text as
+abbrev pub GoesByJiff : List ℕ → TzText → Type 0
+GoesByJiff text rule =
+    (zone : TimeZone) → IsPosixZone text zone → (n : ℤ) → seconds_at rule n ≡ jiff_offset zone n
 
 -- the zone is that of a rule
 abbrev pub IsRule : TimeZone → Type 0

@@ -1,11 +1,11 @@
 //! A rule of local time, and its offset at each minute.
 
-ghost use Rattle.std.specs.Prelude.{◌≡◌, ◌<◌, ◌≤◌, ◌*◌, ◌<ℤ◌, ℕ, pos};
+ghost use Rattle.std.specs.Prelude.{◌≡◌, ◌<◌, ◌≤◌, ◌*◌, ◌<ℤ◌, ℕ, pos, IfSome};
 ghost use Rattle.jiff.specs.Words.{next_at, offset_at as zone_offset, plain_zone, read_whole};
 ghost use Rattle.jiff_tz.specs.declared.timezone.TimeZone.{TimeZone as Zone};
-ghost use Rattle.zone_rules.specs.Rule.{IsBefore, nanos, seconds_at, end_of_rules};
+ghost use Rattle.zone_rules.specs.Rule.{GoesByJiff, IsBefore, nanos, seconds_at, end_of_rules};
 
-use crate::days::next_year;
+use crate::years::next_year;
 use jiff::Timestamp;
 use jiff::tz::TimeZone;
 use std::marker::Model;
@@ -33,7 +33,8 @@ impl Model for Rule {
 impl Rule {
     /// The rule of the text, or `None` where the text is no rule. It takes no memory.
     pub fn read(text: &str) -> Option<Rule>
-        ensures { result ≡ read_whole text.now }
+        ensures value { result ≡ read_whole text.now }
+        ensures jiff { IfSome result (GoesByJiff text.now) }
     {
         match TimeZone::posix(text) {
             Ok(zone) => Some(Rule { zone }),

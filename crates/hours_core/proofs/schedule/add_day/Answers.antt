@@ -4,7 +4,7 @@ use Rattle.std.specs.List.{list_any}
 use Rattle.std.proofs.lemmas.List.Folds.{list_any_more}
 use Rattle.hours_core.specs.Hours.{is_within, are_intervals}
 use Rattle.hours_core.specs.Moment.{first_minute}
-use Rattle.hours_core.specs.Spans.{is_held, end_of}
+use Rattle.hours_core.specs.Spans.{is_held, last_end}
 use Rattle.hours_core.proofs.ScheduleLemmas.{clipped, one_more, nothing_more, next_interval}
 use Rattle.hours_core.proofs.schedule.add_day.Goals as goal
 use Rattle.hours_core.proofs.schedule.add_day.Goals.{then-start-end+in_ok-append, else-start-end}
@@ -37,8 +37,8 @@ grown c m =
           (is_held c.loop-interval.spans m) w.if-start-end.false)
     ]
 
-last : (c : goal.Joined-start-end) → (end_of first_minute c.if-start-end.spans ≤ c.args.to)
-    × (end_of first_minute c.if-start-end.spans
+last : (c : goal.Joined-start-end) → (last_end first_minute c.if-start-end.spans ≤ c.args.to)
+    × (last_end first_minute c.if-start-end.spans
     ≤ max c.args.from (c.args.midnight + (interval_of c).1))
 unfolding interval_of
 last c =

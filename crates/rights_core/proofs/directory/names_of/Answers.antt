@@ -2,7 +2,7 @@ use Rattle.std.proofs.Common.{◌≡◌, ◌||◌, true, false, not, Bool, sym, 
 use Rattle.std.specs.HashSet.{contains_text}
 use Rattle.std.specs.List.{list_any}
 use Rattle.text_core.specs.Texts.{repeats_text}
-use Rattle.rights_core.specs.Directory.{IsSetOf}
+use Rattle.text_core.specs.Lookup.{IsSetOf}
 use Rattle.rights_core.specs.RightsFaults.{group_names, has_group}
 use Rattle.rights_core.proofs.Repeats.{repeats_in_either, repeats_in_sets}
 use Rattle.rights_core.proofs.directory.names_of.Goals as goal

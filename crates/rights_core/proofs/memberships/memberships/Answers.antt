@@ -6,6 +6,7 @@ use Rattle.std.proofs.lemmas.Grind.{common_steps}
 use Rattle.std.proofs.lemmas.List.{get_or_default}
 use Rattle.std.proofs.lemmas.Map.Text.{btree_map_updates_text}
 use Rattle.rights_core.specs.Index.{IsMemberships}
+use Rattle.text_core.specs.Texts.{is_among}
 use Rattle.rights_core.proofs.Kept.{one_more_person}
 use Rattle.rights_core.proofs.memberships.memberships.Goals as goal
 
@@ -25,7 +26,8 @@ loop-earlier-preserved c =
     (c.as_str-person.ensures
     ∙ c.index-persons-earlier.is
     ∙ get_or_default c.args.persons.now c.loop-earlier.earlier _ [] c.loop-earlier-test.true)
-    c.in_ok-names.ensures.found
+    (λ group.
+    ap (λ names. is_among names group) c.in_ok-names.ensures ∙ c.in_ok-around.ensures.found group)
     (λ q.
     btree_map_updates_text
     (string_bytes c.in_ok-from_str.field-0)
@@ -38,8 +40,8 @@ loop-earlier-preserved c =
     c.loop-earlier.invariant.kept in
     record {
       kept = kept;
-      size = c.in_ok-names.ensures.size;
-      before = c.in_ok-names.ensures.before;
+      size = c.in_ok-around.ensures.size;
+      before = c.in_ok-around.ensures.before;
     }
 
 pub returns : goal.returns

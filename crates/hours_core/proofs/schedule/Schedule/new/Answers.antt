@@ -2,6 +2,6 @@ use Rattle.hours_core.proofs.ScheduleLemmas.{same_holidays}
 use Rattle.hours_core.proofs.schedule.Schedule.new.Goals as goal
 
 pub returns-clause-hours : goal.returns-clause-hours
-returns-clause-hours c = λ m. rw c.in_ok-week.ensures
-    (same_holidays c.args.zone c.args.week.now c.args.years c.in_ok-holidays.holidays
-    c.args.holidays.now m c.in_ok-holidays.ensures)
+returns-clause-hours c = λ m.
+    same_holidays c.args.zone c.args.week.now c.args.years c.in_ok-holidays.holidays
+    c.args.holidays.now m c.in_ok-holidays.ensures

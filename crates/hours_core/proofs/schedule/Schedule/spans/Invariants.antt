@@ -7,9 +7,9 @@ use Rattle.hours_core.proofs.schedule.Schedule.spans.Given as goal
 abbrev pub invariant-loop-from : goal.invariant-loop-from
 invariant-loop-from l = record {
   from : first_minute ≤ l.from;
-  to : l.from ≤ end_minute;
+  to : l.from ≤ l.end;
   before : HoldBefore l.self l.from l.spans;
 }
 
 abbrev pub decreases-loop-from : goal.decreases-loop-from
-decreases-loop-from l = end_minute - l.from
+decreases-loop-from l = l.end - l.from

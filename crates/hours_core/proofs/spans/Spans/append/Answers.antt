@@ -1,7 +1,7 @@
 use Rattle.std.proofs.Common.{◌≡◌, ◌<◌, length, arith}
 use Rattle.std.proofs.lemmas.Grind.{common_steps}
 use Rattle.hours_core.specs.Moment.{first_minute}
-use Rattle.hours_core.proofs.SpanLemmas.{before_small, last, end_of-last}
+use Rattle.hours_core.proofs.SpanLemmas.{before_small, last, last_end-last}
 use Rattle.hours_core.proofs.SpanLemmas.{Appends, first_added, lengthened, added}
 use Rattle.hours_core.proofs.spans.Spans.append.Goals as goal
 use Rattle.hours_core.proofs.spans.Spans.append.Goals.{in-Some, in-Some-2+in_ok-push-in-Some-2}
@@ -26,7 +26,7 @@ appends c =
           c.requires.some c.requires.to)
       | in-Some-2+in_ok-push-in-Some-2 w ↦
           let h = rw w.in-Some.ensures.items at c.self.invariant in
-          let after = rw (← c.self.view_is, w.in-Some.ensures.items, end_of-last)
+          let after = rw (← c.self.view_is, w.in-Some.ensures.items, last_end-last)
           at c.requires.after in
           let gap : w.in-Some.last.end < c.args.start =
           omega (arith, w.if-last-start.false, after) in

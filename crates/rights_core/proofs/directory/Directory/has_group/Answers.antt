@@ -1,5 +1,5 @@
 use Rattle.std.proofs.Common.{rules, ◌∙◌}
-use Rattle.rights_core.specs.Directory.{IsSetOf}
+use Rattle.text_core.specs.Lookup.{IsSetOf}
 use Rattle.rights_core.specs.RightsFaults.{group_names}
 use Rattle.rights_core.proofs.Repeats.{has_group_named}
 use Rattle.rights_core.proofs.directory.Directory.has_group.Goals as goal

@@ -1,5 +1,4 @@
-use Rattle.std.proofs.Common.{ap, sym, ◌∙◌}
-use Rattle.rights_core.specs.People.{is_among}
+use Rattle.std.proofs.Common.{sym, ◌∙◌}
 use Rattle.rights_core.proofs.Kept.{granted_kept, known_kept, member_kept, nobody_kept}
 use Rattle.rights_core.proofs.Kept.{unknown_holds_nothing}
 use Rattle.rights_core.proofs.people.People.holds.Goals as goal
@@ -21,11 +20,10 @@ returns-in-Some c =
     c.args.right.now
     c.args.queue.now
     c.args.roles
-    c.as_slice.result.now
+    c.in-Some.groups.now
     (known_kept people kept c.self.invariant.0 person _ (sym c.in-Some.ensures.value))
     (λ group.
-    ap (λ names. is_among names group) c.as_slice.ensures
-    ∙ member_kept people kept c.self.invariant.0 person c.in-Some.groups.now
+    member_kept people kept c.self.invariant.0 person c.in-Some.groups.now
     (sym c.in-Some.ensures.value) group))
 
 pub returns-in-None : goal.returns-in-None

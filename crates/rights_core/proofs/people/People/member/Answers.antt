@@ -1,5 +1,5 @@
-use Rattle.std.proofs.Common.{◌≡◌, ap, sym, ◌∙◌}
-use Rattle.rights_core.specs.People.{is_among, is_member}
+use Rattle.std.proofs.Common.{◌≡◌, sym, ◌∙◌}
+use Rattle.rights_core.specs.People.{is_member}
 use Rattle.rights_core.proofs.Kept.{member_kept, nobody_kept, no_member, member_chain}
 use Rattle.rights_core.proofs.people.People.member.Goals as goal
 
@@ -7,8 +7,7 @@ pub returns-in-Some-clause-value : goal.returns-in-Some-clause-value
 returns-in-Some-clause-value c =
     rw
     (← c.self.view_is)
-    (c.is_among.ensures
-    ∙ ap (λ names. is_among names c.args.group.now) c.as_slice.ensures
+    (c.contains.ensures
     ∙ member_kept
     c.self.inside.parts
     c.self.inside.memberships
@@ -20,7 +19,7 @@ returns-in-Some-clause-value c =
 
 pub returns-in-Some-clause-chain : goal.returns-in-Some-clause-chain
 returns-in-Some-clause-chain c =
-    let value : c.is_among.result ≡ is_member c.args.self.now c.args.person.now c.args.group.now =
+    let value : c.contains.result ≡ is_member c.args.self.now c.args.person.now c.args.group.now =
     returns-in-Some-clause-value c in
     let law = member_chain c.args.self.now c.args.person.now c.args.group.now in
     rw value law

@@ -1,5 +1,0 @@
-use Rattle.settings_parts.proofs.Prefixes.{after_is}
-use Rattle.check_core.proofs.people.after.Goals as goal
-
-pub returns : goal.returns
-returns c = after_is c.args.text.now c.args.start.now _ c.strip_prefix.ensures.cases
