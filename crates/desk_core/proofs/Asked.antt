@@ -84,7 +84,7 @@ may_set call person right request may =
           inr ((bytes_eq-Decides person call.caller).0 parts.0, parts.1)
     ]
 
-may_set_role : (call : Call) (role : WatchRole) (person : List ℕ) (request : SeenRequest)
+pub may_set_role : (call : Call) (role : WatchRole) (person : List ℕ) (request : SeenRequest)
     → watch.may_set_role role person call request ≡ true
     → MaySetRole call.settings call.caller role person request
 may_set_role call Requestor person request may =

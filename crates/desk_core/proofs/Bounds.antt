@@ -135,7 +135,7 @@ requests_unless s at caller command desk (Some refusal) refused few = few
 requests_unless s at caller command desk None free few =
     few_requests s (change_by (call s at caller) (facts_of command desk) (plan_of command)) desk
     (by_plan_at (λ d change. HasRoomForRequest (request_limit s) d change.filed) (call s at caller)
-    (plan_of command) (on_call s at caller) desk tt (requests_fit desk (call s at caller) command)
+    (plan_of command) (on_call s at caller) desk (λ reads. tt) (requests_fit desk (call s at caller) command)
     free) few
 
 pub request_limit_kept : (s : Settings) (at : ℕ) (caller : List ℕ) (command : Command) (desk : Desk)
@@ -263,7 +263,7 @@ entries_unless s at caller command desk None free is least short =
     let asks = call s at caller in
     let plan = plan_of command in
     by_plan_at (λ d change. HasShortHistories s d → HasShortHistories s (applied change d)) asks
-    plan (on_call s at caller) desk (λ all. all)
+    plan (on_call s at caller) desk (λ reads all. all)
     (short_by_plan plan asks desk is least (asks_room command) (touches desk command)) free short
 
 pub entry_limit_kept : (s : Settings) (at : ℕ) (caller : List ℕ) (command : Command) (desk : Desk)

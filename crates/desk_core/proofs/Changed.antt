@@ -208,7 +208,7 @@ chosen : {A : Type 0} (b : Bool) (f : A → A) (x : A) (o : Option A)
 chosen true f x o = refl
 chosen false f x o = refl
 
-found_mapped : (f : Request → Request) → ((r : Request) → (f r).row.id ≡ r.row.id) → (id : ℕ)
+pub found_mapped : (f : Request → Request) → ((r : Request) → (f r).row.id ≡ r.row.id) → (id : ℕ)
     (xs : List Request)
     → find (λ r. r.row.id == id) (map f xs) ≡ option_map f (find (λ r. r.row.id == id) xs)
 found_mapped f keeps id [] = refl

@@ -12,6 +12,7 @@ pub mod DueLaw
 pub mod EachRequest
 pub mod Ends
 pub mod Every
+pub mod Filing
 pub mod Goes
 pub mod Identity
 pub mod InView
@@ -19,12 +20,16 @@ pub mod Kept
 pub mod KnownLaw
 pub mod NamedRights
 pub mod NamesLaw
+pub mod Noted
 pub mod Opened
 pub mod Orders
 pub mod Readings
 pub mod Rising
 pub mod Roles
+pub mod Small
 pub mod Told
 pub mod Touches
+pub mod Turns
 pub mod Unchanged
 pub mod ViewLaw
+pub mod Watching

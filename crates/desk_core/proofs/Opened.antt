@@ -10,7 +10,6 @@ use Rattle.desk_model.specs.Commands.Reply as reply
 use Rattle.desk_model.specs.Commands.Reply.{is_desks}
 use Rattle.desk_model.specs.Commands.SetStatus.{row_in_status}
 use Rattle.desk_model.specs.Desk.{Desk, Request, queue_at, request_at}
-use Rattle.desk_model.specs.Due.{due_of_limit, limit_on_turn, sooner}
 use Rattle.desk_model.specs.Lifecycles.{is_inactive, lifecycle_of, opens_anew}
 use Rattle.desk_model.specs.Plan.{Call}
 use Rattle.desk_model.specs.Step.{desk_after}
@@ -82,20 +81,6 @@ opens_go other = λ call facts request new same free sets anew.
     (ap (λ o. opens_anew lifecycle request.row.status (status_in o request.row.status)) sets
     ∙ anew))
 
--- each limit counts from the moment at which the request was opened and the turn began
-limits_count : (at : ℕ) (row : RequestRow) → row.opened ≡ at → row.since ≡ at
-    → IsOpenSince at row
-limits_count at row opened since =
-    record {
-      opened = opened;
-      since = since;
-      limits = λ rule opens level.
-          ap (λ n. sooner (due_of_limit rule opens level n level.resolve)
-          (due_of_limit rule opens level row.since (limit_on_turn level row.turn))) opened
-          ∙ ap (λ n. sooner (due_of_limit rule opens level at level.resolve)
-          (due_of_limit rule opens level n (limit_on_turn level row.turn))) since;
-    }
-
 opened_after : (s : Settings) (at : ℕ) (caller : List ℕ) (command : Command) (desk : Desk)
     (id : ℕ) (before after : Request) → request_at desk id ≡ Some before
     → request_at (desk_after s at caller command desk) id ≡ Some after
@@ -114,7 +99,7 @@ opened_after s at caller command desk id before after was is anew =
           (ids_kept command) (opens_go command) sets in
           let both = goes.0 (ap (λ (q : Option QueueRow). opens_anew (lifecycle_of s q)
           before.row.status after.row.status) goes.1 ∙ anew) in
-          limits_count at after.row both.0 both.1
+          record { opened = both.0; since = both.1 }
     ]
 
 pub opened_law : (s : Settings) (at : ℕ) (caller : List ℕ) (command : Command) (desk : Desk)

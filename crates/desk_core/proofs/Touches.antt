@@ -2,8 +2,7 @@
 use Rattle.std.proofs.Common.{◌≡◌, ◌∙◌, ℕ, ◌+◌, ◌<◌, ◌==◌, true, false, not, cond}
 use Rattle.std.proofs.Common.{List, [], ◌∷◌, map, find, length, Option, Some, None, refl, ap}
 use Rattle.std.proofs.Common.{sym, arith}
-use Rattle.std.specs.List.{list_any}
-use Rattle.std.proofs.lemmas.Bool.{and_parts, eqb-false, eqb-true, or_parts}
+use Rattle.std.proofs.lemmas.Bool.{and_parts, eqb-false, eqb-true}
 use Rattle.hours_core.specs.Moment.{is_moment}
 use Rattle.settings_core.specs.Settings.{knows}
 use Rattle.settings_core.specs.declared.settings.Settings.{Settings}
@@ -17,7 +16,7 @@ use Rattle.desk_model.specs.Facts.{seen_request}
 use Rattle.desk_model.specs.IsDesk.{IsDesk, are_numbered}
 use Rattle.desk_model.specs.Names.{in_order}
 use Rattle.desk_model.specs.Plan.{Call, Plan, Reads, OnQueue, OnRequest}
-use Rattle.desk_model.specs.Plan.{change_by, named_besides, named_by, seen_by}
+use Rattle.desk_model.specs.Plan.{change_by, seen_by}
 use Rattle.desk_model.specs.Step.{call, desk_unless, effect, facts_of, guard}
 use Rattle.desk_model.specs.declared.change.Change.{Change}
 use Rattle.desk_model.specs.declared.command.Command.{Command}
@@ -28,7 +27,7 @@ use Rattle.desk_model.specs.declared.refusal.Refusal.TheVariants.{UnknownCaller,
 use Rattle.desk_core.proofs.Changed.{AllOf, OnlyOf, changed, found_changed, row_id, spared}
 use Rattle.desk_core.proofs.DeskLaw.ByKind.{Meets, by_plan}
 use Rattle.desk_core.proofs.Goes.{number_found}
-use Rattle.desk_core.specs.Laws.{names}
+use Rattle.desk_core.specs.Laws.{changes, is_on}
 use Rattle.desk_core.specs.Stays.{KeepsOthers}
 
 -- a part of the first, or what is given where there is none
@@ -148,9 +147,9 @@ number_within n id (y ∷ ys) r numbered there =
           omega arith
     ] there
 
--- a request that the plan doesn't name stays as it is
+-- a request that the plan isn't on stays as it is
 stays_by_plan : (plan : Plan) (call : Call) (desk : Desk) (id : ℕ) (r : Request) → IsDesk desk
-    → request_at desk id ≡ Some r → list_any (λ n. n == id) (named_by plan) ≡ false
+    → request_at desk id ≡ Some r → is_on plan id ≡ false
     → Touches plan desk (change_by call (seen_by plan desk) plan)
     → changed (change_by call (seen_by plan desk) plan) r ≡ r
 stays_by_plan (Reads topic answer) call desk id r is there unnamed touches = refl
@@ -161,16 +160,14 @@ stays_by_plan (OnQueue name conditions change) call desk id r is there unnamed t
     spared _ touches.0 r touches.2 (λ same. omega (arith, same))
 stays_by_plan (OnRequest asked besides text conditions change) call desk id r is there unnamed
     touches =
-    let other = (or_parts (asked == id) (list_any (λ n. n == id) (named_besides besides))
-    unnamed).0 in
     spared _ touches.0 r touches.2
-    (λ same. eqb-false asked id other
+    (λ same. eqb-false asked id unnamed
     (touches.1 ∙ sym same ∙ number_found desk id r there))
 
 stays_unless : (s : Settings) (at : ℕ) (caller : List ℕ) (command : Command) (desk : Desk)
     (o : Option Refusal) (id : ℕ) (r : Request)
     → guard s at caller command desk ≡ o → IsDesk desk
-    → request_at desk id ≡ Some r → names command id ≡ false
+    → request_at desk id ≡ Some r → changes command id ≡ false
     → request_at (desk_unless o desk (effect s at caller command desk)) id ≡ Some r
 stays_unless s at caller command desk (Some refusal) id r refused is there unnamed = there
 stays_unless s at caller command desk None id r free is there unnamed =

@@ -1,16 +1,16 @@
 -- What a step adds to the history of a request, and that a history tells the request's status.
-use Rattle.std.specs.Prelude.{◌≡◌, ℕ, ⊤, List, [], ◌∷◌, ◌++◌, Option, Some, None, All}
+use Rattle.std.specs.Prelude.{◌≡◌, ℕ, ⊤, true, List, [], ◌∷◌, ◌++◌, Option, Some, None, All}
 use Rattle.std.specs.Option.{option_or}
 use Rattle.settings_core.specs.declared.settings.Settings.{Settings}
 use Rattle.desk_model.specs.Desk.{Desk, Request}
 use Rattle.desk_model.specs.IsDesk.{IsDesk}
-use Rattle.desk_model.specs.Step.{desk_after}
+use Rattle.desk_model.specs.Step.{desk_after, guard}
 use Rattle.desk_model.specs.declared.command.Command.{Command}
 use Rattle.desk_model.specs.declared.command.Command.TheVariants.{Reply}
 use Rattle.desk_model.specs.declared.rows.Entry.{Entry}
 use Rattle.desk_model.specs.declared.rows.EntryKind.{EntryKind}
 use Rattle.desk_model.specs.declared.rows.EntryKind.TheVariants as kind
-use Rattle.desk_core.specs.Laws.{EachStays}
+use Rattle.desk_core.specs.Laws.{EachStays, changes}
 
 -- the entry is by the caller at the moment of the step
 abbrev pub IsBy : ℕ → List ℕ → Entry → Type 0
@@ -41,6 +41,18 @@ EntriesLaw at caller command old new =
 abbrev pub KeepsEntriesLaw : Settings → ℕ → List ℕ → Command → Desk → Type 0
 KeepsEntriesLaw settings at caller command desk =
     EntriesLaw at caller command desk (desk_after settings at caller command desk)
+
+-- The entries law from below: a command that isn't refused adds an entry to the request that it is
+-- on.
+abbrev pub NotesLaw : Settings → ℕ → List ℕ → Command → Desk → Desk → Type 0
+NotesLaw settings at caller command old new =
+    EachStays old new (λ before after.
+    guard settings at caller command old ≡ None → changes command before.row.id ≡ true
+    → (first : Entry) × (rest : List Entry) × (after.entries ≡ before.entries ++ first ∷ rest))
+
+abbrev pub KeepsNotesLaw : Settings → ℕ → List ℕ → Command → Desk → Type 0
+KeepsNotesLaw settings at caller command desk =
+    NotesLaw settings at caller command desk (desk_after settings at caller command desk)
 
 -- the status that an entry of this kind tells, if it tells one
 abbrev pub status_in_entry : EntryKind → List ℕ → Option (List ℕ)

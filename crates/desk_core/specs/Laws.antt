@@ -7,7 +7,7 @@ use Rattle.lifecycle_core.specs.declared.parts.Parts.{Parts}
 use Rattle.rights_core.specs.Right.{own_ticket}
 use Rattle.settings_core.specs.Settings.{lifecycle_named}
 use Rattle.settings_core.specs.declared.settings.Settings.{Settings}
-use Rattle.desk_model.specs.Commands.{IsReading, requests_named}
+use Rattle.desk_model.specs.Commands.{IsReading, plan_of, requests_named}
 use Rattle.desk_model.specs.Desk.{Desk, Request, queue_at, request_at}
 use Rattle.desk_model.specs.Due.{IgnoreNone, due_on, plain_due_on}
 use Rattle.desk_model.specs.Facts.{seen_request}
@@ -15,6 +15,7 @@ use Rattle.desk_model.specs.IsDesk.{IsDesk}
 use Rattle.desk_model.specs.Lifecycles.{is_allowed, is_inactive}
 use Rattle.desk_model.specs.Lifecycles.{lifecycle_of, reopening_of, right_of}
 use Rattle.desk_model.specs.Links.{has_link, link}
+use Rattle.desk_model.specs.Plan.{Plan, OnRequest}
 use Rattle.desk_model.specs.Rights.{is_shown}
 use Rattle.desk_model.specs.Step.{answer_of}
 use Rattle.desk_model.specs.Readings.{IsInOrder, dues_told}
@@ -112,6 +113,15 @@ KeepsStatusLaw settings at caller command desk =
 -- the command names the request with that number
 abbrev pub names : Command → ℕ → Bool
 names command id = list_any (λ n. n == id) (requests_named command)
+
+-- the plan is on the request with that number
+abbrev pub is_on : Plan → ℕ → Bool
+is_on (OnRequest asked besides text conditions change) id = asked == id
+is_on other id = false
+
+-- the command changes the request with that number, where it isn't refused
+abbrev pub changes : Command → ℕ → Bool
+changes command id = is_on (plan_of command) id
 
 -- A command that names a request which the caller may not show is refused as where there is no such
 -- request, at either end of a link too.

@@ -1,23 +1,17 @@
 -- A request that is opened anew: from when its limits count.
-use Rattle.std.specs.Prelude.{◌≡◌, ℕ, Bool, true, List}
-use Rattle.hours_core.specs.declared.level.Level.{Level}
+use Rattle.std.specs.Prelude.{◌≡◌, ℕ, true, List}
 use Rattle.settings_core.specs.declared.settings.Settings.{Settings}
 use Rattle.desk_model.specs.Desk.{Desk, queue_at}
-use Rattle.desk_model.specs.Due.{LimitRule, due_of_limit, least_due, limit_on_turn}
-use Rattle.desk_model.specs.Due.{sooner}
 use Rattle.desk_model.specs.Lifecycles.{lifecycle_of, opens_anew}
 use Rattle.desk_model.specs.Step.{desk_after}
 use Rattle.desk_model.specs.declared.command.Command.{Command}
 use Rattle.desk_model.specs.declared.rows.RequestRow.{RequestRow}
 use Rattle.desk_core.specs.Laws.{EachStays}
 
--- a request is open since this moment, and each limit of a level counts from it, whatever its stays
+-- a request is open since this moment, from which each limit of a level counts
 pub record IsOpenSince (at : ℕ) (row : RequestRow) : Type 0 where
   pub opened : row.opened ≡ at
   pub since : row.since ≡ at
-  pub limits : (rule : LimitRule) (opens : ℕ → Bool) (level : Level)
-      → least_due rule opens level row ≡ sooner (due_of_limit rule opens level at level.resolve)
-      (due_of_limit rule opens level at (limit_on_turn level row.turn))
 
 -- The opened law: a request stays, and where it is moved out of an inactive status to one that
 -- isn't inactive, each limit counts from the moment of the step.

@@ -6,7 +6,7 @@ use Rattle.desk_model.specs.IsDesk.{IsDesk}
 use Rattle.desk_model.specs.Step.{desk_after}
 use Rattle.desk_model.specs.declared.command.Command.{Command}
 use Rattle.desk_model.specs.declared.rows.RequestRow.{RequestRow}
-use Rattle.desk_core.specs.Laws.{EachStays, names}
+use Rattle.desk_core.specs.Laws.{EachStays, changes}
 
 -- what a request has from when it was filed is the same
 pub record IsSameRequest (before after : RequestRow) : Type 0 where
@@ -24,11 +24,11 @@ abbrev pub KeepsIdentity : Settings → ℕ → List ℕ → Command → Desk �
 KeepsIdentity settings at caller command desk =
     IdentityLaw desk (desk_after settings at caller command desk)
 
--- The others law: a request that the command doesn't name is the same afterwards: its row, its
--- persons and its entries.
+-- The others law: a request that the command isn't on is the same afterwards: its row, its persons
+-- and its entries. A link is put on the request that it leads from.
 abbrev pub OthersLaw : Command → Desk → Desk → Type 0
 OthersLaw command old new =
-    (id : ℕ) (request : Request) → request_at old id ≡ Some request → names command id ≡ false
+    (id : ℕ) (request : Request) → request_at old id ≡ Some request → changes command id ≡ false
     → request_at new id ≡ Some request
 
 abbrev pub KeepsOthers : Settings → ℕ → List ℕ → Command → Desk → Type 0

@@ -15,11 +15,16 @@ ghost use Rattle.lifecycle_core.specs.declared.parts.Parts.{Parts};
 ghost use Rattle.desk_core.specs.Asked.{AsksToWatch, AsksUsualRight, LinksShown};
 ghost use Rattle.desk_core.specs.Bounds.{KeepsEntryLimit, KeepsQueueLimit, KeepsRequestLimit};
 ghost use Rattle.desk_core.specs.Carried.{CarriesStays};
-ghost use Rattle.desk_core.specs.Histories.{KeepsEntriesLaw, KeepsStatusesTold, TellsStatuses};
+ghost use Rattle.desk_core.specs.Filing.{KeepsFilingLaw};
+ghost use Rattle.desk_core.specs.Histories.{KeepsEntriesLaw, KeepsNotesLaw, KeepsStatusesTold};
+ghost use Rattle.desk_core.specs.Histories.{TellsStatuses};
 ghost use Rattle.desk_core.specs.Known.{KeepsKnown};
 ghost use Rattle.desk_core.specs.Opened.{KeepsOpenedLaw};
 ghost use Rattle.desk_core.specs.Shown.{ShowsByList};
+ghost use Rattle.desk_core.specs.Small.{ViewIsSmall};
 ghost use Rattle.desk_core.specs.Stays.{KeepsIdentity, KeepsOthers};
+ghost use Rattle.desk_core.specs.Turns.{KeepsTurnLaw};
+ghost use Rattle.desk_core.specs.Watching.{KeepsWatchLaw};
 ghost use Rattle.text_core.specs.Texts.{is_among};
 
 /// A request stays, and so do the entries of its history.
@@ -33,16 +38,18 @@ pub fn identity_law()
     ensures { AtEveryStep KeepsIdentity }
 {}
 
-/// On a well-formed desk a request that the command doesn't name is the same afterwards: its row,
-/// its persons and its entries.
+/// On a well-formed desk a request that the command isn't on is the same afterwards: its row, its
+/// persons and its entries. So is the request that a link leads to.
 pub fn others_law()
     ensures { AtEveryStep KeepsOthers }
 {}
 
 /// A request stays, and to its entries a step adds none, one, or the two of a reply that moves the
-/// request, each by the caller at the moment of the step.
+/// request, each by the caller at the moment of the step. To the request that a command is on it
+/// adds one at least, unless the command is refused.
 pub fn entries_law()
-    ensures { AtEveryStep KeepsEntriesLaw }
+    ensures most { AtEveryStep KeepsEntriesLaw }
+    ensures least { AtEveryStep KeepsNotesLaw }
 {}
 
 /// The history of each request tells its status: so on the empty desk, and every command leaves it
@@ -58,6 +65,21 @@ pub fn opened_law()
     ensures { AtEveryStep KeepsOpenedLaw }
 {}
 
+/// A request that wasn't there is filed by the command: with the next number, in a queue that is
+/// there, in a status that may be created, owned by nobody, with the level of its queue, the desk's
+/// turn from the moment of the step on, and the requestors given or else the caller, who held
+/// `CreateTicket`.
+pub fn filing_law()
+    ensures { AtEveryStep KeepsFilingLaw }
+{}
+
+/// A request stays. Its turn passes by a reply on it alone: to the desk by a requestor, and else to
+/// the requestor. From when its limits count changes by a move out of an inactive status to one
+/// that isn't inactive alone.
+pub fn turn_law()
+    ensures { AtEveryStep KeepsTurnLaw }
+{}
+
 /// A request stays, and its owner changes only by taking, stealing, untaking or giving, to the one
 /// whom the command names; a new owner held `OwnTicket` before the step.
 pub fn owner_law()
@@ -70,10 +92,13 @@ pub fn status_law()
     ensures { AtEveryStep KeepsStatusLaw }
 {}
 
-/// Who puts a person into a role on a request, or takes one out of it, holds `ModifyTicket`, or
-/// names himself and holds `Watch`, as admincc `WatchAsAdminCc`.
+/// A command `watch` or `unwatch` that isn't refused is by one who holds `ModifyTicket`, or who names
+/// himself and holds `Watch`, as admincc `WatchAsAdminCc`. On a well-formed desk a request stays,
+/// and where other persons are in one of its roles, the command has put that one person into the
+/// role, or taken him out of it.
 pub fn watch_law()
-    ensures { AtEveryStep AsksToWatch }
+    ensures asks { AtEveryStep AsksToWatch }
+    ensures persons { AtEveryStep KeepsWatchLaw }
 {}
 
 /// A move that no entry of the lifecycle names asks for `DeleteTicket` where it is to `deleted`,
@@ -138,9 +163,13 @@ pub fn orders_law()
 {}
 
 /// What comes of a reading command is told of the caller's view of the desk alone. A request
-/// outside the view isn't there, or the caller may not show it.
+/// outside the view isn't there, or the caller may not show it. On a well-formed desk the view is
+/// small: the caller may show each of its requests and both ends of each of its links, sees each of
+/// its queues or may show a request there, and may see its comments.
 pub fn view_law()
     ensures inside { AtEveryStep TellsOfTheView }
+    ensures small { (settings : Settings) (caller : List ℕ) (desk : Desk)
+        → ViewIsSmall settings caller desk }
     ensures outside { (settings : Settings) (caller : List ℕ) (desk : Desk)
         → HidesTheRest settings caller desk }
 {}

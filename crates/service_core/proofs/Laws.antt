@@ -1,5 +1,5 @@
 -- The laws hold of every step.
-use Rattle.std.proofs.Common.{inl, inr, [], Option, Some, None, Err}
+use Rattle.std.proofs.Common.{◌≡◌, inl, inr, [], Option, Some, None, Err}
 use Rattle.std.proofs.Common.{IfOk, refl, subst, sym, append-nil}
 use Rattle.settings_core.specs.declared.settings.Settings.{Settings}
 use Rattle.desk_model.specs.declared.answer.Answer.{Answer}
@@ -9,10 +9,14 @@ use Rattle.desk_core.proofs.AsMissing.{hidden_law}
 use Rattle.desk_core.proofs.Depends.{dependency_law}
 use Rattle.desk_core.proofs.DeskLaw.{desk_law}
 use Rattle.desk_core.proofs.DueLaw.{due_law}
+use Rattle.desk_core.proofs.Filing.{filing_law}
 use Rattle.desk_core.proofs.KnownLaw.{known_law}
 use Rattle.desk_core.proofs.Kept.{history_law, owner_law, status_law}
+use Rattle.desk_core.proofs.Small.{small}
+use Rattle.desk_core.proofs.Turns.{turn_law}
 use Rattle.desk_core.proofs.ViewLaw.{view_law}
-use Rattle.desk_model.specs.Desk.{Desk}
+use Rattle.desk_core.proofs.Watching.{watch_law}
+use Rattle.desk_model.specs.Desk.{Desk, Request, request_at}
 use Rattle.desk_model.specs.IsDesk.{IsDesk}
 use Rattle.desk_core.specs.Laws.{DueLaw}
 use Rattle.desk_model.specs.Step.{answer_of}
@@ -24,6 +28,10 @@ due_unless : (s : Settings) (desk : Desk) (o : Option Refusal) (answer : Answer)
     → DueLaw s desk answer → IfOk (outcome_unless o answer) (DueLaw s desk)
 due_unless s desk None answer due = due
 due_unless s desk (Some refusal) answer due = tt
+
+not_both : (o : Option Request) (request : Request) → o ≡ None → o ≡ Some request → ⊥
+not_both None request none there = cc
+not_both (Some r) request none there = cc
 
 -- what is called for
 made : (s : Settings) (ask : Ask) (desk : Desk) → IsDesk desk
@@ -41,7 +49,11 @@ made s ask desk is =
           (answer_of s ask.at ask.caller ask.command desk)
           (due_law s ask.at ask.caller ask.command desk is);
       owner = owner_law s ask.at ask.caller ask.command desk;
+      persons = watch_law s ask.at ask.caller ask.command desk is;
+      filing = filing_law s ask.at ask.caller ask.command desk;
+      turn = λ available. turn_law s ask.at ask.caller ask.command desk;
       history = history_law s ask.at ask.caller ask.command desk;
+      small = small s ask.caller desk is;
       view = λ available. view_law s ask.at ask.caller ask.command desk is;
       hidden = λ available. hidden_law s ask.at ask.caller ask.command desk;
     }
@@ -58,7 +70,11 @@ left s ask desk is =
       dependency = λ id before was. (before, was, λ differs. absurd (differs refl));
       due = tt;
       owner = λ id before was. (before, was, λ differs. absurd (differs refl));
+      persons = λ id before was. (before, was, λ role differs. absurd (differs refl));
+      filing = λ id request none there. absurd (not_both (request_at desk id) request none there);
+      turn = λ available. absurd (available refl);
       history = λ id before was. (before, was, ([], sym (append-nil before.entries)));
+      small = small s ask.caller desk is;
       view = λ available. absurd (available refl);
       hidden = λ available. absurd (available refl);
     }

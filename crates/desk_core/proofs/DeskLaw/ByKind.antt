@@ -19,7 +19,8 @@ use Rattle.desk_model.specs.IsDesk.{IsDesk}
 use Rattle.desk_model.specs.Links.{has_link, link}
 use Rattle.desk_model.specs.Plan.{Call, Plan, Reads, OnQueue, OnRequest, Nothing, Dependencies}
 use Rattle.desk_model.specs.Plan.{Another, another_shown, besides_on, change_by, change_of_request}
-use Rattle.desk_model.specs.Plan.{conditions_by, is_bad_text, is_missing, on_shown, seen_by}
+use Rattle.desk_model.specs.Plan.{conditions_by, is_bad_text, is_missing, is_reading, on_shown}
+use Rattle.desk_model.specs.Plan.{seen_by}
 use Rattle.desk_model.specs.Step.{call, facts_of, guard}
 use Rattle.desk_model.specs.declared.change.Change.{Change}
 use Rattle.desk_model.specs.declared.command.Command.{Command}
@@ -59,45 +60,47 @@ Meets P desk plan = (call : Call) → MeetsAt call P desk plan
 on_request : (P : Change → Type 0) (call : Call) (desk : Desk) (id : ℕ) (o : Option Request)
     (front : List Condition)
     (asks : SeenRequest → List Condition) (change : SeenRequest → Change) → request_at desk id ≡ o
-    → P no_change
     → ((r : Request) → request_at desk id ≡ Some r → id ≡ r.row.id
     → NoneHolds (asks (seen_request r))
     → P (change (seen_request r)))
     → first_holding (front ++ on_shown call (option_map seen_request o) asks) ≡ None
     → P (change_of_request (option_map seen_request o) change)
-on_request P call desk id None front asks change there nothing meets free = nothing
-on_request P call desk id (Some r) front asks change there nothing meets free =
+on_request P call desk id None front asks change there meets free =
+    let none : first_holding ((NotFound, true) ∷ []) ≡ None =
+    rest_passes front ((NotFound, true) ∷ []) free in
+    cc
+on_request P call desk id (Some r) front asks change there meets free =
     meets r there (sym (number_found desk id r there))
     (none_holds (asks (seen_request r))
     (passed (NotFound, is_missing call (Some (seen_request r))) (asks (seen_request r))
     (rest_passes front _ free)).1)
 
--- what goes for the plan goes for the change
+-- what goes for the plan goes for the change; a reading makes none
 pub by_plan_at : (P : Desk → Change → Type 0) (call : Call) (plan : Plan) (front : List Condition)
-    (desk : Desk) → P desk no_change
+    (desk : Desk) → (is_reading plan ≡ true → P desk no_change)
     → MeetsAt call P desk plan
     → first_holding (front ++ conditions_by call (seen_by plan desk) plan) ≡ None
     → P desk (change_by call (seen_by plan desk) plan)
-by_plan_at P call (Reads topic answer) front desk nothing meets free = nothing
+by_plan_at P call (Reads topic answer) front desk nothing meets free = nothing refl
 by_plan_at P call (OnQueue name conditions change) front desk nothing meets free =
     let facts = facts_on_queue desk name in
     meets (none_holds (conditions call facts) (rest_passes front (conditions call facts) free))
 by_plan_at P call (OnRequest id Nothing text conditions change) front desk nothing meets free =
     let facts = besides_on Nothing id desk in
     on_request (P desk) call desk id (request_at desk id) ((BadText, is_bad_text text) ∷ [])
-    (conditions call facts) (change call facts) refl nothing meets
+    (conditions call facts) (change call facts) refl meets
     (rest_passes front _ free)
 by_plan_at P call (OnRequest id Dependencies text conditions change) front desk nothing meets free =
     let facts = besides_on Dependencies id desk in
     on_request (P desk) call desk id (request_at desk id) ((BadText, is_bad_text text) ∷ [])
-    (conditions call facts) (change call facts) refl nothing meets
+    (conditions call facts) (change call facts) refl meets
     (rest_passes front _ free)
 by_plan_at P call (OnRequest id (Another kind other) text conditions change) front desk nothing
     meets free =
     let facts = besides_on (Another kind other) id desk in
     on_request (P desk) call desk id (request_at desk id) ((BadText, is_bad_text text) ∷ [])
     (λ request. (NotFound, is_missing call facts.other) ∷ conditions call facts request)
-    (change call facts) refl nothing meets
+    (change call facts) refl meets
     (rest_passes front _ free)
 
 pub by_plan : (P : Desk → Change → Type 0) (call : Call) (plan : Plan) (front : List Condition)
@@ -106,7 +109,7 @@ pub by_plan : (P : Desk → Change → Type 0) (call : Call) (plan : Plan) (fron
     ≡ None
     → P desk (change_by call (seen_by plan desk) plan)
 by_plan P call plan front desk nothing meets free =
-    by_plan_at P call plan front desk nothing (meets call) free
+    by_plan_at P call plan front desk (λ reads. nothing) (meets call) free
 
 pub some_is : {A : Type 0} (o : Option A) → is_none o ≡ false → is_some o ≡ true
 some_is None e = cc

@@ -352,13 +352,13 @@ change_brings s at caller command desk sound queues all free =
     (passed (UnknownCaller, not (knows s caller))
     ((BadMoment, not (is_moment at)) ∷ conditions_by asks (seen_by plan desk) plan) free).0 in
     record {
-      queue = by_plan_at (λ d change. KnowsQueue s change.queue) asks plan front desk tt
+      queue = by_plan_at (λ d change. KnowsQueue s change.queue) asks plan front desk (λ reads. tt)
           (opens asks desk command) free;
-      filed = by_plan_at (λ d change. KnowsRow s d change.filed) asks plan front desk tt
+      filed = by_plan_at (λ d change. KnowsRow s d change.filed) asks plan front desk (λ reads. tt)
           (files asks desk sound queues command) free;
-      row = by_plan_at (λ d change. KnowsRow s d change.row) asks plan front desk tt
+      row = by_plan_at (λ d change. KnowsRow s d change.row) asks plan front desk (λ reads. tt)
           (rows asks desk known all command) free;
       put = by_plan_at (λ d change. list_all (λ w. knows s w.person) change.put ≡ true) asks plan
-          front desk refl (puts asks desk known command) free;
+          front desk (λ reads. refl) (puts asks desk known command) free;
       entries = entries_known s at caller command _ (appended s at caller command desk) known;
     }
