@@ -11,7 +11,9 @@ demo:
 
 # The gate: every proof, every must-fail edit, every test and every stored run. From nothing it takes
 # more than 95 minutes on four cores; what passed on this machine and hasn't changed isn't proved again.
+# The office that users copy is the one that the cases read.
 test:
+	cmp examples/office.toml crates/desk_cases/data/texts/office.toml
 	rt ci
 
 # The proved programs, as bin/desk, bin/desk_web, bin/desk_ask and bin/desk_load. From nothing it
@@ -61,6 +63,6 @@ models:
 # Each growth of the programs refused in turn, in some minutes once both are proved. It needs a C
 # compiler.
 sweep: desk
-	cd crates/desk_cases && rt run < stdin > /dev/null
+	cd crates/desk_cases && rt run -- data/script/no-input > /dev/null
 	trials/refused
 	trials/refused_pages

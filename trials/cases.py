@@ -1,5 +1,6 @@
 """The messages of crates/desk_cases, so that they can be sent over a socket too, and the replies that
 are stored there."""
+import os
 import re
 
 from tally import TOP
@@ -10,14 +11,22 @@ FIRST, AFTER, USUAL = 15_778_080, 68_374_080, 29_546_970
 OF_A_MINUTE = re.compile(r" late$|^owner +open overdue$", flags=re.M)
 
 
+DATA = f"{TOP}/crates/desk_cases/data"
+
+
 def text_of(file):
-    with open(f"{TOP}/crates/desk_cases/{file}", encoding="utf-8", errors="surrogateescape") as it:
+    with open(f"{DATA}/{file}", encoding="utf-8", errors="surrogateescape") as it:
         return it.read()
 
 
-def parts_of(text):
-    """The cases of a text, by name."""
-    return [it.partition("\n")[::2] for it in re.split(r"^=== ", text, flags=re.M)[1:]]
+def parts_of(case):
+    """The parts of a case, by name."""
+    return dict(it.partition("\n")[::2] for it in re.split(r"^=== ", text_of(case), flags=re.M)[1:])
+
+
+def named_texts():
+    """The texts that cases name."""
+    return {name: text_of(f"texts/{name}") for name in os.listdir(f"{DATA}/texts")}
 
 
 def expanded(text, named):
@@ -38,15 +47,14 @@ def with_messages():
     """Each case that sends messages, in no manner of its own, to a desk without tables of its own: its
     name, its settings, the commands before them, the messages, and the stored replies. A reply that
     depends on the minute is none; messages before 2000 or after 2099 are left out."""
-    stored = dict(parts_of(text_of("stdout")))
-    parts = parts_of(text_of("stdin"))
-    named = {name[2:-2]: text for name, text in parts if name.startswith("<<")}
-    for name, text in parts:
-        head, *sent = re.split(r"^> (\d+)\n", text, flags=re.M)
-        replies = re.split(r"^(?=HTTP/1\.1 \d)", stored.get(name, "").split("\nleft: ")[0] + "\n",
-                           flags=re.M)[1:]
-        if head.startswith("---\n") and "\n+++\n" not in text and 0 < len(sent) == 2 * len(replies):
-            settings, _, commands = expanded(head[4:], named).partition("%%\n")
+    named = named_texts()
+    for name in sorted(os.listdir(f"{DATA}/messages")):
+        parts = parts_of(f"messages/{name}")
+        _, *sent = re.split(r"^> (\d+)\n", parts["messages"], flags=re.M)
+        stored = expanded(parts["wanted"], named).split("\nleft: ")[0] + "\n"
+        replies = re.split(r"^(?=HTTP/1\.1 \d)", stored, flags=re.M)[1:]
+        if not parts.keys() & {"tables", "manners"} and 0 < len(sent) == 2 * len(replies):
+            settings, _, commands = expanded(parts["desk"], named).partition("%%\n")
             told = [it for it in zip(map(int, sent[::2]), sent[1::2], replies)
                     if FIRST <= it[0] < AFTER]
             yield name, settings, commands, [

@@ -3,100 +3,69 @@
 //! What owns much is given back by `drop`, whose proof stands once; at the end of its scope it
 //! would be taken apart for each function's own proof.
 
-use crate::calls::execute;
+use crate::asks::Ask;
+use crate::course::outcome;
 use crate::failure::Failure;
 use crate::served::Sent;
-use crate::telling::text_of;
-use desk_core::Command;
 use service_core::Desk;
 use std::alloc::Global;
 use store_core::Backend;
 use wire_core::{Message, command_of, read_message};
 
-/// Each message with what it asks for, as a text: a line with the fault of reading it or of what
-/// it asks, or one with its caller and the text of what comes of its command on the desk; and how
-/// many of its bytes were left unread.
+/// Adds what each message asks for: a line with the fault of reading it or of what it asks, or one
+/// with its caller and the text of what comes of its command on the desk; and how many of its bytes
+/// were left unread.
 pub(crate) fn answer_asked<S: Backend>(
     alloc: Global,
+    out: &mut String,
     sent: &[Sent],
     desk: &mut Desk<S>,
-) -> Result<Vec<u8>, Failure> {
-    let mut text = Vec::new(alloc);
-    for message in sent {
-        put_asked(alloc, message.0, message.1.as_slice(), desk, &mut text)?;
-    }
-    Ok(text)
-}
-
-/// Adds what the message asks for, with which these bytes begin.
-fn put_asked<S: Backend>(
-    alloc: Global,
-    at: u32,
-    bytes: &[u8],
-    desk: &mut Desk<S>,
-    text: &mut Vec<u8>,
 ) -> Result<(), Failure> {
-    let mut reader = bytes;
-    match read_message(alloc, &mut reader) {
-        Ok(message) => {
-            let put = put_command(alloc, at, &message, desk, text);
-            drop(message);
-            put?;
+    for (at, bytes) in sent {
+        let mut reader = bytes.as_slice();
+        match read_message(alloc, &mut reader) {
+            Ok(message) => {
+                let put = put_command(alloc, out, *at, &message, desk);
+                drop(message);
+                put?;
+            }
+            Err(fault) => writeln!(out, "bad message {} {}", fault.number(), fault.name())?,
         }
-        Err(fault) => put_fault(alloc, text, "message", fault.number(), fault.name())?,
+        writeln!(out, "left: {}", reader.len())?;
     }
-    let rest = reader.len();
-    let line = format!(in alloc; "left: {rest}\n")?;
-    text.extend_from_slice(line.as_bytes())?;
     Ok(())
 }
 
 /// Adds the caller of a message and what comes of its command.
 fn put_command<S: Backend>(
     alloc: Global,
+    out: &mut String,
     at: u32,
     message: &Message,
     desk: &mut Desk<S>,
-    text: &mut Vec<u8>,
 ) -> Result<(), Failure> {
     match command_of(alloc, desk.settings(), message) {
         Ok((caller, command)) => {
-            let put = put_outcome(alloc, at, caller.as_str(), &command, desk, text);
-            drop(command);
+            let ask = (at, caller.into_string(), command);
+            let put = put_outcome(alloc, out, &ask, desk);
+            drop(ask);
             put
         }
-        Err(fault) => put_fault(alloc, text, "request", fault.number(), fault.name()),
+        Err(fault) => {
+            writeln!(out, "bad request {} {}", fault.number(), fault.name())?;
+            Ok(())
+        }
     }
 }
 
 /// Adds the caller and the text of what comes of the command.
 fn put_outcome<S: Backend>(
     alloc: Global,
-    at: u32,
-    caller: &str,
-    command: &Command,
+    out: &mut String,
+    ask: &Ask,
     desk: &mut Desk<S>,
-    text: &mut Vec<u8>,
 ) -> Result<(), Failure> {
-    let line = format!(in alloc; "{caller}: ")?;
-    text.extend_from_slice(line.as_bytes())?;
-    let outcome = execute(alloc, desk, at, caller, command);
-    let told = text_of(alloc, &outcome);
-    drop(outcome);
-    let told = told?;
-    text.extend_from_slice(told.as_bytes())?;
-    Ok(())
-}
-
-/// Adds a fault as the program tells it.
-fn put_fault(
-    alloc: Global,
-    text: &mut Vec<u8>,
-    what: &str,
-    number: u8,
-    name: &str,
-) -> Result<(), Failure> {
-    let line = format!(in alloc; "bad {what} {number} {name}\n")?;
-    text.extend_from_slice(line.as_bytes())?;
+    let told = outcome(alloc, desk, ask)?;
+    write!(out, "{}: {}", ask.1.as_str(), told.as_str())?;
     Ok(())
 }

@@ -1,9 +1,10 @@
 //! Commands with their moments and callers, as lines of words.
 
 use crate::failure::Failure;
+use crate::words::number;
 use desk_core::Command;
 use std::alloc::Global;
-use wire_core::{command_of_words, number_of_word, words_of};
+use wire_core::{command_of_words, words_of};
 
 /// A moment, a caller and a command.
 pub(crate) type Ask = (u32, String, Command);
@@ -26,15 +27,12 @@ pub(crate) fn command_of(alloc: Global, line: &str) -> Result<Command, Failure> 
 /// What a line `MOMENT CALLER WORDS ..` asks.
 pub(crate) fn ask_of(alloc: Global, line: &str) -> Result<Ask, Failure> {
     let words = words_of(alloc, line)?;
-    ask_in(alloc, words.as_slice())
-}
-
-fn ask_in(alloc: Global, words: &[String]) -> Result<Ask, Failure> {
-    let [at, caller, command @ ..] = words else {
-        return Err(Failure::BadLine);
-    };
-    let at = number_of_word(at.as_str()).ok_or(Failure::BadLine)?;
-    let caller = String::from_str(alloc, caller.as_str())?;
-    let command = command_of_words(alloc, command)?;
-    Ok((at, caller, command))
+    match words.as_slice() {
+        [at, caller, command @ ..] => {
+            let at = number(at.as_str())?;
+            let caller = String::from_str(alloc, caller.as_str())?;
+            Ok((at, caller, command_of_words(alloc, command)?))
+        }
+        _ => Err(Failure::BadLine),
+    }
 }

@@ -1,6 +1,7 @@
 //! Changes, as lines of words. All moments are one, and nobody owns a request.
 
 use crate::failure::Failure;
+use crate::words::Words;
 use desk_core::{
     Change, Entry, EntryKind, LinkKind, LinkRow, QueueRow, RequestRow, Turn, WatchRole, Watcher,
 };
@@ -21,79 +22,58 @@ const MOMENT: u32 = 29_546_970;
 /// | `put ID ROLE PERSON` | a person is put into a role |
 /// | `take ID ROLE PERSON` | a person is taken out of it |
 /// | `link ID KIND OTHER`, `unlink ID KIND OTHER` | a link is put, or taken away |
-pub fn change_of(alloc: Global, call: &str, rest: &str) -> Result<Change, Failure> {
-    let mut words = Vec::new(alloc);
-    for word in rest.split(' ') {
-        words.push(word)?;
-    }
-    change_in(alloc, call, words.as_slice())
-}
-
-fn change_in(alloc: Global, call: &str, words: &[&str]) -> Result<Change, Failure> {
+pub(crate) fn change_of(alloc: Global, call: &str, rest: &str) -> Result<Change, Failure> {
+    let words = Words::of(rest);
     match call {
         "queue" => Ok(Change::opening(alloc, queue(alloc, words)?)),
-        "file" => file(alloc, words),
-        "row" => row(alloc, words),
-        "put" => Ok(Change::putting(alloc, watchers(alloc, words)?, none(alloc))),
-        "take" => Ok(Change::taking(alloc, watchers(alloc, words)?, none(alloc))),
+        "file" => filed(alloc, words),
+        "row" => revised(alloc, words),
+        "put" => Ok(Change::putting(alloc, seated(alloc, words)?, none(alloc))),
+        "take" => Ok(Change::taking(alloc, seated(alloc, words)?, none(alloc))),
         "link" => Ok(Change::linking(alloc, link(words)?, none(alloc))),
         "unlink" => Ok(Change::unlinking(alloc, link(words)?, none(alloc))),
         _ => Err(Failure::BadLine),
     }
 }
 
-fn file(alloc: Global, words: &[&str]) -> Result<Change, Failure> {
-    let requestors = requestors(alloc, words)?;
-    let entries = first_entry(alloc, words)?;
-    let row = request(alloc, words)?;
-    Ok(Change::filing(alloc, row, requestors, entries))
-}
-
-fn requestors(alloc: Global, words: &[&str]) -> Result<Sequence<Watcher>, Failure> {
-    let requestor = Watcher {
-        id: number_at(words, 0)?,
-        role: WatchRole::Requestor,
-        person: text_at(alloc, words, 3)?,
-    };
-    one(alloc, requestor)
-}
-
-fn first_entry(alloc: Global, words: &[&str]) -> Result<Sequence<Entry>, Failure> {
-    let id = number_at(words, 0)?;
-    let status = word_at(words, 2)?;
-    let entry = entry(alloc, id, 1, EntryKind::Create, "", status)?;
-    one(alloc, entry)
-}
-
-fn row(alloc: Global, words: &[&str]) -> Result<Change, Failure> {
-    let entries = moving_entry(alloc, words)?;
-    let row = request(alloc, words)?;
-    Ok(Change::revising(alloc, row, entries))
-}
-
-fn moving_entry(alloc: Global, words: &[&str]) -> Result<Sequence<Entry>, Failure> {
-    let id = number_at(words, 0)?;
-    let number = number_at(words, 3)?;
-    let status = word_at(words, 2)?;
-    let entry = entry(alloc, id, number, EntryKind::Status, "new", status)?;
-    one(alloc, entry)
-}
-
-fn queue(alloc: Global, words: &[&str]) -> Result<QueueRow, Failure> {
+fn queue(alloc: Global, words: Words<'_>) -> Result<QueueRow, Failure> {
+    let mut words = words;
     Ok(QueueRow {
-        name: text_at(alloc, words, 0)?,
-        lifecycle: text_at(alloc, words, 1)?,
+        name: Text::new(alloc, words.next())?,
+        lifecycle: Text::new(alloc, words.next())?,
         level: None,
     })
 }
 
-fn request(alloc: Global, words: &[&str]) -> Result<RequestRow, Failure> {
+fn filed(alloc: Global, words: Words<'_>) -> Result<Change, Failure> {
+    let mut words = words;
+    let (id, queue, status) = (words.count()?, words.next(), words.next());
+    let requestors = watchers(alloc, id, WatchRole::Requestor, words.next())?;
+    let entries = entries(alloc, (id, 1), EntryKind::Create, ("", status))?;
+    let row = request(alloc, id, queue, status)?;
+    Ok(Change::filing(alloc, row, requestors, entries))
+}
+
+fn revised(alloc: Global, words: Words<'_>) -> Result<Change, Failure> {
+    let mut words = words;
+    let (id, queue, status) = (words.count()?, words.next(), words.next());
+    let entries = entries(
+        alloc,
+        (id, words.count()?),
+        EntryKind::Status,
+        ("new", status),
+    )?;
+    let row = request(alloc, id, queue, status)?;
+    Ok(Change::revising(alloc, row, entries))
+}
+
+fn request(alloc: Global, id: u32, queue: &str, status: &str) -> Result<RequestRow, Failure> {
     let moment = moment()?;
     Ok(RequestRow {
-        id: number_at(words, 0)?,
-        queue: text_at(alloc, words, 1)?,
+        id,
+        queue: Text::new(alloc, queue)?,
         subject: Text::new(alloc, "subject")?,
-        status: text_at(alloc, words, 2)?,
+        status: Text::new(alloc, status)?,
         owner: None,
         level: None,
         created: moment,
@@ -103,50 +83,54 @@ fn request(alloc: Global, words: &[&str]) -> Result<RequestRow, Failure> {
     })
 }
 
-fn watchers(alloc: Global, words: &[&str]) -> Result<Sequence<Watcher>, Failure> {
-    let watcher = Watcher {
-        id: number_at(words, 0)?,
-        role: role(word_at(words, 1)?)?,
-        person: text_at(alloc, words, 2)?,
+/// The person in a role that words name.
+fn seated(alloc: Global, words: Words<'_>) -> Result<Sequence<Watcher>, Failure> {
+    let mut words = words;
+    let id = words.count()?;
+    let role = match words.next() {
+        "requestor" => WatchRole::Requestor,
+        "cc" => WatchRole::Cc,
+        "admincc" => WatchRole::AdminCc,
+        _ => return Err(Failure::BadLine),
     };
-    one(alloc, watcher)
+    watchers(alloc, id, role, words.next())
 }
 
-fn role(word: &str) -> Result<WatchRole, Failure> {
-    match word {
-        "requestor" => Ok(WatchRole::Requestor),
-        "cc" => Ok(WatchRole::Cc),
-        "admincc" => Ok(WatchRole::AdminCc),
-        _ => Err(Failure::BadLine),
-    }
+fn watchers(
+    alloc: Global,
+    id: u32,
+    role: WatchRole,
+    person: &str,
+) -> Result<Sequence<Watcher>, Failure> {
+    let person = Text::new(alloc, person)?;
+    one(alloc, Watcher { id, role, person })
 }
 
-fn link(words: &[&str]) -> Result<LinkRow, Failure> {
+fn link(words: Words<'_>) -> Result<LinkRow, Failure> {
+    let mut words = words;
+    let source = words.count()?;
+    let kind = match words.next() {
+        "DependsOn" => LinkKind::DependsOn,
+        "MemberOf" => LinkKind::MemberOf,
+        "RefersTo" => LinkKind::RefersTo,
+        _ => return Err(Failure::BadLine),
+    };
+    let target = words.count()?;
     Ok(LinkRow {
-        source: number_at(words, 0)?,
-        kind: kind(word_at(words, 1)?)?,
-        target: number_at(words, 2)?,
+        source,
+        kind,
+        target,
     })
 }
 
-fn kind(word: &str) -> Result<LinkKind, Failure> {
-    match word {
-        "DependsOn" => Ok(LinkKind::DependsOn),
-        "MemberOf" => Ok(LinkKind::MemberOf),
-        "RefersTo" => Ok(LinkKind::RefersTo),
-        _ => Err(Failure::BadLine),
-    }
-}
-
-fn entry(
+/// The entry of a request and a number, with a head and a body.
+fn entries(
     alloc: Global,
-    id: u32,
-    number: u32,
+    (id, number): (u32, u32),
     kind: EntryKind,
-    head: &str,
-    body: &str,
-) -> Result<Entry, Failure> {
-    Ok(Entry {
+    (head, body): (&str, &str),
+) -> Result<Sequence<Entry>, Failure> {
+    let entry = Entry {
         id,
         number,
         moment: moment()?,
@@ -154,7 +138,8 @@ fn entry(
         kind,
         head: Text::new(alloc, head)?,
         body: Text::new(alloc, body)?,
-    })
+    };
+    one(alloc, entry)
 }
 
 fn moment() -> Result<Minute, Failure> {
@@ -170,22 +155,4 @@ fn one<T: Drop>(alloc: Global, value: T) -> Result<Sequence<T>, Failure> {
 
 fn none(alloc: Global) -> Sequence<Entry> {
     Sequence::from(Vec::new(alloc))
-}
-
-fn word_at<'w>(words: &[&'w str], at: usize) -> Result<&'w str, Failure> {
-    words.get(at).copied().ok_or(Failure::BadLine)
-}
-
-fn text_at(alloc: Global, words: &[&str], at: usize) -> Result<Text, Failure> {
-    Ok(Text::new(alloc, word_at(words, at)?)?)
-}
-
-/// The number that stands there.
-fn number_at(words: &[&str], at: usize) -> Result<u32, Failure> {
-    number(word_at(words, at)?)
-}
-
-/// The number that the word spells.
-pub fn number(word: &str) -> Result<u32, Failure> {
-    Ok(word.parse::<u32>()?)
 }

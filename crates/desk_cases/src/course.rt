@@ -26,7 +26,7 @@ pub(crate) struct Course<'c> {
     /// The text of each outcome.
     outcomes: Vec<String>,
     /// The rows that the commands leave.
-    rows: String,
+    pub(crate) rows: String,
 }
 
 /// The course of commands.
@@ -109,10 +109,5 @@ impl Course<'_> {
             Some(outcome) => outcome.as_str() == text,
             None => false,
         }
-    }
-
-    /// Whether these are the rows that all commands leave.
-    pub(crate) fn leaves(&self, rows: &str) -> bool {
-        self.rows.as_str() == rows
     }
 }

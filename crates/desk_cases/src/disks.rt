@@ -9,24 +9,20 @@ use store_core::Backend;
 /// A database file and its log, each of which stops after a number of calls.
 pub(crate) type Disks = Files<Fuse<Memory>>;
 
-/// New files that stop after so many calls: the log, and the database file.
-pub(crate) fn disks(alloc: Global, log: u64, tables: u64) -> Disks {
-    Files {
-        log: Fuse::new(Memory::new(alloc), log),
-        db: Fuse::new(Memory::new(alloc), tables),
-    }
-}
-
-/// The same over a database file with these bytes.
-pub(crate) fn disks_with(
-    alloc: Global,
-    bytes: &[u8],
-    log: u64,
-    tables: u64,
-) -> Result<Disks, Failure> {
+/// Files over a database file with these bytes that stop after so many calls: the log, and the
+/// database file.
+pub(crate) fn disks(alloc: Global, bytes: &[u8], log: u64, tables: u64) -> Result<Disks, Failure> {
     let log = Fuse::new(Memory::new(alloc), log);
     let db = Fuse::new(kept(alloc, bytes)?, tables);
     Ok(Files { log, db })
+}
+
+/// New files that don't stop.
+pub(crate) fn new_disks(alloc: Global) -> Disks {
+    Files {
+        log: Fuse::new(Memory::new(alloc), u64::MAX),
+        db: Fuse::new(Memory::new(alloc), u64::MAX),
+    }
 }
 
 /// A file with these bytes that doesn't stop.
@@ -103,12 +99,13 @@ pub(crate) fn tables_of(alloc: Global, statements: &str) -> Result<Vec<u8>, Fail
     if statements.is_empty() {
         return Ok(Vec::new(alloc));
     }
-    let files = disks(alloc, u64::MAX, u64::MAX);
-    let files = visit_files(alloc, files, &mut Statements(statements), End::Closed);
-    let bytes = files.db.inner().bytes();
-    let mut copy = Vec::new(alloc);
-    copy.extend_from_slice(bytes)?;
-    Ok(copy)
+    let files = visit_files(
+        alloc,
+        new_disks(alloc),
+        &mut Statements(statements),
+        End::Closed,
+    );
+    Ok(Vec::from_slice(alloc, files.db.inner().bytes())?)
 }
 
 /// The files as the machine finds them that failed: what wasn't synced is lost.

@@ -4,30 +4,33 @@
 //! would be taken apart for each function's own proof.
 
 use crate::asks::Ask;
-use crate::calls::{attach, execute};
-use crate::changes::number;
+use crate::calls::attach;
+use crate::cases::str_of;
 use crate::course::{Course, outcome};
 use crate::desks::attached;
 use crate::failure::Failure;
-use crate::lists::Line;
+use crate::lists::NONE;
+use crate::words::number;
 use desk_core::{Command, RequestRow};
 use hours_core::{Minute, minute_text};
-use service_core::{Desk, outcome_text};
+use service_core::Desk;
 use std::alloc::Global;
 use store_core::{Backend, Store, StoreFault};
-
-/// What is shown where a request isn't due.
-const NEVER: &str = "-";
 
 /// A request with its due moment, as the tables have it.
 type Dated = (RequestRow, Option<Minute>);
 
 /// Asks the commands one after the other. After each, the due moments are written that the tables
 /// have, and that this person is shown.
-pub(crate) fn run(rt: &HostRuntime, course: &Course<'_>, caller: &str) -> Result<(), Failure> {
-    let mut desk = attached(rt.alloc(), course.statements, course.settings)?;
+pub(crate) fn run(
+    alloc: Global,
+    out: &mut String,
+    course: &Course<'_>,
+    caller: &str,
+) -> Result<(), Failure> {
+    let mut desk = attached(alloc, course.statements, course.settings)?;
     for ask in course.asks.iter() {
-        desk = told_after(rt, desk, ask, caller)?;
+        desk = told_after(alloc, out, desk, ask, caller)?;
     }
     drop(desk);
     Ok(())
@@ -35,13 +38,14 @@ pub(crate) fn run(rt: &HostRuntime, course: &Course<'_>, caller: &str) -> Result
 
 /// Asks a command, writes both due moments of each request, and gives a desk over the tables back.
 fn told_after<S: Backend + Drop>(
-    rt: &HostRuntime,
+    alloc: Global,
+    out: &mut String,
     desk: Desk<S>,
     ask: &Ask,
     caller: &str,
 ) -> Result<Desk<S>, Failure> {
-    let (mut desk, dated) = asked_and_read(rt.alloc(), desk, ask)?;
-    match tell_read(rt, &mut desk, ask.0, caller, dated) {
+    let (mut desk, dated) = asked_and_read(alloc, desk, ask)?;
+    match tell_read(alloc, out, &mut desk, ask.0, caller, dated) {
         Ok(()) => Ok(desk),
         Err(failure) => {
             drop(desk);
@@ -68,32 +72,25 @@ fn asked_and_read<S: Backend + Drop>(
         Err((_, store)) => {
             drop(store);
             drop(dated);
-            Err(Failure::Settings)
+            Err(Failure::NotAttached)
         }
     }
 }
 
 fn tell_read<S: Backend>(
-    rt: &HostRuntime,
+    alloc: Global,
+    out: &mut String,
     desk: &mut Desk<S>,
     at: u32,
     caller: &str,
     dated: Result<Vec<Dated>, StoreFault>,
 ) -> Result<(), Failure> {
     let dated = dated?;
-    tell_each(rt, desk, at, caller, dated.as_slice())
-}
-
-fn tell_each<S: Backend>(
-    rt: &HostRuntime,
-    desk: &mut Desk<S>,
-    at: u32,
-    caller: &str,
-    dated: &[Dated],
-) -> Result<(), Failure> {
-    for (request, due) in dated {
-        let shown = shown(rt.alloc(), desk, at, caller, request.id)?;
-        tell_both(rt, request.id, *due, shown_due(shown.as_str()))?;
+    for (request, due) in dated.as_slice() {
+        let shown = shown(alloc, desk, at, caller, request.id)?;
+        write!(out, "  {}: ", request.id)?;
+        put_due(out, *due)?;
+        writeln!(out, ", shown {}", shown_due(shown.as_str()))?;
     }
     Ok(())
 }
@@ -106,19 +103,10 @@ fn shown<S: Backend>(
     caller: &str,
     id: u32,
 ) -> Result<String, Failure> {
-    let show = Command::Show { id };
-    let outcome = execute(alloc, desk, at, caller, &show);
+    let show = (at, String::from_str(alloc, caller)?, Command::Show { id });
+    let text = outcome(alloc, desk, &show);
     drop(show);
-    let text = outcome_text(alloc, &outcome);
-    drop(outcome);
-    Ok(text?)
-}
-
-fn tell_both(rt: &HostRuntime, id: u32, due: Option<Minute>, shown: &str) -> Result<(), Failure> {
-    print!(rt; "  {id}: ")?;
-    print_due(rt, due)?;
-    println!(rt; ", shown {shown}")?;
-    Ok(())
+    text
 }
 
 /// What a shown request has beside `due`.
@@ -131,21 +119,13 @@ fn shown_due(text: &str) -> &str {
     ""
 }
 
-fn print_due(rt: &HostRuntime, due: Option<Minute>) -> Result<(), Failure> {
+/// Adds a due moment, or `-`.
+pub(crate) fn put_due(out: &mut String, due: Option<Minute>) -> Result<(), Failure> {
     match due {
-        Some(moment) => print!(rt; "{}", str::from_utf8(&minute_text(moment)).unwrap_or(""))?,
-        None => print!(rt; "{NEVER}")?,
+        Some(moment) => write!(out, "{}", str_of(&minute_text(moment)))?,
+        None => write!(out, "{NONE}")?,
     }
     Ok(())
-}
-
-impl Line for Dated {
-    fn put(&self, rt: &HostRuntime) -> Result<(), Failure> {
-        print!(rt; "  {}: ", self.0.id)?;
-        print_due(rt, self.1)?;
-        println!(rt; "")?;
-        Ok(())
-    }
 }
 
 /// Sets due moments, each by words `ID MOMENT` or `ID -`.
@@ -157,14 +137,12 @@ pub(crate) fn set<S: Backend>(
     let mut dues = Vec::new(alloc);
     let mut words = words.split_whitespace();
     while let (Some(id), Some(due)) = (words.next(), words.next()) {
-        dues.push((number(id)?, due_of_word(due)?))?;
+        let due = if due == NONE {
+            None
+        } else {
+            Minute::new(number(due)?)
+        };
+        dues.push((number(id)?, due))?;
     }
     Ok(store.set_dues(dues.as_slice()))
-}
-
-fn due_of_word(word: &str) -> Result<Option<Minute>, Failure> {
-    if word == NEVER {
-        return Ok(None);
-    }
-    Ok(Minute::new(number(word)?))
 }

@@ -1,8 +1,8 @@
 //! Messages whose first one meets a failure at each of its calls in turn.
 
 use crate::failure::Failure;
-use crate::messages::replies;
-use crate::served::{Manner, Sent};
+use crate::messages::{Before, replies};
+use crate::served::{LEFT, Manner, Sent};
 
 /// More calls than a message takes.
 const MOST: u32 = 1_000;
@@ -13,24 +13,27 @@ const READ: &str = "| 1 Read\n";
 /// What is written after the part of a reply whose writer failed.
 const WRITE: &str = "| 2 Write\n";
 
-/// What stands after all replies.
-const LEFT: &str = "left:";
-
 /// Lets the reader of the first message fail after each number of reads, from none up to the first
 /// that is more than it takes. Nothing is to be written of that message, and the others are to be
 /// answered as on a desk that it never came to. Tells how many reads it takes, and where it is
 /// wrong.
-pub(crate) fn reads(rt: &HostRuntime, before: &str, sent: &[Sent]) -> Result<(), Failure> {
+pub(crate) fn reads(
+    rt: &HostRuntime,
+    out: &mut String,
+    before: Before<'_>,
+    sent: &[Sent],
+) -> Result<(), Failure> {
     let whole = answered(rt, before, sent, Manner::BYTES)?;
     let others = answered(rt, before, sent.get(1..).unwrap_or(&[]), Manner::BYTES)?;
     for count in 0..MOST {
         let manner = Manner::streams(Some(count), u32::MAX, true);
         let text = answered(rt, before, sent, manner)?;
         if text.as_str() == whole.as_str() {
-            return tell_whole(rt, "read", count);
+            writeln!(out, "read whole by {count} calls")?;
+            return Ok(());
         }
         if text.as_str().strip_prefix(READ) != Some(others.as_str()) {
-            tell_wrong(rt, count)?;
+            writeln!(out, "wrong after {count} calls")?;
         }
     }
     Err(Failure::BadLine)
@@ -39,29 +42,25 @@ pub(crate) fn reads(rt: &HostRuntime, before: &str, sent: &[Sent]) -> Result<(),
 /// Lets the writer of the first message's reply fail after each number of writes, a byte each.
 /// Those bytes are to be written and no more, and the others are to be answered as on a desk that
 /// the first message came to. Tells how many writes the reply takes, and where it is wrong.
-pub(crate) fn writes(rt: &HostRuntime, before: &str, sent: &[Sent]) -> Result<(), Failure> {
+pub(crate) fn writes(
+    rt: &HostRuntime,
+    out: &mut String,
+    before: Before<'_>,
+    sent: &[Sent],
+) -> Result<(), Failure> {
     let whole = answered(rt, before, sent, Manner::BYTES)?;
     let first = answered(rt, before, sent.get(..1).unwrap_or(&[]), Manner::BYTES)?;
     for count in 0..MOST {
         let text = answered(rt, before, sent, Manner::streams(None, count, true))?;
         if text.as_str() == whole.as_str() {
-            return tell_whole(rt, "written", count);
+            writeln!(out, "written whole by {count} calls")?;
+            return Ok(());
         }
         if !is_cut(text.as_str(), first.as_str(), whole.as_str(), count) {
-            tell_wrong(rt, count)?;
+            writeln!(out, "wrong after {count} calls")?;
         }
     }
     Err(Failure::BadLine)
-}
-
-fn tell_whole(rt: &HostRuntime, what: &str, count: u32) -> Result<(), Failure> {
-    println!(rt; "{what} whole by {count} calls")?;
-    Ok(())
-}
-
-fn tell_wrong(rt: &HostRuntime, count: u32) -> Result<(), Failure> {
-    println!(rt; "wrong after {count} calls")?;
-    Ok(())
 }
 
 /// Whether the text is that many bytes of the first reply, the fault, and the replies that the
@@ -81,12 +80,14 @@ fn is_cut(text: &str, first: &str, whole: &str, count: u32) -> bool {
 /// The replies to the messages, without what is left of each.
 fn answered(
     rt: &HostRuntime,
-    before: &str,
+    before: Before<'_>,
     sent: &[Sent],
     manner: Manner,
 ) -> Result<String, Failure> {
     let text = replies(rt, before, sent, manner)?;
-    let text = str::from_utf8(text.as_slice()).unwrap_or("");
-    let (text, _) = text.split_once(LEFT).unwrap_or((text, ""));
+    let (text, _) = text
+        .as_str()
+        .split_once(LEFT)
+        .unwrap_or((text.as_str(), ""));
     Ok(String::from_str(rt.alloc(), text)?)
 }

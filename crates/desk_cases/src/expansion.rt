@@ -1,20 +1,22 @@
-//! Texts of cases in which words stand for others.
+//! Texts of cases in which words in `<<` and `>>` stand for others:
+//!
+//! - `<<3*TEXT>>` for the text three times, in which `@` is the number of the time, from 1, and `%`
+//!   the number before it,
+//! - `<<byte 255>>` for that byte,
+//! - `<<end>>` for the end of the part,
+//! - `<<NAME>>` for the text of the file `texts/NAME`.
 
 use std::alloc::{AllocError, Global};
 
-/// A text that cases name.
-#[derive(Clone, Copy)]
-pub(crate) struct Named<'t> {
-    pub(crate) name: &'t str,
-    pub(crate) text: &'t str,
+/// A text that cases name, by the last name of its file.
+#[derive(Drop)]
+pub(crate) struct Named {
+    pub(crate) file: String,
+    pub(crate) text: String,
 }
 
-/// The case of a text whose words in `<<` and `>>` stand for others.
-pub(crate) fn expanded(
-    alloc: Global,
-    named: &[Named<'_>],
-    text: &str,
-) -> Result<Vec<u8>, AllocError> {
+/// The text whose words in `<<` and `>>` stand for others.
+pub(crate) fn expanded(alloc: Global, named: &[Named], text: &str) -> Result<Vec<u8>, AllocError> {
     let mut case = Vec::new(alloc);
     for piece in text.split("<<") {
         match piece.split_once(">>") {
@@ -33,7 +35,7 @@ pub(crate) fn expanded(
 fn put_word(
     alloc: Global,
     case: &mut Vec<u8>,
-    named: &[Named<'_>],
+    named: &[Named],
     word: &str,
 ) -> Result<(), AllocError> {
     if let Some((times, text)) = word.split_once('*') {
@@ -44,14 +46,15 @@ fn put_word(
         return Ok(());
     }
     for text in named {
-        if text.name == word {
+        if text.file.as_str().rsplit('/').next() == Some(word) {
             case.extend_from_slice(text.text.as_bytes())?;
         }
     }
     Ok(())
 }
 
-/// Adds a text that number of times, with the number of the time, from 1, for each `@`.
+/// Adds a text that number of times, with the number of the time, from 1, for each `@`, and the
+/// number before it for each `%`.
 fn put_repeated(
     alloc: Global,
     case: &mut Vec<u8>,
@@ -59,13 +62,18 @@ fn put_repeated(
     text: &str,
 ) -> Result<(), AllocError> {
     for time in 0..times {
-        for (i, piece) in text.split('@').enumerate() {
-            if i > 0 {
-                let number = format!(in alloc; "{}", u64::from(time) + 1)?;
-                case.extend_from_slice(number.as_bytes())?;
+        for byte in text.bytes() {
+            match byte {
+                b'%' => put_number(alloc, case, u64::from(time))?,
+                b'@' => put_number(alloc, case, u64::from(time) + 1)?,
+                _ => case.push(byte)?,
             }
-            case.extend_from_slice(piece.as_bytes())?;
         }
     }
     Ok(())
+}
+
+fn put_number(alloc: Global, case: &mut Vec<u8>, number: u64) -> Result<(), AllocError> {
+    let digits = format!(in alloc; "{number}")?;
+    case.extend_from_slice(digits.as_bytes())
 }

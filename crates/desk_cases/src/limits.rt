@@ -15,29 +15,41 @@ const LIMITS: u32 = 17;
 /// line for each limit tells whether all answers and the rows that are left are those of the
 /// course, and the last ones whether some command was `Unavailable` under the least limit, and
 /// under the greatest.
-pub(crate) fn run(rt: &HostRuntime, course: &Course<'_>) -> Result<(), Failure> {
+pub(crate) fn run(alloc: Global, out: &mut String, course: &Course<'_>) -> Result<(), Failure> {
     let mut limit = 1u32;
     let mut least = None;
     let mut greatest = None;
     for _ in 0..LIMITS {
-        let count = unavailable(rt.alloc(), course, limit)?;
+        let count = unavailable(alloc, course, limit)?;
         let told = if count.is_some() { "ok" } else { "wrong" };
-        println!(rt; "  {limit}: {told}")?;
+        writeln!(out, "  {limit}: {told}")?;
         least = least.or(count);
         greatest = count;
         limit = limit.saturating_mul(2);
     }
-    tell(rt, "least", least)?;
-    tell(rt, "greatest", greatest)
+    tell(out, "least", least)?;
+    tell(out, "greatest", greatest)
 }
 
-fn tell(rt: &HostRuntime, which: &str, count: Option<u32>) -> Result<(), Failure> {
+/// Tells whether a limit of no step is as one of one step.
+pub(crate) fn run_without(
+    alloc: Global,
+    out: &mut String,
+    course: &Course<'_>,
+) -> Result<(), Failure> {
+    let none = unavailable(alloc, course, 0)?;
+    let one = unavailable(alloc, course, 1)?;
+    writeln!(out, "  as under one step: {}", none == one && one.is_some())?;
+    Ok(())
+}
+
+fn tell(out: &mut String, which: &str, count: Option<u32>) -> Result<(), Failure> {
     let told = match count {
         Some(0) => "none",
         Some(_) => "some",
         None => "wrong",
     };
-    println!(rt; "  Unavailable under the {which}: {told}")?;
+    writeln!(out, "  Unavailable under the {which}: {told}")?;
     Ok(())
 }
 
@@ -47,7 +59,7 @@ fn unavailable(alloc: Global, course: &Course<'_>, limit: u32) -> Result<Option<
     let mut desk = attached(alloc, course.statements, course.settings)?;
     let count = count_on(alloc, course, &mut desk, limit);
     let rows = rows_left(alloc, desk)?;
-    if course.leaves(rows.as_str()) {
+    if course.rows.as_str() == rows.as_str() {
         count
     } else {
         Ok(None)
@@ -64,7 +76,8 @@ fn count_on<S: Backend>(
     for (i, ask) in course.asks.iter().enumerate() {
         if is_unavailable(alloc, desk, ask, limit, course, i)? {
             count = count.saturating_add(1);
-            if !is_answered(alloc, desk, ask, course, i)? {
+            let text = outcome(alloc, desk, ask)?;
+            if !course.answers(i, text.as_str()) {
                 return Ok(None);
             }
         }
@@ -91,16 +104,4 @@ fn is_unavailable<S: Backend>(
     } else {
         Err(Failure::BadLine)
     }
-}
-
-/// Whether the command of that number is answered as in the course.
-fn is_answered<S: Backend>(
-    alloc: Global,
-    desk: &mut Desk<S>,
-    ask: &Ask,
-    course: &Course<'_>,
-    number: usize,
-) -> Result<bool, Failure> {
-    let text = outcome(alloc, desk, ask)?;
-    Ok(course.answers(number, text.as_str()))
 }

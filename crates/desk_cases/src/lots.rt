@@ -1,10 +1,10 @@
 //! Lists of commands that are made by lot, and the messages that ask the same.
 
 use crate::asks::{Ask, ask_of};
-use crate::changes::number;
 use crate::failure::Failure;
 use crate::made::next;
 use crate::served::Sent;
+use crate::words::{Words, replaced};
 use std::alloc::{AllocError, Global};
 
 /// What lists are made of.
@@ -38,7 +38,8 @@ pub(crate) fn urn_of<'t>(alloc: Global, text: &'t str) -> Result<Urn<'t>, AllocE
     Ok(Urn { lines, keys })
 }
 
-/// A list of so many commands, by the generator's number, and its number afterwards.
+/// A list of so many commands, by the generator's number, and its number afterwards. The first
+/// command is made of the first line, the next one of the first two, and so on.
 pub(crate) fn draw(
     alloc: Global,
     urn: &Urn<'_>,
@@ -53,7 +54,8 @@ pub(crate) fn draw(
     };
     for i in 0..count {
         number = next(number);
-        let place = place_at(number, i, urn.lines.len());
+        let most = (i as usize).saturating_add(1).min(urn.lines.len());
+        let place = place_of(number, most);
         let line = urn.lines.get(place).copied().unwrap_or("");
         let (line, after) = filled(alloc, urn, line, number)?;
         number = after;
@@ -63,11 +65,9 @@ pub(crate) fn draw(
     Ok((list, number))
 }
 
-/// Which line a command is made of: the first command of the first line, the next one of the first
-/// two, and so on.
-fn place_at(number: u32, i: u32, count: usize) -> usize {
-    let most = (i as usize).saturating_add(1).min(count);
-    ((number / 65_536) as usize).checked_rem(most).unwrap_or(0)
+/// Which of so many the generator's number draws.
+fn place_of(number: u32, count: usize) -> usize {
+    ((number / 65_536) as usize).checked_rem(count).unwrap_or(0)
 }
 
 /// The line with a word for each key, and the generator's number afterwards.
@@ -83,27 +83,12 @@ fn filled(
         number = next(number);
         let (key, words) = words.split_once(' ').unwrap_or((words, ""));
         if line.contains(key) {
-            text = replaced(alloc, text.as_str(), key, word_at(words, number))?;
+            let place = place_of(number, words.split(' ').count());
+            let word = words.split(' ').nth(place).unwrap_or("");
+            text = replaced(alloc, text.as_str(), key, word)?;
         }
     }
     Ok((text, number))
-}
-
-fn word_at(words: &str, number: u32) -> &str {
-    let count = words.split(' ').count();
-    let place = ((number / 65_536) as usize).checked_rem(count).unwrap_or(0);
-    words.split(' ').nth(place).unwrap_or("")
-}
-
-fn replaced(alloc: Global, text: &str, key: &str, word: &str) -> Result<String, AllocError> {
-    let mut whole = String::new(alloc);
-    for (i, piece) in text.split(key).enumerate() {
-        if i > 0 {
-            whole.push_str(word)?;
-        }
-        whole.push_str(piece)?;
-    }
-    Ok(whole)
 }
 
 /// Adds the command and the message of a line.
@@ -114,23 +99,14 @@ fn put(alloc: Global, list: &mut Drawn, line: &str) -> Result<(), Failure> {
     Ok(())
 }
 
-/// The message that asks what the words `MOMENT CALLER ..` do.
+/// The message that asks what the words `MOMENT CALLER ..` do, with the token of the caller.
 fn sent_of(alloc: Global, words: &str, message: &str) -> Result<Sent, Failure> {
-    let (at, rest) = words.split_once(' ').ok_or(Failure::BadLine)?;
-    let (caller, _) = rest.split_once(' ').ok_or(Failure::BadLine)?;
+    let mut words = Words::of(words);
+    let (at, who) = (words.count()?, words.next());
     let (start, body) = message.split_once('|').ok_or(Failure::BadLine)?;
-    let at = number(at)?;
-    Ok((at, message_of(alloc, caller, start, body)?))
-}
-
-/// A message with the token of its caller.
-fn message_of(alloc: Global, caller: &str, start: &str, body: &str) -> Result<Vec<u8>, AllocError> {
     let len = body.len();
-    let head = format!(in alloc;
-        "{start} HTTP/1.1\r\nDesk-Token: {caller}-token-0000000\r\nContent-Length: {len}\r\n\r\n"
+    let text = format!(in alloc;
+        "{start} HTTP/1.1\r\nDesk-Token: {who}-token-0000000\r\nContent-Length: {len}\r\n\r\n{body}"
     )?;
-    let mut bytes = Vec::new(alloc);
-    bytes.extend_from_slice(head.as_bytes())?;
-    bytes.extend_from_slice(body.as_bytes())?;
-    Ok(bytes)
+    Ok((at, text.into_bytes()))
 }

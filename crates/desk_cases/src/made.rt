@@ -18,40 +18,42 @@ const CODES: [&str; 8] = ["200", "201", "400", "403", "404", "405", "409", "503"
 /// had which code; then serves the first message as it is, and tells its reply.
 pub(crate) fn answer_made<S: Backend>(
     alloc: Global,
+    out: &mut String,
     sent: &[Sent],
     turns: u32,
     desk: &mut Desk<S>,
-) -> Result<Vec<u8>, Failure> {
+) -> Result<(), Failure> {
     let mut counts = [0u32; 8];
     let mut number = 1u32;
     for turn in 0..turns {
         number = serve_turn(alloc, sent, turn, number, desk, &mut counts)?;
     }
-    let mut text = told(alloc, &counts)?;
+    tell(out, &counts)?;
     if let Some(first) = sent.first() {
         let reply = reply_to(alloc, first.0, first.1.as_slice(), desk);
-        put_reply(alloc, &mut text, reply.as_slice(), Ok(()))?;
+        put_reply(alloc, out, reply.as_slice(), Ok(()))?;
     }
-    Ok(text)
+    Ok(())
 }
 
 /// Serves the messages so many times over, all in one list, and tells how many replies had which
 /// code.
 pub(crate) fn answer_many<S: Backend>(
     alloc: Global,
+    out: &mut String,
     sent: &[Sent],
     times: u32,
     desk: &mut Desk<S>,
-) -> Result<Vec<u8>, Failure> {
+) -> Result<(), Failure> {
     let list = many(alloc, sent, times)?;
     let mut counts = [0u32; 8];
     for reply in serve_all(alloc, list.as_slice(), desk)? {
         match reply {
             Ok(bytes) => count_code(&mut counts, bytes.as_slice()),
-            Err(_) => return Err(Failure::Memory),
+            Err(_) => return Err(Failure::Memory(AllocError)),
         }
     }
-    Ok(told(alloc, &counts)?)
+    tell(out, &counts)
 }
 
 fn many(alloc: Global, sent: &[Sent], times: u32) -> Result<Vec<Sent>, AllocError> {
@@ -88,35 +90,18 @@ pub(crate) fn next(number: u32) -> u32 {
     ((u64::from(number) * 1_664_525 + 1_013_904_223) % 4_294_967_296) as u32
 }
 
-/// What is made of the bytes in a turn, by the generator's number.
+/// What is made of the bytes in a turn, by the generator's number: so many of them, a byte more, a
+/// byte changed, or a line many times more.
 fn made_of(alloc: Global, bytes: &[u8], turn: u32, number: u32) -> Result<Vec<u8>, AllocError> {
     let byte = [(number / 16_777_216) as u8];
     let place = (number / 256) as usize % (bytes.len() + 1);
     let (before, after) = bytes.split_at(place);
     match turn % 4 {
-        0 => joined(
-            alloc,
-            &bytes[..(turn / 4) as usize % (bytes.len() + 1)],
-            &[],
-            &[],
-        ),
-        1 => joined(alloc, before, &byte, after),
-        2 => joined(alloc, before, &byte, after.get(1..).unwrap_or(&[])),
+        0 => Vec::from_slice(alloc, &bytes[..(turn / 4) as usize % (bytes.len() + 1)]),
+        1 => [before, &byte, after].concat(alloc),
+        2 => [before, &byte, after.get(1..).unwrap_or(&[])].concat(alloc),
         _ => repeated(alloc, bytes, place % 6, byte[0] % 40),
     }
-}
-
-fn joined(
-    alloc: Global,
-    before: &[u8],
-    between: &[u8],
-    after: &[u8],
-) -> Result<Vec<u8>, AllocError> {
-    let mut bytes = Vec::new(alloc);
-    bytes.extend_from_slice(before)?;
-    bytes.extend_from_slice(between)?;
-    bytes.extend_from_slice(after)?;
-    Ok(bytes)
 }
 
 /// The bytes with the line at a place so many times more.
@@ -153,12 +138,10 @@ fn count_code(counts: &mut [u32; 8], reply: &[u8]) {
     }
 }
 
-/// A line for each code and its count.
-fn told(alloc: Global, counts: &[u32; 8]) -> Result<Vec<u8>, AllocError> {
-    let mut text = Vec::new(alloc);
+/// Adds a line for each code and its count.
+fn tell(out: &mut String, counts: &[u32; 8]) -> Result<(), Failure> {
     for (i, code) in CODES.iter().enumerate() {
-        let line = format!(in alloc; "{code}: {}\n", counts[i])?;
-        text.extend_from_slice(line.as_bytes())?;
+        writeln!(out, "{code}: {}", counts[i])?;
     }
-    Ok(text)
+    Ok(())
 }

@@ -2,60 +2,73 @@
 
 use crate::asks::asks_of;
 use crate::calls::execute_all;
-use crate::changes::number;
-use crate::desks::attached;
+use crate::cases::Case;
+use crate::desks::{COMMANDS, attached};
+use crate::each;
 use crate::expansion::{Named, expanded};
 use crate::failure::Failure;
-use crate::served::{LEFT, Manner, Sent, served};
-use crate::{ASKED, COMMANDS, each};
+use crate::served::{LEFT, Manner, Sent, serve};
+use crate::words::number;
 use service_core::Desk;
 use std::alloc::Global;
 use store_core::Backend;
 
 /// What begins a message, before its moment.
-pub(crate) const BEGIN: &str = "\n> ";
+const BEGIN: &str = "> ";
+
+/// What begins a message after another one.
+const NEXT: &str = "\n> ";
+
+/// The tables, settings and commands that messages find.
+#[derive(Clone, Copy)]
+pub(crate) struct Before<'b> {
+    tables: &'b str,
+    settings: &'b str,
+    commands: &'b str,
+}
 
 /// Serves the messages of a case in each of three manners, each over a desk of its own: one after
 /// the other, the same a byte at a time, and all in a list. The replies are written as the first
 /// has them, then how many bytes of each message were left unread, and whether the other two are
 /// the same. Where lines name other manners, the replies of each are written in place of that.
-pub(crate) fn run_case(
+pub(crate) fn run_case(rt: &HostRuntime, out: &mut String, case: &Case<'_>) -> Result<(), Failure> {
+    let desk = case.text("desk").split_once(COMMANDS);
+    let (settings, commands) = desk.ok_or(Failure::BadLine)?;
+    let before = Before {
+        tables: case.text("tables"),
+        settings,
+        commands,
+    };
+    let sent = sent_in(rt.alloc(), case.named, case.text("messages"))?;
+    match case.text("manners") {
+        "" => serve_alike(rt, out, before, sent.as_slice()),
+        manners => serve_by_each(rt, out, before, sent.as_slice(), manners),
+    }
+}
+
+fn serve_by_each(
     rt: &HostRuntime,
-    named: &[Named<'_>],
-    text: &str,
+    out: &mut String,
+    before: Before<'_>,
+    sent: &[Sent],
     manners: &str,
 ) -> Result<(), Failure> {
-    let (before, messages) = text.split_once(BEGIN).ok_or(Failure::BadLine)?;
-    let before = expanded(rt.alloc(), named, before)?;
-    let sent = sent_in(rt.alloc(), named, messages)?;
-    let before = str::from_utf8(before.as_slice()).unwrap_or("");
-    if manners.is_empty() {
-        return serve_alike(rt, before, sent.as_slice());
-    }
     for line in manners.lines() {
-        println!(rt; "{line}")?;
-        serve_by(rt, before, sent.as_slice(), line)?;
+        writeln!(out, "{line}")?;
+        match line {
+            "each_read_fails" => each::reads(rt, out, before, sent)?,
+            "each_write_fails" => each::writes(rt, out, before, sent)?,
+            _ => out.push_str(replies(rt, before, sent, manner_of(line)?)?.as_str())?,
+        }
     }
     Ok(())
 }
 
-/// Serves the messages as the line states it.
-fn serve_by(rt: &HostRuntime, before: &str, sent: &[Sent], line: &str) -> Result<(), Failure> {
-    match line {
-        "each_read_fails" => each::reads(rt, before, sent),
-        "each_write_fails" => each::writes(rt, before, sent),
-        _ => {
-            let text = replies(rt, before, sent, manner_of(line)?)?;
-            print!(rt; "{}", str::from_utf8(text.as_slice()).unwrap_or(""))?;
-            Ok(())
-        }
-    }
-}
-
 /// The messages of a case.
-fn sent_in(alloc: Global, named: &[Named<'_>], messages: &str) -> Result<Vec<Sent>, Failure> {
+fn sent_in(alloc: Global, named: &[Named], messages: &str) -> Result<Vec<Sent>, Failure> {
     let mut sent = Vec::new(alloc);
-    for message in messages.strip_suffix("\n").unwrap_or(messages).split(BEGIN) {
+    let messages = messages.strip_prefix(BEGIN).ok_or(Failure::BadLine)?;
+    for message in messages.strip_suffix("\n").unwrap_or(messages).split(NEXT) {
         let (moment, text) = message.split_once('\n').ok_or(Failure::BadLine)?;
         let moment = number(moment)?;
         let text = expanded(alloc, named, text)?;
@@ -78,33 +91,37 @@ fn with_returns(alloc: Global, text: &[u8]) -> Result<Vec<u8>, Failure> {
     Ok(bytes)
 }
 
-fn serve_alike(rt: &HostRuntime, before: &str, sent: &[Sent]) -> Result<(), Failure> {
+fn serve_alike(
+    rt: &HostRuntime,
+    out: &mut String,
+    before: Before<'_>,
+    sent: &[Sent],
+) -> Result<(), Failure> {
     let whole = replies(rt, before, sent, Manner::Whole)?;
     let bytes = replies(rt, before, sent, Manner::BYTES)?;
     let list = replies(rt, before, sent, Manner::List)?;
-    print!(rt; "{}", str::from_utf8(whole.as_slice()).unwrap_or(""))?;
-    let alike = whole.as_slice() == bytes.as_slice();
-    println!(rt;
-        "a byte at a time: {}",
-        if alike { "same" } else { "differs" }
-    )?;
-    let rest = whole.as_slice().strip_prefix(list.as_slice());
-    let alike = rest.unwrap_or(&[]).starts_with(LEFT);
-    println!(rt; "in a list: {}", if alike { "same" } else { "differs" })?;
+    out.push_str(whole.as_str())?;
+    let alike = whole.as_str() == bytes.as_str();
+    writeln!(out, "a byte at a time: {}", same_or_not(alike))?;
+    let rest = whole.as_str().strip_prefix(list.as_str());
+    let alike = rest.unwrap_or("").starts_with(LEFT);
+    writeln!(out, "in a list: {}", same_or_not(alike))?;
     Ok(())
+}
+
+fn same_or_not(alike: bool) -> &'static str {
+    if alike { "same" } else { "differs" }
 }
 
 /// The replies to messages over a desk of their own.
 pub(crate) fn replies(
     rt: &HostRuntime,
-    before: &str,
+    before: Before<'_>,
     sent: &[Sent],
     manner: Manner,
-) -> Result<Vec<u8>, Failure> {
-    let (statements, asked) = before.split_once(ASKED).ok_or(Failure::BadLine)?;
-    let (settings, commands) = asked.split_once(COMMANDS).ok_or(Failure::BadLine)?;
-    let mut desk = attached(rt.alloc(), statements, settings)?;
-    let replies = served_after(rt, commands, sent, manner, &mut desk);
+) -> Result<String, Failure> {
+    let mut desk = attached(rt.alloc(), before.tables, before.settings)?;
+    let replies = served_after(rt, before.commands, sent, manner, &mut desk);
     drop(desk);
     replies
 }
@@ -116,10 +133,12 @@ fn served_after<S: Backend>(
     sent: &[Sent],
     manner: Manner,
     desk: &mut Desk<S>,
-) -> Result<Vec<u8>, Failure> {
+) -> Result<String, Failure> {
     let asks = asks_of(rt.alloc(), commands)?;
     let _ = execute_all(rt.alloc(), desk, asks.as_slice())?;
-    served(rt, sent, manner, desk)
+    let mut replies = String::new(rt.alloc());
+    serve(rt, &mut replies, sent, manner, desk)?;
+    Ok(replies)
 }
 
 /// The manner that a line states:

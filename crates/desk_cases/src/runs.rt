@@ -178,19 +178,13 @@ fn reached_on<S: Backend>(
         };
         if number == reached && course.answers(number, text.as_str()) {
             reached = reached.saturating_add(1);
-        } else if !may_follow_a_stop(text.as_str(), number == reached) {
+        } else if number == reached && text.as_str() != UNAVAILABLE {
+            return None;
+        } else if !text.as_str().starts_with("refused ") {
             return None;
         }
     }
     Some(reached)
-}
-
-fn may_follow_a_stop(text: &str, is_first: bool) -> bool {
-    if is_first {
-        text == UNAVAILABLE
-    } else {
-        text.starts_with("refused ")
-    }
 }
 
 impl Way<'_> {

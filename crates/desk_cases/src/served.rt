@@ -2,12 +2,14 @@
 
 use crate::asking::answer_asked;
 use crate::calls::{self, serve_all};
+use crate::cases::str_of;
 use crate::failure::Failure;
 use crate::loopback::answer_by_loopback;
 use crate::made::{answer_made, answer_many};
-use crate::streams::{Endless, Faltering, Slow};
+use crate::streams::{Faltering, Slow};
+use crate::words::replaced;
 use service_core::Desk;
-use std::alloc::{AllocError, Global};
+use std::alloc::Global;
 use store_core::Backend;
 use wire_core::ServeFault;
 
@@ -15,14 +17,10 @@ use wire_core::ServeFault;
 pub(crate) type Sent = (u32, Vec<u8>);
 
 /// What stands after all replies, where they are followed by what is left of each message.
-pub(crate) const LEFT: &[u8] = b"left:";
+pub(crate) const LEFT: &str = "left:";
 
 /// The greatest head and the greatest body, a byte a read, and one read more.
 const MOST_READS: u32 = 73_729;
-
-const FEW_READS: &[u8] = b"at most 73729 reads\n";
-
-const MANY_READS: &[u8] = b"more than 73729 reads\n";
 
 /// How messages are served.
 #[derive(Clone, Copy)]
@@ -75,137 +73,132 @@ impl Manner {
     }
 }
 
-/// The replies to messages as a text: each with the fault of serving it, if there is one; then,
-/// where they are served one after the other, how many bytes of each were left unread.
-pub(crate) fn served<S: Backend>(
+/// Adds the replies to messages: each with the fault of serving it, if there is one; then, where
+/// they are served one after the other, how many bytes of each were left unread.
+pub(crate) fn serve<S: Backend>(
     rt: &HostRuntime,
+    out: &mut String,
     sent: &[Sent],
     manner: Manner,
     desk: &mut Desk<S>,
-) -> Result<Vec<u8>, Failure> {
+) -> Result<(), Failure> {
     match manner {
-        Manner::Whole => one_by_one(rt.alloc(), sent, None, desk),
-        Manner::Streams(failing) => one_by_one(rt.alloc(), sent, Some(failing), desk),
-        Manner::List => in_list(rt.alloc(), sent, desk),
-        Manner::Loopback => answer_by_loopback(rt, sent, desk),
-        Manner::Endless => before_others(rt.alloc(), sent, desk),
-        Manner::Made(turns) => answer_made(rt.alloc(), sent, turns, desk),
-        Manner::Many(times) => answer_many(rt.alloc(), sent, times, desk),
-        Manner::Asked => answer_asked(rt.alloc(), sent, desk),
+        Manner::Whole => one_by_one(rt.alloc(), out, sent, None, desk),
+        Manner::Streams(failing) => one_by_one(rt.alloc(), out, sent, Some(failing), desk),
+        Manner::List => in_list(rt.alloc(), out, sent, desk),
+        Manner::Loopback => answer_by_loopback(rt, out, sent, desk),
+        Manner::Endless => before_others(rt.alloc(), out, sent, desk),
+        Manner::Made(turns) => answer_made(rt.alloc(), out, sent, turns, desk),
+        Manner::Many(times) => answer_many(rt.alloc(), out, sent, times, desk),
+        Manner::Asked => answer_asked(rt.alloc(), out, sent, desk),
     }
 }
 
 fn in_list<S: Backend>(
     alloc: Global,
+    out: &mut String,
     sent: &[Sent],
     desk: &mut Desk<S>,
-) -> Result<Vec<u8>, Failure> {
-    let mut text = Vec::new(alloc);
+) -> Result<(), Failure> {
     for reply in serve_all(alloc, sent, desk)? {
         match reply {
-            Ok(bytes) => put_reply(alloc, &mut text, bytes.as_slice(), Ok(()))?,
-            Err(fault) => put_reply(alloc, &mut text, b"", Err(fault))?,
+            Ok(bytes) => put_reply(alloc, out, bytes.as_slice(), Ok(()))?,
+            Err(fault) => put_reply(alloc, out, b"", Err(fault))?,
         }
     }
-    Ok(text)
+    Ok(())
 }
 
 fn one_by_one<S: Backend>(
     alloc: Global,
+    out: &mut String,
     sent: &[Sent],
     failing: Option<Failing>,
     desk: &mut Desk<S>,
-) -> Result<Vec<u8>, Failure> {
-    let mut text = Vec::new(alloc);
-    let mut left = Vec::new(alloc);
+) -> Result<(), Failure> {
+    let mut left = String::new(alloc);
     let mut failing = failing;
     for message in sent {
-        let rest = serve(alloc, message, failing, desk, &mut text)?;
-        let number = format!(in alloc; " {rest}")?;
-        left.extend_from_slice(number.as_bytes())?;
+        let rest = match failing {
+            None => by_memory(alloc, out, message, desk)?,
+            Some(failing) => by_streams(alloc, out, message, failing, desk)?,
+        };
+        write!(left, " {rest}")?;
         if failing.is_some() {
             failing = Some(NEVER);
         }
     }
-    text.extend_from_slice(LEFT)?;
-    text.extend_from_slice(left.as_slice())?;
-    text.push(b'\n')?;
-    Ok(text)
+    writeln!(out, "{LEFT}{}", left.as_str())?;
+    Ok(())
 }
 
-/// Serves a message, over memory or over streams, and adds its reply. Answers how many bytes are
-/// left unread.
-fn serve<S: Backend>(
+/// Serves a message over memory, and adds its reply: how many bytes are left unread.
+fn by_memory<S: Backend>(
     alloc: Global,
+    out: &mut String,
     message: &Sent,
-    failing: Option<Failing>,
     desk: &mut Desk<S>,
-    text: &mut Vec<u8>,
-) -> Result<usize, AllocError> {
-    let Some(failing) = failing else {
-        let mut reader = message.1.as_slice();
-        let mut written = Vec::new(alloc);
-        let ended = calls::serve(alloc, &mut reader, &mut written, message.0, desk);
-        put_reply(alloc, text, written.as_slice(), ended)?;
-        return Ok(reader.len());
+) -> Result<usize, Failure> {
+    let mut reader = message.1.as_slice();
+    let mut written = Vec::new(alloc);
+    let ended = calls::serve(alloc, &mut reader, &mut written, message.0, desk);
+    put_reply(alloc, out, written.as_slice(), ended)?;
+    Ok(reader.len())
+}
+
+/// The same over streams.
+fn by_streams<S: Backend>(
+    alloc: Global,
+    out: &mut String,
+    message: &Sent,
+    failing: Failing,
+    desk: &mut Desk<S>,
+) -> Result<usize, Failure> {
+    let bytes = message.1.as_slice();
+    let mut reader = match failing.reader_at {
+        Some(reads) => Slow::failing(bytes, reads),
+        None => Slow::over(bytes),
     };
-    let mut reader = Slow {
-        bytes: message.1.as_slice(),
-        reads: 0,
-        fails_at: failing.reader_at,
-    };
-    let mut writer = Faltering {
-        taken: Vec::new(alloc),
-        falters_at: failing.writer_at,
-        fails: failing.writer_fails,
-        writes: 0,
-    };
+    let mut writer = Faltering::after(alloc, failing.writer_at, failing.writer_fails);
     let ended = calls::serve(alloc, &mut reader, &mut writer, message.0, desk);
-    put_reply(alloc, text, writer.taken.as_slice(), ended)?;
+    put_reply(alloc, out, writer.taken.as_slice(), ended)?;
     Ok(reader.bytes.len())
 }
 
-/// The replies to messages after which other bytes come without end, each with a line that tells
-/// whether it was read no more often than a head and a body can have bytes, and once more.
+/// Adds the replies to messages after which other bytes come without end, each with a line that
+/// tells whether it was read no more often than a head and a body can have bytes, and once more.
 fn before_others<S: Backend>(
     alloc: Global,
+    out: &mut String,
     sent: &[Sent],
     desk: &mut Desk<S>,
-) -> Result<Vec<u8>, Failure> {
-    let mut text = Vec::new(alloc);
+) -> Result<(), Failure> {
     for message in sent {
-        let mut reader = Endless {
-            bytes: message.1.as_slice(),
-            reads: 0,
-        };
+        let mut reader = Slow::endless(message.1.as_slice());
         let mut written = Vec::new(alloc);
         let ended = calls::serve(alloc, &mut reader, &mut written, message.0, desk);
-        put_reply(alloc, &mut text, written.as_slice(), ended)?;
-        let few = reader.reads <= MOST_READS;
-        text.extend_from_slice(if few { FEW_READS } else { MANY_READS })?;
+        put_reply(alloc, out, written.as_slice(), ended)?;
+        let most = if reader.reads <= MOST_READS {
+            "at most"
+        } else {
+            "more than"
+        };
+        writeln!(out, "{most} {MOST_READS} reads")?;
     }
-    Ok(text)
+    Ok(())
 }
 
 /// Adds the bytes of a reply, with a backslash and `r` for each carriage return, and the fault of
 /// serving it.
 pub(crate) fn put_reply(
     alloc: Global,
-    text: &mut Vec<u8>,
+    out: &mut String,
     bytes: &[u8],
     ended: Result<(), ServeFault>,
-) -> Result<(), AllocError> {
-    for byte in bytes {
-        match *byte {
-            b'\r' => text.extend_from_slice(b"\\r")?,
-            byte => text.push(byte)?,
-        }
-    }
+) -> Result<(), Failure> {
+    out.push_str(replaced(alloc, str_of(bytes), "\r", "\\r")?.as_str())?;
     if let Err(fault) = ended {
-        let number = fault.number();
-        let name = fault.name();
-        let line = format!(in alloc; "| {number} {name}\n")?;
-        text.extend_from_slice(line.as_bytes())?;
+        writeln!(out, "| {} {}", fault.number(), fault.name())?;
     }
     Ok(())
 }

@@ -3,51 +3,49 @@
 //! What owns much is given back by `drop`, whose proof stands once; at the end of its scope it
 //! would be taken apart for each function's own proof.
 
-use crate::ASKED;
-use crate::changes::number;
+use crate::cases::{Case, str_of};
 use crate::disks::{End, ended};
-use crate::expansion::{Named, expanded};
 use crate::failure::Failure;
 use crate::stores::opened;
 use crate::streams::Faltering;
+use crate::words::number;
 use desk_program::{OneEnded, run_one, run_one_whole};
 use sqlite::{Connection, FileStore};
 use sqlite_disk::Disk;
-use std::str;
+use std::alloc::Global;
 use store_core::{Backend, Store};
 use wire_core::words_of;
 
-/// What stands between settings and commands that are run one at a time.
-pub(crate) const SINGLES: &str = "$$\n";
-
 /// Runs each command by itself with the settings, on the tables that the one before left; the first
 /// one on those that the statements make. Each is written with its status and whether a write
-/// failed, and then its text and a line feed. A line `writer_fails N` states that the first one's
-/// writer takes a byte at a time, and fails after N writes; a line `on_file PATH` that the tables
-/// are in that file, which is opened anew for each command. A line `alone` states that each is run
-/// on tables of its own that the statements make, by the call that lets them go, and
-/// `alone_on_file PATH` that this is done on the tables in that file.
-pub(crate) fn run_case(
-    rt: &HostRuntime,
-    named: &[Named<'_>],
-    text: &str,
-    streams: &str,
-) -> Result<(), Failure> {
-    let case = expanded(rt.alloc(), named, text)?;
-    let case = str::from_utf8(case.as_slice()).unwrap_or("");
-    let (before, commands) = case.split_once(SINGLES).ok_or(Failure::BadLine)?;
-    let (statements, settings) = before.split_once(ASKED).ok_or(Failure::BadLine)?;
-    let streams = streams.trim_end();
+/// failed, and then its text and a line feed. A line of the part `streams` may say
+///
+/// - `writer_fails N`: the first one's writer takes a byte at a time, and fails after N writes;
+/// - `on_file PATH`: the tables are in that file, which is opened anew for each command;
+/// - `alone`: each is run on tables of its own that the statements make, by the call that lets them
+///   go;
+/// - `alone_on_file PATH`: that is done on the tables in that file.
+pub(crate) fn run_case(rt: &HostRuntime, out: &mut String, case: &Case<'_>) -> Result<(), Failure> {
+    let (settings, statements) = (case.text("settings"), case.text("tables"));
+    let asked = all_asked(rt.alloc(), case.text("commands"))?;
+    let asked = asked.as_slice();
+    let streams = case.text("streams").trim_end();
     if let Some(path) = streams.strip_prefix("on_file ") {
-        return run_on_file(rt, settings, path, commands, false);
+        return run_on_file(rt, out, settings, path, asked, false);
     }
     if let Some(path) = streams.strip_prefix("alone_on_file ") {
-        return run_on_file(rt, settings, path, commands, true);
+        return run_on_file(rt, out, settings, path, asked, true);
     }
     if streams == "alone" {
-        return run_each_alone(rt, statements, settings, commands);
+        return run_each_alone(rt.alloc(), out, statements, settings, asked);
     }
-    run_in_memory(rt, statements, settings, commands, streams)
+    let fails_at = match streams.strip_prefix("writer_fails ") {
+        Some(writes) => number(writes)?,
+        None if streams.is_empty() => u32::MAX,
+        None => return Err(Failure::BadLine),
+    };
+    let store = opened(rt.alloc(), statements)?;
+    run_each(rt.alloc(), out, settings, store, asked, fails_at)
 }
 
 /// A line `MOMENT CALLER WORDS ..`, and what it asks for.
@@ -58,41 +56,41 @@ struct Asked<'l> {
     words: Vec<String>,
 }
 
-fn asked_of<'l>(rt: &HostRuntime, line: &'l str) -> Result<Asked<'l>, Failure> {
-    let words = words_of(rt.alloc(), line)?;
-    match words.as_slice() {
-        [at, _, ..] => {
-            let at = number(at.as_str())?;
-            Ok(Asked { line, at, words })
-        }
-        _ => Err(Failure::BadLine),
+/// What each of the lines asks for.
+fn all_asked(alloc: Global, lines: &str) -> Result<Vec<Asked<'_>>, Failure> {
+    let mut all = Vec::new(alloc);
+    for line in lines.lines() {
+        let words = words_of(alloc, line)?;
+        let at = match words.as_slice() {
+            [at, _, ..] => number(at.as_str())?,
+            _ => return Err(Failure::BadLine),
+        };
+        all.push(Asked { line, at, words })?;
     }
+    Ok(all)
 }
 
 impl Asked<'_> {
-    fn caller(&self) -> &str {
-        match self.words.get(1) {
-            Some(caller) => caller.as_str(),
-            None => "",
+    /// The caller and the words of the command.
+    fn command(&self) -> (&str, &[String]) {
+        match self.words.as_slice() {
+            [_, caller, command @ ..] => (caller.as_str(), command),
+            _ => ("", &[]),
         }
-    }
-
-    fn command(&self) -> &[String] {
-        self.words.as_slice().get(2..).unwrap_or(&[])
     }
 }
 
 /// Runs each command on tables of its own, which the statements make.
 fn run_each_alone(
-    rt: &HostRuntime,
+    alloc: Global,
+    out: &mut String,
     statements: &str,
     settings: &str,
-    commands: &str,
+    all: &[Asked<'_>],
 ) -> Result<(), Failure> {
-    for line in commands.lines() {
-        let asked = asked_of(rt, line)?;
-        let store = opened(rt.alloc(), statements)?;
-        run_alone(rt, settings, store, &asked)?;
+    for asked in all {
+        let store = opened(alloc, statements)?;
+        run_alone(alloc, out, settings, store, asked)?;
     }
     Ok(())
 }
@@ -100,46 +98,29 @@ fn run_each_alone(
 /// Runs the command, lets its store go, and writes it with its status, and then its text and a line
 /// feed.
 fn run_alone<S: Backend + Drop>(
-    rt: &HostRuntime,
+    alloc: Global,
+    out: &mut String,
     settings: &str,
     store: Store<S>,
     asked: &Asked<'_>,
 ) -> Result<(), Failure> {
-    let mut text = Vec::new(rt.alloc());
-    let status = run_one(
-        rt.alloc(),
-        settings.as_bytes(),
-        store,
-        asked.caller(),
-        asked.at,
-        asked.command(),
-        &mut text,
-    );
-    let line = asked.line;
-    let text = str::from_utf8(text.as_slice()).unwrap_or("");
-    println!(rt; "{line}: status {status}\n{text}")?;
+    let mut text = Vec::new(alloc);
+    let settings = settings.as_bytes();
+    let (caller, words) = asked.command();
+    let status = run_one(alloc, settings, store, caller, asked.at, words, &mut text);
+    writeln!(
+        out,
+        "{}: status {status}\n{}",
+        asked.line,
+        str_of(text.as_slice())
+    )?;
     Ok(())
 }
 
 /// Runs each command on the tables that the one before left.
-fn run_in_memory(
-    rt: &HostRuntime,
-    statements: &str,
-    settings: &str,
-    commands: &str,
-    streams: &str,
-) -> Result<(), Failure> {
-    let fails_at = write_that_fails(streams)?;
-    let mut all = Vec::new(rt.alloc());
-    for line in commands.lines() {
-        all.push(asked_of(rt, line)?)?;
-    }
-    let store = opened(rt.alloc(), statements)?;
-    run_each(rt, settings, store, all.as_slice(), fails_at)
-}
-
 fn run_each<S: Backend + Drop>(
-    rt: &HostRuntime,
+    alloc: Global,
+    out: &mut String,
     settings: &str,
     store: Store<S>,
     all: &[Asked<'_>],
@@ -148,7 +129,7 @@ fn run_each<S: Backend + Drop>(
     let mut store = store;
     let mut fails_at = fails_at;
     for asked in all {
-        let (left, told) = run_whole(rt, settings, store, asked, fails_at);
+        let (left, told) = run_whole(alloc, out, settings, store, asked, fails_at);
         store = left;
         if let Err(failure) = told {
             drop(store);
@@ -164,83 +145,69 @@ fn run_each<S: Backend + Drop>(
 /// or closed.
 fn run_on_file(
     rt: &HostRuntime,
+    out: &mut String,
     settings: &str,
     path: &str,
-    commands: &str,
+    all: &[Asked<'_>],
     lets_go: bool,
 ) -> Result<(), Failure> {
-    for line in commands.lines() {
-        let asked = asked_of(rt, line)?;
+    for asked in all {
         let store = Store::adopt(Connection::open(rt, path)?);
-        run_opened(rt, settings, store, &asked, lets_go)?;
+        run_opened(rt.alloc(), out, settings, store, asked, lets_go)?;
     }
     Ok(())
 }
 
 fn run_opened<D: Disk + Drop>(
-    rt: &HostRuntime,
+    alloc: Global,
+    out: &mut String,
     settings: &str,
     store: Store<FileStore<D>>,
     asked: &Asked<'_>,
     lets_go: bool,
 ) -> Result<(), Failure> {
     if lets_go {
-        return run_alone(rt, settings, store, asked);
+        return run_alone(alloc, out, settings, store, asked);
     }
-    let (store, told) = run_whole(rt, settings, store, asked, u32::MAX);
+    let (store, told) = run_whole(alloc, out, settings, store, asked, u32::MAX);
     drop(ended(store.release(), End::Closed));
     told
 }
 
-/// How many writes go well before one fails, as a line states it; no line states one.
-fn write_that_fails(streams: &str) -> Result<u32, Failure> {
-    if streams.is_empty() {
-        return Ok(u32::MAX);
-    }
-    let count = streams.strip_prefix("writer_fails ");
-    number(count.ok_or(Failure::BadLine)?)
-}
-
 /// Runs the command, writes how it ended, and gives the store back.
 fn run_whole<S: Backend>(
-    rt: &HostRuntime,
+    alloc: Global,
+    out: &mut String,
     settings: &str,
     store: Store<S>,
     asked: &Asked<'_>,
     fails_at: u32,
 ) -> (Store<S>, Result<(), Failure>) {
-    let mut writer = Faltering {
-        taken: Vec::new(rt.alloc()),
-        falters_at: fails_at,
-        fails: true,
-        writes: 0,
-    };
+    let mut writer = Faltering::after(alloc, fails_at, true);
+    let settings = settings.as_bytes();
+    let (caller, words) = asked.command();
+    let ended = run_one_whole(alloc, settings, store, caller, asked.at, words, &mut writer);
     let OneEnded {
         status,
         failed,
         store,
-    } = run_one_whole(
-        rt.alloc(),
-        settings.as_bytes(),
-        store,
-        asked.caller(),
-        asked.at,
-        asked.command(),
-        &mut writer,
-    );
-    let told = tell_ended(rt, asked.line, status, failed, writer.taken.as_slice());
+    } = ended;
+    let told = tell_ended(out, asked.line, status, failed, writer.taken.as_slice());
     (store, told)
 }
 
 /// Writes how a command ended, and what it wrote.
 fn tell_ended(
-    rt: &HostRuntime,
+    out: &mut String,
     line: &str,
     status: u8,
     failed: bool,
     taken: &[u8],
 ) -> Result<(), Failure> {
-    let text = str::from_utf8(taken).unwrap_or("");
-    println!(rt; "{line}: status {status}, failed {failed}\n{text}")?;
+    writeln!(
+        out,
+        "{line}: status {status}, failed {failed}\n{}",
+        str_of(taken)
+    )?;
     Ok(())
 }

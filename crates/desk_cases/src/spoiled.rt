@@ -1,7 +1,7 @@
 //! Files that no run left so.
 
 use crate::course::Course;
-use crate::disks::{Disks, End, Statements, Visit, disks, disks_with, holding, visit_files};
+use crate::disks::{Disks, End, Statements, Visit, disks, holding, new_disks, visit_files};
 use crate::failure::Failure;
 use crate::runs::{Found, Run, Way, found_on, run_on, way_of};
 use sqlite::{Connection, Files};
@@ -9,33 +9,35 @@ use sqlite_disk::{Fuse, Memory};
 use std::alloc::Global;
 use store_core::{Backend, Store};
 
+/// A database file that is none.
+const TEXT: &[u8] = b"This is a text and no database.\n";
+
 /// Opens such files, and tells that they are refused, or what is found.
-pub(crate) fn run(rt: &HostRuntime, course: &Course<'_>, words: &str) -> Result<(), Failure> {
-    let way = way_of(rt.alloc(), course)?;
-    let disks = spoiled(rt.alloc(), &way, words)?;
-    match found_on(rt.alloc(), &way, disks) {
-        Found::Refused => println!(rt; "  refused")?,
-        Found::Other => println!(rt; "  other rows")?,
-        Found::After(count) => println!(rt; "  found: {count}")?,
+pub(crate) fn run(
+    alloc: Global,
+    out: &mut String,
+    course: &Course<'_>,
+    words: &str,
+) -> Result<(), Failure> {
+    let way = way_of(alloc, course)?;
+    let disks = spoiled(alloc, &way, words)?;
+    match found_on(alloc, &way, disks) {
+        Found::Refused => writeln!(out, "  refused")?,
+        Found::Other => writeln!(out, "  other rows")?,
+        Found::After(count) => writeln!(out, "  found: {count}")?,
     }
     Ok(())
 }
 
-/// The files that the words name.
+/// The files that the words name: those one of which stops at once, a text for a database file, or
+/// files of runs.
 fn spoiled(alloc: Global, way: &Way<'_>, words: &str) -> Result<Disks, Failure> {
     match words {
-        "log stops at once" => Ok(disks(alloc, 0, u64::MAX)),
-        "tables stop at once" => Ok(disks(alloc, u64::MAX, 0)),
-        "text" => with_text(alloc),
+        "log stops at once" => disks(alloc, b"", 0, u64::MAX),
+        "tables stop at once" => disks(alloc, b"", u64::MAX, 0),
+        "text" => disks(alloc, TEXT, u64::MAX, u64::MAX),
         _ => of_runs(alloc, way, words),
     }
-}
-
-/// A database file that is a text.
-fn with_text(alloc: Global) -> Result<Disks, Failure> {
-    let Files { log, db: _ } = disks(alloc, u64::MAX, u64::MAX);
-    let db = holding(alloc, b"This is a text and no database.\n")?;
-    Ok(Files { log, db })
 }
 
 /// Files of a run of all commands that was closed, and so left all in the database file; with half
@@ -44,7 +46,9 @@ fn of_runs(alloc: Global, way: &Way<'_>, words: &str) -> Result<Disks, Failure> 
     let Files { log, db } = ended(alloc, way)?;
     match words {
         "half" => {
-            let db = half(alloc, &db)?;
+            let bytes = db.inner().bytes();
+            let (first, _) = bytes.split_at(bytes.len() / 2);
+            let db = holding(alloc, first)?;
             Ok(Files { log, db })
         }
         "two runs" => Ok(Files {
@@ -55,16 +59,9 @@ fn of_runs(alloc: Global, way: &Way<'_>, words: &str) -> Result<Disks, Failure> 
     }
 }
 
-fn half(alloc: Global, db: &Fuse<Memory>) -> Result<Fuse<Memory>, Failure> {
-    let bytes = db.inner().bytes();
-    let (first, _) = bytes.split_at(bytes.len() / 2);
-    holding(alloc, first)
-}
-
 /// The log of a run that made the tables in new files.
 fn log_of_none(alloc: Global) -> Fuse<Memory> {
-    let files = disks(alloc, u64::MAX, u64::MAX);
-    let Files { log, db: _ } = visit_files(alloc, files, &mut Schema, End::Left);
+    let Files { log, db: _ } = visit_files(alloc, new_disks(alloc), &mut Schema, End::Left);
     log
 }
 
@@ -85,7 +82,7 @@ impl Visit for Schema {
 
 /// The files of a run of all commands, closed.
 fn ended(alloc: Global, way: &Way<'_>) -> Result<Disks, Failure> {
-    let begun = disks_with(alloc, way.begin.as_slice(), u64::MAX, u64::MAX)?;
+    let begun = disks(alloc, way.begin.as_slice(), u64::MAX, u64::MAX)?;
     let Run { files, .. } = run_on(alloc, way, begun);
     Ok(visit_files(alloc, files, &mut Statements(""), End::Closed))
 }

@@ -1,7 +1,7 @@
 //! Commands on tables whose disk stops.
 
 use crate::course::Course;
-use crate::disks::{Disks, after_crash, after_kill, disks_with};
+use crate::disks::{Disks, after_crash, after_kill, disks};
 use crate::failure::Failure;
 use crate::runs::{Found, Run, Way, go_on, run_on, way_of};
 use std::alloc::Global;
@@ -22,18 +22,23 @@ pub(crate) struct Stop {
 /// the files are opened again. What is found then are the tables after the commands that were
 /// answered, or after one more, and the others go on from there to their answers and rows; else it
 /// is wrong. A line is written wherever the number of commands that are found isn't that of the stop
-/// before, and at the end how many calls there are.
-pub(crate) fn run(rt: &HostRuntime, course: &Course<'_>, stop: Stop) -> Result<(), Failure> {
-    let way = way_of(rt.alloc(), course)?;
+/// before, and at the end whether there are calls.
+pub(crate) fn run(
+    alloc: Global,
+    out: &mut String,
+    course: &Course<'_>,
+    stop: Stop,
+) -> Result<(), Failure> {
+    let way = way_of(alloc, course)?;
     let count = course.asks.len();
     let mut last = None;
     for calls in 0..MOST {
-        let (answered, found) = stopped(rt.alloc(), &way, stop, calls)?;
+        let (answered, found) = stopped(alloc, &way, stop, calls)?;
         if found.is_none() || found != last {
-            tell(rt, calls, found)?;
+            tell(out, calls, found)?;
         }
         if answered == Some(count) {
-            println!(rt; "  calls: {calls}")?;
+            writeln!(out, "  calls: {}", if calls > 0 { "some" } else { "none" })?;
             return Ok(());
         }
         last = found;
@@ -41,17 +46,17 @@ pub(crate) fn run(rt: &HostRuntime, course: &Course<'_>, stop: Stop) -> Result<(
     Err(Failure::BadLine)
 }
 
-fn tell(rt: &HostRuntime, calls: u64, found: Option<usize>) -> Result<(), Failure> {
+fn tell(out: &mut String, calls: u64, found: Option<usize>) -> Result<(), Failure> {
     match found {
-        Some(count) => println!(rt; "  found: {count}")?,
-        None => println!(rt; "  wrong after {calls} calls")?,
+        Some(count) => writeln!(out, "  found: {count}")?,
+        None => writeln!(out, "  wrong after {calls} calls")?,
     }
     Ok(())
 }
 
-/// Runs the commands on files of the course that stop after so many calls, and goes on with what they leave:
-/// how many commands were answered before the stop, and how many are found after it, or none where
-/// that is wrong.
+/// Runs the commands on files of the course that stop after so many calls, and goes on with what
+/// they leave: how many commands were answered before the stop, and how many are found after it, or
+/// none where those aren't the ones that were answered, or one more.
 fn stopped(
     alloc: Global,
     way: &Way<'_>,
@@ -60,20 +65,12 @@ fn stopped(
 ) -> Result<(Option<usize>, Option<usize>), Failure> {
     let disks = stop.disks(alloc, way.begin.as_slice(), calls)?;
     let Run { files, reached, .. } = run_on(alloc, way, disks);
-    let (found, ends) = stop.go_on(alloc, way, files)?;
-    if ends {
-        Ok((reached, found_after(reached, found)))
-    } else {
-        Ok((reached, None))
-    }
-}
-
-/// How many commands are found, where they are those that were answered, or one more.
-fn found_after(answered: Option<usize>, found: Found) -> Option<usize> {
-    match (answered, found) {
-        (Some(answered), Found::After(count))
-            if count == answered || count == answered.saturating_add(1) => { Some(count) }
-        _ => None,
+    match (reached, stop.go_on(alloc, way, files)?) {
+        (Some(answered), (Found::After(count), true))
+            if count == answered || count == answered.saturating_add(1) => {
+            Ok((reached, Some(count)))
+        }
+        _ => Ok((reached, None)),
     }
 }
 
@@ -81,9 +78,9 @@ impl Stop {
     /// Files with these tables, one of which stops after so many calls.
     fn disks(self, alloc: Global, tables: &[u8], calls: u64) -> Result<Disks, Failure> {
         if self.is_log {
-            disks_with(alloc, tables, calls, u64::MAX)
+            disks(alloc, tables, calls, u64::MAX)
         } else {
-            disks_with(alloc, tables, u64::MAX, calls)
+            disks(alloc, tables, u64::MAX, calls)
         }
     }
 

@@ -1,24 +1,29 @@
 //! Cases of a store: its calls.
 
-use crate::changes::{change_of, number};
+use crate::answers::{Answering, answer_lines};
+use crate::asks::command_of;
+use crate::cases::Case;
+use crate::changes::change_of;
 use crate::dues;
 use crate::failure::Failure;
-use crate::lists::{entries, facts, facts_for, requests, stays, tell_rows};
-use desk_core::Change;
+use crate::lists::{tell_facts, tell_rows};
+use crate::queries::ask_database;
+use crate::words::number;
+use desk_core::{Change, Command, RequestRow};
 use desk_model::stays::stays_after;
 use hours_core::Stay;
 use sqlite::{Connection, MemStore};
 use std::alloc::Global;
 use store_core::{Backend, Store, StoreFault};
-use text_core::Sequence;
+use text_core::{Sequence, Text};
 
-/// Answers each call of a store over the tables.
-pub(crate) fn run_case(rt: &HostRuntime, statements: &str, calls: &str) -> Result<(), Failure> {
-    let mut store = opened(rt.alloc(), statements)?;
-    for line in calls.lines() {
-        answer(rt, &mut store, line)?;
-    }
-    Ok(())
+/// Answers each call of a store over the tables. Then the queries are asked of them.
+pub(crate) fn run_case(alloc: Global, out: &mut String, case: &Case<'_>) -> Result<(), Failure> {
+    let mut store = opened(alloc, case.text("tables"))?;
+    let answered = answer_lines(alloc, out, &mut store, case.text("store"));
+    let asked = ask_database(out, store.release(), case.text("query"));
+    answered?;
+    asked
 }
 
 /// A store without tables, or with those that the statements make.
@@ -39,50 +44,84 @@ pub(crate) fn adopted(alloc: Global, statements: &str) -> Result<Store<MemStore>
     Ok(Store::adopt(conn))
 }
 
-/// Writes a call with its answer.
-fn answer<S: Backend>(rt: &HostRuntime, store: &mut Store<S>, line: &str) -> Result<(), Failure> {
-    let (call, rest) = line.split_once(' ').unwrap_or((line, ""));
-    match call {
-        "queues" => tell_rows(rt, line, store.queues(rt.alloc())),
-        "requests" => requests(rt, line, store, rest),
-        "watchers" => tell_rows(rt, line, store.watchers(rt.alloc())),
-        "links" => tell_rows(rt, line, store.links(rt.alloc())),
-        "entries" => entries(rt, line, store, rest),
-        "stays" => stays(rt, line, store, rest),
-        "dues" => tell_rows(rt, line, store.dated_requests(rt.alloc())),
-        _ => answer_on_some(rt, store, line, call, rest),
+impl<S: Backend> Answering for Store<S> {
+    fn answer(&mut self, alloc: Global, out: &mut String, line: &str) -> Result<(), Failure> {
+        let (call, rest) = line.split_once(' ').unwrap_or((line, ""));
+        match call {
+            "queues" => tell_rows(out, line, self.queues(alloc)),
+            "requests" => tell_rows(out, line, requests(alloc, self, rest)?),
+            "watchers" => tell_rows(out, line, self.watchers(alloc)),
+            "links" => tell_rows(out, line, self.links(alloc)),
+            "entries" => tell_rows(out, line, self.entries_of(alloc, number(rest)?)),
+            "stays" => tell_rows(out, line, self.stays_of(alloc, number(rest)?)),
+            "dues" => tell_rows(out, line, self.dated_requests(alloc)),
+            "links_from" => tell_rows(out, line, self.links_from(alloc, number(rest)?)),
+            "links_to" => tell_rows(out, line, self.links_to(alloc, number(rest)?)),
+            "facts" => facts(alloc, out, line, self, rest),
+            "facts_for" => tell_facts(alloc, out, line, self, &command_of(alloc, rest)?),
+            "version" => version(out, line, self),
+            _ => tell_written(alloc, out, line, self),
+        }
     }
 }
 
-/// Writes a call that reads some rows, with its answer.
-fn answer_on_some<S: Backend>(
-    rt: &HostRuntime,
-    store: &mut Store<S>,
-    line: &str,
-    call: &str,
-    rest: &str,
-) -> Result<(), Failure> {
-    match call {
-        "version" => version(rt, line, store),
-        "links_from" => tell_rows(rt, line, store.links_from(rt.alloc(), number(rest)?)),
-        "links_to" => tell_rows(rt, line, store.links_to(rt.alloc(), number(rest)?)),
-        "facts" => facts(rt, line, store, rest),
-        "facts_for" => facts_for(rt, line, store, rest),
-        _ => tell(rt, line, written(rt.alloc(), store, call, rest)?),
-    }
-}
-
-/// What comes of a call that writes.
-fn written<S: Backend>(
+/// The requests, or those of a queue.
+fn requests<S: Backend>(
     alloc: Global,
     store: &mut Store<S>,
-    call: &str,
-    rest: &str,
-) -> Result<Result<(), StoreFault>, Failure> {
-    match call {
-        "create" => Ok(store.create_schema(alloc)),
-        "set_dues" => dues::set(alloc, store, rest),
-        _ => applied(alloc, store, call, rest),
+    queue: &str,
+) -> Result<Result<Vec<RequestRow>, StoreFault>, Failure> {
+    if queue.is_empty() {
+        return Ok(store.requests(alloc));
+    }
+    let queue = Text::new(alloc, queue)?;
+    Ok(store.requests_of(alloc, &queue))
+}
+
+/// What a move of a request to `resolved` looks at.
+fn facts<S: Backend>(
+    alloc: Global,
+    out: &mut String,
+    line: &str,
+    store: &mut Store<S>,
+    id: &str,
+) -> Result<(), Failure> {
+    let command = Command::SetStatus {
+        id: number(id)?,
+        status: Text::new(alloc, "resolved")?,
+    };
+    tell_facts(alloc, out, line, store, &command)
+}
+
+fn version<S: Backend>(out: &mut String, line: &str, store: &mut Store<S>) -> Result<(), Failure> {
+    match store.version() {
+        Ok(version) => {
+            writeln!(out, "{line}: {version}")?;
+            Ok(())
+        }
+        Err(fault) => tell_fault(out, line, fault),
+    }
+}
+
+/// Makes a call that writes, and tells whether it was done.
+fn tell_written<S: Backend>(
+    alloc: Global,
+    out: &mut String,
+    line: &str,
+    store: &mut Store<S>,
+) -> Result<(), Failure> {
+    let (call, rest) = line.split_once(' ').unwrap_or((line, ""));
+    let done = match call {
+        "create" => store.create_schema(alloc),
+        "set_dues" => dues::set(alloc, store, rest)?,
+        _ => applied(alloc, store, call, rest)?,
+    };
+    match done {
+        Ok(()) => {
+            writeln!(out, "{line}: ok")?;
+            Ok(())
+        }
+        Err(fault) => tell_fault(out, line, fault),
     }
 }
 
@@ -113,7 +152,8 @@ fn apply_with<S: Backend>(
     done
 }
 
-/// The stays of the request that the change's first entry is about, with those that the entries begin.
+/// The stays of the request that the change's first entry is about, with those that the entries
+/// begin.
 fn stays_with<S: Backend>(
     alloc: Global,
     store: &mut Store<S>,
@@ -127,29 +167,8 @@ fn stays_with<S: Backend>(
     Ok(Sequence::from(stays_after(before, entries)?))
 }
 
-fn version<S: Backend>(rt: &HostRuntime, line: &str, store: &mut Store<S>) -> Result<(), Failure> {
-    match store.version() {
-        Ok(version) => {
-            println!(rt; "{line}: {version}")?;
-            Ok(())
-        }
-        Err(fault) => tell(rt, line, Err(fault)),
-    }
-}
-
-/// Writes a call, and whether it was done.
-pub(crate) fn tell(
-    rt: &HostRuntime,
-    line: &str,
-    done: Result<(), StoreFault>,
-) -> Result<(), Failure> {
-    match done {
-        Ok(()) => println!(rt; "{line}: ok")?,
-        Err(fault) => {
-            let number = fault.number();
-            let name = fault.name();
-            println!(rt; "{line}: {number} {name}")?;
-        }
-    }
+/// Writes a call with its fault.
+pub(crate) fn tell_fault(out: &mut String, line: &str, fault: StoreFault) -> Result<(), Failure> {
+    writeln!(out, "{line}: {} {}", fault.number(), fault.name())?;
     Ok(())
 }

@@ -1,12 +1,41 @@
 //! Readers and writers that do less than they could.
+
+use std::alloc::Global;
 use std::io::{Error, ErrorKind, Read, Result, Write};
 
-/// A reader that gives one byte at a time, and fails after a number of reads, if told to.
+/// A reader that gives one byte at a time. It may fail after a number of reads, or never end: then
+/// other bytes come after its own.
 #[derive(Drop)]
 pub(crate) struct Slow<'b> {
     pub(crate) bytes: &'b [u8],
     pub(crate) reads: u32,
-    pub(crate) fails_at: Option<u32>,
+    fails_at: Option<u32>,
+    ends: bool,
+}
+
+impl<'b> Slow<'b> {
+    pub(crate) fn over(bytes: &'b [u8]) -> Slow<'b> {
+        Slow {
+            bytes,
+            reads: 0,
+            fails_at: None,
+            ends: true,
+        }
+    }
+
+    pub(crate) fn failing(bytes: &'b [u8], reads: u32) -> Slow<'b> {
+        Slow {
+            fails_at: Some(reads),
+            ..Slow::over(bytes)
+        }
+    }
+
+    pub(crate) fn endless(bytes: &'b [u8]) -> Slow<'b> {
+        Slow {
+            ends: false,
+            ..Slow::over(bytes)
+        }
+    }
 }
 
 impl Read for Slow<'_> {
@@ -16,28 +45,6 @@ impl Read for Slow<'_> {
         if fails {
             return Err(Error::from(ErrorKind::BrokenPipe));
         }
-        let Some((first, rest)) = self.bytes.split_first() else {
-            return Ok(0);
-        };
-        if buf.is_empty() {
-            return Ok(0);
-        }
-        buf[0] = *first;
-        self.bytes = rest;
-        Ok(1)
-    }
-}
-
-/// A reader that gives one byte at a time, and never ends: after its bytes come others.
-#[derive(Drop)]
-pub(crate) struct Endless<'b> {
-    pub(crate) bytes: &'b [u8],
-    pub(crate) reads: u32,
-}
-
-impl Read for Endless<'_> {
-    fn read(&mut self, buf: &mut [u8]) -> Result<usize> {
-        self.reads = self.reads.saturating_add(1);
         if buf.is_empty() {
             return Ok(0);
         }
@@ -46,6 +53,7 @@ impl Read for Endless<'_> {
                 buf[0] = *first;
                 self.bytes = rest;
             }
+            None if self.ends => return Ok(0),
             None => buf[0] = b'#',
         }
         Ok(1)
@@ -57,9 +65,21 @@ impl Read for Endless<'_> {
 #[derive(Drop)]
 pub(crate) struct Faltering {
     pub(crate) taken: Vec<u8>,
-    pub(crate) falters_at: u32,
-    pub(crate) fails: bool,
     pub(crate) writes: u32,
+    falters_at: u32,
+    fails: bool,
+}
+
+impl Faltering {
+    /// One that falters after so many writes.
+    pub(crate) fn after(alloc: Global, falters_at: u32, fails: bool) -> Faltering {
+        Faltering {
+            taken: Vec::new(alloc),
+            writes: 0,
+            falters_at,
+            fails,
+        }
+    }
 }
 
 impl Write for Faltering {
@@ -71,13 +91,8 @@ impl Write for Faltering {
                 self.taken.push(*byte)?;
                 Ok(1)
             }
-            _ => {
-                if self.fails {
-                    Err(Error::from(ErrorKind::BrokenPipe))
-                } else {
-                    Ok(0)
-                }
-            }
+            _ if self.fails => Err(Error::from(ErrorKind::BrokenPipe)),
+            _ => Ok(0),
         }
     }
 

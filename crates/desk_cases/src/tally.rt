@@ -3,18 +3,15 @@
 //! What owns much is given back by `drop`, whose proof stands once; at the end of its scope it
 //! would be taken apart for each function's own proof.
 
-use crate::ASKED;
 use crate::calls::{Outcome, Reply, execute_all, serve_all};
-use crate::changes::number;
+use crate::cases::Case;
 use crate::desks::attached;
 use crate::failure::Failure;
 use crate::lots::{Drawn, Urn, draw, urn_of};
+use crate::words::Words;
 use service_core::outcome_text;
 use std::alloc::{AllocError, Global};
 use wire_core::ServeFault;
-
-/// What stands between settings and the lines of which lists are made.
-pub(crate) const LOTS: &str = "@@\n";
 
 /// What came of all commands.
 #[derive(Drop)]
@@ -33,13 +30,12 @@ struct Tally {
 /// new desk at once, and of another new desk by messages. It is written how often each line was
 /// accepted, how often each refusal came, how many replies had another text, and how many texts and
 /// replies found no memory.
-pub(crate) fn run_case(rt: &HostRuntime, case: &str, counts: &str) -> Result<(), Failure> {
-    let (_, asked) = case.split_once(ASKED).ok_or(Failure::BadLine)?;
-    let (settings, lines) = asked.split_once(LOTS).ok_or(Failure::BadLine)?;
-    let (lists, count) = counts.trim_end().split_once(' ').ok_or(Failure::BadLine)?;
-    let urn = urn_of(rt.alloc(), lines)?;
-    let tally = counted(rt.alloc(), settings, &urn, number(lists)?, number(count)?)?;
-    tell(rt, &urn, &tally)
+pub(crate) fn run_case(alloc: Global, out: &mut String, case: &Case<'_>) -> Result<(), Failure> {
+    let mut lists = Words::of(case.text("lists").trim_end());
+    let urn = urn_of(alloc, case.text("lots"))?;
+    let (lists, count) = (lists.count()?, lists.count()?);
+    let tally = counted(alloc, case.text("settings"), &urn, lists, count)?;
+    Ok(tell(out, &urn, &tally)?)
 }
 
 fn counted(
@@ -50,7 +46,7 @@ fn counted(
     count: u32,
 ) -> Result<Tally, Failure> {
     let mut tally = Tally {
-        accepted: zeros(alloc, urn.lines.len())?,
+        accepted: vec![in alloc; 0u32; urn.lines.len()]?,
         refused: [0u32; 17],
         differ: 0,
         lacking: 0,
@@ -64,14 +60,6 @@ fn counted(
     Ok(tally)
 }
 
-fn zeros(alloc: Global, count: usize) -> Result<Vec<u32>, AllocError> {
-    let mut numbers = Vec::new(alloc);
-    for _ in 0..count {
-        numbers.push(0u32)?;
-    }
-    Ok(numbers)
-}
-
 fn count_list(
     alloc: Global,
     settings: &str,
@@ -81,8 +69,13 @@ fn count_list(
     let outcomes = outcomes_of(alloc, settings, list)?;
     let replies = replies_to(alloc, settings, list)?;
     for (i, outcome) in outcomes.iter().enumerate() {
-        let place = list.places.get(i).copied().unwrap_or(usize::MAX);
-        count_outcome(tally, place, outcome);
+        match outcome {
+            Ok(_) => {
+                let place = list.places.get(i).copied().unwrap_or(usize::MAX);
+                raise(tally.accepted.as_mut_slice(), place);
+            }
+            Err(refusal) => raise(&mut tally.refused, usize::from(refusal.number())),
+        }
         count_reply(alloc, tally, outcome, replies.get(i));
     }
     Ok(())
@@ -104,29 +97,19 @@ fn replies_to(alloc: Global, settings: &str, list: &Drawn) -> Result<Vec<Reply>,
     Ok(replies?)
 }
 
-fn count_outcome(tally: &mut Tally, place: usize, outcome: &Outcome) {
-    match outcome {
-        Ok(_) => raise(tally.accepted.as_mut_slice(), place),
-        Err(refusal) => raise(&mut tally.refused, usize::from(refusal.number())),
-    }
-}
-
 fn count_reply(alloc: Global, tally: &mut Tally, outcome: &Outcome, reply: Option<&Reply>) {
     match is_reply(alloc, outcome, reply) {
         Ok(true) => (),
         Ok(false) => tally.differ = tally.differ.saturating_add(1),
         Err(_) => tally.lacking = tally.lacking.saturating_add(1),
     }
-    if lacks_memory(reply) {
-        tally.lacking = tally.lacking.saturating_add(1);
-    }
-}
-
-fn lacks_memory(reply: Option<&Reply>) -> bool {
-    match reply {
+    let lacks = match reply {
         Some(Ok(bytes)) => bytes.as_slice().starts_with(b"HTTP/1.1 503"),
         Some(Err(ServeFault::NoMemory)) => true,
         _ => false,
+    };
+    if lacks {
+        tally.lacking = tally.lacking.saturating_add(1);
     }
 }
 
@@ -147,20 +130,14 @@ fn is_reply(alloc: Global, outcome: &Outcome, reply: Option<&Reply>) -> Result<b
     })
 }
 
-fn tell(rt: &HostRuntime, urn: &Urn<'_>, tally: &Tally) -> Result<(), Failure> {
+fn tell(out: &mut String, urn: &Urn<'_>, tally: &Tally) -> Result<(), AllocError> {
     for (line, count) in urn.lines.iter().zip(tally.accepted.iter()) {
-        tell_accepted(rt, line, *count)?;
+        let (words, _) = line.split_once('|').unwrap_or((*line, ""));
+        writeln!(out, "accepted {}: {words}", *count)?;
     }
     for (number, count) in tally.refused.iter().enumerate().skip(1) {
-        println!(rt; "refused {number}: {}", *count)?;
+        writeln!(out, "refused {number}: {}", *count)?;
     }
-    println!(rt; "replies with another text: {}", tally.differ)?;
-    println!(rt; "texts and replies without memory: {}", tally.lacking)?;
-    Ok(())
-}
-
-fn tell_accepted(rt: &HostRuntime, line: &str, count: u32) -> Result<(), Failure> {
-    let (words, _) = line.split_once('|').unwrap_or((line, ""));
-    println!(rt; "accepted {count}: {words}")?;
-    Ok(())
+    writeln!(out, "replies with another text: {}", tally.differ)?;
+    writeln!(out, "texts and replies without memory: {}", tally.lacking)
 }

@@ -28,56 +28,49 @@ enum Tried {
 /// takes none. So many bytes of the list are to be written, and `Write` told. Tells where that is
 /// wrong, and how many bytes the list has.
 pub(crate) fn run(
-    rt: &HostRuntime,
+    alloc: Global,
+    out: &mut String,
     course: &Course<'_>,
     line: &str,
     fails: bool,
 ) -> Result<(), Failure> {
-    let mut desk = attached(rt.alloc(), course.statements, course.settings)?;
-    let tried = try_after(rt, course, &mut desk, line, fails);
+    let mut desk = attached(alloc, course.statements, course.settings)?;
+    let tried = try_after(alloc, out, course, &mut desk, line, fails);
     drop(desk);
     tried
 }
 
 fn try_after<S: Backend>(
-    rt: &HostRuntime,
+    alloc: Global,
+    out: &mut String,
     course: &Course<'_>,
     desk: &mut Desk<S>,
     line: &str,
     fails: bool,
 ) -> Result<(), Failure> {
     for ask in course.asks.iter() {
-        drop(outcome(rt.alloc(), desk, ask)?);
+        drop(outcome(alloc, desk, ask)?);
     }
-    let ask = ask_of(rt.alloc(), line)?;
-    try_list(rt, desk, &ask, fails)
-}
-
-fn try_list<S: Backend>(
-    rt: &HostRuntime,
-    desk: &mut Desk<S>,
-    ask: &Ask,
-    fails: bool,
-) -> Result<(), Failure> {
-    let whole = outcome(rt.alloc(), desk, ask)?;
-    try_each(rt, desk, ask, whole.as_bytes(), fails)
+    let ask = ask_of(alloc, line)?;
+    try_each(alloc, out, desk, &ask, fails)
 }
 
 fn try_each<S: Backend>(
-    rt: &HostRuntime,
+    alloc: Global,
+    out: &mut String,
     desk: &mut Desk<S>,
     ask: &Ask,
-    whole: &[u8],
     fails: bool,
 ) -> Result<(), Failure> {
+    let whole = outcome(alloc, desk, ask)?;
     for count in 0..MOST {
-        match try_once(rt.alloc(), desk, ask, whole, count, fails) {
+        match try_once(alloc, desk, ask, whole.as_bytes(), count, fails) {
             Tried::Whole => {
-                println!(rt; "  written whole by {count} writes")?;
+                writeln!(out, "  written whole by {count} writes")?;
                 return Ok(());
             }
             Tried::Cut => {}
-            Tried::Wrong => println!(rt; "  wrong after {count} writes")?,
+            Tried::Wrong => writeln!(out, "  wrong after {count} writes")?,
         }
     }
     Err(Failure::BadLine)
@@ -92,22 +85,13 @@ fn try_once<S: Backend>(
     count: u32,
     fails: bool,
 ) -> Tried {
-    let mut writer = Faltering {
-        taken: Vec::new(alloc),
-        falters_at: count,
-        fails,
-        writes: 0,
-    };
+    let mut writer = Faltering::after(alloc, count, fails);
     let ended = desk.stream(alloc, ask.0, ask.1.as_str(), &ask.2, &mut writer);
     let taken = writer.taken.as_slice();
+    let is_cut = taken.len() == count as usize && whole.starts_with(taken);
     match ended {
         Ok(()) if taken == whole => Tried::Whole,
-        Err(StreamFault::Write) if is_cut(taken, whole, count) => Tried::Cut,
+        Err(StreamFault::Write) if is_cut => Tried::Cut,
         _ => Tried::Wrong,
     }
-}
-
-/// Whether these are so many bytes of the whole.
-fn is_cut(taken: &[u8], whole: &[u8], count: u32) -> bool {
-    taken.len() == count as usize && whole.starts_with(taken)
 }

@@ -1,7 +1,6 @@
 //! Calls: each line is a call with its arguments, and is written again with the answer.
 //!
-//! The first word names the call; the words after it are read as those of a command. An empty line,
-//! or one that begins with `#`, is written as it stands.
+//! The first word names the call; the words after it are read as those of a command.
 //!
 //! What owns much is given back by `drop`, whose proof stands once; at the end of its scope it
 //! would be taken apart for each function's own proof.
@@ -10,52 +9,41 @@ mod forms;
 mod lifecycles;
 mod words;
 
+use crate::answers::{Answering, answer_lines};
+use crate::failure::Failure;
 use crate::leaves::calls::forms::form_answer;
 use crate::leaves::calls::lifecycles::lifecycle_answer;
-use crate::leaves::calls::words::{command_answer, words_answer};
+use crate::leaves::calls::words::{
+    command_answer, one_command_answer, serving_answer, words_answer,
+};
 use desk_words::words_of;
 use lifecycle_core::Lifecycle;
 use std::alloc::{AllocError, Global};
-use std::io;
 
-/// Writes each line with its answer.
-pub fn run(rt: &HostRuntime, cases: &str) -> io::Result<()> {
-    let mut lifecycle = None;
-    let written = write_answers(rt, cases, &mut lifecycle);
-    drop(lifecycle);
-    written
+/// Adds each line with its answer.
+pub(crate) fn run_case(alloc: Global, out: &mut String, lines: &str) -> Result<(), Failure> {
+    let mut asked = Asked { lifecycle: None };
+    let answered = answer_lines(alloc, out, &mut asked, lines);
+    drop(asked);
+    answered
 }
 
-fn write_answers(
-    rt: &HostRuntime,
-    cases: &str,
-    lifecycle: &mut Option<Lifecycle>,
-) -> io::Result<()> {
-    for line in cases.lines() {
-        write_answer(rt, line, lifecycle)?;
-    }
-    Ok(())
+/// The lifecycle that was built last, which questions are about.
+#[derive(Drop)]
+struct Asked {
+    lifecycle: Option<Lifecycle>,
 }
 
-fn write_answer(rt: &HostRuntime, line: &str, lifecycle: &mut Option<Lifecycle>) -> io::Result<()> {
-    if line.is_empty() || line.starts_with('#') {
-        return println!(rt; "{line}");
-    }
-    let answer = answer_to(rt.alloc(), lifecycle, line)?;
-    println!(rt; "{line} => {answer}")
-}
-
-/// The answer to a line. Questions about a lifecycle are about the one that was built last.
-fn answer_to(
-    alloc: Global,
-    lifecycle: &mut Option<Lifecycle>,
-    line: &str,
-) -> Result<String, AllocError> {
-    let (call, rest) = line.split_once(' ').unwrap_or((line, ""));
-    match call {
-        "words" => words_answer(alloc, rest),
-        "command" => command_answer(alloc, rest),
-        _ => called(alloc, lifecycle, call, rest),
+impl Answering for Asked {
+    fn answer(&mut self, alloc: Global, out: &mut String, line: &str) -> Result<(), Failure> {
+        let (call, rest) = line.split_once(' ').unwrap_or((line, ""));
+        let answer = match call {
+            "words" => words_answer(alloc, rest)?,
+            "command" => command_answer(alloc, rest)?,
+            _ => called(alloc, &mut self.lifecycle, call, rest)?,
+        };
+        writeln!(out, "{line} => {}", answer.as_str())?;
+        Ok(())
     }
 }
 
@@ -69,6 +57,11 @@ fn called(
     let Ok(words) = words_of(alloc, rest) else {
         return String::from_str(alloc, "bad quotes");
     };
+    match call {
+        "serving" => return serving_answer(alloc, words.as_slice()),
+        "one_command" => return one_command_answer(alloc, words.as_slice()),
+        _ => (),
+    }
     match form_answer(alloc, call, words.as_slice())? {
         Some(answer) => Ok(answer),
         None => lifecycle_answer(alloc, lifecycle, call, words.as_slice()),

@@ -3,55 +3,49 @@
 //! The lines `zone`, `rule`, `week`, `holidays` and `years` give the parts of a calendar, where a
 //! rule stands in place of a zone, and `build` makes it, which the calls after it are asked of. The
 //! line `ignore` gives the statuses that the level of the calls ignores; `stay` and `stays` add
-//! stays, and `no_stays` takes all of them away. An empty line and one that begins with `#` are no
-//! calls. A line that isn't understood ends all.
+//! stays, and `no_stays` takes all of them away. A line that isn't understood ends all.
 //!
 //! What owns much is given back by `drop`, whose proof stands once; at the end of its scope it
 //! would be taken apart for each function's own proof.
 
 mod asked;
+mod limits;
 mod parts;
+mod spans;
 
+use crate::answers::{Answering, answer_lines};
 use crate::failure::Failure;
 use crate::leaves::hours::asked::answer;
 use crate::leaves::hours::parts::Parts;
 use hours_core::Calendar;
+use std::alloc::Global;
 
-/// Writes each call with its answer.
-pub fn run(rt: &HostRuntime, cases: &str) -> Result<(), Failure> {
-    let mut parts = Parts::new(rt.alloc())?;
-    let mut calendar = None;
-    let written = write_answers(rt, cases, &mut parts, &mut calendar);
-    drop(calendar);
-    drop(parts);
-    written
+/// Adds each call with its answer.
+pub(crate) fn run_case(alloc: Global, out: &mut String, lines: &str) -> Result<(), Failure> {
+    let mut asked = Calendars {
+        parts: Parts::new(alloc)?,
+        calendar: None,
+    };
+    let answered = answer_lines(alloc, out, &mut asked, lines);
+    drop(asked);
+    answered
 }
 
-fn write_answers(
-    rt: &HostRuntime,
-    cases: &str,
-    parts: &mut Parts,
-    calendar: &mut Option<Calendar>,
-) -> Result<(), Failure> {
-    for line in cases.lines() {
-        write_answer(rt, line, parts, calendar)?;
-    }
-    Ok(())
+/// The parts so far, and the calendar that was built last.
+#[derive(Drop)]
+struct Calendars {
+    parts: Parts,
+    calendar: Option<Calendar>,
 }
 
-/// Takes a line that gives a part or builds the calendar, and writes any other with its answer.
-fn write_answer(
-    rt: &HostRuntime,
-    line: &str,
-    parts: &mut Parts,
-    calendar: &mut Option<Calendar>,
-) -> Result<(), Failure> {
-    if line.is_empty() || line.starts_with('#') {
-        println!(rt; "{line}")?;
-    } else if line == "build" {
-        *calendar = parts.build(rt)?;
-    } else if !parts.take(rt.alloc(), line)? {
-        answer(rt, parts, calendar.as_ref(), line)?;
+impl Answering for Calendars {
+    /// Takes a line that gives a part or builds the calendar, and adds any other with its answer.
+    fn answer(&mut self, alloc: Global, out: &mut String, line: &str) -> Result<(), Failure> {
+        if line == "build" {
+            self.calendar = self.parts.build(alloc, out)?;
+        } else if !self.parts.take(alloc, line)? {
+            answer(alloc, out, &self.parts, self.calendar.as_ref(), line)?;
+        }
+        Ok(())
     }
-    Ok(())
 }

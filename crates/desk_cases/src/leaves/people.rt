@@ -6,49 +6,42 @@
 
 mod parts;
 
+use crate::answers::{Answering, answer_lines};
 use crate::failure::Failure;
 use crate::leaves::people::parts::HouseParts;
 use crate::leaves::questions::ask_people;
 use rights_core::People;
+use std::alloc::Global;
 
-/// Writes each question with its answer.
-pub fn run(rt: &HostRuntime, cases: &str) -> Result<(), Failure> {
-    let mut parts = HouseParts::new(rt.alloc());
-    let mut people = None;
-    let written = write_answers(rt, cases, &mut parts, &mut people);
-    drop(people);
-    drop(parts);
-    written
+/// Adds each question with its answer.
+pub(crate) fn run_case(alloc: Global, out: &mut String, lines: &str) -> Result<(), Failure> {
+    let mut asked = Asked {
+        parts: HouseParts::new(alloc),
+        people: None,
+    };
+    let answered = answer_lines(alloc, out, &mut asked, lines);
+    drop(asked);
+    answered
 }
 
-fn write_answers(
-    rt: &HostRuntime,
-    cases: &str,
-    parts: &mut HouseParts,
-    people: &mut Option<People>,
-) -> Result<(), Failure> {
-    for line in cases.lines() {
-        write_answer(rt, line, parts, people)?;
-    }
-    Ok(())
+/// The parts so far, and the people that were built last.
+#[derive(Drop)]
+struct Asked {
+    parts: HouseParts,
+    people: Option<People>,
 }
 
-/// Takes a line that gives a part or builds the people, and writes any other with its answer.
-fn write_answer(
-    rt: &HostRuntime,
-    line: &str,
-    parts: &mut HouseParts,
-    people: &mut Option<People>,
-) -> Result<(), Failure> {
-    if line.is_empty() || line.starts_with('#') {
-        println!(rt; "{line}")?;
-    } else if line == "build" {
-        *people = parts.build(rt)?;
-    } else if !parts.take(rt.alloc(), line)? {
-        match people {
-            Some(people) => ask_people(rt, people, line)?,
-            None => return Err(Failure::BadLine),
+impl Answering for Asked {
+    /// Takes a line that gives a part or builds the people, and adds any other with its answer.
+    fn answer(&mut self, alloc: Global, out: &mut String, line: &str) -> Result<(), Failure> {
+        if line == "build" {
+            self.people = self.parts.build(alloc, out)?;
+        } else if !self.parts.take(alloc, line)? {
+            match &self.people {
+                Some(people) => ask_people(alloc, out, people, line)?,
+                None => return Err(Failure::BadLine),
+            }
         }
+        Ok(())
     }
-    Ok(())
 }

@@ -1,6 +1,7 @@
 //! Calls on lifecycles.
 
-use crate::leaves::calls::forms::{texts_of, yes_or_no};
+use crate::leaves::calls::forms::yes_or_no;
+use crate::words::texts_of;
 use lifecycle_core::{Class, Lifecycle, LifecycleFault, Move, MoveRight, Parts};
 use std::alloc::{AllocError, Global};
 use text_core::{Sequence, Text, Texts};
@@ -18,8 +19,8 @@ pub(crate) fn lifecycle_answer(
 ) -> Result<String, AllocError> {
     match (call, words) {
         ("default", []) => keep(alloc, lifecycle, Lifecycle::default_lifecycle(alloc)),
-        ("lifecycle", _) => match parts_of(alloc, words)? {
-            Some(parts) => keep(alloc, lifecycle, Lifecycle::build(alloc, &parts)),
+        ("lifecycle", _) => match words.as_array() {
+            Some(words) => keep(alloc, lifecycle, built(alloc, words)?),
             None => String::from_str(alloc, "no parts"),
         },
         _ => match lifecycle {
@@ -50,27 +51,18 @@ fn keep(
 
 /// What the lifecycle answers.
 fn asked<'l>(lifecycle: &'l Lifecycle, call: &str, words: &[String]) -> &'l str {
-    match words {
-        [] if call == "on_create" => lifecycle.on_create(),
-        [status] => asked_of(lifecycle, call, status.as_str()),
-        [from, to] => asked_between(lifecycle, call, from.as_str(), to.as_str()),
-        _ => NO_CALL,
-    }
-}
-
-fn asked_of<'l>(lifecycle: &'l Lifecycle, call: &str, status: &str) -> &'l str {
-    match call {
-        "class" => class_name(lifecycle.class(status)),
-        "creates" => yes_or_no(lifecycle.may_create(status)),
-        "reopens" => lifecycle.reopen_to(status).unwrap_or("none"),
-        _ => NO_CALL,
-    }
-}
-
-fn asked_between<'l>(lifecycle: &'l Lifecycle, call: &str, from: &str, to: &str) -> &'l str {
-    match call {
-        "moves" => yes_or_no(lifecycle.may_move(from, to)),
-        "right_for" => lifecycle.right_for(from, to),
+    let (status, to) = match words {
+        [] => ("", ""),
+        [status] => (status.as_str(), ""),
+        [status, to, ..] => (status.as_str(), to.as_str()),
+    };
+    match (call, words.len()) {
+        ("on_create", 0) => lifecycle.on_create(),
+        ("class", 1) => class_name(lifecycle.class(status)),
+        ("creates", 1) => yes_or_no(lifecycle.may_create(status)),
+        ("reopens", 1) => lifecycle.reopen_to(status).unwrap_or("none"),
+        ("moves", 2) => yes_or_no(lifecycle.may_move(status, to)),
+        ("right_for", 2) => lifecycle.right_for(status, to),
         _ => NO_CALL,
     }
 }
@@ -84,16 +76,16 @@ fn class_name(class: Option<Class>) -> &'static str {
     }
 }
 
-/// The parts that seven words spell: the initial, active and inactive statuses, the status on
-/// create, those for creation, the moves, each as `new>open`, and the rights, each as
+/// The lifecycle of seven words: the initial, active and inactive statuses, the status on create,
+/// those for creation, the moves, each as `new>open`, and the rights, each as
 /// `new>open:ModifyTicket`.
-fn parts_of(alloc: Global, words: &[String]) -> Result<Option<Parts>, AllocError> {
-    let Some(words) = words.as_array() else {
-        return Ok(None);
-    };
+fn built(
+    alloc: Global,
+    words: &[String; 7],
+) -> Result<Result<Lifecycle, LifecycleFault>, AllocError> {
     let mut parts = no_parts(alloc);
     fill(alloc, words, &mut parts)?;
-    Ok(Some(parts))
+    Ok(Lifecycle::build(alloc, &parts))
 }
 
 fn no_parts(alloc: Global) -> Parts {

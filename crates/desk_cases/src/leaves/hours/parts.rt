@@ -1,14 +1,17 @@
 //! The parts of a calendar, gathered from the lines of a case.
 
 use crate::failure::Failure;
-use crate::leaves::spelling::{halves, minute_of_day, moment, number};
+use crate::words::{Words, texts_of, whole};
 use hours_core::{Calendar, HoursFault, Intervals, Level, Minute, Stay, Zone};
 use std::alloc::{AllocError, Global};
 use text_core::{Text, Texts};
 
+/// A week without intervals.
+const CLOSED: &str = "- - - - - - -";
+
 /// The parts of a calendar, the statuses that a level ignores, and stays.
 #[derive(Drop)]
-pub struct Parts {
+pub(crate) struct Parts {
     first: i64,
     changes: Vec<(i64, i64)>,
     rule: Option<Text>,
@@ -17,26 +20,17 @@ pub struct Parts {
     holidays: Vec<u32>,
     years: (i64, i64),
     ignored: Texts,
-    stays: Vec<Stay>,
-}
-
-/// A week without intervals.
-fn closed(alloc: Global) -> Result<Vec<Intervals>, AllocError> {
-    let mut week = Vec::new(alloc);
-    for _ in 0..7 {
-        week.push(Intervals::from(Vec::new(alloc)))?;
-    }
-    Ok(week)
+    pub(crate) stays: Vec<Stay>,
 }
 
 impl Parts {
     /// UTC, no intervals, no holidays, the years that moments reach over, and no stays.
-    pub fn new(alloc: Global) -> Result<Parts, AllocError> {
+    pub(crate) fn new(alloc: Global) -> Result<Parts, Failure> {
         Ok(Parts {
             first: 0,
             changes: Vec::new(alloc),
             rule: None,
-            week: closed(alloc)?,
+            week: week(alloc, CLOSED)?,
             holidays: Vec::new(alloc),
             years: (2000, 2099),
             ignored: Texts::from(Vec::new(alloc)),
@@ -45,21 +39,18 @@ impl Parts {
     }
 
     /// Takes a line that gives one of the parts, and tells whether it was one.
-    pub fn take(&mut self, alloc: Global, line: &str) -> Result<bool, Failure> {
-        let (word, rest) = line.split_once(' ').unwrap_or((line, ""));
-        match word {
-            "zone" => self.take_zone(alloc, rest)?,
-            "rule" => self.rule = Some(Text::new(alloc, rest)?),
-            "week" => self.week = week(alloc, rest)?,
-            "holidays" => self.holidays = days(alloc, rest)?,
-            "ignore" => self.ignored = texts(alloc, rest)?,
-            "stay" => self.take_stay(alloc, rest)?,
-            "stays" => self.take_stays(alloc, rest)?,
+    pub(crate) fn take(&mut self, alloc: Global, line: &str) -> Result<bool, Failure> {
+        let mut words = Words::of(line);
+        match words.next() {
+            "zone" => self.take_zone(alloc, words)?,
+            "rule" => self.rule = Some(Text::new(alloc, words.rest)?),
+            "week" => self.week = week(alloc, words.rest)?,
+            "holidays" => self.holidays = days(alloc, words.rest)?,
+            "ignore" => self.ignored = texts_of(alloc, words.rest)?,
+            "stay" => self.take_stay(alloc, words)?,
+            "stays" => self.take_stays(alloc, words)?,
             "no_stays" => self.stays = Vec::new(alloc),
-            "years" => {
-                let (first, last) = halves(rest, ' ')?;
-                self.years = (number(first)?, number(last)?);
-            }
+            "years" => self.years = (words.whole()?, words.whole()?),
             _ => return Ok(false),
         }
         Ok(true)
@@ -67,12 +58,12 @@ impl Parts {
 
     /// Takes the first offset, and changes as `MINUTE:OFFSET`, or `FIRST..END:OFFSET` for one at
     /// each minute.
-    fn take_zone(&mut self, alloc: Global, rest: &str) -> Result<(), Failure> {
-        let (first, changes) = rest.split_once(' ').unwrap_or((rest, ""));
+    fn take_zone(&mut self, alloc: Global, words: Words<'_>) -> Result<(), Failure> {
+        let mut words = words;
         self.rule = None;
-        self.first = number(first)?;
+        self.first = words.whole()?;
         self.changes = Vec::new(alloc);
-        for change in changes.split(' ') {
+        for change in words.rest.split(' ') {
             if !change.is_empty() {
                 self.take_changes(change)?;
             }
@@ -81,8 +72,8 @@ impl Parts {
     }
 
     fn take_changes(&mut self, change: &str) -> Result<(), Failure> {
-        let (minutes, offset) = halves(change, ':')?;
-        let offset = number(offset)?;
+        let (minutes, offset) = change.split_once(':').ok_or(Failure::BadLine)?;
+        let offset = whole(offset)?;
         let (from, to) = range(minutes)?;
         for minute in from..=to {
             self.changes.push((minute, offset))?;
@@ -91,26 +82,25 @@ impl Parts {
     }
 
     /// Takes a stay, as `STATUS FROM UNTIL`, with `-` for no end.
-    fn take_stay(&mut self, alloc: Global, rest: &str) -> Result<(), Failure> {
-        let (status, rest) = halves(rest, ' ')?;
-        let (from, until) = halves(rest, ' ')?;
-        let until = match until {
+    fn take_stay(&mut self, alloc: Global, words: Words<'_>) -> Result<(), Failure> {
+        let mut words = words;
+        let status = words.next();
+        let from = words.moment()?;
+        let until = match words.rest {
             "-" => None,
-            until => Some(moment(until)?),
+            _ => Some(words.moment()?),
         };
-        self.put(alloc, status, moment(from)?, until)
+        self.put(alloc, status, from, until)
     }
 
     /// Takes so many stays, each of so many minutes and so many minutes after the one before, as
     /// `NUMBER STATUS FROM STEP MINUTES`.
-    fn take_stays(&mut self, alloc: Global, rest: &str) -> Result<(), Failure> {
-        let (stays, rest) = halves(rest, ' ')?;
-        let (status, rest) = halves(rest, ' ')?;
-        let (from, rest) = halves(rest, ' ')?;
-        let (step, minutes) = halves(rest, ' ')?;
-        let (step, minutes) = (number(step)?, number(minutes)?);
-        let mut from = number(from)?;
-        for _ in 0..number(stays)? {
+    fn take_stays(&mut self, alloc: Global, words: Words<'_>) -> Result<(), Failure> {
+        let mut words = words;
+        let (stays, status) = (words.count()?, words.next());
+        let mut from = words.whole()?;
+        let (step, minutes) = (words.whole()?, words.whole()?);
+        for _ in 0..stays {
             let until = minute(from.saturating_add(minutes))?;
             self.put(alloc, status, minute(from)?, Some(until))?;
             from = from.saturating_add(step);
@@ -134,13 +124,12 @@ impl Parts {
         Ok(())
     }
 
-    /// The stays.
-    pub fn stays(&self) -> &[Stay] {
-        self.stays.as_slice()
-    }
-
     /// A level that ignores the statuses, and begins at once or with the opening.
-    pub fn level(&self, alloc: Global, start_immediately: bool) -> Result<Level, AllocError> {
+    pub(crate) fn level(
+        &self,
+        alloc: Global,
+        start_immediately: bool,
+    ) -> Result<Level, AllocError> {
         Ok(Level {
             calendar: Text::new(alloc, "office")?,
             start_immediately,
@@ -152,15 +141,19 @@ impl Parts {
     }
 
     /// The calendar of the parts. Writes how many spans it has, or the fault.
-    pub fn build(&self, rt: &(impl AllocGlobal + Print)) -> Result<Option<Calendar>, Failure> {
+    pub(crate) fn build(
+        &self,
+        alloc: Global,
+        out: &mut String,
+    ) -> Result<Option<Calendar>, Failure> {
         let week = self.week.as_slice().as_array().ok_or(Failure::BadLine)?;
-        match self.calendar(rt.alloc(), week) {
+        match self.calendar(alloc, week) {
             Ok(calendar) => {
-                println!(rt; "build: {} spans", calendar.spans())?;
+                writeln!(out, "build: {} spans", calendar.spans())?;
                 Ok(Some(calendar))
             }
             Err(fault) => {
-                println!(rt; "build: {} {}", fault.number(), fault.name())?;
+                writeln!(out, "build: {} {}", fault.number(), fault.name())?;
                 Ok(None)
             }
         }
@@ -181,52 +174,38 @@ fn minute(number: i64) -> Result<Minute, Failure> {
     Minute::new(number).ok_or(Failure::BadLine)
 }
 
-/// The words.
-fn texts(alloc: Global, rest: &str) -> Result<Texts, Failure> {
-    let mut texts = Vec::new(alloc);
-    for word in rest.split(' ') {
-        if !word.is_empty() {
-            texts.push(Text::new(alloc, word)?)?;
-        }
-    }
-    Ok(Texts::from(texts))
-}
-
 /// The first and the last number of `FIRST..END`, or of a number alone.
 fn range(word: &str) -> Result<(i64, i64), Failure> {
     match word.split_once("..") {
-        Some((first, end)) => Ok((number(first)?, number(end)?.saturating_sub(1))),
-        None => {
-            let only = number(word)?;
-            Ok((only, only))
-        }
+        Some((first, end)) => Ok((whole(first)?, whole(end)?.saturating_sub(1))),
+        None => Ok((whole(word)?, whole(word)?)),
     }
 }
 
 /// The intervals of each day from Sunday on, as `540-720,780-1080`, or `-` for none.
-fn week(alloc: Global, rest: &str) -> Result<Vec<Intervals>, Failure> {
-    let mut week = closed(alloc)?;
-    for (day, word) in week.iter_mut().zip(rest.split(' ')) {
-        *day = intervals(alloc, word)?;
+fn week(alloc: Global, days: &str) -> Result<Vec<Intervals>, Failure> {
+    let mut week = Vec::new(alloc);
+    for day in days.split(' ') {
+        week.push(intervals(alloc, day)?)?;
     }
     Ok(week)
 }
 
-fn intervals(alloc: Global, word: &str) -> Result<Intervals, Failure> {
+fn intervals(alloc: Global, day: &str) -> Result<Intervals, Failure> {
     let mut intervals = Vec::new(alloc);
-    if word != "-" {
-        for interval in word.split(',') {
-            let (start, end) = halves(interval, '-')?;
-            intervals.push((minute_of_day(start)?, minute_of_day(end)?))?;
+    if day != "-" {
+        for interval in day.split(',') {
+            let (start, end) = interval.split_once('-').ok_or(Failure::BadLine)?;
+            intervals.push((start.parse::<u16>()?, end.parse::<u16>()?))?;
         }
     }
     Ok(Intervals::from(intervals))
 }
 
 /// Days, each as a number or as `FIRST..END`.
-fn days(alloc: Global, rest: &str) -> Result<Vec<u32>, Failure> {
+fn days(alloc: Global, words: &str) -> Result<Vec<u32>, Failure> {
     let mut days = Vec::new(alloc);
-    for word in rest.split(' ') {
+    for word in words.split(' ') {
         if !word.is_empty() {
             add_days(&mut days, word)?;
         }

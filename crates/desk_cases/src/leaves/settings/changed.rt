@@ -2,60 +2,59 @@
 
 use settings_core::{Settings, SettingsFault};
 use std::alloc::{AllocError, Global};
-use std::io;
 
 /// The bytes that take the place of one of a text: a quote, an opening bracket, an equals sign, a
 /// line feed, and one that no text in UTF-8 has.
 const OTHERS: [u8; 5] = [b'"', b'[', b'=', b'\n', 0xff];
 
-/// Answers a question about the text cut off or changed.
-pub fn ask(rt: &HostRuntime, text: &str, question: &str) -> io::Result<()> {
+/// Answers a question about the text cut off or changed: how many of the texts that are made of it
+/// are read as settings or have a fault, and how many there are.
+pub(crate) fn ask(
+    alloc: Global,
+    out: &mut String,
+    text: &str,
+    question: &str,
+) -> Result<(), AllocError> {
     if question == "cuts" {
-        let (read, all) = cuts(rt.alloc(), text.as_bytes());
-        println!(rt; "cuts: {read} of {all}")?;
+        let read = read_of(alloc, text.as_bytes(), None)?;
+        writeln!(out, "cuts: {read} of {}", text.len())?;
     }
     if question == "changes" {
         for byte in OTHERS {
-            let (read, all) = changes(rt.alloc(), text.as_bytes(), byte)?;
-            println!(rt; "changes to {byte}: {read} of {all}")?;
+            let read = read_of(alloc, text.as_bytes(), Some(byte))?;
+            writeln!(out, "changes to {byte}: {read} of {}", text.len())?;
         }
     }
     Ok(())
 }
 
-/// How many of the text's beginnings are read as settings or have a fault, and how many there are.
-fn cuts(alloc: Global, text: &[u8]) -> (usize, usize) {
+/// At how many places the text that is cut off there, or has that byte there, is read.
+fn read_of(alloc: Global, text: &[u8], byte: Option<u8>) -> Result<usize, AllocError> {
     let mut read = 0_usize;
-    let mut all = 0_usize;
-    for end in 0..text.len() {
-        all = all.saturating_add(1);
-        if is_read(alloc, text.get(..end).unwrap_or(text)) {
-            read = read.saturating_add(1);
-        }
-    }
-    (read, all)
-}
-
-/// How many of the texts with one byte changed are read as settings or have a fault, and how many
-/// there are.
-fn changes(alloc: Global, text: &[u8], byte: u8) -> Result<(usize, usize), AllocError> {
-    let mut read = 0_usize;
-    let mut all = 0_usize;
     for place in 0..text.len() {
-        all = all.saturating_add(1);
         let changed = changed(alloc, text, place, byte)?;
         if is_read(alloc, changed.as_slice()) {
             read = read.saturating_add(1);
         }
     }
-    Ok((read, all))
+    Ok(read)
 }
 
-/// The text with another byte at a place.
-fn changed(alloc: Global, text: &[u8], place: usize, byte: u8) -> Result<Vec<u8>, AllocError> {
+/// The text with another byte at a place, or cut off there.
+fn changed(
+    alloc: Global,
+    text: &[u8],
+    place: usize,
+    byte: Option<u8>,
+) -> Result<Vec<u8>, AllocError> {
     let mut changed = Vec::from_slice(alloc, text)?;
-    if let Some(old) = changed.get_mut(place) {
-        *old = byte;
+    match byte {
+        Some(byte) => {
+            if let Some(old) = changed.get_mut(place) {
+                *old = byte;
+            }
+        }
+        None => changed.truncate(place),
     }
     Ok(changed)
 }
