@@ -47,8 +47,6 @@ def run(case):
         raise LeftAlone("settings with a fault")
     if "streams" in case.parts:
         raise LeftAlone("streams that fail, and tables that are let go")
-    if "query" in case.parts:
-        raise LeftAlone("tables that are asked by SQL")
     if "script" in case.parts:
         return script_told(case.parts["script"])
     if "list" in case.parts:
@@ -116,7 +114,8 @@ def list_told(case):
     if "trials" in case.parts:
         return trials_told(case, desk, commands)
     told = f"attach: ok, room for {known.max_requests} requests\n"
-    return told + "".join(line_told(desk, line) for line in commands.splitlines())
+    told += "".join(line_told(desk, line) for line in commands.splitlines())
+    return told + tables.answered(desk, case.text("query"))
 
 
 def desk_over(case, known):

@@ -357,8 +357,7 @@ class Desk:
 
     def ls(self, call, name):
         queue = self.queue_of(name)
-        refuse_if("NotFound", name not in self.by_name)
-        refuse_if("NotFound", not self.sees_queue(call.caller, queue))
+        refuse_if("NotFound", name not in self.by_name or not self.sees_queue(call.caller, queue))
         return [Line(it, self.due(it)) for it in self.shown_to(call) if it.queue is queue]
 
     def shown_to(self, call):

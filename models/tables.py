@@ -1,4 +1,5 @@
-"""Tables that a case makes by SQL, read as a desk of the model."""
+"""Tables that a case makes or asks by SQL, and the desk of the model for which they stand, by
+docs/tables.md."""
 import sqlite3
 
 from hours import END, START
@@ -67,3 +68,50 @@ def put_parts(connection, desk):
         is_value(kind in range(1, 11) and actor is not None and number <= GREATEST)
         entry = Entry(number, moment, actor, ENTRIES[kind], head, body)
         desk.request_of(request).entries.append(entry)
+
+
+COLUMNS = {
+    "queue": "name, lifecycle, level",
+    "request": "id, queue, subject, status, owner, level, created, opened, turn, since, due",
+    "watcher": "request, role, person", "link": "source, kind, target",
+    "entry": "request, number, moment, actor, kind, head, body",
+    "stay": "request, number, status, begun, ended"}
+
+
+def answered(desk, queries):
+    """What the queries give of the tables that stand for a desk: the numbers of each row."""
+    connection = sqlite3.connect(":memory:")
+    for table, columns in COLUMNS.items():
+        connection.execute(f"CREATE TABLE {table} ({columns})")
+    for table, row in rows_for(desk):
+        connection.execute(f"INSERT INTO {table} VALUES ({', '.join('?' * len(row))})", row)
+    told = ""
+    for query in queries.splitlines():
+        rows = [" ".join(map(str, row)) for row in connection.execute(query)]
+        told += "".join(f"{line}\n" for line in [f"{query}:", *(f"  {row}" for row in rows)])
+    return told
+
+
+def rows_for(desk):
+    """The rows of the tables, each with the name of its table."""
+    for queue in desk.by_name.values():
+        yield "queue", (queue.name, queue.lifecycle.name, queue.level)
+    for link in desk.links:
+        yield "link", (link.source, LINKS.index(link.kind), link.target)
+    for request in desk.requests:
+        yield "request", (
+            request.number, request.queue.name, request.subject, request.status, request.owner,
+            request.level, request.created, request.opened, int(not request.is_desks_turn),
+            request.since, desk.due(request))
+        yield from parts_for(request)
+
+
+def parts_for(request):
+    for role, persons in request.roles.items():
+        for person in persons:
+            yield "watcher", (request.number, ROLES.index(role), person)
+    for entry in request.entries:
+        yield "entry", (request.number, *entry[:3], ENTRIES.index(entry.kind), *entry[4:])
+    for number, (status, begun, ended) in enumerate(request.stays(), 1):
+        is_last = number == len(request.stays())
+        yield "stay", (request.number, number, status, begun, None if is_last else ended)
