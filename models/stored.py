@@ -5,19 +5,42 @@ import re
 import sys
 
 TOP = os.path.dirname(os.path.dirname(os.path.abspath(__file__)))
+DATA = os.path.join(TOP, "crates", "desk_cases", "data")
 
 
 def text_of(file):
     """A file of the cases."""
-    place = os.path.join(TOP, "crates", "desk_cases", "data", file)
-    with open(place, encoding="utf-8", newline="\n") as it:
+    with open(os.path.join(DATA, file), encoding="utf-8", newline="\n") as it:
         return it.read()
 
 
 def asked(case):
-    """The parts of a case, by name."""
+    """The parts of a case, by name, as they are written."""
     parts = re.split(r"^=== (.*)\n", text_of(case), flags=re.M)
     return dict(zip(parts[1::2], parts[2::2]))
+
+
+def expanded(text):
+    """The bytes of a part whose words in `<<` and `>>` stand for others."""
+    first, *pieces = text.split("<<")
+    out = first.encode()
+    for piece in pieces:
+        word, _, plain = piece.partition(">>")
+        if word == "end":
+            break
+        out += meant_by(word) + plain.encode()
+    return out
+
+
+def meant_by(word):
+    """What a word in `<<` and `>>` stands for."""
+    times, is_repeated, text = word.partition("*")
+    if is_repeated:
+        return "".join(text.replace("%", str(time)).replace("@", str(time + 1))
+                       for time in range(int(times))).encode()
+    if word.startswith("byte "):
+        return bytes([int(word.split()[1])])
+    return text_of(f"texts/{word}").encode()
 
 
 def end_compared(case, told):
