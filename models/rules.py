@@ -13,6 +13,7 @@ from settings import Lifecycle
 REFUSALS = [
     "UnknownCaller", "BadMoment", "BadText", "NotFound", "UnknownName", "Denied", "NoChange",
     "NoTransition", "OpenDependency", "Owned", "NotOwned", "NotOwner", "Exists", "SelfLink", "Full"]
+
 # The words of each command after its name: `?` may be left out, `*` may come any number of times.
 FORMS = {
     "queue": "name name name?", "create": "name name name*", "status": "id name",
