@@ -1,7 +1,7 @@
 # Nothing has to be set up beforehand: `rt` is the toolchain's one command.
 PREFIX ?= /usr/local
 
-.PHONY: demo test desk install trials models sweep
+.PHONY: demo test desk install trials models wrong sweep
 
 # The first look: the printer script, run in two to three minutes where little else runs, before any
 # proof.
@@ -57,8 +57,13 @@ trials: desk
 
 # The rules told twice: what they come to is compared with what is stored, in a few seconds.
 models:
+	models/scripts
 	models/lots
 	models/made
+
+# Wrong rules, one at a time: each is noticed by a case. Two minutes.
+wrong:
+	models/wrong
 
 # Each growth of the programs refused in turn, in some minutes once both are proved. It needs a C
 # compiler.

@@ -55,7 +55,8 @@ def show_lines(shown):
         f"due: {due_text(shown.due)}"]
     for kind, inverse in INVERSES:
         lines.append(f"{kind}: {list_text(it.target for it in shown.linked if it.kind == kind)}")
-        lines.append(f"{inverse}: {list_text(it.source for it in shown.linking if it.kind == kind)}")
+        lines.append(
+            f"{inverse}: {list_text(it.source for it in shown.linking if it.kind == kind)}")
     return lines
 
 

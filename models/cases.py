@@ -6,7 +6,7 @@ import rules
 import settings
 import tables
 import words
-from stored import DATA, asked, expanded
+from stored import DATA, asked, expanded, lines_of
 
 KINDS = ["script", "list", "one"]
 MOST_INPUT = 1048576
@@ -56,7 +56,7 @@ def run(case):
 
 def ends_of(told, most):
     """How many lines there are and their sum, and so many at the front and at the end."""
-    lines, total = told.decode().splitlines(), 0
+    lines, total = lines_of(told.decode()), 0
     for byte in told:
         total = (total * 31 + byte) % 4294967296
     shown = lines[:most] + lines[max(len(lines) - most, most):]
@@ -107,14 +107,14 @@ def list_told(case):
     desk = desk_over(case, known)
     if not desk.is_known():
         counts = [("queues", len(desk.by_name)), ("requests", len(desk.requests)),
-                  ("watchers", sum(len(set(persons)) for it in desk.requests
+                  ("watchers", sum(len(persons) for it in desk.requests
                                    for persons in it.roles.values())),
                   ("entries of 1", len(desk.request_of(1).entries))]
         return "attach: 2 UnknownName\n" + "".join(f"{what}: {n}\n" for what, n in counts)
     if "trials" in case.parts:
         return trials_told(case, desk, commands)
     told = f"attach: ok, room for {known.max_requests} requests\n"
-    told += "".join(line_told(desk, line) for line in commands.splitlines())
+    told += "".join(line_told(desk, line) for line in lines_of(commands))
     return told + tables.answered(desk, case.text("query"))
 
 
@@ -132,13 +132,13 @@ def trials_told(case, desk, commands):
     if trial != "dues" or "\n" in person:
         raise LeftAlone("limits on the steps of statements")
     told = f"{trial} {person}:\n"
-    for line in commands.splitlines():
+    for line in lines_of(commands):
         line_told(desk, line)
         at = line.split(" ")[0]
         for request in desk.requests:
-            shown = line_told(desk, f"{at} {person} show {request.number}").split("due: ")[-1]
+            shown = line_told(desk, f"{at} {person} show {request.number}").split("\ndue: ")[-1]
             due = answers.due_text(desk.due(request))
-            told += f"  {request.number}: {due}, shown {shown.splitlines()[0]}\n"
+            told += f"  {request.number}: {due}, shown {lines_of(shown)[0]}\n"
     return told
 
 
@@ -146,7 +146,7 @@ def single_told(case):
     """What commands print that are run one at a time, each with its status."""
     known, told = settings.Settings(case.text("settings")), ""
     desk = desk_over(case, known)
-    for line in case.text("commands").splitlines():
+    for line in lines_of(case.text("commands")):
         status, text = 4, "attach: 2 UnknownName\n"
         if desk.is_known():
             text = line_told(desk, line)

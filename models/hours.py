@@ -55,8 +55,9 @@ class Calendar:
         for day in range(max(begin, self.days.start), min(last + 1, self.days.stop)):
             if day in self.holidays:
                 continue
+            midnight = day * DAY - offset
             for opens, closes in self.week[(day + 4) % 7]:
-                run = (max(first, day * DAY + opens - offset), min(end, day * DAY + closes - offset))
+                run = max(first, midnight + opens), min(end, midnight + closes)
                 if run[0] < run[1]:
                     yield run
 

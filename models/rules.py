@@ -13,6 +13,15 @@ from settings import Lifecycle
 REFUSALS = [
     "UnknownCaller", "BadMoment", "BadText", "NotFound", "UnknownName", "Denied", "NoChange",
     "NoTransition", "OpenDependency", "Owned", "NotOwned", "NotOwner", "Exists", "SelfLink", "Full"]
+
+# The words of each command after its name: `?` may be left out, `*` may come any number of times.
+FORMS = {
+    "queue": "name name name?", "create": "name name name*", "status": "id name",
+    "resolve": "id", "take": "id", "steal": "id", "untake": "id", "give": "id name",
+    "correspond": "id name", "comment": "id name", "watch": "id role name",
+    "unwatch": "id role name", "link": "id kind id", "level": "id name?", "queues": "",
+    "show": "id", "ls": "name", "history": "id", "overdue": "", "workload": ""}
+
 MAX_QUEUES, MAX_SUBJECT, MAX_TEXT = 1000, 200, 20000
 NAME = re.compile(r"[a-z][a-z0-9_-]{0,19}")
 SUBJECT = re.compile(r"[^\0-\x1f\x7f]+")
@@ -91,7 +100,7 @@ class Desk:
         self.by_name, self.requests, self.links = {}, [], set()
 
     def ask(self, at, caller, name, words):
-        """What a command is answered, or raises its refusal. `words` are what it names, in order."""
+        """What a command is answered, or raises its refusal. The words are what it names."""
         refuse_if("UnknownCaller", caller not in self.settings.persons)
         refuse_if("BadMoment", not START <= at < END)
         return getattr(self, name)(Call(at, caller), *words)

@@ -73,8 +73,9 @@ class Settings:
         """Whether a person holds a right in a queue, with those roles."""
         if person not in self.persons:
             return False
-        return any(granted in (right, "SuperUser") and where in (None, queue)
-                   and self.is_for(person, roles, subject) for granted, subject, where in self.grants)
+        return any(
+            granted in (right, "SuperUser") and where in (None, queue)
+            and self.is_for(person, roles, subject) for granted, subject, where in self.grants)
 
     def is_for(self, person, roles, subject):
         kind, _, name = subject.partition(":")

@@ -43,6 +43,11 @@ def meant_by(word):
     return text_of(f"texts/{word}").encode()
 
 
+def lines_of(text):
+    """The lines of a text, each up to a line feed or the end."""
+    return text.removesuffix("\n").split("\n") if text else []
+
+
 def end_compared(case, told):
     """Compares the lines with those that are stored, prints what differs, and ends with 1 where
     anything does."""

@@ -5,6 +5,7 @@ import sqlite3
 from hours import END, START
 from rules import Desk, Entry, Link, Queue, Request
 from settings import Lifecycle
+from stored import lines_of
 
 ROLES = [None, "requestor", "cc", "admincc"]
 LINKS = [None, "DependsOn", "MemberOf", "RefersTo"]
@@ -86,7 +87,7 @@ def answered(desk, queries):
     for table, row in rows_for(desk):
         connection.execute(f"INSERT INTO {table} VALUES ({', '.join('?' * len(row))})", row)
     told = ""
-    for query in queries.splitlines():
+    for query in lines_of(queries):
         rows = [" ".join(map(str, row)) for row in connection.execute(query)]
         told += "".join(f"{line}\n" for line in [f"{query}:", *(f"  {row}" for row in rows)])
     return told

@@ -3,7 +3,7 @@ come to by the rules."""
 import rules
 import settings
 import words
-from stored import asked, expanded
+from stored import asked, expanded, lines_of
 
 CASE = "list/lists-of-commands-by-lot"
 
@@ -13,7 +13,7 @@ class Lots:
 
     def __init__(self):
         parts = {name: expanded(text).decode() for name, text in asked(CASE).items()}
-        lines = parts["lots"].splitlines()
+        lines = lines_of(parts["lots"])
         self.settings = parts["settings"]
         self.lines = [line.split("|")[0] for line in lines if "|" in line]
         self.keys = [line.split(" ") for line in lines if "|" not in line]

@@ -1,20 +1,15 @@
 """Lines and the commands that they spell, by docs/desk.md."""
 import re
 
+from rules import FORMS
+
 GREATEST = 4294967295
 QUOTED = re.compile(r'"((?:[^"\\]|\\["\\nt])*)"(?= |$)')
 PLAIN = re.compile(r'[^ "]+(?= |$)')
-INVERSE = {"DependedOnBy": "DependsOn", "HasMember": "MemberOf", "ReferredToBy": "RefersTo"}
+INVERSE = {
+    "DependedOnBy": "DependsOn", "HasMember": "MemberOf", "ReferredToBy": "RefersTo"}
 KINDS = ["DependsOn", "MemberOf", "RefersTo"]
 ROLES = ["requestor", "cc", "admincc"]
-
-# The words of each command after its name: `?` may be left out, `*` may come any number of times.
-FORMS = {
-    "queue": "name name name?", "create": "name name name*", "status": "id name",
-    "resolve": "id", "take": "id", "steal": "id", "untake": "id", "give": "id name",
-    "correspond": "id name", "comment": "id name", "watch": "id role name",
-    "unwatch": "id role name", "link": "id kind id", "level": "id name?", "queues": "", "show": "id",
-    "ls": "name", "history": "id", "overdue": "", "workload": ""}
 
 
 class BadWords(Exception):
