@@ -205,9 +205,7 @@ turned_by : (s : Settings) (at : ℕ) (caller : List ℕ) (command : Command) (d
     (change_by (call s at caller) (facts_of command desk) (plan_of command))
 turned_by s at caller command desk free =
     let asks = call s at caller in
-    let front : List Condition =
-    (UnknownCaller, not (knows s caller)) ∷ (BadMoment, not (is_moment at)) ∷ [] in
-    by_plan_at (Turns asks command) asks (plan_of command) front desk
+    by_plan_at (Turns asks command) asks (plan_of command) desk
     (λ reads. turned_on_none asks command desk no_change refl (never_replied command reads))
     (turns_met asks desk command) free
 

@@ -11,7 +11,7 @@ pub mod decision;
 pub mod laws;
 
 pub use beforehand::refused_beforehand;
-pub use decision::decide;
+pub use decision::{decide, decide_on_facts};
 pub use desk_model::{
     Answer, Change, Command, Dependency, Dossier, Entry, EntryKind, Facts, LateLine, Line,
     LinkKind, LinkRow, Links, Load, QueueRow, Refusal, RequestRow, Scope, SeenRequest, Shown,

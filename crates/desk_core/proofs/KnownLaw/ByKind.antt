@@ -38,7 +38,7 @@ use Rattle.desk_model.specs.Lifecycles.{has_given, has_status, is_creatable, lif
 use Rattle.desk_model.specs.Lifecycles.{first_status, reopening_of}
 use Rattle.desk_model.specs.Names.{in_order, text_order, with_name}
 use Rattle.desk_model.specs.Plan.{Call, Nothing, besides_on, change_by}
-use Rattle.desk_model.specs.Plan.{conditions_by, seen_by}
+use Rattle.desk_model.specs.Plan.{conditions_by, has_bad_text, seen_by}
 use Rattle.desk_model.specs.Step.{call, facts_of, guard}
 use Rattle.desk_model.specs.declared.change.Change.{Change}
 use Rattle.desk_model.specs.declared.command.Command.{Command}
@@ -48,6 +48,7 @@ use Rattle.desk_model.specs.declared.command.Command.TheVariants.{SetLevel, Watc
 use Rattle.desk_model.specs.declared.facts.Facts.{Facts}
 use Rattle.desk_model.specs.declared.facts.SeenRequest.{SeenRequest}
 use Rattle.desk_model.specs.declared.refusal.Refusal.TheVariants.{UnknownCaller, BadMoment}
+use Rattle.desk_model.specs.declared.refusal.Refusal.TheVariants.{BadText}
 use Rattle.desk_model.specs.declared.rows.Entry.{Entry}
 use Rattle.desk_model.specs.declared.rows.QueueRow.{QueueRow}
 use Rattle.desk_model.specs.declared.rows.RequestRow.{RequestRow}
@@ -345,20 +346,19 @@ pub change_brings : (s : Settings) (at : ℕ) (caller : List ℕ) (command : Com
 change_brings s at caller command desk sound queues all free =
     let asks = call s at caller in
     let plan = plan_of command in
-    let front : List Condition =
-    (UnknownCaller, not (knows s caller)) ∷ (BadMoment, not (is_moment at)) ∷ [] in
     let known : knows s caller ≡ true =
     holding (knows s caller)
     (passed (UnknownCaller, not (knows s caller))
-    ((BadMoment, not (is_moment at)) ∷ conditions_by asks (seen_by plan desk) plan) free).0 in
+    ((BadMoment, not (is_moment at)) ∷ (BadText, has_bad_text plan)
+    ∷ conditions_by asks (seen_by plan desk) plan) free).0 in
     record {
-      queue = by_plan_at (λ d change. KnowsQueue s change.queue) asks plan front desk (λ reads. tt)
+      queue = by_plan_at (λ d change. KnowsQueue s change.queue) asks plan desk (λ reads. tt)
           (opens asks desk command) free;
-      filed = by_plan_at (λ d change. KnowsRow s d change.filed) asks plan front desk (λ reads. tt)
+      filed = by_plan_at (λ d change. KnowsRow s d change.filed) asks plan desk (λ reads. tt)
           (files asks desk sound queues command) free;
-      row = by_plan_at (λ d change. KnowsRow s d change.row) asks plan front desk (λ reads. tt)
+      row = by_plan_at (λ d change. KnowsRow s d change.row) asks plan desk (λ reads. tt)
           (rows asks desk known all command) free;
       put = by_plan_at (λ d change. list_all (λ w. knows s w.person) change.put ≡ true) asks plan
-          front desk (λ reads. refl) (puts asks desk known command) free;
+          desk (λ reads. refl) (puts asks desk known command) free;
       entries = entries_known s at caller command _ (appended s at caller command desk) known;
     }

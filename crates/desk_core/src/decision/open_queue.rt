@@ -9,7 +9,7 @@ ghost use Rattle.desk_core.specs.Context.{call_of, DecidesOnQueue};
 use crate::decision::Context;
 use desk_model::{Change, QueueRow, Refusal};
 use rights_core::right;
-use text_core::{Text, is_name};
+use text_core::Text;
 
 /// The most queues that a desk opens.
 const MAX_QUEUES: u32 = 1_000;
@@ -44,9 +44,6 @@ impl Context<'_> {
         ensures { Passes result (open_queue.conditions name.now lifecycle.now level.now
             (call_of self.now) self.now.facts.now) }
     {
-        if !is_name(name.as_str()) {
-            return Err(Refusal::BadText);
-        }
         if self.settings.lifecycle(lifecycle.as_str()).is_none() || !self.knows_level(level) {
             return Err(Refusal::UnknownName);
         }

@@ -14,7 +14,7 @@ use text_core::Text;
 impl Context<'_> {
     /// Gives the request another level, or none.
     pub(super) fn set_level(&self, level: &Option<Text>) -> Result<Change, Refusal>
-        ensures { DecidesOn result Nothing None
+        ensures { DecidesOn result Nothing
             (set_level.conditions level.now) (set_level.change level.now) self.now }
     {
         let request = self.shown()?;

@@ -1,6 +1,6 @@
 //! Moving a request to a status.
 
-ghost use Rattle.std.specs.Prelude.{◌≡◌, ◌+◌, ◌^◌, ◌<◌, true, IfOk, IfErr, OnOk, None};
+ghost use Rattle.std.specs.Prelude.{◌≡◌, ◌+◌, ◌^◌, ◌<◌, true, IfOk, IfErr, OnOk};
 ghost use Rattle.desk_model.specs.Commands.SetStatus as set_status;
 ghost use Rattle.desk_model.specs.Plan.{Dependencies};
 ghost use Rattle.desk_model.specs.Refusals.{names_its_right};
@@ -15,7 +15,7 @@ use text_core::Text;
 impl Context<'_> {
     /// Moves the request to another status.
     pub(super) fn set_status(&self, status: &Text) -> Result<Change, Refusal>
-        ensures decides { DecidesOn result Dependencies None
+        ensures decides { DecidesOn result Dependencies
             (set_status.conditions status.now) (set_status.change status.now) self.now }
         ensures named { IfErr result (λ refusal. names_its_right refusal ≡ true) }
     {

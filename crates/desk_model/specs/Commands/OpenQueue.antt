@@ -1,7 +1,6 @@
 -- Opens a queue.
 use Rattle.std.specs.Prelude.{ℕ, Bool, not, ◌||◌, List, [], ◌∷◌}
 use Rattle.std.specs.Prelude.{nat_le, Option, is_some, is_none}
-use Rattle.text_core.specs.Form.{is_name}
 use Rattle.rights_core.specs.Right.{admin_queue}
 use Rattle.settings_core.specs.Settings.{lifecycle_named}
 use Rattle.settings_core.specs.declared.settings.Settings.{Settings}
@@ -12,7 +11,7 @@ use Rattle.desk_model.specs.Plan.{Call}
 use Rattle.desk_model.specs.Rights.{holds_on_queue}
 use Rattle.desk_model.specs.declared.change.Change.{Change}
 use Rattle.desk_model.specs.declared.facts.Facts.{Facts}
-use Rattle.desk_model.specs.declared.refusal.Refusal.TheVariants.{BadText, UnknownName}
+use Rattle.desk_model.specs.declared.refusal.Refusal.TheVariants.{UnknownName}
 use Rattle.desk_model.specs.declared.refusal.Refusal.TheVariants.{Denied, Exists, Full}
 
 -- no more queues than these are opened
@@ -26,8 +25,7 @@ is_unknown settings lifecycle level =
 
 abbrev pub conditions : List ℕ → List ℕ → Option (List ℕ) → Call → Facts → List Condition
 conditions name lifecycle level call facts =
-    (BadText, not (is_name name))
-    ∷ (UnknownName, is_unknown call.settings lifecycle level)
+    (UnknownName, is_unknown call.settings lifecycle level)
     ∷ (Denied admin_queue, not (holds_on_queue call.settings call.caller admin_queue name))
     ∷ (Exists, is_some facts.queue)
     ∷ (Full, nat_le queue_limit facts.queue_count)
