@@ -15,5 +15,5 @@ pub use decision::{decide, decide_on_facts};
 pub use desk_model::{
     Answer, Change, Command, Dependency, Dossier, Entry, EntryKind, Facts, LateLine, Line,
     LinkKind, LinkRow, Links, Load, QueueRow, Refusal, RequestRow, Scope, SeenRequest, Shown,
-    Topic, Turn, WatchRole, Watcher, due_of, is_kind, is_role, may_show, sees_queue,
+    Topic, Turn, WatchRole, Watcher, due_of, is_role, may_show, sees_queue,
 };

@@ -24,13 +24,10 @@ use Rattle.lifecycle_core.specs.declared.parts.Parts.{Parts}
 use Rattle.settings_core.specs.Settings.{knows, lifecycle_named}
 use Rattle.settings_core.specs.Sound.{AreSound}
 use Rattle.settings_core.specs.declared.settings.Settings.{Settings}
+use Rattle.desk_model.specs.Change.{row_in_status, with_level, with_owner}
 use Rattle.desk_model.specs.Commands.{plan_of}
 use Rattle.desk_model.specs.Commands.Create as create
 use Rattle.desk_model.specs.Commands.Reply as reply
-use Rattle.desk_model.specs.Commands.SetLevel as set_level
-use Rattle.desk_model.specs.Commands.SetStatus as set_status
-use Rattle.desk_model.specs.Commands.Take as take
-use Rattle.desk_model.specs.Condition.{Condition}
 use Rattle.desk_model.specs.Desk.{Desk, Request, queue_at, request_at}
 use Rattle.desk_model.specs.Facts.{queue_of, seen_request}
 use Rattle.desk_model.specs.Known.{knows_level, knows_owner, knows_queue, knows_row, knows_status}
@@ -234,25 +231,25 @@ rows call desk caller all (SetStatus id status) = λ r there same none.
     let parts = parts_known s desk r.row (every_found _ _ desk.requests r all there) in
     let queue = queue_of desk (request_at desk id) in
     let known = holding (has_status (lifecycle_of s queue) status) none.0 in
-    row_known s desk (set_status.row_in_status (lifecycle_of s queue) call.at status r.row)
+    row_known s desk (row_in_status (lifecycle_of s queue) call.at status r.row)
     (subst (λ (o : Option Request). has_status (lifecycle_of s (queue_of desk o)) status ≡ true)
     there known) parts.1 parts.2
 rows call desk caller all (Take id) = λ r there same none.
     let parts = parts_known call.settings desk r.row
     (every_found _ _ desk.requests r all there) in
-    row_known call.settings desk (take.with_owner (Some call.caller) r.row) parts.0 parts.1 caller
+    row_known call.settings desk (with_owner (Some call.caller) r.row) parts.0 parts.1 caller
 rows call desk caller all (Steal id) = λ r there same none.
     let parts = parts_known call.settings desk r.row
     (every_found _ _ desk.requests r all there) in
-    row_known call.settings desk (take.with_owner (Some call.caller) r.row) parts.0 parts.1 caller
+    row_known call.settings desk (with_owner (Some call.caller) r.row) parts.0 parts.1 caller
 rows call desk caller all (Untake id) = λ r there same none.
     let parts = parts_known call.settings desk r.row
     (every_found _ _ desk.requests r all there) in
-    row_known call.settings desk (take.with_owner None r.row) parts.0 parts.1 refl
+    row_known call.settings desk (with_owner None r.row) parts.0 parts.1 refl
 rows call desk caller all (Give id person) = λ r there same none.
     let parts = parts_known call.settings desk r.row
     (every_found _ _ desk.requests r all there) in
-    row_known call.settings desk (take.with_owner (Some person) r.row) parts.0 parts.1
+    row_known call.settings desk (with_owner (Some person) r.row) parts.0 parts.1
     (holding (knows call.settings person) none.0)
 rows call desk caller all (Reply id text) = λ r there same none.
     let s = call.settings in
@@ -272,7 +269,7 @@ rows call desk caller all (Reply id text) = λ r there same none.
 rows call desk caller all (SetLevel id level) = λ r there same none.
     let parts = parts_known call.settings desk r.row
     (every_found _ _ desk.requests r all there) in
-    row_known call.settings desk (set_level.with_level level r.row) parts.0
+    row_known call.settings desk (with_level level r.row) parts.0
     (holding (knows_level call.settings level) none.0)
     parts.2
 rows call desk caller all other = λ r there same none. tt

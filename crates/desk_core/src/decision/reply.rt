@@ -2,8 +2,8 @@
 
 ghost use Rattle.std.specs.Prelude.{◌≡◌, ◌+◌, ◌^◌, ◌<◌, IfOk, OnOk, unwrap_or};
 ghost use Rattle.std.specs.Option.{option_map};
+ghost use Rattle.desk_model.specs.Change.{row_in_status};
 ghost use Rattle.desk_model.specs.Commands.Reply as reply;
-ghost use Rattle.desk_model.specs.Commands.SetStatus.{row_in_status};
 ghost use Rattle.desk_model.specs.Plan.{Nothing};
 ghost use Rattle.desk_core.specs.Context.{call_of, DecidesOn, PassesOn};
 

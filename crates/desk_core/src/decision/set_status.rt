@@ -2,6 +2,7 @@
 
 ghost use Rattle.std.specs.Prelude.{◌≡◌, ◌+◌, ◌^◌, ◌<◌, true, IfOk, IfErr, OnOk};
 ghost use Rattle.desk_model.specs.Commands.SetStatus as set_status;
+ghost use Rattle.desk_model.specs.Entries as entries;
 ghost use Rattle.desk_model.specs.Plan.{Dependencies};
 ghost use Rattle.desk_model.specs.Refusals.{names_its_right};
 ghost use Rattle.desk_core.specs.Context.{call_of, DecidesOn, PassesOn};
@@ -62,7 +63,7 @@ impl Context<'_> {
     ) -> Result<Entry, AllocError>
         requires { request.now.entry_count + number < 2 ^ 32 }
         ensures { IfOk result (λ entry.
-            entry ≡ set_status.moving (call_of self.now) request.now number status.now) }
+            entry ≡ entries.moving (call_of self.now) request.now number status.now) }
     {
         let from = request.row.status.as_str();
         self.entry(request, number, EntryKind::Status, from, status)

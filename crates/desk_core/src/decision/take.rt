@@ -46,7 +46,7 @@ impl Context<'_> {
     ) -> Result<Change, AllocError>
         requires { request.now.entry_count + 1 < 2 ^ 32 }
         ensures { IfOk result (λ change. change
-            ≡ take.giving_owner (option_map (λ o. o.now) owner.entry)
+            ≡ entries.giving_owner (option_map (λ o. o.now) owner.entry)
             (call_of self.now) request.now) }
     {
         let old = request.row.owner.as_ref().map(|o| o.as_str());
