@@ -4,6 +4,20 @@
 //! Nothing here keeps a row. A caller hands in the facts that a command looks at, and applies the
 //! change. Rows, commands, facts, answers, refusals and changes stand in `desk_model`, and are
 //! passed on.
+//!
+//! `refused_beforehand` has the three refusals that need no look at a desk, `decide_on_facts` the
+//! others, and `decide` all. Each clause of a decision holds on every desk with the command's facts,
+//! well formed or not:
+//!
+//! | Clause | Says |
+//! |---|---|
+//! | `refuses` | a refusal, but `Unavailable`, is the first one of `guard` |
+//! | `accepts` | a change is answered only where `guard` refuses nothing, and leads to `effect` |
+//! | `planned` | the result is that of the command's plan |
+//! | `reads` | the change of a reading command is none |
+//! | `named` | the right that a refusal names is a right's name |
+//!
+//! `laws` has what holds of every step, each in a function without a body.
 #![tactic(auto)]
 
 pub mod beforehand;
