@@ -165,7 +165,7 @@ hidden_by_plan c (Reads (OneQueue name) answer) desk id named hidden = cc
 hidden_by_plan c (Reads (OneRequest asked) answer) desk id named hidden =
     hidden_first c asked false (λ d request. []) desk id
     (sym (or-false (asked == id)) ∙ named) hidden
-hidden_by_plan c (OnQueue name bad conditions change) desk id named hidden = cc
+hidden_by_plan c (OnQueue name beforehand conditions change) desk id named hidden = cc
 hidden_by_plan c (OnRequest asked Nothing bad conditions change) desk id named hidden =
     hidden_first c asked bad (λ d. conditions c (besides_on Nothing asked d)) desk id
     (sym (or-false (asked == id)) ∙ named) hidden

@@ -1,9 +1,14 @@
 -- What every desk refuses comes first, and where that is nothing, the rest decides.
 use Rattle.std.proofs.Common.{◌≡◌, ◌∙◌, ℕ, Bool, true, false, cond, if◌then◌else◌, List, []}
-use Rattle.std.proofs.Common.{◌∷◌, ◌++◌, Some, None, Result, Ok, Err, refl}
+use Rattle.std.proofs.Common.{◌∷◌, ◌++◌, Option, Some, None, IfSome, Result, Ok, Err, refl, sym}
+use Rattle.settings_core.specs.declared.settings.Settings.{Settings}
+use Rattle.desk_model.specs.Commands.{plan_of}
 use Rattle.desk_model.specs.Condition.{Condition, Decides, first_holding}
+use Rattle.desk_model.specs.Desk.{Desk}
 use Rattle.desk_model.specs.Plan.{Call, Plan, conditions_beforehand, conditions_by, conditions_of}
+use Rattle.desk_model.specs.Step.{call, facts_of, guard, refusal_beforehand}
 use Rattle.desk_model.specs.declared.change.Change.{Change}
+use Rattle.desk_model.specs.declared.command.Command.{Command}
 use Rattle.desk_model.specs.declared.facts.Facts.{Facts}
 use Rattle.desk_model.specs.declared.refusal.Refusal.{Refusal}
 
@@ -17,6 +22,17 @@ refused_first (x ∷ xs) ys refusal e =
       | true ↦ λ here. here
       | false ↦ λ further. refused_first xs ys refusal further
     ] e
+
+-- what is refused beforehand is refused on every desk
+pub refused_always : (s : Settings) (at : ℕ) (caller : List ℕ) (command : Command)
+    (o : Option Refusal) → o ≡ refusal_beforehand s at caller command
+    → IfSome o (λ refusal. (desk : Desk) → guard s at caller command desk ≡ Some refusal)
+refused_always s at caller command None e = tt
+refused_always s at caller command (Some refusal) e = λ desk.
+    let asked = call s at caller in
+    let plan = plan_of command in
+    refused_first (conditions_beforehand asked plan)
+    (conditions_by asked (facts_of command desk) plan) refusal (sym e)
 
 passed_first : (xs ys : List Condition) → first_holding xs ≡ None
     → first_holding (xs ++ ys) ≡ first_holding ys

@@ -196,7 +196,7 @@ abbrev AsksRoom : Plan → Type 0
 AsksRoom (Reads topic answer) =
     (call : Call) (facts : Facts) (request : SeenRequest)
     → (no_change.filed ≡ None) × (length no_change.entries ≡ 0)
-AsksRoom (OnQueue name bad conditions change) =
+AsksRoom (OnQueue name beforehand conditions change) =
     (call : Call) (facts : Facts) → AtMostOne (change call facts).entries
 AsksRoom (OnRequest id besides bad conditions change) =
     (call : Call) (facts : Facts) (request : SeenRequest)
@@ -224,7 +224,8 @@ short_by_plan : (plan : Plan) (call : Call) (desk : Desk) → IsDesk desk
     → MeetsAt call (λ d change. HasShortHistories call.settings d
     → HasShortHistories call.settings (applied change d)) desk plan
 short_by_plan (Reads topic answer) call desk is least asks touches = λ r there same none all. all
-short_by_plan (OnQueue name bad conditions change) call desk is least asks touches = λ none all.
+short_by_plan (OnQueue name beforehand conditions change) call desk is least asks touches =
+    λ none all.
     let facts = facts_on_queue desk name in
     let made = change call facts in
     let touched = touches call none in

@@ -14,7 +14,7 @@ use Rattle.desk_model.specs.Facts.{queue_of, seen_request}
 use Rattle.desk_model.specs.Plan.{Call, Plan, Reads, OnQueue, OnRequest, Nothing}
 use Rattle.desk_model.specs.Plan.{Dependencies, Another, besides_on}
 use Rattle.desk_model.specs.Plan.{change_by, change_of_request, conditions_by, conditions_of}
-use Rattle.desk_model.specs.Plan.{has_bad_text, is_missing, on_shown, seen_by}
+use Rattle.desk_model.specs.Plan.{conditions_of_words, is_missing, on_shown, seen_by}
 use Rattle.desk_model.specs.Step.{call, desk_after}
 use Rattle.desk_model.specs.Step.{desk_unless, effect, facts_of, guard}
 use Rattle.desk_model.specs.declared.change.Change.{Change}
@@ -23,7 +23,7 @@ use Rattle.desk_model.specs.declared.facts.Facts.{Facts}
 use Rattle.desk_model.specs.declared.facts.SeenRequest.{SeenRequest}
 use Rattle.desk_model.specs.declared.refusal.Refusal.{Refusal}
 use Rattle.desk_model.specs.declared.refusal.Refusal.TheVariants.{UnknownCaller, BadMoment}
-use Rattle.desk_model.specs.declared.refusal.Refusal.TheVariants.{BadText, NotFound}
+use Rattle.desk_model.specs.declared.refusal.Refusal.TheVariants.{NotFound}
 use Rattle.desk_model.specs.declared.rows.QueueRow.{QueueRow}
 use Rattle.desk_model.specs.declared.rows.RequestRow.{RequestRow}
 use Rattle.desk_core.proofs.Applied.{left_by, row_after}
@@ -53,17 +53,19 @@ pub rest_passes : (xs ys : List Condition) → first_holding (xs ++ ys) ≡ None
 rest_passes [] ys e = e
 rest_passes (x ∷ xs) ys e = rest_passes xs ys (passed x (xs ++ ys) e).1
 
--- where nothing refuses a plan, its text has its form, and the desk refuses nothing
+-- where nothing refuses a plan, nothing refuses its words, and the desk refuses nothing
 pub plan_passes : (call : Call) (facts : Facts) (plan : Plan)
     → first_holding (conditions_of call facts plan) ≡ None
-    → (has_bad_text plan ≡ false) × (first_holding (conditions_by call facts plan) ≡ None)
+    → (first_holding (conditions_of_words call plan ++ conditions_by call facts plan) ≡ None)
+    × (first_holding (conditions_by call facts plan) ≡ None)
 plan_passes call facts plan free =
+    let words = conditions_of_words call plan in
     let rest = conditions_by call facts plan in
     let on_call : List Condition =
     (UnknownCaller, not (knows call.settings call.caller))
     ∷ (BadMoment, not (is_moment call.at)) ∷ [] in
-    passed (BadText, has_bad_text plan) rest
-    (rest_passes on_call ((BadText, has_bad_text plan) ∷ rest) free)
+    let passes = rest_passes on_call (words ++ rest) free in
+    (passes, rest_passes words rest passes)
 
 pub holding : (b : Bool) → not b ≡ false → b ≡ true
 holding true e = refl
@@ -145,7 +147,7 @@ abbrev pub KeepsIds : Plan → Type 0
 KeepsIds (Reads topic answer) =
     (call : Call) (facts : Facts) (request : SeenRequest)
     → id_in no_change.row request.row.id ≡ request.row.id
-KeepsIds (OnQueue name bad conditions change) =
+KeepsIds (OnQueue name beforehand conditions change) =
     (call : Call) (facts : Facts) → (change call facts).row ≡ None
 KeepsIds (OnRequest id besides bad conditions change) =
     (call : Call) (facts : Facts) (request : SeenRequest)
@@ -158,7 +160,7 @@ abbrev pub Goes : (Call → Facts → SeenRequest → RequestRow → Type 0) →
 Goes P (Reads topic answer) =
     (call : Call) (facts : Facts) (request : SeenRequest) (new : RequestRow) → Unit {0} → Unit {0}
     → no_change.row ≡ Some new → P call facts request new
-Goes P (OnQueue name bad conditions change) = Unit {0}
+Goes P (OnQueue name beforehand conditions change) = Unit {0}
 Goes P (OnRequest id besides bad conditions change) =
     (call : Call) (facts : Facts) (request : SeenRequest) (new : RequestRow) → id ≡ request.row.id
     → first_holding (conditions call facts request) ≡ None → (change call facts request).row
@@ -206,7 +208,8 @@ by_plan : (P : Call → Facts → SeenRequest → RequestRow → Type 0) (call :
     → P call (seen_by plan desk) (seen_request before) new
     × ((seen_by plan desk).queue ≡ queue_at desk before.row.queue)
 by_plan P call (Reads topic answer) desk id before new was ids free sets same goes = cc
-by_plan P call (OnQueue name bad conditions change) desk id before new was ids free sets same goes =
+by_plan P call (OnQueue name beforehand conditions change) desk id before new was ids free
+    sets same goes =
     let none : None ≡ Some new = sym (ids call _) ∙ sets in cc
 by_plan P call (OnRequest asked Nothing bad conditions change) desk id before new was ids free
     sets same goes =

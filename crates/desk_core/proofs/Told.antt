@@ -103,7 +103,7 @@ abbrev Tells : Plan → Type 0
 Tells (Reads topic answer) =
     (call : Call) (facts : Facts) (request : SeenRequest)
     → (no_change.filed ≡ None) × TellsMove no_change request.row.status
-Tells (OnQueue name bad conditions change) =
+Tells (OnQueue name beforehand conditions change) =
     (call : Call) (facts : Facts) → TellsFirst (change call facts) (change call facts).filed
 Tells (OnRequest id besides bad conditions change) =
     (call : Call) (facts : Facts) (request : SeenRequest)
@@ -127,7 +127,7 @@ told_by_plan : (plan : Plan) (desk : Desk) → IsDesk desk → Tells plan
     → Meets (Touches plan) desk plan
     → Meets (λ d change. TellsStatuses d → TellsStatuses (applied change d)) desk plan
 told_by_plan (Reads topic answer) desk is tells touches = λ call r there same none all. all
-told_by_plan (OnQueue name bad conditions change) desk is tells touches = λ call none all.
+told_by_plan (OnQueue name beforehand conditions change) desk is tells touches = λ call none all.
     let facts = facts_on_queue desk name in
     let made = change call facts in
     let touched = touches call none in

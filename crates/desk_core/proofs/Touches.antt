@@ -60,7 +60,7 @@ only_of_few change n row put taken entries =
 -- the plan is on the request of that number, or that is the next number
 abbrev pub IsOn : Plan → Desk → ℕ → Type 0
 IsOn (Reads topic answer) desk n = n ≡ n
-IsOn (OnQueue name bad conditions change) desk n = n ≡ length desk.requests + 1
+IsOn (OnQueue name beforehand conditions change) desk n = n ≡ length desk.requests + 1
 IsOn (OnRequest id besides bad conditions change) desk n = id ≡ n
 
 -- a change of this plan touches the request that the plan is on alone
@@ -104,7 +104,7 @@ touches desk other = λ call r there same none.
 nothing_touched : (plan : Plan) (desk : Desk) → Touches plan desk no_change
 nothing_touched (Reads topic answer) desk =
     (0, refl, only_of_few no_change 0 refl (refl, tt) (refl, tt) (refl, tt))
-nothing_touched (OnQueue name bad conditions change) desk =
+nothing_touched (OnQueue name beforehand conditions change) desk =
     let n = length desk.requests + 1 in
     (n, refl, only_of_few no_change n refl (refl, tt) (refl, tt) (refl, tt))
 nothing_touched (OnRequest id besides bad conditions change) desk =
@@ -147,7 +147,7 @@ stays_by_plan : (plan : Plan) (call : Call) (desk : Desk) (id : ℕ) (r : Reques
     → Touches plan desk (change_by call (seen_by plan desk) plan)
     → changed (change_by call (seen_by plan desk) plan) r ≡ r
 stays_by_plan (Reads topic answer) call desk id r is there unnamed touches = refl
-stays_by_plan (OnQueue name bad conditions change) call desk id r is there unnamed touches =
+stays_by_plan (OnQueue name beforehand conditions change) call desk id r is there unnamed touches =
     let within : r.row.id < 1 + length desk.requests =
     number_within 1 id desk.requests r is.requests there in
     let next : touches.0 ≡ length desk.requests + 1 = touches.1 in

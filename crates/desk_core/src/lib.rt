@@ -5,9 +5,9 @@
 //! change. Rows, commands, facts, answers, refusals and changes stand in `desk_model`, and are
 //! passed on.
 //!
-//! `refused_beforehand` has the three refusals that need no look at a desk, `decide_on_facts` the
-//! others, and `decide` all. Each clause of a decision holds on every desk with the command's facts,
-//! well formed or not:
+//! `refused_beforehand` has the refusals that need no look at a desk: of the caller, of the moment,
+//! and of the command's words alone. `decide_on_facts` has the others, and `decide` all. Each clause
+//! of a decision holds on every desk with the command's facts, well formed or not:
 //!
 //! | Clause | Says |
 //! |---|---|

@@ -1,7 +1,7 @@
 -- The commands: the plan of each, which requests it names, and whether it only reads or moves a
 -- request.
 use Rattle.std.specs.Prelude.{◌≡◌, ℕ, ⊤, true, false, not, List}
-use Rattle.text_core.specs.Form.{is_name, is_subject, is_text}
+use Rattle.text_core.specs.Form.{is_text}
 use Rattle.desk_model.specs.Commands.Comment as comment
 use Rattle.desk_model.specs.Commands.Create as create
 use Rattle.desk_model.specs.Commands.Give as give
@@ -43,10 +43,10 @@ pub mod Watch
 
 abbrev pub plan_of : Command → Plan
 plan_of (command.OpenQueue name lifecycle level) =
-    OnQueue name (not (is_name name)) (open_queue.conditions name lifecycle level)
+    OnQueue name (open_queue.beforehand name lifecycle level) (open_queue.conditions name)
     (open_queue.change name lifecycle level)
 plan_of (command.Create queue subject status requestors) =
-    OnQueue queue (not (is_subject subject)) (create.conditions queue status requestors)
+    OnQueue queue (create.beforehand subject) (create.conditions queue status requestors)
     (create.change queue subject status requestors)
 plan_of (command.SetStatus id status) =
     OnRequest id Dependencies false (set_status.conditions status) (set_status.change status)

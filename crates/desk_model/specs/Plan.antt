@@ -1,6 +1,6 @@
 -- What there is to a command: what it looks at, its conditions in their order, and its change, or
 -- what it tells where it only reads.
-use Rattle.std.specs.Prelude.{ℕ, Bool, true, false, not}
+use Rattle.std.specs.Prelude.{ℕ, Bool, true, not}
 use Rattle.std.specs.Prelude.{List, [], ◌∷◌, ◌++◌, Option, Some, None, is_some}
 use Rattle.std.specs.Option.{option_map_or}
 use Rattle.hours_core.specs.Moment.{is_moment}
@@ -42,12 +42,14 @@ pub data Topic : Type 0 where
   OneQueue : List ℕ → Topic
   OneRequest : ℕ → Topic
 
--- a command that reads, and what it tells of its topic; that changes the desk, on a queue; or that
--- changes a request. The last two say whether a text or a name that they come with is out of its
--- form
+-- a command that reads, and what it tells of its topic; that changes the desk, on a queue, with the
+-- conditions that are the same on every desk before those that look at one; or that changes a
+-- request, and whether a text that it comes with is out of its form
 pub data Plan : Type 0 where
   Reads : Topic → (Call → Desk → Answer) → Plan
-  OnQueue : List ℕ → Bool → (Call → Facts → List Condition) → (Call → Facts → Change) → Plan
+  OnQueue : List ℕ → (Call → List Condition)
+      → (Call → Facts → List Condition)
+      → (Call → Facts → Change) → Plan
   OnRequest : ℕ → Besides → Bool
       → (Call → Facts → SeenRequest → List Condition)
       → (Call → Facts → SeenRequest → Change) → Plan
@@ -72,7 +74,7 @@ topic_on (OneRequest id) desk = facts_on_request desk id
 -- what a plan looks at on a desk
 abbrev pub seen_by : Plan → Desk → Facts
 seen_by (Reads topic answer) desk = topic_on topic desk
-seen_by (OnQueue name bad conditions change) desk = facts_on_queue desk name
+seen_by (OnQueue name beforehand conditions change) desk = facts_on_queue desk name
 seen_by (OnRequest id besides bad conditions change) desk = besides_on besides id desk
 
 -- the request isn't there, or is hidden from the caller
@@ -115,24 +117,24 @@ conditions_of_topic call facts WholeDesk = []
 conditions_of_topic call facts (OneQueue name) = (NotFound, is_unseen call facts.queue) ∷ []
 conditions_of_topic call facts (OneRequest id) = on_shown call facts.request (λ request. [])
 
--- a text or a name that a command comes with isn't of its form
-abbrev pub has_bad_text : Plan → Bool
-has_bad_text (Reads topic answer) = false
-has_bad_text (OnQueue name bad conditions change) = bad
-has_bad_text (OnRequest id besides bad conditions change) = bad
+-- those of a command's words alone: a text or a name that isn't of its form, or a name that the
+-- settings would have to know
+abbrev pub conditions_of_words : Call → Plan → List Condition
+conditions_of_words call (Reads topic answer) = []
+conditions_of_words call (OnQueue name beforehand conditions change) = beforehand call
+conditions_of_words call (OnRequest id besides bad conditions change) = (BadText, bad) ∷ []
 
 -- the conditions that are the same on every desk
 abbrev pub conditions_beforehand : Call → Plan → List Condition
 conditions_beforehand call plan =
     (UnknownCaller, not (knows call.settings call.caller))
     ∷ (BadMoment, not (is_moment call.at))
-    ∷ (BadText, has_bad_text plan)
-    ∷ []
+    ∷ conditions_of_words call plan
 
 -- those that a desk is looked at for
 abbrev pub conditions_by : Call → Facts → Plan → List Condition
 conditions_by call facts (Reads topic answer) = conditions_of_topic call facts topic
-conditions_by call facts (OnQueue name bad conditions change) = conditions call facts
+conditions_by call facts (OnQueue name beforehand conditions change) = conditions call facts
 conditions_by call facts (OnRequest id besides bad conditions change) =
     conditions_on_request call facts besides conditions
 
@@ -148,7 +150,7 @@ change_of_request (Some request) change = change request
 -- a reading changes nothing
 abbrev pub change_by : Call → Facts → Plan → Change
 change_by call facts (Reads topic answer) = no_change
-change_by call facts (OnQueue name bad conditions change) = change call facts
+change_by call facts (OnQueue name beforehand conditions change) = change call facts
 change_by call facts (OnRequest id besides bad conditions change) =
     change_of_request facts.request (change call facts)
 
@@ -173,7 +175,7 @@ answer_of_request (Some request) made = made request
 -- what a plan that reads is about
 abbrev pub topic_of : Plan → Option Topic
 topic_of (Reads topic answer) = Some topic
-topic_of (OnQueue name bad conditions change) = None
+topic_of (OnQueue name beforehand conditions change) = None
 topic_of (OnRequest id besides bad conditions change) = None
 
 abbrev pub is_reading : Plan → Bool
@@ -189,5 +191,5 @@ abbrev pub named_by : Plan → List ℕ
 named_by (Reads WholeDesk answer) = []
 named_by (Reads (OneQueue name) answer) = []
 named_by (Reads (OneRequest id) answer) = id ∷ []
-named_by (OnQueue name bad conditions change) = []
+named_by (OnQueue name beforehand conditions change) = []
 named_by (OnRequest id besides bad conditions change) = id ∷ named_besides besides

@@ -1,5 +1,5 @@
 -- The change of a command that isn't refused fits the desk, by the kind of the command.
-use Rattle.std.proofs.Common.{◌≡◌, ◌∙◌, ℕ, ◌+◌, ◌==◌, true, false, not, ◌||◌, List, [], ◌∷◌}
+use Rattle.std.proofs.Common.{◌≡◌, ◌∙◌, ℕ, ◌+◌, ◌==◌, true, false, not, ◌||◌, List, [], ◌∷◌, ◌++◌}
 use Rattle.std.proofs.Common.{length, Option, Some, None, refl, ap, sym, subst, arith}
 use Rattle.std.proofs.lemmas.Bool.{and_from, or_right}
 use Rattle.std.proofs.lemmas.List.Folds.{list_all-append}
@@ -17,7 +17,7 @@ use Rattle.desk_model.specs.IsDesk.{IsDesk}
 use Rattle.desk_model.specs.Links.{has_link, link}
 use Rattle.desk_model.specs.Plan.{Call, Plan, Reads, OnQueue, OnRequest, Nothing, Dependencies}
 use Rattle.desk_model.specs.Plan.{Another, another_shown, besides_on, change_by, change_of_request}
-use Rattle.desk_model.specs.Plan.{conditions_by, conditions_of, has_bad_text, is_missing}
+use Rattle.desk_model.specs.Plan.{conditions_by, conditions_of, conditions_of_words, is_missing}
 use Rattle.desk_model.specs.Plan.{is_reading, on_shown, seen_by}
 use Rattle.desk_model.specs.Step.{call, facts_of, guard}
 use Rattle.desk_model.specs.declared.change.Change.{Change}
@@ -25,7 +25,7 @@ use Rattle.desk_model.specs.declared.command.Command.{Command}
 use Rattle.desk_model.specs.declared.command.Command.TheVariants.{OpenQueue, Create, Reply}
 use Rattle.desk_model.specs.declared.command.Command.TheVariants.{Link}
 use Rattle.desk_model.specs.declared.facts.SeenRequest.{SeenRequest}
-use Rattle.desk_model.specs.declared.refusal.Refusal.TheVariants.{BadText, NotFound}
+use Rattle.desk_model.specs.declared.refusal.Refusal.TheVariants.{NotFound}
 use Rattle.desk_model.specs.declared.rows.Entry.{Entry}
 use Rattle.desk_core.proofs.DeskLaw.Entries.{counts_apart, counts_found}
 use Rattle.desk_core.proofs.DeskLaw.Fitting.{Appends, FilesNext, Fits, FollowOn}
@@ -42,8 +42,8 @@ abbrev pub MeetsAt : Call → (Desk → Change → Type 0) → Desk → Plan →
 MeetsAt call P desk (Reads topic answer) =
     (r : Request) → request_at desk r.row.id ≡ Some r → r.row.id ≡ r.row.id
     → Unit {0} → P desk no_change
-MeetsAt call P desk (OnQueue name bad conditions change) =
-    NoneHolds ((BadText, bad) ∷ conditions call (facts_on_queue desk name))
+MeetsAt call P desk (OnQueue name beforehand conditions change) =
+    NoneHolds (beforehand call ++ conditions call (facts_on_queue desk name))
     → P desk (change call (facts_on_queue desk name))
 MeetsAt call P desk (OnRequest id besides bad conditions change) =
     (r : Request) → request_at desk id ≡ Some r → id ≡ r.row.id
@@ -71,20 +71,22 @@ on_request P call desk id (Some r) asks change there meets free =
 meets_by : (P : Desk → Change → Type 0) (call : Call) (plan : Plan) (desk : Desk)
     → (is_reading plan ≡ true → P desk no_change)
     → MeetsAt call P desk plan
-    → has_bad_text plan ≡ false → first_holding (conditions_by call (seen_by plan desk) plan) ≡ None
+    → first_holding (conditions_of_words call plan ++ conditions_by call (seen_by plan desk) plan)
+    ≡ None
+    → first_holding (conditions_by call (seen_by plan desk) plan) ≡ None
     → P desk (change_by call (seen_by plan desk) plan)
-meets_by P call (Reads topic answer) desk nothing meets good free = nothing refl
-meets_by P call (OnQueue name bad conditions change) desk nothing meets good free =
-    meets (good, none_holds (conditions call (facts_on_queue desk name)) free)
-meets_by P call (OnRequest id Nothing bad conditions change) desk nothing meets good free =
+meets_by P call (Reads topic answer) desk nothing meets all free = nothing refl
+meets_by P call (OnQueue name beforehand conditions change) desk nothing meets all free =
+    meets (none_holds (beforehand call ++ conditions call (facts_on_queue desk name)) all)
+meets_by P call (OnRequest id Nothing bad conditions change) desk nothing meets all free =
     let facts = besides_on Nothing id desk in
     on_request (P desk) call desk id (request_at desk id) (conditions call facts)
     (change call facts) refl meets free
-meets_by P call (OnRequest id Dependencies bad conditions change) desk nothing meets good free =
+meets_by P call (OnRequest id Dependencies bad conditions change) desk nothing meets all free =
     let facts = besides_on Dependencies id desk in
     on_request (P desk) call desk id (request_at desk id) (conditions call facts)
     (change call facts) refl meets free
-meets_by P call (OnRequest id (Another kind other) bad conditions change) desk nothing meets good
+meets_by P call (OnRequest id (Another kind other) bad conditions change) desk nothing meets all
     free =
     let facts = besides_on (Another kind other) id desk in
     on_request (P desk) call desk id (request_at desk id)

@@ -35,7 +35,7 @@ use Rattle.desk_model.specs.Lifecycles.{has_given, has_status, is_creatable, lif
 use Rattle.desk_model.specs.Lifecycles.{first_status, reopening_of}
 use Rattle.desk_model.specs.Names.{in_order, text_order, with_name}
 use Rattle.desk_model.specs.Plan.{Call, Nothing, besides_on, change_by}
-use Rattle.desk_model.specs.Plan.{conditions_by, has_bad_text, seen_by}
+use Rattle.desk_model.specs.Plan.{conditions_by, conditions_of_words, seen_by}
 use Rattle.desk_model.specs.Step.{call, facts_of, guard}
 use Rattle.desk_model.specs.declared.change.Change.{Change}
 use Rattle.desk_model.specs.declared.command.Command.{Command}
@@ -45,7 +45,6 @@ use Rattle.desk_model.specs.declared.command.Command.TheVariants.{SetLevel, Watc
 use Rattle.desk_model.specs.declared.facts.Facts.{Facts}
 use Rattle.desk_model.specs.declared.facts.SeenRequest.{SeenRequest}
 use Rattle.desk_model.specs.declared.refusal.Refusal.TheVariants.{UnknownCaller, BadMoment}
-use Rattle.desk_model.specs.declared.refusal.Refusal.TheVariants.{BadText}
 use Rattle.desk_model.specs.declared.rows.Entry.{Entry}
 use Rattle.desk_model.specs.declared.rows.QueueRow.{QueueRow}
 use Rattle.desk_model.specs.declared.rows.RequestRow.{RequestRow}
@@ -346,8 +345,8 @@ change_brings s at caller command desk sound queues all free =
     let known : knows s caller ≡ true =
     holding (knows s caller)
     (passed (UnknownCaller, not (knows s caller))
-    ((BadMoment, not (is_moment at)) ∷ (BadText, has_bad_text plan)
-    ∷ conditions_by asks (seen_by plan desk) plan) free).0 in
+    ((BadMoment, not (is_moment at))
+    ∷ (conditions_of_words asks plan ++ conditions_by asks (seen_by plan desk) plan)) free).0 in
     record {
       queue = by_plan_at (λ d change. KnowsQueue s change.queue) asks plan desk (λ reads. tt)
           (opens asks desk command) free;

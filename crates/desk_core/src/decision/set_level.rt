@@ -5,6 +5,7 @@ ghost use Rattle.desk_model.specs.Commands.SetLevel as set_level;
 ghost use Rattle.desk_model.specs.Plan.{Nothing};
 ghost use Rattle.desk_core.specs.Context.{DecidesOn, PassesOn};
 
+use crate::beforehand::knows_level;
 use crate::decision::Context;
 use desk_model::{Change, EntryKind, Refusal, RequestRow, SeenRequest};
 use rights_core::right;
@@ -30,7 +31,7 @@ impl Context<'_> {
         ensures asks { PassesOn result (set_level.conditions level.now) self.now request.now }
         ensures fits { OnOk result (request.now.entry_count + 1 < 2 ^ 32) }
     {
-        if !self.knows_level(level) {
+        if !knows_level(self.settings, level) {
             return Err(Refusal::UnknownName);
         }
         self.ask(right::MODIFY_TICKET, request)?;
