@@ -1,7 +1,7 @@
 //! All that is told of a request, by one look at it.
-ghost use Rattle.std.specs.Prelude.{◌≡◌, ℕ, true, IfErr, IfOk, Some};
+ghost use Rattle.std.specs.Prelude.{◌≡◌, ℕ, true, IfErr, IfOk, Some, None};
 ghost use Rattle.desk_model.specs.Facts.{facts_on_request};
-ghost use Rattle.desk_model.specs.Step.{answer_of};
+ghost use Rattle.desk_model.specs.Step.{answer_of, refusal_beforehand};
 ghost use Rattle.desk_model.specs.Refusals.{names_its_right};
 ghost use Rattle.store_tables.specs.Calls.{Spares, Tells};
 ghost use Rattle.store_core.specs.Due.{TellsDue};
@@ -12,7 +12,8 @@ ghost use Rattle.service_core.specs.Seen.{settings_of, tables_of};
 use crate::desk::Desk;
 use crate::reading::{history, show};
 use desk_core::{
-    Answer, Command, Dossier, Entry, Facts, QueueRow, Refusal, Shown, decide, refused_beforehand,
+    Answer, Command, Dossier, Entry, Facts, QueueRow, Refusal, Shown, decide_on_facts,
+    refused_beforehand,
 };
 use desk_lists::unavailable;
 use settings_core::Settings;
@@ -86,7 +87,8 @@ fn look<S: Backend>(
     id: u32,
     show: &Command,
 ) -> Result<Dossier, Refusal>
-    requires { show.now ≡ Command.Show id }
+    requires shows { show.now ≡ Command.Show id }
+    requires free { refusal_beforehand settings.now at caller.now show.now ≡ None }
     ensures told { DossierOn settings.now at caller.now id result
         (state_of S.Store store.old) (state_of S.Store store.new) }
     ensures kept { Spares (state_of S.Store store.old) (state_of S.Store store.new) }
@@ -113,14 +115,15 @@ fn judged<S: Backend>(
     show: &Command,
     facts: &Facts,
 ) -> Result<Dossier, Refusal>
-    requires { show.now ≡ Command.Show id }
+    requires shows { show.now ≡ Command.Show id }
+    requires free { refusal_beforehand settings.now at caller.now show.now ≡ None }
     ensures told { DossierWhere (λ desk. facts.now ≡ facts_on_request desk id)
         settings.now at caller.now id result
         (state_of S.Store store.old) (state_of S.Store store.new) }
     ensures kept { Spares (state_of S.Store store.old) (state_of S.Store store.new) }
     ensures named { IfErr result (λ refusal. names_its_right refusal ≡ true) }
 {
-    match decide(alloc, settings, at, caller, facts, show) {
+    match decide_on_facts(alloc, settings, at, caller, facts, show) {
         Ok(change) => {
             drop(change);
             put_together(alloc, store, settings, caller, facts)

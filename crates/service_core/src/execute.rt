@@ -2,9 +2,10 @@
 //!
 //! What owns much is given back by `drop`, whose proof stands once; at the end of its scope it
 //! would be taken apart for each function's own proof.
-ghost use Rattle.std.specs.Prelude.{◌≡◌, true, IfErr, IfOk, OnErr, OnOk};
+ghost use Rattle.std.specs.Prelude.{◌≡◌, true, None, IfErr, IfOk, OnErr, OnOk};
 ghost use Rattle.desk_model.specs.Plan.{told_of};
 ghost use Rattle.desk_model.specs.Refusals.{names_its_right};
+ghost use Rattle.desk_model.specs.Step.{refusal_beforehand};
 ghost use Rattle.store_tables.specs.Calls.{Lasts, Spares, WasClean};
 ghost use Rattle.store_core.specs.Seen.{state_of};
 ghost use Rattle.service_core.specs.Decided.{CarriesOut, StepsSeeing, Writes};
@@ -13,7 +14,7 @@ ghost use Rattle.service_core.specs.Seen.{settings_of, tables_of};
 
 use crate::desk::Desk;
 use crate::reading;
-use desk_core::{Answer, Change, Command, Facts, Refusal, decide, refused_beforehand};
+use desk_core::{Answer, Change, Command, Facts, Refusal, decide_on_facts, refused_beforehand};
 use desk_lists::unavailable;
 use settings_core::Settings;
 use std::alloc::Global;
@@ -80,6 +81,7 @@ fn look_and_step<S: Backend>(
     caller: &str,
     command: &Command,
 ) -> Result<Answer, Refusal>
+    requires { refusal_beforehand settings.now at caller.now command.now ≡ None }
     ensures step { StepsOn settings.now (ask_by at caller.now command.now) result
         (state_of S.Store store.old) (state_of S.Store store.new) }
     ensures refused { OnErr result
@@ -109,6 +111,7 @@ fn decided<S: Backend>(
     command: &Command,
     facts: &Facts,
 ) -> Result<Answer, Refusal>
+    requires { refusal_beforehand settings.now at caller.now command.now ≡ None }
     ensures step { StepsSeeing facts.now settings.now (ask_by at caller.now command.now) result
         (state_of S.Store store.old) (state_of S.Store store.new) }
     ensures refused { OnErr result
@@ -117,7 +120,7 @@ fn decided<S: Backend>(
     ensures honest { WasClean (state_of S.Store store.old) (state_of S.Store store.new) }
     ensures lasts { Lasts (state_of S.Store store.old) (state_of S.Store store.new) }
 {
-    match decide(alloc, settings, at, caller, facts, command) {
+    match decide_on_facts(alloc, settings, at, caller, facts, command) {
         Ok(change) => {
             let answer = carry_out(alloc, store, settings, at, caller, command, facts, &change);
             drop(change);

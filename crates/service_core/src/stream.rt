@@ -2,9 +2,9 @@
 //!
 //! What owns much is given back by `drop`, whose proof stands once; at the end of its scope it
 //! would be taken apart for each function's own proof.
-ghost use Rattle.std.specs.Prelude.{◌≡◌, false};
+ghost use Rattle.std.specs.Prelude.{◌≡◌, false, None};
 ghost use Rattle.desk_model.specs.Desk as desks;
-ghost use Rattle.desk_model.specs.Step.{facts_of};
+ghost use Rattle.desk_model.specs.Step.{facts_of, refusal_beforehand};
 ghost use Rattle.store_tables.specs.Calls.{Spares};
 ghost use Rattle.store_core.specs.Seen.{state_of};
 ghost use Rattle.stream_core.specs.Seen.{HaveOneWriter, has_write_failed};
@@ -16,7 +16,7 @@ ghost use Rattle.service_core.specs.Streaming.{is_write};
 ghost use Rattle.service_core.specs.TableSteps.{ask_by};
 
 use crate::desk::Desk;
-use desk_core::{Command, Facts, Refusal, decide, refused_beforehand};
+use desk_core::{Command, Facts, Refusal, decide_on_facts, refused_beforehand};
 use desk_lists::{StreamFault, or_unavailable, stream_list, stream_overdue};
 use settings_core::Settings;
 use std::alloc::Global;
@@ -116,7 +116,8 @@ fn admit_and_put<S: Backend, W: Write>(
     command: &Command,
     output: &mut CountedWriter<'_, W>,
 ) -> Result<(), StreamFault>
-    requires { has_write_failed output.old ≡ false }
+    requires ready { has_write_failed output.old ≡ false }
+    requires free { refusal_beforehand settings.now at caller.now command.now ≡ None }
     ensures same_writer { HaveOneWriter output.new output.old }
     ensures streamed { StreamsOn settings.now (ask_by at caller.now command.now)
         (state_of S.Store store.old) (state_of S.Store store.new) result
@@ -139,6 +140,7 @@ fn admit<S: Backend>(
     caller: &str,
     command: &Command,
 ) -> Result<(), Refusal>
+    requires { refusal_beforehand settings.now at caller.now command.now ≡ None }
     ensures admitted { Admits settings.now (ask_by at caller.now command.now) result
         (state_of S.Store store.old) (state_of S.Store store.new) }
     ensures kept { Spares (state_of S.Store store.old) (state_of S.Store store.new) }
@@ -158,10 +160,11 @@ fn admit_seeing(
     command: &Command,
     facts: &Facts,
 ) -> Result<(), Refusal>
+    requires { refusal_beforehand settings.now at caller.now command.now ≡ None }
     ensures { (desk : desks.Desk) → facts.now ≡ facts_of command.now desk
         → IsAdmitted settings.now (ask_by at caller.now command.now) desk result }
 {
-    match decide(alloc, settings, at, caller, facts, command) {
+    match decide_on_facts(alloc, settings, at, caller, facts, command) {
         Ok(change) => {
             drop(change);
             Ok(())

@@ -12,7 +12,7 @@ returns-in-Ok-clause-told g c desk is stand clean =
     let due = due_of_row c.args.settings.now desk in
     c.judged-dossier.ensures.told desk is
     (c.in-Ok.ensures.told desk is (due, stand) (c.judged-dossier.ensures.kept.clean clean)
-    ∙ ap (λ show. facts_of show desk) c.requires)
+    ∙ ap (λ show. facts_of show desk) c.requires.shows)
     (stands c.facts_for.ensures.kept (contents_of due desk) stand) clean
 
 pub returns-in-Ok-clause-kept : goal.returns-in-Ok-clause-kept
