@@ -35,16 +35,17 @@ use Rattle.desk_model.specs.IsDesk.{IsDesk, has_both_ends, has_its_entries, pers
 use Rattle.desk_model.specs.Rights.{is_shown}
 use Rattle.desk_core.proofs.Roles.{own_roles_law}
 use Rattle.settings_core.specs.declared.settings.Settings.{Settings}
-use Rattle.store_tables.specs.Orders.{by_link, by_role, by_target}
+use Rattle.store_tables.specs.Contents.Entry.{place_of, tells_of}
+use Rattle.store_tables.specs.Contents.Link.{by_link, by_target, links_from}
+use Rattle.store_tables.specs.Contents.Request.{is_numbered, number_of}
+use Rattle.store_tables.specs.Contents.Watcher.{by_role, watches}
 use Rattle.store_tables.specs.Contents.{entries, request_rows, requests, watchers}
 use Rattle.store_tables.specs.Readings.{OfDesk, Reads}
 use Rattle.store_tables.specs.declared.fault.StoreFault.{StoreFault}
 use Rattle.store_tables.proofs.DueLemmas.{rows_dated}
 use Rattle.store_tables.proofs.ReadOn.{telling}
 use Rattle.store_tables.specs.Picked.{AreOrdered, IsGreatest}
-use Rattle.store_tables.specs.Selection as chosen
-use Rattle.store_tables.specs.Selection.{is_numbered, links_from, number_of, place_of, tells_of}
-use Rattle.store_tables.specs.Selection.{watches}
+use Rattle.store_tables.specs.Contents.Link as chosen
 use Rattle.store_core.proofs.FactsLemmas.{each_alike, found_row, greatest_counts, part_is}
 use Rattle.store_core.proofs.FactsLemmas.{some_found}
 use Rattle.store_core.specs.Found.{persons_in, has_number, dependency_at, dependency_by}

@@ -13,9 +13,11 @@ use Rattle.store_tables.specs.Contents.{Contents, no_contents, HasBadRow, desk_s
 use Rattle.store_tables.specs.Making.{IsBlank, IsOfMeta, LacksVersion, numbered}
 use Rattle.store_tables.specs.Stands.{FirstStand, GoesBack, HasFront, HasTables, HoldsNow, Stand}
 use Rattle.store_tables.specs.Stands.{filled, is_among}
-use Rattle.store_tables.specs.Queries.{entry_shown_terms, last_id_terms, version_shown}
-use Rattle.store_tables.specs.Reading.{IsEntryRow, IsNumberRow}
-use Rattle.store_tables.specs.Tables.{no_schema}
+use Rattle.store_tables.specs.Contents.Entry.{IsEntryRow, entry_shown_terms}
+use Rattle.store_tables.specs.Contents.Meta.{version_shown}
+use Rattle.store_tables.specs.Contents.Request.{last_id_terms}
+use Rattle.store_tables.specs.Strict.{no_schema}
+use Rattle.store_tables.specs.Values.{IsNumberRow}
 use Rattle.store_tables.specs.declared.fault.StoreFault.{StoreFault}
 use Rattle.store_tables.proofs.StandLemmas.{back_both}
 use Rattle.store_tables.proofs.AllTables.{none_held, part_of_all, same_tables}

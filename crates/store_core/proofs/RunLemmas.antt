@@ -9,10 +9,10 @@ use Rattle.sqlite_rules.specs.Lists.{Has}
 use Rattle.store_tables.specs.Calls.{Does, FailsIn, Looks}
 use Rattle.store_tables.specs.Contents.{Contents, HasBadRow, Tables}
 use Rattle.store_tables.specs.Picked.{shows}
-use Rattle.store_tables.specs.Queries.{version_shown}
-use Rattle.store_tables.specs.Reading.{IsNumberRow}
+use Rattle.store_tables.specs.Contents.{first_schema}
+use Rattle.store_tables.specs.Contents.Meta.{version_shown}
+use Rattle.store_tables.specs.Values.{IsNumberRow}
 use Rattle.store_tables.specs.Stands.{HoldsNow, OnlyStaysChange}
-use Rattle.store_tables.specs.Tables.{first_schema}
 use Rattle.store_tables.specs.declared.fault.StoreFault.{StoreFault}
 use Rattle.store_tables.proofs.Lasting.{on, same}
 use Rattle.store_tables.proofs.RowLemmas.{TableOf, refuses}

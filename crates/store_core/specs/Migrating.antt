@@ -12,11 +12,13 @@ use Rattle.store_tables.specs.Calls.{Lasts, WasClean}
 use Rattle.store_tables.specs.Contents.{Contents, add_stay, contents_of, first_contents_of}
 use Rattle.store_tables.specs.Contents.{HasBadRow, Tables, desk_schema, front, table_count}
 use Rattle.store_tables.specs.Making.{IsKnown, IsOfMeta, numbered}
-use Rattle.store_tables.specs.Queries.{entry_shown_terms, last_id_terms, version_shown}
-use Rattle.store_tables.specs.Reading.{IsEntryRow, IsNumberRow}
+use Rattle.store_tables.specs.Contents.Entry.{IsEntryRow, entry_shown_terms}
+use Rattle.store_tables.specs.Contents.Meta.{version_shown}
+use Rattle.store_tables.specs.Contents.Request.{last_id_terms}
+use Rattle.store_tables.specs.Contents.Stay.{stay_rows}
+use Rattle.store_tables.specs.Values.{IsNumberRow}
 use Rattle.store_tables.specs.Stands.{FirstStand, GoesOn, HasFront, HasTables, HoldsNow, KeepsBase}
 use Rattle.store_tables.specs.Stands.{Stand, filled}
-use Rattle.store_tables.specs.Stays.{stay_rows}
 use Rattle.store_tables.specs.declared.fault.StoreFault.{StoreFault}
 use Rattle.store_tables.specs.declared.fault.StoreFault.TheVariants.{Mismatch, Refused}
 use Rattle.store_tables.specs.declared.fault.StoreFault.TheVariants.{WrongVersion}

@@ -23,10 +23,10 @@ use Rattle.desk_model.specs.Step.{call, facts_of, guard}
 use Rattle.desk_model.specs.Watchers.{is_watching}
 use Rattle.store_tables.specs.Contents.{Contents, watchers}
 use Rattle.store_tables.specs.Contents.{add_queue, add_request, set_request, add_watcher}
-use Rattle.store_tables.specs.Dated.{due_but}
+use Rattle.store_tables.specs.Contents.Request.{due_but}
+use Rattle.store_tables.specs.Contents.Stay.{stay_row}
 use Rattle.store_tables.specs.Contents.{drop_watcher, add_link, drop_link, add_entry}
 use Rattle.store_tables.specs.Contents.{add_stay, end_stay}
-use Rattle.store_tables.specs.Stays.{stay_row}
 
 abbrev pub queue_added : Option QueueRow → Contents → Contents
 queue_added None c = c

@@ -14,12 +14,12 @@ use desk_core::{Change, Entry, LinkRow, QueueRow, RequestRow};
 use hours_core::{Minute, Stay};
 use sqlite::{Alter, Transaction};
 use store_tables::StoreFault;
-use store_tables::writes::entries::put_entries;
-use store_tables::writes::links::{drop_link, put_link};
-use store_tables::writes::queues::put_queue;
-use store_tables::writes::requests::{put_request, set_request};
-use store_tables::writes::stays::{end_stay, put_stay};
-use store_tables::writes::watchers::{drop_watchers, put_watchers};
+use store_tables::tables::entry::put_entries;
+use store_tables::tables::link::{drop_link, put_link};
+use store_tables::tables::queue::put_queue;
+use store_tables::tables::request::{put_request, set_request};
+use store_tables::tables::stay::{end_stay, put_stay};
+use store_tables::tables::watcher::{drop_watchers, put_watchers};
 
 /// Adds the queue, if there is one.
 fn open_queue<S: Alter>(

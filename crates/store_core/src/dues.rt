@@ -11,7 +11,7 @@ use crate::store::Store;
 use hours_core::Minute;
 use sqlite::Alter;
 use store_tables::transaction::finish;
-use store_tables::writes::requests::set_dues;
+use store_tables::tables::request::dated::set_dues;
 use store_tables::{StoreFault, Tables};
 
 /// Writes due moments in one transaction: all of them, or none.

@@ -13,7 +13,8 @@ use crate::making::make_schema;
 use crate::store::Store;
 use sqlite::{Alter, Connection, MemStore};
 use std::alloc::Global;
-use store_tables::{StoreFault, Tables, reads};
+use store_tables::{StoreFault, Tables};
+use store_tables::tables::{meta};
 
 impl Store<MemStore> {
     /// A store in memory, without tables. `Refused` where out of memory.
@@ -89,7 +90,7 @@ impl<S: Alter> Store<S> {
         ensures fault { IfErr result (λ e. e ≢ StoreFault.WrongVersion) }
         ensures kept { Spares (state_of S.Store self.old) (state_of S.Store self.new) }
     {
-        reads::version::version(&mut self.tables)
+        meta::version(&mut self.tables)
     }
 
     /// Whether the connection is open: a fault of the disk shuts it for good. `Refused` where the
@@ -100,6 +101,6 @@ impl<S: Alter> Store<S> {
         ensures kept { Spares (state_of S.Store self.old) (state_of S.Store self.new) }
         ensures fault { IfErr result (λ e. e ≡ StoreFault.Refused) }
     {
-        reads::open::is_open(&mut self.tables)
+        meta::is_open(&mut self.tables)
     }
 }

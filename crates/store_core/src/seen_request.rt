@@ -10,10 +10,10 @@ ghost use Rattle.store_tables.specs.Seen.{seen};
 use desk_core::{QueueRow, RequestRow, SeenRequest, WatchRole, Watcher, is_role};
 use sqlite::Alter;
 use std::alloc::Global;
-use store_tables::reads::entries_by_key::last_number;
-use store_tables::reads::queues::queue_named;
-use store_tables::reads::requests_by_key::request_numbered;
-use store_tables::reads::watchers_by_key::watchers_of;
+use store_tables::tables::entry::last_number;
+use store_tables::tables::queue::queue_named;
+use store_tables::tables::request::request_numbered;
+use store_tables::tables::watcher::watchers_of;
 use store_tables::{StoreFault, Tables};
 use text_core::{Text, Texts};
 

@@ -6,7 +6,7 @@ ghost use Rattle.store_tables.specs.Calls.{Inside, Looks, Runs};
 ghost use Rattle.store_tables.specs.Contents.{Contents};
 ghost use Rattle.store_tables.specs.Making.{BlamesMeta, IsKnown, IsOfMeta, LacksVersion};
 ghost use Rattle.store_tables.specs.Making.{WrongInside};
-ghost use Rattle.store_tables.specs.Mismatches.{MismatchesInMeta};
+ghost use Rattle.store_tables.specs.Making.{MismatchesInMeta};
 ghost use Rattle.store_tables.specs.Stands.{GoesOn, HasTables, HoldsNow};
 ghost use Rattle.store_tables.specs.declared.fault.StoreFault.{StoreFault};
 ghost use Rattle.store_core.specs.Migrating.{BringsUp, IsBlamed, RefusesOn, RunsOn};
@@ -15,8 +15,8 @@ use crate::migration::migrate;
 use sqlite::{Alter, Transaction};
 use std::alloc::Global;
 use store_tables::StoreFault;
-use store_tables::inside::version_rows;
-use store_tables::reads::version::version_in;
+use store_tables::tables::meta::version_rows;
+use store_tables::tables::meta::version_in;
 use store_tables::transaction::run;
 
 /// The version that the tables hold, or none where `meta` has no row.

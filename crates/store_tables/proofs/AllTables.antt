@@ -18,10 +18,14 @@ use Rattle.store_tables.specs.Contents.{AreAlike, AreValues, Contents, no_conten
 use Rattle.store_tables.specs.Contents.{Tables, desk_schema, front, table_count, table_texts}
 use Rattle.store_tables.specs.Kept.{Holds}
 use Rattle.store_tables.specs.Making.{numbered}
-use Rattle.store_tables.specs.Queries.{version_query, version_text}
-use Rattle.store_tables.specs.Spelling.{version_row}
+use Rattle.store_tables.specs.Contents.Entry.{entry}
+use Rattle.store_tables.specs.Contents.Link.{link}
+use Rattle.store_tables.specs.Contents.Meta.{meta, version_query, version_row, version_text}
+use Rattle.store_tables.specs.Contents.Queue.{queue}
+use Rattle.store_tables.specs.Contents.Request.{request}
+use Rattle.store_tables.specs.Contents.Stay.{stay}
+use Rattle.store_tables.specs.Contents.Watcher.{watcher}
 use Rattle.store_tables.specs.Stands.{filled, is_among}
-use Rattle.store_tables.specs.Tables.{entry, link, meta, queue, request, stay, watcher}
 use Rattle.store_tables.proofs.ChangeLemmas.{Moves, apart}
 use Rattle.store_tables.proofs.CreateLemmas.{Defines, IsCreate, is_there}
 use Rattle.store_tables.proofs.DueLemmas.{AreEach}

@@ -6,13 +6,15 @@ use Rattle.desk_model.specs.declared.rows.RequestRow.{RequestRow}
 use Rattle.desk_model.specs.declared.rows.Watcher.{Watcher}
 use Rattle.desk_model.specs.declared.rows.Entry.{Entry}
 use Rattle.desk_model.specs.declared.rows.LinkRow.{LinkRow}
-use Rattle.store_tables.specs.Spelling.{count_value, queue_columns, request_shown, watcher_columns}
-use Rattle.store_tables.specs.Spelling.{link_columns, entry_columns, text_shown, stay_columns}
-use Rattle.store_tables.specs.Dated.{Dated, dated_shown}
-use Rattle.store_tables.specs.Reading.{ReadsDated, ReadsQueue, ReadsRequest, ReadsWatcher}
-use Rattle.store_tables.specs.Reading.{ReadsCount, ReadsLink, ReadsEntry, ReadsText}
-use Rattle.store_tables.specs.Reading.{ReadsRequestStay, ReadsStay}
-use Rattle.store_tables.specs.Stays.{StayRow, request_stay}
+use Rattle.store_tables.specs.Contents.Entry.{ReadsEntry, entry_columns}
+use Rattle.store_tables.specs.Contents.Link.{ReadsLink, link_columns}
+use Rattle.store_tables.specs.Contents.Queue.{ReadsQueue, queue_columns}
+use Rattle.store_tables.specs.Contents.Request.{Dated, ReadsDated, ReadsRequest, dated_shown}
+use Rattle.store_tables.specs.Contents.Request.{request_shown}
+use Rattle.store_tables.specs.Contents.Stay.{ReadsRequestStay, ReadsStay, StayRow, request_stay}
+use Rattle.store_tables.specs.Contents.Stay.{stay_columns}
+use Rattle.store_tables.specs.Contents.Watcher.{ReadsWatcher, watcher_columns}
+use Rattle.store_tables.specs.Values.{ReadsCount, ReadsText, count_value, text_shown}
 
 pub same_count : {m n : ℕ} → count_value m ≡ count_value n → m ≡ n
 same_count e = cc

@@ -1,9 +1,8 @@
 -- What a list that isn't read blames: a bad row of its table.
 use Rattle.std.proofs.Common.{Result}
 use Rattle.sqlite.specs.State.{State}
-use Rattle.store_tables.specs.Mismatches.{MismatchesInActors, MismatchesInDated, MismatchesInLinks}
-use Rattle.store_tables.specs.Mismatches.{MismatchesInQueues, MismatchesInStays}
-use Rattle.store_tables.specs.Mismatches.{MismatchesInWatchers}
+use Rattle.store_tables.specs.Readings.{MismatchesInActors, MismatchesInDated, MismatchesInLinks}
+use Rattle.store_tables.specs.Readings.{MismatchesInQueues, MismatchesInStays, MismatchesInWatchers}
 use Rattle.store_tables.specs.Readings.{Blames}
 use Rattle.store_tables.specs.declared.fault.StoreFault.{StoreFault}
 use Rattle.store_tables.proofs.EachTable.{actor_table, dated_table, link_table, queue_table}

@@ -9,15 +9,17 @@ use Rattle.desk_model.specs.Links.{kind_number}
 use Rattle.desk_model.specs.declared.rows.LinkKind.{LinkKind}
 use Rattle.desk_model.specs.declared.rows.LinkRow.{LinkRow}
 use Rattle.store_tables.specs.Contents.{desk_schema}
-use Rattle.store_tables.specs.Dated.{id_of}
+use Rattle.store_tables.specs.Contents.Entry.{tells_of}
+use Rattle.store_tables.specs.Contents.Link.{ends_at, is_link, link_columns, links_from, starts_at}
+use Rattle.store_tables.specs.Contents.Link.{target_order}
+use Rattle.store_tables.specs.Contents.Queue.{is_named, queue_order}
+use Rattle.store_tables.specs.Contents.Request.{due_order, has_number, id_of, is_dated_in}
+use Rattle.store_tables.specs.Contents.Request.{is_due_before, is_filed_in, is_numbered, number_of}
+use Rattle.store_tables.specs.Contents.Stay.{is_of, stay_order}
+use Rattle.store_tables.specs.Contents.Watcher.{is_of_person, role_order, standing_order, watches}
+use Rattle.store_tables.specs.Query.{id_order, number_order, reads, three_order}
+use Rattle.store_tables.specs.Values.{count_value}
 use Rattle.store_tables.specs.Picked.{passes, shows}
-use Rattle.store_tables.specs.Queries.{reads, due_order, number_order, standing_order, target_order}
-use Rattle.store_tables.specs.Queries.{id_order, queue_order, role_order, three_order, stay_order}
-use Rattle.store_tables.specs.Selection.{has_number, is_dated_in, is_due_before, number_of, ends_at}
-use Rattle.store_tables.specs.Selection.{is_filed_in, is_link, is_named, is_numbered, is_of_person}
-use Rattle.store_tables.specs.Selection.{links_from, starts_at, tells_of, watches}
-use Rattle.store_tables.specs.Spelling.{count_value, link_columns}
-use Rattle.store_tables.specs.Stays.{is_of}
 use Rattle.store_tables.proofs.EachTable.{actor_table, dated_table, entry_table, link_table}
 use Rattle.store_tables.proofs.EachTable.{queue_table, request_table, stay_table, watcher_table}
 use Rattle.store_tables.proofs.Meaning.{SelectsIn}

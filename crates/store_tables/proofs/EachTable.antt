@@ -12,20 +12,22 @@ use Rattle.desk_model.specs.declared.rows.QueueRow.{QueueRow}
 use Rattle.desk_model.specs.declared.rows.RequestRow.{RequestRow}
 use Rattle.desk_model.specs.declared.rows.Watcher.{Watcher}
 use Rattle.store_tables.specs.Contents.{Contents, HasBadRow, HasBadRows, Tables}
-use Rattle.store_tables.specs.Dated.{Dated, dated_row, dated_shown, row_of}
+use Rattle.store_tables.specs.Contents.Entry.{IsEntryRow, ReadsEntry, actor_of, actor_shown}
+use Rattle.store_tables.specs.Contents.Entry.{entry_columns, entry_shown_terms, last_number_terms}
+use Rattle.store_tables.specs.Contents.Entry.{place_of}
+use Rattle.store_tables.specs.Contents.Link.{IsLinkRow, ReadsLink, link_columns}
+use Rattle.store_tables.specs.Contents.Queue.{IsQueueRow, ReadsQueue, queue_columns, queue_shown}
+use Rattle.store_tables.specs.Contents.Request.{Dated, IsDatedRow, IsRequestRow, ReadsDated}
+use Rattle.store_tables.specs.Contents.Request.{ReadsRequest, dated_row, dated_shown}
+use Rattle.store_tables.specs.Contents.Request.{dated_shown_terms, last_id_terms, number_of}
+use Rattle.store_tables.specs.Contents.Request.{request_shown, request_shown_terms, row_of}
+use Rattle.store_tables.specs.Contents.Stay.{IsStayRow, StayRow, stay_columns, stay_shown}
+use Rattle.store_tables.specs.Contents.Watcher.{IsWatcherRow, ReadsWatcher, watcher_columns}
+use Rattle.store_tables.specs.Query.{three_shown}
+use Rattle.store_tables.specs.Values.{IsNumberRow, IsTextRow, ReadsCount, ReadsText, count_value}
+use Rattle.store_tables.specs.Values.{text_shown}
 use Rattle.store_tables.specs.Kept.{Holds, filed, itself, value_of}
 use Rattle.store_tables.specs.Picked.{shows}
-use Rattle.store_tables.specs.Queries.{actor_shown, dated_shown_terms, entry_shown_terms}
-use Rattle.store_tables.specs.Queries.{queue_shown, last_id_terms, last_number_terms}
-use Rattle.store_tables.specs.Queries.{request_shown_terms, stay_shown, three_shown}
-use Rattle.store_tables.specs.Reading.{IsDatedRow, IsEntryRow, IsNumberRow, IsQueueRow, ReadsDated}
-use Rattle.store_tables.specs.Reading.{IsLinkRow, IsStayRow, ReadsCount, ReadsEntry, ReadsQueue}
-use Rattle.store_tables.specs.Reading.{IsRequestRow, IsWatcherRow, ReadsRequest, ReadsWatcher}
-use Rattle.store_tables.specs.Reading.{IsTextRow, ReadsLink, ReadsText}
-use Rattle.store_tables.specs.Selection.{actor_of, number_of, place_of}
-use Rattle.store_tables.specs.Spelling.{count_value, entry_columns, link_columns, queue_columns}
-use Rattle.store_tables.specs.Spelling.{request_shown, text_shown, stay_columns, watcher_columns}
-use Rattle.store_tables.specs.Stays.{StayRow}
 use Rattle.store_tables.proofs.BackLemmas.{dated_back, entry_back, link_back, queue_back}
 use Rattle.store_tables.proofs.BackLemmas.{count_back, request_back, text_back, watcher_back}
 use Rattle.store_tables.proofs.KeptLemmas.{viewed}

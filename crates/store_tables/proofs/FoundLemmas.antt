@@ -10,12 +10,12 @@ use Rattle.sqlite.specs.Term.{Term, col, Env}
 use Rattle.store_tables.specs.Calls.{FailsIn, ReadsRows, Spares}
 use Rattle.store_tables.specs.Contents.{Contents, requests, desk_schema}
 use Rattle.store_tables.specs.Picked.{IsGreatest, ShowsGreatest, passes, shows}
-use Rattle.store_tables.specs.Queries.{last_id_text, last_number_text, last_of, request_test}
-use Rattle.store_tables.specs.Queries.{counting, counts, queue_count_text}
-use Rattle.store_tables.specs.Reading.{IsNumberRow, ReadsCount}
+use Rattle.store_tables.specs.Contents.Entry.{last_number_text, place_of, tells_of}
+use Rattle.store_tables.specs.Contents.Queue.{queue_count_text}
+use Rattle.store_tables.specs.Contents.Request.{last_id_text, number_of}
+use Rattle.store_tables.specs.Query.{counting, counts, last_of, request_test}
+use Rattle.store_tables.specs.Values.{IsNumberRow, ReadsCount, count_value}
 use Rattle.store_tables.specs.Readings.{Blames, Reads}
-use Rattle.store_tables.specs.Selection.{number_of, place_of, tells_of}
-use Rattle.store_tables.specs.Spelling.{count_value}
 use Rattle.store_tables.specs.Stands.{Stand}
 use Rattle.store_tables.specs.declared.fault.StoreFault.{StoreFault}
 use Rattle.store_tables.proofs.EachTable.{entry_table, id_table, place_table, request_table}

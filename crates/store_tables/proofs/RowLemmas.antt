@@ -17,10 +17,10 @@ use Rattle.store_tables.specs.Calls.{Spares, WasClean}
 use Rattle.store_tables.specs.Contents.{Contents, HasBadRow, HasBadRows, Tables}
 use Rattle.store_tables.specs.Kept.{Holds}
 use Rattle.store_tables.specs.Picked.{AreOrdered, AreParts, Lists, Picks, passes, shows, Shows}
-use Rattle.store_tables.specs.Queries.{last_id_terms, reads}
-use Rattle.store_tables.specs.Reading.{IsNumberRow, ReadsCount}
+use Rattle.store_tables.specs.Contents.Request.{last_id_terms}
+use Rattle.store_tables.specs.Query.{reads}
+use Rattle.store_tables.specs.Values.{IsNumberRow, ReadsCount, count_value}
 use Rattle.store_tables.specs.Readings.{Blames, Reads}
-use Rattle.store_tables.specs.Spelling.{count_value}
 use Rattle.store_tables.specs.Stands.{HasTables}
 use Rattle.store_tables.specs.declared.fault.StoreFault.{StoreFault}
 use Rattle.store_tables.specs.declared.fault.StoreFault.TheVariants.{Mismatch, Refused}

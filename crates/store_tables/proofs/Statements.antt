@@ -4,27 +4,34 @@ use Rattle.sqlite_tied.specs.Compute.{everything}
 use Rattle.sqlite.specs.Term.{col}
 use Rattle.sqlite.specs.Source.TheVariants.{Values}
 use Rattle.sqlite.specs.Command.TheVariants.{Insert, Update, Delete}
-use Rattle.store_tables.specs.Queries.{add_version_text, request_shown_terms, request_numbered_text}
-use Rattle.store_tables.specs.Queries.{add_version_terms, dated_numbered_text, numbers_before_text}
-use Rattle.store_tables.specs.Queries.{add_request_terms, set_request_terms, drop_watcher_text}
-use Rattle.store_tables.specs.Queries.{entry_shown_terms, queue_named_query, dated_before_text}
-use Rattle.store_tables.specs.Queries.{add_request_text, dated_shown_terms, set_version_terms}
-use Rattle.store_tables.specs.Queries.{add_watcher_text, set_request_text, last_number_text, reads}
-use Rattle.store_tables.specs.Queries.{queue_named_text, requests_of_text, watchers_of_text}
-use Rattle.store_tables.specs.Queries.{add_entry_terms, add_queue_terms, id_order, set_version_text}
-use Rattle.store_tables.specs.Queries.{add_three_terms, entries_of_text, links_from_test, due_order}
-use Rattle.store_tables.specs.Queries.{links_from_text, watches_of_text, numbers_in_text, stay_test}
-use Rattle.store_tables.specs.Queries.{add_entry_text, add_queue_text, drop_link_text, last_id_text}
-use Rattle.store_tables.specs.Queries.{link_like_text, number_order, standing_order, add_stay_terms}
-use Rattle.store_tables.specs.Queries.{add_link_text, all_from_text, numbered_test, end_stay_terms}
-use Rattle.store_tables.specs.Queries.{requests_text, version_query, watchers_text, last_id_terms}
-use Rattle.store_tables.specs.Queries.{set_due_terms, add_stay_text, dated_of_text, end_stay_text}
-use Rattle.store_tables.specs.Queries.{queues_query, request_test, target_order, stays_of_text}
-use Rattle.store_tables.specs.Queries.{actor_shown, version_text, set_due_text, numbers_text}
-use Rattle.store_tables.specs.Queries.{actors_text, last_of, all_to_text, queues_text, source_test}
-use Rattle.store_tables.specs.Queries.{target_test, three_order, three_shown, person_test}
-use Rattle.store_tables.specs.Queries.{links_text, role_order, three_test, filed_test, before_test}
-use Rattle.store_tables.specs.Queries.{dated_text, stay_order, stay_shown, stays_text}
+use Rattle.store_tables.specs.Contents.Entry.{actor_shown, actors_text, add_entry_terms}
+use Rattle.store_tables.specs.Contents.Entry.{add_entry_text, entries_of_text, entry_shown_terms}
+use Rattle.store_tables.specs.Contents.Entry.{last_number_text}
+use Rattle.store_tables.specs.Contents.Link.{add_link_text, all_from_text, all_to_text}
+use Rattle.store_tables.specs.Contents.Link.{drop_link_text, link_like_text, links_from_test}
+use Rattle.store_tables.specs.Contents.Link.{links_from_text, links_text, source_test, target_order}
+use Rattle.store_tables.specs.Contents.Link.{target_test}
+use Rattle.store_tables.specs.Contents.Meta.{add_version_terms, add_version_text, set_version_terms}
+use Rattle.store_tables.specs.Contents.Meta.{set_version_text, version_query, version_text}
+use Rattle.store_tables.specs.Contents.Queue.{add_queue_terms, add_queue_text, queue_named_query}
+use Rattle.store_tables.specs.Contents.Queue.{queue_named_text, queues_query, queues_text}
+use Rattle.store_tables.specs.Contents.Request.{add_request_terms, add_request_text, before_test}
+use Rattle.store_tables.specs.Contents.Request.{dated_before_text, dated_numbered_text}
+use Rattle.store_tables.specs.Contents.Request.{dated_of_text, dated_shown_terms, dated_text}
+use Rattle.store_tables.specs.Contents.Request.{due_order, filed_test, last_id_terms, last_id_text}
+use Rattle.store_tables.specs.Contents.Request.{numbered_test, numbers_before_text, numbers_in_text}
+use Rattle.store_tables.specs.Contents.Request.{numbers_text, request_numbered_text}
+use Rattle.store_tables.specs.Contents.Request.{request_shown_terms, requests_of_text}
+use Rattle.store_tables.specs.Contents.Request.{requests_text, set_due_terms, set_due_text}
+use Rattle.store_tables.specs.Contents.Request.{set_request_terms, set_request_text}
+use Rattle.store_tables.specs.Contents.Stay.{add_stay_terms, add_stay_text, end_stay_terms}
+use Rattle.store_tables.specs.Contents.Stay.{end_stay_text, stay_order, stay_shown, stay_test}
+use Rattle.store_tables.specs.Contents.Stay.{stays_of_text, stays_text}
+use Rattle.store_tables.specs.Contents.Watcher.{add_watcher_text, drop_watcher_text, person_test}
+use Rattle.store_tables.specs.Contents.Watcher.{role_order, standing_order, watchers_of_text}
+use Rattle.store_tables.specs.Contents.Watcher.{watchers_text, watches_of_text}
+use Rattle.store_tables.specs.Query.{add_three_terms, id_order, last_of, number_order, reads}
+use Rattle.store_tables.specs.Query.{request_test, three_order, three_shown, three_test}
 use Rattle.sqlite.specs.Listing.{understood}
 use Rattle.store_tables.proofs.Meaning.{Changes, Selects}
 

@@ -8,11 +8,11 @@ use Rattle.sqlite_tied.proofs.RuleLemmas.{and_true}
 use Rattle.hours_core.specs.declared.stay.Stay.{Stay}
 use Rattle.store_tables.specs.Contents.{Contents, add_stay, end_stay, Tables, desk_schema}
 use Rattle.store_tables.specs.Kept.{filed}
-use Rattle.store_tables.specs.Queries.{add_stay_text, end_stay_text}
-use Rattle.store_tables.specs.Reading.{IsMinute, IsMinuteOrNull, IsStayRow}
-use Rattle.store_tables.specs.Spelling.{count_value, stay_columns}
-use Rattle.store_tables.specs.Stays.{StayRow, is_stay, stay_row, stay_rows_from, with_end}
-use Rattle.store_tables.specs.Tables.{first_schema, stay}
+use Rattle.store_tables.specs.Contents.{first_schema}
+use Rattle.store_tables.specs.Contents.Stay.{IsStayRow, StayRow, add_stay_text, end_stay_text}
+use Rattle.store_tables.specs.Contents.Stay.{is_stay, stay, stay_columns, stay_row, stay_rows_from}
+use Rattle.store_tables.specs.Contents.Stay.{with_end}
+use Rattle.store_tables.specs.Values.{IsMinute, IsMinuteOrNull, count_value}
 use Rattle.store_tables.proofs.ChangeLemmas.{Added, adds, apart, cast_int, cast_null, sets}
 use Rattle.store_tables.proofs.Statements.{add_stay_is, end_stay_is}
 use Rattle.store_tables.proofs.TableLemmas.{cast_moment, changes, puts}

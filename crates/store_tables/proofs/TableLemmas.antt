@@ -21,21 +21,21 @@ use Rattle.desk_model.specs.declared.rows.RequestRow.{RequestRow}
 use Rattle.desk_model.specs.declared.rows.Watcher.{Watcher}
 use Rattle.desk_model.specs.declared.rows.Entry.{Entry}
 use Rattle.desk_model.specs.declared.rows.LinkRow.{LinkRow}
-use Rattle.store_tables.specs.Dated.{Dated, dated_row, dated_shown}
+use Rattle.store_tables.specs.Contents.Entry.{IsEntryRow, add_entry_text, entry, entry_columns}
+use Rattle.store_tables.specs.Contents.Link.{IsLinkRow, add_link_text, drop_link_text, is_link}
+use Rattle.store_tables.specs.Contents.Link.{link, link_columns}
+use Rattle.store_tables.specs.Contents.Queue.{IsQueueRow, add_queue_text, queue, queue_columns}
+use Rattle.store_tables.specs.Contents.Request.{Dated, IsDatedRow, add_request_text, dated_row}
+use Rattle.store_tables.specs.Contents.Request.{dated_shown, has_number, is_numbered, numbered_test}
+use Rattle.store_tables.specs.Contents.Request.{request, set_due_text, set_request_text}
+use Rattle.store_tables.specs.Contents.Watcher.{IsWatcherRow, add_watcher_text, drop_watcher_text}
+use Rattle.store_tables.specs.Contents.Watcher.{is_watcher, watcher, watcher_columns}
+use Rattle.store_tables.specs.Values.{IsMinuteOrNull, count_value}
 use Rattle.store_tables.specs.Kept.{itself, Holds}
-use Rattle.store_tables.specs.Reading.{IsEntryRow, IsLinkRow, IsQueueRow, IsDatedRow}
-use Rattle.store_tables.specs.Reading.{IsMinuteOrNull, IsWatcherRow}
-use Rattle.store_tables.specs.Tables.{queue, request, watcher, link, entry}
-use Rattle.store_tables.specs.Queries.{add_request_text, add_watcher_text, drop_watcher_text}
-use Rattle.store_tables.specs.Queries.{add_entry_text, add_queue_text, set_request_text}
-use Rattle.store_tables.specs.Queries.{add_link_text, drop_link_text, set_due_text, numbered_test}
 use Rattle.store_tables.specs.Picked.{passes, shows}
-use Rattle.store_tables.specs.Selection.{has_number, is_watcher, is_link, is_numbered}
 use Rattle.store_tables.specs.Contents.{drop_watcher, add_link, drop_link, add_entry, set_due}
 use Rattle.store_tables.specs.Contents.{Contents, add_queue, add_request, set_request, add_watcher}
 use Rattle.store_tables.specs.Contents.{Tables}
-use Rattle.store_tables.specs.Spelling.{queue_columns, watcher_columns, link_columns}
-use Rattle.store_tables.specs.Spelling.{entry_columns, count_value}
 use Rattle.store_tables.proofs.Statements.{add_entry_is, add_link_is, add_queue_is, add_request_is}
 use Rattle.store_tables.proofs.Statements.{add_watcher_is, drop_link_is, drop_watcher_is}
 use Rattle.store_tables.proofs.Statements.{set_due_is, set_request_is}

@@ -16,12 +16,11 @@ use Rattle.sqlite.specs.Order.{Row, value_cmp}
 use Rattle.sqlite.specs.Term.{Term}
 use Rattle.sqlite.specs.Query.{output, output_cmp}
 use Rattle.desk_model.specs.declared.rows.Entry.{Entry}
-use Rattle.store_tables.specs.Dated.{Dated, dated_row}
+use Rattle.store_tables.specs.Contents.Entry.{by_number, entry_columns, entry_shown_terms}
+use Rattle.store_tables.specs.Contents.Request.{Dated, by_id, dated_row}
+use Rattle.store_tables.specs.Query.{id_order, number_order, reads, request_test}
+use Rattle.store_tables.specs.Values.{count_value}
 use Rattle.store_tables.specs.Kept.{filed}
-use Rattle.store_tables.specs.Orders.{by_id, by_number}
-use Rattle.store_tables.specs.Spelling.{entry_columns, count_value}
-use Rattle.store_tables.specs.Queries.{id_order, entry_shown_terms}
-use Rattle.store_tables.specs.Queries.{reads, request_test, number_order}
 
 true_again : (b : Bool) → is_true (from_truth (Some b)) ≡ b
 true_again b = grind arith

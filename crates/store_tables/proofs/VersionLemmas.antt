@@ -12,23 +12,22 @@ use Rattle.std.proofs.lemmas.Cmp.{tied_itself}
 use Rattle.sqlite.specs.Edit.{id_in}
 use Rattle.sqlite.specs.State.{State, HasCleanDisk, Executes, Shown}
 use Rattle.sqlite_rules.specs.Lists.{Has}
-use Rattle.store_tables.specs.Tables.{meta}
+use Rattle.store_tables.specs.Contents.Meta.{add_version_terms, add_version_text, meta}
+use Rattle.store_tables.specs.Contents.Meta.{set_version_terms, set_version_text, version_row}
+use Rattle.store_tables.specs.Contents.Meta.{version_shown, version_text}
+use Rattle.store_tables.specs.Values.{IsNumberRow, count_value}
 use Rattle.std.specs.Prelude.{◌==◌}
 use Rattle.std.specs.List.{AllByRecursion, list_any}
 use Rattle.std.proofs.lemmas.Bool.{cases_Bool}
 use Rattle.sqlite.specs.Table.{Table}
 use Rattle.std.proofs.Common.{◌≢◌, ◌<◌, ◌^◌, false, inl, inr}
-use Rattle.store_tables.specs.Queries.{add_version_text, add_version_terms, version_shown}
-use Rattle.store_tables.specs.Queries.{set_version_terms, set_version_text, version_text}
 use Rattle.store_tables.specs.Picked.{passes, shows}
 use Rattle.store_tables.specs.Calls.{WasClean}
-use Rattle.store_tables.specs.Reading.{IsNumberRow}
 use Rattle.store_tables.specs.Stands.{HasFront, HoldsNow, Ran}
 use Rattle.store_tables.specs.Making.{AreOfMeta, IsOfMeta, LacksVersion, ReadsMeta, numbered}
 use Rattle.store_tables.specs.Making.{ShowsVersion}
 use Rattle.store_tables.specs.Contents.{Contents, set_version, desk_schema, front, table_count}
 use Rattle.store_tables.specs.Contents.{Tables}
-use Rattle.store_tables.specs.Spelling.{count_value, version_row}
 use Rattle.store_tables.specs.declared.fault.StoreFault.{StoreFault}
 use Rattle.store_tables.specs.declared.fault.StoreFault.TheVariants.{Mismatch, Refused}
 use Rattle.store_tables.proofs.AllTables.{same_tables, version_in}

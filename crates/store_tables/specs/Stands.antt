@@ -10,7 +10,7 @@ use Rattle.desk_model.specs.Desk.{Desk}
 use Rattle.desk_model.specs.declared.rows.RequestRow.{RequestRow}
 use Rattle.store_tables.specs.Contents.{Contents, contents_of, first_contents_of, desk_schema}
 use Rattle.store_tables.specs.Contents.{front, table_count, Tables}
-use Rattle.store_tables.specs.Tables.{first_schema}
+use Rattle.store_tables.specs.Contents.{first_schema}
 
 -- where the store is open and its disk is clean, the tables hold this, and so do those of the last
 -- commit

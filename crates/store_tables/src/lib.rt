@@ -5,13 +5,10 @@
 
 mod columns;
 pub mod fault;
-pub mod inside;
 mod query;
-pub mod reads;
 mod stored;
 pub mod tables;
 pub mod transaction;
-pub mod writes;
 
 pub use fault::StoreFault;
 pub use tables::Tables;

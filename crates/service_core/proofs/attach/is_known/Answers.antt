@@ -1,6 +1,6 @@
 use Rattle.std.proofs.Common.{◌∙◌, ◌&&◌, Err, ap, ap₂, map, rules, Result}
 use Rattle.std.specs.Prelude.{⊤}
-use Rattle.store_tables.specs.Dated.{row_of}
+use Rattle.store_tables.specs.Contents.Request.{row_of}
 use Rattle.store_tables.proofs.Spared.{joined, stands_for}
 use Rattle.store_core.specs.Seen.{state_of}
 use Rattle.store_tables.specs.declared.fault.StoreFault.{StoreFault}

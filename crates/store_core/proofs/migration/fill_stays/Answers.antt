@@ -20,11 +20,11 @@ returns-clause-fills g c desk is due d dated entries holds =
 
 pub returns-in_err-ids-clause-refuses : goal.returns-in_err-ids-clause-refuses
 returns-in_err-ids-clause-refuses g c =
-    refused_inside id_table c.numbers.ensures.looks c.in_err-ids.ensures.mismatch (search rules)
+    refused_inside id_table c.numbers_inside.ensures.looks c.in_err-ids.ensures.mismatch (search rules)
 
 pub returns-in_err-ids-clause-blames : goal.returns-in_err-ids-clause-blames
 returns-in_err-ids-clause-blames g c =
-    blamed_inside id_table c.numbers.ensures.looks c.in_err-ids.ensures.mismatch (search rules) inl
+    blamed_inside id_table c.numbers_inside.ensures.looks c.in_err-ids.ensures.mismatch (search rules) inl
 
 pub returns-clause-blames : goal.returns-clause-blames
 returns-clause-blames g c =

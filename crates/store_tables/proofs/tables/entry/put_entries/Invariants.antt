@@ -1,0 +1,12 @@
+use Rattle.std.proofs.Common.{◌≡◌}
+use Rattle.sqlite.specs.Held.{state}
+use Rattle.store_tables.specs.Contents.{add_entry}
+use Rattle.store_tables.proofs.StepLemmas.{Wrote}
+use Rattle.store_tables.proofs.tables.entry.put_entries.Given as goal
+
+abbrev pub invariant-loop-row : goal.invariant-loop-row
+invariant-loop-row g l = record {
+  same : l.tx.conn.ghost_name ≡ l.fn.tx.conn.ghost_name;
+  done : Wrote add_entry l.rows l.row-index (state g.S.Store l.fn.tx.conn.now)
+      (state g.S.Store l.tx.conn.now);
+}
