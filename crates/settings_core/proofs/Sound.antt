@@ -13,12 +13,13 @@ use Rattle.settings_parts.specs.LifecycleParts.{lifecycle_of}
 use Rattle.settings_parts.specs.Values.{members_of, table_at}
 use Rattle.settings_core.specs.Calendars.{calendars_fault}
 use Rattle.settings_core.specs.Fault.{of_form}
-use Rattle.settings_core.specs.Lifecycles.{fault_in, lifecycles_fault, lifecycles_in, lifecycles_of}
-use Rattle.settings_core.specs.Lifecycles.{standard_lifecycle}
+use Rattle.settings_core.specs.Lifecycles.{lifecycles_fault, lifecycles_in, lifecycles_of}
+use Rattle.settings_core.specs.Lifecycles.{table_fault as lifecycle_fault}
 use Rattle.settings_core.specs.Named.{under}
 use Rattle.settings_core.specs.Reading.{IsSettingsOf, build_fault, late_fault, table_fault}
 use Rattle.settings_core.specs.Sound.{AreSound}
-use Rattle.settings_core.specs.declared.fault.SettingsFault.TheVariants.{Hours, Lifecycle}
+use Rattle.settings_core.specs.Stated.{default_of, fault_in}
+use Rattle.settings_core.specs.declared.fault.SettingsFault.TheVariants.{Lifecycle}
 use Rattle.settings_core.specs.declared.named.Named.{Named}
 use Rattle.settings_core.specs.declared.settings.Settings.{Settings}
 
@@ -41,21 +42,21 @@ one_more : (ns : List (Named Parts)) (n : Named Parts) → HaveNone ns → fault
 one_more [] n all one = (one, tt)
 one_more (m ∷ ms) n all one = (all.0, one_more ms n all.1 one)
 
-listed : (ms : Members) → fault_in ms ≡ None → HaveNone (lifecycles_in ms)
+listed : (ms : Members) → fault_in lifecycle_fault ms ≡ None → HaveNone (lifecycles_in ms)
 listed no_members e = tt
 listed (member k d ms) e =
-    let both = both_none (fault_of (lifecycle_of (members_of d))) (fault_in ms) e in
-    (both.0, listed ms both.1)
+    let both = both_none (lifecycle_fault (members_of d)) (fault_in lifecycle_fault ms) e in
+    (none_mapped Lifecycle (fault_of (lifecycle_of (members_of d))) both.0, listed ms both.1)
 
 standard : fault_of default_lifecycle ≡ None
 unfolding fault_of default_lifecycle
 standard = refl
 
 completed : (there : Bool) (ns : List (Named Parts)) → HaveNone ns
-    → HaveNone (ns ++ (if there then [] else standard_lifecycle ∷ []))
+    → HaveNone (ns ++ (if there then [] else default_of default_lifecycle ∷ []))
 completed true ns all = let P : List (Named Parts) → Type 0 = HaveNone in
     subst P (sym (append-nil ns)) all
-completed false ns all = one_more ns standard_lifecycle all standard
+completed false ns all = one_more ns (default_of default_lifecycle) all standard
 
 -- the one that is found under a name has none
 found : (name : List ℕ) (ns : List (Named Parts)) (lifecycle : Parts) → HaveNone ns
@@ -77,10 +78,8 @@ sound bytes settings of_text name lifecycle there =
     let ms = of_text.0 in
     let table = (both_none (option_map of_form (form_fault ms)) (table_fault ms) of_text.2).1 in
     let built = (both_none (build_fault ms) (late_fault ms) table).0 in
-    let rest = (both_none (option_map Hours (calendars_fault ms)) _ built).1 in
-    let none : lifecycles_fault ms ≡ None =
-    none_mapped Lifecycle (lifecycles_fault ms)
-    (both_none (option_map Lifecycle (lifecycles_fault ms)) _ rest).0 in
+    let rest = (both_none (calendars_fault ms) _ built).1 in
+    let none : lifecycles_fault ms ≡ None = (both_none (lifecycles_fault ms) _ rest).0 in
     let table_of_them = table_at (codes "lifecycle") ms in
     found name (lifecycles_of ms) lifecycle
     (completed (is_some (get_member (codes "default") table_of_them)) (lifecycles_in table_of_them)

@@ -1,17 +1,19 @@
 -- The calendars of a settings text.
-use Rattle.std.specs.Prelude.{◌≡◌, ℕ, List, [], ◌∷◌, ◌++◌, Option, Some}
-use Rattle.std.specs.Prelude.{Result, Ok, Err}
-use Rattle.std.specs.Prelude.{None, is_some, pos, codes, if◌then◌else◌}
-use Rattle.std.specs.Option.{option_or}
+use Rattle.std.specs.Prelude.{◌≡◌, ℕ, List, [], ◌∷◌, Option, Some, None, Result, Ok, Err}
+use Rattle.std.specs.Prelude.{pos, codes}
+use Rattle.std.specs.Option.{option_map, option_or}
 use Rattle.std.specs.Result.{result_err}
-use Rattle.toml.specs.Data.{Members, no_members, member, get_member}
+use Rattle.toml.specs.Data.{Members}
 use Rattle.hours_core.specs.Calendar.{HasHours}
 use Rattle.hours_core.specs.Hours.{Hours, calendar_fault, hours_of as hours_of_parts}
 use Rattle.hours_core.specs.Zone.{Offsets}
 use Rattle.hours_core.specs.declared.calendar.Calendar.{Calendar}
 use Rattle.hours_core.specs.declared.fault.HoursFault.{HoursFault}
 use Rattle.settings_parts.specs.CalendarParts.{StatedHours, hours_of}
-use Rattle.settings_parts.specs.Values.{members_of, table_at}
+use Rattle.settings_parts.specs.Values.{table_at}
+use Rattle.settings_core.specs.Stated.{Have, fault_in, with_standard}
+use Rattle.settings_core.specs.declared.fault.SettingsFault.{SettingsFault}
+use Rattle.settings_core.specs.declared.fault.SettingsFault.TheVariants.{Hours as InHours}
 use Rattle.settings_core.specs.declared.named.Named.{Named}
 
 -- the zone, or UTC where there is none
@@ -24,21 +26,17 @@ abbrev pub hours_by : StatedHours → Hours
 hours_by stated =
     hours_of_parts (offsets_of stated.zone) stated.week stated.holidays stated.years
 
--- the opening hours of a table
-abbrev pub hours_in : Members → List (Named Hours)
-hours_in no_members = []
-hours_in (member k d ms) =
-    record { name = k; value = hours_by (hours_of (members_of d)) } ∷ hours_in ms
-
 -- the least fault of opening hours, that of the zone before that of the calendar
 abbrev pub hours_fault : StatedHours → Option HoursFault
 hours_fault stated =
     option_or (result_err stated.zone) (calendar_fault stated.week stated.years)
 
--- the fault of the first calendar, by byte order of names, that has one
-abbrev pub fault_in : Members → Option HoursFault
-fault_in no_members = None
-fault_in (member k d ms) = option_or (hours_fault (hours_of (members_of d))) (fault_in ms)
+-- the opening hours of a table, and their fault
+abbrev pub table_hours : Members → Hours
+table_hours ms = hours_by (hours_of ms)
+
+abbrev pub table_fault : Members → Option SettingsFault
+table_fault ms = option_map InHours (hours_fault (hours_of ms))
 
 -- from 09:00 to 18:00
 abbrev pub working_day : List (ℕ × ℕ)
@@ -57,25 +55,16 @@ standard_stated =
 abbrev pub standard_hours : Hours
 standard_hours = hours_by standard_stated
 
-abbrev pub standard_calendar : Named Hours
-standard_calendar = record { name = codes "default"; value = standard_hours }
-
--- the opening hours of a table, and the calendar `default` where the table has none of that name
-abbrev pub with_standard : Members → List (Named Hours)
-with_standard ms =
-    hours_in ms
-    ++ (if is_some (get_member (codes "default") ms) then [] else standard_calendar ∷ [])
-
 -- the tables of a text's calendars
 abbrev pub calendar_tables : Members → Members
 calendar_tables ms = table_at (codes "calendar") ms
 
--- the calendars of a text
+-- the calendars of a text, and `default` where it has none of that name
 abbrev pub calendars_of : Members → List (Named Hours)
-calendars_of ms = with_standard (calendar_tables ms)
+calendars_of ms = with_standard table_hours standard_hours (calendar_tables ms)
 
-abbrev pub calendars_fault : Members → Option HoursFault
-calendars_fault ms = fault_in (calendar_tables ms)
+abbrev pub calendars_fault : Members → Option SettingsFault
+calendars_fault ms = fault_in table_fault (calendar_tables ms)
 
 -- there are both or neither, and the calendar has these opening hours
 abbrev pub HasHoursIfAny : Option Calendar → Option Hours → Type 0
@@ -85,14 +74,8 @@ HasHoursIfAny _ _ = ⊥
 
 -- one by one the calendars have these names and opening hours
 abbrev pub HaveHours : List (Named Calendar) → List (Named Hours) → Type 0
-HaveHours [] [] = Unit {0}
-HaveHours (c ∷ cs) (h ∷ hs) = (c.name ≡ h.name) × HasHours c.value h.value × HaveHours cs hs
-HaveHours _ _ = ⊥
+HaveHours = Have HasHours
 
 -- a calendar of the opening hours that were stated, which have no fault
 abbrev pub IsCalendarOf : StatedHours → Calendar → Type 0
 IsCalendarOf stated calendar = (hours_fault stated ≡ None) × HasHours calendar (hours_by stated)
-
--- the calendars of a text, none of which has a fault
-abbrev pub AreCalendarsOf : Members → List (Named Calendar) → Type 0
-AreCalendarsOf ms calendars = (calendars_fault ms ≡ None) × HaveHours calendars (calendars_of ms)

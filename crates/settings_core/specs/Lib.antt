@@ -8,4 +8,5 @@ pub mod Names
 pub mod Reading
 pub mod Settings
 pub mod Sound
+pub mod Stated
 pub mod Tokens

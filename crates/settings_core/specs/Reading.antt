@@ -20,9 +20,9 @@ use Rattle.settings_core.specs.Settings.{people_of, lifecycle_named, calendar_na
 use Rattle.settings_core.specs.Settings.{person_of_token, request_limit, entry_limit}
 use Rattle.settings_core.specs.Tokens.{is_token, person_under}
 use Rattle.settings_core.specs.declared.fault.SettingsFault.{SettingsFault}
-use Rattle.settings_core.specs.declared.fault.SettingsFault.TheVariants.{NotToml, Hours, Lifecycle}
-use Rattle.settings_core.specs.declared.fault.SettingsFault.TheVariants.{Rights, UnknownName}
-use Rattle.settings_core.specs.declared.fault.SettingsFault.TheVariants.{BadToken, BadLimit}
+use Rattle.settings_core.specs.declared.fault.SettingsFault.TheVariants.{NotToml, Rights}
+use Rattle.settings_core.specs.declared.fault.SettingsFault.TheVariants.{UnknownName, BadToken}
+use Rattle.settings_core.specs.declared.fault.SettingsFault.TheVariants.{BadLimit}
 use Rattle.settings_core.specs.declared.settings.Settings.{Settings}
 
 -- a number at a key, from 1 to the most, which is the number of a text without the key
@@ -48,9 +48,8 @@ when fault applies = if applies then Some fault else None
 -- what the lower builds answer: hours, lifecycles, rights
 abbrev pub build_fault : Members → Option SettingsFault
 build_fault ms =
-    option_or (option_map Hours (calendars_fault ms))
-    (option_or (option_map Lifecycle (lifecycles_fault ms))
-    (option_map Rights (rights.fault_of (people_in ms))))
+    option_or (calendars_fault ms)
+    (option_or (lifecycles_fault ms) (option_map Rights (rights.fault_of (people_in ms))))
 
 -- the least fault of the parts beside one another
 abbrev pub late_fault : Members → Option SettingsFault

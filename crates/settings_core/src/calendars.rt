@@ -1,84 +1,40 @@
 //! The calendars of a settings text.
 
-ghost use Rattle.std.specs.Prelude.{◌≡◌, ◌≢◌, None, Some, IfOk, IfErr, Ok, Err};
-ghost use Rattle.toml.specs.View.{view, table_view};
+ghost use Rattle.std.specs.Prelude.{◌≡◌, ◌≢◌, Some, IfOk, IfErr, Ok, Err};
 ghost use Rattle.hours_core.specs.Calendar.{HasHours};
+ghost use Rattle.hours_core.specs.Hours.{Hours};
 ghost use Rattle.hours_core.specs.declared.fault.HoursFault.TheVariants.{NoMemory};
-ghost use Rattle.settings_parts.specs.CalendarParts.{hours_of, hours_stated};
-ghost use Rattle.settings_parts.specs.Values.{members_of};
+ghost use Rattle.settings_parts.specs.CalendarParts.{hours_stated};
 ghost use Rattle.settings_core.specs.Calendars as spec;
 
-use crate::named::{Named, STANDARD};
+use crate::fault::SettingsFault;
+use crate::stated::Stated;
 use hours_core::{Calendar, HoursFault, Intervals, Zone};
 use settings_parts::calendar::{CalendarParts, YEARS, calendar_of};
-use settings_parts::values::{has_key, table_at, table_of};
 use std::alloc::{AllocError, Global};
-use text_core::Text;
-use toml::{Table, Value};
+use toml::Table;
 
-/// The calendars of a settings text by name, and the calendar `default` where it has none of that
-/// name.
-pub fn calendars_of(alloc: Global, table: &Table) -> Result<Vec<Named<Calendar>>, HoursFault>
-    ensures ok { IfOk result (λ v. spec.AreCalendarsOf (table_view table.now) v.items) }
-    ensures err { IfErr result (λ e. e ≢ NoMemory
-        → spec.calendars_fault (table_view table.now) ≡ Some e) }
-{
-    match table_at(table, "calendar") {
-        Some(calendars) => with_standard(alloc, calendars),
-        None => with_standard(alloc, &Table::new(alloc)),
+impl Stated for Calendar {
+    ghost Parts = { Hours };
+
+    ghost parts_of = { spec.table_hours };
+
+    ghost fault_of = { spec.table_fault };
+
+    ghost has = { HasHours };
+
+    ghost standard_parts = { spec.standard_hours };
+
+    fn read(alloc: Global, table: &Table) -> Result<Calendar, SettingsFault> {
+        let calendar = calendar_from(alloc, &calendar_of(alloc, table)?)?;
+        Ok(calendar)
     }
-}
 
-/// The calendars of a table, and the calendar `default` where it has none of that name.
-fn with_standard(alloc: Global, table: &Table) -> Result<Vec<Named<Calendar>>, HoursFault>
-    ensures ok { IfOk result (λ v. (spec.fault_in (table_view table.now) ≡ None)
-        × spec.HaveHours v.items (spec.with_standard (table_view table.now))) }
-    ensures err { IfErr result (λ e. e ≢ NoMemory → spec.fault_in (table_view table.now) ≡ Some e) }
-{
-    let mut calendars = calendars_in(alloc, table)?;
-    if !has_key(table, STANDARD) {
-        let standard = Named {
-            name: Text::new(alloc, STANDARD)?,
-            value: standard_calendar(alloc)?,
-        };
-        calendars.push(standard).map_err(AllocError::from)?;
+    /// Monday to Friday from 09:00 to 18:00 UTC, from 2000 to 2099.
+    fn standard(alloc: Global) -> Result<Calendar, SettingsFault> {
+        let calendar = calendar_from(alloc, &standard_parts(alloc)?)?;
+        Ok(calendar)
     }
-    Ok(calendars)
-}
-
-/// The calendars of a table.
-fn calendars_in(alloc: Global, table: &Table) -> Result<Vec<Named<Calendar>>, HoursFault>
-    ensures ok { IfOk result (λ v. (spec.fault_in (table_view table.now) ≡ None)
-        × spec.HaveHours v.items (spec.hours_in (table_view table.now))) }
-    ensures err { IfErr result (λ e. e ≢ NoMemory → spec.fault_in (table_view table.now) ≡ Some e) }
-{
-    let mut found = Vec::new(alloc);
-    for (name, value) in table.iter() {
-        let value = built(alloc, value)?;
-        let name = Text::new(alloc, name.as_str())?;
-        found.push(Named { name, value }).map_err(AllocError::from)?;
-    }
-    Ok(found)
-}
-
-/// The calendar of a table.
-fn built(alloc: Global, value: &Value) -> Result<Calendar, HoursFault>
-    ensures ok { IfOk result (spec.IsCalendarOf (hours_of (members_of (view value.now)))) }
-    ensures err { IfErr result (λ e. e ≢ NoMemory
-        → spec.hours_fault (hours_of (members_of (view value.now))) ≡ Some e) }
-{
-    match table_of(value) {
-        Some(table) => built_of(alloc, table),
-        None => built_of(alloc, &Table::new(alloc)),
-    }
-}
-
-fn built_of(alloc: Global, table: &Table) -> Result<Calendar, HoursFault>
-    ensures ok { IfOk result (spec.IsCalendarOf (hours_of (table_view table.now))) }
-    ensures err { IfErr result (λ e. e ≢ NoMemory
-        → spec.hours_fault (hours_of (table_view table.now)) ≡ Some e) }
-{
-    calendar_from(alloc, &calendar_of(alloc, table)?)
 }
 
 /// The calendar of its parts, or their least fault, that of the zone first.
@@ -103,14 +59,7 @@ fn zone_of(alloc: Global, parts: &CalendarParts) -> Result<Zone, HoursFault>
     }
 }
 
-/// Monday to Friday from 09:00 to 18:00 UTC, from 2000 to 2099. The only fault is `NoMemory`.
-fn standard_calendar(alloc: Global) -> Result<Calendar, HoursFault>
-    ensures ok { IfOk result (λ c. HasHours c spec.standard_hours) }
-    ensures err { IfErr result (λ e. e ≡ NoMemory) }
-{
-    calendar_from(alloc, &standard_parts(alloc)?)
-}
-
+/// Monday to Friday from 09:00 to 18:00 UTC, from 2000 to 2099.
 fn standard_parts(alloc: Global) -> Result<CalendarParts, AllocError>
     ensures { IfOk result (λ p. hours_stated p ≡ spec.standard_stated) }
 {

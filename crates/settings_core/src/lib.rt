@@ -19,6 +19,7 @@ mod named;
 mod names;
 mod people;
 mod settings;
+pub mod stated;
 mod tokens;
 
 pub use fault::SettingsFault;

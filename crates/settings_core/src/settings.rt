@@ -10,14 +10,13 @@ ghost use Rattle.settings_core.specs.Reading.{IsSettingsOf, IsFaultOf, IsStated}
 ghost use Rattle.settings_core.specs.Settings as words;
 ghost use Rattle.settings_core.specs.declared.fault.SettingsFault.TheVariants.{NoMemory};
 
-use crate::calendars::calendars_of;
 use crate::fault::SettingsFault;
 use crate::levels::levels_of;
-use crate::lifecycles::lifecycles_of;
 use crate::limits::{MAX_ENTRIES, MAX_REQUESTS, count_at, has_limits};
 use crate::named::Named;
 use crate::names::{knows_calendars, knows_ignored, knows_persons, knows_rights};
 use crate::people::people_of;
+use crate::stated::stated_at;
 use crate::tokens::are_tokens;
 use hours_core::{Calendar, Level};
 use lifecycle_core::Lifecycle;
@@ -153,8 +152,8 @@ fn built(alloc: Global, table: &Table) -> Result<Settings, SettingsFault>
     ensures err { IfErr result (λ e. e ≢ NoMemory
         → spec.build_fault (table_view table.now) ≡ Some e) }
 {
-    let calendars = calendars_of(alloc, table)?;
-    let lifecycles = lifecycles_of(alloc, table)?;
+    let calendars = stated_at(alloc, table, "calendar")?;
+    let lifecycles = stated_at(alloc, table, "lifecycle")?;
     let people = people_of(alloc, table)?;
     let levels = levels_of(alloc, table)?;
     let tokens = tokens_of(alloc, table)?;
