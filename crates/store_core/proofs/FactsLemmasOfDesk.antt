@@ -56,6 +56,13 @@ use Rattle.store_core.proofs.RiseLemmas.{their_own, watchers_ascend}
 
 -- ---- the persons of a role
 
+-- one watcher more
+pub persons_more : (role : WatchRole) (ws : List Watcher) (w : Watcher) {old new : List (List ℕ)}
+    → old ≡ persons_in role ws → new ≡ old ++ persons_in role (w ∷ [])
+    → new ≡ persons_in role (ws ++ w ∷ [])
+persons_more role ws w so_far now = now ∙ ap (λ ps. ps ++ persons_in role (w ∷ [])) so_far
+    ∙ rw (filter-append, map-append) refl
+
 of_role : (id : ℕ) (role other : WatchRole) (names : List (List ℕ))
     → persons_in role (map (watcher id other) names) ≡ cond (is_role role other) names []
 of_role id role other names =

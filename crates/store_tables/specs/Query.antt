@@ -72,9 +72,6 @@ eq a b = op2 (Compare Eq Binary) a b
 abbrev pub id_order : List Term
 id_order = col 1 0 ∷ []
 
-abbrev pub request_test : List Term
-request_test = eq (col 1 1) (col 0 0) ∷ []
-
 abbrev pub number_order : List Term
 number_order = col 1 2 ∷ []
 

@@ -48,6 +48,11 @@ GoesBack old new =
     → HasCleanDisk old × IsTrue old.is_open × (new.now ≡ old.committed)
     × (new.committed ≡ old.committed)
 
+-- what the tables show is committed, whatever it is
+abbrev pub Commits : State → State → Type 0
+Commits old new =
+    HasCleanDisk new → IsTrue old.is_open × (new.now ≡ old.now) × (new.committed ≡ old.now)
+
 -- the last commit stays what it was, whatever it is
 abbrev pub KeepsBase : State → State → Type 0
 KeepsBase old new =

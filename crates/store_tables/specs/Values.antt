@@ -1,5 +1,5 @@
 -- How single values are spelt in a column, and which columns and rows of one show a value of a type.
-use Rattle.std.specs.Prelude.{[], ◌∷◌, List, ℕ, pos, ◌≡◌, ◌<◌, ◌^◌, ◌⊎◌, length, IsUtf8, Result}
+use Rattle.std.specs.Prelude.{[], ◌∷◌, List, ℕ, ℤ, pos, ◌≡◌, ◌<◌, ◌^◌, ◌⊎◌, length, IsUtf8, Result}
 use Rattle.std.specs.Prelude.{IfErr, IfOk, Bool}
 use Rattle.sqlite.specs.declared.types.Value.TheVariants.{Null, Int, Text as Words}
 use Rattle.sqlite.specs.Order.{Row, column}
@@ -35,6 +35,9 @@ IsMinute v = (n : ℕ) × (v ≡ count_value n) × IsDueMoment n
 abbrev pub IsMinuteOrNull : Value → Type 0
 IsMinuteOrNull v = (v ≡ Null) ⊎ IsMinute v
 
+abbrev pub IsWhole : Value → Type 0
+IsWhole v = (z : ℤ) × (v ≡ Int z)
+
 -- what was read of a column is spelt so there
 abbrev pub ReadsAt : {X : Type 0} → (X → Value) → Row → ℕ → Result X StoreFault → Type 0
 ReadsAt spelt row at result = IfOk result (λ x. column row at ≡ spelt x)
@@ -59,3 +62,11 @@ pub record ReadsCount (row : Row) (n : ℕ) : Type 0 where
 pub record IsNumberRow (row : Row) : Type 0 where
   pub wide : 0 < length row
   pub number : IsCount (column row 0)
+
+-- a row of one whole number: a version, which may be none that is known
+pub record ReadsWhole (row : Row) (z : ℤ) : Type 0 where
+  pub number : column row 0 ≡ Int z
+
+pub record IsWholeRow (row : Row) : Type 0 where
+  pub wide : 0 < length row
+  pub number : IsWhole (column row 0)

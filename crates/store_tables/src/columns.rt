@@ -3,13 +3,13 @@ ghost use Rattle.std.specs.Prelude.{◌≡◌, ◌≢◌, ◌<◌, length, IfOk,
 ghost use Rattle.sqlite.specs.Order.{column as value_at};
 ghost use Rattle.sqlite.specs.Values.{or_null, bound_value};
 ghost use Rattle.sqlite_value.specs.Value.{owned};
-ghost use Rattle.sqlite.specs.declared.types.Value.TheVariants.{Text as Words};
+ghost use Rattle.sqlite.specs.declared.types.Value.TheVariants.{Int, Text as Words};
 ghost use Rattle.desk_model.specs.Links.{kind_number};
 ghost use Rattle.store_tables.specs.Contents.Entry.{IsEntryKind, entry_kind_number};
 ghost use Rattle.store_tables.specs.Contents.Link.{IsLinkKind};
 ghost use Rattle.store_tables.specs.Contents.Request.{IsTurn, turn_number};
 ghost use Rattle.store_tables.specs.Contents.Watcher.{IsRole, role_number};
-ghost use Rattle.store_tables.specs.Values.{IsCount, IsMinute, IsMinuteOrNull, IsText};
+ghost use Rattle.store_tables.specs.Values.{IsCount, IsMinute, IsMinuteOrNull, IsText, IsWhole};
 ghost use Rattle.store_tables.specs.Values.{IsTextOrNull, MismatchesAt, ReadsAt, count_value};
 ghost use Rattle.store_tables.specs.declared.fault.StoreFault.{StoreFault};
 
@@ -114,6 +114,15 @@ pub(crate) fn nullable_at(row: &Row, at: usize) -> Result<Option<Text>, StoreFau
 pub(crate) fn number_at(row: &Row, at: usize) -> Result<u32, StoreFault>
     ensures ok { ReadsAt count_value row.now at result }
     ensures mismatch { MismatchesAt IsCount row.now at result }
+    ensures fault { IfErr result (λ e. e ≢ StoreFault.WrongVersion) }
+{
+    column(row, at)
+}
+
+/// The whole number in a column.
+pub(crate) fn whole_at(row: &Row, at: usize) -> Result<i64, StoreFault>
+    ensures ok { ReadsAt Int row.now at result }
+    ensures mismatch { MismatchesAt IsWhole row.now at result }
     ensures fault { IfErr result (λ e. e ≢ StoreFault.WrongVersion) }
 {
     column(row, at)

@@ -2,10 +2,11 @@
 
 ghost use Rattle.std.specs.Prelude.{◌≡◌, ◌≢◌, IfOk, IfErr};
 ghost use Rattle.sqlite.specs.Order.{Row as Columns};
-ghost use Rattle.store_tables.specs.Values.{IsNumberRow, IsTextRow, ReadsCount, ReadsText};
+ghost use Rattle.store_tables.specs.Values.{IsNumberRow, IsTextRow, IsWholeRow, ReadsCount};
+ghost use Rattle.store_tables.specs.Values.{ReadsText, ReadsWhole};
 ghost use Rattle.store_tables.specs.declared.fault.StoreFault.{StoreFault};
 
-use crate::columns::{number_at, text_at};
+use crate::columns::{number_at, text_at, whole_at};
 use crate::fault::StoreFault;
 use sqlite::Row;
 use text_core::Text;
@@ -33,6 +34,17 @@ impl Stored for u32 {
 
     fn read(row: &Row) -> Result<u32, StoreFault> {
         number_at(row, 0)
+    }
+}
+
+/// A version, which may be none that is known.
+impl Stored for i64 {
+    ghost reads = { ReadsWhole };
+
+    ghost is_value = { IsWholeRow };
+
+    fn read(row: &Row) -> Result<i64, StoreFault> {
+        whole_at(row, 0)
     }
 }
 

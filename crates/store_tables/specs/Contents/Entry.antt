@@ -87,10 +87,6 @@ place_of e = e.number
 abbrev pub by_number : Entry → Entry → Ordering
 by_number a b = nat_cmp a.number b.number
 
--- by request and number
-abbrev pub by_entry : Entry → Entry → Ordering
-by_entry = then_cmp (on (λ e. e.id) nat_cmp) (on (λ e. e.number) nat_cmp)
-
 abbrev pub entry_shown_terms : List Term
 entry_shown_terms = col 1 1 ∷ col 1 2 ∷ col 1 3 ∷ col 1 4 ∷ col 1 5 ∷ col 1 6 ∷ col 1 7 ∷ []
 
@@ -99,17 +95,6 @@ actor_shown = col 1 4 ∷ []
 
 abbrev pub last_number_terms : List Term
 last_number_terms = col 1 2 ∷ []
-
-abbrev pub entries_of_text : List ℕ
-entries_of_text =
-    codes "SELECT request, number, moment, actor, kind, head, body FROM entry WHERE request = ?1 "
-    ++ codes "ORDER BY number"
-
-abbrev pub actors_text : List ℕ
-actors_text = codes "SELECT actor FROM entry"
-
-abbrev pub last_number_text : List ℕ
-last_number_text = codes "SELECT number FROM entry WHERE request = ?1 ORDER BY number DESC LIMIT 1"
 
 abbrev pub add_entry_text : List ℕ
 add_entry_text =

@@ -73,35 +73,8 @@ by_link =
     then_cmp (on (λ l. l.source) nat_cmp)
     (then_cmp (on (λ l. kind_number l.kind) nat_cmp) (on (λ l. l.target) nat_cmp))
 
-abbrev pub links_from_test : List Term
-links_from_test = eq (col 1 1) (col 0 0) ∷ eq (col 1 2) (col 0 1) ∷ []
-
 abbrev pub target_order : List Term
 target_order = col 1 3 ∷ []
-
-abbrev pub source_test : List Term
-source_test = eq (col 1 1) (col 0 0) ∷ []
-
-abbrev pub target_test : List Term
-target_test = eq (col 1 3) (col 0 0) ∷ []
-
-abbrev pub links_text : List ℕ
-links_text = codes "SELECT source, kind, target FROM link ORDER BY source, kind, target"
-
-abbrev pub all_from_text : List ℕ
-all_from_text =
-    codes "SELECT source, kind, target FROM link WHERE source = ?1 ORDER BY source, kind, target"
-
-abbrev pub all_to_text : List ℕ
-all_to_text = codes "SELECT source, kind, target FROM link WHERE target = ?1 ORDER BY rowid"
-
-abbrev pub links_from_text : List ℕ
-links_from_text =
-    codes "SELECT source, kind, target FROM link WHERE source = ?1 AND kind = ?2 ORDER BY target"
-
-abbrev pub link_like_text : List ℕ
-link_like_text =
-    codes "SELECT source, kind, target FROM link WHERE source = ?1 AND kind = ?2 AND target = ?3"
 
 abbrev pub add_link_text : List ℕ
 add_link_text = codes "INSERT INTO link (source, kind, target) VALUES (?1, ?2, ?3)"

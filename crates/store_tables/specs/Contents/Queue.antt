@@ -60,24 +60,6 @@ queue_shown = col 1 1 ∷ col 1 2 ∷ col 1 3 ∷ []
 abbrev pub queue_order : List Term
 queue_order = col 1 1 ∷ []
 
-abbrev pub queues_text : List ℕ
-queues_text = codes "SELECT name, lifecycle, level FROM queue ORDER BY name"
-
-abbrev pub queues_query : Query
-queues_query = reads queue.tree [] queue_shown queue_order
-
-abbrev pub queue_count_text : List ℕ
-queue_count_text = codes "SELECT count(*) FROM queue"
-
-abbrev pub named_test : List Term
-named_test = op2 (Compare Eq Binary) (col 1 1) (col 0 0) ∷ []
-
-abbrev pub queue_named_text : List ℕ
-queue_named_text = codes "SELECT name, lifecycle, level FROM queue WHERE name = ?1"
-
-abbrev pub queue_named_query : Query
-queue_named_query = reads queue.tree named_test queue_shown []
-
 abbrev pub add_queue_text : List ℕ
 add_queue_text = codes "INSERT INTO queue (name, lifecycle, level) VALUES (?1, ?2, ?3)"
 

@@ -170,12 +170,6 @@ by_due = then_cmp (on (λ p. p.1) (option_cmp nat_cmp)) (on (λ p. p.0.id) nat_c
 abbrev pub numbered_test : List Term
 numbered_test = op2 (Compare Eq Binary) (col 1 0) (col 0 0) ∷ []
 
-abbrev pub filed_test : List Term
-filed_test = eq (col 1 2) (col 0 0) ∷ []
-
-abbrev pub before_test : List Term
-before_test = op2 (Compare Lt Binary) (col 1 11) (col 0 0) ∷ []
-
 abbrev pub due_order : List Term
 due_order = col 1 11 ∷ col 1 0 ∷ []
 
@@ -189,53 +183,6 @@ dated_shown_terms = col 1 0 ∷ col 1 2 ∷ col 1 3 ∷ col 1 4 ∷ col 1 5 ∷ 
 
 abbrev pub last_id_terms : List Term
 last_id_terms = col 1 0 ∷ []
-
-abbrev pub requests_text : List ℕ
-requests_text =
-    codes "SELECT id, queue, subject, status, owner, level, created, opened, turn, since FROM "
-    ++ codes "request ORDER BY id"
-
-abbrev pub requests_of_text : List ℕ
-requests_of_text =
-    codes "SELECT id, queue, subject, status, owner, level, created, opened, turn, since FROM "
-    ++ codes "request WHERE queue = ?1 ORDER BY id"
-
-abbrev pub request_numbered_text : List ℕ
-request_numbered_text =
-    codes "SELECT id, queue, subject, status, owner, level, created, opened, turn, since FROM "
-    ++ codes "request WHERE id = ?1"
-
-abbrev pub dated_text : List ℕ
-dated_text =
-    codes "SELECT id, queue, subject, status, owner, level, created, opened, turn, since, due "
-    ++ codes "FROM request ORDER BY id"
-
-abbrev pub dated_of_text : List ℕ
-dated_of_text =
-    codes "SELECT id, queue, subject, status, owner, level, created, opened, turn, since, due "
-    ++ codes "FROM request WHERE queue = ?1 ORDER BY id"
-
-abbrev pub dated_before_text : List ℕ
-dated_before_text =
-    codes "SELECT id, queue, subject, status, owner, level, created, opened, turn, since, due "
-    ++ codes "FROM request WHERE due < ?1 ORDER BY due, id"
-
-abbrev pub dated_numbered_text : List ℕ
-dated_numbered_text =
-    codes "SELECT id, queue, subject, status, owner, level, created, opened, turn, since, due "
-    ++ codes "FROM request WHERE id = ?1"
-
-abbrev pub numbers_text : List ℕ
-numbers_text = codes "SELECT id FROM request ORDER BY id"
-
-abbrev pub numbers_in_text : List ℕ
-numbers_in_text = codes "SELECT id FROM request WHERE queue = ?1 ORDER BY id"
-
-abbrev pub numbers_before_text : List ℕ
-numbers_before_text = codes "SELECT id FROM request WHERE due < ?1 ORDER BY due, id"
-
-abbrev pub last_id_text : List ℕ
-last_id_text = codes "SELECT id FROM request ORDER BY id DESC LIMIT 1"
 
 -- ---- its changes
 

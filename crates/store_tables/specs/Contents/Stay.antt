@@ -115,14 +115,6 @@ stay_shown = col 1 1 ∷ col 1 2 ∷ col 1 3 ∷ col 1 4 ∷ col 1 5 ∷ []
 abbrev pub stay_order : List Term
 stay_order = col 1 1 ∷ col 1 2 ∷ []
 
-abbrev pub stays_text : List ℕ
-stays_text = codes "SELECT request, number, status, begun, ended FROM stay ORDER BY request, number"
-
-abbrev pub stays_of_text : List ℕ
-stays_of_text =
-    codes "SELECT request, number, status, begun, ended FROM stay WHERE request = ?1 "
-    ++ codes "ORDER BY number"
-
 abbrev pub add_stay_text : List ℕ
 add_stay_text =
     codes "INSERT INTO stay (request, number, status, begun, ended) VALUES (?1, ?2, ?3, ?4, ?5)"

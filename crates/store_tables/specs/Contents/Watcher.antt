@@ -84,22 +84,8 @@ by_watcher =
 abbrev pub role_order : List Term
 role_order = col 1 2 ∷ col 1 3 ∷ []
 
-abbrev pub person_test : List Term
-person_test = eq (col 1 3) (col 0 0) ∷ []
-
 abbrev pub standing_order : List Term
 standing_order = col 1 1 ∷ col 1 2 ∷ []
-
-abbrev pub watchers_text : List ℕ
-watchers_text = codes "SELECT request, role, person FROM watcher ORDER BY request, role, person"
-
-abbrev pub watchers_of_text : List ℕ
-watchers_of_text =
-    codes "SELECT request, role, person FROM watcher WHERE request = ?1 ORDER BY role, person"
-
-abbrev pub watches_of_text : List ℕ
-watches_of_text =
-    codes "SELECT request, role, person FROM watcher WHERE person = ?1 ORDER BY request, role"
 
 abbrev pub add_watcher_text : List ℕ
 add_watcher_text = codes "INSERT INTO watcher (request, role, person) VALUES (?1, ?2, ?3)"

@@ -17,10 +17,11 @@ ghost use Rattle.store_tables.specs.Contents.{add_entry};
 
 use crate::columns::{minute, minute_at, number, number_at, text_at, words};
 use crate::fault::StoreFault;
-use crate::query::{select_all, select_all_inside, select_one};
+use crate::query::{select_all, select_one};
 use crate::stored::Stored;
 use crate::tables::Tables;
 use crate::transaction::run_on_one;
+use crate::written::Put;
 use desk_model::{Entry, EntryKind};
 use sqlite::types::{ToSql, ValueRef};
 use sqlite::{Alter, Row, Transaction};
@@ -32,6 +33,10 @@ pub(crate) const TABLE: &str =
     "CREATE TABLE IF NOT EXISTS entry (request INTEGER NOT NULL REFERENCES request(id), number \
      INTEGER NOT NULL, moment INTEGER NOT NULL, actor TEXT NOT NULL, kind INTEGER NOT NULL, head \
      TEXT NOT NULL, body TEXT NOT NULL, PRIMARY KEY (request, number)) STRICT";
+
+/// The entries of a request, by number.
+const ENTRIES_OF: &str = "SELECT request, number, moment, actor, kind, head, body FROM entry WHERE \
+     request = ?1 ORDER BY number";
 
 impl Stored for Entry {
     ghost reads = { ReadsEntry };
@@ -67,8 +72,7 @@ pub fn entries_of<S: Alter>(
     select_all(
         alloc,
         tables,
-        "SELECT request, number, moment, actor, kind, head, body FROM entry WHERE request = ?1 \
-        ORDER BY number",
+        ENTRIES_OF,
         &[number(id)],
     )
 }
@@ -89,11 +93,10 @@ pub fn entries_inside<S: Alter>(
     ensures looks { Looks
         (state S.Store tx.old.conn.now) (state S.Store tx.new.conn.now) result }
 {
-    select_all_inside(
+    select_all(
         alloc,
         tx,
-        "SELECT request, number, moment, actor, kind, head, body FROM entry WHERE request = ?1 \
-        ORDER BY number",
+        ENTRIES_OF,
         &[number(id)],
     )
 }
@@ -121,43 +124,6 @@ pub fn actors<S: Alter>(alloc: Global, tables: &mut Tables<S>) -> Result<Vec<Tex
         (seen S.Store tables.old) (seen S.Store tables.new) result }
 {
     select_all(alloc, tables, "SELECT actor FROM entry", &[])
-}
-
-/// Adds an entry.
-pub(crate) fn put_entry<S: Alter>(
-    tx: &mut Transaction<'_, S>,
-    row: &Entry,
-) -> Result<(), StoreFault>
-    ensures same_reference { tx.new.conn.ghost_name ≡ tx.old.conn.ghost_name }
-    ensures put { Does (λ c. add_entry c row.now)
-        (state S.Store tx.old.conn.now) (state S.Store tx.new.conn.now) result }
-{
-    run_on_one(
-        tx,
-        "INSERT INTO entry (request, number, moment, actor, kind, head, body) \
-         VALUES (?1, ?2, ?3, ?4, ?5, ?6, ?7)",
-        &[
-            number(row.id),
-            number(row.number),
-            minute(row.moment),
-            words(&row.actor),
-            entry_kind(row.kind),
-            words(&row.head),
-            words(&row.body),
-        ],
-    )
-}
-
-/// Adds entries. `Refused` where the store or memory refuses one.
-pub fn put_entries<S: Alter>(tx: &mut Transaction<'_, S>, rows: &[Entry]) -> Result<(), StoreFault>
-    ensures same_reference { tx.new.conn.ghost_name ≡ tx.old.conn.ghost_name }
-    ensures put { Does (λ c. fold add_entry c rows.now)
-        (state S.Store tx.old.conn.now) (state S.Store tx.new.conn.now) result }
-{
-    for row in rows {
-        put_entry(tx, row)?;
-    }
-    Ok(())
 }
 
 /// The kind of an entry, to be bound.
@@ -196,5 +162,26 @@ fn entry_kind_at(row: &Row, at: usize) -> Result<EntryKind, StoreFault>
         9 => Ok(EntryKind::Unlink),
         10 => Ok(EntryKind::Level),
         _ => Err(StoreFault::Mismatch),
+    }
+}
+
+impl Put for Entry {
+    ghost put_in = { add_entry };
+
+    fn put<S: Alter>(&self, tx: &mut Transaction<'_, S>) -> Result<(), StoreFault> {
+        run_on_one(
+            tx,
+            "INSERT INTO entry (request, number, moment, actor, kind, head, body) \
+             VALUES (?1, ?2, ?3, ?4, ?5, ?6, ?7)",
+            &[
+                number(self.id),
+                number(self.number),
+                minute(self.moment),
+                words(&self.actor),
+                entry_kind(self.kind),
+                words(&self.head),
+                words(&self.body),
+            ],
+        )
     }
 }

@@ -13,9 +13,7 @@ ghost use Rattle.store_tables.specs.Readings.{MismatchesInLinks, Reads};
 ghost use Rattle.store_tables.specs.Picked.{AreOrdered};
 ghost use Rattle.store_tables.specs.Seen.{seen};
 ghost use Rattle.store_tables.specs.Contents.Link as chosen;
-ghost use Rattle.sqlite.specs.Held.{state};
-ghost use Rattle.store_tables.specs.Calls.{Does};
-ghost use Rattle.store_tables.specs.Contents.{add_link, drop_link as without_link};
+ghost use Rattle.store_tables.specs.Contents.{add_link, drop_link};
 
 use crate::columns::{number, number_at};
 use crate::fault::StoreFault;
@@ -23,6 +21,7 @@ use crate::query::{select_all, select_one};
 use crate::stored::Stored;
 use crate::tables::Tables;
 use crate::transaction::run_on_one;
+use crate::written::{Put, Take};
 use desk_model::{LinkKind, LinkRow};
 use sqlite::types::{ToSql, ValueRef};
 use sqlite::{Alter, Row, Transaction};
@@ -164,32 +163,6 @@ pub fn link_like<S: Alter>(
     )
 }
 
-/// Adds a link. `Refused` where the store or memory refuses it.
-pub fn put_link<S: Alter>(tx: &mut Transaction<'_, S>, row: &LinkRow) -> Result<(), StoreFault>
-    ensures same_reference { tx.new.conn.ghost_name ≡ tx.old.conn.ghost_name }
-    ensures put { Does (λ c. add_link c row.now)
-        (state S.Store tx.old.conn.now) (state S.Store tx.new.conn.now) result }
-{
-    run_on_one(
-        tx,
-        "INSERT INTO link (source, kind, target) VALUES (?1, ?2, ?3)",
-        &[number(row.source), link_kind(row.kind), number(row.target)],
-    )
-}
-
-/// Takes a link out. `Refused` where there is none, or the store or memory refuses it.
-pub fn drop_link<S: Alter>(tx: &mut Transaction<'_, S>, row: &LinkRow) -> Result<(), StoreFault>
-    ensures same_reference { tx.new.conn.ghost_name ≡ tx.old.conn.ghost_name }
-    ensures dropped { Does (λ c. without_link c row.now)
-        (state S.Store tx.old.conn.now) (state S.Store tx.new.conn.now) result }
-{
-    run_on_one(
-        tx,
-        "DELETE FROM link WHERE source = ?1 AND kind = ?2 AND target = ?3",
-        &[number(row.source), link_kind(row.kind), number(row.target)],
-    )
-}
-
 /// The kind of a link, to be bound.
 fn link_kind<'a>(kind: LinkKind) -> ValueRef<'a>
     ensures { bound_value (owned result) ≡ count_value (kind_number kind) }
@@ -212,5 +185,29 @@ fn link_kind_at(row: &Row, at: usize) -> Result<LinkKind, StoreFault>
         2 => Ok(LinkKind::MemberOf),
         3 => Ok(LinkKind::RefersTo),
         _ => Err(StoreFault::Mismatch),
+    }
+}
+
+impl Put for LinkRow {
+    ghost put_in = { add_link };
+
+    fn put<S: Alter>(&self, tx: &mut Transaction<'_, S>) -> Result<(), StoreFault> {
+        run_on_one(
+            tx,
+            "INSERT INTO link (source, kind, target) VALUES (?1, ?2, ?3)",
+            &[number(self.source), link_kind(self.kind), number(self.target)],
+        )
+    }
+}
+
+impl Take for LinkRow {
+    ghost taken_out = { drop_link };
+
+    fn take<S: Alter>(&self, tx: &mut Transaction<'_, S>) -> Result<(), StoreFault> {
+        run_on_one(
+            tx,
+            "DELETE FROM link WHERE source = ?1 AND kind = ?2 AND target = ?3",
+            &[number(self.source), link_kind(self.kind), number(self.target)],
+        )
     }
 }

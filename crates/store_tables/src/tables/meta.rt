@@ -1,23 +1,24 @@
 //! The table `meta`: the version of the tables, and whether the connection is open.
-ghost use Rattle.std.specs.Prelude.{◌≡◌, ◌≢◌, ℕ, [], IfErr, IfOk, IfSome, None, Ok, Some, false};
+ghost use Rattle.std.specs.Prelude.{◌≡◌, ◌≢◌, ℕ, [], IfErr, IfOk, IfSome, None, Ok, OnOk, Some, false};
+ghost use Rattle.std.specs.Prelude.{⊤};
 ghost use Rattle.sqlite.specs.Order.{column};
 ghost use Rattle.sqlite_rules.specs.Lists.{Has};
 ghost use Rattle.store_tables.specs.Values.{IsNumberRow, count_value};
-ghost use Rattle.store_tables.specs.Calls.{Answers, Spares, Inside, Looks, ShowsRowsOf, shut, Does};
+ghost use Rattle.store_tables.specs.Calls.{Answers, Does, Runs, Spares, shut};
 ghost use Rattle.store_tables.specs.Making.{AreOfMeta, IsOfMeta, ReadsMeta, RefusesBlank};
-ghost use Rattle.store_tables.specs.Making.{ShowsVersion, LacksVersion};
+ghost use Rattle.store_tables.specs.Making.{LacksVersion, ReadsVersion, ShowsVersion};
 ghost use Rattle.store_tables.specs.declared.fault.StoreFault.{StoreFault};
 ghost use Rattle.store_tables.specs.Seen.{seen};
 ghost use Rattle.sqlite.specs.Held.{state};
 ghost use Rattle.sqlite.specs.State.{HasCleanDisk};
 ghost use Rattle.store_tables.specs.Contents.{Contents, set_version as with_version};
-ghost use Rattle.store_tables.specs.Contents.Meta.{version_shown};
+ghost use Rattle.store_tables.specs.Stands.{GoesOn, HoldsNow};
 
 use crate::columns::number_at;
 use crate::fault::StoreFault;
-use crate::query::{select, select_inside};
+use crate::query::{Shows, select_one};
 use crate::tables::Tables;
-use crate::transaction::run_on_one;
+use crate::transaction::{run, run_on_one};
 use sqlite::{Alter, Error, ErrorCode, Row, Transaction};
 
 /// The statement that makes the table.
@@ -25,9 +26,12 @@ pub(crate) const TABLE: &str =
     "CREATE TABLE IF NOT EXISTS meta (one INTEGER PRIMARY KEY CHECK (one = 1), version INTEGER \
      NOT NULL) STRICT";
 
+/// The rows of `meta`: each shows its version.
+const VERSION: &str = "SELECT version FROM meta";
+
 /// The version that the rows show, or none where there is no row. `Mismatch` where the row shows no
 /// number, `Refused` where there are more rows.
-pub fn version_in(rows: &[Row]) -> Result<Option<u32>, StoreFault>
+fn version_in(rows: &[Row]) -> Result<Option<u32>, StoreFault>
     ensures none { rows.now ≡ [] → result ≡ Ok None }
     ensures empty { IfOk result (λ v. v ≡ None → rows.now ≡ []) }
     ensures one { (n : ℕ) → ShowsVersion n rows.now → IfOk result (λ v. v ≡ Some n) }
@@ -58,7 +62,7 @@ fn rows_version<S: Alter>(tables: &mut Tables<S>) -> Result<Vec<Row>, StoreFault
         (seen S.Store tables.old) (seen S.Store tables.new) result }
     ensures fault { IfErr result (λ e. e ≡ StoreFault.Refused) }
 {
-    select(tables, "SELECT version FROM meta", &[])
+    tables.select(VERSION, &[])
 }
 
 /// The version that `meta` holds, where the first n of the tables are there, whatever rows stand
@@ -80,20 +84,28 @@ pub fn version<S: Alter>(tables: &mut Tables<S>) -> Result<u32, StoreFault>
     }
 }
 
-/// The rows of the version, in any number. `Refused` where the store or memory refuses it.
-pub fn version_rows<S: Alter>(tx: &mut Transaction<'_, S>) -> Result<Vec<Row>, StoreFault>
+/// The version that a row of `meta` shows, or none where there is no row. `Mismatch` where the row
+/// shows no whole number, `Refused` where the store or memory refuses it, or there are more rows.
+pub fn version_inside<S: Alter>(tx: &mut Transaction<'_, S>) -> Result<Option<i64>, StoreFault>
     ensures same_reference { tx.new.conn.ghost_name ≡ tx.old.conn.ghost_name }
-    ensures none { (c : Contents) → LacksVersion c (state S.Store tx.old.conn.now) →
-        HasCleanDisk (state S.Store tx.new.conn.now) → IfOk result (λ rows. rows.items ≡ []) }
-    ensures one { Inside (λ c rows. ShowsVersion c.version rows.items)
+    ensures read { ReadsVersion
         (state S.Store tx.old.conn.now) (state S.Store tx.new.conn.now) result }
-    ensures looks { Looks
-        (state S.Store tx.old.conn.now) (state S.Store tx.new.conn.now) result }
-    ensures of_table { ShowsRowsOf 0 version_shown (λ rows. rows.items)
-        (state S.Store tx.old.conn.now) (state S.Store tx.new.conn.now) result }
-    ensures fault { IfErr result (λ e. e ≡ StoreFault.Refused) }
 {
-    select_inside(tx, "SELECT version FROM meta", &[])
+    select_one(tx, VERSION, &[])
+}
+
+/// Writes the present version, 2, where there is none. `Refused` where the store or memory refuses
+/// it.
+pub fn add_version<S: Alter>(tx: &mut Transaction<'_, S>) -> Result<(), StoreFault>
+    ensures same_reference { tx.new.conn.ghost_name ≡ tx.old.conn.ghost_name }
+    ensures numbered { (c : Contents) → LacksVersion c (state S.Store tx.old.conn.now) →
+        OnOk result (HoldsNow c (state S.Store tx.new.conn.now)) }
+    ensures runs { Runs (λ done. ⊤)
+        (state S.Store tx.old.conn.now) (state S.Store tx.new.conn.now) result }
+    ensures goes_on { OnOk result (GoesOn (state S.Store tx.new.conn.now)) }
+{
+    let _ = run(tx, "INSERT INTO meta (one, version) VALUES (1, 2)", &[])?;
+    Ok(())
 }
 
 /// Whether the connection under the tables is open: a fault of the disk shuts it for good. `Refused`
@@ -104,7 +116,7 @@ pub fn is_open<S: Alter>(tables: &mut Tables<S>) -> Result<bool, StoreFault>
     ensures kept { Spares (seen S.Store tables.old) (seen S.Store tables.new) }
     ensures fault { IfErr result (λ e. e ≡ StoreFault.Refused) }
 {
-    match tables.conn.query_all("SELECT version FROM meta", &[]) {
+    match tables.conn.query_all(VERSION, &[]) {
         Ok(rows) => {
             drop(rows);
             Ok(true)

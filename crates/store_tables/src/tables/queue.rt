@@ -5,8 +5,6 @@ ghost use Rattle.store_tables.specs.Contents.Queue.{IsQueueRow, ReadsQueue, by_n
 ghost use Rattle.store_tables.specs.Readings.{MismatchesInQueues, Reads};
 ghost use Rattle.store_tables.specs.Picked.{AreOrdered};
 ghost use Rattle.store_tables.specs.Seen.{seen};
-ghost use Rattle.sqlite.specs.Held.{state};
-ghost use Rattle.store_tables.specs.Calls.{Does};
 ghost use Rattle.store_tables.specs.Contents.{add_queue};
 
 use crate::columns::{nullable, nullable_at, text_at, words};
@@ -15,6 +13,7 @@ use crate::query::{select_all, select_one};
 use crate::stored::Stored;
 use crate::tables::Tables;
 use crate::transaction::run_on_one;
+use crate::written::Put;
 use desk_model::QueueRow;
 use sqlite::{Alter, Row, Transaction};
 use std::alloc::Global;
@@ -84,19 +83,18 @@ pub fn queue_count<S: Alter>(tables: &mut Tables<S>) -> Result<u32, StoreFault>
     }
 }
 
-/// Adds a queue. `Refused` where the store or memory refuses it.
-pub fn put_queue<S: Alter>(tx: &mut Transaction<'_, S>, row: &QueueRow) -> Result<(), StoreFault>
-    ensures same_reference { tx.new.conn.ghost_name ≡ tx.old.conn.ghost_name }
-    ensures put { Does (λ c. add_queue c row.now)
-        (state S.Store tx.old.conn.now) (state S.Store tx.new.conn.now) result }
-{
-    run_on_one(
-        tx,
-        "INSERT INTO queue (name, lifecycle, level) VALUES (?1, ?2, ?3)",
-        &[
-            words(&row.name),
-            words(&row.lifecycle),
-            nullable(&row.level),
-        ],
-    )
+impl Put for QueueRow {
+    ghost put_in = { add_queue };
+
+    fn put<S: Alter>(&self, tx: &mut Transaction<'_, S>) -> Result<(), StoreFault> {
+        run_on_one(
+            tx,
+            "INSERT INTO queue (name, lifecycle, level) VALUES (?1, ?2, ?3)",
+            &[
+                words(&self.name),
+                words(&self.lifecycle),
+                nullable(&self.level),
+            ],
+        )
+    }
 }

@@ -11,9 +11,7 @@ ghost use Rattle.store_tables.specs.Contents.Watcher.{by_role, watches, by_stand
 ghost use Rattle.store_tables.specs.Readings.{MismatchesInWatchers, Reads};
 ghost use Rattle.store_tables.specs.Picked.{AreOrdered};
 ghost use Rattle.store_tables.specs.Seen.{seen};
-ghost use Rattle.sqlite.specs.Held.{state};
-ghost use Rattle.store_tables.specs.Calls.{Does};
-ghost use Rattle.store_tables.specs.Contents.{add_watcher, drop_watcher as without_watcher};
+ghost use Rattle.store_tables.specs.Contents.{add_watcher, drop_watcher};
 
 use crate::columns::{name, number, number_at, text_at, words};
 use crate::fault::StoreFault;
@@ -21,6 +19,7 @@ use crate::query::select_all;
 use crate::stored::Stored;
 use crate::tables::Tables;
 use crate::transaction::run_on_one;
+use crate::written::{Put, Take};
 use desk_model::{WatchRole, Watcher};
 use sqlite::types::{ToSql, ValueRef};
 use sqlite::{Alter, Row, Transaction};
@@ -101,68 +100,6 @@ pub fn watches_of<S: Alter>(
     )
 }
 
-/// Adds a watcher.
-pub(crate) fn put_watcher<S: Alter>(
-    tx: &mut Transaction<'_, S>,
-    row: &Watcher,
-) -> Result<(), StoreFault>
-    ensures same_reference { tx.new.conn.ghost_name ≡ tx.old.conn.ghost_name }
-    ensures put { Does (λ c. add_watcher c row.now)
-        (state S.Store tx.old.conn.now) (state S.Store tx.new.conn.now) result }
-{
-    run_on_one(
-        tx,
-        "INSERT INTO watcher (request, role, person) VALUES (?1, ?2, ?3)",
-        &[number(row.id), role(row.role), words(&row.person)],
-    )
-}
-
-/// Takes a watcher out. `Refused` where there is none.
-pub(crate) fn drop_watcher<S: Alter>(
-    tx: &mut Transaction<'_, S>,
-    row: &Watcher,
-) -> Result<(), StoreFault>
-    ensures same_reference { tx.new.conn.ghost_name ≡ tx.old.conn.ghost_name }
-    ensures dropped { Does (λ c. without_watcher c row.now)
-        (state S.Store tx.old.conn.now) (state S.Store tx.new.conn.now) result }
-{
-    run_on_one(
-        tx,
-        "DELETE FROM watcher WHERE request = ?1 AND role = ?2 AND person = ?3",
-        &[number(row.id), role(row.role), words(&row.person)],
-    )
-}
-
-/// Adds watchers. `Refused` where the store or memory refuses one.
-pub fn put_watchers<S: Alter>(
-    tx: &mut Transaction<'_, S>,
-    rows: &[Watcher],
-) -> Result<(), StoreFault>
-    ensures same_reference { tx.new.conn.ghost_name ≡ tx.old.conn.ghost_name }
-    ensures put { Does (λ c. fold add_watcher c rows.now)
-        (state S.Store tx.old.conn.now) (state S.Store tx.new.conn.now) result }
-{
-    for row in rows {
-        put_watcher(tx, row)?;
-    }
-    Ok(())
-}
-
-/// Takes watchers out. `Refused` where one isn't there, or the store or memory refuses it.
-pub fn drop_watchers<S: Alter>(
-    tx: &mut Transaction<'_, S>,
-    rows: &[Watcher],
-) -> Result<(), StoreFault>
-    ensures same_reference { tx.new.conn.ghost_name ≡ tx.old.conn.ghost_name }
-    ensures dropped { Does (λ c. fold without_watcher c rows.now)
-        (state S.Store tx.old.conn.now) (state S.Store tx.new.conn.now) result }
-{
-    for row in rows {
-        drop_watcher(tx, row)?;
-    }
-    Ok(())
-}
-
 /// A role, to be bound.
 fn role<'a>(role: WatchRole) -> ValueRef<'a>
     ensures { bound_value (owned result) ≡ count_value (role_number role) }
@@ -185,5 +122,29 @@ fn role_at(row: &Row, at: usize) -> Result<WatchRole, StoreFault>
         2 => Ok(WatchRole::Cc),
         3 => Ok(WatchRole::AdminCc),
         _ => Err(StoreFault::Mismatch),
+    }
+}
+
+impl Put for Watcher {
+    ghost put_in = { add_watcher };
+
+    fn put<S: Alter>(&self, tx: &mut Transaction<'_, S>) -> Result<(), StoreFault> {
+        run_on_one(
+            tx,
+            "INSERT INTO watcher (request, role, person) VALUES (?1, ?2, ?3)",
+            &[number(self.id), role(self.role), words(&self.person)],
+        )
+    }
+}
+
+impl Take for Watcher {
+    ghost taken_out = { drop_watcher };
+
+    fn take<S: Alter>(&self, tx: &mut Transaction<'_, S>) -> Result<(), StoreFault> {
+        run_on_one(
+            tx,
+            "DELETE FROM watcher WHERE request = ?1 AND role = ?2 AND person = ?3",
+            &[number(self.id), role(self.role), words(&self.person)],
+        )
     }
 }

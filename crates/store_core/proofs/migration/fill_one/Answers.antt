@@ -1,7 +1,7 @@
 use Rattle.std.proofs.Common.{◌≡◌, ◌∙◌, ap, inr, rules}
 use Rattle.desk_model.specs.Facts.{stays_at}
 use Rattle.desk_model.specs.Stays.{stays_of}
-use Rattle.store_tables.proofs.EachTable.{entry_table}
+use Rattle.store_tables.proofs.Contents.Entry.{entry_table}
 use Rattle.store_tables.proofs.StepLemmas.{looks_beside}
 use Rattle.store_core.proofs.MigrationLemmas.{one_told}
 use Rattle.store_core.proofs.RunLemmas.{and_then, beside_then, blamed_inside, does_on, looks_on}

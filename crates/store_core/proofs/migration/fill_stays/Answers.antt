@@ -1,6 +1,6 @@
 use Rattle.std.proofs.Common.{◌≡◌, ◌∙◌, inl, rules}
 use Rattle.desk_model.specs.IsDesk.{ids}
-use Rattle.store_tables.proofs.EachTable.{id_table}
+use Rattle.store_tables.proofs.Contents.Request.{id_table}
 use Rattle.store_tables.proofs.StepLemmas.{looks_beside}
 use Rattle.store_core.proofs.MigrationLemmas.{all_numbers}
 use Rattle.store_core.proofs.RunLemmas.{and_then, blamed_inside, blames_then, looks_on, looks_then}

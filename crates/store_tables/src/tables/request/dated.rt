@@ -6,9 +6,7 @@ ghost use Rattle.store_tables.specs.Contents.Request.{has_number, is_dated_in, i
 ghost use Rattle.store_tables.specs.Readings.{MismatchesInDated, Reads};
 ghost use Rattle.store_tables.specs.Picked.{AreOrdered};
 ghost use Rattle.store_tables.specs.Seen.{seen};
-ghost use Rattle.sqlite.specs.Held.{state};
-ghost use Rattle.store_tables.specs.Calls.{Does};
-ghost use Rattle.store_tables.specs.Contents.{set_due as with_due, set_each_due};
+ghost use Rattle.store_tables.specs.Contents.{set_each_due};
 
 use crate::columns::{nullable_minute, nullable_minute_at, number, words};
 use crate::fault::StoreFault;
@@ -16,6 +14,7 @@ use crate::query::{select_all, select_one};
 use crate::stored::Stored;
 use crate::tables::Tables;
 use crate::transaction::run_on_any;
+use crate::written::Put;
 use desk_model::RequestRow;
 use hours_core::Minute;
 use sqlite::{Alter, Row, Transaction};
@@ -116,36 +115,16 @@ pub fn dated_numbered<S: Alter>(
     )
 }
 
-/// Sets the due moment of the request with that number; a number that no request has is passed
-/// over. `Refused` where the store or memory refuses it.
-pub fn set_due<S: Alter>(
-    tx: &mut Transaction<'_, S>,
-    id: u32,
-    due: Option<Minute>,
-) -> Result<(), StoreFault>
-    ensures same_reference { tx.new.conn.ghost_name ≡ tx.old.conn.ghost_name }
-    ensures set { Does (λ c. with_due c id due)
-        (state S.Store tx.old.conn.now) (state S.Store tx.new.conn.now) result }
-{
-    run_on_any(
-        tx,
-        "UPDATE request SET due = ?2 WHERE id = ?1",
-        &[number(id), nullable_minute(due)],
-    )
-}
+/// The due moment that the request with that number gets; a number that no request has is passed
+/// over.
+impl Put for (u32, Option<Minute>) {
+    ghost put_in = { set_each_due };
 
-/// Sets the due moments of requests, in order, each by its number; a number that no request has is
-/// passed over. `Refused` where the store or memory refuses one.
-pub fn set_dues<S: Alter>(
-    tx: &mut Transaction<'_, S>,
-    dues: &[(u32, Option<Minute>)],
-) -> Result<(), StoreFault>
-    ensures same_reference { tx.new.conn.ghost_name ≡ tx.old.conn.ghost_name }
-    ensures set { Does (λ c. fold set_each_due c dues.now)
-        (state S.Store tx.old.conn.now) (state S.Store tx.new.conn.now) result }
-{
-    for due in dues {
-        set_due(tx, due.0, due.1)?;
+    fn put<S: Alter>(&self, tx: &mut Transaction<'_, S>) -> Result<(), StoreFault> {
+        run_on_any(
+            tx,
+            "UPDATE request SET due = ?2 WHERE id = ?1",
+            &[number(self.0), nullable_minute(self.1)],
+        )
     }
-    Ok(())
 }

@@ -12,7 +12,7 @@ ghost use Rattle.store_tables.specs.Calls.{Inside, Looks};
 
 use crate::columns::{number, words};
 use crate::fault::StoreFault;
-use crate::query::{select_all, select_all_inside};
+use crate::query::select_all;
 use crate::tables::Tables;
 use sqlite::{Alter, Transaction};
 use std::alloc::Global;
@@ -75,5 +75,5 @@ pub fn numbers_inside<S: Alter>(
     ensures looks { Looks
         (state S.Store tx.old.conn.now) (state S.Store tx.new.conn.now) result }
 {
-    select_all_inside(alloc, tx, "SELECT id FROM request ORDER BY id", &[])
+    select_all(alloc, tx, "SELECT id FROM request ORDER BY id", &[])
 }

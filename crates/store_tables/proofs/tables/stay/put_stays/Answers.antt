@@ -1,10 +1,25 @@
-use Rattle.std.proofs.Common.{arith, length, rules, ◌≡◌, ◌+◌, ◌<◌, ◌≤◌}
+use Rattle.std.proofs.Common.{arith, length, rules, ◌≡◌, ◌+◌, ◌<◌, ◌≤◌, List, ◌∷◌, refl, zero, ℕ}
+use Rattle.std.proofs.Common.{[], suc, get_or}
 use Rattle.sqlite.specs.Held.{state}
-use Rattle.store_tables.specs.Contents.Stay.{stay_rows}
-use Rattle.store_tables.proofs.StayLemmas.{row_at_place, rows_counted}
+use Rattle.store_tables.specs.Contents.Stay.{stay_rows, stay_row, stay_rows_from}
 use Rattle.store_tables.specs.Contents.{add_stay}
 use Rattle.store_tables.proofs.StepLemmas.{beside_on, does_all, does_more}
+use Rattle.hours_core.specs.declared.stay.Stay.{Stay}
 use Rattle.store_tables.proofs.tables.stay.put_stays.Goals as goal
+
+rows_counted : (id n : ℕ) (stays : List Stay)
+    → length (stay_rows_from id n stays) ≡ length stays
+rows_counted id n [] = refl
+rows_counted id n (x ∷ stays) = grind (arith, rows_counted id (n + 1) stays)
+
+-- the one at a place has the number of the first and the place
+row_at_place : (id n m : ℕ) (stays : List Stay) (i : ℕ) (x : Stay) → m ≡ n + i
+    → i < length stays → x ≡ get_or stays i x
+    → stay_row id m x ≡ get_or (stay_rows_from id n stays) i (stay_row id m x)
+row_at_place id n m [] i x place low is = absurd (omega (arith, low))
+row_at_place id n m (y ∷ stays) zero x place low is = grind (arith, place, is)
+row_at_place id n m (y ∷ stays) (suc i) x place low is =
+    row_at_place id (n + 1) m stays i x (omega (arith, place)) (omega (arith, low)) is
 
 pub loop-stay-preserved : goal.loop-stay-preserved
 loop-stay-preserved g c =
