@@ -147,12 +147,12 @@ numbered_so c a b v read holds now =
 
 pub unnumbered_if : (c : Contents) (a b : State) (r : Result (Option ℤ) StoreFault)
     → ReadsVersion a b r → LacksVersion c a → HasCleanDisk b → IfOk r (λ v. v ≡ None)
-unnumbered_if c a b (Ok v) read = unnumbered c a b v read
+unnumbered_if c a b (Ok v) read lacks now = unnumbered c a b v read lacks now
 unnumbered_if c a b (Err e) read lacks now = tt
 
 pub numbered_if : (c : Contents) (a b : State) (r : Result (Option ℤ) StoreFault)
     → ReadsVersion a b r → HoldsNow c a → HasCleanDisk b → IfOk r (λ v. v ≡ Some (pos c.version))
-numbered_if c a b (Ok v) read = numbered_so c a b v read
+numbered_if c a b (Ok v) read holds now = numbered_so c a b v read holds now
 numbered_if c a b (Err e) read holds now = tt
 
 -- no fault is told but that the store or memory refused it

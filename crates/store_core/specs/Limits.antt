@@ -3,6 +3,7 @@ use Rattle.std.specs.Prelude.{◌≡◌, ℕ, Option, max}
 use Rattle.std.specs.Option.{option_map}
 use Rattle.sqlite.specs.Held.{Held}
 use Rattle.sqlite.specs.State.{State}
+use Rattle.store_tables.specs.Calls.{AreLeft, WasClean}
 
 -- no step counts as one
 abbrev pub steps_of : Option ℕ → Option ℕ
@@ -12,6 +13,9 @@ steps_of limit = option_map (λ n. max n 1) limit
 abbrev pub limited : {S : Type 0} → Option ℕ → Held S → Held S
 limited limit conn = record conn { step_limit = steps_of limit }
 
--- nothing but the limit is another
-abbrev pub OnlyLimits : State → State → Type 0
-OnlyLimits old new = new ≡ record old { step_limit = new.step_limit }
+-- Nothing but the limit is another: the tables are left, and the connection as it was.
+pub record OnlyLimits (old new : State) : Type 0 where
+  pub clean : WasClean old new
+  pub faults : new.faults ≡ old.faults
+  pub live : new.is_open ≡ old.is_open
+  pub left : AreLeft old new
