@@ -20,8 +20,8 @@ use desk_core::{Entry, LinkRow, QueueRow, RequestRow, Watcher};
 use hours_core::{Minute, Stay};
 use std::alloc::Global;
 use store_tables::StoreFault;
-use store_tables::tables::{entry, link, queue, request, stay, watcher};
 use store_tables::tables::request::dated;
+use store_tables::tables::{entry, link, queue, request, stay, watcher};
 use text_core::Text;
 
 impl<S: Backend> Store<S> {

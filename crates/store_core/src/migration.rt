@@ -15,9 +15,9 @@ use sqlite::{Alter, Transaction};
 use std::alloc::Global;
 use store_tables::StoreFault;
 use store_tables::tables::entry::entries_inside;
+use store_tables::tables::meta::set_version;
 use store_tables::tables::request::numbers::numbers_inside;
 use store_tables::tables::stay::put_stays;
-use store_tables::tables::meta::set_version;
 
 /// The stays that a history tells.
 fn stays_told(alloc: Global, entries: &[Entry]) -> Result<Vec<Stay>, StoreFault>

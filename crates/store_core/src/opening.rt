@@ -14,8 +14,8 @@ use crate::making::make_schema;
 use crate::store::Store;
 use sqlite::{Alter, Connection, MemStore};
 use std::alloc::Global;
+use store_tables::tables::meta;
 use store_tables::{StoreFault, Tables};
-use store_tables::tables::{meta};
 
 impl Store<MemStore> {
     /// A store in memory, without tables and without a limit on steps. `Refused` where out of

@@ -9,8 +9,8 @@ ghost use Rattle.store_tables.specs.Seen.{seen};
 use hours_core::Stay;
 use sqlite::Alter;
 use std::alloc::Global;
+use store_tables::tables::stay;
 use store_tables::{StoreFault, Tables};
-use store_tables::tables::{stay};
 use text_core::Sequence;
 
 /// The stays of a request that is there; none are read of one that isn't.

@@ -34,10 +34,7 @@ pub trait Take: Sized {
 }
 
 /// Puts rows in, in order. `Refused` where the store or memory refuses one.
-pub fn put_all<T: Put, S: Alter>(
-    tx: &mut Transaction<'_, S>,
-    rows: &[T],
-) -> Result<(), StoreFault>
+pub fn put_all<T: Put, S: Alter>(tx: &mut Transaction<'_, S>, rows: &[T]) -> Result<(), StoreFault>
     ensures same_reference { tx.new.conn.ghost_name ≡ tx.old.conn.ghost_name }
     ensures put { Does (λ c. fold T.Put.put_in c rows.now)
         (state S.Store tx.old.conn.now) (state S.Store tx.new.conn.now) result }

@@ -69,12 +69,7 @@ pub fn entries_of<S: Alter>(
     ensures mismatch { MismatchesInEntries
         (seen S.Store tables.old) (seen S.Store tables.new) result }
 {
-    select_all(
-        alloc,
-        tables,
-        ENTRIES_OF,
-        &[number(id)],
-    )
+    select_all(alloc, tables, ENTRIES_OF, &[number(id)])
 }
 
 /// The entries of a request, by number. `Mismatch` where a row is no entry, `Refused` where the
@@ -93,12 +88,7 @@ pub fn entries_inside<S: Alter>(
     ensures looks { Looks
         (state S.Store tx.old.conn.now) (state S.Store tx.new.conn.now) result }
 {
-    select_all(
-        alloc,
-        tx,
-        ENTRIES_OF,
-        &[number(id)],
-    )
+    select_all(alloc, tx, ENTRIES_OF, &[number(id)])
 }
 
 /// The greatest number of an entry of a request, 0 where there is none. `Mismatch` where the row

@@ -195,7 +195,11 @@ impl Put for LinkRow {
         run_on_one(
             tx,
             "INSERT INTO link (source, kind, target) VALUES (?1, ?2, ?3)",
-            &[number(self.source), link_kind(self.kind), number(self.target)],
+            &[
+                number(self.source),
+                link_kind(self.kind),
+                number(self.target),
+            ],
         )
     }
 }
@@ -207,7 +211,11 @@ impl Take for LinkRow {
         run_on_one(
             tx,
             "DELETE FROM link WHERE source = ?1 AND kind = ?2 AND target = ?3",
-            &[number(self.source), link_kind(self.kind), number(self.target)],
+            &[
+                number(self.source),
+                link_kind(self.kind),
+                number(self.target),
+            ],
         )
     }
 }

@@ -26,8 +26,12 @@ pub returns-in-Some-eq1-clause-others : goal.returns-in-Some-eq1-clause-others
 returns-in-Some-eq1-clause-others g c =
     let one : c.in-Some-eq1.field-0 ≡ pos 1 = search rules in
     record {
-      over = λ has clean. always c.migrate.result (inr (1, rw (c.in-Some-eq1.is, one) at
-          (c.in_ok-read_version.ensures.shown has (c.migrate.ensures.on.clean clean)), inl refl));
+      over = λ has clean. always c.migrate.result (inr (
+        1,
+        rw (c.in-Some-eq1.is, one) at
+            (c.in_ok-read_version.ensures.shown has (c.migrate.ensures.on.clean clean)),
+        inl refl,
+      ));
       alone = λ has clean first row within. absurd (first (rw (c.in-Some-eq1.is, one) at
           (c.in_ok-read_version.ensures.shown has (c.migrate.ensures.on.clean clean))));
     }
@@ -36,8 +40,12 @@ pub returns-in-Some-eq2-clause-others : goal.returns-in-Some-eq2-clause-others
 returns-in-Some-eq2-clause-others g c =
     let two : c.in-Some-eq2.field-0 ≡ pos 2 = search rules in
     record {
-      over = λ has clean. inr (2, rw (c.in-Some-eq2.is, two) at
-          (c.in_ok-read_version.ensures.shown has clean), inr refl);
+      over = λ has clean. inr (
+        2,
+        rw (c.in-Some-eq2.is, two) at
+            (c.in_ok-read_version.ensures.shown has clean),
+        inr refl,
+      );
       alone = λ has clean first row within. (c.in_ok-read_version.ensures.looks.same clean).1;
     }
 
