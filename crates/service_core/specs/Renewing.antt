@@ -12,9 +12,9 @@ use Rattle.desk_model.specs.declared.rows.QueueRow.{QueueRow}
 use Rattle.desk_model.specs.declared.rows.RequestRow.{RequestRow}
 use Rattle.desk_reports.specs.Rows.{queue_among}
 use Rattle.store_tables.specs.Contents.{contents_of}
-use Rattle.store_tables.specs.Dated.{Dated}
+use Rattle.store_tables.specs.Contents.Request.{Dated}
+use Rattle.store_tables.specs.Contents.Stay.{request_stay, stays}
 use Rattle.store_tables.specs.Stands.{Stand, StandsFor}
-use Rattle.store_tables.specs.Stays.{request_stay, stays}
 use Rattle.store_core.specs.Due.{StandsDue}
 use Rattle.store_core.specs.Rows.{dated_rows}
 

@@ -6,7 +6,7 @@ ghost use Rattle.std.specs.Prelude.{◌≡◌, ◌&&◌, ◌≢◌, false, map, 
 ghost use Rattle.desk_model.specs.Known as known;
 ghost use Rattle.store_tables.specs.Calls.{Lasts, Spares, Tells, WasClean};
 ghost use Rattle.store_tables.specs.Contents.{watchers};
-ghost use Rattle.store_tables.specs.Dated.{row_of};
+ghost use Rattle.store_tables.specs.Contents.Request.{row_of};
 ghost use Rattle.store_tables.specs.Readings.{Blames};
 ghost use Rattle.store_core.specs.Seen.{state_of};
 ghost use Rattle.desk_reports.specs.Rows.{QueuesRise};

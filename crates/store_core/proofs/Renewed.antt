@@ -44,7 +44,7 @@ use Rattle.desk_core.proofs.Goes.{row_goes}
 use Rattle.desk_core.proofs.Identity.{IdentityGoes, identities_go}
 use Rattle.desk_core.proofs.Kept.{ids_kept}
 use Rattle.store_tables.specs.Contents.{contents_of}
-use Rattle.store_tables.specs.Dated.{Dated, dated_by}
+use Rattle.store_tables.specs.Contents.Request.{Dated, dated_by}
 use Rattle.store_core.specs.Due.{due_of_row}
 use Rattle.store_core.specs.Written.{due_with, dues_after}
 
