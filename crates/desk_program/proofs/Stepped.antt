@@ -19,8 +19,6 @@ use Rattle.desk_model.specs.Known.{is_known}
 use Rattle.desk_model.specs.Step.{Ask, Outcome, Steps}
 use Rattle.desk_lists.specs.declared.fault.StreamFault.{StreamFault}
 use Rattle.desk_lists.specs.declared.fault.StreamFault.TheVariants.{Refused, Write}
-use Rattle.desk_texts.proofs.DeskUnchanged.{unchanged_if_long}
-use Rattle.desk_texts.specs.Short.{is_short}
 use Rattle.desk_texts.specs.Texts.{outcome_text, refusal_text}
 use Rattle.service_core.specs.Streaming.{IsStreamed}
 use Rattle.service_core.specs.TableSteps.{LeadsOn, StepsOn, ask_by}
@@ -41,22 +39,6 @@ pub stepped : (s : Settings) (at : ℕ) (caller : List ℕ) (command : Command) 
 stepped s at caller command outcome failed old new text status told ends steps desk formed stands clean =
     let done = steps desk formed stands clean in
     (done.0, (inl (outcome, done.1.step, told, ends), done.1.formed), done.2)
-
--- a command that was done, and for whose text there was no memory
-pub unavailable_if_long : (s : Settings) (at : ℕ) (caller : List ℕ) (command : Command)
-    (outcome : Outcome) (failed : Bool) (old new : State) → is_short outcome ≡ false
-    → StepsOn s (ask_by at caller command) outcome old new
-    → LeadsOn s (TakesStep s (ask_by at caller command) failed unavailable_text 1) old new
-unavailable_if_long s at caller command outcome failed old new long steps desk formed stands clean =
-    let done = steps desk formed stands clean in
-    let same = unchanged_if_long s at caller command desk done.0 outcome long done.1.step in
-    (done.0, (inl (Err Unavailable, inl (refl, same), refl, refl), done.1.formed), done.2)
-
--- a command for which there was no room
-pub not_stepped : (s : Settings) (ask : Ask) (failed : Bool) (tables : State)
-    → LeadsOn s (TakesStep s ask failed unavailable_text 1) tables tables
-not_stepped s ask failed tables desk formed stands clean =
-    (desk, (inl (Err Unavailable, inl (refl, refl), refl, refl), formed), stands)
 
 -- settings that a text states know each name of the desk to which a step leads
 known_by_step : (s : Settings) (text : List ℕ) (ask : Ask) (old new : Desk) (outcome : Outcome)

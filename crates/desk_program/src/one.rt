@@ -3,7 +3,6 @@
 //! What owns much is given back by `drop`, whose proof stands once; at the end of its scope it
 //! would be taken apart for each function's own proof.
 ghost use Rattle.std.specs.Prelude.{◌≡◌, ◌⊎◌, ◌+◌, ◌≤◌, [], ℕ, Bool, List, Some, false, map, string_bytes};
-ghost use Rattle.std.specs.Vec.{vec_capacity, vec_len};
 ghost use Rattle.sqlite.specs.Held.{Held};
 ghost use Rattle.store_core.specs.Seen.{connection_of, state_of};
 ghost use Rattle.store_tables.specs.Calls.{WasClean};
@@ -19,7 +18,7 @@ ghost use Rattle.desk_program.specs.One.{RunsOne, TakesStep, asked_by};
 use crate::fault_lines::{put_bad_words, put_unavailable};
 use crate::opening::{ended, open};
 use desk_core::{Answer, Command, Refusal};
-use service_core::{Desk, SHORT_TEXT, StreamFault, refusal_text, text_in_room};
+use service_core::{Desk, StreamFault, refusal_text};
 use std::alloc::Global;
 use std::io::Write;
 use store_core::{Backend, Store};
@@ -256,8 +255,7 @@ fn put_refusal<W: Write>(alloc: Global, refusal: Refusal, output: &mut CountedWr
     }
 }
 
-/// Does the command and prints its text. It is done only once there is room for the answer of a
-/// command that changes the desk.
+/// Does the command and prints its text.
 fn run_whole<S: Backend, W: Write>(
     alloc: Global,
     desk: &mut Desk<S>,
@@ -274,41 +272,10 @@ fn run_whole<S: Backend, W: Write>(
         × Prints W.contents output.old output.new line }
     ensures honest { WasClean (tables_of S.Store desk.old) (tables_of S.Store desk.new) }
 {
-    match Vec::with_capacity(alloc, SHORT_TEXT) {
-        Ok(room) => run_in_room(alloc, desk, caller, at, command, room, output),
-        Err(_) => {
-            put_unavailable(output);
-            REFUSED
-        }
-    }
-}
-
-/// Does the command and prints its text, which stands in the room if it is short.
-fn run_in_room<S: Backend, W: Write>(
-    alloc: Global,
-    desk: &mut Desk<S>,
-    caller: &str,
-    at: u32,
-    command: &Command,
-    room: Vec<u8>,
-    output: &mut CountedWriter<'_, W>,
-) -> u8
-    requires empty { room.items ≡ [] }
-    requires room { vec_len room + 64 ≤ vec_capacity room }
-    ensures same_writer { HaveOneWriter output.new output.old }
-    ensures printed { (line : List ℕ)
-        × LeadsOn (settings_of S.Store desk.old)
-        (TakesStep (settings_of S.Store desk.old) (ask_by at caller.now command.now)
-        (has_write_failed output.new) line result) (tables_of S.Store desk.old) (tables_of S.Store desk.new)
-        × Prints W.contents output.old output.new line }
-    ensures honest { WasClean (tables_of S.Store desk.old) (tables_of S.Store desk.new) }
-{
-    let outcome = desk.execute(alloc, at, caller, command);
-    let status = status_of(&outcome);
-    let text = text_in_room(alloc, &outcome, room);
-    drop(outcome);
-    match text {
-        Ok(text) => {
+    match desk.told(alloc, at, caller, command) {
+        Ok(told) => {
+            let status = status_of(&told.outcome);
+            let text = told.into_text();
             output.put(text.as_slice());
             status
         }
