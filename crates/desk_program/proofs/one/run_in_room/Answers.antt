@@ -2,6 +2,7 @@
 use Rattle.service_core.specs.Seen.{settings_of, tables_of}
 use Rattle.stream_core.specs.Seen.{has_write_failed}
 use Rattle.desk_program.specs.FaultLines.{unavailable_text}
+use Rattle.desk_program.specs.Status.{code_of}
 use Rattle.desk_program.proofs.Stepped.{stepped, unavailable_if_long}
 use Rattle.desk_program.proofs.one.run_in_room.Goals as goal
 
@@ -12,7 +13,7 @@ returns-in-Ok-clause-printed g c = (
       c.execute-outcome.result (has_write_failed c.put.new.self)
       (tables_of g.S.Store c.args.desk.now)
       (tables_of g.S.Store c.execute-outcome.new.self) c.in-Ok.text.items
-      c.status_of-status.result c.in-Ok.ensures.ok c.status_of-status.ensures
+      (code_of c.status_of-status.result) c.in-Ok.ensures.ok c.status_of-status.ensures
       c.execute-outcome.ensures.step,
   rw c.as_slice.ensures.value at c.put.ensures.printed,
 )
