@@ -27,7 +27,8 @@ use Rattle.store_tables.specs.Calls.{Spares, WasClean}
 use Rattle.store_tables.specs.Contents.{contents_of}
 use Rattle.store_core.specs.Due.{StandsDue, due_of_row}
 use Rattle.desk_program.specs.FaultLines.{unavailable_text}
-use Rattle.desk_program.specs.One.{IsDone, IsGivenOutput, TakesStep, TellsStep, status_of}
+use Rattle.desk_program.specs.One.{IsDone, IsGivenOutput, TakesStep, TellsStep, is_list}
+use Rattle.desk_program.specs.One.{status_of}
 use Rattle.desk_program.specs.Opening.{IsOpened, IsOpeningFault}
 use Rattle.desk_program.proofs.LedLines.{knows_empty}
 
@@ -57,7 +58,7 @@ known_after : (s : Settings) (text : List ℕ) (ask : Ask) (failed : Bool) (line
 known_after s text ask failed line status old new stated formed known takes =
     elim takes.0 [
       | inl told ↦ known_by_step s text ask old new told.0 stated formed known told.1
-      | inr cut ↦ known_by_step s text ask old new (Ok cut.0) stated formed known cut.1
+      | inr cut ↦ known_by_step s text ask old new (Ok cut.1) stated formed known cut.2
     ]
 
 -- the tables were opened, and the command was done
@@ -100,7 +101,7 @@ not_opened g (Ok settings) ask failed old new line status told = inl told
 -- ---- a list
 
 module _ (s : Settings) (at : ℕ) (caller : List ℕ) (command : Command) (old new : State)
-    (kept : Spares old new) where
+    (kept : Spares old new) (listed : is_list command ≡ true) where
   abbrev ask : Ask
   ask = ask_by at caller command
 
@@ -125,7 +126,7 @@ module _ (s : Settings) (at : ℕ) (caller : List ℕ) (command : Command) (old 
   list_failed failed printed status is came desk formed stand clean =
       let it = came desk formed stand clean in (
         desk,
-        (inr (it.0, it.1.step, printed, it.2, inl (is, refl), refl), formed),
+        (inr (listed, it.0, it.1.step, printed, it.2, inl (is, refl), refl), formed),
         still desk stand,
       )
 
@@ -145,6 +146,7 @@ module _ (s : Settings) (at : ℕ) (caller : List ℕ) (command : Command) (old 
               | inr unavailable ↦ unavailable
             ] in
             inr (
+              listed,
               it.0,
               it.1.step,
               printed,

@@ -15,6 +15,7 @@ ghost use Rattle.desk_program.specs.FaultLines.{unavailable_text};
 ghost use Rattle.desk_program.specs.Script.{LineLeads, line_of, line_of_words, is_passed_over};
 ghost use Rattle.desk_program.specs.Script.{is_comment};
 
+use crate::fault_lines::BAD_WORDS;
 use desk_core::Command;
 use service_core::Desk;
 use std::alloc::{AllocError, Global};
@@ -59,7 +60,7 @@ pub fn answer_line<S: Backend>(
 {
     match line_of(alloc, text) {
         Ok(Line::PassedOver) => Ok(Vec::new(alloc)),
-        Ok(Line::BadWords) => Vec::from_slice(alloc, b"bad words\n"),
+        Ok(Line::BadWords) => Vec::from_slice(alloc, BAD_WORDS),
         Ok(
             Line::Asked {
                 at,

@@ -4,6 +4,7 @@ use Rattle.desk_model.specs.declared.refusal.Refusal.TheVariants.{Unavailable}
 use Rattle.service_core.specs.Seen.{settings_of, tables_of}
 use Rattle.stream_core.specs.Seen.{has_write_failed}
 use Rattle.desk_program.specs.FaultLines.{unavailable_text}
+use Rattle.desk_program.specs.Status.{code_of}
 use Rattle.desk_program.proofs.Stepped.{stepped}
 use Rattle.desk_program.proofs.one.run_whole.Goals as goal
 
@@ -13,7 +14,7 @@ returns-in-Ok-clause-printed g c = (
   stepped (settings_of g.S.Store c.args.desk.now) c.args.at c.args.caller.now c.args.command.now
       c.in-Ok.told.outcome (has_write_failed c.put.new.self)
       (tables_of g.S.Store c.args.desk.now) (tables_of g.S.Store c.told.new.self)
-      c.into_text-text.result.items c.status_of-status.result
+      c.into_text-text.result.items (code_of c.status_of-status.result)
       (ap (λ v. v.items) c.into_text-text.ensures ∙ c.in-Ok.ensures.ok.told)
       c.status_of-status.ensures c.in-Ok.ensures.ok.step,
   rw c.as_slice.ensures.value at c.put.ensures.printed,
