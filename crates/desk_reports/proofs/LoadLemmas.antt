@@ -8,7 +8,8 @@ use Rattle.std.specs.BTreeSet.{insert_key}
 use Rattle.std.specs.Cmp.{IsTotalOrder}
 use Rattle.std.specs.Cmp.Lexicographic.{nat_list_cmp_total}
 use Rattle.std.specs.List.{AllByRecursion, list_any}
-use Rattle.std.specs.Map.{lookup}
+use Rattle.std.specs.List.Sorted.{IsStrictlySortedBy}
+use Rattle.std.specs.Map.{keys_of, lookup, set_value}
 use Rattle.std.specs.Ordering.{is_eq, is_lt, match_ordering, ordering_reverse}
 use Rattle.std.proofs.lemmas.List.Elements.{filter-append, filter_agree}
 use Rattle.std.proofs.lemmas.List.{length-append, length-map, length-take-le, map-append, take_more}
@@ -300,6 +301,45 @@ put_counts f g k stays same (y ∷ ys) climbs =
     by rest Greater e =
         ap₂ (λ (v : Counts) (entries : List (Owner × Counts)). (y, v) ∷ entries)
         (sym (stays y (λ same_as. let no : Greater ≡ Equal = sym e ∙ same_as in cc))) rest
+
+-- ---- a count that is written over
+
+above_each : (k y : Owner) (ys : List Owner) → owner_order k y ≡ Less
+    → AllByRecursion (λ z. owner_order y z ≡ Less) ys
+    → AllByRecursion (λ z. owner_order k z ≡ Less) ys
+above_each k y [] low above = tt
+above_each k y (z ∷ zs) low above =
+    (owners_total.trans k y z low above.0, above_each k y zs low above.1)
+
+no_later : (k : Owner) (es : List (Owner × Counts))
+    → AllByRecursion (λ y. owner_order k y ≡ Less) (keys_of es)
+    → lookup (is_at (owner_order k)) es ≡ None
+no_later k [] above = refl
+no_later k (e ∷ es) above =
+    ap (λ o. cond (is_eq o) (Some e.1) (lookup (is_at (owner_order k)) es)) above.0
+    ∙ no_later k es above.1
+
+-- counts that are written over those of an owner who is there are put under that owner
+pub written_over : (k : Owner) (v w : Counts) (es : List (Owner × Counts))
+    → IsStrictlySortedBy owner_order (keys_of es)
+    → lookup (is_at (owner_order k)) es ≡ Some v
+    → set_value (is_at (owner_order k)) es w ≡ insert_entry owner_order es k w
+unfolding IsStrictlySortedBy
+written_over k v w [] sorted found = cc
+written_over k v w (e ∷ es) sorted found =
+    by (written_over k v w es sorted.1) (owner_order k e.0) refl found
+  where
+    by : (lookup (is_at (owner_order k)) es ≡ Some v
+        → set_value (is_at (owner_order k)) es w ≡ insert_entry owner_order es k w)
+        → (o : Ordering) → owner_order k e.0 ≡ o
+        → cond (is_eq o) (Some e.1) (lookup (is_at (owner_order k)) es) ≡ Some v
+        → cond (is_eq o) ((e.0, w) ∷ es) (e ∷ set_value (is_at (owner_order k)) es w)
+        ≡ match_ordering o ((k, w) ∷ e ∷ es) ((e.0, w) ∷ es)
+        (e ∷ insert_entry owner_order es k w)
+    by rest Less less here =
+        let none = no_later k es (above_each k e.0 (keys_of es) less sorted.0) in cc
+    by rest Equal equal here = refl
+    by rest Greater greater here = ap (λ (l : List (Owner × Counts)). e ∷ l) (rest here)
 
 owners_more : (ts : List Told) (t : Told)
     → owners (ts ++ t ∷ []) ≡ insert_key owner_order (owners ts) t.row.owner

@@ -92,14 +92,25 @@ fn count(owners: &mut Owners, owner: &Option<Text>, is_late: bool) -> Result<(),
         ≡ insert_entry owner_order owners.old.entries owner.now
         (counted is_late (unwrap_or (get owner_order owners.old owner.now) no_counts))) }
 {
-    let before = match owners.get(owner) {
-        Some(counts) => *counts,
-        None => Counts {
-            live: 0,
-            overdue: 0,
-        },
+    match owners.get_mut(owner) {
+        Some(counts) => {
+            *counts = counts.with(is_late);
+            Ok(())
+        }
+        None => begin(owners, owner, is_late),
+    }
+}
+
+/// Counts the first request of an owner.
+fn begin(owners: &mut Owners, owner: &Option<Text>, is_late: bool) -> Result<(), AllocError>
+    ensures { OnOk result (owners.new.entries
+        ≡ insert_entry owner_order owners.old.entries owner.now (counted is_late no_counts)) }
+{
+    let none = Counts {
+        live: 0,
+        overdue: 0,
     };
-    owners.insert(owner.clone()?, before.with(is_late))?;
+    owners.insert(owner.clone()?, none.with(is_late))?;
     Ok(())
 }
 
