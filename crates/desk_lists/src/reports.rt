@@ -64,7 +64,8 @@ pub fn overdue<S: Backend>(
 }
 
 /// What each owner has of the requests that the caller may show, by the due moments that the tables
-/// keep. `Unavailable` where memory or the store refused. The tables stay as they are.
+/// keep. `Unavailable` where memory or the store refused, or where there are more rows than there
+/// are numbers for requests. The tables stay as they are.
 #[tactic(auto, using(store_tables::proofs::Spared::joined, store_tables::proofs::Spared::stands))]
 pub fn workload<S: Backend>(
     alloc: Global,
@@ -82,7 +83,13 @@ pub fn workload<S: Backend>(
     let watches = or_unavailable(store.watches_of(alloc, caller))?;
     let queues = or_unavailable(store.queues(alloc))?;
     let rows = or_unavailable(store.dated_requests(alloc))?;
+    if rows.len() > MOST_REQUESTS {
+        return Err(Refusal::Unavailable);
+    }
     let (watches, queues) = (watches.as_slice(), queues.as_slice());
     let loads = desk_reports::workload(alloc, at, settings, caller, watches, queues, rows)?;
     Ok(loads)
 }
+
+/// The greatest number that a request can have.
+const MOST_REQUESTS: usize = 4_294_967_295;
