@@ -4,12 +4,14 @@
 //!
 //! `serve_one` answers `Ok` where the whole reply went out. After `Write` the same step was made, and
 //! a part of its bytes went out that lacks a byte or more. After `Read` nothing was written, and the
-//! tables are as before. `NoMemory` is never its answer. By its contract `Read` and `Write` may come
-//! at any time; that they come of a failed call alone is tested. `serve_list` is a run of such steps
-//! over bytes in memory, where an element that is `NoMemory` changes nothing.
+//! tables are as before. `NoMemory` is never its answer. It is `serve_one_counted`, by whose contract
+//! `Read` and `Write` come exactly of a failed call. `serve_list` is a run of such steps over bytes in
+//! memory, where an element that is `NoMemory` changes nothing. A message that asks for no command
+//! has its reply, and leaves the tables, whatever they are.
 #![tactic(auto)]
 
 mod fault;
+pub mod laws;
 mod list;
 mod replies;
 mod room;
@@ -17,9 +19,9 @@ mod serve;
 mod step;
 
 pub use desk_words::{WordsFault, command_of_words, number_of_word, words_of};
-pub use fault::ServeFault;
+pub use fault::{ServeFault, Unanswered};
 pub use list::{serve_bytes, serve_list};
 pub use message_core::{Allow, Message, Reply, WireFault, answer_bytes, put_reply, read_message};
 pub use replies::{code_of_refusal, is_head};
 pub use route_core::{CommandFault, Routes, command_of};
-pub use serve::{serve_one, serve_one_by};
+pub use serve::{answer_counted, send_answer, serve_one, serve_one_counted};

@@ -13,7 +13,7 @@ ghost use Rattle.service_core.specs.Seen.{settings_of, tables_of};
 ghost use Rattle.service_core.specs.TableSteps.{ask_by};
 ghost use Rattle.store_tables.specs.Calls.{Lasts, WasClean};
 ghost use Rattle.wire_core.specs.Replies as replies;
-ghost use Rattle.wire_core.specs.Steps.{CommandStepsOn, IsDoneOn, MessageStepsOn, StaysOn};
+ghost use Rattle.wire_core.specs.Steps.{DoesOn, IsDoneOn, LeavesOn, MessageStepsOn, StaysOn};
 
 use crate::replies::is_head;
 use crate::room::{put_fault, put_outcome, put_unavailable};
@@ -61,11 +61,12 @@ fn reply_to<S: Backend>(
 ) -> Result<(), AllocError>
     requires empty { room.old.items ≡ [] }
     requires room { 512 ≤ vec_capacity room.old }
-    ensures ok { OnOk result (CommandStepsOn (settings_of S.Store desk.old) at message.now
+    ensures ok { OnOk result (DoesOn (settings_of S.Store desk.old) at message.now
         (commands.command_of (settings_of S.Store desk.old) message.now) room.new.items
         (tables_of S.Store desk.old) (tables_of S.Store desk.new)) }
     ensures err { OnErr result ((room.new ≡ room.old)
-        × StaysOn (settings_of S.Store desk.old)
+        × LeavesOn (settings_of S.Store desk.old)
+        (commands.command_of (settings_of S.Store desk.old) message.now)
         (tables_of S.Store desk.old) (tables_of S.Store desk.new)) }
     ensures honest { WasClean (tables_of S.Store desk.old) (tables_of S.Store desk.new) }
     ensures lasts { Lasts (tables_of S.Store desk.old) (tables_of S.Store desk.new) }
