@@ -7,26 +7,27 @@ mod server;
 mod single;
 mod tables;
 
-use desk_program::{Memory, one_command_of, run_script_counted, serving_of};
+use desk_program::{
+    InputFault, Memory, one_command_of, run_script_counted, serving_of, tell_bad_words,
+    tell_input_fault,
+};
 use std::process::ExitCode;
 use std::{env, io};
 use tables::Job;
 
-/// The exit status of words that the program doesn't know.
-const BAD_WORDS: u8 = 2;
-
-/// The exit status of a failed write.
-const FAILED_WRITE: u8 = 4;
-
 /// `desk script`, or `desk` alone, runs the script that stands in the standard input, and ends with
 /// its status. `desk --db FILE --settings FILE serve --port N --count K` is a server, and
 /// `desk --db FILE --settings FILE --caller PERSON --at MOMENT COMMAND ..` is one command. All else
-/// is `bad words`.
+/// is `bad words`; without memory for the words it is `input: read`.
 fn main(rt: HostRuntime) -> ExitCode {
-    match words_of(&rt) {
-        Ok(words) => ExitCode::from(run(&rt, words.as_slice())),
-        Err(_) => ExitCode::from(refuse(&rt)),
-    }
+    let status = match words_of(&rt) {
+        Ok(words) => run(&rt, words.as_slice()),
+        Err(error) if error.kind() == io::ErrorKind::OutOfMemory => {
+            tell_input_fault(InputFault::Read, &mut io::writer(&rt))
+        }
+        Err(_) => tell_bad_words(&mut io::writer(&rt)),
+    };
+    ExitCode::from(status)
 }
 
 /// The words that the program was given.
@@ -54,7 +55,7 @@ fn run_on_tables(rt: &HostRuntime, words: &[String]) -> u8 {
     }
     match one_command_of(words) {
         Some(asked) => tables::run(rt, Job::Run(&asked)),
-        None => refuse(rt),
+        None => tell_bad_words(&mut io::writer(rt)),
     }
 }
 
@@ -63,13 +64,5 @@ fn asks_for_script(words: &[String]) -> bool {
         [] => true,
         [word] => word.as_str() == "script",
         _ => false,
-    }
-}
-
-/// Prints that the words aren't known.
-fn refuse(rt: &HostRuntime) -> u8 {
-    match println!(rt; "bad words") {
-        Ok(()) => BAD_WORDS,
-        Err(_) => FAILED_WRITE,
     }
 }

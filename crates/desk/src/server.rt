@@ -1,33 +1,30 @@
 //! A server over tables, on the loopback.
 ghost use Rattle.std.specs.Prelude.{◌≡◌, false};
 
-use desk_program::{Serving, open_desk, serve_on};
+use desk_program::{CountedListener, Serving, Status, open_desk_whole, serve_on_counted};
 use service_core::Desk;
 use sqlite::Connection;
 use std::io::Write;
 use std::net::TcpListener;
 use store_core::{Backend, Store};
 
-/// The exit status where the port can't be listened on, or a write failed.
-const NO_NETWORK: u8 = 4;
-
-/// Serves the desk over these tables, and gives them back, if there was a desk.
-pub fn serve_over<S: Backend + Drop, W: Write>(
+/// Serves the desk over these tables, and gives them back.
+pub fn serve_over<S: Backend, W: Write>(
     rt: &HostRuntime,
     serving: &Serving<'_>,
     settings: &[u8],
     tables: Connection<S>,
     output: &mut W,
-) -> (u8, Option<Connection<S>>)
+) -> (u8, Connection<S>)
     requires { tables.in_transaction ≡ false }
 {
-    match open_desk(rt.alloc(), Store::adopt(tables), settings, output) {
+    match open_desk_whole(rt.alloc(), Store::adopt(tables), settings, output) {
         Ok(mut desk) => {
             let status = listen(rt, serving, &mut desk);
             let (store, _) = desk.detach();
-            (status, Some(store.release()))
+            (status, store.release())
         }
-        Err(status) => (status, None),
+        Err((status, store)) => (status, store.release()),
     }
 }
 
@@ -38,10 +35,11 @@ fn listen<S: Backend>(rt: &HostRuntime, serving: &Serving<'_>, desk: &mut Desk<S
     };
     let port = serving.port;
     if println!(rt; "listening {port}").is_err() {
-        return NO_NETWORK;
+        return u8::from(Status::Failed);
     }
-    let status = serve_on(rt.alloc(), &listener, serving.count, rt, desk);
-    if status == NO_NETWORK {
+    let mut listener = CountedListener::new(&listener);
+    let status = serve_on_counted(rt.alloc(), &mut listener, serving.count, rt, desk);
+    if listener.failed() {
         refuse_network(rt)
     } else {
         status
@@ -51,5 +49,5 @@ fn listen<S: Backend>(rt: &HostRuntime, serving: &Serving<'_>, desk: &mut Desk<S
 /// Prints that the network failed.
 fn refuse_network(rt: &HostRuntime) -> u8 {
     let _told = println!(rt; "net");
-    NO_NETWORK
+    u8::from(Status::Failed)
 }

@@ -33,22 +33,19 @@ impl<'j> Job<'j> {
         }
     }
 
-    /// Does it over these tables, and gives them back, if there was a desk.
-    fn over<S: Backend + Drop, W: Write>(
+    /// Does it over these tables, and gives them back.
+    fn over<S: Backend, W: Write>(
         self,
         rt: &HostRuntime,
         settings: &[u8],
         tables: Connection<S>,
         output: &mut W,
-    ) -> (u8, Option<Connection<S>>)
+    ) -> (u8, Connection<S>)
         requires { tables.in_transaction ≡ false }
     {
         match self {
             Job::Serve(serving) => serve_over(rt, serving, settings, tables, output),
-            Job::Run(asked) => {
-                let (status, tables) = run_over(rt, asked, settings, tables, output);
-                (status, Some(tables))
-            }
+            Job::Run(asked) => run_over(rt, asked, settings, tables, output),
         }
     }
 }
@@ -69,8 +66,6 @@ fn run_on_file(rt: &HostRuntime, job: Job<'_>, settings: &[u8]) -> u8 {
         return tell_store_fault(StoreFault::Refused, &mut output);
     };
     let (status, tables) = job.over(rt, settings, tables, &mut output);
-    if let Some(tables) = tables {
-        let _closed = tables.close();
-    }
+    let _closed = tables.close();
     status
 }

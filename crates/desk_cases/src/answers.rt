@@ -3,12 +3,21 @@
 use crate::cases::Case;
 use crate::failure::Failure;
 use crate::leaves::{calls, hours, people, settings};
-use crate::{desks, messages, scripts, singles, stores, tally};
+use crate::{decisions, desks, messages, scripts, singles, stores, tally};
 use std::alloc::Global;
 
 /// The parts that tell of which kind a case is; the first of them that it has does.
-const KINDS: [&str; 10] = [
-    "messages", "commands", "script", "list", "store", "lots", "calls", "hours", "people",
+const KINDS: [&str; 11] = [
+    "messages",
+    "commands",
+    "script",
+    "list",
+    "store",
+    "decisions",
+    "lots",
+    "calls",
+    "hours",
+    "people",
     "settings",
 ];
 
@@ -44,6 +53,7 @@ pub(crate) fn answer(rt: &HostRuntime, out: &mut String, case: &Case<'_>) -> Res
         "script" => scripts::run_case(alloc, out, case),
         "list" => desks::run_case(alloc, out, case),
         "store" => stores::run_case(alloc, out, case),
+        "decisions" => decisions::run_case(alloc, out, case),
         "lots" => tally::run_case(alloc, out, case),
         "calls" => calls::run_case(alloc, out, case.text("calls")),
         "hours" => hours::run_case(alloc, out, case.text("hours")),

@@ -3,7 +3,7 @@
 
 use crate::asks::Ask;
 use crate::served::Sent;
-use desk_core::{Answer, Command, Refusal};
+use desk_core::{Answer, Change, Command, Facts, Refusal};
 use desk_program::{Ended, Memory, run_script_counted};
 use service_core::{AttachFault, Desk};
 use settings_core::Settings;
@@ -24,6 +24,17 @@ pub(crate) fn attach<S: Backend>(
     settings: Settings,
 ) -> Result<Desk<S>, (AttachFault, Store<S>)> {
     Desk::attach(alloc, store, settings)
+}
+
+pub(crate) fn decide(
+    alloc: Global,
+    settings: &Settings,
+    at: u32,
+    caller: &str,
+    facts: &Facts,
+    command: &Command,
+) -> Result<Change, Refusal> {
+    desk_core::decide(alloc, settings, at, caller, facts, command)
 }
 
 pub(crate) fn execute<S: Backend>(

@@ -3,6 +3,7 @@
 use crate::asking::answer_asked;
 use crate::calls::{self, serve_all};
 use crate::cases::str_of;
+use crate::connections::{Server, answer_by_connections};
 use crate::failure::Failure;
 use crate::loopback::answer_by_loopback;
 use crate::made::{answer_made, answer_many};
@@ -34,6 +35,8 @@ pub(crate) enum Manner {
     Streams(Failing),
     /// Each over the loopback, at the clock's minute.
     Loopback,
+    /// Each over a connection in memory, by such a server.
+    Connections(Server),
     /// Each followed by bytes that never end.
     Endless,
     /// So many turns of messages made of them.
@@ -87,6 +90,7 @@ pub(crate) fn serve<S: Backend>(
         Manner::Streams(failing) => one_by_one(rt.alloc(), out, sent, Some(failing), desk),
         Manner::List => in_list(rt.alloc(), out, sent, desk),
         Manner::Loopback => answer_by_loopback(rt, out, sent, desk),
+        Manner::Connections(server) => answer_by_connections(rt, out, sent, server, desk),
         Manner::Endless => before_others(rt.alloc(), out, sent, desk),
         Manner::Made(turns) => answer_made(rt.alloc(), out, sent, turns, desk),
         Manner::Many(times) => answer_many(rt.alloc(), out, sent, times, desk),

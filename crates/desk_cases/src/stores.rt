@@ -5,6 +5,7 @@ use crate::asks::command_of;
 use crate::cases::Case;
 use crate::changes::change_of;
 use crate::dues;
+use crate::facts::tell_all;
 use crate::failure::Failure;
 use crate::lists::{tell_facts, tell_rows};
 use crate::queries::ask_database;
@@ -59,6 +60,7 @@ impl<S: Backend> Answering for Store<S> {
             "links_to" => tell_rows(out, line, self.links_to(alloc, number(rest)?)),
             "facts" => facts(alloc, out, line, self, rest),
             "facts_for" => tell_facts(alloc, out, line, self, &command_of(alloc, rest)?),
+            "all_facts_for" => tell_all(alloc, out, line, self, &command_of(alloc, rest)?),
             "version" => version(out, line, self),
             _ => tell_written(alloc, out, line, self),
         }

@@ -31,9 +31,9 @@ AddedBy command call entries =
 abbrev Adds : Command → Plan → Type 0
 Adds command (Reads topic answer) =
     (call : Call) (facts : Facts) (request : SeenRequest) → AddedBy command call no_change.entries
-Adds command (OnQueue name conditions change) =
+Adds command (OnQueue name beforehand conditions change) =
     (call : Call) (facts : Facts) → AddedBy command call (change call facts).entries
-Adds command (OnRequest id besides text conditions change) =
+Adds command (OnRequest id besides bad conditions change) =
     (call : Call) (facts : Facts) (request : SeenRequest)
     → AddedBy command call (change call facts request).entries
 
@@ -74,9 +74,9 @@ added_on command call (Some request) change adds =
 added_by : (command : Command) (plan : Plan) (call : Call) (facts : Facts) → Adds command plan
     → AreAdded call.at call.caller command (change_by call facts plan).entries
 added_by command (Reads topic answer) call facts adds = tt
-added_by command (OnQueue name conditions change) call facts adds =
+added_by command (OnQueue name beforehand conditions change) call facts adds =
     added command call (change call facts).entries (adds call facts)
-added_by command (OnRequest id besides text conditions change) call facts adds =
+added_by command (OnRequest id besides bad conditions change) call facts adds =
     added_on command call facts.request (change call facts) (adds call facts)
 
 -- what a command appends may be added

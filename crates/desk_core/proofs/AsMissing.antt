@@ -13,8 +13,8 @@ use Rattle.desk_model.specs.Condition.{Condition, first_holding}
 use Rattle.desk_model.specs.Desk.{Desk, Request, request_at}
 use Rattle.desk_model.specs.Facts.{seen_request, seen_request_at}
 use Rattle.desk_model.specs.Plan.{Call, Plan, Reads, OnQueue, OnRequest, Nothing}
-use Rattle.desk_model.specs.Plan.{Dependencies, Another, besides_on, conditions_by}
-use Rattle.desk_model.specs.Plan.{OneQueue, OneRequest, WholeDesk, is_bad_text, is_missing}
+use Rattle.desk_model.specs.Plan.{Dependencies, Another, besides_on, conditions_of}
+use Rattle.desk_model.specs.Plan.{OneQueue, OneRequest, WholeDesk, is_missing}
 use Rattle.desk_model.specs.Plan.{named_by, on_shown, seen_by}
 use Rattle.desk_model.specs.Step.{answer_of}
 use Rattle.desk_model.specs.Refusals.{number_of}
@@ -49,10 +49,10 @@ first_missing false true c rest e = refl
 first_missing false false true rest e = refl
 first_missing false false false rest e = e
 
--- these conditions after those on the call
-abbrev after_call : Call → List Condition → List Condition
-after_call c rest = (UnknownCaller, not (knows c.settings c.caller))
-    ∷ (BadMoment, not (is_moment c.at)) ∷ rest
+-- these conditions after those of every desk
+abbrev after_call : Call → Bool → List Condition → List Condition
+after_call c bad rest = (UnknownCaller, not (knows c.settings c.caller))
+    ∷ (BadMoment, not (is_moment c.at)) ∷ (BadText, bad) ∷ rest
 
 -- the request is missing, or what follows of it begins with a request that is
 abbrev Misses : Call → Option SeenRequest → (SeenRequest → List Condition) → Type 0
@@ -83,7 +83,7 @@ missing_unless_shown s at caller None e = refl
 missing_unless_shown s at caller (Some request) e = ap not e
 
 abbrev guard_by : Call → Plan → Desk → Option Refusal
-guard_by c plan desk = first_holding (after_call c (conditions_by c (seen_by plan desk) plan))
+guard_by c plan desk = first_holding (conditions_of c (seen_by plan desk) plan)
 
 abbrev RefusedByPlan : Call → Plan → Desk → ℕ → Type 0
 RefusedByPlan c plan desk id =
@@ -92,32 +92,29 @@ RefusedByPlan c plan desk id =
 
 -- what is asked of a request is refused on this desk, and alike on each where the request of a
 -- number isn't there
-abbrev RefusedAlike : Call → ℕ → Option (List ℕ) → (Desk → SeenRequest → List Condition) → Desk → ℕ
-    → Type 0
-RefusedAlike c asked text asks desk id =
+abbrev RefusedAlike : Call → ℕ → Bool → (Desk → SeenRequest → List Condition) → Desk → ℕ → Type 0
+RefusedAlike c asked bad asks desk id =
     (refusal : Refusal) × (number_of refusal ≤ 4)
-    × (first_holding (after_call c
-    ((BadText, is_bad_text text) ∷ on_shown c (seen_request_at desk asked) (asks desk)))
+    × (first_holding (after_call c bad (on_shown c (seen_request_at desk asked) (asks desk)))
     ≡ Some refusal)
     × ((other : Desk) → request_at other id ≡ None
-    → first_holding (after_call c
-    ((BadText, is_bad_text text) ∷ on_shown c (seen_request_at other asked) (asks other)))
+    → first_holding (after_call c bad (on_shown c (seen_request_at other asked) (asks other)))
     ≡ Some refusal)
 
-refused_alike : (c : Call) (asked : ℕ) (text : Option (List ℕ))
+refused_alike : (c : Call) (asked : ℕ) (bad : Bool)
     (asks : Desk → SeenRequest → List Condition) (desk : Desk) (id : ℕ)
     → Misses c (seen_request_at desk asked) (asks desk)
     → ((other : Desk) → request_at other id ≡ None
     → Misses c (seen_request_at other asked) (asks other))
-    → RefusedAlike c asked text asks desk id
-refused_alike c asked text asks desk id misses elsewhere =
+    → RefusedAlike c asked bad asks desk id
+refused_alike c asked bad asks desk id misses elsewhere =
     let a = not (knows c.settings c.caller) in
     let b = not (is_moment c.at) in (
-      missing a b (is_bad_text text),
-      missing_is_low a b (is_bad_text text),
-      first_missing a b (is_bad_text text) (on_shown c (seen_request_at desk asked) (asks desk))
+      missing a b bad,
+      missing_is_low a b bad,
+      first_missing a b bad (on_shown c (seen_request_at desk asked) (asks desk))
           (not_found c (seen_request_at desk asked) (asks desk) misses),
-      λ other none. first_missing a b (is_bad_text text)
+      λ other none. first_missing a b bad
           (on_shown c (seen_request_at other asked) (asks other))
           (not_found c (seen_request_at other asked) (asks other) (elsewhere other none)),
     )
@@ -135,22 +132,22 @@ gone_at c desk asked id same none =
     hidden_at c desk asked id same
     (ap (λ (o : Option Request). is_missing c (option_map seen_request o)) none)
 
-hidden_first : (c : Call) (asked : ℕ) (text : Option (List ℕ))
+hidden_first : (c : Call) (asked : ℕ) (bad : Bool)
     (asks : Desk → SeenRequest → List Condition) (desk : Desk) (id : ℕ)
     → (asked == id) ≡ true → is_missing c (seen_request_at desk id) ≡ true
-    → RefusedAlike c asked text asks desk id
-hidden_first c asked text asks desk id same hidden =
-    refused_alike c asked text asks desk id (inl (hidden_at c desk asked id same hidden))
+    → RefusedAlike c asked bad asks desk id
+hidden_first c asked bad asks desk id same hidden =
+    refused_alike c asked bad asks desk id (inl (hidden_at c desk asked id same hidden))
     (λ other none. inl (gone_at c other asked id same none))
 
 -- the other end of a link is hidden
-hidden_second : (c : Call) (asked end : ℕ) (text : Option (List ℕ))
+hidden_second : (c : Call) (asked end : ℕ) (bad : Bool)
     (conditions : Desk → SeenRequest → List Condition) (desk : Desk) (id : ℕ)
     → (end == id) ≡ true → is_missing c (seen_request_at desk id) ≡ true
-    → RefusedAlike c asked text
+    → RefusedAlike c asked bad
     (λ d request. (NotFound, is_missing c (seen_request_at d end)) ∷ conditions d request) desk id
-hidden_second c asked end text conditions desk id same hidden =
-    refused_alike c asked text
+hidden_second c asked end bad conditions desk id same hidden =
+    refused_alike c asked bad
     (λ d request. (NotFound, is_missing c (seen_request_at d end)) ∷ conditions d request) desk id
     (inr (λ request. holds_first (is_missing c (seen_request_at desk end)) (conditions desk request)
     (hidden_at c desk end id same hidden)))
@@ -166,25 +163,25 @@ hidden_by_plan : (c : Call) (plan : Plan) (desk : Desk) (id : ℕ) → names_at 
 hidden_by_plan c (Reads WholeDesk answer) desk id named hidden = cc
 hidden_by_plan c (Reads (OneQueue name) answer) desk id named hidden = cc
 hidden_by_plan c (Reads (OneRequest asked) answer) desk id named hidden =
-    hidden_first c asked None (λ d request. []) desk id
+    hidden_first c asked false (λ d request. []) desk id
     (sym (or-false (asked == id)) ∙ named) hidden
-hidden_by_plan c (OnQueue name conditions change) desk id named hidden = cc
-hidden_by_plan c (OnRequest asked Nothing text conditions change) desk id named hidden =
-    hidden_first c asked text (λ d. conditions c (besides_on Nothing asked d)) desk id
+hidden_by_plan c (OnQueue name beforehand conditions change) desk id named hidden = cc
+hidden_by_plan c (OnRequest asked Nothing bad conditions change) desk id named hidden =
+    hidden_first c asked bad (λ d. conditions c (besides_on Nothing asked d)) desk id
     (sym (or-false (asked == id)) ∙ named) hidden
-hidden_by_plan c (OnRequest asked Dependencies text conditions change) desk id named hidden =
-    hidden_first c asked text (λ d. conditions c (besides_on Dependencies asked d)) desk id
+hidden_by_plan c (OnRequest asked Dependencies bad conditions change) desk id named hidden =
+    hidden_first c asked bad (λ d. conditions c (besides_on Dependencies asked d)) desk id
     (sym (or-false (asked == id)) ∙ named) hidden
-hidden_by_plan c (OnRequest asked (Another kind end) text conditions change) desk id named hidden =
+hidden_by_plan c (OnRequest asked (Another kind end) bad conditions change) desk id named hidden =
     let besides : Desk → SeenRequest → List Condition =
     λ d. conditions c (besides_on (Another kind end) asked d) in
     elim (or_cases (asked == id) (end == id)
     (ap (λ b. asked == id || b) (sym (or-false (end == id))) ∙ named)) [
       | inl first ↦
-          hidden_first c asked text
+          hidden_first c asked bad
           (λ d request. (NotFound, is_missing c (seen_request_at d end))
           ∷ besides d request) desk id first hidden
-      | inr second ↦ hidden_second c asked end text besides desk id second hidden
+      | inr second ↦ hidden_second c asked end bad besides desk id second hidden
     ]
 
 pub hidden_law : (s : Settings) (at : ℕ) (caller : List ℕ) (command : Command) (desk : Desk)

@@ -1,6 +1,6 @@
 -- Which rights an accepted command has asked for.
-use Rattle.std.proofs.Common.{◌≡◌, ◌∙◌, ℕ, Bool, true, false, not, ◌&&◌, ◌||◌}
-use Rattle.std.proofs.Common.{List, [], ◌∷◌, ◌++◌, find, Option, Some, None, codes}
+use Rattle.std.proofs.Common.{◌≡◌, ◌∙◌, ℕ, Bool, true, false, ◌&&◌, ◌||◌}
+use Rattle.std.proofs.Common.{List, [], ◌∷◌, find, Option, Some, None, codes}
 use Rattle.std.proofs.Common.{unwrap_or, inl, inr, refl, ap}
 use Rattle.std.specs.List.{list_any}
 use Rattle.std.specs.Option.{option_map}
@@ -9,59 +9,44 @@ use Rattle.std.proofs.lemmas.Bool.{and_cases, and_left, and_parts, and_right, co
 use Rattle.std.proofs.lemmas.Bool.{false_from_ne_true, or_cases}
 use Rattle.std.proofs.lemmas.Bool.{or_parts}
 use Rattle.std.proofs.lemmas.Slice.Eq.{bytes_eq-Decides}
-use Rattle.hours_core.specs.Moment.{is_moment}
 use Rattle.lifecycle_core.specs.Lifecycle.{any_status, right_of_entry, right_of_move, usual_right}
 use Rattle.lifecycle_core.specs.declared.parts.MoveRight.{MoveRight}
 use Rattle.lifecycle_core.specs.declared.parts.Parts.{Parts}
 use Rattle.rights_core.specs.Right.{delete_ticket, modify_ticket}
-use Rattle.settings_core.specs.Settings.{knows}
 use Rattle.settings_core.specs.declared.settings.Settings.{Settings}
+use Rattle.desk_model.specs.Commands.{plan_of}
 use Rattle.desk_model.specs.Commands.Unwatch as unwatch
 use Rattle.desk_model.specs.Commands.Watch as watch
 use Rattle.desk_model.specs.Condition.{Condition, first_holding}
 use Rattle.desk_model.specs.Desk.{Desk, Request, request_at}
 use Rattle.desk_model.specs.Facts.{seen_request}
-use Rattle.desk_model.specs.Plan.{Call, Nothing, besides_on, is_bad_text}
-use Rattle.desk_model.specs.Plan.{is_missing, on_shown}
+use Rattle.desk_model.specs.Plan.{Call, Nothing, besides_on, is_missing, on_shown}
 use Rattle.desk_model.specs.Rights.{holds_on, may_show}
 use Rattle.desk_model.specs.Step.{call}
 use Rattle.desk_model.specs.declared.command.Command.{Command}
 use Rattle.desk_model.specs.declared.command.Command.TheVariants.{Watch}
 use Rattle.desk_model.specs.declared.command.Command.TheVariants.{Unwatch}
 use Rattle.desk_model.specs.declared.facts.SeenRequest.{SeenRequest}
-use Rattle.desk_model.specs.declared.refusal.Refusal.TheVariants.{UnknownCaller, BadMoment}
-use Rattle.desk_model.specs.declared.refusal.Refusal.TheVariants.{BadText, NotFound}
+use Rattle.desk_model.specs.declared.refusal.Refusal.TheVariants.{NotFound}
 use Rattle.desk_model.specs.declared.rows.WatchRole.{WatchRole}
 use Rattle.desk_model.specs.declared.rows.WatchRole.TheVariants.{Requestor, Cc, AdminCc}
-use Rattle.desk_core.proofs.Goes.{NoneHolds, holding, none_holds, passed, rest_passes}
+use Rattle.desk_core.proofs.Goes.{NoneHolds, holding, none_holds, passed, plan_passes}
 use Rattle.desk_core.specs.Asked.{AsksToWatch, AsksUsualRight, MaySetPerson}
 use Rattle.desk_core.specs.Asked.{MaySetRole, names_move, stands_for}
 
--- the conditions on the call and on its text
-abbrev pub before_request : Call → Option (List ℕ) → List Condition
-before_request call text =
-    (UnknownCaller, not (knows call.settings call.caller))
-    ∷ (BadMoment, not (is_moment call.at)) ∷ (BadText, is_bad_text text) ∷ []
-
 -- the request of a command that isn't refused is there, the caller may show it, and none of the
 -- command's own conditions holds
-pub shown_by : (call : Call) (text : Option (List ℕ)) (desk : Desk) (id : ℕ) (o : Option Request)
+pub shown_by : (call : Call) (desk : Desk) (id : ℕ) (o : Option Request)
     (asks : SeenRequest → List Condition)
     → request_at desk id ≡ o
-    → first_holding (before_request call text ++ on_shown call (option_map seen_request o) asks)
-    ≡ None
+    → first_holding (on_shown call (option_map seen_request o) asks) ≡ None
     → (r : Request) × (request_at desk id ≡ Some r)
     × (may_show call.settings call.caller (seen_request r) ≡ true)
     × NoneHolds (asks (seen_request r))
-shown_by call text desk id None asks there free =
-    let none : first_holding ((NotFound, true) ∷ []) ≡ None =
-    rest_passes (before_request call text) ((NotFound, true) ∷ []) free in
-    cc
-shown_by call text desk id (Some r) asks there free =
+shown_by call desk id None asks there free = cc
+shown_by call desk id (Some r) asks there free =
     let request = seen_request r in
-    let both = passed (NotFound, is_missing call (Some request)) (asks request)
-    (rest_passes (before_request call text)
-    ((NotFound, is_missing call (Some request)) ∷ asks request) free) in (
+    let both = passed (NotFound, is_missing call (Some request)) (asks request) free in (
       r,
       there,
       holding (may_show call.settings call.caller request) both.0,
@@ -98,8 +83,8 @@ pub watch_law : (s : Settings) (at : ℕ) (caller : List ℕ) (command : Command
 watch_law s at caller (Watch id role person) desk free =
     let asks = call s at caller in
     let facts = besides_on Nothing id desk in
-    let got = shown_by asks None desk id (request_at desk id)
-    (watch.conditions role person asks facts) refl free in (
+    let got = shown_by asks desk id (request_at desk id) (watch.conditions role person asks facts)
+    refl (plan_passes asks facts (plan_of (Watch id role person)) free).1 in (
       got.0,
       got.1,
       may_set_role asks role person (seen_request got.0)
@@ -108,8 +93,8 @@ watch_law s at caller (Watch id role person) desk free =
 watch_law s at caller (Unwatch id role person) desk free =
     let asks = call s at caller in
     let facts = besides_on Nothing id desk in
-    let got = shown_by asks None desk id (request_at desk id)
-    (unwatch.conditions role person asks facts) refl free in (
+    let got = shown_by asks desk id (request_at desk id) (unwatch.conditions role person asks facts)
+    refl (plan_passes asks facts (plan_of (Unwatch id role person)) free).1 in (
       got.0,
       got.1,
       may_set_role asks role person (seen_request got.0)

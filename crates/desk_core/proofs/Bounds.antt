@@ -1,11 +1,10 @@
 -- A step keeps how much a desk holds.
-use Rattle.std.proofs.Common.{◌≡◌, ◌∙◌, ℕ, ◌+◌, ◌<◌, ◌≤◌, ◌==◌, Bool, true, false, not, cond}
+use Rattle.std.proofs.Common.{◌≡◌, ◌∙◌, ℕ, ◌+◌, ◌<◌, ◌≤◌, ◌==◌, Bool, true, false, cond}
 use Rattle.std.proofs.Common.{List, [], ◌∷◌, ◌++◌, length, length-append, Option, Some, None}
 use Rattle.std.proofs.Common.{refl, ap, sym, subst, arith}
 use Rattle.std.proofs.lemmas.Bool.{leb-false, ltb-false}
 use Rattle.std.proofs.lemmas.List.{length-map}
-use Rattle.hours_core.specs.Moment.{is_moment}
-use Rattle.settings_core.specs.Settings.{entry_limit, knows, request_limit}
+use Rattle.settings_core.specs.Settings.{entry_limit, request_limit}
 use Rattle.settings_core.specs.declared.settings.Settings.{Settings}
 use Rattle.desk_model.specs.Change.{applied, filed, no_change, queue_put, request_filed}
 use Rattle.desk_model.specs.Commands.{plan_of}
@@ -25,7 +24,6 @@ use Rattle.desk_model.specs.declared.command.Command.TheVariants.{OpenQueue, Cre
 use Rattle.desk_model.specs.declared.facts.Facts.{Facts}
 use Rattle.desk_model.specs.declared.facts.SeenRequest.{SeenRequest}
 use Rattle.desk_model.specs.declared.refusal.Refusal.{Refusal}
-use Rattle.desk_model.specs.declared.refusal.Refusal.TheVariants.{UnknownCaller, BadMoment}
 use Rattle.desk_model.specs.declared.refusal.Refusal.TheVariants.{NotFound}
 use Rattle.desk_model.specs.declared.rows.Entry.{Entry}
 use Rattle.desk_model.specs.declared.rows.QueueRow.{QueueRow}
@@ -38,10 +36,6 @@ use Rattle.desk_core.proofs.Goes.{NoneHolds}
 use Rattle.desk_core.proofs.Touches.{AtMostOne, Touches, touches}
 use Rattle.desk_core.specs.Bounds.{HasFewQueues, HasFewRequests, HasShortHistories}
 use Rattle.desk_core.specs.Bounds.{KeepsEntryLimit, KeepsQueueLimit, KeepsRequestLimit}
-
--- the conditions on the call
-abbrev on_call : Settings → ℕ → List ℕ → List Condition
-on_call s at caller = (UnknownCaller, not (knows s caller)) ∷ (BadMoment, not (is_moment at)) ∷ []
 
 -- the queues
 
@@ -88,7 +82,7 @@ queues_unless s at caller command desk (Some refusal) refused few = few
 queues_unless s at caller command desk None free few =
     few_queues (change_by (call s at caller) (facts_of command desk) (plan_of command)) desk
     (by_plan (λ d change. HasRoomForQueue d change.queue) (call s at caller) (plan_of command)
-    (on_call s at caller) desk tt (queues_fit desk command) free) few
+    desk tt (queues_fit desk command) free) few
 
 pub queue_limit_kept : (s : Settings) (at : ℕ) (caller : List ℕ) (command : Command) (desk : Desk)
     → KeepsQueueLimit s at caller command desk
@@ -135,7 +129,7 @@ requests_unless s at caller command desk (Some refusal) refused few = few
 requests_unless s at caller command desk None free few =
     few_requests s (change_by (call s at caller) (facts_of command desk) (plan_of command)) desk
     (by_plan_at (λ d change. HasRoomForRequest (request_limit s) d change.filed) (call s at caller)
-    (plan_of command) (on_call s at caller) desk (λ reads. tt) (requests_fit desk (call s at caller) command)
+    (plan_of command) desk (λ reads. tt) (requests_fit desk (call s at caller) command)
     free) few
 
 pub request_limit_kept : (s : Settings) (at : ℕ) (caller : List ℕ) (command : Command) (desk : Desk)
@@ -202,9 +196,9 @@ abbrev AsksRoom : Plan → Type 0
 AsksRoom (Reads topic answer) =
     (call : Call) (facts : Facts) (request : SeenRequest)
     → (no_change.filed ≡ None) × (length no_change.entries ≡ 0)
-AsksRoom (OnQueue name conditions change) =
+AsksRoom (OnQueue name beforehand conditions change) =
     (call : Call) (facts : Facts) → AtMostOne (change call facts).entries
-AsksRoom (OnRequest id besides text conditions change) =
+AsksRoom (OnRequest id besides bad conditions change) =
     (call : Call) (facts : Facts) (request : SeenRequest)
     → ((change call facts request).filed ≡ None)
     × ((last_of (NotFound, false) (conditions call facts request)).1
@@ -230,14 +224,15 @@ short_by_plan : (plan : Plan) (call : Call) (desk : Desk) → IsDesk desk
     → MeetsAt call (λ d change. HasShortHistories call.settings d
     → HasShortHistories call.settings (applied change d)) desk plan
 short_by_plan (Reads topic answer) call desk is least asks touches = λ r there same none all. all
-short_by_plan (OnQueue name conditions change) call desk is least asks touches = λ none all.
+short_by_plan (OnQueue name beforehand conditions change) call desk is least asks touches =
+    λ none all.
     let facts = facts_on_queue desk name in
     let made = change call facts in
     let touched = touches call none in
     let limit = entry_limit call.settings in
     each_on_queue (IsShort limit) made desk touched.0 is touched.1 touched.2
     (short_filed limit made made.filed least (asks call facts)) all
-short_by_plan (OnRequest id besides text conditions change) call desk is least asks touches =
+short_by_plan (OnRequest id besides bad conditions change) call desk is least asks touches =
     λ r there same none all.
     let facts = besides_on besides id desk in
     let request = seen_request r in
@@ -263,7 +258,7 @@ entries_unless s at caller command desk None free is least short =
     let asks = call s at caller in
     let plan = plan_of command in
     by_plan_at (λ d change. HasShortHistories s d → HasShortHistories s (applied change d)) asks
-    plan (on_call s at caller) desk (λ reads all. all)
+    plan desk (λ reads all. all)
     (short_by_plan plan asks desk is least (asks_room command) (touches desk command)) free short
 
 pub entry_limit_kept : (s : Settings) (at : ℕ) (caller : List ℕ) (command : Command) (desk : Desk)

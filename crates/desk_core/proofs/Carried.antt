@@ -1,16 +1,13 @@
 -- The stays that a change carries are those that its request has afterwards.
-use Rattle.std.proofs.Common.{◌≡◌, ◌∙◌, ℕ, ◌+◌, true, not, List, [], ◌∷◌, ◌++◌, length}
+use Rattle.std.proofs.Common.{◌≡◌, ◌∙◌, ℕ, ◌+◌, true, List, [], ◌++◌, length}
 use Rattle.std.proofs.Common.{Option, Some, None, refl, ap, sym, subst, arith}
 use Rattle.std.specs.Option.{is_some, option_map_or}
-use Rattle.hours_core.specs.Moment.{is_moment}
 use Rattle.hours_core.specs.declared.stay.Stay.{Stay}
-use Rattle.settings_core.specs.Settings.{knows}
 use Rattle.settings_core.specs.declared.settings.Settings.{Settings}
 use Rattle.desk_model.specs.Change.{applied, filed}
 use Rattle.desk_model.specs.Commands.{plan_of}
 use Rattle.desk_model.specs.Commands.Create as create
 use Rattle.desk_model.specs.Commands.Reply as reply
-use Rattle.desk_model.specs.Condition.{Condition}
 use Rattle.desk_model.specs.Dated.{either_row, stays_put}
 use Rattle.desk_model.specs.Desk.{Desk, Request, request_at}
 use Rattle.desk_model.specs.Facts.{facts_on_queue, seen_request, stays_at}
@@ -24,7 +21,6 @@ use Rattle.desk_model.specs.declared.command.Command.{Command}
 use Rattle.desk_model.specs.declared.command.Command.TheVariants.{OpenQueue, Create, Reply}
 use Rattle.desk_model.specs.declared.command.Command.TheVariants.{SetStatus}
 use Rattle.desk_model.specs.declared.facts.SeenRequest.{SeenRequest}
-use Rattle.desk_model.specs.declared.refusal.Refusal.TheVariants.{UnknownCaller, BadMoment}
 use Rattle.desk_model.specs.declared.rows.Entry.{Entry}
 use Rattle.desk_model.specs.declared.rows.RequestRow.{RequestRow}
 use Rattle.desk_model.proofs.StayLemmas.{stays_joined}
@@ -144,12 +140,10 @@ pub carried_law : (s : Settings) (at : ℕ) (caller : List ℕ) (command : Comma
 carried_law s at caller command desk is free =
     let asks = call s at caller in
     let plan = plan_of command in
-    let front : List Condition =
-    (UnknownCaller, not (knows s caller)) ∷ (BadMoment, not (is_moment at)) ∷ [] in
-    let carried = by_plan (Carries (facts_of command desk).stays) asks plan front desk
+    let carried = by_plan (Carries (facts_of command desk).stays) asks plan desk
     (record { filed = tt; set = tt }) (carries desk is command) free in
     record {
       filed = carried.filed;
       set = carried.set;
-      begun = by_plan Begins asks plan front desk tt (begins desk command) free;
+      begun = by_plan Begins asks plan desk tt (begins desk command) free;
     }

@@ -4,12 +4,13 @@ use Rattle.settings_core.specs.declared.settings.Settings.{Settings}
 use Rattle.desk_model.specs.Change.{applied}
 use Rattle.desk_model.specs.Commands.{plan_of}
 use Rattle.desk_model.specs.Desk.{Desk, empty_desk}
-use Rattle.desk_model.specs.IsDesk.{IsDesk, KeepsDesk}
+use Rattle.desk_model.specs.IsDesk.{IsDesk}
 use Rattle.desk_model.specs.Plan.{change_by}
 use Rattle.desk_model.specs.Step.{call, desk_unless, effect, facts_of, guard}
 use Rattle.desk_model.specs.declared.change.Change.{Change}
 use Rattle.desk_model.specs.declared.command.Command.{Command}
 use Rattle.desk_model.specs.declared.refusal.Refusal.{Refusal}
+use Rattle.desk_core.specs.Stays.{KeepsDesk}
 use Rattle.desk_core.proofs.DeskLaw.ByKind.{change_fits}
 use Rattle.desk_core.proofs.DeskLaw.Entries.{entries_follow}
 use Rattle.desk_core.proofs.DeskLaw.Fitting.{Fits}

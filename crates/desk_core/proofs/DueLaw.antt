@@ -6,9 +6,8 @@ use Rattle.settings_core.specs.declared.settings.Settings.{Settings}
 use Rattle.desk_model.specs.Commands.{plan_of}
 use Rattle.desk_model.specs.Desk.{Desk}
 use Rattle.desk_model.specs.IsDesk.{IsDesk}
-use Rattle.desk_model.specs.Plan.{Call, Plan, Reads, OnQueue, OnRequest, answer_by, besides_on}
-use Rattle.desk_model.specs.Plan.{change_of_request, filed_or_done}
-use Rattle.desk_model.specs.Facts.{facts_on_queue}
+use Rattle.desk_model.specs.Plan.{Call, Plan, Reads, answer_by, change_by, filed_or_done}
+use Rattle.desk_model.specs.Plan.{seen_by}
 use Rattle.desk_model.specs.Step.{call}
 use Rattle.desk_model.specs.declared.command.Command.{Command}
 use Rattle.desk_model.specs.declared.rows.RequestRow.{RequestRow}
@@ -24,11 +23,8 @@ no_due s desk (Some row) = All-nil (IsDue s desk)
 due_by_plan : (c : Call) (plan : Plan) (desk : Desk) → IsDesk desk → OwesRight plan
     → All (IsDue c.settings desk) (dues_told (answer_by c desk plan))
 due_by_plan c (Reads topic told) desk is right = right.due c desk is
-due_by_plan c (OnQueue name conditions change) desk is right =
-    no_due c.settings desk (change c (facts_on_queue desk name)).filed
-due_by_plan c (OnRequest id besides text conditions change) desk is right =
-    let facts = besides_on besides id desk in
-    no_due c.settings desk (change_of_request facts.request (change c facts)).filed
+due_by_plan c plan desk is right =
+    no_due c.settings desk (change_by c (seen_by plan desk) plan).filed
 
 pub due_law : (s : Settings) (at : ℕ) (caller : List ℕ) (command : Command) (desk : Desk)
     → TellsDueMoments s at caller command desk

@@ -7,13 +7,10 @@ use Rattle.std.specs.Option.{option_map, option_map_or}
 use Rattle.std.proofs.lemmas.Bool.{and_parts}
 use Rattle.std.proofs.lemmas.Bool.{eqb-true, or_cases, or_left}
 use Rattle.std.proofs.lemmas.Bool.{or_parts, or_right}
-use Rattle.hours_core.specs.Moment.{is_moment}
-use Rattle.settings_core.specs.Settings.{knows}
 use Rattle.settings_core.specs.declared.settings.Settings.{Settings}
 use Rattle.desk_model.specs.Change.{link_put, link_taken}
 use Rattle.desk_model.specs.Commands.{plan_of}
 use Rattle.desk_model.specs.Commands.Link as linking
-use Rattle.desk_model.specs.Condition.{Condition}
 use Rattle.desk_model.specs.Desk.{Desk, Request, placed, request_at}
 use Rattle.desk_model.specs.Facts.{seen_request}
 use Rattle.desk_model.specs.Links.{has_link, is_kind, is_link, is_lower_link, link}
@@ -25,12 +22,11 @@ use Rattle.desk_model.specs.declared.command.Command.{Command}
 use Rattle.desk_model.specs.declared.command.Command.TheVariants.{OpenQueue, Create}
 use Rattle.desk_model.specs.declared.command.Command.TheVariants.{Link}
 use Rattle.desk_model.specs.declared.refusal.Refusal.{Refusal}
-use Rattle.desk_model.specs.declared.refusal.Refusal.TheVariants.{UnknownCaller, BadMoment}
 use Rattle.desk_model.specs.declared.refusal.Refusal.TheVariants.{NotFound}
 use Rattle.desk_model.specs.declared.rows.LinkRow.{LinkRow}
 use Rattle.desk_core.proofs.DeskLaw.ByKind.{Meets, by_plan}
 use Rattle.desk_core.proofs.DeskLaw.Stages.{links_after}
-use Rattle.desk_core.proofs.Goes.{holding}
+use Rattle.desk_core.proofs.Goes.{holding, plan_passes}
 use Rattle.desk_core.specs.Asked.{LinksShown}
 use Rattle.desk_core.proofs.Asked.{shown_by}
 
@@ -68,9 +64,10 @@ ends_shown : (s : Settings) (at : ℕ) (caller : List ℕ) (command : Command) (
 ends_shown s at caller (Link id kind other) desk l free is =
     let asks = call s at caller in
     let facts = besides_on (Another kind other) id desk in
-    let got = shown_by asks None desk id (request_at desk id)
+    let got = shown_by asks desk id (request_at desk id)
     (λ request. (NotFound, is_missing asks facts.other)
-    ∷ linking.conditions other asks facts request) refl free in
+    ∷ linking.conditions other asks facts request) refl
+    (plan_passes asks facts (plan_of (Link id kind other)) free).1 in
     subst (λ (x : LinkRow). EndsShown s caller desk x) (sym is) (
       ap (λ (o : Option Request).
           option_map_or (may_show s caller) (option_map seen_request o) false) got.1 ∙ got.2,
@@ -165,10 +162,8 @@ ends_unless s at caller command desk (Some refusal) asked refused there before =
     let no : true ≡ false = sym there ∙ before in cc
 ends_unless s at caller command desk None asked free there before =
     let change = change_by (call s at caller) (facts_of command desk) (plan_of command) in
-    let front : List Condition =
-    (UnknownCaller, not (knows s caller)) ∷ (BadMoment, not (is_moment at)) ∷ [] in
     let put : PutBy command change.linked =
-    by_plan (λ d made. PutBy command made.linked) (call s at caller) (plan_of command) front desk tt
+    by_plan (λ d made. PutBy command made.linked) (call s at caller) (plan_of command) desk tt
     (puts desk command) free in
     ends_put s caller change.linked desk asked
     (λ l is. ends_shown s at caller command desk l free (link_of command change.linked l put is))

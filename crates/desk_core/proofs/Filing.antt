@@ -1,18 +1,15 @@
 -- A request that wasn't there is filed by the command.
-use Rattle.std.proofs.Common.{◌≡◌, ◌∙◌, ℕ, ◌+◌, ◌==◌, Bool, true, false, not, cond, List, [], ◌∷◌, map}
+use Rattle.std.proofs.Common.{◌≡◌, ◌∙◌, ℕ, ◌+◌, ◌==◌, Bool, true, false, cond, List, [], ◌∷◌, map}
 use Rattle.std.proofs.Common.{fold, find, Option, Some, None, refl, ap, sym, subst}
 use Rattle.std.specs.Option.{option_map, option_or}
 use Rattle.std.proofs.lemmas.Bool.{cond-true, eq-eqb}
 use Rattle.std.proofs.lemmas.List.Folds.{find-append}
-use Rattle.hours_core.specs.Moment.{is_moment}
 use Rattle.rights_core.specs.Right.{create_ticket}
-use Rattle.settings_core.specs.Settings.{knows}
 use Rattle.settings_core.specs.declared.settings.Settings.{Settings}
 use Rattle.text_core.specs.Texts.{is_among}
 use Rattle.desk_model.specs.Change.{applied, filed, no_change, request_filed, with_entry}
 use Rattle.desk_model.specs.Commands.{plan_of}
 use Rattle.desk_model.specs.Commands.Create as create
-use Rattle.desk_model.specs.Condition.{Condition}
 use Rattle.desk_model.specs.Desk.{Desk, Request, queue_at, request_at, request_count}
 use Rattle.desk_model.specs.Facts.{facts_on_queue}
 use Rattle.desk_model.specs.Lifecycles.{first_status, is_creatable, lifecycle_of}
@@ -25,7 +22,6 @@ use Rattle.desk_model.specs.declared.command.Command.{Command}
 use Rattle.desk_model.specs.declared.command.Command.TheVariants.{OpenQueue, Create}
 use Rattle.desk_model.specs.declared.refusal.Refusal.{Refusal}
 use Rattle.desk_model.specs.declared.rows.Entry.{Entry}
-use Rattle.desk_model.specs.declared.refusal.Refusal.TheVariants.{UnknownCaller, BadMoment}
 use Rattle.desk_model.specs.declared.rows.RequestRow.{RequestRow}
 use Rattle.desk_core.proofs.Changed.{changed, entries_changed, found_mapped, id_changed}
 use Rattle.desk_core.proofs.Changed.{left_at, left_by_all, noted_on, put_on, requests_after}
@@ -129,8 +125,7 @@ noted_alike part leaves entries r =
 -- a request that a command files with the next number
 filed_so : (call : Call) (desk : Desk) (queue subject : List ℕ) (status : Option (List ℕ))
     (requestors : List (List ℕ))
-    → NoneHolds (create.conditions queue subject status requestors call
-    (facts_on_queue desk queue))
+    → NoneHolds (create.conditions queue status requestors call (facts_on_queue desk queue))
     → IsFiled call.settings call.at call.caller queue subject requestors desk
     (changed (create.change queue subject status requestors call (facts_on_queue desk queue))
     (filed (create.new_row (request_count desk + 1) call.at queue subject
@@ -148,10 +143,10 @@ filed_so call desk queue subject status requestors none =
     record {
       number = ap (λ (r : RequestRow). r.id) row;
       in_queue = ap (λ (r : RequestRow). r.queue) row;
-      there = some_is (queue_at desk queue) none.1.0;
+      there = some_is (queue_at desk queue) none.0;
       subject = ap (λ (r : RequestRow). r.subject) row;
       status = ap (λ (r : RequestRow). is_creatable lifecycle r.status) row
-          ∙ holding (is_creatable lifecycle (first_status lifecycle status)) none.1.1.1.1.0;
+          ∙ holding (is_creatable lifecycle (first_status lifecycle status)) none.1.1.1.0;
       owner = ap (λ (r : RequestRow). r.owner) row;
       level = ap (λ (r : RequestRow). r.level) row;
       created = ap (λ (r : RequestRow). r.created) row;
@@ -174,7 +169,7 @@ filed_so call desk queue subject status requestors none =
           [] (eq-eqb id id refl);
       by = (refl, refl);
       may_create =
-          holding (holds_on_queue call.settings call.caller create_ticket queue) none.1.1.1.0;
+          holding (holds_on_queue call.settings call.caller create_ticket queue) none.1.1.0;
     }
 
 filing_met : (call : Call) (desk : Desk) (command : Command)
@@ -191,7 +186,7 @@ filing_met call desk (Create queue subject status requestors) = λ none.
           let same : new ≡ row = cc in
           subst (λ (r : RequestRow). IsFiled call.settings call.at call.caller queue subject
           requestors desk (changed change (filed r))) same
-          (filed_so call desk queue subject status requestors none);
+          (filed_so call desk queue subject status requestors none.1);
     }
 filing_met call desk other = λ r there same none. none_filed call other desk _ refl
 
@@ -206,10 +201,8 @@ filing_unless s at caller command desk (Some refusal) id request refused none th
 filing_unless s at caller command desk None id request free none there =
     let asks = call s at caller in
     let change = change_by asks (facts_of command desk) (plan_of command) in
-    let front : List Condition =
-    (UnknownCaller, not (knows s caller)) ∷ (BadMoment, not (is_moment at)) ∷ [] in
     let met : Filing asks command desk change =
-    by_plan_at (Filing asks command) asks (plan_of command) front desk
+    by_plan_at (Filing asks command) asks (plan_of command) desk
     (λ reads. none_filed asks command desk no_change refl) (filing_met asks desk command) free in
     let made = filed_by change desk id change.filed request refl none there in
     subst (λ (r : Request). Files s at caller command desk r) (sym made.2)

@@ -13,8 +13,8 @@ use Rattle.desk_model.specs.Desk.{Desk, Request, queue_at, request_at}
 use Rattle.desk_model.specs.Facts.{queue_of, seen_request}
 use Rattle.desk_model.specs.Plan.{Call, Plan, Reads, OnQueue, OnRequest, Nothing}
 use Rattle.desk_model.specs.Plan.{Dependencies, Another, besides_on}
-use Rattle.desk_model.specs.Plan.{change_by, change_of_request, conditions_by}
-use Rattle.desk_model.specs.Plan.{is_bad_text, is_missing, on_shown, seen_by}
+use Rattle.desk_model.specs.Plan.{change_by, change_of_request, conditions_by, conditions_of}
+use Rattle.desk_model.specs.Plan.{conditions_of_words, is_missing, on_shown, seen_by}
 use Rattle.desk_model.specs.Step.{call, desk_after}
 use Rattle.desk_model.specs.Step.{desk_unless, effect, facts_of, guard}
 use Rattle.desk_model.specs.declared.change.Change.{Change}
@@ -23,7 +23,7 @@ use Rattle.desk_model.specs.declared.facts.Facts.{Facts}
 use Rattle.desk_model.specs.declared.facts.SeenRequest.{SeenRequest}
 use Rattle.desk_model.specs.declared.refusal.Refusal.{Refusal}
 use Rattle.desk_model.specs.declared.refusal.Refusal.TheVariants.{UnknownCaller, BadMoment}
-use Rattle.desk_model.specs.declared.refusal.Refusal.TheVariants.{BadText, NotFound}
+use Rattle.desk_model.specs.declared.refusal.Refusal.TheVariants.{NotFound}
 use Rattle.desk_model.specs.declared.rows.QueueRow.{QueueRow}
 use Rattle.desk_model.specs.declared.rows.RequestRow.{RequestRow}
 use Rattle.desk_core.proofs.Applied.{left_by, row_after}
@@ -52,6 +52,20 @@ pub rest_passes : (xs ys : List Condition) → first_holding (xs ++ ys) ≡ None
     → first_holding ys ≡ None
 rest_passes [] ys e = e
 rest_passes (x ∷ xs) ys e = rest_passes xs ys (passed x (xs ++ ys) e).1
+
+-- where nothing refuses a plan, nothing refuses its words, and the desk refuses nothing
+pub plan_passes : (call : Call) (facts : Facts) (plan : Plan)
+    → first_holding (conditions_of call facts plan) ≡ None
+    → (first_holding (conditions_of_words call plan ++ conditions_by call facts plan) ≡ None)
+    × (first_holding (conditions_by call facts plan) ≡ None)
+plan_passes call facts plan free =
+    let words = conditions_of_words call plan in
+    let rest = conditions_by call facts plan in
+    let on_call : List Condition =
+    (UnknownCaller, not (knows call.settings call.caller))
+    ∷ (BadMoment, not (is_moment call.at)) ∷ [] in
+    let passes = rest_passes on_call (words ++ rest) free in
+    (passes, rest_passes words rest passes)
 
 pub holding : (b : Bool) → not b ≡ false → b ≡ true
 holding true e = refl
@@ -133,9 +147,9 @@ abbrev pub KeepsIds : Plan → Type 0
 KeepsIds (Reads topic answer) =
     (call : Call) (facts : Facts) (request : SeenRequest)
     → id_in no_change.row request.row.id ≡ request.row.id
-KeepsIds (OnQueue name conditions change) =
+KeepsIds (OnQueue name beforehand conditions change) =
     (call : Call) (facts : Facts) → (change call facts).row ≡ None
-KeepsIds (OnRequest id besides text conditions change) =
+KeepsIds (OnRequest id besides bad conditions change) =
     (call : Call) (facts : Facts) (request : SeenRequest)
     → id_in (change call facts request).row request.row.id ≡ request.row.id
 
@@ -146,8 +160,8 @@ abbrev pub Goes : (Call → Facts → SeenRequest → RequestRow → Type 0) →
 Goes P (Reads topic answer) =
     (call : Call) (facts : Facts) (request : SeenRequest) (new : RequestRow) → Unit {0} → Unit {0}
     → no_change.row ≡ Some new → P call facts request new
-Goes P (OnQueue name conditions change) = Unit {0}
-Goes P (OnRequest id besides text conditions change) =
+Goes P (OnQueue name beforehand conditions change) = Unit {0}
+Goes P (OnRequest id besides bad conditions change) =
     (call : Call) (facts : Facts) (request : SeenRequest) (new : RequestRow) → id ≡ request.row.id
     → first_holding (conditions call facts request) ≡ None → (change call facts request).row
     ≡ Some new
@@ -155,22 +169,22 @@ Goes P (OnRequest id besides text conditions change) =
 
 on_request : (P : SeenRequest → RequestRow → Type 0) (call : Call) (queue : Option QueueRow)
     (desk : Desk) (asked id : ℕ) (o : Option Request)
-    (front : List Condition) (asks conditions : SeenRequest → List Condition)
+    (asks conditions : SeenRequest → List Condition)
     (change : SeenRequest → Change) (before : Request) (new : RequestRow)
     → request_at desk asked ≡ o → request_at desk id ≡ Some before → queue ≡ queue_of desk o
     → ((request : SeenRequest) → first_holding (asks request) ≡ None
     → first_holding (conditions request) ≡ None)
     → ((request : SeenRequest) → id_in (change request).row request.row.id ≡ request.row.id)
-    → first_holding (front ++ on_shown call (option_map seen_request o) asks) ≡ None
+    → first_holding (on_shown call (option_map seen_request o) asks) ≡ None
     → (change_of_request (option_map seen_request o) change).row ≡ Some new → before.row.id ≡ new.id
     → ((request : SeenRequest) (new : RequestRow) → asked ≡ request.row.id
     → first_holding (conditions request) ≡ None
     → (change request).row ≡ Some new → P request new)
     → P (seen_request before) new × (queue ≡ queue_at desk before.row.queue)
-on_request P call queue desk asked id None front asks conditions change before new there was seen
-    inner ids free sets same goes = cc
+on_request P call queue desk asked id None asks conditions change before new there was seen inner
+    ids free sets same goes = cc
 on_request P call queue desk asked id
-    (Some r) front asks conditions change before new there was seen inner ids free sets same goes =
+    (Some r) asks conditions change before new there was seen inner ids free sets same goes =
     let number : r.row.id ≡ asked = number_found desk asked r there in
     let one : new.id ≡ r.row.id =
     sym (ap (λ (o : Option RequestRow). id_in o r.row.id) sets) ∙ ids (seen_request r) in
@@ -178,7 +192,7 @@ on_request P call queue desk asked id
     let found : Some r ≡ Some before = sym there ∙ ap (request_at desk) asked_is ∙ was in
     let is : r ≡ before = cc in
     let let_by = passed (NotFound, is_missing call (Some (seen_request r))) (asks (seen_request r))
-    (rest_passes front _ free) in
+    free in
     let gone : P (seen_request r) new =
     goes (seen_request r) new (sym number) (inner (seen_request r) let_by.1) sets in (
       subst (λ (b : Request). P (seen_request b) new) is gone,
@@ -186,43 +200,38 @@ on_request P call queue desk asked id
     )
 
 by_plan : (P : Call → Facts → SeenRequest → RequestRow → Type 0) (call : Call) (plan : Plan)
-    (front : List Condition) (desk : Desk) (id : ℕ) (before : Request) (new : RequestRow)
+    (desk : Desk) (id : ℕ) (before : Request) (new : RequestRow)
     → request_at desk id ≡ Some before → KeepsIds plan
-    → first_holding (front ++ conditions_by call (seen_by plan desk) plan) ≡ None
+    → first_holding (conditions_by call (seen_by plan desk) plan) ≡ None
     → (change_by call (seen_by plan desk) plan).row ≡ Some new → before.row.id ≡ new.id
     → Goes P plan
     → P call (seen_by plan desk) (seen_request before) new
     × ((seen_by plan desk).queue ≡ queue_at desk before.row.queue)
-by_plan P call (Reads topic answer) front desk id before new was ids free sets same goes = cc
-by_plan P call (OnQueue name conditions change) front desk id before new was ids free sets same
-    goes =
+by_plan P call (Reads topic answer) desk id before new was ids free sets same goes = cc
+by_plan P call (OnQueue name beforehand conditions change) desk id before new was ids free
+    sets same goes =
     let none : None ≡ Some new = sym (ids call _) ∙ sets in cc
-by_plan P call (OnRequest asked Nothing text conditions change) front desk id before new was ids
-    free sets same goes =
+by_plan P call (OnRequest asked Nothing bad conditions change) desk id before new was ids free
+    sets same goes =
     let facts = besides_on Nothing asked desk in
     on_request (P call facts) call facts.queue desk asked id (request_at desk asked)
-    ((BadText, is_bad_text text) ∷ []) (conditions call facts) (conditions call facts)
-    (change call facts) before new
-    refl was refl (λ request h. h) (ids call facts) (rest_passes front _ free) sets same
-    (goes call facts)
-by_plan P call (OnRequest asked Dependencies text conditions change) front desk id before new was
-    ids free sets same goes =
+    (conditions call facts) (conditions call facts) (change call facts) before new
+    refl was refl (λ request h. h) (ids call facts) free sets same (goes call facts)
+by_plan P call (OnRequest asked Dependencies bad conditions change) desk id before new was ids
+    free sets same goes =
     let facts = besides_on Dependencies asked desk in
     on_request (P call facts) call facts.queue desk asked id (request_at desk asked)
-    ((BadText, is_bad_text text) ∷ []) (conditions call facts) (conditions call facts)
-    (change call facts) before new
-    refl was refl (λ request h. h) (ids call facts) (rest_passes front _ free) sets same
-    (goes call facts)
-by_plan P call (OnRequest asked (Another kind other) text conditions change) front desk id before
-    new was ids free sets same goes =
+    (conditions call facts) (conditions call facts) (change call facts) before new
+    refl was refl (λ request h. h) (ids call facts) free sets same (goes call facts)
+by_plan P call (OnRequest asked (Another kind other) bad conditions change) desk id before new was
+    ids free sets same goes =
     let facts = besides_on (Another kind other) asked desk in
     on_request (P call facts) call facts.queue desk asked id (request_at desk asked)
-    ((BadText, is_bad_text text) ∷ [])
     (λ request. (NotFound, is_missing call facts.other) ∷ conditions call facts request)
     (conditions call facts) (change call facts) before new
     refl was refl (λ request h.
     (passed (NotFound, is_missing call facts.other) (conditions call facts request) h).1)
-    (ids call facts) (rest_passes front _ free) sets same (goes call facts)
+    (ids call facts) free sets same (goes call facts)
 
 -- what goes for the plan of a command goes for the row that it gives
 pub row_goes : (P : Call → Facts → SeenRequest → RequestRow → Type 0) (s : Settings) (at : ℕ)
@@ -232,7 +241,6 @@ pub row_goes : (P : Call → Facts → SeenRequest → RequestRow → Type 0) (s
     → P (call s at caller) (facts_of command desk) (seen_request before) after.row
     × ((facts_of command desk).queue ≡ queue_at desk before.row.queue)
 row_goes P s at caller command desk id before after was ids goes sets =
-    by_plan P (call s at caller) (plan_of command)
-    ((UnknownCaller, not (knows s caller)) ∷ (BadMoment, not (is_moment at)) ∷ []) desk id before
-    after.row
-    was ids sets.free sets.row sets.same goes
+    let asks = call s at caller in
+    let free = plan_passes asks (facts_of command desk) (plan_of command) sets.free in
+    by_plan P asks (plan_of command) desk id before after.row was ids free.1 sets.row sets.same goes

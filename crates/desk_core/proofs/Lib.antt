@@ -1,6 +1,7 @@
 pub mod Added
 pub mod Applied
 pub mod Asked
+pub mod AskedFirst
 pub mod AsMissing
 pub mod Begun
 pub mod Bounds

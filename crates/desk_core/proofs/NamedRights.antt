@@ -31,9 +31,9 @@ abbrev NamesRights : Plan → Type 0
 NamesRights (Reads topic answer) =
     (call : Call) (facts : Facts) (request : SeenRequest)
     → names_its_right NotFound ≡ true
-NamesRights (OnQueue name conditions change) =
+NamesRights (OnQueue name beforehand conditions change) =
     (call : Call) (facts : Facts) → list_all is_named (conditions call facts) ≡ true
-NamesRights (OnRequest id besides text conditions change) =
+NamesRights (OnRequest id besides bad conditions change) =
     (call : Call) (facts : Facts) (request : SeenRequest)
     → list_all is_named (conditions call facts request) ≡ true
 
@@ -66,8 +66,8 @@ plan_named (Reads WholeDesk answer) call facts names = refl
 plan_named (Reads (OneQueue name) answer) call facts names = refl
 plan_named (Reads (OneRequest id) answer) call facts names =
     of_request_named facts.request (λ request. []) (λ request. refl)
-plan_named (OnQueue name conditions change) call facts names = names call facts
-plan_named (OnRequest id besides text conditions change) call facts names =
+plan_named (OnQueue name beforehand conditions change) call facts names = names call facts
+plan_named (OnRequest id besides bad conditions change) call facts names =
     of_request_named facts.request
     (λ request. another_shown call besides facts (conditions call facts request))
     (λ request. another_named call besides facts (conditions call facts request)

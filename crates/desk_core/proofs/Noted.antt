@@ -1,13 +1,10 @@
 -- A command that isn't refused adds an entry to the request that it is on.
-use Rattle.std.proofs.Common.{◌≡◌, ◌∙◌, ℕ, ◌==◌, true, not, List, [], ◌∷◌, ◌++◌}
+use Rattle.std.proofs.Common.{◌≡◌, ◌∙◌, ℕ, ◌==◌, true, List, ◌∷◌, ◌++◌}
 use Rattle.std.proofs.Common.{Option, Some, None, refl, ap, sym}
 use Rattle.std.proofs.lemmas.Bool.{cond-true, eq-eqb, eqb-true}
-use Rattle.hours_core.specs.Moment.{is_moment}
-use Rattle.settings_core.specs.Settings.{knows}
 use Rattle.settings_core.specs.declared.settings.Settings.{Settings}
 use Rattle.desk_model.specs.Change.{no_change}
 use Rattle.desk_model.specs.Commands.{plan_of}
-use Rattle.desk_model.specs.Condition.{Condition}
 use Rattle.desk_model.specs.Desk.{Desk, Request, request_at}
 use Rattle.desk_model.specs.Plan.{Call, Plan, Reads, change_by, is_reading}
 use Rattle.desk_model.specs.Step.{call, desk_unless, effect, facts_of, guard}
@@ -17,7 +14,6 @@ use Rattle.desk_model.specs.declared.command.Command.TheVariants.{OpenQueue, Cre
 use Rattle.desk_model.specs.declared.command.Command.TheVariants.{Queues, Show, List as Listing}
 use Rattle.desk_model.specs.declared.command.Command.TheVariants.{History, Overdue, Workload}
 use Rattle.desk_model.specs.declared.refusal.Refusal.{Refusal}
-use Rattle.desk_model.specs.declared.refusal.Refusal.TheVariants.{UnknownCaller, BadMoment}
 use Rattle.desk_model.specs.declared.rows.Entry.{Entry}
 use Rattle.desk_core.proofs.Changed.{changed, entries_changed, entries_for, found_changed}
 use Rattle.desk_core.proofs.DeskLaw.ByKind.{MeetsAt, by_plan_at}
@@ -80,10 +76,8 @@ noted_unless s at caller command desk (Some refusal) id before refused was =
 noted_unless s at caller command desk None id before free was =
     let asks = call s at caller in
     let change = change_by asks (facts_of command desk) (plan_of command) in
-    let front : List Condition =
-    (UnknownCaller, not (knows s caller)) ∷ (BadMoment, not (is_moment at)) ∷ [] in
     let met : Notes command desk change =
-    by_plan_at (Notes command) asks (plan_of command) front desk (reading_notes command desk)
+    by_plan_at (Notes command) asks (plan_of command) desk (reading_notes command desk)
     (notes asks desk command) free in (
       changed change before,
       found_changed change desk id before was,

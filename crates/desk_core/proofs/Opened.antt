@@ -8,7 +8,7 @@ use Rattle.text_core.specs.Texts.{is_among}
 use Rattle.desk_model.specs.Commands.{plan_of}
 use Rattle.desk_model.specs.Commands.Reply as reply
 use Rattle.desk_model.specs.Commands.Reply.{is_desks}
-use Rattle.desk_model.specs.Commands.SetStatus.{row_in_status}
+use Rattle.desk_model.specs.Change.{row_in_status}
 use Rattle.desk_model.specs.Desk.{Desk, Request, queue_at, request_at}
 use Rattle.desk_model.specs.Lifecycles.{is_inactive, lifecycle_of, opens_anew}
 use Rattle.desk_model.specs.Plan.{Call}

@@ -3,10 +3,9 @@ use Rattle.std.proofs.Common.{ℕ, List, Option, Some, None}
 use Rattle.settings_core.specs.declared.settings.Settings.{Settings}
 use Rattle.desk_model.specs.Commands.{plan_of}
 use Rattle.desk_model.specs.Desk.{Desk}
-use Rattle.desk_model.specs.Facts.{facts_on_queue}
 use Rattle.desk_model.specs.IsDesk.{IsDesk}
-use Rattle.desk_model.specs.Plan.{Call, Plan, Reads, OnQueue, OnRequest, answer_by, besides_on}
-use Rattle.desk_model.specs.Plan.{change_of_request, filed_or_done}
+use Rattle.desk_model.specs.Plan.{Call, Plan, Reads, answer_by, change_by, filed_or_done}
+use Rattle.desk_model.specs.Plan.{seen_by}
 use Rattle.desk_model.specs.Readings.{IsInOrder}
 use Rattle.desk_model.specs.Step.{call}
 use Rattle.desk_model.specs.declared.command.Command.{Command}
@@ -22,11 +21,8 @@ nothing_listed (Some row) = tt
 in_order_by_plan : (plan : Plan) (call : Call) (desk : Desk) → IsDesk desk → OwesRight plan
     → IsInOrder (answer_by call desk plan)
 in_order_by_plan (Reads topic told) call desk is right = right.ordered call desk is
-in_order_by_plan (OnQueue name conditions change) call desk is right =
-    nothing_listed (change call (facts_on_queue desk name)).filed
-in_order_by_plan (OnRequest id besides text conditions change) call desk is right =
-    let facts = besides_on besides id desk in
-    nothing_listed (change_of_request facts.request (change call facts)).filed
+in_order_by_plan plan call desk is right =
+    nothing_listed (change_by call (seen_by plan desk) plan).filed
 
 pub orders_law : (s : Settings) (at : ℕ) (caller : List ℕ) (command : Command) (desk : Desk)
     → TellsInOrder s at caller command desk

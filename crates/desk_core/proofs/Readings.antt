@@ -28,8 +28,8 @@ pub mod Workload
 -- what is owed of a plan: nothing, unless it reads
 abbrev pub OwesRight : Plan → Type 0
 OwesRight (Reads topic answer) = IsRight topic answer
-OwesRight (OnQueue name conditions change) = ⊤
-OwesRight (OnRequest id besides text conditions change) = ⊤
+OwesRight (OnQueue name beforehand conditions change) = ⊤
+OwesRight (OnRequest id besides bad conditions change) = ⊤
 
 pub each_right : (asked : Command) → OwesRight (plan_of asked)
 each_right command.Queues = queues.right

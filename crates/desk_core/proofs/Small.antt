@@ -12,7 +12,7 @@ use Rattle.desk_model.specs.Desk.{Desk, Request, request_at}
 use Rattle.desk_model.specs.Facts.{seen_request}
 use Rattle.desk_model.specs.Readings.History.{is_comment, is_told}
 use Rattle.desk_model.specs.Rights.{is_shown, may_show, may_show_comments, sees_queue}
-use Rattle.desk_model.specs.View.{as_seen, has_shown, is_seen_link, view}
+use Rattle.desk_model.specs.View.{as_seen, has_shown, is_seen_link}
 use Rattle.desk_model.specs.declared.rows.EntryKind.{EntryKind}
 use Rattle.desk_model.specs.declared.rows.EntryKind.TheVariants.{Comment}
 use Rattle.desk_model.specs.declared.rows.QueueRow.{QueueRow}

@@ -1,16 +1,13 @@
 -- The history of each request tells its status.
-use Rattle.std.proofs.Common.{◌≡◌, ◌∙◌, ℕ, ◌==◌, not, List, [], ◌∷◌}
+use Rattle.std.proofs.Common.{◌≡◌, ◌∙◌, ℕ, ◌==◌, List, [], ◌∷◌}
 use Rattle.std.proofs.Common.{◌++◌, Option, Some, None, unwrap_or, refl, ap, sym, subst}
 use Rattle.std.specs.Option.{option_or}
 use Rattle.std.proofs.lemmas.Bool.{cond-true, eq-eqb}
 use Rattle.std.proofs.lemmas.List.Elements.{All-nil}
-use Rattle.hours_core.specs.Moment.{is_moment}
-use Rattle.settings_core.specs.Settings.{knows}
 use Rattle.settings_core.specs.declared.settings.Settings.{Settings}
 use Rattle.desk_model.specs.Change.{applied, filed, no_change}
 use Rattle.desk_model.specs.Commands.{plan_of}
 use Rattle.desk_model.specs.Commands.Reply as reply
-use Rattle.desk_model.specs.Condition.{Condition}
 use Rattle.desk_model.specs.Desk.{Desk, Request, empty_desk}
 use Rattle.desk_model.specs.Facts.{facts_on_queue, seen_request}
 use Rattle.desk_model.specs.IsDesk.{IsDesk}
@@ -22,7 +19,6 @@ use Rattle.desk_model.specs.declared.command.Command.TheVariants.{OpenQueue, Cre
 use Rattle.desk_model.specs.declared.facts.Facts.{Facts}
 use Rattle.desk_model.specs.declared.facts.SeenRequest.{SeenRequest}
 use Rattle.desk_model.specs.declared.refusal.Refusal.{Refusal}
-use Rattle.desk_model.specs.declared.refusal.Refusal.TheVariants.{UnknownCaller, BadMoment}
 use Rattle.desk_model.specs.declared.rows.Entry.{Entry}
 use Rattle.desk_model.specs.declared.rows.RequestRow.{RequestRow}
 use Rattle.desk_core.proofs.Applied.{row_after}
@@ -107,9 +103,9 @@ abbrev Tells : Plan → Type 0
 Tells (Reads topic answer) =
     (call : Call) (facts : Facts) (request : SeenRequest)
     → (no_change.filed ≡ None) × TellsMove no_change request.row.status
-Tells (OnQueue name conditions change) =
+Tells (OnQueue name beforehand conditions change) =
     (call : Call) (facts : Facts) → TellsFirst (change call facts) (change call facts).filed
-Tells (OnRequest id besides text conditions change) =
+Tells (OnRequest id besides bad conditions change) =
     (call : Call) (facts : Facts) (request : SeenRequest)
     → ((change call facts request).filed ≡ None)
     × TellsMove (change call facts request) request.row.status
@@ -131,13 +127,13 @@ told_by_plan : (plan : Plan) (desk : Desk) → IsDesk desk → Tells plan
     → Meets (Touches plan) desk plan
     → Meets (λ d change. TellsStatuses d → TellsStatuses (applied change d)) desk plan
 told_by_plan (Reads topic answer) desk is tells touches = λ call r there same none all. all
-told_by_plan (OnQueue name conditions change) desk is tells touches = λ call none all.
+told_by_plan (OnQueue name beforehand conditions change) desk is tells touches = λ call none all.
     let facts = facts_on_queue desk name in
     let made = change call facts in
     let touched = touches call none in
     each_on_queue IsTold made desk touched.0 is touched.1 touched.2
     (told_filed made made.filed (tells call facts)) all
-told_by_plan (OnRequest id besides text conditions change) desk is tells touches =
+told_by_plan (OnRequest id besides bad conditions change) desk is tells touches =
     λ call r there same none all.
     let facts = besides_on besides id desk in
     let made = change call facts (seen_request r) in
@@ -153,10 +149,8 @@ told_unless : (s : Settings) (at : ℕ) (caller : List ℕ) (command : Command) 
 told_unless s at caller command desk (Some refusal) refused is told = told
 told_unless s at caller command desk None free is told =
     let plan = plan_of command in
-    let front : List Condition =
-    (UnknownCaller, not (knows s caller)) ∷ (BadMoment, not (is_moment at)) ∷ [] in
     by_plan (λ d change. TellsStatuses d → TellsStatuses (applied change d)) (call s at caller) plan
-    front desk (λ all. all) (told_by_plan plan desk is (tells command) (touches desk command)) free
+    desk (λ all. all) (told_by_plan plan desk is (tells command) (touches desk command)) free
     told
 
 pub empty_told : TellsStatuses empty_desk

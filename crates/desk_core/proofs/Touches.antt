@@ -1,16 +1,13 @@
 -- Which request a command changes, by the kind of the command; the others are the same afterwards.
-use Rattle.std.proofs.Common.{◌≡◌, ◌∙◌, ℕ, ◌+◌, ◌<◌, ◌==◌, true, false, not, cond}
+use Rattle.std.proofs.Common.{◌≡◌, ◌∙◌, ℕ, ◌+◌, ◌<◌, ◌==◌, true, false, cond}
 use Rattle.std.proofs.Common.{List, [], ◌∷◌, map, find, length, Option, Some, None, refl, ap}
 use Rattle.std.proofs.Common.{sym, arith}
 use Rattle.std.proofs.lemmas.Bool.{and_parts, eqb-false, eqb-true}
-use Rattle.hours_core.specs.Moment.{is_moment}
-use Rattle.settings_core.specs.Settings.{knows}
 use Rattle.settings_core.specs.declared.settings.Settings.{Settings}
 use Rattle.desk_model.specs.Change.{no_change}
 use Rattle.desk_model.specs.Commands.{plan_of}
 use Rattle.desk_model.specs.Commands.Create as create
 use Rattle.desk_model.specs.Commands.Reply as reply
-use Rattle.desk_model.specs.Condition.{Condition}
 use Rattle.desk_model.specs.Desk.{Desk, Request, request_at}
 use Rattle.desk_model.specs.Facts.{seen_request}
 use Rattle.desk_model.specs.IsDesk.{IsDesk, are_numbered}
@@ -23,7 +20,6 @@ use Rattle.desk_model.specs.declared.command.Command.{Command}
 use Rattle.desk_model.specs.declared.command.Command.TheVariants.{OpenQueue, Create, Reply}
 use Rattle.desk_model.specs.declared.facts.SeenRequest.{SeenRequest}
 use Rattle.desk_model.specs.declared.refusal.Refusal.{Refusal}
-use Rattle.desk_model.specs.declared.refusal.Refusal.TheVariants.{UnknownCaller, BadMoment}
 use Rattle.desk_core.proofs.Changed.{AllOf, OnlyOf, changed, found_changed, row_id, spared}
 use Rattle.desk_core.proofs.DeskLaw.ByKind.{Meets, by_plan}
 use Rattle.desk_core.proofs.Goes.{number_found}
@@ -64,8 +60,8 @@ only_of_few change n row put taken entries =
 -- the plan is on the request of that number, or that is the next number
 abbrev pub IsOn : Plan → Desk → ℕ → Type 0
 IsOn (Reads topic answer) desk n = n ≡ n
-IsOn (OnQueue name conditions change) desk n = n ≡ length desk.requests + 1
-IsOn (OnRequest id besides text conditions change) desk n = id ≡ n
+IsOn (OnQueue name beforehand conditions change) desk n = n ≡ length desk.requests + 1
+IsOn (OnRequest id besides bad conditions change) desk n = id ≡ n
 
 -- a change of this plan touches the request that the plan is on alone
 abbrev pub Touches : Plan → Desk → Change → Type 0
@@ -108,10 +104,10 @@ touches desk other = λ call r there same none.
 nothing_touched : (plan : Plan) (desk : Desk) → Touches plan desk no_change
 nothing_touched (Reads topic answer) desk =
     (0, refl, only_of_few no_change 0 refl (refl, tt) (refl, tt) (refl, tt))
-nothing_touched (OnQueue name conditions change) desk =
+nothing_touched (OnQueue name beforehand conditions change) desk =
     let n = length desk.requests + 1 in
     (n, refl, only_of_few no_change n refl (refl, tt) (refl, tt) (refl, tt))
-nothing_touched (OnRequest id besides text conditions change) desk =
+nothing_touched (OnRequest id besides bad conditions change) desk =
     (id, refl, only_of_few no_change id refl (refl, tt) (refl, tt) (refl, tt))
 
 -- what a command that isn't refused touches
@@ -120,9 +116,7 @@ pub touched : (s : Settings) (at : ℕ) (caller : List ℕ) (command : Command) 
     → Touches (plan_of command) desk
     (change_by (call s at caller) (facts_of command desk) (plan_of command))
 touched s at caller command desk free =
-    let front : List Condition =
-    (UnknownCaller, not (knows s caller)) ∷ (BadMoment, not (is_moment at)) ∷ [] in
-    by_plan (Touches (plan_of command)) (call s at caller) (plan_of command) front desk
+    by_plan (Touches (plan_of command)) (call s at caller) (plan_of command) desk
     (nothing_touched (plan_of command) desk) (touches desk command) free
 
 -- a request that is found has no higher number than there are requests
@@ -153,12 +147,12 @@ stays_by_plan : (plan : Plan) (call : Call) (desk : Desk) (id : ℕ) (r : Reques
     → Touches plan desk (change_by call (seen_by plan desk) plan)
     → changed (change_by call (seen_by plan desk) plan) r ≡ r
 stays_by_plan (Reads topic answer) call desk id r is there unnamed touches = refl
-stays_by_plan (OnQueue name conditions change) call desk id r is there unnamed touches =
+stays_by_plan (OnQueue name beforehand conditions change) call desk id r is there unnamed touches =
     let within : r.row.id < 1 + length desk.requests =
     number_within 1 id desk.requests r is.requests there in
     let next : touches.0 ≡ length desk.requests + 1 = touches.1 in
     spared _ touches.0 r touches.2 (λ same. omega (arith, same))
-stays_by_plan (OnRequest asked besides text conditions change) call desk id r is there unnamed
+stays_by_plan (OnRequest asked besides bad conditions change) call desk id r is there unnamed
     touches =
     spared _ touches.0 r touches.2
     (λ same. eqb-false asked id unnamed

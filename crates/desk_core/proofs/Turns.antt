@@ -1,19 +1,15 @@
 -- The turn of a request passes by a reply on it alone.
 use Rattle.std.proofs.Common.{◌≡◌, ◌≢◌, ◌∙◌, ℕ, ◌==◌, Bool, true, false, not, ◌&&◌, cond, List}
-use Rattle.std.proofs.Common.{◌∷◌, [], Option, Some, None, unwrap_or, is_none, refl, ap, sym}
+use Rattle.std.proofs.Common.{Option, Some, None, unwrap_or, is_none, refl, ap, sym}
 use Rattle.std.proofs.Common.{subst}
 use Rattle.std.proofs.lemmas.Bool.{cond-false, eq-eqb, eqb-false, eqb-true, ne_eqb}
-use Rattle.hours_core.specs.Moment.{is_moment}
 use Rattle.lifecycle_core.specs.declared.parts.Parts.{Parts}
-use Rattle.settings_core.specs.Settings.{knows}
 use Rattle.settings_core.specs.declared.settings.Settings.{Settings}
 use Rattle.text_core.specs.Texts.{is_among}
-use Rattle.desk_model.specs.Change.{no_change}
+use Rattle.desk_model.specs.Change.{no_change, row_in_status}
 use Rattle.desk_model.specs.Commands.{plan_of}
 use Rattle.desk_model.specs.Commands.Reply as reply
 use Rattle.desk_model.specs.Commands.SetStatus as set_status
-use Rattle.desk_model.specs.Commands.SetStatus.{row_in_status}
-use Rattle.desk_model.specs.Condition.{Condition}
 use Rattle.desk_model.specs.Desk.{Desk, Request, queue_at, request_at}
 use Rattle.desk_model.specs.Facts.{queue_of, seen_request}
 use Rattle.desk_model.specs.Lifecycles.{lifecycle_of, opens_anew, is_inactive}
@@ -24,7 +20,6 @@ use Rattle.desk_model.specs.declared.command.Command.{Command}
 use Rattle.desk_model.specs.declared.command.Command.TheVariants.{OpenQueue, Create}
 use Rattle.desk_model.specs.declared.command.Command.TheVariants.{SetStatus, Reply}
 use Rattle.desk_model.specs.declared.refusal.Refusal.{Refusal}
-use Rattle.desk_model.specs.declared.refusal.Refusal.TheVariants.{UnknownCaller, BadMoment}
 use Rattle.desk_model.specs.declared.rows.QueueRow.{QueueRow}
 use Rattle.desk_model.specs.declared.rows.RequestRow.{RequestRow}
 use Rattle.desk_core.proofs.Applied.{row_after}
@@ -205,9 +200,7 @@ turned_by : (s : Settings) (at : ℕ) (caller : List ℕ) (command : Command) (d
     (change_by (call s at caller) (facts_of command desk) (plan_of command))
 turned_by s at caller command desk free =
     let asks = call s at caller in
-    let front : List Condition =
-    (UnknownCaller, not (knows s caller)) ∷ (BadMoment, not (is_moment at)) ∷ [] in
-    by_plan_at (Turns asks command) asks (plan_of command) front desk
+    by_plan_at (Turns asks command) asks (plan_of command) desk
     (λ reads. turned_on_none asks command desk no_change refl (never_replied command reads))
     (turns_met asks desk command) free
 

@@ -1,16 +1,13 @@
 -- Persons in roles change by watching and unwatching alone.
 use Rattle.std.proofs.Common.{◌≡◌, ◌≢◌, ◌⊎◌, ◌∙◌, ℕ, ◌+◌, ◌<◌, ◌==◌, true, false, not, cond, List, []}
-use Rattle.std.proofs.Common.{◌∷◌, fold, length, Option, Some, None, inl, inr, refl, ap, sym, subst}
+use Rattle.std.proofs.Common.{fold, length, Option, Some, None, inl, inr, refl, ap, sym, subst}
 use Rattle.std.proofs.Common.{arith}
 use Rattle.std.proofs.lemmas.Bool.{eqb-true}
-use Rattle.hours_core.specs.Moment.{is_moment}
-use Rattle.settings_core.specs.Settings.{knows}
 use Rattle.settings_core.specs.declared.settings.Settings.{Settings}
 use Rattle.desk_model.specs.Change.{in_role, no_change, with_entry, with_row, without_name}
 use Rattle.desk_model.specs.Commands.{plan_of}
 use Rattle.desk_model.specs.Commands.Unwatch as unwatch
 use Rattle.desk_model.specs.Commands.Watch as watch
-use Rattle.desk_model.specs.Condition.{Condition}
 use Rattle.desk_model.specs.Desk.{Desk, Request, request_at}
 use Rattle.desk_model.specs.Facts.{seen_request}
 use Rattle.desk_model.specs.IsDesk.{IsDesk}
@@ -22,7 +19,6 @@ use Rattle.desk_model.specs.declared.command.Command.{Command}
 use Rattle.desk_model.specs.declared.command.Command.TheVariants.{OpenQueue, Create}
 use Rattle.desk_model.specs.declared.command.Command.TheVariants.{Watch, Unwatch}
 use Rattle.desk_model.specs.declared.refusal.Refusal.{Refusal}
-use Rattle.desk_model.specs.declared.refusal.Refusal.TheVariants.{UnknownCaller, BadMoment}
 use Rattle.desk_model.specs.declared.rows.Entry.{Entry}
 use Rattle.desk_model.specs.declared.rows.RequestRow.{RequestRow}
 use Rattle.desk_model.specs.declared.rows.WatchRole.{WatchRole}
@@ -210,10 +206,8 @@ watched_unless s at caller command desk (Some refusal) id before refused is was 
 watched_unless s at caller command desk None id before free is was =
     let asks = call s at caller in
     let change = change_by asks (facts_of command desk) (plan_of command) in
-    let front : List Condition =
-    (UnknownCaller, not (knows s caller)) ∷ (BadMoment, not (is_moment at)) ∷ [] in
     let met : Persons asks command desk change =
-    by_plan_at (Persons asks command) asks (plan_of command) front desk
+    by_plan_at (Persons asks command) asks (plan_of command) desk
     (λ reads. never_set asks command desk) (set_met asks desk is command) free in
     (changed change before, found_changed change desk id before was, met.sets id before was)
 

@@ -1,5 +1,5 @@
 -- The call that a decision is made for, and what it decides by the facts of that call.
-use Rattle.std.specs.Prelude.{ℕ, List, Option, Result}
+use Rattle.std.specs.Prelude.{List, Result}
 use Rattle.desk_model.specs.Condition.{Condition, Decides, Passes}
 use Rattle.desk_model.specs.Plan.{Besides, Call, change_of_request, conditions_on_request}
 use Rattle.desk_model.specs.declared.change.Change.{Change}
@@ -19,15 +19,13 @@ DecidesOnQueue result conditions change context =
     Decides result (conditions (call_of context) context.facts.now)
     (change (call_of context) context.facts.now)
 
--- a command on a request is decided by what it looks at besides, its text if it has one, these
--- conditions and this change
-abbrev pub DecidesOn : Result Change Refusal → Besides → Option (List ℕ)
+-- a command on a request is decided by what it looks at besides, these conditions and this change
+abbrev pub DecidesOn : Result Change Refusal → Besides
     → (Call → Facts → SeenRequest → List Condition) → (Call → Facts → SeenRequest → Change)
     → Context
     → Type 0
-DecidesOn result besides text conditions change context =
-    Decides result
-    (conditions_on_request (call_of context) context.facts.now besides text conditions)
+DecidesOn result besides conditions change context =
+    Decides result (conditions_on_request (call_of context) context.facts.now besides conditions)
     (change_of_request context.facts.now.request (change (call_of context) context.facts.now))
 
 -- a request passes these conditions

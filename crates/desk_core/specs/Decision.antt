@@ -6,8 +6,8 @@ use Rattle.desk_model.specs.Commands.{plan_of}
 use Rattle.desk_model.specs.Condition.{Decides}
 use Rattle.desk_model.specs.Desk.{Desk}
 use Rattle.desk_model.specs.Dated.{dated}
-use Rattle.desk_model.specs.Plan.{Call, change_by}
-use Rattle.desk_model.specs.Step.{call, conditions_on, effect, facts_of, guard}
+use Rattle.desk_model.specs.Plan.{Call, change_by, conditions_of}
+use Rattle.desk_model.specs.Step.{call, effect, facts_of, guard}
 use Rattle.desk_model.specs.declared.change.Change.{Change}
 use Rattle.desk_model.specs.declared.command.Command.{Command}
 use Rattle.desk_model.specs.declared.facts.Facts.{Facts}
@@ -37,5 +37,5 @@ change_of asked facts command =
 -- the result is that of the command's plan: its first condition that holds, or its change, dated
 abbrev pub FollowsPlan : Settings → ℕ → List ℕ → Facts → Command → Result Change Refusal → Type 0
 FollowsPlan settings at caller facts command result =
-    Decides result (conditions_on (call settings at caller) facts command)
+    Decides result (conditions_of (call settings at caller) facts (plan_of command))
     (change_of (call settings at caller) facts command)

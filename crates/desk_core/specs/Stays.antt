@@ -34,3 +34,8 @@ OthersLaw command old new =
 abbrev pub KeepsOthers : Settings → ℕ → List ℕ → Command → Desk → Type 0
 KeepsOthers settings at caller command desk =
     IsDesk desk → OthersLaw command desk (desk_after settings at caller command desk)
+
+-- The desk law: a well-formed desk stays well formed.
+abbrev pub KeepsDesk : Settings → ℕ → List ℕ → Command → Desk → Type 0
+KeepsDesk settings at caller command desk =
+    IsDesk desk → IsDesk (desk_after settings at caller command desk)

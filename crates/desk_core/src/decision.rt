@@ -1,9 +1,7 @@
 //! A command is decided: its first refusal, or what it changes.
 
-ghost use Rattle.text_core.specs.Form.{is_text};
 ghost use Rattle.std.specs.Prelude.{◌||◌, ◌≡◌, ◌≢◌, ◌+◌, ◌^◌, ◌<◌, true, false};
-ghost use Rattle.std.specs.Prelude.{if◌then◌else◌, IfOk, IfErr, OnOk, None, Some, [], ◌∷◌};
-ghost use Rattle.hours_core.specs.Moment.{is_moment};
+ghost use Rattle.std.specs.Prelude.{IfOk, IfErr, OnOk, None, Some, [], ◌∷◌};
 ghost use Rattle.rights_core.specs.Right.{own_ticket};
 ghost use Rattle.desk_model.specs.Change.{no_change};
 ghost use Rattle.desk_model.specs.Commands.{plan_of, IsMove, IsReading};
@@ -12,17 +10,19 @@ ghost use Rattle.desk_model.specs.Entries as entries;
 ghost use Rattle.desk_model.specs.Plan.{change_by, conditions_by, is_missing, is_unseen};
 ghost use Rattle.desk_model.specs.Refusals.{names_its_right};
 ghost use Rattle.desk_model.specs.Rights as rights;
+ghost use Rattle.desk_model.specs.Step.{refusal_beforehand};
 ghost use Rattle.desk_core.specs.Context.{call_of};
-ghost use Rattle.desk_core.specs.Decision.{Accepts, FollowsPlan, Refuses};
+ghost use Rattle.desk_core.specs.Decision.{Accepts, FollowsPlan, Refuses, change_of};
 
+use crate::beforehand::{moment_of, refused_beforehand};
 use desk_model::{
     Change, Command, Entry, EntryKind, Facts, Refusal, SeenRequest, Topic, sees_queue,
 };
-use hours_core::{END, Minute};
+use hours_core::Minute;
 use rights_core::{Roles, right};
 use settings_core::Settings;
 use std::alloc::{AllocError, Global};
-use text_core::{Sequence, Text, is_text};
+use text_core::{Sequence, Text};
 
 mod comment;
 mod create;
@@ -59,11 +59,15 @@ pub fn decide(
     ensures reads { IsReading command.now → IfOk result (λ change. change ≡ no_change) }
     ensures named { IfErr result (λ refusal. names_its_right refusal ≡ true) }
 {
-    decide_on_facts(alloc, settings, at, caller, facts, command)
+    match refused_beforehand(settings, at, caller, command) {
+        Some(refusal) => Err(refusal),
+        None => decide_on_facts(alloc, settings, at, caller, facts, command),
+    }
 }
 
-/// The decision on the facts as they are.
-fn decide_on_facts(
+/// Decides, as `decide` does, a command that `refused_beforehand` doesn't refuse. Nothing of what
+/// is refused there is asked again.
+pub fn decide_on_facts(
     alloc: Global,
     settings: &Settings,
     at: u32,
@@ -71,14 +75,31 @@ fn decide_on_facts(
     facts: &Facts,
     command: &Command,
 ) -> Result<Change, Refusal>
+    requires { refusal_beforehand settings.now at caller.now command.now ≡ None }
+    ensures accepts { Accepts settings.now at caller.now facts.now command.now result }
+    ensures refuses { Refuses settings.now at caller.now facts.now command.now result }
+    ensures planned { FollowsPlan settings.now at caller.now facts.now command.now result }
+    ensures reads { IsReading command.now → IfOk result (λ change. change ≡ no_change) }
+    ensures named { IfErr result (λ refusal. names_its_right refusal ≡ true) }
+{
+    follow_plan(alloc, settings, at, caller, facts, command)
+}
+
+/// The decision by the plan of the command.
+fn follow_plan(
+    alloc: Global,
+    settings: &Settings,
+    at: u32,
+    caller: &str,
+    facts: &Facts,
+    command: &Command,
+) -> Result<Change, Refusal>
+    requires { refusal_beforehand settings.now at caller.now command.now ≡ None }
     ensures planned { FollowsPlan settings.now at caller.now facts.now command.now result }
     ensures named { IfErr result (λ refusal. names_its_right refusal ≡ true) }
 {
-    if !settings.people().knows(caller) {
-        return Err(Refusal::UnknownCaller);
-    }
     let Some(moment) = moment_of(at) else {
-        return Err(Refusal::BadMoment);
+        unreachable!()
     };
     let context = Context {
         alloc,
@@ -87,20 +108,10 @@ fn decide_on_facts(
         caller,
         facts,
     };
-    match context.decide(command) {
-        Ok(change) => Ok(change.dated(alloc, settings, facts)?),
-        Err(refusal) => Err(refusal),
-    }
+    context.decide_dated(command)
 }
 
-/// The moment of this number, if a command may happen then.
-pub(crate) fn moment_of(at: u32) -> Option<Minute>
-    ensures { result ≡ (if is_moment at then Some at else None) }
-{
-    if at < END { Minute::new(at) } else { None }
-}
-
-/// What a decision on a command is made by: its caller is known, and its moment is one.
+/// What a decision on a command is made by that isn't refused beforehand.
 #[derive(Drop)]
 struct Context<'c> {
     alloc: Global,
@@ -111,6 +122,20 @@ struct Context<'c> {
 }
 
 impl<'c> Context<'c> {
+    /// The decision, where a change has the stays of the request whose row it puts, and its due
+    /// moment.
+    fn decide_dated(&self, command: &Command) -> Result<Change, Refusal>
+        ensures decides { Decides result
+            (conditions_by (call_of self.now) self.now.facts.now (plan_of command.now))
+            (change_of (call_of self.now) self.now.facts.now command.now) }
+        ensures named { IfErr result (λ refusal. names_its_right refusal ≡ true) }
+    {
+        match self.decide(command) {
+            Ok(change) => Ok(change.dated(self.alloc, self.settings, self.facts)?),
+            Err(refusal) => Err(refusal),
+        }
+    }
+
     /// The decision, command by command.
     fn decide(&self, command: &Command) -> Result<Change, Refusal>
         ensures decides { Decides result
@@ -185,19 +210,6 @@ impl<'c> Context<'c> {
                 Ok(Change::no_change(self.alloc))
             }
             _ => Err(Refusal::NotFound),
-        }
-    }
-
-    /// Refuses a text of a reply or a comment that isn't of its form.
-    fn ask_for_text(&self, text: &Text) -> Result<(), Refusal>
-        ensures ok { OnOk result (is_text text.now ≡ true) }
-        ensures err { IfErr result (λ refusal. (refusal ≡ Refusal.BadText)
-            × (is_text text.now ≡ false)) }
-    {
-        if is_text(text.as_str()) {
-            Ok(())
-        } else {
-            Err(Refusal::BadText)
         }
     }
 

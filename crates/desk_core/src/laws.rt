@@ -3,7 +3,7 @@
 ghost use Rattle.std.specs.Prelude.{◌≡◌, ℕ, true, List};
 ghost use Rattle.settings_core.specs.declared.settings.Settings.{Settings};
 ghost use Rattle.desk_model.specs.Desk.{Desk, Request, empty_desk};
-ghost use Rattle.desk_model.specs.IsDesk.{IsDesk, KeepsDesk};
+ghost use Rattle.desk_model.specs.IsDesk.{IsDesk};
 ghost use Rattle.desk_model.specs.Names.{in_order, names_rise};
 ghost use Rattle.desk_model.specs.declared.rows.Watcher.{Watcher};
 ghost use Rattle.desk_core.specs.Laws.{AtEveryStep, HidesTheRest, KeepsDependencyLaw, KeepsHistory};
@@ -22,7 +22,7 @@ ghost use Rattle.desk_core.specs.Known.{KeepsKnown};
 ghost use Rattle.desk_core.specs.Opened.{KeepsOpenedLaw};
 ghost use Rattle.desk_core.specs.Shown.{ShowsByList};
 ghost use Rattle.desk_core.specs.Small.{ViewIsSmall};
-ghost use Rattle.desk_core.specs.Stays.{KeepsIdentity, KeepsOthers};
+ghost use Rattle.desk_core.specs.Stays.{KeepsDesk, KeepsIdentity, KeepsOthers};
 ghost use Rattle.desk_core.specs.Turns.{KeepsTurnLaw};
 ghost use Rattle.desk_core.specs.Watching.{KeepsWatchLaw};
 ghost use Rattle.text_core.specs.Texts.{is_among};

@@ -46,8 +46,7 @@ use Rattle.find_core.specs.declared.search.Search.{Search}
 use Rattle.find_core.proofs.PlaceLemmas.{page_made}
 use Rattle.find_core.proofs.RisingLemmas.{requests_rise}
 use Rattle.store_tables.specs.Contents.{request_rows}
-use Rattle.store_tables.specs.Dated.{dated_by}
-use Rattle.store_tables.specs.Selection.{is_filed_in}
+use Rattle.store_tables.specs.Contents.Request.{dated_by, is_filed_in}
 use Rattle.store_core.specs.Due.{due_of_row}
 use Rattle.store_core.specs.Rows.{dated_rows}
 use Rattle.desk_lists.proofs.Reported.{Alike, HaveDues, have_dues, requestors_alike, shows_alike}

@@ -18,7 +18,7 @@ use Rattle.find_core.specs.declared.search.Order.{Order}
 use Rattle.find_core.specs.declared.search.Order.TheVariants.{ByLast}
 use Rattle.find_core.specs.declared.search.Search.{Search}
 use Rattle.store_tables.specs.Contents.{history_at, watchers}
-use Rattle.store_tables.specs.Selection.{is_of_person}
+use Rattle.store_tables.specs.Contents.Watcher.{is_of_person}
 use Rattle.store_core.specs.Rows.{AreFiledIn, dated_rows}
 
 -- the watches of the person who is given

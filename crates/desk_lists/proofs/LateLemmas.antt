@@ -21,11 +21,9 @@ use Rattle.desk_model.specs.declared.answer.LateLine.{LateLine}
 use Rattle.desk_model.specs.declared.rows.RequestRow.{RequestRow}
 use Rattle.desk_model.specs.declared.rows.Watcher.{Watcher}
 use Rattle.desk_reports.specs.Rows.{late_line_shown, late_lines_shown}
-use Rattle.store_tables.specs.Dated.{Dated}
+use Rattle.store_tables.specs.Contents.Request.{Dated, by_dated_id, by_due, is_due_before}
 use Rattle.store_tables.specs.Kept.{itself}
-use Rattle.store_tables.specs.Orders.{by_dated_id, by_due}
 use Rattle.store_tables.specs.Picked.{AreOrdered}
-use Rattle.store_tables.specs.Selection.{is_due_before}
 use Rattle.store_core.proofs.RiseLemmas.{dated_total}
 use Rattle.sorted_lists.proofs.PlacedLemmas.{sort_places}
 use Rattle.sorted_lists.proofs.SortedLemmas.{Apart, Rises}

@@ -36,9 +36,7 @@ use Rattle.desk_core.proofs.EachRequest.{found_each}
 use Rattle.desk_core.proofs.Roles.{roles_law, watchers_tell}
 use Rattle.desk_core.specs.Shown.{TellsRoles}
 use Rattle.store_tables.specs.Contents.{watchers}
-use Rattle.store_tables.specs.Orders.{by_watcher}
-use Rattle.store_tables.specs.Selection.{is_of_person}
-use Rattle.store_tables.specs.Spelling.{role_number}
+use Rattle.store_tables.specs.Contents.Watcher.{by_watcher, is_of_person, role_number}
 use Rattle.store_core.proofs.RiseLemmas.{their_own, watchers_rise}
 use Rattle.store_core.specs.Due.{due_of_row}
 

@@ -28,8 +28,7 @@ use Rattle.desk_reports.specs.Rows.{line_shown, line_with, lines_shown, loads_by
 use Rattle.desk_reports.specs.Rows.{told_among}
 use Rattle.desk_texts.specs.Texts.Listed as listed
 use Rattle.desk_texts.specs.Texts.Overdue as late
-use Rattle.store_tables.specs.Dated.{Dated, dated_by}
-use Rattle.store_tables.specs.Selection.{is_filed_in}
+use Rattle.store_tables.specs.Contents.Request.{Dated, dated_by, is_filed_in}
 use Rattle.store_core.specs.Due.{due_of_row}
 use Rattle.store_core.specs.Rows.{AreDueBefore, AreFiledIn, dated_rows}
 use Rattle.store_core.proofs.RiseLemmas.{dated_rise}

@@ -7,7 +7,7 @@ use Rattle.desk_model.specs.declared.rows.Watcher.{Watcher}
 use Rattle.desk_reports.specs.Rows.{late_line_shown, line_shown}
 use Rattle.desk_texts.specs.Texts.Listed as listed
 use Rattle.desk_texts.specs.Texts.Overdue as overdue
-use Rattle.store_tables.specs.Dated.{Dated}
+use Rattle.store_tables.specs.Contents.Request.{Dated}
 use Rattle.desk_lists.specs.declared.lines.ListKind.{ListKind}
 use Rattle.desk_lists.specs.declared.lines.ListKind.TheVariants.{OfQueue, Overdue}
 

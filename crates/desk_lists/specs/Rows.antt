@@ -10,7 +10,7 @@ use Rattle.desk_model.specs.declared.rows.RequestRow.{RequestRow}
 use Rattle.desk_model.specs.declared.rows.Watcher.{Watcher}
 use Rattle.desk_reports.specs.Rows.{WatchesRise}
 use Rattle.store_tables.specs.Contents.{contents_of}
-use Rattle.store_tables.specs.Dated.{Dated}
+use Rattle.store_tables.specs.Contents.Request.{Dated}
 use Rattle.store_tables.specs.Stands.{Stand}
 use Rattle.store_core.specs.Ahead.{HasGiven}
 use Rattle.store_core.specs.Seen.{state_of}

@@ -1,9 +1,11 @@
 -- What a change does to the desk.
 use Rattle.std.specs.Prelude.{ℕ, not, List, [], ◌∷◌}
-use Rattle.std.specs.Prelude.{◌++◌, Option, Some, None, filter, fold}
+use Rattle.std.specs.Prelude.{◌++◌, Option, Some, None, filter, fold, if◌then◌else◌}
 use Rattle.std.specs.Str.{bytes_eq}
+use Rattle.lifecycle_core.specs.declared.parts.Parts.{Parts}
 use Rattle.desk_model.specs.Names.{with_name}
 use Rattle.desk_model.specs.Desk.{Desk, Request, placed, with_queue, with_request, with_revised}
+use Rattle.desk_model.specs.Lifecycles.{opens_anew}
 use Rattle.desk_model.specs.Links.{is_link, is_lower_link}
 use Rattle.desk_model.specs.declared.change.Change.{Change}
 use Rattle.desk_model.specs.declared.rows.Entry.{Entry}
@@ -32,6 +34,24 @@ no_change =
 -- a queue is opened
 abbrev pub opening : QueueRow → Change
 opening queue = record no_change { queue = Some queue }
+
+-- a row with another owner, or with none
+abbrev pub with_owner : Option (List ℕ) → RequestRow → RequestRow
+with_owner owner row = record row { owner = owner }
+
+-- a row with another level, or with none
+abbrev pub with_level : Option (List ℕ) → RequestRow → RequestRow
+with_level level row = record row { level = level }
+
+-- a row after a move
+abbrev pub row_in_status : Option Parts → ℕ → List ℕ → RequestRow → RequestRow
+row_in_status lifecycle at status row =
+    let anew = opens_anew lifecycle row.status status in
+    record row {
+      status = status;
+      opened = if anew then at else row.opened;
+      since = if anew then at else row.since;
+    }
 
 -- a request is filed, with the persons in its roles
 abbrev pub filing : RequestRow → List Watcher → List Entry → Change

@@ -1,6 +1,7 @@
 -- The commands: the plan of each, which requests it names, and whether it only reads or moves a
 -- request.
-use Rattle.std.specs.Prelude.{◌≡◌, ℕ, ⊤, true, List, Some, None}
+use Rattle.std.specs.Prelude.{◌≡◌, ℕ, ⊤, true, false, not, List}
+use Rattle.text_core.specs.Form.{is_text}
 use Rattle.desk_model.specs.Commands.Comment as comment
 use Rattle.desk_model.specs.Commands.Create as create
 use Rattle.desk_model.specs.Commands.Give as give
@@ -42,32 +43,32 @@ pub mod Watch
 
 abbrev pub plan_of : Command → Plan
 plan_of (command.OpenQueue name lifecycle level) =
-    OnQueue name (open_queue.conditions name lifecycle level)
+    OnQueue name (open_queue.beforehand name lifecycle level) (open_queue.conditions name)
     (open_queue.change name lifecycle level)
 plan_of (command.Create queue subject status requestors) =
-    OnQueue queue (create.conditions queue subject status requestors)
+    OnQueue queue (create.beforehand subject) (create.conditions queue status requestors)
     (create.change queue subject status requestors)
 plan_of (command.SetStatus id status) =
-    OnRequest id Dependencies None (set_status.conditions status) (set_status.change status)
-plan_of (command.Take id) = OnRequest id Nothing None take.conditions take.change
-plan_of (command.Steal id) = OnRequest id Nothing None steal.conditions steal.change
-plan_of (command.Untake id) = OnRequest id Nothing None untake.conditions untake.change
+    OnRequest id Dependencies false (set_status.conditions status) (set_status.change status)
+plan_of (command.Take id) = OnRequest id Nothing false take.conditions take.change
+plan_of (command.Steal id) = OnRequest id Nothing false steal.conditions steal.change
+plan_of (command.Untake id) = OnRequest id Nothing false untake.conditions untake.change
 plan_of (command.Give id person) =
-    OnRequest id Nothing None (give.conditions person) (give.change person)
+    OnRequest id Nothing false (give.conditions person) (give.change person)
 plan_of (command.Reply id text) =
-    OnRequest id Nothing (Some text) reply.conditions (reply.change text)
+    OnRequest id Nothing (not (is_text text)) reply.conditions (reply.change text)
 plan_of (command.Comment id text) =
-    OnRequest id Nothing (Some text) comment.conditions (comment.change text)
+    OnRequest id Nothing (not (is_text text)) comment.conditions (comment.change text)
 plan_of (command.Watch id role person) =
-    OnRequest id Nothing None (watch.conditions role person) (watch.change role person)
+    OnRequest id Nothing false (watch.conditions role person) (watch.change role person)
 plan_of (command.Unwatch id role person) =
-    OnRequest id Nothing None (unwatch.conditions role person) (unwatch.change role person)
+    OnRequest id Nothing false (unwatch.conditions role person) (unwatch.change role person)
 plan_of (command.Link id kind other) =
-    OnRequest id (Another kind other) None (link.conditions other) (link.change kind other)
+    OnRequest id (Another kind other) false (link.conditions other) (link.change kind other)
 plan_of (command.Unlink id kind other) =
-    OnRequest id (Another kind other) None unlink.conditions (unlink.change kind other)
+    OnRequest id (Another kind other) false unlink.conditions (unlink.change kind other)
 plan_of (command.SetLevel id level) =
-    OnRequest id Nothing None (set_level.conditions level) (set_level.change level)
+    OnRequest id Nothing false (set_level.conditions level) (set_level.change level)
 plan_of command.Queues = queues.reading
 plan_of (command.Show id) = show.reading id
 plan_of (command.List queue) = listing.reading queue

@@ -2,13 +2,10 @@
 use Rattle.std.specs.Prelude.{◌≡◌, ℕ, ◌+◌, ◌==◌, Bool, true, ◌&&◌, List, [], ◌∷◌, map, is_some}
 use Rattle.std.specs.List.{list_all}
 use Rattle.text_core.specs.Form.{is_name}
-use Rattle.settings_core.specs.declared.settings.Settings.{Settings}
 use Rattle.desk_model.specs.Desk.{Desk, Request, has_lower_name, queue_at, request_at}
 use Rattle.desk_model.specs.Links.{is_lower_link}
 use Rattle.desk_model.specs.Names.{names_rise}
 use Rattle.desk_model.specs.Rising.{is_rising}
-use Rattle.desk_model.specs.Step.{desk_after}
-use Rattle.desk_model.specs.declared.command.Command.{Command}
 use Rattle.desk_model.specs.declared.rows.LinkRow.{LinkRow}
 
 -- these are the numbers from this one on
@@ -42,7 +39,3 @@ pub record IsDesk (desk : Desk) : Type 0 where
   pub filed_in : list_all (λ r. is_some (queue_at desk r.row.queue)) desk.requests ≡ true
   pub links : is_rising is_lower_link desk.links ≡ true
   pub ends : list_all (has_both_ends desk) desk.links ≡ true
-
-abbrev pub KeepsDesk : Settings → ℕ → List ℕ → Command → Desk → Type 0
-KeepsDesk settings at caller command desk =
-    IsDesk desk → IsDesk (desk_after settings at caller command desk)

@@ -1,9 +1,10 @@
 -- What there is to a command: what it looks at, its conditions in their order, and its change, or
 -- what it tells where it only reads.
-use Rattle.std.specs.Prelude.{ℕ, Bool, true, false, not}
-use Rattle.std.specs.Prelude.{List, [], ◌∷◌, Option, Some, None, is_some}
+use Rattle.std.specs.Prelude.{ℕ, Bool, true, not}
+use Rattle.std.specs.Prelude.{List, [], ◌∷◌, ◌++◌, Option, Some, None, is_some}
 use Rattle.std.specs.Option.{option_map_or}
-use Rattle.text_core.specs.Form.{is_text}
+use Rattle.hours_core.specs.Moment.{is_moment}
+use Rattle.settings_core.specs.Settings.{knows}
 use Rattle.settings_core.specs.declared.settings.Settings.{Settings}
 use Rattle.desk_model.specs.Change.{no_change}
 use Rattle.desk_model.specs.Condition.{Condition}
@@ -17,6 +18,7 @@ use Rattle.desk_model.specs.declared.answer.Answer.TheVariants as answer
 use Rattle.desk_model.specs.declared.change.Change.{Change}
 use Rattle.desk_model.specs.declared.facts.Facts.{Facts}
 use Rattle.desk_model.specs.declared.facts.SeenRequest.{SeenRequest}
+use Rattle.desk_model.specs.declared.refusal.Refusal.TheVariants.{UnknownCaller, BadMoment}
 use Rattle.desk_model.specs.declared.refusal.Refusal.TheVariants.{BadText, NotFound}
 use Rattle.desk_model.specs.declared.rows.LinkKind.{LinkKind}
 use Rattle.desk_model.specs.declared.rows.QueueRow.{QueueRow}
@@ -40,12 +42,15 @@ pub data Topic : Type 0 where
   OneQueue : List ℕ → Topic
   OneRequest : ℕ → Topic
 
--- a command that reads, and what it tells of its topic; that changes the desk, on a queue; or that
--- changes a request, maybe by a text
+-- a command that reads, and what it tells of its topic; that changes the desk, on a queue, with the
+-- conditions that are the same on every desk before those that look at one; or that changes a
+-- request, and whether a text that it comes with is out of its form
 pub data Plan : Type 0 where
   Reads : Topic → (Call → Desk → Answer) → Plan
-  OnQueue : List ℕ → (Call → Facts → List Condition) → (Call → Facts → Change) → Plan
-  OnRequest : ℕ → Besides → Option (List ℕ)
+  OnQueue : List ℕ → (Call → List Condition)
+      → (Call → Facts → List Condition)
+      → (Call → Facts → Change) → Plan
+  OnRequest : ℕ → Besides → Bool
       → (Call → Facts → SeenRequest → List Condition)
       → (Call → Facts → SeenRequest → Change) → Plan
 
@@ -69,8 +74,8 @@ topic_on (OneRequest id) desk = facts_on_request desk id
 -- what a plan looks at on a desk
 abbrev pub seen_by : Plan → Desk → Facts
 seen_by (Reads topic answer) desk = topic_on topic desk
-seen_by (OnQueue name conditions change) desk = facts_on_queue desk name
-seen_by (OnRequest id besides text conditions change) desk = besides_on besides id desk
+seen_by (OnQueue name beforehand conditions change) desk = facts_on_queue desk name
+seen_by (OnRequest id besides bad conditions change) desk = besides_on besides id desk
 
 -- the request isn't there, or is hidden from the caller
 abbrev pub is_missing : Call → Option SeenRequest → Bool
@@ -93,16 +98,12 @@ abbrev pub on_shown : Call → Option SeenRequest → (SeenRequest → List Cond
 on_shown call request conditions =
     (NotFound, is_missing call request) ∷ of_request request conditions
 
--- the text that a command comes with isn't of its form
-abbrev pub is_bad_text : Option (List ℕ) → Bool
-is_bad_text text = option_map_or (λ t. not (is_text t)) text false
-
--- what a command on a request asks: that its text has its form, that the caller may show the
--- request and the other one, and then what the command asks for itself
-abbrev pub conditions_on_request : Call → Facts → Besides → Option (List ℕ)
+-- what a command on a request asks: that the caller may show the request and the other one, and
+-- then what the command asks for itself
+abbrev pub conditions_on_request : Call → Facts → Besides
     → (Call → Facts → SeenRequest → List Condition) → List Condition
-conditions_on_request call facts besides text conditions =
-    (BadText, is_bad_text text) ∷ on_shown call facts.request
+conditions_on_request call facts besides conditions =
+    on_shown call facts.request
     (λ request. another_shown call besides facts (conditions call facts request))
 
 -- the queue isn't there, or the caller may not see it
@@ -116,11 +117,30 @@ conditions_of_topic call facts WholeDesk = []
 conditions_of_topic call facts (OneQueue name) = (NotFound, is_unseen call facts.queue) ∷ []
 conditions_of_topic call facts (OneRequest id) = on_shown call facts.request (λ request. [])
 
+-- those of a command's words alone: a text or a name that isn't of its form, or a name that the
+-- settings would have to know
+abbrev pub conditions_of_words : Call → Plan → List Condition
+conditions_of_words call (Reads topic answer) = []
+conditions_of_words call (OnQueue name beforehand conditions change) = beforehand call
+conditions_of_words call (OnRequest id besides bad conditions change) = (BadText, bad) ∷ []
+
+-- the conditions that are the same on every desk
+abbrev pub conditions_beforehand : Call → Plan → List Condition
+conditions_beforehand call plan =
+    (UnknownCaller, not (knows call.settings call.caller))
+    ∷ (BadMoment, not (is_moment call.at))
+    ∷ conditions_of_words call plan
+
+-- those that a desk is looked at for
 abbrev pub conditions_by : Call → Facts → Plan → List Condition
 conditions_by call facts (Reads topic answer) = conditions_of_topic call facts topic
-conditions_by call facts (OnQueue name conditions change) = conditions call facts
-conditions_by call facts (OnRequest id besides text conditions change) =
-    conditions_on_request call facts besides text conditions
+conditions_by call facts (OnQueue name beforehand conditions change) = conditions call facts
+conditions_by call facts (OnRequest id besides bad conditions change) =
+    conditions_on_request call facts besides conditions
+
+-- all conditions of a command, in their order
+abbrev pub conditions_of : Call → Facts → Plan → List Condition
+conditions_of call facts plan = conditions_beforehand call plan ++ conditions_by call facts plan
 
 -- the change of a request, if it is there
 abbrev pub change_of_request : Option SeenRequest → (SeenRequest → Change) → Change
@@ -130,14 +150,9 @@ change_of_request (Some request) change = change request
 -- a reading changes nothing
 abbrev pub change_by : Call → Facts → Plan → Change
 change_by call facts (Reads topic answer) = no_change
-change_by call facts (OnQueue name conditions change) = change call facts
-change_by call facts (OnRequest id besides text conditions change) =
+change_by call facts (OnQueue name beforehand conditions change) = change call facts
+change_by call facts (OnRequest id besides bad conditions change) =
     change_of_request facts.request (change call facts)
-
--- the text that a command on a request comes with
-abbrev pub text_of : Plan → Option (List ℕ)
-text_of (OnRequest id besides text conditions change) = text
-text_of other = None
 
 -- a command that changes the desk tells the number of a request that it files, or that it is done
 abbrev pub filed_or_done : Option RequestRow → Answer
@@ -150,11 +165,7 @@ told_of change = filed_or_done change.filed
 -- what a command answers where nothing refuses it
 abbrev pub answer_by : Call → Desk → Plan → Answer
 answer_by call desk (Reads topic answer) = answer call desk
-answer_by call desk (OnQueue name conditions change) =
-    told_of (change call (facts_on_queue desk name))
-answer_by call desk (OnRequest id besides text conditions change) =
-    told_of (change_of_request (besides_on besides id desk).request
-    (change call (besides_on besides id desk)))
+answer_by call desk plan = told_of (change_by call (seen_by plan desk) plan)
 
 -- what a reading tells of a request, if it is there
 abbrev pub answer_of_request : Option Request → (Request → Answer) → Answer
@@ -164,8 +175,8 @@ answer_of_request (Some request) made = made request
 -- what a plan that reads is about
 abbrev pub topic_of : Plan → Option Topic
 topic_of (Reads topic answer) = Some topic
-topic_of (OnQueue name conditions change) = None
-topic_of (OnRequest id besides text conditions change) = None
+topic_of (OnQueue name beforehand conditions change) = None
+topic_of (OnRequest id besides bad conditions change) = None
 
 abbrev pub is_reading : Plan → Bool
 is_reading plan = is_some (topic_of plan)
@@ -180,5 +191,5 @@ abbrev pub named_by : Plan → List ℕ
 named_by (Reads WholeDesk answer) = []
 named_by (Reads (OneQueue name) answer) = []
 named_by (Reads (OneRequest id) answer) = id ∷ []
-named_by (OnQueue name conditions change) = []
-named_by (OnRequest id besides text conditions change) = id ∷ named_besides besides
+named_by (OnQueue name beforehand conditions change) = []
+named_by (OnRequest id besides bad conditions change) = id ∷ named_besides besides

@@ -1,21 +1,18 @@
 -- One command on the desk: when it is refused, the desk after it, and what comes of it; and a run
 -- of commands.
-use Rattle.std.specs.Prelude.{◌≡◌, ◌⊎◌, ℕ, not, List, [], ◌∷◌, Option, Some, None, Result, Ok, Err}
-use Rattle.hours_core.specs.Moment.{is_moment}
-use Rattle.settings_core.specs.Settings.{knows}
+use Rattle.std.specs.Prelude.{◌≡◌, ◌⊎◌, ℕ, List, [], ◌∷◌, Option, Some, None, Result, Ok, Err}
 use Rattle.settings_core.specs.declared.settings.Settings.{Settings}
 use Rattle.desk_model.specs.Change.{applied}
 use Rattle.desk_model.specs.Commands.{plan_of}
-use Rattle.desk_model.specs.Condition.{Condition, first_holding}
+use Rattle.desk_model.specs.Condition.{first_holding}
 use Rattle.desk_model.specs.Desk.{Desk}
-use Rattle.desk_model.specs.Plan.{Call, answer_by, change_by, conditions_by, is_bad_text, seen_by}
-use Rattle.desk_model.specs.Plan.{text_of}
+use Rattle.desk_model.specs.Plan.{Call, answer_by, change_by, conditions_beforehand, conditions_of}
+use Rattle.desk_model.specs.Plan.{seen_by}
 use Rattle.desk_model.specs.declared.answer.Answer.{Answer}
 use Rattle.desk_model.specs.declared.command.Command.{Command}
 use Rattle.desk_model.specs.declared.facts.Facts.{Facts}
 use Rattle.desk_model.specs.declared.refusal.Refusal.{Refusal}
-use Rattle.desk_model.specs.declared.refusal.Refusal.TheVariants.{UnknownCaller}
-use Rattle.desk_model.specs.declared.refusal.Refusal.TheVariants.{BadMoment, BadText, Unavailable}
+use Rattle.desk_model.specs.declared.refusal.Refusal.TheVariants.{Unavailable}
 
 abbrev pub call : Settings → ℕ → List ℕ → Call
 call settings at caller = record { settings = settings; at = at; caller = caller }
@@ -24,25 +21,16 @@ call settings at caller = record { settings = settings; at = at; caller = caller
 abbrev pub facts_of : Command → Desk → Facts
 facts_of command desk = seen_by (plan_of command) desk
 
--- the conditions of a command, in their order
-abbrev pub conditions_on : Call → Facts → Command → List Condition
-conditions_on call facts command =
-    (UnknownCaller, not (knows call.settings call.caller))
-    ∷ (BadMoment, not (is_moment call.at))
-    ∷ conditions_by call facts (plan_of command)
-
--- of these conditions, those that are the same on every desk
-abbrev pub conditions_beforehand : Call → Command → List Condition
-conditions_beforehand call command =
-    (UnknownCaller, not (knows call.settings call.caller))
-    ∷ (BadMoment, not (is_moment call.at))
-    ∷ (BadText, is_bad_text (text_of (plan_of command)))
-    ∷ []
+-- the refusal that a command meets on every desk, if there is one
+abbrev pub refusal_beforehand : Settings → ℕ → List ℕ → Command → Option Refusal
+refusal_beforehand settings at caller command =
+    first_holding (conditions_beforehand (call settings at caller) (plan_of command))
 
 -- the refusal of a command by a caller at a moment, if there is one
 abbrev pub guard : Settings → ℕ → List ℕ → Command → Desk → Option Refusal
 guard settings at caller command desk =
-    first_holding (conditions_on (call settings at caller) (facts_of command desk) command)
+    first_holding
+    (conditions_of (call settings at caller) (facts_of command desk) (plan_of command))
 
 -- a refused command leaves the desk as it was
 abbrev pub desk_unless : Option Refusal → Desk → Desk → Desk

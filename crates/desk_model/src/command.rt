@@ -4,13 +4,13 @@ ghost use Rattle.std.specs.Prelude.{◌≡◌};
 ghost use Rattle.std.specs.Option.{option_map};
 ghost use Rattle.desk_model.specs.Commands.{plan_of};
 ghost use Rattle.desk_model.specs.Desk.{Desk};
-ghost use Rattle.desk_model.specs.Plan.{is_bad_text, is_reading, text_of, topic_of};
+ghost use Rattle.desk_model.specs.Plan.{is_reading, topic_of};
 ghost use Rattle.desk_model.specs.Scope.{seen_in, topic_named};
 ghost use Rattle.desk_model.specs.Step.{facts_of};
 
 use crate::rows::{LinkKind, LinkRow, WatchRole};
 use crate::scope::{Scope, Topic};
-use text_core::{Text, Texts, is_text};
+use text_core::{Text, Texts};
 
 /// What a caller asks of the desk. Names and texts are as they were given: a command may be refused
 /// for each.
@@ -145,16 +145,6 @@ impl Command {
         ensures { result ≡ is_reading (plan_of self.now) }
     {
         self.topic().is_some()
-    }
-
-    /// Whether the command comes with a text that isn't of its form.
-    pub fn has_bad_text(&self) -> bool
-        ensures { result ≡ is_bad_text (text_of (plan_of self.now)) }
-    {
-        match self {
-            Command::Reply { text, .. } | Command::Comment { text, .. } => !is_text(text.as_str()),
-            _ => false,
-        }
     }
 
     /// What the command looks at on a desk.

@@ -2,10 +2,8 @@
 
 ghost use Rattle.std.specs.Prelude.{◌≡◌, IfOk};
 ghost use Rattle.std.specs.Option.{option_map};
+ghost use Rattle.desk_model.specs.Change as change;
 ghost use Rattle.desk_model.specs.Commands.Reply as reply;
-ghost use Rattle.desk_model.specs.Commands.SetLevel as set_level;
-ghost use Rattle.desk_model.specs.Commands.SetStatus as set_status;
-ghost use Rattle.desk_model.specs.Commands.Take as take;
 
 use crate::lifecycles::opens_anew;
 use crate::rows::{RequestRow, Turn};
@@ -25,11 +23,11 @@ impl RequestRow {
         at: Minute,
         status: &str,
     ) -> Result<RequestRow, AllocError>
-        ensures { IfOk result (λ moved. moved ≡ set_status.row_in_status
+        ensures { IfOk result (λ moved. moved ≡ change.row_in_status
             (option_map (λ l. l.now) lifecycle.entry) at status.now self.now) }
     {
         let to = Text::new(alloc, status)?;
-        let mut moved = self.with_status(to)?;
+        let mut moved = self.with(to, self.owner.clone()?, self.level.clone()?)?;
         if opens_anew(lifecycle, self.status.as_str(), status) {
             moved.opened = at;
             moved.since = at;
@@ -58,24 +56,19 @@ impl RequestRow {
     /// The row with this owner, or with none.
     pub fn with_owner(&self, alloc: Global, owner: Option<&str>) -> Result<RequestRow, AllocError>
         ensures { IfOk result (λ owned. owned
-            ≡ take.with_owner (option_map (λ o. o.now) owner.entry) self.now) }
+            ≡ change.with_owner (option_map (λ o. o.now) owner.entry) self.now) }
     {
         let owner = match owner {
             Some(owner) => Some(Text::new(alloc, owner)?),
             None => None,
         };
-        let mut owned = self.clone()?;
-        owned.owner = owner;
-        Ok(owned)
+        self.with(self.status.clone()?, owner, self.level.clone()?)
     }
 
     /// The row with this level, or with none.
     pub fn with_level(&self, level: &Option<Text>) -> Result<RequestRow, AllocError>
-        ensures { IfOk result (λ levelled. levelled ≡ set_level.with_level level.now self.now) }
+        ensures { IfOk result (λ levelled. levelled ≡ change.with_level level.now self.now) }
     {
-        let level = level.clone()?;
-        let mut levelled = self.clone()?;
-        levelled.level = level;
-        Ok(levelled)
+        self.with(self.status.clone()?, self.owner.clone()?, level.clone()?)
     }
 }

@@ -44,14 +44,18 @@ pub struct RequestRow {
 }
 
 impl RequestRow {
-    /// A copy with this status in place of the row's own.
-    pub(crate) fn with_status(&self, status: Text) -> Result<RequestRow, AllocError>
-        ensures { IfOk result (λ row. row ≡ record self.now { status = status }) }
+    /// A copy with these in place of the row's own.
+    pub(crate) fn with(
+        &self,
+        status: Text,
+        owner: Option<Text>,
+        level: Option<Text>,
+    ) -> Result<RequestRow, AllocError>
+        ensures { IfOk result (λ row. row
+            ≡ record self.now { status = status; owner = owner; level = level }) }
     {
         let queue = self.queue.clone()?;
         let subject = self.subject.clone()?;
-        let owner = self.owner.clone()?;
-        let level = self.level.clone()?;
         Ok(RequestRow {
             queue,
             subject,
@@ -67,8 +71,11 @@ impl Clone for RequestRow {
     ghost is_clone = { λ row copy. copy ≡ row };
 
     fn clone(&self) -> Result<RequestRow, AllocError> {
-        let status = self.status.clone()?;
-        self.with_status(status)
+        self.with(
+            self.status.clone()?,
+            self.owner.clone()?,
+            self.level.clone()?,
+        )
     }
 }
 

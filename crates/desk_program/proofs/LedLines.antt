@@ -4,7 +4,6 @@ use Rattle.std.proofs.Common.{OnErr, ap, refl}
 use Rattle.sqlite.specs.State.{State, HasCleanDisk}
 use Rattle.settings_core.specs.declared.settings.Settings.{Settings}
 use Rattle.desk_model.specs.declared.command.Command.{Command}
-use Rattle.desk_model.specs.declared.refusal.Refusal.TheVariants.{Unavailable}
 use Rattle.store_tables.specs.declared.fault.StoreFault.TheVariants.{Refused}
 use Rattle.store_tables.specs.Contents.{contents_of}
 use Rattle.store_tables.specs.Stands.{StandsFor}
@@ -13,7 +12,6 @@ use Rattle.desk_model.specs.Desk.{Desk, empty_desk}
 use Rattle.desk_model.specs.IsDesk.{IsDesk}
 use Rattle.desk_model.specs.Known.{is_known}
 use Rattle.service_core.specs.TableSteps.{StepsOn, ask_by}
-use Rattle.desk_texts.specs.Short.{is_short}
 use Rattle.desk_model.specs.Step.{Outcome}
 use Rattle.desk_texts.specs.Texts.{outcome_text}
 use Rattle.service_core.specs.declared.fault.AttachFault.{AttachFault}
@@ -23,7 +21,6 @@ use Rattle.desk_program.specs.Script.{IsCommandsOutput, LineLeads, LinePrints, i
 use Rattle.desk_program.specs.Script.{line_of}
 use Rattle.desk_program.specs.declared.line.Line.{Line}
 use Rattle.desk_program.specs.declared.line.Line.TheVariants.{Asked}
-use Rattle.desk_texts.proofs.DeskUnchanged.{unchanged_if_long}
 use Rattle.desk_program.proofs.PrintedLines.{unavailable_prints}
 
 -- ---- results
@@ -32,10 +29,6 @@ pub if_ok : {A E : Type 0} (r : Result A E) (P Q : A → Type 0) → IfOk r P
     → ((a : A) → P a → Q a) → IfOk r Q
 if_ok (Ok a) P Q h then = then a h
 if_ok (Err e) P Q h then = tt
-
-pub on_err : {A E : Type 0} (r : Result A E) (P Q : Type 0) → OnErr r P → (P → Q) → OnErr r Q
-on_err (Ok a) P Q h then = tt
-on_err (Err e) P Q h then = then h
 
 -- ---- lines
 
@@ -52,13 +45,6 @@ left_out s line tables asked =
     led_nowhere s (line_of line) unavailable_text tables
     (λ desk. unavailable_prints s line desk asked)
 
--- a command for which there was no room
-pub not_asked : (s : Settings) (at : ℕ) (caller : List ℕ) (command : Command) (tables : State)
-    → LineLeads s (Asked at caller command) unavailable_text tables tables
-not_asked s at caller command tables =
-    led_nowhere s (Asked at caller command) unavailable_text tables
-    (λ desk. (Err Unavailable, inl (refl, refl), refl))
-
 -- a command that was done
 pub led_by_step : (s : Settings) (at : ℕ) (caller : List ℕ) (command : Command)
     (outcome : Outcome) (old new : State) (text : List ℕ) → text ≡ outcome_text outcome
@@ -67,16 +53,6 @@ pub led_by_step : (s : Settings) (at : ℕ) (caller : List ℕ) (command : Comma
 led_by_step s at caller command outcome old new text told steps desk formed stands clean =
     let done = steps desk formed stands clean in
     (done.0, ((outcome, done.1.step, told), done.1.formed), done.2)
-
--- a command that was done, and for whose text there was no memory
-pub left_out_if_long : (s : Settings) (at : ℕ) (caller : List ℕ) (command : Command)
-    (outcome : Outcome) (old new : State)
-    → is_short outcome ≡ false → StepsOn s (ask_by at caller command) outcome old new
-    → LineLeads s (Asked at caller command) unavailable_text old new
-left_out_if_long s at caller command outcome old new long steps desk formed stands clean =
-    let done = steps desk formed stands clean in
-    let same = unchanged_if_long s at caller command desk done.0 outcome long done.1.step in
-    (done.0, ((Err Unavailable, inl (refl, same), refl), done.1.formed), done.2)
 
 -- ---- the beginning
 

@@ -19,8 +19,6 @@ use Rattle.desk_model.specs.Known.{is_known}
 use Rattle.desk_model.specs.Step.{Ask, Outcome, Steps}
 use Rattle.desk_lists.specs.declared.fault.StreamFault.{StreamFault}
 use Rattle.desk_lists.specs.declared.fault.StreamFault.TheVariants.{Refused, Write}
-use Rattle.desk_texts.proofs.DeskUnchanged.{unchanged_if_long}
-use Rattle.desk_texts.specs.Short.{is_short}
 use Rattle.desk_texts.specs.Texts.{outcome_text, refusal_text}
 use Rattle.service_core.specs.Streaming.{IsStreamed}
 use Rattle.service_core.specs.TableSteps.{LeadsOn, StepsOn, ask_by}
@@ -29,7 +27,8 @@ use Rattle.store_tables.specs.Calls.{Spares, WasClean}
 use Rattle.store_tables.specs.Contents.{contents_of}
 use Rattle.store_core.specs.Due.{StandsDue, due_of_row}
 use Rattle.desk_program.specs.FaultLines.{unavailable_text}
-use Rattle.desk_program.specs.One.{IsDone, IsGivenOutput, TakesStep, TellsStep, status_of}
+use Rattle.desk_program.specs.One.{IsDone, IsGivenOutput, TakesStep, TellsStep, is_list}
+use Rattle.desk_program.specs.One.{status_of}
 use Rattle.desk_program.specs.Opening.{IsOpened, IsOpeningFault}
 use Rattle.desk_program.proofs.LedLines.{knows_empty}
 
@@ -41,22 +40,6 @@ pub stepped : (s : Settings) (at : ℕ) (caller : List ℕ) (command : Command) 
 stepped s at caller command outcome failed old new text status told ends steps desk formed stands clean =
     let done = steps desk formed stands clean in
     (done.0, (inl (outcome, done.1.step, told, ends), done.1.formed), done.2)
-
--- a command that was done, and for whose text there was no memory
-pub unavailable_if_long : (s : Settings) (at : ℕ) (caller : List ℕ) (command : Command)
-    (outcome : Outcome) (failed : Bool) (old new : State) → is_short outcome ≡ false
-    → StepsOn s (ask_by at caller command) outcome old new
-    → LeadsOn s (TakesStep s (ask_by at caller command) failed unavailable_text 1) old new
-unavailable_if_long s at caller command outcome failed old new long steps desk formed stands clean =
-    let done = steps desk formed stands clean in
-    let same = unchanged_if_long s at caller command desk done.0 outcome long done.1.step in
-    (done.0, (inl (Err Unavailable, inl (refl, same), refl, refl), done.1.formed), done.2)
-
--- a command for which there was no room
-pub not_stepped : (s : Settings) (ask : Ask) (failed : Bool) (tables : State)
-    → LeadsOn s (TakesStep s ask failed unavailable_text 1) tables tables
-not_stepped s ask failed tables desk formed stands clean =
-    (desk, (inl (Err Unavailable, inl (refl, refl), refl, refl), formed), stands)
 
 -- settings that a text states know each name of the desk to which a step leads
 known_by_step : (s : Settings) (text : List ℕ) (ask : Ask) (old new : Desk) (outcome : Outcome)
@@ -75,7 +58,7 @@ known_after : (s : Settings) (text : List ℕ) (ask : Ask) (failed : Bool) (line
 known_after s text ask failed line status old new stated formed known takes =
     elim takes.0 [
       | inl told ↦ known_by_step s text ask old new told.0 stated formed known told.1
-      | inr cut ↦ known_by_step s text ask old new (Ok cut.0) stated formed known cut.1
+      | inr cut ↦ known_by_step s text ask old new (Ok cut.1) stated formed known cut.2
     ]
 
 -- the tables were opened, and the command was done
@@ -118,7 +101,7 @@ not_opened g (Ok settings) ask failed old new line status told = inl told
 -- ---- a list
 
 module _ (s : Settings) (at : ℕ) (caller : List ℕ) (command : Command) (old new : State)
-    (kept : Spares old new) where
+    (kept : Spares old new) (listed : is_list command ≡ true) where
   abbrev ask : Ask
   ask = ask_by at caller command
 
@@ -143,7 +126,7 @@ module _ (s : Settings) (at : ℕ) (caller : List ℕ) (command : Command) (old 
   list_failed failed printed status is came desk formed stand clean =
       let it = came desk formed stand clean in (
         desk,
-        (inr (it.0, it.1.step, printed, it.2, inl (is, refl), refl), formed),
+        (inr (listed, it.0, it.1.step, printed, it.2, inl (is, refl), refl), formed),
         still desk stand,
       )
 
@@ -163,6 +146,7 @@ module _ (s : Settings) (at : ℕ) (caller : List ℕ) (command : Command) (old 
               | inr unavailable ↦ unavailable
             ] in
             inr (
+              listed,
               it.0,
               it.1.step,
               printed,

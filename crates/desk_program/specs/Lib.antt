@@ -1,8 +1,10 @@
 pub mod Fault
 pub mod FaultLines
 pub mod Input
+pub mod Listening
 pub mod One
 pub mod Opening
 pub mod Options
 pub mod Script
 pub mod Serving
+pub mod Status

@@ -1,5 +1,5 @@
 -- One command on the tables of a store.
-use Rattle.std.specs.Prelude.{◌≡◌, ◌⊎◌, ◌++◌, ℕ, Bool, true, List, Option, Some, None, Result}
+use Rattle.std.specs.Prelude.{◌≡◌, ◌⊎◌, ◌++◌, ℕ, Bool, true, false, List, Option, Some, None, Result}
 use Rattle.std.specs.Prelude.{Ok, Err}
 use Rattle.std.specs.Prelude.{if◌then◌else◌}
 use Rattle.sqlite.specs.Held.{Held, state}
@@ -9,6 +9,7 @@ use Rattle.settings_core.specs.declared.fault.SettingsFault.{SettingsFault}
 use Rattle.settings_core.specs.declared.settings.Settings.{Settings}
 use Rattle.desk_model.specs.declared.answer.Answer.{Answer}
 use Rattle.desk_model.specs.declared.command.Command.{Command}
+use Rattle.desk_model.specs.declared.command.Command.TheVariants as commands
 use Rattle.desk_model.specs.Desk.{Desk, empty_desk}
 use Rattle.desk_model.specs.IsDesk.{IsDesk}
 use Rattle.desk_model.specs.Known.{is_known}
@@ -49,11 +50,18 @@ TellsStep settings ask line status old new =
     (outcome : Outcome) × Steps settings ask.at ask.caller ask.command old outcome new
     × (line ≡ outcome_text outcome) × (status ≡ status_of outcome)
 
+-- one of the commands whose text is written row by row
+abbrev pub is_list : Command → Bool
+is_list (commands.List queue) = true
+is_list commands.Overdue = true
+is_list other = false
+
 -- A list was cut short: a part from the front of the answer's text, in which a write failed; or
 -- that and the line that memory or the store refused, with the status of a refusal. The desk stays.
 abbrev pub IsCutShort : Settings → Ask → Bool → List ℕ → ℕ → Desk → Desk → Type 0
 IsCutShort settings ask failed line status old new =
-    (answer : Answer) × Steps settings ask.at ask.caller ask.command old (Ok answer) new
+    (is_list ask.command ≡ true)
+    × (answer : Answer) × Steps settings ask.at ask.caller ask.command old (Ok answer) new
     × (part : List ℕ) × IsBeginningOf part (answer_text answer)
     × (((failed ≡ true) × (line ≡ part))
     ⊎ ((line ≡ part ++ unavailable_text) × (status ≡ 1))) × (new ≡ old)

@@ -130,10 +130,16 @@ abbrev pub EndsWith : List ℕ → ℕ → Option (List ℕ) → Option (List �
 EndsWith line status old new ended =
     (failed : Bool) × IsWritten failed old new line × (ended ≡ (if failed then 4 else status))
 
--- the fault of opening tables, whatever is left of them
+-- the fault of opening tables, of which these are given back
+abbrev pub IsGivenBack : {S : Type 0} → Ghosts S → List ℕ → Held S → Held S → Option (List ℕ)
+    → Option (List ℕ) → ℕ → Type 0
+IsGivenBack g text tables left old new ended =
+    (given : Result Settings SettingsFault) × (line : List ℕ) × (status : ℕ)
+    × GivesSettings text given × IsOpeningFault g given tables left line status
+    × EndsWith line status old new ended
+
+-- the same, whatever is left of them
 abbrev pub IsNotOpened : {S : Type 0} → Ghosts S → List ℕ → Held S → Option (List ℕ)
     → Option (List ℕ) → ℕ → Type 0
 IsNotOpened {S} g text tables old new ended =
-    (given : Result Settings SettingsFault) × (left : Held S) × (line : List ℕ) × (status : ℕ)
-    × GivesSettings text given × IsOpeningFault g given tables left line status
-    × EndsWith line status old new ended
+    (left : Held S) × IsGivenBack g text tables left old new ended

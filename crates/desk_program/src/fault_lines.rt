@@ -17,6 +17,9 @@ use std::io::Write;
 use store_core::StoreFault;
 use stream_core::CountedWriter;
 
+/// The line of words that aren't understood.
+pub(crate) const BAD_WORDS: &[u8] = b"bad words\n";
+
 /// Prints the line of a fault of the input.
 pub(crate) fn put_input_fault<W: Write>(output: &mut CountedWriter<'_, W>, fault: InputFault)
     ensures same_writer { HaveOneWriter output.new output.old }
@@ -85,7 +88,7 @@ pub(crate) fn put_bad_words<W: Write>(output: &mut CountedWriter<'_, W>)
     ensures same_writer { HaveOneWriter output.new output.old }
     ensures printed { Prints W.contents output.old output.new bad_words_text }
 {
-    output.put(b"bad words\n");
+    output.put(BAD_WORDS);
 }
 
 /// Prints that a line was left out, since there was no memory for it.

@@ -19,32 +19,42 @@
 //! | a list is cut short | a part from its front, then `refused 16 Unavailable` | 1 | stand for the desk as it was |
 //! | else | the text of one step | 0 or 1 | stand for the desk after it, whose names the settings know |
 //!
-//! Where a write failed, a part from the front was written, and the status is 4. A list is cut short
-//! by `ls` and `overdue` alone, but the contract (`IsCutShort`) says it of any reading.
+//! Where a write failed, a part from the front was written, and the status is 4. The commands whose
+//! list may be cut short are `ls` and `overdue`.
 //!
 //! `open_desk` makes or brings on the tables, and attaches the settings. Where it gives no desk it
 //! prints the fault, of the settings before the store's, and that before one of attaching. A body that
-//! always gave up would meet its contract, since any call may be out of memory.
+//! always gave up would meet its contract, since any call may be out of memory. `open_desk_whole`
+//! gives the store back then.
 //!
-//! `serve_on` answers connections one after the other. Its contract lets each be a message step or
-//! nothing, so it bounds how many steps are made, and pins neither the count nor the minute.
+//! `serve_on` answers connections one after the other. It is `serve_on_counted`, whose listener
+//! counts: as many connections were accepted as the desk was led by, each a message step or, where a
+//! read failed, no step; and the status is 0 exactly where all were accepted. That each is answered
+//! at the minute that the clock gave after its accept is seen by reading `listening.rt`, which alone
+//! accepts, and by cases.
 #![tactic(auto)]
 
 mod fault;
 mod fault_lines;
 mod input;
 mod line;
+mod listening;
 mod one;
 mod opening;
 mod options;
 mod run;
 mod script;
 mod serving;
+mod status;
 
 pub use fault::InputFault;
 pub use line::{Line, answer_line};
+pub use listening::{Connection, CountedListener};
 pub use one::{OneEnded, run_one, run_one_whole};
-pub use opening::{open_desk, take_settings, tell_input_fault, tell_store_fault};
+pub use opening::{
+    open_desk, open_desk_whole, take_settings, tell_bad_words, tell_input_fault, tell_store_fault,
+};
 pub use options::{OneCommand, Serving, one_command_of, serving_of};
 pub use script::{Ended, Memory, run_script, run_script_counted};
-pub use serving::serve_on;
+pub use serving::{serve_on, serve_on_counted};
+pub use status::Status;

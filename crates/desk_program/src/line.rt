@@ -15,8 +15,9 @@ ghost use Rattle.desk_program.specs.FaultLines.{unavailable_text};
 ghost use Rattle.desk_program.specs.Script.{LineLeads, line_of, line_of_words, is_passed_over};
 ghost use Rattle.desk_program.specs.Script.{is_comment};
 
+use crate::fault_lines::BAD_WORDS;
 use desk_core::Command;
-use service_core::{Desk, SHORT_TEXT, text_in_room};
+use service_core::Desk;
 use std::alloc::{AllocError, Global};
 use store_core::Backend;
 use text_core::Text;
@@ -59,7 +60,7 @@ pub fn answer_line<S: Backend>(
 {
     match line_of(alloc, text) {
         Ok(Line::PassedOver) => Ok(Vec::new(alloc)),
-        Ok(Line::BadWords) => Vec::from_slice(alloc, b"bad words\n"),
+        Ok(Line::BadWords) => Vec::from_slice(alloc, BAD_WORDS),
         Ok(
             Line::Asked {
                 at,
@@ -75,9 +76,7 @@ pub fn answer_line<S: Backend>(
     }
 }
 
-/// What a command prints, after it is done. A change of the desk is made only once there is room
-/// for its answer.
-#[tactic(auto, using(store_tables::proofs::Lasting::same))]
+/// What a command prints, after it is done.
 fn answer_command<S: Backend>(
     alloc: Global,
     desk: &mut Desk<S>,
@@ -95,13 +94,8 @@ fn answer_command<S: Backend>(
     ensures lasts { Lasts (tables_of S.Store desk.old) (tables_of S.Store desk.new) }
     ensures same { settings_of S.Store desk.new ≡ settings_of S.Store desk.old }
 {
-    match Vec::with_capacity(alloc, SHORT_TEXT) {
-        Ok(room) => {
-            let outcome = desk.execute(alloc, at, caller, command);
-            let text = text_in_room(alloc, &outcome, room);
-            drop(outcome);
-            text
-        }
+    match desk.told(alloc, at, caller, command) {
+        Ok(told) => Ok(told.into_text()),
         Err(_) => Err(AllocError),
     }
 }

@@ -2,8 +2,8 @@
 //!
 //! What owns much is given back by `drop`, whose proof stands once; at the end of its scope it
 //! would be taken apart for each function's own proof.
-ghost use Rattle.std.specs.Prelude.{◌≡◌, ◌⊎◌, ◌+◌, ◌≤◌, [], ℕ, Bool, List, Some, false, map, string_bytes};
-ghost use Rattle.std.specs.Vec.{vec_capacity, vec_len};
+ghost use Rattle.std.specs.Prelude.{◌≡◌, ◌⊎◌, ◌+◌, ◌≤◌, [], ℕ, Bool, List, Some, true, false, map};
+ghost use Rattle.std.specs.Prelude.{string_bytes};
 ghost use Rattle.sqlite.specs.Held.{Held};
 ghost use Rattle.store_core.specs.Seen.{connection_of, state_of};
 ghost use Rattle.store_tables.specs.Calls.{WasClean};
@@ -14,26 +14,19 @@ ghost use Rattle.stream_core.specs.Written.{Prints};
 ghost use Rattle.desk_model.specs.declared.refusal.Refusal.{Refusal};
 ghost use Rattle.desk_texts.specs.Texts.{refusal_text};
 ghost use Rattle.desk_program.specs.One as one;
-ghost use Rattle.desk_program.specs.One.{RunsOne, TakesStep, asked_by};
+ghost use Rattle.desk_program.specs.One.{RunsOne, TakesStep, asked_by, is_list};
+ghost use Rattle.desk_program.specs.Status.{code_of};
 
 use crate::fault_lines::{put_bad_words, put_unavailable};
-use crate::opening::{ended, open};
+use crate::opening::open;
+use crate::status::Status;
 use desk_core::{Answer, Command, Refusal};
-use service_core::{Desk, SHORT_TEXT, StreamFault, refusal_text, text_in_room};
+use service_core::{Desk, StreamFault, refusal_text};
 use std::alloc::Global;
 use std::io::Write;
 use store_core::{Backend, Store};
 use stream_core::CountedWriter;
 use wire_core::{WordsFault, command_of_words};
-
-/// The exit status of a command that was answered.
-const ANSWERED: u8 = 0;
-
-/// The exit status of a command that was refused.
-const REFUSED: u8 = 1;
-
-/// The exit status of words that spell no command.
-const BAD_WORDS: u8 = 2;
 
 /// How one command ended, and the store that it was run on.
 #[derive(Drop)]
@@ -96,7 +89,7 @@ pub fn run_one_whole<S: Backend, W: Write>(
     let mut output = CountedWriter::new(writer);
     let (status, store) = run_words(alloc, settings, store, caller, at, words, &mut output);
     OneEnded {
-        status: ended(status, &output),
+        status: status.after(&output),
         failed: output.failed(),
         store,
     }
@@ -111,14 +104,14 @@ fn run_words<S: Backend, W: Write>(
     at: u32,
     words: &[String],
     output: &mut CountedWriter<'_, W>,
-) -> (u8, Store<S>)
+) -> (Status, Store<S>)
     requires { has_write_failed output.old ≡ false }
     ensures same_writer { HaveOneWriter output.new output.old }
     ensures printed { (line : List ℕ)
         × one.IsOneOutput S.Store
         (asked_by settings.now at caller.now (map string_bytes words.now))
         (has_write_failed output.new)
-        (connection_of S.Store store) (connection_of S.Store result.1) line result.0
+        (connection_of S.Store store) (connection_of S.Store result.1) line (code_of result.0)
         × Prints W.contents output.old output.new line }
 {
     match command_of_words(alloc, words) {
@@ -129,11 +122,11 @@ fn run_words<S: Backend, W: Write>(
         }
         Err(WordsFault::NoMemory) => {
             put_unavailable(output);
-            (REFUSED, store)
+            (Status::Refused, store)
         }
         Err(_) => {
             put_bad_words(output);
-            (BAD_WORDS, store)
+            (Status::BadWords, store)
         }
     }
 }
@@ -147,12 +140,12 @@ fn run_command<S: Backend, W: Write>(
     at: u32,
     command: &Command,
     output: &mut CountedWriter<'_, W>,
-) -> (u8, Store<S>)
+) -> (Status, Store<S>)
     requires { has_write_failed output.old ≡ false }
     ensures same_writer { HaveOneWriter output.new output.old }
     ensures printed { (line : List ℕ)
         × one.IsCommandOutput S.Store settings.now at caller.now (Some command.now)
-        (has_write_failed output.new) (connection_of S.Store store) (connection_of S.Store result.1) line result.0
+        (has_write_failed output.new) (connection_of S.Store store) (connection_of S.Store result.1) line (code_of result.0)
         × Prints W.contents output.old output.new line }
 {
     match open(alloc, store, settings, output) {
@@ -169,13 +162,14 @@ fn run_on_desk<S: Backend, W: Write>(
     at: u32,
     command: &Command,
     output: &mut CountedWriter<'_, W>,
-) -> (u8, Store<S>)
+) -> (Status, Store<S>)
     requires { has_write_failed output.old ≡ false }
     ensures same_writer { HaveOneWriter output.new output.old }
     ensures printed { (line : List ℕ)
         × LeadsOn (settings_of S.Store desk)
         (TakesStep (settings_of S.Store desk) (ask_by at caller.now command.now)
-        (has_write_failed output.new) line result.0) (tables_of S.Store desk) (state_of S.Store result.1)
+        (has_write_failed output.new) line (code_of result.0)) (tables_of S.Store desk)
+        (state_of S.Store result.1)
         × Prints W.contents output.old output.new line }
     ensures honest { WasClean (tables_of S.Store desk) (state_of S.Store result.1) }
 {
@@ -194,19 +188,21 @@ fn run_step<S: Backend, W: Write>(
     at: u32,
     command: &Command,
     output: &mut CountedWriter<'_, W>,
-) -> u8
+) -> Status
     requires { has_write_failed output.old ≡ false }
     ensures same_writer { HaveOneWriter output.new output.old }
     ensures printed { (line : List ℕ)
         × LeadsOn (settings_of S.Store desk.old)
         (TakesStep (settings_of S.Store desk.old) (ask_by at caller.now command.now)
-        (has_write_failed output.new) line result) (tables_of S.Store desk.old) (tables_of S.Store desk.new)
+        (has_write_failed output.new) line (code_of result)) (tables_of S.Store desk.old)
+        (tables_of S.Store desk.new)
         × Prints W.contents output.old output.new line }
     ensures honest { WasClean (tables_of S.Store desk.old) (tables_of S.Store desk.new) }
 {
     match command {
-        Command::List { .. } => run_list(alloc, desk, caller, at, command, output),
-        Command::Overdue => run_list(alloc, desk, caller, at, command, output),
+        Command::List { .. } | Command::Overdue => {
+            run_list(alloc, desk, caller, at, command, output)
+        }
         _ => run_whole(alloc, desk, caller, at, command, output),
     }
 }
@@ -220,23 +216,25 @@ fn run_list<S: Backend, W: Write>(
     at: u32,
     command: &Command,
     output: &mut CountedWriter<'_, W>,
-) -> u8
-    requires { has_write_failed output.old ≡ false }
+) -> Status
+    requires list { is_list command.now ≡ true }
+    requires unfailed { has_write_failed output.old ≡ false }
     ensures same_writer { HaveOneWriter output.new output.old }
     ensures printed { (line : List ℕ)
         × LeadsOn (settings_of S.Store desk.old)
         (TakesStep (settings_of S.Store desk.old) (ask_by at caller.now command.now)
-        (has_write_failed output.new) line result) (tables_of S.Store desk.old) (tables_of S.Store desk.new)
+        (has_write_failed output.new) line (code_of result)) (tables_of S.Store desk.old)
+        (tables_of S.Store desk.new)
         × Prints W.contents output.old output.new line }
     ensures honest { WasClean (tables_of S.Store desk.old) (tables_of S.Store desk.new) }
 {
     match desk.stream_counted(alloc, at, caller, command, output) {
-        Ok(()) => ANSWERED,
+        Ok(()) => Status::Done,
         // the writer tells that it failed, and then the status is 4
-        Err(StreamFault::Write) => ANSWERED,
+        Err(StreamFault::Write) => Status::Done,
         Err(StreamFault::Refused(refusal)) => {
             put_refusal(alloc, refusal, output);
-            REFUSED
+            Status::Refused
         }
     }
 }
@@ -256,8 +254,7 @@ fn put_refusal<W: Write>(alloc: Global, refusal: Refusal, output: &mut CountedWr
     }
 }
 
-/// Does the command and prints its text. It is done only once there is room for the answer of a
-/// command that changes the desk.
+/// Does the command and prints its text.
 fn run_whole<S: Backend, W: Write>(
     alloc: Global,
     desk: &mut Desk<S>,
@@ -265,66 +262,36 @@ fn run_whole<S: Backend, W: Write>(
     at: u32,
     command: &Command,
     output: &mut CountedWriter<'_, W>,
-) -> u8
+) -> Status
     ensures same_writer { HaveOneWriter output.new output.old }
     ensures printed { (line : List ℕ)
         × LeadsOn (settings_of S.Store desk.old)
         (TakesStep (settings_of S.Store desk.old) (ask_by at caller.now command.now)
-        (has_write_failed output.new) line result) (tables_of S.Store desk.old) (tables_of S.Store desk.new)
+        (has_write_failed output.new) line (code_of result)) (tables_of S.Store desk.old)
+        (tables_of S.Store desk.new)
         × Prints W.contents output.old output.new line }
     ensures honest { WasClean (tables_of S.Store desk.old) (tables_of S.Store desk.new) }
 {
-    match Vec::with_capacity(alloc, SHORT_TEXT) {
-        Ok(room) => run_in_room(alloc, desk, caller, at, command, room, output),
-        Err(_) => {
-            put_unavailable(output);
-            REFUSED
-        }
-    }
-}
-
-/// Does the command and prints its text, which stands in the room if it is short.
-fn run_in_room<S: Backend, W: Write>(
-    alloc: Global,
-    desk: &mut Desk<S>,
-    caller: &str,
-    at: u32,
-    command: &Command,
-    room: Vec<u8>,
-    output: &mut CountedWriter<'_, W>,
-) -> u8
-    requires empty { room.items ≡ [] }
-    requires room { vec_len room + 64 ≤ vec_capacity room }
-    ensures same_writer { HaveOneWriter output.new output.old }
-    ensures printed { (line : List ℕ)
-        × LeadsOn (settings_of S.Store desk.old)
-        (TakesStep (settings_of S.Store desk.old) (ask_by at caller.now command.now)
-        (has_write_failed output.new) line result) (tables_of S.Store desk.old) (tables_of S.Store desk.new)
-        × Prints W.contents output.old output.new line }
-    ensures honest { WasClean (tables_of S.Store desk.old) (tables_of S.Store desk.new) }
-{
-    let outcome = desk.execute(alloc, at, caller, command);
-    let status = status_of(&outcome);
-    let text = text_in_room(alloc, &outcome, room);
-    drop(outcome);
-    match text {
-        Ok(text) => {
+    match desk.told(alloc, at, caller, command) {
+        Ok(told) => {
+            let status = status_of(&told.outcome);
+            let text = told.into_text();
             output.put(text.as_slice());
             status
         }
         Err(_) => {
             put_unavailable(output);
-            REFUSED
+            Status::Refused
         }
     }
 }
 
 /// The status of what came of a command.
-fn status_of(outcome: &Result<Answer, Refusal>) -> u8
-    ensures { result ≡ one.status_of outcome.now }
+fn status_of(outcome: &Result<Answer, Refusal>) -> Status
+    ensures { code_of result ≡ one.status_of outcome.now }
 {
     match outcome {
-        Ok(_) => ANSWERED,
-        Err(_) => REFUSED,
+        Ok(_) => Status::Done,
+        Err(_) => Status::Refused,
     }
 }

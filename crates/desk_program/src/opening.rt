@@ -3,7 +3,7 @@
 //! What owns much is given back by `drop`, whose proof stands once; at the end of its scope it
 //! would be taken apart for each function's own proof.
 ghost use Rattle.std.specs.Prelude.{◌≡◌, ◌≢◌, ◌≤◌, ℕ, List, Ok, Err, length, IfErr, IfOk, IfSome};
-ghost use Rattle.std.specs.Prelude.{OnOk, Result, true, if◌then◌else◌};
+ghost use Rattle.std.specs.Prelude.{OnOk, Result, true};
 ghost use Rattle.store_core.specs.Seen.{connection_of, state_of};
 ghost use Rattle.service_core.specs.Attaching.{TellsKnown};
 ghost use Rattle.service_core.specs.Renewing.{AreRenewed};
@@ -12,30 +12,29 @@ ghost use Rattle.service_core.specs.declared.fault.AttachFault.{AttachFault};
 ghost use Rattle.store_core.specs.Due.{StandsDue};
 ghost use Rattle.store_tables.specs.Making.{IsBlank};
 ghost use Rattle.desk_model.specs.Desk.{empty_desk};
-ghost use Rattle.stream_core.specs.Seen.{HaveOneWriter, has_write_failed, held_in};
+ghost use Rattle.stream_core.specs.Seen.{HaveOneWriter};
 ghost use Rattle.stream_core.specs.Written.{Prints};
 ghost use Rattle.desk_program.specs.FaultLines.{attach_fault_text, input_fault_text};
 ghost use Rattle.desk_program.specs.FaultLines.{store_fault_text};
 ghost use Rattle.desk_program.specs.Input as form;
-ghost use Rattle.desk_program.specs.Opening.{EndsWith, IsNotOpened, IsOpened, IsOpeningFault};
-ghost use Rattle.desk_program.specs.Opening.{ComesToStand, FailsToAttach, ToldKnown};
+ghost use Rattle.desk_program.specs.Opening.{ComesToStand, EndsWith, FailsToAttach, IsGivenBack};
+ghost use Rattle.desk_program.specs.Opening.{IsNotOpened, IsOpened, IsOpeningFault, ToldKnown};
+ghost use Rattle.desk_program.specs.Script.{bad_words_text};
+ghost use Rattle.desk_program.specs.Status.{code_of};
 
 use crate::fault::InputFault;
-use crate::fault_lines::{put_attach_fault, put_input_fault, put_settings_fault, put_store_fault};
+use crate::fault_lines::{
+    put_attach_fault, put_bad_words, put_input_fault, put_settings_fault, put_store_fault,
+};
 use crate::input::take_input;
 use crate::script::read_settings;
+use crate::status::Status;
 use service_core::Desk;
 use settings_core::{Settings, SettingsFault};
 use std::alloc::Global;
 use std::io::{Read, Write};
 use store_core::{Backend, Store, StoreFault};
 use stream_core::{CountedReader, CountedWriter};
-
-/// The exit status where the settings have a fault.
-const BAD_SETTINGS: u8 = 3;
-
-/// The exit status where there is no desk, or a write failed.
-const NO_DESK: u8 = 4;
 
 /// All that a reader of a settings file has left, where that is at most 1,048,576 bytes: `TooLong`
 /// where it is more, and `Read` where a read failed or it was out of memory.
@@ -56,7 +55,7 @@ pub fn tell_input_fault<W: Write>(fault: InputFault, writer: &mut W) -> u8
 {
     let mut output = CountedWriter::new(writer);
     put_input_fault(&mut output, fault);
-    ended(NO_DESK, &output)
+    Status::Failed.after(&output)
 }
 
 /// Prints the line of a fault of the store, and answers the status 4.
@@ -66,14 +65,16 @@ pub fn tell_store_fault<W: Write>(fault: StoreFault, writer: &mut W) -> u8
 {
     let mut output = CountedWriter::new(writer);
     put_store_fault(&mut output, fault);
-    ended(NO_DESK, &output)
+    Status::Failed.after(&output)
 }
 
-/// The status, or 4 where a write failed.
-pub(crate) fn ended<W: Write>(status: u8, output: &CountedWriter<'_, W>) -> u8
-    ensures { result ≡ (if has_write_failed output.now then 4 else status) }
+/// Prints that words aren't understood, and answers the status 2.
+pub fn tell_bad_words<W: Write>(writer: &mut W) -> u8
+    ensures { EndsWith bad_words_text 2 (W.contents writer.old) (W.contents writer.new) result }
 {
-    if output.failed() { NO_DESK } else { status }
+    let mut output = CountedWriter::new(writer);
+    put_bad_words(&mut output);
+    Status::BadWords.after(&output)
 }
 
 /// The desk over the tables of a store, with the settings of a text. Tables that are missing are
@@ -81,7 +82,8 @@ pub(crate) fn ended<W: Write>(status: u8, output: &CountedWriter<'_, W>) -> u8
 /// rows, but for the due moments, which become those by these settings.
 ///
 /// Where there is none, a line tells the fault, and the exit status is the error: 3 for one of the
-/// settings, and 4 for one of the store or of attaching, or where the write of that line failed.
+/// settings, and 4 for one of the store or of attaching, or where the write of that line failed. The
+/// store is let go then.
 pub fn open_desk<S: Backend + Drop, W: Write>(
     alloc: Global,
     store: Store<S>,
@@ -95,13 +97,34 @@ pub fn open_desk<S: Backend + Drop, W: Write>(
         (connection_of S.Store store)
         (W.contents writer.old) (W.contents writer.new) status) }
 {
-    let mut output = CountedWriter::new(writer);
-    match open(alloc, store, settings, &mut output) {
+    match open_desk_whole(alloc, store, settings, writer) {
         Ok(desk) => Ok(desk),
         Err((status, store)) => {
             drop(store);
-            Err(ended(status, &output))
+            Err(status)
         }
+    }
+}
+
+/// The desk as `open_desk` opens it. Where there is none, the store is given back with the status,
+/// to whoever closes its file.
+pub fn open_desk_whole<S: Backend, W: Write>(
+    alloc: Global,
+    store: Store<S>,
+    settings: &[u8],
+    writer: &mut W,
+) -> Result<Desk<S>, (u8, Store<S>)>
+    ensures opened { IfOk result (λ desk. IsOpened settings.now (state_of S.Store store)
+        (settings_of S.Store desk) (tables_of S.Store desk)) }
+    ensures quiet { OnOk result (W.contents writer.new ≡ W.contents writer.old) }
+    ensures told { IfErr result (λ back. IsGivenBack S.Store settings.now
+        (connection_of S.Store store) (connection_of S.Store back.1)
+        (W.contents writer.old) (W.contents writer.new) back.0) }
+{
+    let mut output = CountedWriter::new(writer);
+    match open(alloc, store, settings, &mut output) {
+        Ok(desk) => Ok(desk),
+        Err((status, store)) => Err((status.after(&output), store)),
     }
 }
 
@@ -112,7 +135,7 @@ pub(crate) fn open<S: Backend, W: Write>(
     store: Store<S>,
     settings: &[u8],
     output: &mut CountedWriter<'_, W>,
-) -> Result<Desk<S>, (u8, Store<S>)>
+) -> Result<Desk<S>, (Status, Store<S>)>
     ensures same_writer { HaveOneWriter output.new output.old }
     ensures opened { IfOk result (λ desk. IsOpened settings.now (state_of S.Store store)
         (settings_of S.Store desk) (tables_of S.Store desk)) }
@@ -120,14 +143,14 @@ pub(crate) fn open<S: Backend, W: Write>(
     ensures told { IfErr result (λ back. (given : Result Settings SettingsFault)
         × (line : List ℕ) × form.GivesSettings settings.now given
         × IsOpeningFault S.Store given (connection_of S.Store store)
-        (connection_of S.Store back.1) line back.0
+        (connection_of S.Store back.1) line (code_of back.0)
         × Prints W.contents output.old output.new line) }
 {
     match read_settings(alloc, settings) {
         Ok(settings) => open_tables(alloc, store, settings, output),
         Err(fault) => {
             put_settings_fault(output, fault);
-            Err((BAD_SETTINGS, store))
+            Err((Status::BadSettings, store))
         }
     }
 }
@@ -139,7 +162,7 @@ fn open_tables<S: Backend, W: Write>(
     store: Store<S>,
     settings: Settings,
     output: &mut CountedWriter<'_, W>,
-) -> Result<Desk<S>, (u8, Store<S>)>
+) -> Result<Desk<S>, (Status, Store<S>)>
     ensures same_writer { HaveOneWriter output.new output.old }
     ensures settings { IfOk result (λ desk. settings_of S.Store desk ≡ settings) }
     ensures renewed { IfOk result (λ desk.
@@ -151,7 +174,7 @@ fn open_tables<S: Backend, W: Write>(
     ensures quiet { OnOk result (output.new ≡ output.old) }
     ensures told { IfErr result (λ back. (line : List ℕ)
         × IsOpeningFault S.Store (Ok settings) (connection_of S.Store store)
-        (connection_of S.Store back.1) line back.0
+        (connection_of S.Store back.1) line (code_of back.0)
         × Prints W.contents output.old output.new line) }
 {
     let mut store = store;
@@ -160,7 +183,7 @@ fn open_tables<S: Backend, W: Write>(
         Err(fault) => {
             drop(settings);
             put_store_fault(output, fault);
-            Err((NO_DESK, store))
+            Err((Status::Failed, store))
         }
     }
 }
@@ -171,7 +194,7 @@ fn attach<S: Backend, W: Write>(
     store: Store<S>,
     settings: Settings,
     output: &mut CountedWriter<'_, W>,
-) -> Result<Desk<S>, (u8, Store<S>)>
+) -> Result<Desk<S>, (Status, Store<S>)>
     ensures same_writer { HaveOneWriter output.new output.old }
     ensures settings { IfOk result (λ desk. settings_of S.Store desk ≡ settings) }
     ensures renewed { IfOk result (λ desk.
@@ -181,13 +204,13 @@ fn attach<S: Backend, W: Write>(
     ensures quiet { OnOk result (output.new ≡ output.old) }
     ensures told { IfErr result (λ back. (fault : AttachFault)
         × FailsToAttach settings (state_of S.Store store) (state_of S.Store back.1) fault
-        × (back.0 ≡ 4) × Prints W.contents output.old output.new (attach_fault_text fault)) }
+        × (code_of back.0 ≡ 4) × Prints W.contents output.old output.new (attach_fault_text fault)) }
 {
     match Desk::attach(alloc, store, settings) {
         Ok(desk) => Ok(desk),
         Err((fault, store)) => {
             put_attach_fault(output, fault);
-            Err((NO_DESK, store))
+            Err((Status::Failed, store))
         }
     }
 }

@@ -13,10 +13,12 @@ ghost use Rattle.stream_core.specs.Seen.{HaveOneWriter};
 ghost use Rattle.stream_core.specs.Written.{Prints};
 ghost use Rattle.desk_program.specs.Script.{AnswersCommands, HasCleanDisks, IsCommandsOutput};
 ghost use Rattle.desk_program.specs.Script.{LineLeads, line_of};
+ghost use Rattle.desk_program.specs.Status.{code_of};
 
 use crate::fault_lines::{put_attach_fault, put_store_fault, put_unavailable};
 use crate::line::answer_line;
 use crate::script::Memory;
+use crate::status::Status;
 use service_core::Desk;
 use settings_core::Settings;
 use std::alloc::Global;
@@ -25,12 +27,6 @@ use std::mem::forget;
 use store_core::{Backend, Store};
 use stream_core::CountedWriter;
 
-/// The exit status of a script that ran, refused lines included.
-const DONE: u8 = 0;
-
-/// The exit status where there is no desk for the commands.
-const NO_DESK: u8 = 4;
-
 /// Runs the commands on an empty desk in memory with these settings.
 pub(crate) fn run_in_memory<W: Write>(
     alloc: Global,
@@ -38,10 +34,10 @@ pub(crate) fn run_in_memory<W: Write>(
     commands: &str,
     output: &mut CountedWriter<'_, W>,
     memory: Memory,
-) -> u8
+) -> Status
     ensures same_writer { HaveOneWriter output.new output.old }
     ensures printed { (text : List ℕ)
-        × IsCommandsOutput (Ok settings) commands.now text result
+        × IsCommandsOutput (Ok settings) commands.now text (code_of result)
         × Prints W.contents output.old output.new text }
 {
     match Store::open_in_memory(alloc) {
@@ -49,7 +45,7 @@ pub(crate) fn run_in_memory<W: Write>(
         Err(fault) => {
             drop(settings);
             put_store_fault(output, fault);
-            NO_DESK
+            Status::Failed
         }
     }
 }
@@ -62,12 +58,12 @@ fn run_in_store<S: Backend + Drop, W: Write>(
     commands: &str,
     output: &mut CountedWriter<'_, W>,
     memory: Memory,
-) -> u8
+) -> Status
     requires clean { HasCleanDisks S.Store }
     requires blank { IsBlank (state_of S.Store store) }
     ensures same_writer { HaveOneWriter output.new output.old }
     ensures printed { (text : List ℕ)
-        × IsCommandsOutput (Ok settings) commands.now text result
+        × IsCommandsOutput (Ok settings) commands.now text (code_of result)
         × Prints W.contents output.old output.new text }
 {
     match store.create_schema(alloc) {
@@ -76,7 +72,7 @@ fn run_in_store<S: Backend + Drop, W: Write>(
             drop(settings);
             drop(store);
             put_store_fault(output, fault);
-            NO_DESK
+            Status::Failed
         }
     }
 }
@@ -89,24 +85,24 @@ fn run_on_tables<S: Backend + Drop, W: Write>(
     commands: &str,
     output: &mut CountedWriter<'_, W>,
     memory: Memory,
-) -> u8
+) -> Status
     requires clean { HasCleanDisks S.Store }
     requires empty { StandsFor empty_desk (state_of S.Store store) }
     ensures same_writer { HaveOneWriter output.new output.old }
     ensures printed { (text : List ℕ)
-        × IsCommandsOutput (Ok settings) commands.now text result
+        × IsCommandsOutput (Ok settings) commands.now text (code_of result)
         × Prints W.contents output.old output.new text }
 {
     match Desk::attach(alloc, store, settings) {
         Ok(mut desk) => {
             run_lines(alloc, &mut desk, commands, output);
             let_go(desk, memory);
-            DONE
+            Status::Done
         }
         Err((fault, store)) => {
             drop(store);
             put_attach_fault(output, fault);
-            NO_DESK
+            Status::Failed
         }
     }
 }

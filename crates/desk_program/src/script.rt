@@ -4,6 +4,7 @@ ghost use Rattle.std.specs.Prelude.{◌≡◌, ◌≤◌, ◌+◌, ℕ, List, If
 ghost use Rattle.desk_program.specs.Input as form;
 ghost use Rattle.desk_program.specs.Script as script;
 ghost use Rattle.desk_program.specs.Script.{RunsScript};
+ghost use Rattle.desk_program.specs.Status.{code_of};
 ghost use Rattle.stream_core.specs.Seen.{HaveOneReader, HaveOneWriter, has_write_failed, left_in};
 ghost use Rattle.stream_core.specs.Seen.{reads_of, writes_of};
 ghost use Rattle.stream_core.specs.Streams.{ConsumesAtMost};
@@ -13,16 +14,11 @@ use crate::fault::InputFault;
 use crate::fault_lines::{put_input_fault, put_settings_fault};
 use crate::input::{script_of, take_input};
 use crate::run::run_in_memory;
+use crate::status::Status;
 use settings_core::{Settings, SettingsFault};
 use std::alloc::Global;
 use std::io::{Read, Write};
 use stream_core::{CountedReader, CountedWriter};
-
-/// The exit status where the settings have a fault.
-const BAD_SETTINGS: u8 = 3;
-
-/// The exit status where the input has a fault, or a write failed.
-const BAD_INPUT: u8 = 4;
 
 /// What becomes of the memory of a script's desk when the script has ended.
 #[derive(Clone, Copy)]
@@ -50,17 +46,17 @@ pub struct Ended {
 impl Ended {
     /// How a script ended that has this status if no write failed.
     fn new<R: Read, W: Write>(
-        status: u8,
+        status: Status,
         reader: &CountedReader<'_, R>,
         output: &CountedWriter<'_, W>,
     ) -> Ended
-        ensures status { result.status ≡ (if has_write_failed output.now then 4 else status) }
+        ensures status { result.status ≡ (if has_write_failed output.now then 4 else code_of status) }
         ensures reads { result.reads ≡ reads_of reader.now }
         ensures writes { result.writes ≡ writes_of output.now }
         ensures failed { result.failed ≡ has_write_failed output.now }
     {
         Ended {
-            status: if output.failed() { BAD_INPUT } else { status },
+            status: status.after(output),
             reads: reader.reads(),
             writes: output.writes(),
             failed: output.failed(),
@@ -81,7 +77,8 @@ impl Ended {
 /// interrupted has failed.
 pub fn run_script<R: Read, W: Write>(alloc: Global, reader: &mut R, writer: &mut W) -> u8
     ensures ran { (ended : Ended) × (result ≡ ended.status) × RunsScript
-        (R.remaining reader.old) (W.contents writer.old) (W.contents writer.new) ended }
+        (R.remaining reader.old) (W.contents writer.old) (W.contents writer.new) ended
+        × (ended.reads ≤ 1048577) }
     ensures taken { ConsumesAtMost (R.remaining reader.old) (R.remaining reader.new) 1048577 }
 {
     run_script_counted(alloc, reader, writer, Memory::GivenBack).status
@@ -111,12 +108,12 @@ fn print_script<R: Read, W: Write>(
     reader: &mut CountedReader<'_, R>,
     output: &mut CountedWriter<'_, W>,
     memory: Memory,
-) -> u8
+) -> Status
     ensures same_reader { HaveOneReader reader.new reader.old }
     ensures same_writer { HaveOneWriter output.new output.old }
     ensures printed { (input : List ℕ) × (text : List ℕ)
         × IfSome (left_in R.remaining reader.old) (λ all. all ≡ input)
-        × script.IsOutput input text result × Prints W.contents output.old output.new text }
+        × script.IsOutput input text (code_of result) × Prints W.contents output.old output.new text }
     ensures taken { ConsumesAtMost (left_in R.remaining reader.old)
         (left_in R.remaining reader.new) 1048577 }
     ensures reads { reads_of reader.new ≤ reads_of reader.old + 1048577 }
@@ -125,7 +122,7 @@ fn print_script<R: Read, W: Write>(
         Ok(input) => run_input(alloc, input.as_slice(), output, memory),
         Err(fault) => {
             put_input_fault(output, fault);
-            BAD_INPUT
+            Status::Failed
         }
     }
 }
@@ -136,17 +133,17 @@ fn run_input<W: Write>(
     input: &[u8],
     output: &mut CountedWriter<'_, W>,
     memory: Memory,
-) -> u8
+) -> Status
     ensures same_writer { HaveOneWriter output.new output.old }
     ensures printed { (found : Result form.Script InputFault) × (text : List ℕ)
-        × form.IsScriptWithin input.now found × script.IsScriptOutput found text result
+        × form.IsScriptWithin input.now found × script.IsScriptOutput found text (code_of result)
         × Prints W.contents output.old output.new text }
 {
     match script_of(input) {
         Ok(script) => run_commands(alloc, script.settings, script.commands, output, memory),
         Err(fault) => {
             put_input_fault(output, fault);
-            BAD_INPUT
+            Status::Failed
         }
     }
 }
@@ -158,18 +155,18 @@ fn run_commands<W: Write>(
     commands: &str,
     output: &mut CountedWriter<'_, W>,
     memory: Memory,
-) -> u8
+) -> Status
     ensures same_writer { HaveOneWriter output.new output.old }
     ensures printed { (given : Result Settings SettingsFault) × (text : List ℕ)
         × form.GivesSettings settings.now given
-        × script.IsCommandsOutput given commands.now text result
+        × script.IsCommandsOutput given commands.now text (code_of result)
         × Prints W.contents output.old output.new text }
 {
     match read_settings(alloc, settings) {
         Ok(settings) => run_in_memory(alloc, settings, commands, output, memory),
         Err(fault) => {
             put_settings_fault(output, fault);
-            BAD_SETTINGS
+            Status::BadSettings
         }
     }
 }

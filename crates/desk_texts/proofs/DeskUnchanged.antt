@@ -5,9 +5,7 @@ use Rattle.settings_core.specs.declared.settings.Settings.{Settings}
 use Rattle.desk_model.specs.Change.{applied}
 use Rattle.desk_model.specs.Commands.{plan_of}
 use Rattle.desk_model.specs.Desk.{Desk}
-use Rattle.desk_model.specs.Facts.{facts_on_queue}
-use Rattle.desk_model.specs.Plan.{Call, Plan, Reads, OnQueue, OnRequest, answer_by, besides_on}
-use Rattle.desk_model.specs.Plan.{change_by, change_of_request, filed_or_done, seen_by}
+use Rattle.desk_model.specs.Plan.{Call, Plan, Reads, answer_by, change_by, filed_or_done, seen_by}
 use Rattle.desk_model.specs.Step.{Outcome, Steps, call, desk_unless, guard, outcome_unless}
 use Rattle.desk_model.specs.declared.answer.Answer.{Answer}
 use Rattle.desk_model.specs.declared.command.Command.{Command}
@@ -31,11 +29,8 @@ unchanged_by_plan : (c : Call) (o : Option Refusal) (plan : Plan) (old : Desk) (
     → desk_unless o old (applied (change_by c (seen_by plan old) plan) old) ≡ old
 unchanged_by_plan c (Some refusal) plan old x long e = refl
 unchanged_by_plan c None (Reads topic told) old x long e = refl
-unchanged_by_plan c None (OnQueue name conditions change) old x long e =
-    absurd (long_is_not_short x (change c (facts_on_queue old name)).filed long e)
-unchanged_by_plan c None (OnRequest id besides text conditions change) old x long e =
-    let facts = besides_on besides id old in
-    absurd (long_is_not_short x (change_of_request facts.request (change c facts)).filed long e)
+unchanged_by_plan c None plan old x long e =
+    absurd (long_is_not_short x (change_by c (seen_by plan old) plan).filed long e)
 
 -- what isn't told shortly is shown
 pub unchanged_if_long : (s : Settings) (at : ℕ) (caller : List ℕ) (command : Command)

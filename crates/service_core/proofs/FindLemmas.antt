@@ -3,9 +3,8 @@
 use Rattle.std.proofs.Common.{◌≡◌, ◌≢◌, ◌∙◌, ℕ, true, List, Option, Some, None, Result, Ok, Err}
 use Rattle.std.proofs.Common.{IfErr, IfOk, ap}
 use Rattle.settings_core.specs.declared.settings.Settings.{Settings}
-use Rattle.desk_model.specs.Condition.{first_holding}
 use Rattle.desk_model.specs.Refusals.{names_its_right}
-use Rattle.desk_model.specs.Step.{call, conditions_beforehand}
+use Rattle.desk_model.specs.Step.{refusal_beforehand}
 use Rattle.desk_model.specs.declared.command.Command.{Command}
 use Rattle.desk_model.specs.declared.command.Command.TheVariants.{Overdue}
 use Rattle.desk_model.specs.declared.refusal.Refusal.{Refusal}
@@ -30,7 +29,7 @@ module _ {X : Type 0} (s : Settings) (at : ℕ) (caller : List ℕ) (answer : X)
   by_first refused = unless_refused refused answer
 
   abbrev first : Command → Option Refusal
-  first asked = first_holding (conditions_beforehand (call s at caller) asked)
+  first asked = refusal_beforehand s at caller asked
 
   pub refused_so : (refusal : Refusal) → Some refusal ≡ first command
       → Err refusal ≡ unless_refused (refusal_of s at caller) answer

@@ -16,8 +16,8 @@ use Rattle.desk_model.specs.Known.{is_known, knows_actors, knows_persons, knows_
 use Rattle.desk_model.specs.Watchers.{watcher, watchers_of}
 use Rattle.service_core.specs.Attaching.{knows_histories, knows_rows, of_queues}
 use Rattle.store_tables.specs.Contents.{actors, entries, request_rows, watchers}
-use Rattle.store_tables.specs.Dated.{Dated, dated_by, row_of}
-use Rattle.store_tables.specs.Selection.{actor_of}
+use Rattle.store_tables.specs.Contents.Entry.{actor_of}
+use Rattle.store_tables.specs.Contents.Request.{Dated, dated_by, row_of}
 use Rattle.store_core.specs.Rows.{dated_rows}
 use Rattle.store_tables.proofs.KeptLemmas.{all_alike}
 

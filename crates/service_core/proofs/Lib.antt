@@ -3,13 +3,15 @@ pub mod KnownLemmas
 pub mod Laws
 pub mod RenewedDues
 pub mod Stepping
+pub mod Safely
 pub mod StreamLemmas
 pub mod Running
 pub mod RunsAlike
 pub mod StayLemmas
 pub mod WrittenAlike
 pub mod Linked
-pub mod Told
+pub mod ToldLemmas
+pub mod Telling
 pub mod SightLemmas
 pub mod FoundAlike
 pub mod FindLemmas

@@ -11,7 +11,7 @@ use Rattle.desk_model.specs.declared.rows.LinkRow.{LinkRow}
 use Rattle.desk_model.specs.Desk.{Desk}
 use Rattle.desk_model.specs.Links.{is_kind}
 use Rattle.desk_model.specs.Readings.Show.{linked_from, linked_to, links_of}
-use Rattle.store_tables.specs.Selection.{ends_at, starts_at}
+use Rattle.store_tables.specs.Contents.Link.{ends_at, starts_at}
 use Rattle.service_core.specs.Shown.{is_shown_at, links_by, number_at, numbers_at}
 use Rattle.service_core.specs.declared.links.End.TheVariants.{Source, Target}
 

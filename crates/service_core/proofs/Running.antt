@@ -7,13 +7,12 @@ use Rattle.sqlite.specs.State.{State}
 use Rattle.settings_core.specs.declared.settings.Settings.{Settings}
 use Rattle.desk_model.specs.declared.command.Command.{Command}
 use Rattle.desk_model.specs.Desk.{Desk}
-use Rattle.desk_model.specs.IsDesk.{IsDesk}
 use Rattle.desk_model.specs.Step.{Ask, Outcome, RunsBy}
 use Rattle.store_core.proofs.FactsLemmasOfDesk.{take_all}
 use Rattle.store_tables.specs.Calls.{WasClean}
 use Rattle.desk_model.specs.Refusals.{names_its_right}
 use Rattle.desk_texts.specs.Short.{AreNamed}
-use Rattle.service_core.specs.TableSteps.{IsStep, LeadsOn, RunsOn, StepsOn, ask_by}
+use Rattle.service_core.specs.TableSteps.{IsStep, RunsOn, StepsOn, ask_by}
 use Rattle.service_core.specs.TableSteps.{ask_of, asks_of}
 
 run_more : (Does : Ask → Desk → Outcome → Desk → Type 0) (old : Desk) (asks : List Ask)
@@ -27,18 +26,13 @@ run_more Does old (a ∷ asks) (o ∷ outcomes) mid ask outcome new run does =
 run_more Does old [] (o ∷ outcomes) mid ask outcome new run does = absurd run
 run_more Does old (a ∷ asks) [] mid ask outcome new run does = absurd run
 
--- a run on tables, and that the desk which it leaves is well formed
-abbrev pub RunsSoFar : Settings → List Ask → List Outcome → State → State → Type 0
-RunsSoFar settings asks outcomes =
-    LeadsOn settings (λ desk after. RunsBy (IsStep settings) desk asks outcomes after × IsDesk after)
-
-pub run_begins : (s : Settings) (tables : State) → RunsSoFar s [] [] tables tables
+pub run_begins : (s : Settings) (tables : State) → RunsOn s [] [] tables tables
 run_begins s tables desk is stand clean = (desk, (refl, is), stand)
 
 pub run_goes_on : (s : Settings) (asks : List Ask) (outcomes : List Outcome) (ask : Ask)
     (outcome : Outcome) (old mid new : State)
-    → RunsSoFar s asks outcomes old mid → WasClean mid new → StepsOn s ask outcome mid new
-    → RunsSoFar s (asks ++ ask ∷ []) (outcomes ++ outcome ∷ []) old new
+    → RunsOn s asks outcomes old mid → WasClean mid new → StepsOn s ask outcome mid new
+    → RunsOn s (asks ++ ask ∷ []) (outcomes ++ outcome ∷ []) old new
 run_goes_on s asks outcomes ask outcome old mid new run honest step desk is stand clean =
     let so_far = run desk is stand (honest clean) in
     let then = step so_far.0 so_far.1.1 so_far.2 clean in (
@@ -49,11 +43,6 @@ run_goes_on s asks outcomes ask outcome old mid new run honest step desk is stan
       ),
       then.2,
     )
-
-pub run_ends : (s : Settings) (asks : List Ask) (outcomes : List Outcome) (old new : State)
-    → RunsSoFar s asks outcomes old new → RunsOn s asks outcomes old new
-run_ends s asks outcomes old new run desk is stand clean =
-    let so_far = run desk is stand clean in (so_far.0, so_far.1.0, so_far.2)
 
 map_more : {X Y : Type 0} (f : X → Y) (xs : List X) (i : ℕ) (d : X) → i < length xs
     → map f (take (i + 1) xs) ≡ map f (take i xs) ++ f (get_or xs i d) ∷ []
@@ -66,9 +55,9 @@ pub run_on : {A : Type 0} (s t : Settings) (asked : List (ℕ × String A × Com
     (outcome : Outcome) (old mid new : State)
     → i < length asked → more ≡ outcomes ++ outcome ∷ [] → t ≡ s
     → item ≡ get_or asked i item → caller ≡ string_bytes item.1
-    → RunsSoFar s (map ask_of (take i asked)) outcomes old mid → WasClean mid new
+    → RunsOn s (map ask_of (take i asked)) outcomes old mid → WasClean mid new
     → StepsOn t (ask_by item.0 caller item.2) outcome mid new
-    → RunsSoFar s (map ask_of (take (i + 1) asked)) more old new
+    → RunsOn s (map ask_of (take (i + 1) asked)) more old new
 run_on s t asked i item caller outcomes more o old mid new low longer same is named run honest
     step =
     let asks = map ask_of (take i asked) in
@@ -78,18 +67,17 @@ run_on s t asked i item caller outcomes more o old mid new low longer same is na
     subst (λ (x : Settings). StepsOn x (ask_of item) o mid new) same by_name in
     let goes = run_goes_on s asks outcomes (ask_of item) o old mid new run honest by_settings in
     let grown = map_more ask_of asked i item low ∙ ap (λ x. asks ++ ask_of x ∷ []) (sym is) in
-    subst (λ (xs : List Ask). RunsSoFar s xs more old new) (sym grown)
-    (subst (λ (os : List Outcome). RunsSoFar s (asks ++ ask_of item ∷ []) os old new) (sym longer)
+    subst (λ (xs : List Ask). RunsOn s xs more old new) (sym grown)
+    (subst (λ (os : List Outcome). RunsOn s (asks ++ ask_of item ∷ []) os old new) (sym longer)
     goes)
 
 pub all_asked : {A : Type 0} (s : Settings) (asked : List (ℕ × String A × Command)) (i : ℕ)
     (outcomes : List Outcome) (old new : State) → length asked ≤ i
-    → RunsSoFar s (map ask_of (take i asked)) outcomes old new
+    → RunsOn s (map ask_of (take i asked)) outcomes old new
     → RunsOn s (asks_of asked) outcomes old new
 all_asked s asked i outcomes old new all run =
-    run_ends s (asks_of asked) outcomes old new
-    (subst (λ (xs : List (ℕ × String _ × Command)). RunsSoFar s (map ask_of xs) outcomes old new)
-    (take_all i asked all) run)
+    subst (λ (xs : List (ℕ × String _ × Command)). RunsOn s (map ask_of xs) outcomes old new)
+    (take_all i asked all) run
 
 -- one outcome more
 pub named_more : (outcomes : List Outcome) (outcome : Outcome) → AreNamed outcomes

@@ -70,4 +70,4 @@ answers_alike g h s caller asks one other old new old_other new_other outcomes o
     runs_alike s caller asks outcomes others one other run.0 run_other.0 same
     (recursion_from_All (Reads caller) asks reads)
     (recursion_from_All (λ o. o ≢ Err Unavailable) outcomes told)
-    (recursion_from_All (λ o. o ≢ Err Unavailable) others told_other) run.1 run_other.1
+    (recursion_from_All (λ o. o ≢ Err Unavailable) others told_other) run.1.0 run_other.1.0

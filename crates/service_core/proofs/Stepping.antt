@@ -1,6 +1,6 @@
 -- What is read or written of a command makes a step.
 use Rattle.std.proofs.Common.{◌≡◌, ◌≢◌, ◌⊎◌, ◌∙◌, ℕ, false, List, Option, Some, None, Result}
-use Rattle.std.proofs.Common.{Ok, Err, IfErr, IfOk, OnErr, OnOk, inl, inr, refl, ap, subst, sym}
+use Rattle.std.proofs.Common.{Ok, Err, IfErr, IfOk, OnErr, inl, inr, refl, ap, subst, sym}
 use Rattle.sqlite.specs.State.{State}
 use Rattle.settings_core.specs.declared.settings.Settings.{Settings}
 use Rattle.desk_model.specs.declared.answer.Answer.{Answer}
@@ -200,11 +200,10 @@ asked_as facts s at caller command asked outcome old new same told =
 
 pub written_where : (facts : Facts) (change : Change) (s : Settings) (ask : Ask) (outcome : Outcome)
     (old new : State) → is_reading (plan_of ask.command) ≡ false
-    → IfOk outcome (λ answer. answer ≡ told_of change)
-    → OnOk outcome (Writes change old new)
+    → IfOk outcome (λ answer. (answer ≡ told_of change) × Writes change old new)
     → IfErr outcome (λ refusal. refusal ≡ Unavailable) → OnErr outcome (Spares old new)
     → CarriesOut facts change s ask outcome old new
-written_where facts change s ask (Ok answer) old new so told writes fault kept desk is holds stand
+written_where facts change s ask (Ok answer) old new so done_so fault kept desk is holds stand
     clean =
     let decided = parts facts change s ask desk holds in
     let after = effect s ask.at ask.caller ask.command desk in
@@ -213,17 +212,17 @@ written_where facts change s ask (Ok answer) old new so told writes fault kept d
     (change_writable s ask.at ask.caller ask.command desk is decided.1) in
     let step =
     done s ask desk answer decided.1
-    (told ∙ answered_so s ask desk change so decided.2) in (
+    (done_so.0 ∙ answered_so s ask desk change so decided.2) in (
       after,
       lawful s ask desk (Ok answer) after is step,
       subst (λ (c : Contents). Stand c new)
           (renewed s ask.at ask.caller ask.command desk is decided.1)
           (subst (λ (c : Change). Stand (contents_of (dues_after c (due_of_row s desk))
           (applied c desk)) new) decided.2
-          (writes desk is fits (due_of_row s desk) stand)),
+          (done_so.1 desk is fits (due_of_row s desk) stand)),
     )
-written_where facts change s ask (Err refusal) old new so told writes fault kept desk is holds
-    stand clean = (
+written_where facts change s ask (Err refusal) old new so done_so fault kept desk is holds stand
+    clean = (
       desk,
       lawful s ask desk (Err refusal) desk is (inl (ap Err fault, refl)),
       stands kept (contents_of (due_of_row s desk) desk) stand,

@@ -1,9 +1,11 @@
 pub mod Alike
+pub mod Asked
 pub mod Attaching
 pub mod Decided
 pub mod Dossiers
 pub mod Fault
 pub mod Finding
+pub mod Leaves
 pub mod Loading
 pub mod Renewing
 pub mod Seen
@@ -11,3 +13,4 @@ pub mod Shown
 pub mod Sight
 pub mod Streaming
 pub mod TableSteps
+pub mod Telling

@@ -1,21 +1,22 @@
 -- Which due moments of tables are written when settings are attached: those that differ.
 use Rattle.std.specs.Prelude.{◌==◌, ◌≡◌, ℕ, Bool, true, false, not, List, Option, Some, None}
 use Rattle.std.specs.Prelude.{filter, map, option_and_then}
+use Rattle.std.specs.List.{AllByRecursion}
 use Rattle.std.specs.List.Sorted.{IsNonDecreasingBy}
 use Rattle.sqlite.specs.State.{State}
 use Rattle.hours_core.specs.declared.stay.Stay.{Stay}
 use Rattle.settings_core.specs.declared.settings.Settings.{Settings}
 use Rattle.desk_model.specs.Desk.{Desk}
-use Rattle.desk_model.specs.Due.{due_of}
+use Rattle.desk_model.specs.Due.{due_of, due_on}
 use Rattle.desk_model.specs.IsDesk.{IsDesk}
 use Rattle.desk_model.specs.declared.rows.QueueRow.{QueueRow}
 use Rattle.desk_model.specs.declared.rows.RequestRow.{RequestRow}
 use Rattle.desk_reports.specs.Rows.{queue_among}
 use Rattle.store_tables.specs.Contents.{contents_of}
-use Rattle.store_tables.specs.Dated.{Dated}
+use Rattle.store_tables.specs.Contents.Request.{Dated}
+use Rattle.store_tables.specs.Contents.Stay.{request_stay, stays}
 use Rattle.store_tables.specs.Stands.{Stand, StandsFor}
-use Rattle.store_tables.specs.Stays.{request_stay, stays}
-use Rattle.store_core.specs.Due.{StandsDue}
+use Rattle.store_core.specs.Due.{StandsDue, due_of_row}
 use Rattle.store_core.specs.Rows.{dated_rows}
 
 abbrev pub is_same_moment : Option ℕ → Option ℕ → Bool
@@ -62,6 +63,12 @@ renewals settings queues stays dated =
 abbrev pub AreRenewed : Settings → State → State → Type 0
 AreRenewed settings old new =
     (desk : Desk) → IsDesk desk → StandsFor desk old → StandsDue settings desk new
+
+-- the moment that the tables keep for each request is the one at which it is due on the desk
+abbrev pub KeepDues : Settings → Desk → Type 0
+KeepDues settings desk =
+    AllByRecursion (λ request. due_of_row settings desk request.row ≡ due_on settings desk request)
+    desk.requests
 
 -- the stays of all requests of a desk, each with the number of its request
 abbrev pub all_stays : Desk → List (ℕ × Stay)

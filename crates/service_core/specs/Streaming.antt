@@ -1,6 +1,6 @@
 -- A list that is written row by row: what of its text was written.
 use Rattle.std.specs.Prelude.{◌≡◌, ◌≢◌, ◌⊎◌, ◌++◌, ℕ, ⊤, [], Bool, true, false, List, None, Some}
-use Rattle.std.specs.Prelude.{Err, Ok, Result}
+use Rattle.std.specs.Prelude.{Err, Ok, Option, Result}
 use Rattle.sqlite.specs.State.{State, HasCleanDisk}
 use Rattle.settings_core.specs.declared.settings.Settings.{Settings}
 use Rattle.desk_model.specs.Desk.{Desk}
@@ -13,6 +13,10 @@ use Rattle.desk_lists.specs.declared.fault.StreamFault.{StreamFault}
 use Rattle.desk_lists.specs.declared.fault.StreamFault.TheVariants.{Refused, Write}
 use Rattle.desk_texts.specs.Texts.{answer_text}
 use Rattle.store_core.specs.Due.{StandsDue}
+use Rattle.store_tables.specs.Calls.{Spares}
+use Rattle.stream_core.specs.Seen.{has_write_failed}
+use Rattle.stream_core.specs.Written.{Prints}
+use Rattle.stream_core.specs.declared.writer.CountedWriter.{CountedWriter}
 use Rattle.service_core.specs.TableSteps.{IsStep}
 
 -- the command was answered, the desk stays, and the text of the answer is so
@@ -48,6 +52,16 @@ abbrev pub is_write : Result ⊤ StreamFault → Bool
 is_write (Ok done) = false
 is_write (Err Write) = true
 is_write (Err (Refused refusal)) = false
+
+-- What a stream leaves: what was written is so of the tables, which stay as they were, and the
+-- fault tells whether a write failed.
+pub record StreamsSafely {W : Type 0}
+    (Streams : State → State → Result ⊤ StreamFault → (List ℕ → Type 0) → Type 0)
+    (contents : W → Option (List ℕ)) (old new : State) (before after : CountedWriter W)
+    (result : Result ⊤ StreamFault) : Type 0 where
+  pub streamed : Streams old new result (Prints contents before after)
+  pub failed : has_write_failed after ≡ is_write result
+  pub kept : Spares old new
 
 -- ---- once it is decided
 

@@ -52,10 +52,17 @@ abbrev pub StepsOn : Settings → Ask → Outcome → State → State → Type 0
 StepsOn settings ask outcome =
     LeadsOn settings (λ desk after. IsStep settings ask desk outcome after)
 
--- a run of steps, each from the desk that the one before left
+-- a run of steps, each from the desk that the one before left; the last is well formed, as the
+-- first is
 abbrev pub RunsOn : Settings → List Ask → List Outcome → State → State → Type 0
 RunsOn settings asks outcomes =
-    LeadsOn settings (λ desk after. RunsBy (IsStep settings) desk asks outcomes after)
+    LeadsOn settings
+    (λ desk after. RunsBy (IsStep settings) desk asks outcomes after × IsDesk after)
+
+-- the tables stand for whatever desk they stood for, with its due moments
+abbrev pub StandsOn : Settings → State → State → Type 0
+StandsOn settings old new =
+    (desk : Desk) → StandsDue settings desk old → StandsDue settings desk new
 
 abbrev pub ask_by : ℕ → List ℕ → Command → Ask
 ask_by at caller command = record { at = at; caller = caller; command = command }

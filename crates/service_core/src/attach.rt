@@ -3,11 +3,13 @@
 //! What owns much is given back by `drop`, whose proof stands once; at the end of its scope it
 //! would be taken apart for each function's own proof.
 ghost use Rattle.std.specs.Prelude.{◌≡◌, ◌&&◌, ◌≢◌, false, map, true, IfErr, IfOk, Ok, OnOk, OnErr};
+ghost use Rattle.desk_model.specs.Desk as desks;
 ghost use Rattle.desk_model.specs.Known as known;
 ghost use Rattle.store_tables.specs.Calls.{Lasts, Spares, Tells, WasClean};
 ghost use Rattle.store_tables.specs.Contents.{watchers};
-ghost use Rattle.store_tables.specs.Dated.{row_of};
+ghost use Rattle.store_tables.specs.Contents.Request.{row_of};
 ghost use Rattle.store_tables.specs.Readings.{Blames};
+ghost use Rattle.store_tables.specs.Stands.{StandsFor};
 ghost use Rattle.store_core.specs.Seen.{state_of};
 ghost use Rattle.desk_reports.specs.Rows.{QueuesRise};
 ghost use Rattle.service_core.specs.Attaching as attaching;
@@ -35,7 +37,7 @@ impl<S: Backend> Desk<S> {
     /// the one who made it is looked at, and of a stay all but its number.
     pub fn attach(
         alloc: Global,
-        store: Store<S>,
+        mut store: Store<S>,
         settings: Settings,
     ) -> Result<Desk<S>, (AttachFault, Store<S>)>
         ensures settings { IfOk result (λ desk. settings_of S.Store desk ≡ settings) }
@@ -51,6 +53,8 @@ impl<S: Backend> Desk<S> {
             Lasts (state_of S.Store store) (tables_of S.Store desk)) }
         ensures given_back { IfErr result (λ back.
             Spares (state_of S.Store store) (state_of S.Store back.1)) }
+        ensures stands { IfErr result (λ back. (desk : desks.Desk)
+            → StandsFor desk (state_of S.Store store) → StandsFor desk (state_of S.Store back.1)) }
         ensures fault { IfErr result (λ back.
             FailsOver (state_of S.Store store) (state_of S.Store back.1) back.0) }
         ensures blames { IfErr result (λ back.
@@ -58,7 +62,6 @@ impl<S: Backend> Desk<S> {
         ensures honest_fault { IfErr result (λ back.
             WasClean (state_of S.Store store) (state_of S.Store back.1)) }
     {
-        let mut store = store;
         match renew_known(alloc, &mut store, &settings) {
             Ok(true) => Ok(Desk { store, settings }),
             Ok(false) => {

@@ -2,7 +2,7 @@
 ghost use Rattle.std.specs.Prelude.{◌≡◌, IfErr, IfOk};
 ghost use Rattle.sqlite.specs.State.{HasCleanDisk};
 ghost use Rattle.store_tables.specs.Calls.{Spares};
-ghost use Rattle.store_core.specs.Limits.{limited};
+ghost use Rattle.store_core.specs.Limits.{OnlyLimits, limited};
 ghost use Rattle.store_core.specs.Seen.{connection_of};
 ghost use Rattle.service_core.specs.Seen.{settings_of, tables_of};
 
@@ -41,7 +41,7 @@ impl<S: Backend> Desk<S> {
     pub fn set_step_limit(&mut self, limit: Option<u32>)
         ensures limited { connection_of S.Store self.new.store
             ≡ limited limit (connection_of S.Store self.old.store) }
-        ensures kept { Spares (tables_of S.Store self.old) (tables_of S.Store self.new) }
+        ensures kept { OnlyLimits (tables_of S.Store self.old) (tables_of S.Store self.new) }
         ensures same { settings_of S.Store self.new ≡ settings_of S.Store self.old }
     {
         self.store.set_step_limit(limit);

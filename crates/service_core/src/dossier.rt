@@ -1,7 +1,7 @@
 //! All that is told of a request, by one look at it.
-ghost use Rattle.std.specs.Prelude.{◌≡◌, ℕ, true, IfErr, IfOk, Some};
+ghost use Rattle.std.specs.Prelude.{◌≡◌, ℕ, true, IfErr, IfOk, Some, None};
 ghost use Rattle.desk_model.specs.Facts.{facts_on_request};
-ghost use Rattle.desk_model.specs.Step.{answer_of};
+ghost use Rattle.desk_model.specs.Step.{answer_of, refusal_beforehand};
 ghost use Rattle.desk_model.specs.Refusals.{names_its_right};
 ghost use Rattle.store_tables.specs.Calls.{Spares, Tells};
 ghost use Rattle.store_core.specs.Due.{TellsDue};
@@ -9,13 +9,14 @@ ghost use Rattle.store_core.specs.Seen.{state_of};
 ghost use Rattle.service_core.specs.Dossiers.{DossierOn, DossierWhere, IsTold};
 ghost use Rattle.service_core.specs.Seen.{settings_of, tables_of};
 
+use crate::call::Call;
 use crate::desk::Desk;
 use crate::reading::{history, show};
 use desk_core::{
-    Answer, Command, Dossier, Entry, Facts, QueueRow, Refusal, Shown, decide, refused_beforehand,
+    Answer, Command, Dossier, Entry, Facts, QueueRow, Refusal, Shown, decide_on_facts,
+    refused_beforehand,
 };
 use desk_lists::unavailable;
-use settings_core::Settings;
 use std::alloc::{AllocError, Global};
 use store_core::{Backend, Store};
 use text_core::Sequence;
@@ -41,15 +42,12 @@ impl<S: Backend> Desk<S> {
         ensures same { settings_of S.Store self.new ≡ settings_of S.Store self.old }
     {
         let show = Command::Show { id };
-        ask(
-            alloc,
-            &mut self.store,
-            &self.settings,
+        let call = Call {
+            settings: &self.settings,
             at,
             caller,
-            id,
-            &show,
-        )
+        };
+        ask(alloc, &mut self.store, call, id, &show)
     }
 }
 
@@ -58,21 +56,19 @@ impl<S: Backend> Desk<S> {
 fn ask<S: Backend>(
     alloc: Global,
     store: &mut Store<S>,
-    settings: &Settings,
-    at: u32,
-    caller: &str,
+    call: Call<'_>,
     id: u32,
     show: &Command,
 ) -> Result<Dossier, Refusal>
     requires { show.now ≡ Command.Show id }
-    ensures told { DossierOn settings.now at caller.now id result
+    ensures told { DossierOn call.entry.settings.now call.entry.at call.entry.caller.now id result
         (state_of S.Store store.old) (state_of S.Store store.new) }
     ensures kept { Spares (state_of S.Store store.old) (state_of S.Store store.new) }
     ensures named { IfErr result (λ refusal. names_its_right refusal ≡ true) }
 {
-    match refused_beforehand(settings, at, caller, show) {
+    match refused_beforehand(call.settings, call.at, call.caller, show) {
         Some(refusal) => Err(refusal),
-        None => look(alloc, store, settings, at, caller, id, show),
+        None => look(alloc, store, call, id, show),
     }
 }
 
@@ -80,21 +76,21 @@ fn ask<S: Backend>(
 fn look<S: Backend>(
     alloc: Global,
     store: &mut Store<S>,
-    settings: &Settings,
-    at: u32,
-    caller: &str,
+    call: Call<'_>,
     id: u32,
     show: &Command,
 ) -> Result<Dossier, Refusal>
-    requires { show.now ≡ Command.Show id }
-    ensures told { DossierOn settings.now at caller.now id result
+    requires shows { show.now ≡ Command.Show id }
+    requires free { refusal_beforehand call.entry.settings.now call.entry.at call.entry.caller.now
+        show.now ≡ None }
+    ensures told { DossierOn call.entry.settings.now call.entry.at call.entry.caller.now id result
         (state_of S.Store store.old) (state_of S.Store store.new) }
     ensures kept { Spares (state_of S.Store store.old) (state_of S.Store store.new) }
     ensures named { IfErr result (λ refusal. names_its_right refusal ≡ true) }
 {
     match store.facts_for(alloc, show) {
         Ok(facts) => {
-            let dossier = judged(alloc, store, settings, at, caller, id, show, &facts);
+            let dossier = judged(alloc, store, call, id, show, &facts);
             drop(facts);
             dossier
         }
@@ -106,24 +102,24 @@ fn look<S: Backend>(
 fn judged<S: Backend>(
     alloc: Global,
     store: &mut Store<S>,
-    settings: &Settings,
-    at: u32,
-    caller: &str,
+    call: Call<'_>,
     id: u32,
     show: &Command,
     facts: &Facts,
 ) -> Result<Dossier, Refusal>
-    requires { show.now ≡ Command.Show id }
+    requires shows { show.now ≡ Command.Show id }
+    requires free { refusal_beforehand call.entry.settings.now call.entry.at call.entry.caller.now
+        show.now ≡ None }
     ensures told { DossierWhere (λ desk. facts.now ≡ facts_on_request desk id)
-        settings.now at caller.now id result
+        call.entry.settings.now call.entry.at call.entry.caller.now id result
         (state_of S.Store store.old) (state_of S.Store store.new) }
     ensures kept { Spares (state_of S.Store store.old) (state_of S.Store store.new) }
     ensures named { IfErr result (λ refusal. names_its_right refusal ≡ true) }
 {
-    match decide(alloc, settings, at, caller, facts, show) {
+    match decide_on_facts(alloc, call.settings, call.at, call.caller, facts, show) {
         Ok(change) => {
             drop(change);
-            put_together(alloc, store, settings, caller, facts)
+            put_together(alloc, store, call, facts)
         }
         Err(refusal) => Err(refusal),
     }
@@ -133,19 +129,18 @@ fn judged<S: Backend>(
 fn put_together<S: Backend>(
     alloc: Global,
     store: &mut Store<S>,
-    settings: &Settings,
-    caller: &str,
+    call: Call<'_>,
     facts: &Facts,
 ) -> Result<Dossier, Refusal>
-    ensures told { (at id : ℕ) → TellsDue settings.now
+    ensures told { (id : ℕ) → TellsDue call.entry.settings.now
         (λ desk dossier. facts.now ≡ facts_on_request desk id
-        → IsTold settings.now at caller.now id desk dossier)
+        → IsTold call.entry.settings.now call.entry.at call.entry.caller.now id desk dossier)
         (state_of S.Store store.old) (state_of S.Store store.new) result }
     ensures kept { Spares (state_of S.Store store.old) (state_of S.Store store.new) }
     ensures fault { IfErr result (λ refusal. refusal ≡ Refusal.Unavailable) }
 {
-    match shown(alloc, store, settings, caller, facts) {
-        Ok(shown) => with_history(alloc, store, settings, caller, facts, shown),
+    match shown(alloc, store, call, facts) {
+        Ok(shown) => with_history(alloc, store, call, facts, shown),
         Err(refusal) => Err(refusal),
     }
 }
@@ -154,19 +149,19 @@ fn put_together<S: Backend>(
 fn with_history<S: Backend>(
     alloc: Global,
     store: &mut Store<S>,
-    settings: &Settings,
-    caller: &str,
+    call: Call<'_>,
     facts: &Facts,
     shown: Shown,
 ) -> Result<Dossier, Refusal>
-    ensures told { (at id : ℕ) → Tells (λ desk dossier. facts.now ≡ facts_on_request desk id
-        → Answer.Shown shown ≡ answer_of settings.now at caller.now (Command.Show id) desk
-        → IsTold settings.now at caller.now id desk dossier)
+    ensures told { (id : ℕ) → Tells (λ desk dossier. facts.now ≡ facts_on_request desk id
+        → Answer.Shown shown ≡ answer_of call.entry.settings.now call.entry.at call.entry.caller.now
+        (Command.Show id) desk
+        → IsTold call.entry.settings.now call.entry.at call.entry.caller.now id desk dossier)
         (state_of S.Store store.old) (state_of S.Store store.new) result }
     ensures kept { Spares (state_of S.Store store.old) (state_of S.Store store.new) }
     ensures fault { IfErr result (λ refusal. refusal ≡ Refusal.Unavailable) }
 {
-    match told(alloc, store, settings, caller, facts) {
+    match told(alloc, store, call, facts) {
         Ok(entries) => with_queue(shown, entries, &facts.queue),
         Err(refusal) => {
             drop(shown);
@@ -179,17 +174,17 @@ fn with_history<S: Backend>(
 fn shown<S: Backend>(
     alloc: Global,
     store: &mut Store<S>,
-    settings: &Settings,
-    caller: &str,
+    call: Call<'_>,
     facts: &Facts,
 ) -> Result<Shown, Refusal>
-    ensures told { (at id : ℕ) → Tells (λ desk shown. facts.now ≡ facts_on_request desk id
-        → Answer.Shown shown ≡ answer_of settings.now at caller.now (Command.Show id) desk)
+    ensures told { (id : ℕ) → Tells (λ desk shown. facts.now ≡ facts_on_request desk id
+        → Answer.Shown shown ≡ answer_of call.entry.settings.now call.entry.at call.entry.caller.now
+        (Command.Show id) desk)
         (state_of S.Store store.old) (state_of S.Store store.new) result }
     ensures kept { Spares (state_of S.Store store.old) (state_of S.Store store.new) }
     ensures fault { IfErr result (λ refusal. refusal ≡ Refusal.Unavailable) }
 {
-    match show(alloc, store, settings, caller, facts) {
+    match show(alloc, store, call, facts) {
         Ok(answer) => shown_in(answer),
         Err(refusal) => Err(refusal),
     }
@@ -199,17 +194,17 @@ fn shown<S: Backend>(
 fn told<S: Backend>(
     alloc: Global,
     store: &mut Store<S>,
-    settings: &Settings,
-    caller: &str,
+    call: Call<'_>,
     facts: &Facts,
 ) -> Result<Sequence<Entry>, Refusal>
-    ensures told { (at id : ℕ) → Tells (λ desk entries. facts.now ≡ facts_on_request desk id
-        → Answer.History entries ≡ answer_of settings.now at caller.now (Command.History id) desk)
+    ensures told { (id : ℕ) → Tells (λ desk entries. facts.now ≡ facts_on_request desk id
+        → Answer.History entries ≡ answer_of call.entry.settings.now call.entry.at call.entry.caller.now
+        (Command.History id) desk)
         (state_of S.Store store.old) (state_of S.Store store.new) result }
     ensures kept { Spares (state_of S.Store store.old) (state_of S.Store store.new) }
     ensures fault { IfErr result (λ refusal. refusal ≡ Refusal.Unavailable) }
 {
-    match history(alloc, store, settings, caller, facts) {
+    match history(alloc, store, call, facts) {
         Ok(answer) => entries_in(answer),
         Err(refusal) => Err(refusal),
     }

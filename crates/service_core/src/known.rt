@@ -4,7 +4,7 @@ ghost use Rattle.std.specs.List.{list_all};
 ghost use Rattle.settings_core.specs.Settings.{knows, lifecycle_named};
 ghost use Rattle.desk_model.specs.Known as known;
 ghost use Rattle.desk_model.specs.Lifecycles as lifecycles;
-ghost use Rattle.store_tables.specs.Dated.{row_of};
+ghost use Rattle.store_tables.specs.Contents.Request.{row_of};
 ghost use Rattle.desk_reports.specs.Rows.{QueuesRise};
 ghost use Rattle.service_core.specs.Attaching as attaching;
 

@@ -4,8 +4,10 @@
 
 pub mod alike;
 mod attach;
+mod call;
 pub mod desk;
 mod dossier;
+pub mod dues;
 mod execute;
 pub mod fault;
 mod find;
@@ -19,6 +21,7 @@ mod run;
 mod sight;
 mod stays;
 mod stream;
+mod told;
 
 pub use desk::Desk;
 pub use desk_lists::StreamFault;
@@ -27,3 +30,4 @@ pub use desk_texts::{
     put_short, queues_text, refusal_text, show_text, text_in_room, workload_text,
 };
 pub use fault::AttachFault;
+pub use told::Told;

@@ -1,11 +1,12 @@
 //! The links of a request, as far as the caller may show what is at their other ends.
 ghost use Rattle.std.specs.Prelude.{◌≡◌, IfErr, IfOk, filter};
+ghost use Rattle.desk_model.specs.Links.{is_kind};
 ghost use Rattle.desk_model.specs.Readings.Show as showing;
 ghost use Rattle.store_tables.specs.Calls.{Spares, Tells};
 ghost use Rattle.store_core.specs.Seen.{state_of};
 ghost use Rattle.service_core.specs.Shown as shown;
 
-use desk_core::{LinkKind, LinkRow, Links, Refusal, is_kind};
+use desk_core::{LinkKind, LinkRow, Links, Refusal};
 use desk_lists::or_unavailable;
 use settings_core::Settings;
 use std::alloc::{AllocError, Global};
@@ -104,9 +105,16 @@ fn numbers_at(
 {
     let mut numbers = Vec::new(alloc);
     for link in links {
-        if is_kind(kind, link.kind) {
+        if is_of(link, kind) {
             numbers.push(end.number(link))?;
         }
     }
     Ok(Sequence::from(numbers))
+}
+
+/// Whether the link is of this kind.
+fn is_of(link: &LinkRow, kind: LinkKind) -> bool
+    ensures { result ≡ is_kind kind link.now.kind }
+{
+    kind == link.kind
 }

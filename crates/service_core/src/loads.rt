@@ -6,10 +6,10 @@ ghost use Rattle.store_core.specs.Seen.{state_of};
 ghost use Rattle.service_core.specs.Loading.{LoadsOn};
 ghost use Rattle.service_core.specs.Seen.{settings_of, tables_of};
 
+use crate::call::Call;
 use crate::desk::Desk;
 use desk_core::{Command, Refusal, refused_beforehand};
 use find_core::QueueLoad;
-use settings_core::Settings;
 use std::alloc::Global;
 use store_core::{Backend, Store};
 use text_core::Sequence;
@@ -36,7 +36,12 @@ impl<S: Backend> Desk<S> {
         ensures same { settings_of S.Store self.new ≡ settings_of S.Store self.old }
     {
         let overdue = Command::Overdue;
-        look(alloc, &mut self.store, &self.settings, at, caller, &overdue)
+        let call = Call {
+            settings: &self.settings,
+            at,
+            caller,
+        };
+        look(alloc, &mut self.store, call, &overdue)
     }
 }
 
@@ -45,17 +50,16 @@ impl<S: Backend> Desk<S> {
 fn look<S: Backend>(
     alloc: Global,
     store: &mut Store<S>,
-    settings: &Settings,
-    at: u32,
-    caller: &str,
+    call: Call<'_>,
     overdue: &Command,
 ) -> Result<Sequence<QueueLoad>, Refusal>
     requires { overdue.now ≡ Command.Overdue }
-    ensures told { LoadsOn settings.now at caller.now result
+    ensures told { LoadsOn call.entry.settings.now call.entry.at call.entry.caller.now result
         (state_of S.Store store.old) (state_of S.Store store.new) }
     ensures kept { Spares (state_of S.Store store.old) (state_of S.Store store.new) }
     ensures named { IfErr result (λ refusal. names_its_right refusal ≡ true) }
 {
+    let (settings, at, caller) = (call.settings, call.at, call.caller);
     match refused_beforehand(settings, at, caller, overdue) {
         Some(refusal) => Err(refusal),
         None => desk_finds::queue_loads(alloc, store, settings, at, caller),

@@ -4,10 +4,11 @@ ghost use Rattle.desk_model.specs.Commands.{IsReading};
 ghost use Rattle.desk_model.specs.declared.facts.Facts.{Facts};
 ghost use Rattle.store_tables.specs.Calls.{Spares, Tells};
 ghost use Rattle.store_core.specs.Seen.{state_of};
+ghost use Rattle.service_core.specs.Asked.{asked};
 ghost use Rattle.service_core.specs.Decided.{Answers, AnswersDue};
 ghost use Rattle.service_core.specs.Shown as shown;
-ghost use Rattle.service_core.specs.TableSteps.{ask_by};
 
+use crate::call::Call;
 use crate::links::links_of;
 use crate::queues::queues;
 use desk_core::{Answer, Command, Entry, Facts, Links, Refusal, SeenRequest, Shown, due_of};
@@ -24,25 +25,23 @@ use text_core::{Sequence, Text};
 pub(crate) fn read<S: Backend>(
     alloc: Global,
     store: &mut Store<S>,
-    settings: &Settings,
-    at: u32,
-    caller: &str,
+    call: Call<'_>,
     command: &Command,
     facts: &Facts,
 ) -> Result<Answer, Refusal>
     requires { IsReading command.now }
-    ensures told { AnswersDue settings.now (ask_by at caller.now command.now) facts.now
+    ensures told { AnswersDue call.entry.settings.now (asked call.entry command.now) facts.now
         (state_of S.Store store.old) (state_of S.Store store.new) result }
     ensures kept { Spares (state_of S.Store store.old) (state_of S.Store store.new) }
     ensures fault { IfErr result (λ refusal. refusal ≡ Refusal.Unavailable) }
 {
     match command {
-        Command::Queues => queues(alloc, store, settings, caller),
-        Command::Show { .. } => show(alloc, store, settings, caller, facts),
-        Command::List { queue } => list(alloc, store, settings, caller, queue),
-        Command::History { .. } => history(alloc, store, settings, caller, facts),
-        Command::Overdue => overdue(alloc, store, settings, at, caller),
-        Command::Workload => workload(alloc, store, settings, at, caller),
+        Command::Queues => queues(alloc, store, call.settings, call.caller),
+        Command::Show { .. } => show(alloc, store, call, facts),
+        Command::List { queue } => list(alloc, store, call, queue),
+        Command::History { .. } => history(alloc, store, call, facts),
+        Command::Overdue => overdue(alloc, store, call),
+        Command::Workload => workload(alloc, store, call),
         _ => unreachable!(),
     }
 }
@@ -52,25 +51,17 @@ pub(crate) fn read<S: Backend>(
 pub(crate) fn show<S: Backend>(
     alloc: Global,
     store: &mut Store<S>,
-    settings: &Settings,
-    caller: &str,
+    call: Call<'_>,
     facts: &Facts,
 ) -> Result<Answer, Refusal>
-    ensures told { (at id : ℕ)
-        → Answers settings.now (ask_by at caller.now (Command.Show id)) facts.now
+    ensures told { (id : ℕ)
+        → Answers call.entry.settings.now (asked call.entry (Command.Show id)) facts.now
         (state_of S.Store store.old) (state_of S.Store store.new) result }
     ensures kept { Spares (state_of S.Store store.old) (state_of S.Store store.new) }
     ensures fault { IfErr result (λ refusal. refusal ≡ Refusal.Unavailable) }
 {
     match &facts.request {
-        Some(request) => shown_to(
-            alloc,
-            store,
-            settings,
-            caller,
-            due_in(settings, facts),
-            request,
-        ),
+        Some(request) => shown_to(alloc, store, call, due_in(call.settings, facts), request),
         None => Ok(Answer::Done),
     }
 }
@@ -91,18 +82,18 @@ fn due_in(settings: &Settings, facts: &Facts) -> Option<Minute>
 fn shown_to<S: Backend>(
     alloc: Global,
     store: &mut Store<S>,
-    settings: &Settings,
-    caller: &str,
+    call: Call<'_>,
     due: Option<Minute>,
     request: &SeenRequest,
 ) -> Result<Answer, Refusal>
     ensures told { Tells (λ desk answer. answer
-        ≡ Answer.Shown (shown.shown_to settings.now caller.now due request.now desk))
+        ≡ Answer.Shown (shown.shown_to call.entry.settings.now call.entry.caller.now due
+        request.now desk))
         (state_of S.Store store.old) (state_of S.Store store.new) result }
     ensures kept { Spares (state_of S.Store store.old) (state_of S.Store store.new) }
     ensures fault { IfErr result (λ refusal. refusal ≡ Refusal.Unavailable) }
 {
-    let links = links_of(alloc, store, settings, caller, request.row.id)?;
+    let links = links_of(alloc, store, call.settings, call.caller, request.row.id)?;
     let copy = request.clone()?;
     Ok(Answer::Shown(shown_with(copy, due, links)))
 }
@@ -126,17 +117,16 @@ fn shown_with(request: SeenRequest, due: Option<Minute>, links: Links) -> Shown
 fn list<S: Backend>(
     alloc: Global,
     store: &mut Store<S>,
-    settings: &Settings,
-    caller: &str,
+    call: Call<'_>,
     queue: &Text,
 ) -> Result<Answer, Refusal>
-    ensures told { (at : ℕ) (facts : Facts)
-        → AnswersDue settings.now (ask_by at caller.now (Command.List queue.now)) facts
+    ensures told { (facts : Facts)
+        → AnswersDue call.entry.settings.now (asked call.entry (Command.List queue.now)) facts
         (state_of S.Store store.old) (state_of S.Store store.new) result }
     ensures kept { Spares (state_of S.Store store.old) (state_of S.Store store.new) }
     ensures fault { IfErr result (λ refusal. refusal ≡ Refusal.Unavailable) }
 {
-    let lines = desk_lists::list(alloc, store, settings, caller, queue)?;
+    let lines = desk_lists::list(alloc, store, call.settings, call.caller, queue)?;
     Ok(Answer::Listed(lines))
 }
 
@@ -146,17 +136,15 @@ fn list<S: Backend>(
 fn overdue<S: Backend>(
     alloc: Global,
     store: &mut Store<S>,
-    settings: &Settings,
-    at: u32,
-    caller: &str,
+    call: Call<'_>,
 ) -> Result<Answer, Refusal>
     ensures told { (facts : Facts)
-        → AnswersDue settings.now (ask_by at caller.now Command.Overdue) facts
+        → AnswersDue call.entry.settings.now (asked call.entry Command.Overdue) facts
         (state_of S.Store store.old) (state_of S.Store store.new) result }
     ensures kept { Spares (state_of S.Store store.old) (state_of S.Store store.new) }
     ensures fault { IfErr result (λ refusal. refusal ≡ Refusal.Unavailable) }
 {
-    let lines = desk_lists::overdue(alloc, store, settings, at, caller)?;
+    let lines = desk_lists::overdue(alloc, store, call.settings, call.at, call.caller)?;
     Ok(Answer::Late(lines))
 }
 
@@ -165,17 +153,15 @@ fn overdue<S: Backend>(
 fn workload<S: Backend>(
     alloc: Global,
     store: &mut Store<S>,
-    settings: &Settings,
-    at: u32,
-    caller: &str,
+    call: Call<'_>,
 ) -> Result<Answer, Refusal>
     ensures told { (facts : Facts)
-        → AnswersDue settings.now (ask_by at caller.now Command.Workload) facts
+        → AnswersDue call.entry.settings.now (asked call.entry Command.Workload) facts
         (state_of S.Store store.old) (state_of S.Store store.new) result }
     ensures kept { Spares (state_of S.Store store.old) (state_of S.Store store.new) }
     ensures fault { IfErr result (λ refusal. refusal ≡ Refusal.Unavailable) }
 {
-    let loads = desk_lists::workload(alloc, store, settings, at, caller)?;
+    let loads = desk_lists::workload(alloc, store, call.settings, call.at, call.caller)?;
     Ok(Answer::Workload(loads))
 }
 
@@ -184,18 +170,17 @@ fn workload<S: Backend>(
 pub(crate) fn history<S: Backend>(
     alloc: Global,
     store: &mut Store<S>,
-    settings: &Settings,
-    caller: &str,
+    call: Call<'_>,
     facts: &Facts,
 ) -> Result<Answer, Refusal>
-    ensures told { (at id : ℕ)
-        → Answers settings.now (ask_by at caller.now (Command.History id)) facts.now
+    ensures told { (id : ℕ)
+        → Answers call.entry.settings.now (asked call.entry (Command.History id)) facts.now
         (state_of S.Store store.old) (state_of S.Store store.new) result }
     ensures kept { Spares (state_of S.Store store.old) (state_of S.Store store.new) }
     ensures fault { IfErr result (λ refusal. refusal ≡ Refusal.Unavailable) }
 {
     match &facts.request {
-        Some(request) => told_to(alloc, store, settings, caller, request),
+        Some(request) => told_to(alloc, store, call, request),
         None => Ok(Answer::Done),
     }
 }
@@ -204,17 +189,17 @@ pub(crate) fn history<S: Backend>(
 fn told_to<S: Backend>(
     alloc: Global,
     store: &mut Store<S>,
-    settings: &Settings,
-    caller: &str,
+    call: Call<'_>,
     request: &SeenRequest,
 ) -> Result<Answer, Refusal>
     ensures told { Tells (λ desk answer. answer
-        ≡ Answer.History (shown.told_to settings.now caller.now request.now desk))
+        ≡ Answer.History (shown.told_to call.entry.settings.now call.entry.caller.now
+        request.now desk))
         (state_of S.Store store.old) (state_of S.Store store.new) result }
     ensures kept { Spares (state_of S.Store store.old) (state_of S.Store store.new) }
     ensures fault { IfErr result (λ refusal. refusal ≡ Refusal.Unavailable) }
 {
-    let comments = request.shows_comments_to(settings, caller);
+    let comments = request.shows_comments_to(call.settings, call.caller);
     let entries = or_unavailable(store.entries_of(alloc, request.row.id))?;
     Ok(Answer::History(told(entries, comments)))
 }

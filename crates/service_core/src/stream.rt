@@ -2,23 +2,23 @@
 //!
 //! What owns much is given back by `drop`, whose proof stands once; at the end of its scope it
 //! would be taken apart for each function's own proof.
-ghost use Rattle.std.specs.Prelude.{◌≡◌, false};
+ghost use Rattle.std.specs.Prelude.{◌≡◌, false, None};
 ghost use Rattle.desk_model.specs.Desk as desks;
-ghost use Rattle.desk_model.specs.Step.{facts_of};
+ghost use Rattle.desk_model.specs.Step.{facts_of, refusal_beforehand};
 ghost use Rattle.store_tables.specs.Calls.{Spares};
 ghost use Rattle.store_core.specs.Seen.{state_of};
 ghost use Rattle.stream_core.specs.Seen.{HaveOneWriter, has_write_failed};
 ghost use Rattle.stream_core.specs.Written.{IsWritten, Prints};
-ghost use Rattle.desk_lists.specs.Streams.{IsCutBy};
+ghost use Rattle.service_core.specs.Asked.{asked};
 ghost use Rattle.service_core.specs.Seen.{settings_of, tables_of};
-ghost use Rattle.service_core.specs.Streaming.{Admits, IsAdmitted, StreamsAdmitted, StreamsOn};
-ghost use Rattle.service_core.specs.Streaming.{is_write};
-ghost use Rattle.service_core.specs.TableSteps.{ask_by};
+ghost use Rattle.service_core.specs.Streaming.{Admits, IsAdmitted, StreamsAdmitted};
+ghost use Rattle.service_core.specs.Streaming.{StreamsOn, StreamsSafely, is_write};
+ghost use Rattle.service_core.specs.TableSteps.{StandsOn, ask_by};
 
+use crate::call::Call;
 use crate::desk::Desk;
-use desk_core::{Command, Facts, Refusal, decide, refused_beforehand};
+use desk_core::{Command, Facts, Refusal, decide_on_facts, refused_beforehand};
 use desk_lists::{StreamFault, or_unavailable, stream_list, stream_overdue};
-use settings_core::Settings;
 use std::alloc::Global;
 use std::io::Write;
 use store_core::{Backend, Store};
@@ -27,7 +27,7 @@ use stream_core::CountedWriter;
 impl<S: Backend> Desk<S> {
     /// Writes the text of a queue's list or of what is overdue, row by row, for a caller at a
     /// moment, in minutes since 1970-01-01 00:00 UTC: the text that `execute` would answer. No
-    /// table changes, and of the rows one at a time is in memory.
+    /// table changes, and of the rows one at a time is in memory. The writer isn't flushed.
     ///
     /// A command that is refused writes nothing. `Write` where a write fails or takes no byte: a
     /// part from the front of the text was written. `Unavailable` where memory or the store
@@ -44,6 +44,8 @@ impl<S: Backend> Desk<S> {
             (ask_by at caller.now command.now)
             (tables_of S.Store self.old) (tables_of S.Store self.new) result
             (IsWritten (is_write result) (W.contents writer.old) (W.contents writer.new)) }
+        ensures stands { StandsOn (settings_of S.Store self.old)
+            (tables_of S.Store self.old) (tables_of S.Store self.new) }
         ensures kept { Spares (tables_of S.Store self.old) (tables_of S.Store self.new) }
         ensures same { settings_of S.Store self.new ≡ settings_of S.Store self.old }
     {
@@ -51,7 +53,8 @@ impl<S: Backend> Desk<S> {
         self.stream_counted(alloc, at, caller, command, &mut output)
     }
 
-    /// Writes a list as `stream` does, to a writer that counts and that has not failed.
+    /// Writes a list as `stream` does, to a writer that counts and that has not failed. What every
+    /// desk refuses costs no look at the tables.
     pub fn stream_counted<W: Write>(
         &mut self,
         alloc: Global,
@@ -67,65 +70,47 @@ impl<S: Backend> Desk<S> {
             (tables_of S.Store self.old) (tables_of S.Store self.new) result
             (Prints W.contents output.old output.new) }
         ensures failed { has_write_failed output.new ≡ is_write result }
+        ensures stands { StandsOn (settings_of S.Store self.old)
+            (tables_of S.Store self.old) (tables_of S.Store self.new) }
         ensures kept { Spares (tables_of S.Store self.old) (tables_of S.Store self.new) }
         ensures same { settings_of S.Store self.new ≡ settings_of S.Store self.old }
     {
-        stream_from(
-            alloc,
-            &mut self.store,
-            &self.settings,
-            at,
-            caller,
-            command,
-            output,
-        )
+        let settings = &self.settings;
+        match refused_beforehand(settings, at, caller, command) {
+            Some(refusal) => Err(StreamFault::Refused(refusal)),
+            None => put_if_admitted(
+                alloc,
+                &mut self.store,
+                Call {
+                    settings,
+                    at,
+                    caller,
+                },
+                command,
+                output,
+            ),
+        }
     }
 }
 
-/// Writes the list that a command asks for. What every desk refuses costs no look at the tables.
-fn stream_from<S: Backend, W: Write>(
+/// Writes the list that a command asks for, if the tables don't refuse it.
+fn put_if_admitted<S: Backend, W: Write>(
     alloc: Global,
     store: &mut Store<S>,
-    settings: &Settings,
-    at: u32,
-    caller: &str,
+    call: Call<'_>,
     command: &Command,
     output: &mut CountedWriter<'_, W>,
 ) -> Result<(), StreamFault>
-    requires { has_write_failed output.old ≡ false }
+    requires ready { has_write_failed output.old ≡ false }
+    requires free { refusal_beforehand call.entry.settings.now call.entry.at call.entry.caller.now
+        command.now ≡ None }
     ensures same_writer { HaveOneWriter output.new output.old }
-    ensures streamed { StreamsOn settings.now (ask_by at caller.now command.now)
-        (state_of S.Store store.old) (state_of S.Store store.new) result
-        (Prints W.contents output.old output.new) }
-    ensures failed { has_write_failed output.new ≡ is_write result }
-    ensures kept { Spares (state_of S.Store store.old) (state_of S.Store store.new) }
+    ensures streamed { StreamsSafely
+        (StreamsOn call.entry.settings.now (asked call.entry command.now)) W.contents
+        (state_of S.Store store.old) (state_of S.Store store.new) output.old output.new result }
 {
-    match refused_beforehand(settings, at, caller, command) {
-        Some(refusal) => Err(StreamFault::Refused(refusal)),
-        None => admit_and_put(alloc, store, settings, at, caller, command, output),
-    }
-}
-
-/// Writes the list, if the tables don't refuse it.
-fn admit_and_put<S: Backend, W: Write>(
-    alloc: Global,
-    store: &mut Store<S>,
-    settings: &Settings,
-    at: u32,
-    caller: &str,
-    command: &Command,
-    output: &mut CountedWriter<'_, W>,
-) -> Result<(), StreamFault>
-    requires { has_write_failed output.old ≡ false }
-    ensures same_writer { HaveOneWriter output.new output.old }
-    ensures streamed { StreamsOn settings.now (ask_by at caller.now command.now)
-        (state_of S.Store store.old) (state_of S.Store store.new) result
-        (Prints W.contents output.old output.new) }
-    ensures failed { has_write_failed output.new ≡ is_write result }
-    ensures kept { Spares (state_of S.Store store.old) (state_of S.Store store.new) }
-{
-    match admit(alloc, store, settings, at, caller, command) {
-        Ok(()) => put_list(alloc, store, settings, at, caller, command, output),
+    match admit(alloc, store, call, command) {
+        Ok(()) => put_list(alloc, store, call, command, output),
         Err(refusal) => Err(StreamFault::Refused(refusal)),
     }
 }
@@ -134,17 +119,17 @@ fn admit_and_put<S: Backend, W: Write>(
 fn admit<S: Backend>(
     alloc: Global,
     store: &mut Store<S>,
-    settings: &Settings,
-    at: u32,
-    caller: &str,
+    call: Call<'_>,
     command: &Command,
 ) -> Result<(), Refusal>
-    ensures admitted { Admits settings.now (ask_by at caller.now command.now) result
+    requires { refusal_beforehand call.entry.settings.now call.entry.at call.entry.caller.now
+        command.now ≡ None }
+    ensures admitted { Admits call.entry.settings.now (asked call.entry command.now) result
         (state_of S.Store store.old) (state_of S.Store store.new) }
     ensures kept { Spares (state_of S.Store store.old) (state_of S.Store store.new) }
 {
     let facts = or_unavailable(store.facts_for(alloc, command))?;
-    let admitted = admit_seeing(alloc, settings, at, caller, command, &facts);
+    let admitted = admit_seeing(alloc, call, command, &facts);
     drop(facts);
     admitted
 }
@@ -152,16 +137,16 @@ fn admit<S: Backend>(
 /// Asks whether a command that sees this is refused.
 fn admit_seeing(
     alloc: Global,
-    settings: &Settings,
-    at: u32,
-    caller: &str,
+    call: Call<'_>,
     command: &Command,
     facts: &Facts,
 ) -> Result<(), Refusal>
+    requires { refusal_beforehand call.entry.settings.now call.entry.at call.entry.caller.now
+        command.now ≡ None }
     ensures { (desk : desks.Desk) → facts.now ≡ facts_of command.now desk
-        → IsAdmitted settings.now (ask_by at caller.now command.now) desk result }
+        → IsAdmitted call.entry.settings.now (asked call.entry command.now) desk result }
 {
-    match decide(alloc, settings, at, caller, facts, command) {
+    match decide_on_facts(alloc, call.settings, call.at, call.caller, facts, command) {
         Ok(change) => {
             drop(change);
             Ok(())
@@ -174,23 +159,20 @@ fn admit_seeing(
 fn put_list<S: Backend, W: Write>(
     alloc: Global,
     store: &mut Store<S>,
-    settings: &Settings,
-    at: u32,
-    caller: &str,
+    call: Call<'_>,
     command: &Command,
     output: &mut CountedWriter<'_, W>,
 ) -> Result<(), StreamFault>
     requires { has_write_failed output.old ≡ false }
     ensures same_writer { HaveOneWriter output.new output.old }
-    ensures streamed { StreamsAdmitted settings.now (ask_by at caller.now command.now)
-        (state_of S.Store store.old) (state_of S.Store store.new) result
-        (Prints W.contents output.old output.new) }
-    ensures failed { IsCutBy result (has_write_failed output.new) }
-    ensures kept { Spares (state_of S.Store store.old) (state_of S.Store store.new) }
+    ensures streamed { StreamsSafely
+        (StreamsAdmitted call.entry.settings.now (asked call.entry command.now)) W.contents
+        (state_of S.Store store.old) (state_of S.Store store.new) output.old output.new result }
 {
+    let (settings, caller) = (call.settings, call.caller);
     match command {
         Command::List { queue } => stream_list(alloc, store, settings, caller, queue, output),
-        Command::Overdue => stream_overdue(alloc, store, settings, at, caller, output),
+        Command::Overdue => stream_overdue(alloc, store, settings, call.at, caller, output),
         _ => Err(StreamFault::Refused(Refusal::Unavailable)),
     }
 }

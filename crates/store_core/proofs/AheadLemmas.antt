@@ -14,11 +14,11 @@ use Rattle.desk_model.specs.Desk.{Desk}
 use Rattle.desk_model.specs.IsDesk.{IsDesk}
 use Rattle.desk_model.specs.declared.rows.RequestRow.{RequestRow}
 use Rattle.store_tables.specs.Contents.{request_rows}
-use Rattle.store_tables.specs.Dated.{Dated, dated_by, id_of}
+use Rattle.store_tables.specs.Contents.Request.{Dated, by_dated_id, by_due, by_id, dated_by}
+use Rattle.store_tables.specs.Contents.Request.{has_number, id_of, is_due_before, is_filed_in}
+use Rattle.store_tables.specs.Contents.Request.{number_of}
 use Rattle.store_tables.specs.Kept.{itself}
-use Rattle.store_tables.specs.Orders.{by_dated_id, by_due, by_id}
 use Rattle.store_tables.specs.Picked.{AreParts}
-use Rattle.store_tables.specs.Selection.{has_number, is_due_before, is_filed_in, number_of}
 use Rattle.store_tables.proofs.ReadLemmas.{has_permuted}
 use Rattle.store_core.specs.Rows.{AreDueBefore, dated_rows, rows_numbered}
 use Rattle.store_core.proofs.RiseLemmas.{the_part, id_total, dated_total, dated_rise, requests_rise}

@@ -16,7 +16,8 @@ use Rattle.desk_model.specs.declared.rows.RequestRow.{RequestRow}
 use Rattle.desk_model.specs.Desk.{Desk, Request}
 use Rattle.desk_model.specs.IsDesk.{IsDesk, are_numbered}
 use Rattle.store_tables.specs.Picked.{IsGreatest}
-use Rattle.store_tables.specs.Selection.{is_named, is_numbered}
+use Rattle.store_tables.specs.Contents.Queue.{is_named}
+use Rattle.store_tables.specs.Contents.Request.{is_numbered}
 use Rattle.store_core.specs.Found.{has_number}
 use Rattle.store_core.proofs.RiseLemmas.{all_later, ids_rise}
 

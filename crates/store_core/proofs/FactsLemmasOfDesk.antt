@@ -35,16 +35,17 @@ use Rattle.desk_model.specs.IsDesk.{IsDesk, has_both_ends, has_its_entries, pers
 use Rattle.desk_model.specs.Rights.{is_shown}
 use Rattle.desk_core.proofs.Roles.{own_roles_law}
 use Rattle.settings_core.specs.declared.settings.Settings.{Settings}
-use Rattle.store_tables.specs.Orders.{by_link, by_role, by_target}
+use Rattle.store_tables.specs.Contents.Entry.{place_of, tells_of}
+use Rattle.store_tables.specs.Contents.Link.{by_link, by_target, links_from}
+use Rattle.store_tables.specs.Contents.Request.{is_numbered, number_of}
+use Rattle.store_tables.specs.Contents.Watcher.{by_role, watches}
 use Rattle.store_tables.specs.Contents.{entries, request_rows, requests, watchers}
 use Rattle.store_tables.specs.Readings.{OfDesk, Reads}
 use Rattle.store_tables.specs.declared.fault.StoreFault.{StoreFault}
 use Rattle.store_tables.proofs.DueLemmas.{rows_dated}
 use Rattle.store_tables.proofs.ReadOn.{telling}
 use Rattle.store_tables.specs.Picked.{AreOrdered, IsGreatest}
-use Rattle.store_tables.specs.Selection as chosen
-use Rattle.store_tables.specs.Selection.{is_numbered, links_from, number_of, place_of, tells_of}
-use Rattle.store_tables.specs.Selection.{watches}
+use Rattle.store_tables.specs.Contents.Link as chosen
 use Rattle.store_core.proofs.FactsLemmas.{each_alike, found_row, greatest_counts, part_is}
 use Rattle.store_core.proofs.FactsLemmas.{some_found}
 use Rattle.store_core.specs.Found.{persons_in, has_number, dependency_at, dependency_by}
@@ -54,6 +55,13 @@ use Rattle.store_core.proofs.RiseLemmas.{links_rise, all_tested, entries_numbere
 use Rattle.store_core.proofs.RiseLemmas.{their_own, watchers_ascend}
 
 -- ---- the persons of a role
+
+-- one watcher more
+pub persons_more : (role : WatchRole) (ws : List Watcher) (w : Watcher) {old new : List (List ℕ)}
+    → old ≡ persons_in role ws → new ≡ old ++ persons_in role (w ∷ [])
+    → new ≡ persons_in role (ws ++ w ∷ [])
+persons_more role ws w so_far now = now ∙ ap (λ ps. ps ++ persons_in role (w ∷ [])) so_far
+    ∙ rw (filter-append, map-append) refl
 
 of_role : (id : ℕ) (role other : WatchRole) (names : List (List ℕ))
     → persons_in role (map (watcher id other) names) ≡ cond (is_role role other) names []

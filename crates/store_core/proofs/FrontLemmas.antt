@@ -16,7 +16,7 @@ use Rattle.store_tables.specs.Stands.{Ran, filled, is_among}
 use Rattle.store_core.specs.Migrating.{Grows}
 use Rattle.sqlite_trees.proofs.ListLemmas.{all_both, all-append}
 use Rattle.store_tables.proofs.CreateLemmas.{Puts, is_there, puts}
-use Rattle.store_tables.proofs.AllTables.{Makes, first_rows, made_at, text_at}
+use Rattle.store_tables.proofs.Contents.{Makes, first_rows, made_at, text_at}
 
 -- the first `made` tables are there: of these, the first `had` have their rows, the others none
 abbrev pub IsMade : ℕ → ℕ → Database → Database → Type 0

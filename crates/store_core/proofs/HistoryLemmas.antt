@@ -13,10 +13,10 @@ use Rattle.desk_model.specs.Facts.{stays_at}
 use Rattle.desk_model.specs.IsDesk.{IsDesk, has_its_entries}
 use Rattle.desk_model.specs.Stays.{stays_of}
 use Rattle.store_tables.specs.Contents.{entries, history_at}
-use Rattle.store_tables.specs.Orders.{by_number, by_stay, by_stay_number}
+use Rattle.store_tables.specs.Contents.Entry.{by_number, tells_of}
+use Rattle.store_tables.specs.Contents.Stay.{by_stay, by_stay_number, is_of, request_stay, stay_of}
+use Rattle.store_tables.specs.Contents.Stay.{stay_rows_from, stays}
 use Rattle.store_tables.specs.Picked.{AreOrdered, AreParts}
-use Rattle.store_tables.specs.Selection.{tells_of}
-use Rattle.store_tables.specs.Stays.{is_of, request_stay, stay_of, stay_rows_from, stays}
 use Rattle.store_core.proofs.StaysWritten.{rows_of}
 use Rattle.store_core.specs.Found.{has_number}
 use Rattle.store_core.proofs.FactsLemmas.{part_is}

@@ -1,6 +1,6 @@
 -- What tables hold once those that lacked are made, and which rows are blamed then.
-use Rattle.std.proofs.Common.{◌≡◌, ℕ, Bool, true, false, inl, inr, List, [], Err, Ok, OnErr, IfOk}
-use Rattle.std.proofs.Common.{Result, arith, refl}
+use Rattle.std.proofs.Common.{◌≡◌, ℕ, Bool, true, false, inl, inr, List, [], Err, Ok, OnErr, OnOk}
+use Rattle.std.proofs.Common.{IfOk, Result, arith, pos, refl, sym, ◌∙◌, ◌⊎◌, ℤ}
 use Rattle.std.specs.Prelude.{if◌then◌else◌}
 use Rattle.sqlite.specs.Change.{KeepsRows}
 use Rattle.sqlite.specs.Effect.{Database}
@@ -10,17 +10,19 @@ use Rattle.sqlite.specs.Term.{Term}
 use Rattle.sqlite_rules.specs.Lists.{Has}
 use Rattle.store_tables.specs.Calls.{Runs}
 use Rattle.store_tables.specs.Contents.{Contents, no_contents, HasBadRow, desk_schema, table_count}
-use Rattle.store_tables.specs.Making.{IsBlank, IsOfMeta, LacksVersion, numbered}
+use Rattle.store_tables.specs.Making.{IsBlank, IsKnown, IsOfMeta, IsVersionOf, LacksVersion, numbered}
 use Rattle.store_tables.specs.Stands.{FirstStand, GoesBack, HasFront, HasTables, HoldsNow, Stand}
 use Rattle.store_tables.specs.Stands.{filled, is_among}
-use Rattle.store_tables.specs.Queries.{entry_shown_terms, last_id_terms, version_shown}
-use Rattle.store_tables.specs.Reading.{IsEntryRow, IsNumberRow}
-use Rattle.store_tables.specs.Tables.{no_schema}
+use Rattle.store_tables.specs.Contents.Entry.{IsEntryRow, entry, entry_shown_terms}
+use Rattle.store_tables.specs.Contents.Meta.{meta, version_shown}
+use Rattle.store_tables.specs.Contents.Request.{last_id_terms, request}
+use Rattle.store_tables.specs.Strict.{no_schema}
+use Rattle.store_tables.specs.Values.{IsNumberRow, IsWholeRow}
 use Rattle.store_tables.specs.declared.fault.StoreFault.{StoreFault}
 use Rattle.store_tables.proofs.StandLemmas.{back_both}
-use Rattle.store_tables.proofs.AllTables.{none_held, part_of_all, same_tables}
+use Rattle.store_tables.proofs.Contents.{none_held, part_of_all, same_tables}
 use Rattle.store_core.specs.Migrating.{Grows, HasBadSource, HoldsPart, HoldsUnnumbered, IsBlamed}
-use Rattle.store_core.specs.Migrating.{IsGrown}
+use Rattle.store_core.specs.Migrating.{IsGrown, IsNumberedSo, IsUnnumbered}
 
 -- ---- what is held before tables are made
 
@@ -57,9 +59,9 @@ module _ (n : ℕ) (old new : Database) (grown : IsGrown n old new) where
       (bad.0, was_there n tree old bad.0 (rw same at bad.1), bad.2)
 
   source_grown : HasBadSource new → HasBadSource old
-  source_grown (inl bad) = inl (bad_before 3 last_id_terms IsNumberRow grown.1.1.1.0 bad)
+  source_grown (inl bad) = inl (bad_before request.tree last_id_terms IsNumberRow grown.1.1.1.0 bad)
   source_grown (inr bad) =
-      inr (bad_before 8 entry_shown_terms IsEntryRow grown.1.1.1.1.1.1.0 bad)
+      inr (bad_before entry.tree entry_shown_terms IsEntryRow grown.1.1.1.1.1.1.0 bad)
 
 module _ {X : Type 0} {P : X → Type 0} {old new : State} {r : Result X StoreFault}
     (runs : Runs P old new r) (grows : Grows old new)
@@ -93,24 +95,39 @@ module _ {X : Type 0} {P : X → Type 0} {old new : State} {r : Result X StoreFa
       pub front_there : HasTables new
       front_there d o = (front_grown d).1.0
 
-      pub of_meta_before : HasCleanDisk new → (n : ℕ) → IsOfMeta new n → IsOfMeta old n
-      of_meta_before d n of =
+      pub version_before : HasCleanDisk new → (z : ℤ) → IsVersionOf new z → IsVersionOf old z
+      version_before d z of =
           let it = front_grown d in
-          (of.0, was_there it.0 0 old.now of.0 (rw it.1.1.0 at of.1), of.2)
+          (of.0, was_there it.0 meta.tree old.now of.0 (rw it.1.1.0 at of.1), of.2)
+
+      -- where a version was written, or none
+      pub over_before : HasCleanDisk new → IsNumberedSo new
+          → IsUnnumbered old ⊎ ((n : ℕ) × IsOfMeta old n × IsKnown n)
+      over_before d (inl none) =
+          let it = grows d in
+          let front = has (runs.clean d) it.0 in
+          let grown = it.2 front.0 front.1 front.2 in
+          inl (front.0, front.1, front.2, sym grown.1.0 ∙ none)
+      over_before d (inr known) =
+          inr (known.0, version_before d (pos known.0) known.1, known.2)
 
       pub blamed_before : HasCleanDisk new → IsBlamed new → IsBlamed old
       blamed_before d (inl bad) =
           let it = front_grown d in
-          inl (bad_before it.0 old.now new.now it.1 0 version_shown IsNumberRow it.1.1.0 bad)
+          inl (bad_before it.0 old.now new.now it.1 meta.tree version_shown IsWholeRow it.1.1.0 bad)
       blamed_before d (inr first) =
           let it = front_grown d in
-          inr (of_meta_before d 1 first.0, source_grown it.0 old.now new.now it.1 first.1)
+          inr (version_before d (pos 1) first.0, source_grown it.0 old.now new.now it.1 first.1)
 
 -- ---- the whole transaction
 
 pub always_ok : {X E P : Type 0} (r : Result X E) → P → IfOk r (λ x. P)
 always_ok (Ok x) p = p
 always_ok (Err e) p = tt
+
+pub always : {X E P : Type 0} (r : Result X E) → P → OnOk r P
+always (Ok x) p = p
+always (Err e) p = tt
 
 pub at_fault : {X E P Q : Type 0} (r : Result X E) → (P → Q) → OnErr r P → OnErr r Q
 at_fault (Ok x) f h = h

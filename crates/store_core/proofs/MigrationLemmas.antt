@@ -16,11 +16,10 @@ use Rattle.desk_model.specs.declared.rows.RequestRow.{RequestRow}
 use Rattle.desk_core.proofs.EachRequest.{found_each}
 use Rattle.store_tables.specs.Contents.{request_rows, requests, set_version, Contents, add_stay}
 use Rattle.store_tables.specs.Contents.{contents_of, first_contents_of, AreAlike}
-use Rattle.store_tables.specs.Dated.{row_of}
-use Rattle.store_tables.specs.Orders.{by_id, by_number}
+use Rattle.store_tables.specs.Contents.Entry.{by_number, tells_of}
+use Rattle.store_tables.specs.Contents.Request.{by_id, number_of, row_of}
+use Rattle.store_tables.specs.Contents.Stay.{StayRow, stay_rows}
 use Rattle.store_tables.specs.Picked.{AreOrdered, AreParts}
-use Rattle.store_tables.specs.Selection.{number_of, tells_of}
-use Rattle.store_tables.specs.Stays.{StayRow, stay_rows}
 use Rattle.store_tables.proofs.DueLemmas.{rows_dated}
 use Rattle.store_core.specs.Migrating.{stays_filled}
 use Rattle.store_core.proofs.HistoryLemmas.{the_history}

@@ -1,7 +1,7 @@
 -- The due moments that a change writes are those of the desk after it: the request that it files or
 -- sets has the moment that comes with it, and of all others neither the row, nor the queue, nor a
 -- stay changes.
-use Rattle.std.proofs.Common.{◌≡◌, ◌⊎◌, ◌∙◌, ℕ, ◌==◌, Bool, true, false, not, inl}
+use Rattle.std.proofs.Common.{◌≡◌, ◌⊎◌, ◌∙◌, ℕ, ◌==◌, Bool, true, false, inl}
 use Rattle.std.proofs.Common.{is_some, option_and_then, eqb-true, List, [], ◌∷◌, find, map}
 use Rattle.std.proofs.Common.{Option, Some, None, inr, refl, ap, ap₂, arith, sym, subst, bytes_eq}
 use Rattle.std.proofs.lemmas.Bool.{false_from_ne_true}
@@ -11,9 +11,7 @@ use Rattle.std.proofs.lemmas.List.Elements.{recursion_from_All}
 use Rattle.sqlite_rules.specs.Lists.{Has}
 use Rattle.sqlite_rules.proofs.ListLemmas.{all_has, has_either, test_has}
 use Rattle.sqlite_trees.proofs.ListLemmas.{map-map}
-use Rattle.hours_core.specs.Moment.{is_moment}
 use Rattle.hours_core.specs.declared.stay.Stay.{Stay}
-use Rattle.settings_core.specs.Settings.{knows}
 use Rattle.settings_core.specs.declared.settings.Settings.{Settings}
 use Rattle.desk_model.specs.Change.{applied, filed, queue_put, request_filed}
 use Rattle.desk_model.specs.Commands.{plan_of}
@@ -27,7 +25,6 @@ use Rattle.desk_model.specs.Step.{call, facts_of, guard}
 use Rattle.desk_model.specs.declared.change.Change.{Change}
 use Rattle.desk_model.specs.declared.command.Command.{Command}
 use Rattle.desk_model.specs.declared.command.Command.TheVariants.{OpenQueue, Create}
-use Rattle.desk_model.specs.declared.refusal.Refusal.TheVariants.{BadMoment, UnknownCaller}
 use Rattle.desk_model.specs.declared.rows.QueueRow.{QueueRow}
 use Rattle.desk_model.specs.declared.rows.RequestRow.{RequestRow}
 use Rattle.desk_core.specs.Carried.{HasStays, KeepsStays, beginning}
@@ -47,7 +44,7 @@ use Rattle.desk_core.proofs.Goes.{row_goes}
 use Rattle.desk_core.proofs.Identity.{IdentityGoes, identities_go}
 use Rattle.desk_core.proofs.Kept.{ids_kept}
 use Rattle.store_tables.specs.Contents.{contents_of}
-use Rattle.store_tables.specs.Dated.{Dated, dated_by}
+use Rattle.store_tables.specs.Contents.Request.{Dated, dated_by}
 use Rattle.store_core.specs.Due.{due_of_row}
 use Rattle.store_core.specs.Written.{due_with, dues_after}
 
@@ -140,8 +137,7 @@ module _ (s : Settings) (at : ℕ) (caller : List ℕ) (command : Command) (desk
 
     filing : CreatesOnly command change
     filing =
-        by_plan (λ d c. CreatesOnly command c) (call s at caller) (plan_of command)
-        ((UnknownCaller, not (knows s caller)) ∷ (BadMoment, not (is_moment at)) ∷ []) desk
+        by_plan (λ d c. CreatesOnly command c) (call s at caller) (plan_of command) desk
         (inl refl) (only_creates desk command) free
 
     keeps : KeepsStays desk change

@@ -26,7 +26,7 @@ use Rattle.desk_model.specs.Names.{with_name}
 use Rattle.desk_model.specs.Watchers.{is_role, is_watching, watcher, watchers_of}
 use Rattle.desk_model.specs.IsDesk.{are_numbered}
 use Rattle.desk_model.specs.declared.rows.RequestRow.{RequestRow}
-use Rattle.store_tables.specs.Selection.{is_watcher}
+use Rattle.store_tables.specs.Contents.Watcher.{is_watcher}
 use Rattle.store_core.proofs.FactsLemmas.{each_alike}
 
 -- one more, at the front or behind others

@@ -26,13 +26,14 @@ use Rattle.desk_model.specs.Stays.{stays_of}
 use Rattle.desk_model.specs.Watchers.{watcher, watchers_of}
 use Rattle.sorted_lists.proofs.SortedLemmas.{Rises, sorted_same}
 use Rattle.store_tables.specs.Contents.{request_rows, watchers}
-use Rattle.store_tables.specs.Dated.{dated_by}
+use Rattle.store_tables.specs.Contents.Link.{by_link}
+use Rattle.store_tables.specs.Contents.Queue.{by_name}
+use Rattle.store_tables.specs.Contents.Request.{by_dated_id, by_id, dated_by}
+use Rattle.store_tables.specs.Contents.Stay.{StayRow, by_stay, by_stay_number, stay_rows}
+use Rattle.store_tables.specs.Contents.Stay.{stay_rows_from, stays}
+use Rattle.store_tables.specs.Contents.Watcher.{by_role, by_standing, by_watcher, is_of_person}
+use Rattle.store_tables.specs.Contents.Watcher.{role_number}
 use Rattle.store_tables.specs.Kept.{itself}
-use Rattle.store_tables.specs.Orders.{by_dated_id, by_id, by_link, by_role, by_standing, by_stay}
-use Rattle.store_tables.specs.Orders.{by_stay_number, by_watcher, by_name}
-use Rattle.store_tables.specs.Selection.{is_of_person}
-use Rattle.store_tables.specs.Spelling.{role_number}
-use Rattle.store_tables.specs.Stays.{StayRow, stay_rows, stay_rows_from, stays}
 use Rattle.store_core.specs.Rows.{dated_rows}
 use Rattle.std.specs.Cmp.{IsTotalOrder}
 use Rattle.desk_model.specs.Rising.{is_rising}

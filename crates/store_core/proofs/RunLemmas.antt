@@ -1,22 +1,25 @@
 -- Calls in a transaction, one after another: they hold something still, and the last commit stays.
-use Rattle.std.proofs.Common.{◌≡◌, [], Ok, Err, OnOk, Result, arith, inl, inr, refl}
+use Rattle.std.proofs.Common.{◌≡◌, ◌∙◌, ◌∷◌, [], Ok, Err, IfErr, IfOk, IsTrue, List, None, OnOk}
+use Rattle.std.proofs.Common.{Option, Result, Some, ap, arith, inl, inr, pos, refl, subst, sym, ℕ, ℤ}
 use Rattle.std.specs.Prelude.{⊤}
 use Rattle.sqlite.specs.Change.{KeepsRows}
 use Rattle.sqlite.specs.Effect.{Database}
-use Rattle.sqlite.specs.Order.{Row}
-use Rattle.sqlite.specs.State.{State}
+use Rattle.sqlite.specs.Order.{Row, column}
+use Rattle.sqlite.specs.State.{HasCleanDisk, State}
 use Rattle.sqlite_rules.specs.Lists.{Has}
 use Rattle.store_tables.specs.Calls.{Does, FailsIn, Looks}
 use Rattle.store_tables.specs.Contents.{Contents, HasBadRow, Tables}
 use Rattle.store_tables.specs.Picked.{shows}
-use Rattle.store_tables.specs.Queries.{version_shown}
-use Rattle.store_tables.specs.Reading.{IsNumberRow}
-use Rattle.store_tables.specs.Stands.{HoldsNow, OnlyStaysChange}
-use Rattle.store_tables.specs.Tables.{first_schema}
+use Rattle.store_tables.specs.Contents.{first_schema}
+use Rattle.store_tables.specs.Contents.Meta.{meta, version_row, version_shown}
+use Rattle.store_tables.specs.Values.{IsWholeRow}
+use Rattle.store_tables.specs.Making.{LacksVersion, ReadsVersion, ShowsVersionOf}
+use Rattle.store_tables.specs.Stands.{HasTables, HoldsNow, OnlyStaysChange}
 use Rattle.store_tables.specs.declared.fault.StoreFault.{StoreFault}
+use Rattle.store_tables.specs.declared.fault.StoreFault.TheVariants.{Refused}
+use Rattle.store_tables.proofs.StandLemmas.{desk_is_there}
 use Rattle.store_tables.proofs.Lasting.{on, same}
-use Rattle.store_tables.proofs.RowLemmas.{TableOf, refuses}
-use Rattle.store_tables.proofs.ValueLemmas.{values_of}
+use Rattle.store_tables.proofs.RowLemmas.{TableOf, only_refused, refuses}
 use Rattle.store_tables.proofs.ReadingLemmas.{if_err}
 use Rattle.store_tables.proofs.StepLemmas.{beside_on, beside_there, kept_on}
 use Rattle.store_core.specs.Migrating.{BlamesSource, HasBadSource, RefusesOn, RunsOn}
@@ -103,11 +106,68 @@ module _ {K V X Y : Type 0} {e : StoreFault} {a b : State} {q : Result X StoreFa
           let bad = fails.1 wrong has clean in (bad.0, source bad.1);
     })
 
--- nor is the version another than a number
+-- ---- the version that is read
+
+-- it is no other than a whole number
 pub version_valued : (c : Contents) (db : Database) → Tables c db → (r : Row) → Has (db.trees 0) r
-    → IsNumberRow (shows version_shown [] r)
+    → IsWholeRow (shows version_shown [] r)
 version_valued c db t r has = elim (rw t.meta at has) [
-  | inl same ↦ let low = (values_of c t.values).version in
-      rw same (record { wide = omega arith; number = (c.version, refl, low) })
+  | inl same ↦ rw same (record { wide = omega arith; number = (pos c.version, refl) })
   | inr none ↦ absurd none
 ]
+
+pub no_row : {rows : List Row} → rows ≡ [] → (row : Row) → Has rows row → ⊥
+no_row is row has = absurd (subst (λ rows. Has rows row) is has)
+
+-- where there is no row there is none
+unnumbered : (c : Contents) (a b : State) (v : Option ℤ) → ReadsVersion a b (Ok v)
+    → LacksVersion c a → HasCleanDisk b → v ≡ None
+unnumbered c a b None read lacks now = refl
+unnumbered c a b (Some z) read lacks now =
+    let it = lacks (read.looks.clean now) (read.looks.same now).0 in
+    let of = read.shown (λ d o. (lacks d o).1.schema) now in
+    absurd (no_row it.0 of.0 of.1)
+
+-- where there is one, it is that of the row
+numbered_so : (c : Contents) (a b : State) (v : Option ℤ) → ReadsVersion a b (Ok v)
+    → HoldsNow c a → HasCleanDisk b → v ≡ Some (pos c.version)
+numbered_so c a b v read holds now =
+    let t = (holds (read.looks.clean now) (read.looks.same now).0).0 in
+    of_row c.version v t.meta (read.shown (desk_is_there c a holds) now)
+  where
+    of_row : (n : ℕ) (v : Option ℤ) → a.now.trees meta.tree ≡ version_row n ∷ []
+        → ShowsVersionOf a v → v ≡ Some (pos n)
+    of_row n None is of = absurd (no_row of (version_row n) (rw is (inl refl)))
+    of_row n (Some z) is of = elim (rw is at of.1) [
+      | inl same ↦
+          let e = sym (ap (λ row. column (shows version_shown [] row) 0) same) ∙ of.2 in
+          let it : pos n ≡ z = cc in ap Some (sym it)
+      | inr none ↦ absurd none
+    ]
+
+pub unnumbered_if : (c : Contents) (a b : State) (r : Result (Option ℤ) StoreFault)
+    → ReadsVersion a b r → LacksVersion c a → HasCleanDisk b → IfOk r (λ v. v ≡ None)
+unnumbered_if c a b (Ok v) read lacks now = unnumbered c a b v read lacks now
+unnumbered_if c a b (Err e) read lacks now = tt
+
+pub numbered_if : (c : Contents) (a b : State) (r : Result (Option ℤ) StoreFault)
+    → ReadsVersion a b r → HoldsNow c a → HasCleanDisk b → IfOk r (λ v. v ≡ Some (pos c.version))
+numbered_if c a b (Ok v) read holds now = numbered_so c a b v read holds now
+numbered_if c a b (Err e) read holds now = tt
+
+-- no fault is told but that the store or memory refused it
+module _ (c : Contents) (a b : State) (r : Result (Option ℤ) StoreFault) (read : ReadsVersion a b r)
+    (there : HasTables a)
+  where
+    only : (HasBadRow meta.tree version_shown IsWholeRow a.now → IsTrue a.is_open → ⊥)
+        → HasCleanDisk b → IfErr r (λ e. e ≡ Refused)
+    only never now = only_refused r (if_err r (λ e fail. fail.0) read.fails)
+        (λ bad. never bad.1 bad.0) (if_err r (λ e fail wrong. fail.1 wrong there now) read.fails)
+
+    pub refused_unnumbered : LacksVersion c a → HasCleanDisk b → IfErr r (λ e. e ≡ Refused)
+    refused_unnumbered lacks now = only (λ bad live.
+        no_row (lacks (read.looks.clean now) live).0 bad.0 bad.1) now
+
+    pub refused_numbered : HoldsNow c a → HasCleanDisk b → IfErr r (λ e. e ≡ Refused)
+    refused_numbered holds now = only (λ bad live. bad.2
+        (version_valued c a.now (holds (read.looks.clean now) live).0 bad.0 bad.1)) now

@@ -7,7 +7,7 @@ use Rattle.sqlite.specs.State.{State}
 use Rattle.store_tables.specs.Contents.{Contents, no_contents, Tables, AreAlike}
 use Rattle.store_tables.specs.Kept.{Holds}
 use Rattle.store_tables.specs.Stands.{HoldsNow, Stand, StandsFor}
-use Rattle.store_tables.proofs.AllTables.{values_alike}
+use Rattle.store_tables.proofs.Contents.{values_alike}
 use Rattle.desk_model.specs.Desk.{empty_desk}
 use Rattle.store_core.proofs.RunLemmas.{and_then}
 

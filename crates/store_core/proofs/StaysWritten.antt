@@ -23,7 +23,8 @@ use Rattle.desk_core.specs.Carried.{IsOneOf, KeepsStays, beginning}
 use Rattle.desk_core.proofs.Changed.{entries_changed, entries_for, id_changed, requests_after}
 use Rattle.desk_core.proofs.EachRequest.{found_each}
 use Rattle.desk_core.proofs.Goes.{number_found}
-use Rattle.store_tables.specs.Stays.{StayRow, stay_row, stay_rows, stay_rows_from, with_end, stays}
+use Rattle.store_tables.specs.Contents.Stay.{StayRow, stay_row, stay_rows, stay_rows_from, stays}
+use Rattle.store_tables.specs.Contents.Stay.{with_end}
 use Rattle.store_tables.specs.Contents.{Contents, add_entry, add_stay, add_watcher, drop_watcher}
 use Rattle.store_core.proofs.FactsLemmas.{find-map}
 use Rattle.store_core.proofs.Revised.{none_filed, one_more as one_differs, there_by_number}

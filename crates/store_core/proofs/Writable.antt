@@ -24,7 +24,7 @@ use Rattle.desk_model.specs.IsDesk.{IsDesk}
 use Rattle.desk_model.specs.Names.{names_rise, with_name}
 use Rattle.desk_model.specs.Watchers.{is_watching, watchers_of}
 use Rattle.store_tables.specs.Contents.{watchers}
-use Rattle.store_tables.specs.Selection.{watches}
+use Rattle.store_tables.specs.Contents.Watcher.{watches}
 use Rattle.store_core.proofs.FactsLemmas.{part_is}
 use Rattle.store_core.proofs.Revised.{id_of, none_revised, there_by_number, any_in_role, is_row_of}
 use Rattle.store_core.proofs.RiseLemmas.{names_ascend, their_own}

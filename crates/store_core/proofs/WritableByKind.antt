@@ -1,15 +1,12 @@
 -- The change of a command that isn't refused can be written, by the kind of the command.
-use Rattle.std.proofs.Common.{◌≡◌, ◌∙◌, ℕ, ◌+◌, true, not, List, [], ◌∷◌, length, Option, Some}
+use Rattle.std.proofs.Common.{◌≡◌, ◌∙◌, ℕ, ◌+◌, true, List, length, Option, Some}
 use Rattle.std.proofs.Common.{is_some, None, refl, ap, sym, arith}
 use Rattle.std.proofs.lemmas.Bool.{and_from}
 use Rattle.std.specs.List.{list_all}
 use Rattle.sqlite_trees.proofs.ListLemmas.{all_of}
-use Rattle.hours_core.specs.Moment.{is_moment}
-use Rattle.settings_core.specs.Settings.{knows}
 use Rattle.settings_core.specs.declared.settings.Settings.{Settings}
 use Rattle.desk_model.specs.declared.command.Command.{Command}
 use Rattle.desk_model.specs.declared.command.Command.TheVariants.{OpenQueue, Create, Watch}
-use Rattle.desk_model.specs.declared.refusal.Refusal.TheVariants.{UnknownCaller, BadMoment}
 use Rattle.desk_model.specs.declared.rows.RequestRow.{RequestRow}
 use Rattle.desk_core.specs.Decision.{change_of}
 use Rattle.desk_core.proofs.Carried.{carried_law}
@@ -19,7 +16,6 @@ use Rattle.desk_core.proofs.NamesLaw.{names_in_order_rise}
 use Rattle.desk_model.specs.Change.{filed, request_filed}
 use Rattle.desk_model.specs.Commands.{plan_of}
 use Rattle.desk_model.specs.Commands.Create.{given_or_caller}
-use Rattle.desk_model.specs.Condition.{Condition}
 use Rattle.desk_model.specs.Desk.{Desk, Request, request_at}
 use Rattle.desk_model.specs.IsDesk.{IsDesk}
 use Rattle.desk_model.specs.Step.{call, facts_of, guard}
@@ -80,13 +76,11 @@ pub change_writable : (s : Settings) (at : ℕ) (caller : List ℕ) (command : C
 change_writable s at caller command desk is free =
     let asks = call s at caller in
     let plan = plan_of command in
-    let front : List Condition =
-    (UnknownCaller, not (knows s caller)) ∷ (BadMoment, not (is_moment at)) ∷ [] in
     let files = files_next desk _ (change_fits s at caller command desk is free).files in
-    let set = by_plan (λ d c. SetsThere (with_filed c d) c.row) asks plan front desk tt
+    let set = by_plan (λ d c. SetsThere (with_filed c d) c.row) asks plan desk tt
     (sets desk command) free in
-    let put = by_plan (λ d c. PutsAnew (with_rows c d) c.put) asks plan front desk tt
+    let put = by_plan (λ d c. PutsAnew (with_rows c d) c.put) asks plan desk tt
     (puts desk is command) free in
     let noted = by_plan (λ d c. list_all (λ e. is_there (with_filed c d) e.id) c.entries ≡ true)
-    asks plan front desk refl (notes desk is command) free in
+    asks plan desk refl (notes desk is command) free in
     let stays = carried_law s at caller command desk is free in assumption

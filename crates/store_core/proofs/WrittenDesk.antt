@@ -30,8 +30,9 @@ use Rattle.desk_model.specs.Stays.{begins_stay}
 use Rattle.desk_model.specs.Watchers.{watchers_of}
 use Rattle.store_tables.specs.Contents.{add_entry, add_watcher, drop_watcher, Contents, contents_of}
 use Rattle.store_tables.specs.Contents.{request_rows, watchers, AreAlike}
-use Rattle.store_tables.specs.Selection.{has_number, is_link, is_watcher}
-use Rattle.store_tables.specs.Dated.{dated_by, due_but}
+use Rattle.store_tables.specs.Contents.Link.{is_link}
+use Rattle.store_tables.specs.Contents.Request.{dated_by, due_but, has_number}
+use Rattle.store_tables.specs.Contents.Watcher.{is_watcher}
 use Rattle.store_core.proofs.FactsLemmasOfDesk.{same_link_is}
 use Rattle.store_core.proofs.Revised.{placed_alike, id_of, kept_all, kept_each, none_filed, none_in}
 use Rattle.store_core.proofs.Revised.{none_past, one_revised, there_by_number}

@@ -8,8 +8,8 @@ use Rattle.desk_model.specs.IsDesk.{IsDesk}
 use Rattle.desk_model.specs.declared.rows.RequestRow.{RequestRow}
 use Rattle.store_tables.specs.Calls.{Spares}
 use Rattle.store_tables.specs.Contents.{contents_of}
-use Rattle.store_tables.specs.Dated.{Dated}
-use Rattle.store_tables.specs.Mismatches.{MismatchesInNumbers}
+use Rattle.store_tables.specs.Contents.Request.{Dated}
+use Rattle.store_tables.specs.Readings.{MismatchesInNumbers}
 use Rattle.store_tables.specs.Stands.{Stand}
 use Rattle.store_tables.specs.declared.fault.StoreFault.{StoreFault}
 use Rattle.store_core.specs.Rows.{dated_rows, rows_numbered}

@@ -7,7 +7,7 @@ use Rattle.desk_model.specs.Change.{applied}
 use Rattle.desk_model.specs.Desk.{Desk}
 use Rattle.desk_model.specs.IsDesk.{IsDesk}
 use Rattle.store_tables.specs.Contents.{Contents, contents_of, set_each_due}
-use Rattle.store_tables.specs.Dated.{dues_but}
+use Rattle.store_tables.specs.Contents.Request.{dues_but}
 use Rattle.store_tables.specs.Stands.{Stand}
 use Rattle.store_tables.specs.declared.fault.StoreFault.{StoreFault}
 use Rattle.store_core.specs.Written.{IsWritable, dues_after, written}

@@ -1,9 +1,11 @@
 -- What making the tables does to those of version 1, and to those of any version.
-use Rattle.std.specs.Prelude.{◌≡◌, ◌≢◌, ◌⊎◌, ◌≤◌, ℕ, [], IfErr, IfOk, IsTrue, List, OnErr, OnOk}
+use Rattle.std.specs.Prelude.{◌≡◌, ◌≢◌, ◌⊎◌, ◌≤◌, ℕ, ℤ, [], IfErr, IfOk, IsTrue, List, OnErr, OnOk}
 use Rattle.std.specs.Prelude.{Option, Result, fold, true}
 use Rattle.sqlite.specs.Change.{KeepsRows}
 use Rattle.sqlite.specs.Effect.{Database}
+use Rattle.sqlite.specs.Order.{Row}
 use Rattle.sqlite.specs.State.{State, HasCleanDisk}
+use Rattle.sqlite_rules.specs.Lists.{Has}
 use Rattle.desk_model.specs.Desk.{Desk}
 use Rattle.desk_model.specs.Facts.{stays_at}
 use Rattle.desk_model.specs.IsDesk.{IsDesk}
@@ -11,12 +13,14 @@ use Rattle.desk_model.specs.declared.rows.RequestRow.{RequestRow}
 use Rattle.store_tables.specs.Calls.{Lasts, WasClean}
 use Rattle.store_tables.specs.Contents.{Contents, add_stay, contents_of, first_contents_of}
 use Rattle.store_tables.specs.Contents.{HasBadRow, Tables, desk_schema, front, table_count}
-use Rattle.store_tables.specs.Making.{IsKnown, IsOfMeta, numbered}
-use Rattle.store_tables.specs.Queries.{entry_shown_terms, last_id_terms, version_shown}
-use Rattle.store_tables.specs.Reading.{IsEntryRow, IsNumberRow}
+use Rattle.store_tables.specs.Making.{IsKnown, IsKnownVersion, IsOfMeta, IsVersionOf, numbered}
+use Rattle.store_tables.specs.Contents.Entry.{IsEntryRow, entry, entry_shown_terms}
+use Rattle.store_tables.specs.Contents.Meta.{meta, version_shown}
+use Rattle.store_tables.specs.Contents.Request.{last_id_terms, request}
+use Rattle.store_tables.specs.Contents.Stay.{stay_rows}
+use Rattle.store_tables.specs.Values.{IsNumberRow, IsWholeRow}
 use Rattle.store_tables.specs.Stands.{FirstStand, GoesOn, HasFront, HasTables, HoldsNow, KeepsBase}
 use Rattle.store_tables.specs.Stands.{Stand, filled}
-use Rattle.store_tables.specs.Stays.{stay_rows}
 use Rattle.store_tables.specs.declared.fault.StoreFault.{StoreFault}
 use Rattle.store_tables.specs.declared.fault.StoreFault.TheVariants.{Mismatch, Refused}
 use Rattle.store_tables.specs.declared.fault.StoreFault.TheVariants.{WrongVersion}
@@ -87,7 +91,8 @@ pub record RunsOn {X : Type 0} (old new : State) (result : Result X StoreFault) 
 -- what stays are made of has a bad row: the number of a request, or an entry, is none
 abbrev pub HasBadSource : Database → Type 0
 HasBadSource db =
-    HasBadRow 3 last_id_terms IsNumberRow db ⊎ HasBadRow 8 entry_shown_terms IsEntryRow db
+    HasBadRow request.tree last_id_terms IsNumberRow db
+    ⊎ HasBadRow entry.tree entry_shown_terms IsEntryRow db
 
 -- no fault is of the version, and a mismatch comes only of such a row, in an open store
 pub record BlamesSource {X : Type 0} (old new : State) (result : Result X StoreFault) : Type 0
@@ -100,6 +105,17 @@ pub record BlamesSource {X : Type 0} (old new : State) (result : Result X StoreF
 abbrev pub RefusesOn : {X : Type 0} → State → State → Result X StoreFault → Type 0
 RefusesOn old new result =
     (c : Contents) → HoldsNow c old → HasCleanDisk new → IfErr result (λ e. e ≡ Refused)
+
+-- meta has no row, or one that shows a known version
+abbrev pub IsNumberedSo : State → Type 0
+IsNumberedSo s = (s.now.trees meta.tree ≡ []) ⊎ ((n : ℕ) × IsOfMeta s n × IsKnown n)
+
+-- where all seven are there, with whatever rows: it goes well only there, and where meta has a row
+-- but none of version 1, no row of any table is another
+pub record KeepsOthers {X : Type 0} (old new : State) (result : Result X StoreFault) : Type 0 where
+  pub over : HasTables old → HasCleanDisk new → OnOk result (IsNumberedSo old)
+  pub alone : HasTables old → HasCleanDisk new → ¬ IsOfMeta old 1 → (row : Row)
+      → Has (old.now.trees meta.tree) row → OnOk result (new.now ≡ old.now)
 
 -- ---- of a whole call
 
@@ -143,15 +159,49 @@ RefusesKnown old new result =
 abbrev pub BlamesUnknown : {X : Type 0} → State → State → Result X StoreFault → Type 0
 BlamesUnknown old new result =
     HasFront old → HasCleanDisk new
-    → IfErr result (λ e. e ≡ WrongVersion → (n : ℕ) × IsOfMeta old n × ¬ IsKnown n)
+    → IfErr result (λ e. e ≡ WrongVersion → (z : ℤ) × IsVersionOf old z × ¬ IsKnownVersion z)
+
+-- no version is written: meta isn't there, or has no row
+abbrev pub IsUnnumbered : State → Type 0
+IsUnnumbered s =
+    (n : ℕ) × (n ≤ table_count) × (s.now.schema ≡ front n) × ((filled n s.now).trees meta.tree ≡ [])
+
+-- where the first n tables are there, with whatever rows, it goes well only where no version is
+-- written, or a known one
+abbrev pub NeedsVersion : {X : Type 0} → State → State → Result X StoreFault → Type 0
+NeedsVersion old new result =
+    HasFront old → HasCleanDisk new
+    → OnOk result (IsUnnumbered old ⊎ ((n : ℕ) × IsOfMeta old n × IsKnown n))
+
+-- and where a version is written, but not version 1, those have their rows still, and the tables
+-- that lacked have none
+abbrev pub IfPresent : {X : Type 0} → (ℕ → Type 0) → State → State → Result X StoreFault → Type 0
+IfPresent P old new result =
+    (n : ℕ) → n ≤ table_count → old.now.schema ≡ front n → (row : Row)
+    → Has ((filled n old.now).trees meta.tree) row → ¬ IsOfMeta old 1 → HasCleanDisk new
+    → OnOk result (P n)
+
+abbrev pub LeavesInside : {X : Type 0} → State → State → Result X StoreFault → Type 0
+LeavesInside old new result = IfPresent (λ n. IsGrown n old.now new.now) old new result
+
+abbrev pub LeavesPresent : {X : Type 0} → State → State → Result X StoreFault → Type 0
+LeavesPresent old new result =
+    IfPresent (λ n. IsGrown n old.now new.now × IsGrown n old.now new.committed) old new result
+
+-- the first n tables of version 1 that stand for a desk come to stand for it as seven of version 2,
+-- with the same due moments
+abbrev pub BringsPart : {X : Type 0} → State → State → Result X StoreFault → Type 0
+BringsPart old new result =
+    (desk : Desk) → IsDesk desk → (due : RequestRow → Option ℕ)
+    → HoldsPart (first_contents_of due desk) old → OnOk result (Stand (contents_of due desk) new)
 
 -- both of these of the version
 abbrev pub TellsVersion : {X : Type 0} → State → State → Result X StoreFault → Type 0
 TellsVersion old new result = NeedsKnown old new result × BlamesUnknown old new result
 
--- a row of meta shows no number, or it shows version 1 and what stays are made of has a bad row
+-- a row of meta shows no whole number, or it shows version 1 and what stays are made of has a bad row
 abbrev pub IsBlamed : State → Type 0
-IsBlamed s = HasBadRow 0 version_shown IsNumberRow s.now ⊎ (IsOfMeta s 1 × HasBadSource s.now)
+IsBlamed s = HasBadRow meta.tree version_shown IsWholeRow s.now ⊎ (IsOfMeta s 1 × HasBadSource s.now)
 
 -- a mismatch comes only of one of these
 abbrev pub MismatchesInMaking : {X : Type 0} → State → State → Result X StoreFault → Type 0

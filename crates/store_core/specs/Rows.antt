@@ -5,10 +5,9 @@ use Rattle.desk_model.specs.Desk.{Desk}
 use Rattle.desk_model.specs.IsDesk.{IsDesk}
 use Rattle.desk_model.specs.declared.rows.RequestRow.{RequestRow}
 use Rattle.store_tables.specs.Contents.{contents_of, request_rows}
-use Rattle.store_tables.specs.Dated.{Dated, dated_by}
-use Rattle.store_tables.specs.Orders.{by_due}
+use Rattle.store_tables.specs.Contents.Request.{Dated, by_due, dated_by, has_number, is_due_before}
+use Rattle.store_tables.specs.Contents.Request.{is_filed_in}
 use Rattle.store_tables.specs.Picked.{AreOrdered}
-use Rattle.store_tables.specs.Selection.{has_number, is_due_before, is_filed_in}
 use Rattle.store_tables.specs.Stands.{Stand}
 
 -- what is answered is so of the desk that the tables stand for and of the due moments beside it

@@ -3,7 +3,7 @@
 use Rattle.std.specs.Prelude.{◌≡◌, ◌+◌, ◌-◌, ◌==◌, ℕ, Bool, true, false, List, [], ◌∷◌, Option}
 use Rattle.std.specs.Prelude.{Some, None, find, fold, if◌then◌else◌, length, slice_get}
 use Rattle.std.specs.List.{list_all}
-use Rattle.std.specs.Option.{is_some, option_map}
+use Rattle.std.specs.Option.{is_some, option_map, option_to_list}
 use Rattle.hours_core.specs.declared.stay.Stay.{Stay}
 use Rattle.settings_core.specs.declared.settings.Settings.{Settings}
 use Rattle.desk_model.specs.declared.change.Change.{Change}
@@ -23,14 +23,15 @@ use Rattle.desk_model.specs.Step.{call, facts_of, guard}
 use Rattle.desk_model.specs.Watchers.{is_watching}
 use Rattle.store_tables.specs.Contents.{Contents, watchers}
 use Rattle.store_tables.specs.Contents.{add_queue, add_request, set_request, add_watcher}
-use Rattle.store_tables.specs.Dated.{due_but}
+use Rattle.store_tables.specs.Contents.Request.{due_but}
+use Rattle.store_tables.specs.Contents.Stay.{stay_row}
 use Rattle.store_tables.specs.Contents.{drop_watcher, add_link, drop_link, add_entry}
 use Rattle.store_tables.specs.Contents.{add_stay, end_stay}
-use Rattle.store_tables.specs.Stays.{stay_row}
+
+-- ---- where it is absent, nothing
 
 abbrev pub queue_added : Option QueueRow → Contents → Contents
-queue_added None c = c
-queue_added (Some queue) c = add_queue c queue
+queue_added queue c = fold add_queue c (option_to_list queue)
 
 -- a request's row with its due moment
 abbrev pub request_added : Option RequestRow → Option ℕ → Contents → Contents
@@ -42,12 +43,12 @@ request_set None due c = c
 request_set (Some row) due c = set_request c row due
 
 abbrev pub link_added : Option LinkRow → Contents → Contents
-link_added None c = c
-link_added (Some link) c = add_link c link
+link_added link c = fold add_link c (option_to_list link)
 
 abbrev pub link_dropped : Option LinkRow → Contents → Contents
-link_dropped None c = c
-link_dropped (Some link) c = drop_link c link
+link_dropped link c = fold drop_link c (option_to_list link)
+
+-- ---- stays
 
 -- the request on which the first of these entries that begins a stay begins it
 abbrev pub begun_on : List Entry → Option ℕ

@@ -10,31 +10,13 @@ ghost use Rattle.store_core.specs.Written.{link_added, link_dropped, queue_added
 ghost use Rattle.store_core.specs.Written.{request_added, request_set, written};
 ghost use Rattle.store_core.specs.Written as spec;
 
-use desk_core::{Change, Entry, LinkRow, QueueRow, RequestRow};
+use desk_core::{Change, Entry, RequestRow};
 use hours_core::{Minute, Stay};
 use sqlite::{Alter, Transaction};
 use store_tables::StoreFault;
-use store_tables::writes::entries::put_entries;
-use store_tables::writes::links::{drop_link, put_link};
-use store_tables::writes::queues::put_queue;
-use store_tables::writes::requests::{put_request, set_request};
-use store_tables::writes::stays::{end_stay, put_stay};
-use store_tables::writes::watchers::{drop_watchers, put_watchers};
-
-/// Adds the queue, if there is one.
-fn open_queue<S: Alter>(
-    tx: &mut Transaction<'_, S>,
-    queue: &Option<QueueRow>,
-) -> Result<(), StoreFault>
-    ensures same_reference { tx.new.conn.ghost_name ≡ tx.old.conn.ghost_name }
-    ensures opened { Does (queue_added queue.now)
-        (state S.Store tx.old.conn.now) (state S.Store tx.new.conn.now) result }
-{
-    match queue {
-        Some(row) => put_queue(tx, row),
-        None => Ok(()),
-    }
-}
+use store_tables::tables::request::{put_request, set_request};
+use store_tables::tables::stay::{end_stay, put_stay};
+use store_tables::written::{put_all, put_any, take_all, take_any};
 
 /// Adds the request with its due moment, if there is one.
 fn file_request<S: Alter>(
@@ -68,33 +50,6 @@ fn revise_request<S: Alter>(
     }
 }
 
-/// Adds the link, if there is one.
-fn link<S: Alter>(tx: &mut Transaction<'_, S>, linked: &Option<LinkRow>) -> Result<(), StoreFault>
-    ensures same_reference { tx.new.conn.ghost_name ≡ tx.old.conn.ghost_name }
-    ensures linked { Does (link_added linked.now)
-        (state S.Store tx.old.conn.now) (state S.Store tx.new.conn.now) result }
-{
-    match linked {
-        Some(row) => put_link(tx, row),
-        None => Ok(()),
-    }
-}
-
-/// Takes the link out, if there is one.
-fn unlink<S: Alter>(
-    tx: &mut Transaction<'_, S>,
-    unlinked: &Option<LinkRow>,
-) -> Result<(), StoreFault>
-    ensures same_reference { tx.new.conn.ghost_name ≡ tx.old.conn.ghost_name }
-    ensures unlinked { Does (link_dropped unlinked.now)
-        (state S.Store tx.old.conn.now) (state S.Store tx.new.conn.now) result }
-{
-    match unlinked {
-        Some(row) => drop_link(tx, row),
-        None => Ok(()),
-    }
-}
-
 /// Writes the queue and the rows of requests.
 fn write_rows<S: Alter>(tx: &mut Transaction<'_, S>, change: &Change) -> Result<(), StoreFault>
     ensures same_reference { tx.new.conn.ghost_name ≡ tx.old.conn.ghost_name }
@@ -102,7 +57,7 @@ fn write_rows<S: Alter>(tx: &mut Transaction<'_, S>, change: &Change) -> Result<
         (request_added change.now.filed (change.now.due) (queue_added change.now.queue c)))
         (state S.Store tx.old.conn.now) (state S.Store tx.new.conn.now) result }
 {
-    open_queue(tx, &change.queue)?;
+    put_any(tx, &change.queue)?;
     file_request(tx, &change.filed, change.due)?;
     revise_request(tx, &change.row, change.due)
 }
@@ -114,8 +69,8 @@ fn write_persons<S: Alter>(tx: &mut Transaction<'_, S>, change: &Change) -> Resu
         change.now.taken)
         (state S.Store tx.old.conn.now) (state S.Store tx.new.conn.now) result }
 {
-    put_watchers(tx, change.put.as_slice())?;
-    drop_watchers(tx, change.taken.as_slice())
+    put_all(tx, change.put.as_slice())?;
+    take_all(tx, change.taken.as_slice())
 }
 
 /// Adds a link, and takes one out.
@@ -124,8 +79,8 @@ fn write_links<S: Alter>(tx: &mut Transaction<'_, S>, change: &Change) -> Result
     ensures made { Does (λ c. link_dropped change.now.unlinked (link_added change.now.linked c))
         (state S.Store tx.old.conn.now) (state S.Store tx.new.conn.now) result }
 {
-    link(tx, &change.linked)?;
-    unlink(tx, &change.unlinked)
+    put_any(tx, &change.linked)?;
+    take_any(tx, &change.unlinked)
 }
 
 /// The request on which one of the entries begins a stay, if one does.
@@ -220,7 +175,7 @@ fn write_history<S: Alter>(tx: &mut Transaction<'_, S>, change: &Change) -> Resu
         (fold add_entry c change.now.entries))
         (state S.Store tx.old.conn.now) (state S.Store tx.new.conn.now) result }
 {
-    put_entries(tx, change.entries.as_slice())?;
+    put_all(tx, change.entries.as_slice())?;
     write_stay(tx, change)
 }
 

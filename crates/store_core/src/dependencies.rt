@@ -11,8 +11,8 @@ use crate::seen_request::queue_at;
 use desk_core::{Dependency, LinkKind, LinkRow, QueueRow, RequestRow};
 use sqlite::Alter;
 use std::alloc::Global;
-use store_tables::reads::links_by_key::links_of_kind;
-use store_tables::reads::requests_by_key::request_numbered;
+use store_tables::tables::link::links_of_kind;
+use store_tables::tables::request::request_numbered;
 use store_tables::{StoreFault, Tables};
 use text_core::Sequence;
 

@@ -11,7 +11,7 @@ use crate::store::Store;
 use hours_core::Minute;
 use sqlite::Alter;
 use store_tables::transaction::finish;
-use store_tables::writes::requests::set_dues;
+use store_tables::written::put_all;
 use store_tables::{StoreFault, Tables};
 
 /// Writes due moments in one transaction: all of them, or none.
@@ -27,7 +27,7 @@ fn write_dues<S: Alter>(
     ensures fault { IfErr result (λ e. e ≡ StoreFault.Refused) }
 {
     let mut tx = tables.conn.transaction();
-    set_dues(&mut tx, dues)?;
+    put_all(&mut tx, dues)?;
     finish(tx)
 }
 

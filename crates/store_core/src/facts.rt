@@ -23,9 +23,9 @@ use desk_core::{Command, Dependency, Facts, LinkRow, QueueRow, Scope, SeenReques
 use hours_core::Stay;
 use sqlite::Alter;
 use std::alloc::Global;
-use store_tables::reads::links_by_key::link_like;
-use store_tables::reads::queue_count::queue_count;
-use store_tables::reads::requests_by_key::last_id;
+use store_tables::tables::link::link_like;
+use store_tables::tables::queue::queue_count;
+use store_tables::tables::request::last_id;
 use store_tables::{StoreFault, Tables};
 use text_core::{Sequence, Text};
 

@@ -3,13 +3,14 @@ ghost use Rattle.std.specs.Prelude.{◌≡◌, filter, IsPermutation, map};
 ghost use Rattle.desk_model.specs.Facts.{stays_at};
 ghost use Rattle.store_tables.specs.Calls.{Spares, Tells};
 ghost use Rattle.store_tables.specs.Contents.{actors, history_at, request_rows, watchers};
-ghost use Rattle.store_tables.specs.Mismatches.{MismatchesInActors, MismatchesInDated};
-ghost use Rattle.store_tables.specs.Mismatches.{MismatchesInEntries};
-ghost use Rattle.store_tables.specs.Mismatches.{MismatchesInLinks};
-ghost use Rattle.store_tables.specs.Mismatches.{MismatchesInQueues, MismatchesInRequests};
-ghost use Rattle.store_tables.specs.Mismatches.{MismatchesInStays, MismatchesInWatchers};
-ghost use Rattle.store_tables.specs.Selection.{ends_at, is_filed_in, is_of_person, starts_at};
-ghost use Rattle.store_tables.specs.Stays.{request_stay, stays};
+ghost use Rattle.store_tables.specs.Contents.Link.{ends_at, starts_at};
+ghost use Rattle.store_tables.specs.Contents.Request.{is_filed_in};
+ghost use Rattle.store_tables.specs.Contents.Stay.{request_stay, stays};
+ghost use Rattle.store_tables.specs.Contents.Watcher.{is_of_person};
+ghost use Rattle.store_tables.specs.Readings.{MismatchesInActors, MismatchesInDated};
+ghost use Rattle.store_tables.specs.Readings.{MismatchesInEntries, MismatchesInLinks};
+ghost use Rattle.store_tables.specs.Readings.{MismatchesInQueues, MismatchesInRequests};
+ghost use Rattle.store_tables.specs.Readings.{MismatchesInStays, MismatchesInWatchers};
 ghost use Rattle.store_core.specs.Rows.{AreDueBefore, AreFiledIn, TellsDated, dated_rows};
 ghost use Rattle.store_core.specs.Seen.{state_of};
 
@@ -18,7 +19,9 @@ use crate::store::Store;
 use desk_core::{Entry, LinkRow, QueueRow, RequestRow, Watcher};
 use hours_core::{Minute, Stay};
 use std::alloc::Global;
-use store_tables::{StoreFault, reads};
+use store_tables::StoreFault;
+use store_tables::tables::request::dated;
+use store_tables::tables::{entry, link, queue, request, stay, watcher};
 use text_core::Text;
 
 impl<S: Backend> Store<S> {
@@ -31,7 +34,7 @@ impl<S: Backend> Store<S> {
             (state_of S.Store self.old) (state_of S.Store self.new) result }
         ensures kept { Spares (state_of S.Store self.old) (state_of S.Store self.new) }
     {
-        reads::queues::queues(alloc, &mut self.tables)
+        queue::queues(alloc, &mut self.tables)
     }
 
     /// The requests, in the order of their numbers. `Mismatch` where a row is no request, `Refused`
@@ -43,7 +46,7 @@ impl<S: Backend> Store<S> {
             (state_of S.Store self.old) (state_of S.Store self.new) result }
         ensures kept { Spares (state_of S.Store self.old) (state_of S.Store self.new) }
     {
-        reads::lists_requests::requests(alloc, &mut self.tables)
+        request::requests(alloc, &mut self.tables)
     }
 
     /// The requests of a queue, in the order of their numbers. `Mismatch` where a row is no
@@ -60,7 +63,7 @@ impl<S: Backend> Store<S> {
             (state_of S.Store self.old) (state_of S.Store self.new) result }
         ensures kept { Spares (state_of S.Store self.old) (state_of S.Store self.new) }
     {
-        reads::lists_requests::requests_of(alloc, &mut self.tables, queue)
+        request::requests_of(alloc, &mut self.tables, queue)
     }
 
     /// The requests, in the order of their numbers, each with the due moment that the tables keep.
@@ -76,7 +79,7 @@ impl<S: Backend> Store<S> {
             (state_of S.Store self.old) (state_of S.Store self.new) result }
         ensures kept { Spares (state_of S.Store self.old) (state_of S.Store self.new) }
     {
-        reads::dated_requests::dated_requests(alloc, &mut self.tables)
+        dated::dated_requests(alloc, &mut self.tables)
     }
 
     /// The requests of a queue, in the order of their numbers, each with the due moment that the
@@ -93,7 +96,7 @@ impl<S: Backend> Store<S> {
             (state_of S.Store self.old) (state_of S.Store self.new) result }
         ensures kept { Spares (state_of S.Store self.old) (state_of S.Store self.new) }
     {
-        reads::dated_requests::dated_of(alloc, &mut self.tables, queue)
+        dated::dated_of(alloc, &mut self.tables, queue)
     }
 
     /// The requests that are due before that moment, each with its due moment: by due moment, and
@@ -111,7 +114,7 @@ impl<S: Backend> Store<S> {
             (state_of S.Store self.old) (state_of S.Store self.new) result }
         ensures kept { Spares (state_of S.Store self.old) (state_of S.Store self.new) }
     {
-        reads::dated_requests::dated_before(alloc, &mut self.tables, at)
+        dated::dated_before(alloc, &mut self.tables, at)
     }
 
     /// The links, in the order of source, kind and target. `Mismatch` where a row is no link,
@@ -123,7 +126,7 @@ impl<S: Backend> Store<S> {
             (state_of S.Store self.old) (state_of S.Store self.new) result }
         ensures kept { Spares (state_of S.Store self.old) (state_of S.Store self.new) }
     {
-        reads::lists_links::links(alloc, &mut self.tables)
+        link::links(alloc, &mut self.tables)
     }
 
     /// The links that lead from a request, in the order of kind and target. `Mismatch`
@@ -136,7 +139,7 @@ impl<S: Backend> Store<S> {
             (state_of S.Store self.old) (state_of S.Store self.new) result }
         ensures kept { Spares (state_of S.Store self.old) (state_of S.Store self.new) }
     {
-        reads::lists_links::links_from(alloc, &mut self.tables, source)
+        link::links_from(alloc, &mut self.tables, source)
     }
 
     /// The links that lead to a request, in the order of source and kind. `Mismatch`
@@ -149,7 +152,7 @@ impl<S: Backend> Store<S> {
             (state_of S.Store self.old) (state_of S.Store self.new) result }
         ensures kept { Spares (state_of S.Store self.old) (state_of S.Store self.new) }
     {
-        reads::lists_links::links_to(alloc, &mut self.tables, target)
+        link::links_to(alloc, &mut self.tables, target)
     }
 
     /// The watchers, in the order of request, role and person. `Mismatch` where a row is no
@@ -161,7 +164,7 @@ impl<S: Backend> Store<S> {
             (state_of S.Store self.old) (state_of S.Store self.new) result }
         ensures kept { Spares (state_of S.Store self.old) (state_of S.Store self.new) }
     {
-        reads::lists_watchers::watchers(alloc, &mut self.tables)
+        watcher::watchers(alloc, &mut self.tables)
     }
 
     /// The watchers who are that person, in the order of request and role. `Mismatch` where a row
@@ -174,7 +177,7 @@ impl<S: Backend> Store<S> {
             (state_of S.Store self.old) (state_of S.Store self.new) result }
         ensures kept { Spares (state_of S.Store self.old) (state_of S.Store self.new) }
     {
-        reads::watches_by_person::watches_of(alloc, &mut self.tables, person)
+        watcher::watches_of(alloc, &mut self.tables, person)
     }
 
     /// The entries of a request, from the first, none where there is no such request. `Mismatch`
@@ -187,7 +190,7 @@ impl<S: Backend> Store<S> {
             (state_of S.Store self.old) (state_of S.Store self.new) result }
         ensures kept { Spares (state_of S.Store self.old) (state_of S.Store self.new) }
     {
-        reads::lists_entries::entries_of(alloc, &mut self.tables, id)
+        entry::entries_of(alloc, &mut self.tables, id)
     }
 
     /// The stays of a request, in order, none where there is no such request. `Mismatch` where a
@@ -200,7 +203,7 @@ impl<S: Backend> Store<S> {
             (state_of S.Store self.old) (state_of S.Store self.new) result }
         ensures kept { Spares (state_of S.Store self.old) (state_of S.Store self.new) }
     {
-        reads::stays::stays_of(alloc, &mut self.tables, id)
+        stay::stays_of(alloc, &mut self.tables, id)
     }
 
     /// The stays of all requests, each with the number of its request, in the order of those
@@ -213,7 +216,7 @@ impl<S: Backend> Store<S> {
             (state_of S.Store self.old) (state_of S.Store self.new) result }
         ensures kept { Spares (state_of S.Store self.old) (state_of S.Store self.new) }
     {
-        reads::stays::stays(alloc, &mut self.tables)
+        stay::stays(alloc, &mut self.tables)
     }
 
     /// Who made each entry, one name an entry, in no order that matters. `Mismatch` where one is no
@@ -225,6 +228,6 @@ impl<S: Backend> Store<S> {
             (state_of S.Store self.old) (state_of S.Store self.new) result }
         ensures kept { Spares (state_of S.Store self.old) (state_of S.Store self.new) }
     {
-        reads::actors::actors(alloc, &mut self.tables)
+        entry::actors(alloc, &mut self.tables)
     }
 }

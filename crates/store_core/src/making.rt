@@ -9,12 +9,11 @@ ghost use Rattle.desk_model.specs.declared.rows.RequestRow.{RequestRow};
 ghost use Rattle.store_tables.specs.Contents.{Contents, contents_of, first_contents_of};
 ghost use Rattle.store_tables.specs.Contents.{table_texts};
 ghost use Rattle.store_tables.specs.Making.{IsKnown};
-ghost use Rattle.store_tables.specs.Stands.{FirstStand, GoesBack, GoesOn, HoldsNow, KeepsBase};
-ghost use Rattle.store_tables.specs.Stands.{Stand};
+ghost use Rattle.store_tables.specs.Stands.{GoesBack, GoesOn, HoldsNow, KeepsBase};
 ghost use Rattle.store_tables.specs.declared.fault.StoreFault.{StoreFault};
-ghost use Rattle.store_core.specs.Migrating.{BlamesUnknown, Completes, Grows, HoldsPart};
+ghost use Rattle.store_core.specs.Migrating.{BlamesUnknown, BringsPart, Completes, Grows, HoldsPart};
 ghost use Rattle.store_core.specs.Migrating.{HoldsUnnumbered, MismatchesInMaking, NeedsKnown};
-ghost use Rattle.store_core.specs.Migrating.{RefusesKnown};
+ghost use Rattle.store_core.specs.Migrating.{LeavesInside, LeavesPresent, NeedsVersion, RefusesKnown};
 ghost use Rattle.store_tables.specs.Seen.{seen};
 
 use crate::version::bring_up;
@@ -69,6 +68,10 @@ fn make_all<S: Alter>(alloc: Global, tx: &mut Transaction<'_, S>) -> Result<(), 
         (state S.Store tx.old.conn.now) (state S.Store tx.new.conn.now) result }
     ensures blames { BlamesUnknown
         (state S.Store tx.old.conn.now) (state S.Store tx.new.conn.now) result }
+    ensures over { NeedsVersion
+        (state S.Store tx.old.conn.now) (state S.Store tx.new.conn.now) result }
+    ensures alone { LeavesInside
+        (state S.Store tx.old.conn.now) (state S.Store tx.new.conn.now) result }
 {
     make_tables(tx, &TABLES)?;
     bring_up(alloc, tx)
@@ -77,9 +80,9 @@ fn make_all<S: Alter>(alloc: Global, tx: &mut Transaction<'_, S>) -> Result<(), 
 /// Makes the tables that are missing, and brings them to the present version, in one transaction.
 pub(crate) fn make_schema<S: Alter>(alloc: Global, tables: &mut Tables<S>) -> Result<(), StoreFault>
     ensures completed { Completes (seen S.Store tables.old) (seen S.Store tables.new) result }
-    ensures brings { (desk : Desk) → IsDesk desk → (due : RequestRow → Option ℕ) →
-        FirstStand (first_contents_of due desk) (seen S.Store tables.old) →
-        OnOk result (Stand (contents_of due desk) (seen S.Store tables.new)) }
+    ensures brings { BringsPart (seen S.Store tables.old) (seen S.Store tables.new) result }
+    ensures over { NeedsVersion (seen S.Store tables.old) (seen S.Store tables.new) result }
+    ensures alone { LeavesPresent (seen S.Store tables.old) (seen S.Store tables.new) result }
     ensures back { OnErr result
         (GoesBack (seen S.Store tables.old) (seen S.Store tables.new)) }
     ensures honest { WasClean (seen S.Store tables.old) (seen S.Store tables.new) }

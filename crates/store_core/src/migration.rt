@@ -14,9 +14,10 @@ use hours_core::Stay;
 use sqlite::{Alter, Transaction};
 use std::alloc::Global;
 use store_tables::StoreFault;
-use store_tables::inside::{entries_of, numbers};
-use store_tables::writes::stays::put_stays;
-use store_tables::writes::version::set_version;
+use store_tables::tables::entry::entries_inside;
+use store_tables::tables::meta::set_version;
+use store_tables::tables::request::numbers::numbers_inside;
+use store_tables::tables::stay::put_stays;
 
 /// The stays that a history tells.
 fn stays_told(alloc: Global, entries: &[Entry]) -> Result<Vec<Stay>, StoreFault>
@@ -42,7 +43,7 @@ fn fill_one<S: Alter>(alloc: Global, tx: &mut Transaction<'_, S>, id: u32) -> Re
     ensures blames { BlamesSource
         (state S.Store tx.old.conn.now) (state S.Store tx.new.conn.now) result }
 {
-    let entries = entries_of(alloc, tx, id)?;
+    let entries = entries_inside(alloc, tx, id)?;
     let stays = stays_told(alloc, entries.as_slice())?;
     put_stays(tx, id, stays.as_slice())
 }
@@ -79,7 +80,7 @@ fn fill_stays<S: Alter>(alloc: Global, tx: &mut Transaction<'_, S>) -> Result<()
     ensures blames { BlamesSource
         (state S.Store tx.old.conn.now) (state S.Store tx.new.conn.now) result }
 {
-    let ids = numbers(alloc, tx)?;
+    let ids = numbers_inside(alloc, tx)?;
     fill_each(alloc, tx, ids.as_slice())
 }
 

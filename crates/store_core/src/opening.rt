@@ -1,24 +1,28 @@
 //! A store is opened, and its tables are made.
-ghost use Rattle.std.specs.Prelude.{◌≡◌, ◌≢◌, false, IfErr, IfOk, OnErr};
+ghost use Rattle.std.specs.Prelude.{◌≡◌, ◌≢◌, false, IfErr, IfOk, None, OnErr};
 ghost use Rattle.sqlite.specs.State.{HasCleanDisk};
 ghost use Rattle.sqlite.specs.Steps.{over_memory};
 ghost use Rattle.store_tables.specs.Calls.{Answers, AreLeft, Lasts, Spares, WasClean};
 ghost use Rattle.store_tables.specs.Making.{IsBlank, IsOfMeta, MakesDesk, ReadsMeta, RefusesBlank};
 ghost use Rattle.store_tables.specs.declared.fault.StoreFault.{StoreFault};
-ghost use Rattle.store_core.specs.Migrating.{Completes, LeavesOthers, MigratesDesk};
-ghost use Rattle.store_core.specs.Migrating.{MismatchesInMaking, RefusesKnown, TellsVersion};
+ghost use Rattle.store_core.specs.Migrating.{BringsPart, Completes, LeavesOthers, LeavesPresent};
+ghost use Rattle.store_core.specs.Migrating.{MigratesDesk, MismatchesInMaking, NeedsVersion, RefusesKnown};
+ghost use Rattle.store_core.specs.Migrating.{TellsVersion};
 ghost use Rattle.store_core.specs.Seen.{connection_of, state_of};
 
 use crate::making::make_schema;
 use crate::store::Store;
 use sqlite::{Alter, Connection, MemStore};
 use std::alloc::Global;
-use store_tables::{StoreFault, Tables, reads};
+use store_tables::tables::meta;
+use store_tables::{StoreFault, Tables};
 
 impl Store<MemStore> {
-    /// A store in memory, without tables. `Refused` where out of memory.
+    /// A store in memory, without tables and without a limit on steps. `Refused` where out of
+    /// memory.
     pub fn open_in_memory(alloc: Global) -> Result<Store<MemStore>, StoreFault>
         ensures blank { IfOk result (λ store. IsBlank (state_of over_memory store)) }
+        ensures unlimited { IfOk result (λ store. (state_of over_memory store).step_limit ≡ None) }
         ensures fault { IfErr result (λ e. e ≡ StoreFault.Refused) }
     {
         match Connection::open_in_memory(alloc) {
@@ -52,7 +56,7 @@ impl<S: Alter> Store<S> {
     /// Makes the tables that are missing and, where there is no version, writes version 2. Of
     /// tables of version 1 it fills in the stays, by the histories, and sets version 2. All is in
     /// one transaction. `WrongVersion` where the tables are of another version, `Mismatch` where
-    /// their version is no number, or, in tables of version 1, the number of a request or an entry
+    /// their version is no whole number, or, in tables of version 1, the number of a request or an entry
     /// is no value of its type, `Refused` where the store or memory refuses it. A fault leaves all
     /// tables as they were, whatever tables there are. Tables of version 2 keep their rows.
     pub fn create_schema(&mut self, alloc: Global) -> Result<(), StoreFault>
@@ -60,6 +64,12 @@ impl<S: Alter> Store<S> {
         ensures migrated { MigratesDesk
             (state_of S.Store self.old) (state_of S.Store self.new) result }
         ensures kept { LeavesOthers (state_of S.Store self.old) (state_of S.Store self.new) }
+        ensures brings { BringsPart
+            (state_of S.Store self.old) (state_of S.Store self.new) result }
+        ensures over { NeedsVersion
+            (state_of S.Store self.old) (state_of S.Store self.new) result }
+        ensures alone { LeavesPresent
+            (state_of S.Store self.old) (state_of S.Store self.new) result }
         ensures completed { Completes
             (state_of S.Store self.old) (state_of S.Store self.new) result }
         ensures spared { OnErr result
@@ -89,7 +99,7 @@ impl<S: Alter> Store<S> {
         ensures fault { IfErr result (λ e. e ≢ StoreFault.WrongVersion) }
         ensures kept { Spares (state_of S.Store self.old) (state_of S.Store self.new) }
     {
-        reads::version::version(&mut self.tables)
+        meta::version(&mut self.tables)
     }
 
     /// Whether the connection is open: a fault of the disk shuts it for good. `Refused` where the
@@ -100,6 +110,6 @@ impl<S: Alter> Store<S> {
         ensures kept { Spares (state_of S.Store self.old) (state_of S.Store self.new) }
         ensures fault { IfErr result (λ e. e ≡ StoreFault.Refused) }
     {
-        reads::open::is_open(&mut self.tables)
+        meta::is_open(&mut self.tables)
     }
 }

@@ -4,8 +4,8 @@ ghost use Rattle.std.specs.Prelude.{◌+◌, ◌<◌, ◌≡◌, ◌≢◌, ◌^
 ghost use Rattle.std.specs.Prelude.{None, Ok, filter, slice_get};
 ghost use Rattle.std.specs.Borrow.{RestsIfErr, sem};
 ghost use Rattle.store_tables.specs.Calls.{OnlyRefuses, Spares};
-ghost use Rattle.store_tables.specs.Mismatches.{MismatchesInNumbers};
-ghost use Rattle.store_tables.specs.Selection.{has_number};
+ghost use Rattle.store_tables.specs.Contents.Request.{has_number};
+ghost use Rattle.store_tables.specs.Readings.{MismatchesInNumbers};
 ghost use Rattle.store_tables.specs.declared.fault.StoreFault.{StoreFault};
 ghost use Rattle.store_tables.specs.Readings.{Blames, Reads};
 ghost use Rattle.store_core.specs.Ahead.{Begins, GivesNext, HasAhead, IsRefused};
@@ -20,8 +20,8 @@ use hours_core::Minute;
 use sqlite::Alter;
 use std::alloc::Global;
 use store_tables::StoreFault;
-use store_tables::reads::dated_requests::dated_numbered;
-use store_tables::reads::request_numbers::{numbers_due_before, numbers_in};
+use store_tables::tables::request::dated::dated_numbered;
+use store_tables::tables::request::numbers::{numbers_due_before, numbers_in};
 use text_core::{Sequence, Text};
 
 /// How far rows are read.

@@ -4,16 +4,17 @@ ghost use Rattle.desk_model.specs.Desk.{queue_at};
 ghost use Rattle.desk_model.specs.Facts as facts;
 ghost use Rattle.store_tables.specs.declared.fault.StoreFault.{StoreFault};
 ghost use Rattle.store_tables.specs.Readings.{OfDesk, Reads};
+ghost use Rattle.desk_model.specs.declared.rows.WatchRole.{WatchRole};
 ghost use Rattle.store_core.specs.Found as found;
 ghost use Rattle.store_tables.specs.Seen.{seen};
 
-use desk_core::{QueueRow, RequestRow, SeenRequest, WatchRole, Watcher, is_role};
+use desk_core::{QueueRow, RequestRow, SeenRequest, WatchRole, Watcher};
 use sqlite::Alter;
 use std::alloc::Global;
-use store_tables::reads::entries_by_key::last_number;
-use store_tables::reads::queues::queue_named;
-use store_tables::reads::requests_by_key::request_numbered;
-use store_tables::reads::watchers_by_key::watchers_of;
+use store_tables::tables::entry::last_number;
+use store_tables::tables::queue::queue_named;
+use store_tables::tables::request::request_numbered;
+use store_tables::tables::watcher::watchers_of;
 use store_tables::{StoreFault, Tables};
 use text_core::{Text, Texts};
 
@@ -56,54 +57,71 @@ pub(crate) fn seen_request_at<S: Alter>(
         Some(row) => {
             let entry_count = last_number(tables, id)?;
             let watchers = watchers_of(alloc, tables, id)?;
-            let seen_request = seen_request_of(alloc, row, watchers.as_slice(), entry_count)?;
+            let seen_request = seen_request_of(alloc, row, watchers, entry_count)?;
             Ok(Some(seen_request))
         }
     }
 }
 
-/// A request's row with the persons among its watchers, and the number of its entries.
+/// A request's row with the persons among its watchers, whose names move there, and the number of
+/// its entries.
 fn seen_request_of(
     alloc: Global,
     row: RequestRow,
-    watchers: &[Watcher],
+    watchers: Vec<Watcher>,
     entry_count: u32,
 ) -> Result<SeenRequest, StoreFault>
     ensures ok { IfOk result
-        (λ request. request ≡ found.seen_request_of row watchers.now entry_count) }
+        (λ request. request ≡ found.seen_request_of row watchers.items entry_count) }
     ensures fault { IfErr result (λ e. e ≡ StoreFault.Refused) }
 {
+    let mut requestors = Vec::new(alloc);
+    let mut cc = Vec::new(alloc);
+    let mut admin_cc = Vec::new(alloc);
+    for watcher in watchers {
+        put_watcher(&mut requestors, &mut cc, &mut admin_cc, watcher)?;
+    }
     Ok(SeenRequest {
         row,
-        requestors: persons_in(alloc, WatchRole::Requestor, watchers)?,
-        cc: persons_in(alloc, WatchRole::Cc, watchers)?,
-        admin_cc: persons_in(alloc, WatchRole::AdminCc, watchers)?,
+        requestors: Texts::from(requestors),
+        cc: Texts::from(cc),
+        admin_cc: Texts::from(admin_cc),
         entry_count,
     })
 }
 
-/// The persons in a role, in the order of the watchers.
-fn persons_in(alloc: Global, role: WatchRole, watchers: &[Watcher]) -> Result<Texts, StoreFault>
-    ensures ok { IfOk result (λ persons. persons ≡ found.persons_in role watchers.now) }
+/// Puts the person at the end of those of the role.
+fn put_watcher(
+    requestors: &mut Vec<Text>,
+    cc: &mut Vec<Text>,
+    admin_cc: &mut Vec<Text>,
+    watcher: Watcher,
+) -> Result<(), StoreFault>
+    ensures requestors { OnOk result (requestors.new.items
+        ≡ requestors.old.items ++ found.persons_in WatchRole.Requestor (watcher ∷ [])) }
+    ensures cc { OnOk result (cc.new.items
+        ≡ cc.old.items ++ found.persons_in WatchRole.Cc (watcher ∷ [])) }
+    ensures admin_cc { OnOk result (admin_cc.new.items
+        ≡ admin_cc.old.items ++ found.persons_in WatchRole.AdminCc (watcher ∷ [])) }
     ensures fault { IfErr result (λ e. e ≡ StoreFault.Refused) }
 {
-    let mut persons = Vec::new(alloc);
-    for watcher in watchers {
-        if is_role(role, watcher.role) {
-            put_person(&mut persons, &watcher.person)?;
-        }
+    let Watcher {
+        id: _,
+        role,
+        person,
+    } = watcher;
+    match role {
+        WatchRole::Requestor => put_person(requestors, person),
+        WatchRole::Cc => put_person(cc, person),
+        WatchRole::AdminCc => put_person(admin_cc, person),
     }
-    Ok(Texts::from(persons))
 }
 
-fn put_person(persons: &mut Vec<Text>, person: &Text) -> Result<(), StoreFault>
-    ensures ok { OnOk result (persons.new.items ≡ persons.old.items ++ person.now ∷ []) }
+fn put_person(persons: &mut Vec<Text>, person: Text) -> Result<(), StoreFault>
+    ensures ok { OnOk result (persons.new.items ≡ persons.old.items ++ person ∷ []) }
     ensures fault { IfErr result (λ e. e ≡ StoreFault.Refused) }
 {
-    let Ok(copy) = person.clone() else {
-        return Err(StoreFault::Refused);
-    };
-    match persons.push(copy) {
+    match persons.push(person) {
         Ok(()) => Ok(()),
         Err(_) => Err(StoreFault::Refused),
     }

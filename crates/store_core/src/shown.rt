@@ -12,8 +12,8 @@ use desk_core::may_show;
 use settings_core::Settings;
 use sqlite::Alter;
 use std::alloc::Global;
-use store_tables::reads::requests_by_key::request_numbered;
-use store_tables::reads::watchers_by_key::watchers_of;
+use store_tables::tables::request::request_numbered;
+use store_tables::tables::watcher::watchers_of;
 use store_tables::{StoreFault, Tables};
 
 impl<S: Alter> Store<S> {

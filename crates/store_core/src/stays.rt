@@ -9,7 +9,8 @@ ghost use Rattle.store_tables.specs.Seen.{seen};
 use hours_core::Stay;
 use sqlite::Alter;
 use std::alloc::Global;
-use store_tables::{StoreFault, Tables, reads};
+use store_tables::tables::stay;
+use store_tables::{StoreFault, Tables};
 use text_core::Sequence;
 
 /// The stays of a request that is there; none are read of one that isn't.
@@ -23,7 +24,7 @@ pub(crate) fn stays_if<S: Alter>(
         (seen S.Store tables.old) (seen S.Store tables.new) result }
 {
     if is_there {
-        let stays = reads::stays::stays_of(alloc, tables, id)?;
+        let stays = stay::stays_of(alloc, tables, id)?;
         Ok(Sequence::from(stays))
     } else {
         Ok(Sequence::from(Vec::new(alloc)))

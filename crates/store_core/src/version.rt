@@ -1,33 +1,32 @@
 //! The version of the tables, which are brought to the present one.
-ghost use Rattle.std.specs.Prelude.{◌≡◌, ◌≢◌, IfErr, IfOk, IfSome, None, OnOk, Some, ⊤};
+ghost use Rattle.std.specs.Prelude.{◌≡◌, ◌≢◌, IfErr, IfOk, None, OnOk, Some, pos};
 ghost use Rattle.sqlite.specs.Held.{state};
 ghost use Rattle.sqlite.specs.State.{HasCleanDisk};
-ghost use Rattle.store_tables.specs.Calls.{Inside, Looks, Runs};
+ghost use Rattle.store_tables.specs.Calls.{Inside, Looks};
 ghost use Rattle.store_tables.specs.Contents.{Contents};
-ghost use Rattle.store_tables.specs.Making.{BlamesMeta, IsKnown, IsOfMeta, LacksVersion};
+ghost use Rattle.store_tables.specs.Making.{BlamesMeta, IsKnown, LacksVersion, ShowsVersionOf};
 ghost use Rattle.store_tables.specs.Making.{WrongInside};
-ghost use Rattle.store_tables.specs.Mismatches.{MismatchesInMeta};
-ghost use Rattle.store_tables.specs.Stands.{GoesOn, HasTables, HoldsNow};
+ghost use Rattle.store_tables.specs.Making.{MismatchesInMeta};
+ghost use Rattle.store_tables.specs.Stands.{HasTables, HoldsNow};
 ghost use Rattle.store_tables.specs.declared.fault.StoreFault.{StoreFault};
-ghost use Rattle.store_core.specs.Migrating.{BringsUp, IsBlamed, RefusesOn, RunsOn};
+ghost use Rattle.store_core.specs.Migrating.{BringsUp, IsBlamed, KeepsOthers, RefusesOn};
+ghost use Rattle.store_core.specs.Migrating.{RunsOn};
 
 use crate::migration::migrate;
 use sqlite::{Alter, Transaction};
 use std::alloc::Global;
 use store_tables::StoreFault;
-use store_tables::inside::version_rows;
-use store_tables::reads::version::version_in;
-use store_tables::transaction::run;
+use store_tables::tables::meta::{add_version, version_inside};
 
 /// The version that the tables hold, or none where `meta` has no row.
-fn read_version<S: Alter>(tx: &mut Transaction<'_, S>) -> Result<Option<u32>, StoreFault>
+fn read_version<S: Alter>(tx: &mut Transaction<'_, S>) -> Result<Option<i64>, StoreFault>
     ensures same_reference { tx.new.conn.ghost_name ≡ tx.old.conn.ghost_name }
     ensures none { (c : Contents) → LacksVersion c (state S.Store tx.old.conn.now) →
         HasCleanDisk (state S.Store tx.new.conn.now) → IfOk result (λ v. v ≡ None) }
     ensures refused { (c : Contents) → LacksVersion c (state S.Store tx.old.conn.now) →
         HasCleanDisk (state S.Store tx.new.conn.now) →
         IfErr result (λ e. e ≡ StoreFault.Refused) }
-    ensures one { Inside (λ c v. v ≡ Some c.version)
+    ensures one { Inside (λ c v. v ≡ Some (pos c.version))
         (state S.Store tx.old.conn.now) (state S.Store tx.new.conn.now) result }
     ensures looks { Looks
         (state S.Store tx.old.conn.now) (state S.Store tx.new.conn.now) result }
@@ -35,26 +34,12 @@ fn read_version<S: Alter>(tx: &mut Transaction<'_, S>) -> Result<Option<u32>, St
         (state S.Store tx.old.conn.now) (state S.Store tx.new.conn.now) result }
     ensures mismatch { MismatchesInMeta
         (state S.Store tx.old.conn.now) (state S.Store tx.new.conn.now) result }
-    ensures of_meta { HasTables (state S.Store tx.old.conn.now) →
+    ensures shown { HasTables (state S.Store tx.old.conn.now) →
         HasCleanDisk (state S.Store tx.new.conn.now) →
-        IfOk result (λ v. IfSome v (IsOfMeta (state S.Store tx.old.conn.now))) }
+        IfOk result (ShowsVersionOf (state S.Store tx.old.conn.now)) }
     ensures fault { IfErr result (λ e. e ≢ StoreFault.WrongVersion) }
 {
-    let rows = version_rows(tx)?;
-    version_in(rows.as_slice())
-}
-
-/// Writes the present version, 2, where there is none.
-fn add_version<S: Alter>(tx: &mut Transaction<'_, S>) -> Result<(), StoreFault>
-    ensures same_reference { tx.new.conn.ghost_name ≡ tx.old.conn.ghost_name }
-    ensures numbered { (c : Contents) → LacksVersion c (state S.Store tx.old.conn.now) →
-        OnOk result (HoldsNow c (state S.Store tx.new.conn.now)) }
-    ensures runs { Runs (λ done. ⊤)
-        (state S.Store tx.old.conn.now) (state S.Store tx.new.conn.now) result }
-    ensures goes_on { OnOk result (GoesOn (state S.Store tx.new.conn.now)) }
-{
-    let _ = run(tx, "INSERT INTO meta (one, version) VALUES (1, 2)", &[])?;
-    Ok(())
+    version_inside(tx)
 }
 
 /// Brings the tables to the present version: those that are new, and those of version 1, whose
@@ -86,6 +71,8 @@ pub(crate) fn bring_up<S: Alter>(
         HasTables (state S.Store tx.old.conn.now) → HasCleanDisk (state S.Store tx.new.conn.now) →
         IsBlamed (state S.Store tx.old.conn.now)) }
     ensures blames { BlamesMeta
+        (state S.Store tx.old.conn.now) (state S.Store tx.new.conn.now) result }
+    ensures others { KeepsOthers
         (state S.Store tx.old.conn.now) (state S.Store tx.new.conn.now) result }
 {
     match read_version(tx)? {

@@ -9,8 +9,8 @@ use Rattle.sqlite.specs.State.{State, HasCleanDisk, Shown}
 use Rattle.sqlite_resolve.specs.declared.compiled.Compiled.{Compiled}
 use Rattle.sqlite_resolve.specs.declared.error.CompileError.{CompileError}
 use Rattle.store_tables.specs.Making.{RefusesBlank}
-use Rattle.store_tables.specs.Queries.{version_text}
-use Rattle.store_tables.specs.Tables.{no_schema}
+use Rattle.store_tables.specs.Contents.Meta.{version_text}
+use Rattle.store_tables.specs.Strict.{no_schema}
 use Rattle.store_tables.specs.Calls.{WasClean}
 use Rattle.store_tables.specs.declared.fault.StoreFault.{StoreFault}
 use Rattle.store_tables.specs.declared.fault.StoreFault.TheVariants.{Refused}

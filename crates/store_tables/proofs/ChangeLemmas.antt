@@ -33,7 +33,7 @@ use Rattle.sqlite_rules.specs.Action.{works, Writes as Goes}
 use Rattle.sqlite_schema.specs.declared.schema.Keys.TheVariants.{Enforced}
 use Rattle.sqlite_schema.specs.declared.program.Program.{Program}
 use Rattle.store_tables.specs.Contents.{desk_schema}
-use Rattle.store_tables.specs.Queries.{reads}
+use Rattle.store_tables.specs.Query.{reads}
 use Rattle.store_tables.specs.Picked.{passes, shows, Picks}
 use Rattle.store_tables.proofs.KeptLemmas.{one_of}
 use Rattle.store_tables.proofs.Meaning.{Changes}

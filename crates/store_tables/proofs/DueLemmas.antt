@@ -12,8 +12,7 @@ use Rattle.sqlite_trees.proofs.ListLemmas.{map-map}
 use Rattle.desk_model.specs.Desk.{Desk}
 use Rattle.desk_model.specs.declared.rows.RequestRow.{RequestRow}
 use Rattle.store_tables.specs.Contents.{contents_of, request_rows, requests, set_each_due}
-use Rattle.store_tables.specs.Dated.{dated_by, due_but, dues_but, row_of}
-use Rattle.store_tables.specs.Selection.{is_numbered}
+use Rattle.store_tables.specs.Contents.Request.{dated_by, due_but, dues_but, is_numbered, row_of}
 
 -- ---- of a desk with due moments
 

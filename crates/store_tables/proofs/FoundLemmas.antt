@@ -7,28 +7,19 @@ use Rattle.sqlite.specs.Query.{output, output_cmp, IsAnswer, page, Output}
 use Rattle.sqlite.specs.Order.{Row, column}
 use Rattle.sqlite.specs.State.{State, HasCleanDisk, Shown}
 use Rattle.sqlite.specs.Term.{Term, col, Env}
-use Rattle.store_tables.specs.Calls.{FailsIn, ReadsRows, Spares}
-use Rattle.store_tables.specs.Contents.{Contents, requests, desk_schema}
 use Rattle.store_tables.specs.Picked.{IsGreatest, ShowsGreatest, passes, shows}
-use Rattle.store_tables.specs.Queries.{last_id_text, last_number_text, last_of, request_test}
-use Rattle.store_tables.specs.Queries.{counting, counts, queue_count_text}
-use Rattle.store_tables.specs.Reading.{IsNumberRow, ReadsCount}
-use Rattle.store_tables.specs.Readings.{Blames, Reads}
-use Rattle.store_tables.specs.Selection.{number_of, place_of, tells_of}
-use Rattle.store_tables.specs.Spelling.{count_value}
-use Rattle.store_tables.specs.Stands.{Stand}
+use Rattle.store_tables.specs.Values.{IsNumberRow, ReadsCount, count_value}
 use Rattle.store_tables.specs.declared.fault.StoreFault.{StoreFault}
-use Rattle.store_tables.proofs.EachTable.{entry_table, id_table, place_table, request_table}
+use Rattle.store_tables.specs.Contents.{desk_schema}
+use Rattle.store_tables.specs.Query.{counting, counts, last_of}
+use Rattle.store_tables.specs.Readings.{Reads}
+use Rattle.store_tables.proofs.ReadingLemmas.{every, if_ok, last_rows}
+use Rattle.store_tables.proofs.RowLemmas.{Asked, Found, TableOf, fails_of}
+use Rattle.store_tables.proofs.StandLemmas.{shown_tables, tables_shown}
 use Rattle.store_tables.proofs.ReadLemmas.{shows_greatest}
 use Rattle.store_tables.proofs.Meaning.{Selects}
-use Rattle.store_tables.proofs.ReadingLemmas.{every, if_ok, last_rows}
 use Rattle.store_tables.proofs.PickedLemmas.{last_by, bare, matched}
-use Rattle.store_tables.proofs.ReadOn.{telling}
-use Rattle.store_tables.proofs.StandLemmas.{shown_tables}
 use Rattle.sqlite_tied.proofs.RuleLemmas.{and_true}
-use Rattle.store_tables.proofs.TestLemmas.{equal_numbers}
-use Rattle.store_tables.proofs.RowLemmas.{TableOf, blames_of, fails_of, ranked}
-use Rattle.store_tables.proofs.Statements.{last_id_is, last_number_is}
 use Rattle.std.proofs.lemmas.List.{length-map}
 use Rattle.std.proofs.lemmas.List.Sorted.{length_permutation}
 use Rattle.sqlite.specs.declared.types.Value.TheVariants.{Null}
@@ -54,57 +45,36 @@ greatest_read key xs [] None (inr h) read = absurd (let e = h.1 in cc)
 greatest_read key xs (row ∷ rows) (Some n) (inl h) read = absurd (let e = h.0 in cc)
 greatest_read key xs rows last show read = absurd (grind arith)
 
-module _ {K X : Type 0} (t : TableOf K X) (key : X → ℕ) {names : List (List ℕ)} (text : List ℕ)
-    (params : Row) (test : List Term) (at : Term)
-    (means : Selects text (last_of t.tree test at) names)
-    (same : (r : Row) → shows (at ∷ []) params r ≡ shows (at ∷ []) [] r)
-    (shown : (k : K) → shows (at ∷ []) params (t.row k) ≡ count_value (key (t.value k)) ∷ [])
-    (orders : (a b : K) → output_cmp (last_of t.tree test at)
+-- the query for the last by a number that each value has
+pub greatest : {K X Same : Type 0} (t : TableOf K X) (key : X → ℕ) {text : List ℕ} {params : Row}
+    {names : List (List ℕ)} {test : List Term} {at : Term} {old new : State}
+    {r : Result (Option ℕ) StoreFault}
+    → Asked Same ReadsCount IsNumberRow option_to_list text params old new r
+    → Selects text (last_of t.tree test at) names
+    → ((row : Row) → shows (at ∷ []) params row ≡ shows (at ∷ []) [] row)
+    → ((k : K) → shows (at ∷ []) params (t.row k) ≡ count_value (key (t.value k)) ∷ [])
+    → ((a b : K) → output_cmp (last_of t.tree test at)
     (output (last_of t.tree test at) (params ∷ t.row a ∷ []))
     (output (last_of t.tree test at) (params ∷ t.row b ∷ []))
     ≡ nat_cmp (key (t.value b)) (key (t.value a)))
-    (passing : X → Bool) (tests : (k : K) → passes test params (t.row k) ≡ passing (t.value k))
-    (old new : State) (kept : Spares old new) (r : Result (Option ℕ) StoreFault)
-    (read : ReadsRows ReadsCount IsNumberRow option_to_list text params old new r)
-  where
-    show : (c : Contents) → Stand c old → HasCleanDisk new → (rows : List Row)
-        → Shown text params old new rows → ShowsGreatest key (filter passing (t.list c)) rows
-    show c stand now rows h =
-        let tables = shown_tables c text params old new rows kept.clean stand now h in
-        shows_greatest key passing tests shown orders (t.kept c old.now tables)
-        (last_by text params old new tables.schema t.tree test at means rows h)
-
-    reads_greatest : (FailsIn t.tree (at ∷ []) IsNumberRow old new r → Blames old new r)
-        → Reads (λ c last. IsGreatest key (filter passing (t.list c)) (unwrap_or last 0)) old new r
-    reads_greatest blames = record {
-      told = λ c stand now. if_ok r (λ last it. greatest_read key (filter passing (t.list c)) it.0
-          last (show c stand now it.0 it.1) it.2) (read.read now);
-      kept = kept;
-      blames = blames (fails_of t.tree (at ∷ []) (last_rows text params t.tree test at means old new
-          kept.clean) same r read);
+    → (passing : X → Bool) → ((k : K) → passes test params (t.row k) ≡ passing (t.value k))
+    → Found (λ c last. IsGreatest key (filter passing (t.list c)) (unwrap_or last 0)) t.tree
+    (at ∷ []) IsNumberRow old new r
+greatest t key {text} {params} {test = test} {at} {old} {new} {r} asked means same shown orders
+    passing tests = record {
+      told = λ c holding now. if_ok r (λ last it.
+          let tables = tables_shown c text params old new it.0 asked.leaves.spares.clean holding now
+          it.1 in
+          greatest_read key (filter passing (t.list c)) it.0 last
+          (shows_greatest key passing tests shown orders (t.kept c old.now tables)
+          (last_by text params old new tables.schema t.tree test at means it.0 it.1)) it.2)
+          (asked.read.read now);
+      fails = fails_of t.tree (at ∷ []) (last_rows text params t.tree test at means old new
+          asked.leaves.spares.clean) same r asked.read;
+      leaves = asked.leaves;
     }
 
-module _ {old new : State} {r : Result (Option ℕ) StoreFault} (kept : Spares old new) where
-  pub last_id_read : ReadsRows ReadsCount IsNumberRow option_to_list last_id_text [] old new r
-      → Reads (λ c last. IsGreatest number_of (requests c) (unwrap_or last 0)) old new r
-  last_id_read read = telling (λ c last greatest. rw (every (requests c)) at greatest)
-      (reads_greatest request_table number_of last_id_text [] [] (col 1 0) last_id_is (λ row. refl)
-      (λ k. refl) (λ a b. simp ranked) (λ _. true) (λ k. refl) old new kept r read
-      (blames_of id_table old new r))
-
-  pub last_number_read : (id : ℕ)
-      → ReadsRows ReadsCount IsNumberRow option_to_list last_number_text (count_value id ∷ []) old
-      new r
-      → Reads (λ c last. IsGreatest place_of (filter (tells_of id) c.entries) (unwrap_or last 0))
-      old new r
-  last_number_read id read = reads_greatest entry_table place_of last_number_text
-      (count_value id ∷ []) request_test (col 1 2) last_number_is (λ row. refl) (λ k. refl)
-      (λ a b. simp ranked) (tells_of id) (λ k. simp (equal_numbers, and_true)) old new kept r read
-      (blames_of place_table old new r)
-
-pub queue_count_is : Selects queue_count_text (counts 1) (codes "count(*)" ∷ [])
-unfolding understood everything
-queue_count_is = record { is = refl; plain = (refl, refl); unlisted = refl; none = λ s n. refl }
+-- ---- how many rows there are
 
 one_value : (order : List Env) (values : Row)
     → AllZip (λ a v. value_over order a ≡ Some v) counting.aggregates values
@@ -145,27 +115,26 @@ held : {K X : Type 0} {row : K → Row} {value : K → X} {xs : List X} {rows : 
 held {row = row} {value} {xs} h = ap length h.spelt ∙ length-map h.kept row
     ∙ sym (length-map h.kept value) ∙ sym (length_permutation (map value h.kept) xs h.same)
 
-pub shows_queue_count : (d : Contents) (old new : State) → (HasCleanDisk new → HasCleanDisk old)
-    → Stand d old → HasCleanDisk new → (rows : List Row) → Shown queue_count_text [] old new rows
-    → rows ≡ (count (length d.queues) ∷ []) ∷ []
-shows_queue_count d old new clean stand c rows h =
-    let t = shown_tables d queue_count_text [] old new rows clean stand c h in
-    let got = reads_as queue_count_text [] old new desk_schema t.schema _ queue_count_is.is
-    queue_count_is.plain queue_count_is.unlisted rows h in
-    counts_rows 1 (overlay old.now.trees []) rows (got.answer Null)
-    ∙ ap (λ n. (count n ∷ []) ∷ []) (ap length (bare old.now.trees 1) ∙ held t.queues)
-
 -- so their number is read
-pub counted : {old new : State} {shown : Option ℕ} {n : ℕ} → shown ≡ Some n → n < 2 ^ 32
-    → Spares old new
-    → ReadsRows ReadsCount IsNumberRow option_to_list queue_count_text [] old new (Ok shown)
-    → Reads (λ c m. m ≡ length c.queues) old new (Ok n)
-counted {old} {new} {shown} {n} is low kept read = record {
+pub counted : {K V Same : Type 0} (t : TableOf K V) {text : List ℕ} {names : List (List ℕ)}
+    {old new : State} {shown : Option ℕ} {n : ℕ}
+    → Asked Same ReadsCount IsNumberRow option_to_list text [] old new (Ok shown)
+    → Selects text (counts t.tree) names → shown ≡ Some n → n < 2 ^ 32
+    → Reads (λ c m. m ≡ length (t.list c)) old new (Ok n)
+counted t {text} {old = old} {new} {shown} {n} asked means is low = record {
   told = λ c stand now.
-      let it = read.read now in
-      let one = rw (is, shows_queue_count c old new kept.clean stand now it.0 it.1) at it.2 in
-      let same : min (length c.queues) 9223372036854775807 ≡ n = (let e = one.0.number in cc) in
+      let clean = asked.leaves.spares.clean in
+      let it = asked.read.read now in
+      let on = shown_tables c text [] old new it.0 clean stand now it.1 in
+      let got = reads_as text [] old new desk_schema on.schema _ means.is means.plain
+      means.unlisted it.0 it.1 in
+      let rows = counts_rows t.tree (overlay old.now.trees []) it.0 (got.answer Null)
+      ∙ ap (λ m. (count m ∷ []) ∷ []) (ap length (bare old.now.trees t.tree)
+      ∙ held (t.kept c old.now on)) in
+      let one = rw (is, rows) at it.2 in
+      let same : min (length (t.list c)) 9223372036854775807 ≡ n =
+      (let e = one.0.number in cc) in
       omega (arith, low, same);
-  kept = kept;
+  kept = asked.leaves.spares;
   blames = record { known = tt; mismatch = tt };
 }

@@ -1,5 +1,6 @@
 -- A connection that lasts, over one call and over several.
-use Rattle.std.proofs.Common.{◌≡◌, ◌+◌, ◌-◌, ◌^◌, ◌≤◌, ℕ, arith, inl, inr, min, subst, sym, true}
+use Rattle.std.proofs.Common.{◌≡◌, ◌∙◌, ◌+◌, ◌-◌, ◌^◌, ◌≤◌, ℕ, arith, inl, inr, min, refl, subst}
+use Rattle.std.proofs.Common.{sym, true}
 use Rattle.std.proofs.Math.Nat.{le-min, min-le_left, min-le_right}
 use Rattle.sqlite.specs.Held.{Held, state}
 use Rattle.sqlite.specs.State.{State, Survives}
@@ -19,6 +20,7 @@ later a b c before more =
 pub on : {a b c : State} → WasClean b c → Lasts a b → Lasts b c → Lasts a c
 on {a} {b} {c} clean first second = record {
   counts = omega (arith, first.counts, second.counts);
+  limit = second.limit ∙ first.limit;
   closes = λ late live. elim (first.closes (clean late) live) [
     | inl middle ↦ elim (second.closes late middle) [
       | inl last ↦ inl last
@@ -30,17 +32,17 @@ on {a} {b} {c} clean first second = record {
 
 -- of none
 pub same : (s : State) → Lasts s s
-same s = record { counts = omega arith; closes = λ clean live. inl live }
+same s = record { counts = omega arith; limit = refl; closes = λ clean live. inl live }
 
 -- of what the library says of a call
 pub by : {old new : State} {P : Trees → Type 0} → Survives old new P → Lasts old new
-by it = record { counts = it.counts; closes = it.closes }
+by it = record { counts = it.counts; limit = it.limit; closes = it.closes }
 
 -- of the begin of a transaction
 pub begun : {S : Type 0} (g : Ghosts S) (old tx : Held S)
     → tx ≡ record old { in_transaction = true } → Lasts (state g old) (state g tx)
 begun g old tx is = subst (λ h. Lasts (state g old) (state g h)) (sym is)
-    (record { counts = omega arith; closes = λ clean live. inl live })
+    (record { counts = omega arith; limit = refl; closes = λ clean live. inl live })
 
 -- of what is done in a transaction, from its begin to its end
 pub through : {S : Type 0} (g : Ghosts S) (old tx : Held S) (mid end : State)

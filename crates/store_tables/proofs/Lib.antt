@@ -1,12 +1,9 @@
-pub mod AllTables
 pub mod BackLemmas
-pub mod BlameLemmas
 pub mod BlankLemmas
 pub mod ChangeLemmas
+pub mod Contents
 pub mod CreateLemmas
 pub mod DueLemmas
-pub mod EachQuery
-pub mod EachTable
 pub mod FoundLemmas
 pub mod KeptLemmas
 pub mod Lasting
@@ -19,8 +16,6 @@ pub mod RowLemmas
 pub mod ShutLemmas
 pub mod Spared
 pub mod StandLemmas
-pub mod StayLemmas
-pub mod Statements
 pub mod StepLemmas
 pub mod TableLemmas
 pub mod TestLemmas

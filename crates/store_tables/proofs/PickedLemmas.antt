@@ -13,7 +13,7 @@ use Rattle.sqlite.specs.State.{State, Shown}
 use Rattle.sqlite.proofs.Callers.{reads_as}
 use Rattle.sqlite_trees.proofs.ListLemmas.{map-map, pull_back}
 use Rattle.store_tables.specs.Contents.{desk_schema}
-use Rattle.store_tables.specs.Queries.{reads, last_of}
+use Rattle.store_tables.specs.Query.{last_of, reads}
 use Rattle.store_tables.specs.Picked.{passes, Picks, PicksLast}
 use Rattle.store_tables.proofs.Meaning.{Selects, SelectsIn}
 

@@ -16,7 +16,8 @@ use Rattle.sqlite.proofs.Callers.{one_permutation}
 use Rattle.sqlite_trees.proofs.ListLemmas.{map-map, pull_back}
 use Rattle.sqlite_rules.proofs.PlaceLemmas.{zip_more}
 use Rattle.store_tables.specs.Kept.{Holds}
-use Rattle.store_tables.specs.Queries.{reads, last_of}
+use Rattle.store_tables.specs.Query.{last_of, reads}
+use Rattle.store_tables.specs.Values.{count_value}
 use Rattle.store_tables.specs.Picked.{passes, shows, Picks, Shows, Lists, AreOrdered, PicksLast}
 use Rattle.store_tables.specs.Picked.{ShowsGreatest}
 use Rattle.store_tables.proofs.KeptLemmas.{found, unmapped_one}
@@ -25,7 +26,6 @@ use Rattle.std.proofs.lemmas.Cmp.{back_total, nat_cmp_total}
 use Rattle.std.proofs.lemmas.List.Elements.{recursion_from_All}
 use Rattle.sqlite_rules.specs.Lists.{Has}
 use Rattle.sqlite_rules.proofs.ListLemmas.{all_has, has_contained, contains_had}
-use Rattle.store_tables.specs.Spelling.{count_value}
 
 -- where one image of a list is in order, so is another that is ordered alike
 sorted_as : {K X Y : Type 0} (f : K → Y) (g : K → X) (by : Y → Y → Ordering)

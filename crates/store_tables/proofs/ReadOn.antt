@@ -9,7 +9,7 @@ use Rattle.store_tables.specs.Readings.{Blames, OfDesk, Reads}
 use Rattle.store_tables.specs.declared.fault.StoreFault.{StoreFault}
 use Rattle.store_tables.specs.declared.fault.StoreFault.TheVariants.{Refused}
 use Rattle.store_tables.proofs.ReadingLemmas.{if_err, if_ok}
-use Rattle.store_tables.proofs.AllTables.{none_bad}
+use Rattle.store_tables.proofs.Contents.{none_bad}
 use Rattle.store_tables.proofs.RowLemmas.{only_refused}
 use Rattle.store_tables.proofs.Spared.{joined, stands, there_still}
 

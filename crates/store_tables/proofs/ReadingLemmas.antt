@@ -10,7 +10,7 @@ use Rattle.sqlite_rules.proofs.ProbeLemmas.{has_mapped}
 use Rattle.sqlite_rules.proofs.ListLemmas.{has_filtered}
 use Rattle.sqlite.specs.State.{State, HasCleanDisk, Shown}
 use Rattle.sqlite_trees.proofs.ListLemmas.{filter_all, all_of}
-use Rattle.store_tables.specs.Queries.{last_of, reads}
+use Rattle.store_tables.specs.Query.{last_of, reads}
 use Rattle.store_tables.specs.Picked.{passes, shows}
 use Rattle.store_tables.specs.Stands.{HasTables}
 use Rattle.store_tables.proofs.PickedLemmas.{picked_by, last_by}

@@ -2,7 +2,7 @@
 -- shown here is so of each.
 use Rattle.std.proofs.Common.{◌≡◌, ◌≢◌, ℕ, true, List, ◌∷◌, IfOk, IfErr, subst, arith, IsTrue}
 use Rattle.std.proofs.Common.{Bool, filter, IsPermutation, Option, Result, Ordering, option_to_list}
-use Rattle.std.proofs.Common.{[], map, Ok, Err, ap, inl, sym, ◌∙◌}
+use Rattle.std.proofs.Common.{[], ◌∷◌, map, Ok, Err, ap, inl, refl, sym, ◌∙◌}
 use Rattle.std.specs.List.{AllZip}
 use Rattle.sqlite.specs.Effect.{Database}
 use Rattle.sqlite.specs.Order.{Row}
@@ -12,27 +12,26 @@ use Rattle.sqlite.specs.Term.{Term}
 use Rattle.sqlite_trees.proofs.ListLemmas.{all_of, filter_all}
 use Rattle.sqlite_rules.specs.Lists.{Has}
 use Rattle.sqlite_rules.proofs.ProbeLemmas.{has_mapped, mapped_has}
-use Rattle.store_tables.specs.Calls.{FailsIn, OnlyRefuses, ReadsAlone, ReadsRows}
-use Rattle.store_tables.specs.Calls.{Spares, WasClean}
+use Rattle.store_tables.specs.Calls.{FailsIn, Inside, Leaves, OnlyRefuses, ReadsRows, WasClean}
 use Rattle.store_tables.specs.Contents.{Contents, HasBadRow, HasBadRows, Tables}
 use Rattle.store_tables.specs.Kept.{Holds}
 use Rattle.store_tables.specs.Picked.{AreOrdered, AreParts, Lists, Picks, passes, shows, Shows}
-use Rattle.store_tables.specs.Queries.{last_id_terms, reads}
-use Rattle.store_tables.specs.Reading.{IsNumberRow, ReadsCount}
+use Rattle.store_tables.specs.Contents.Request.{last_id_terms}
+use Rattle.store_tables.specs.Query.{reads}
+use Rattle.store_tables.specs.Values.{IsNumberRow, ReadsCount, count_value}
 use Rattle.store_tables.specs.Readings.{Blames, Reads}
-use Rattle.store_tables.specs.Spelling.{count_value}
 use Rattle.store_tables.specs.Stands.{HasTables}
 use Rattle.store_tables.specs.declared.fault.StoreFault.{StoreFault}
 use Rattle.store_tables.specs.declared.fault.StoreFault.TheVariants.{Mismatch, Refused}
 use Rattle.store_tables.specs.declared.fault.StoreFault.TheVariants.{WrongVersion}
-use Rattle.store_tables.proofs.BackLemmas.{count_back}
+use Rattle.store_tables.proofs.KeptLemmas.{viewed}
 use Rattle.store_tables.proofs.ReadLemmas.{has_permuted, parts_are, lists_values, shows_values}
 use Rattle.store_tables.proofs.ReadLemmas.{all_read, all_shown, one_read}
-use Rattle.store_tables.proofs.Meaning.{Selects, alone}
+use Rattle.store_tables.proofs.Meaning.{Selects}
 use Rattle.store_tables.proofs.TestLemmas.{order_moments, order_numbers}
 use Rattle.sqlite_value.proofs.OrderLemmas.{then-Equal, value_cmp-Text}
 use Rattle.store_tables.proofs.PickedLemmas.{picked_by}
-use Rattle.store_tables.proofs.ReadingLemmas.{if_err, if_ok, table_rows}
+use Rattle.store_tables.proofs.ReadingLemmas.{every, if_err, if_ok, table_rows}
 use Rattle.store_tables.proofs.StandLemmas.{Holding, tables_shown}
 
 -- What was read of the rows of a query.
@@ -68,37 +67,49 @@ pub record TableOf (K V : Type 0) : Type 1 where
       → IsValue (view x)
   pub bad : (db : Database) → HasBadRow tree terms IsValue db → HasBadRows db
 
--- A query on a table: its text, what is bound, which rows pass, their order, and what it shows.
-pub record PartsOn {K V : Type 0} (t : TableOf K V) (terms : List Term) (view : V → Row) : Type 0
-  where
-    pub text : List ℕ
-    pub params : Row
-    pub test : List Term
-    pub order : List Term
-    pub names : List (List ℕ)
-    pub means : Selects text (reads t.tree test terms order) names
-    pub passing : V → Bool
-    pub tests : (k : K) → passes test params (t.row k) ≡ passing (t.value k)
-    pub shown : (k : K) → shows terms params (t.row k) ≡ view (t.value k)
-    pub same : (r : Row) → shows terms params r ≡ shows terms [] r
+-- a table, by all that is told of it
+abbrev pub table_of : {K V : Type 0} (tree : ℕ) (terms : List Term) (row : K → Row) (value : K → V)
+    (view : V → Row) (list : Contents → List V) (Reads : Row → V → Type 0) (IsValue : Row → Type 0)
+    → ((a b : V) → Reads (view a) b → b ≡ a)
+    → ((params : Row) (k : K) → shows terms params (row k) ≡ view (value k))
+    → ((params r : Row) → shows terms params r ≡ shows terms [] r)
+    → ((c : Contents) (db : Database) → Tables c db → Holds row value (list c) (db.trees tree))
+    → ((c : Contents) (db : Database) → Tables c db → (x : V) → Has (list c) x → IsValue (view x))
+    → ((db : Database) → HasBadRow tree terms IsValue db → HasBadRows db) → TableOf K V
+table_of tree terms row value view list Reads IsValue back shown same kept valid bad = record {
+  tree = tree;
+  terms = terms;
+  row = row;
+  value = value;
+  view = view;
+  list = list;
+  Reads = Reads;
+  IsValue = IsValue;
+  back = back;
+  shown = shown;
+  same = same;
+  kept = kept;
+  valid = valid;
+  bad = bad;
+}
 
--- one that shows what the table does, and one that shows numbers alone
-abbrev pub QueryOn : {K V : Type 0} → TableOf K V → Type 0
-QueryOn t = PartsOn t t.terms t.view
+-- one column of a table
+abbrev pub part_of : {K V W : Type 0} (t : TableOf K V) (terms : List Term) (part : V → W)
+    (view : W → Row) (Reads : Row → W → Type 0) (IsValue : Row → Type 0)
+    → ((a b : W) → Reads (view a) b → b ≡ a)
+    → ((params : Row) (k : K) → shows terms params (t.row k) ≡ view (part (t.value k)))
+    → ((params r : Row) → shows terms params r ≡ shows terms [] r)
+    → ((x : V) → t.IsValue (t.view x) → IsValue (view (part x)))
+    → ((r : Row) → t.IsValue (shows t.terms [] r) → IsValue (shows terms [] r)) → TableOf K W
+part_of t terms part view Reads IsValue back shown same valid good = table_of t.tree terms t.row
+    (λ k. part (t.value k)) view (λ c. map part (t.list c)) Reads IsValue back shown same
+    (λ c db on. viewed (t.kept c db on) part)
+    (λ c db on y has.
+    let x = has_mapped part (t.list c) y has in
+    subst (λ z. IsValue (view z)) (sym x.2) (valid x.0 (t.valid c db on x.0 x.1)))
+    (λ db it. t.bad db (it.0, it.1, λ is. it.2 (good it.0 is)))
 
-abbrev pub NumbersOn : {K V : Type 0} → TableOf K V → (V → ℕ) → Type 0
-NumbersOn t number = PartsOn t last_id_terms (λ v. count_value (number v) ∷ [])
-
--- the rows of a query are in the order of their values
-abbrev pub RanksBy : {K V : Type 0} {t : TableOf K V} {terms : List Term} {view : V → Row}
-    → PartsOn t terms view → (V → V → Ordering) → Type 0
-RanksBy {K} {t = t} {terms = terms} q cmp = (a b : K)
-    → output_cmp (reads t.tree q.test terms q.order)
-    (output (reads t.tree q.test terms q.order) (q.params ∷ t.row a ∷ []))
-    (output (reads t.tree q.test terms q.order) (q.params ∷ t.row b ∷ []))
-    ≡ cmp (t.value a) (t.value b)
-
--- by which they are
+-- by which the rows of a query are in the order of their values
 pub ruleset ranked = (order_numbers, order_moments, value_cmp-Text, then-Equal)
 
 refused : (e : StoreFault) → e ≢ WrongVersion → e ≢ Mismatch → e ≡ Refused
@@ -156,158 +167,160 @@ fails_of {IsValue = IsValue} tree terms from same (Err e) h = (
       (at.0, (at.1, at.2, λ value. it.4 (subst IsValue (sym (at.3 ∙ same at.1)) value))),
 )
 
--- whatever part of a row is read
-pub fails : {K V X Y : Type 0} {t : TableOf K V} {terms : List Term} {view : V → Row}
-    (q : PartsOn t terms view) {old new : State} (clean : HasCleanDisk new → HasCleanDisk old)
-    {ReadsPart : Row → Y → Type 0} {IsValue : Row → Type 0} {values : X → List Y}
-    {r : Result X StoreFault} → ReadsRows ReadsPart IsValue values q.text q.params old new r
-    → FailsIn t.tree terms IsValue old new r
-fails {t = t} {terms = terms} q {old} {new} clean {r = r} = fails_of t.tree terms
-    (table_rows q.text q.params t.tree q.test terms q.order q.means old new clean) q.same r
+-- ---- a query that was asked
 
--- what the rows show is what passes of the table, and in an order where they are in one
-module _ {K V : Type 0} {t : TableOf K V} {terms : List Term} {view : V → Row}
-    (q : PartsOn t terms view) (old new : State) (clean : HasCleanDisk new → HasCleanDisk old)
-    (c : Contents) (holding : Holding c old) (now : HasCleanDisk new) (rows : List Row)
-    (h : Shown q.text q.params old new rows)
-  where
-    tables : Tables c old.now
-    tables = tables_shown c q.text q.params old new rows clean holding now h
-
-    picks : Picks t.tree q.test terms q.order q.params (old.now.trees t.tree) rows
-    picks = picked_by q.text q.params old new tables.schema t.tree q.test terms q.order q.means rows
-        h
-
-    passing_shown : Shows view (filter q.passing (t.list c)) rows
-    passing_shown = shows_values view q.passing q.tests q.shown (t.kept c old.now tables) picks
-
-    lists_shown : (cmp : V → V → Ordering) → RanksBy q cmp
-        → Lists cmp view (filter q.passing (t.list c)) rows
-    lists_shown = lists_values view q.passing q.tests q.shown (t.kept c old.now tables) picks
-
-pub numbers_fail : {K V X : Type 0} {t : TableOf K V} {number : V → ℕ} (q : NumbersOn t number)
-    {values : X → List ℕ} {old new : State} {r : Result X StoreFault}
-    → (HasCleanDisk new → HasCleanDisk old)
-    → ReadsRows ReadsCount IsNumberRow values q.text q.params old new r
-    → FailsIn t.tree last_id_terms IsNumberRow old new r
-numbers_fail q clean = fails q clean
-
-pub holds_in_order : {K V X : Type 0} {t : TableOf K V} (q : QueryOn t) (cmp : V → V → Ordering)
-    (orders : RanksBy q cmp) {old new : State} {r : Result X StoreFault}
-    (clean : HasCleanDisk new → HasCleanDisk old) {values : X → List V}
-    → ReadsRows t.Reads t.IsValue values q.text q.params old new r → (c : Contents) → Holding c old
-    → HasCleanDisk new → IfOk r (λ x. AreOrdered cmp (filter q.passing (t.list c)) (values x))
-holds_in_order {t = t} q cmp orders {r = r} clean read c holding now =
-    if_ok r (λ x it. all_read t.view t.Reads t.back
-    (lists_shown q _ _ clean c holding now it.0 it.1 cmp orders) it.2) (read.read now)
-
--- and so is a part of each
-pub holds_parts : {K V X Y : Type 0} {t : TableOf K V} {terms : List Term} {view : V → Row}
-    (q : PartsOn t terms view) (cmp : V → V → Ordering) (orders : RanksBy q cmp)
-    {old new : State} {r : Result X StoreFault} (clean : HasCleanDisk new → HasCleanDisk old)
-    {part : V → Y} {ReadsPart : Row → Y → Type 0} {IsValue : Row → Type 0} {values : X → List Y}
-    → ((a : V) (b : Y) → ReadsPart (view a) b → b ≡ part a)
-    → ReadsRows ReadsPart IsValue values q.text q.params old new r → (c : Contents) → Holding c old
-    → HasCleanDisk new → IfOk r (λ x. AreParts part cmp (filter q.passing (t.list c)) (values x))
-holds_parts {view = view} q cmp orders {r = r} clean {part} {ReadsPart} {values = values} back read
-    c holding now = if_ok r (λ x it.
-    let lists = lists_shown q _ _ clean c holding now it.0 it.1 cmp orders in
-    let are = parts_are view part ReadsPart back lists.values (values x) (rw lists.are at it.2) in
-    record { values = lists.values; ordered = lists.ordered; are = are }) (read.read now)
-
--- and the number of each
-pub holds_numbers : {K V X : Type 0} {t : TableOf K V} {number : V → ℕ} (q : NumbersOn t number)
-    (cmp : V → V → Ordering) (orders : RanksBy q cmp) {old new : State} {r : Result X StoreFault}
-    (clean : HasCleanDisk new → HasCleanDisk old) {values : X → List ℕ}
-    → ReadsRows ReadsCount IsNumberRow values q.text q.params old new r
-    → (c : Contents) → Holding c old → HasCleanDisk new
-    → IfOk r (λ x. AreParts number cmp (filter q.passing (t.list c)) (values x))
-holds_numbers {number = number} q cmp orders clean =
-    holds_parts q cmp orders clean (λ v. count_back (number v))
-
--- ---- readings outside of a transaction
-
--- a query that was run, which spares what it read
-abbrev pub Asked : {X Y : Type 0} → (Row → Y → Type 0) → (Row → Type 0) → (X → List Y) → List ℕ
-    → Row → State → State → Result X StoreFault → Type 0
-Asked ReadsRow IsValue values text params old new r = record {
+-- what was read, and what it leaves
+abbrev pub Asked : {X Y : Type 0} → Type 0 → (Row → Y → Type 0) → (Row → Type 0) → (X → List Y)
+    → List ℕ → Row → State → State → Result X StoreFault → Type 0
+Asked Same ReadsRow IsValue values text params old new r = record {
+  same : Same;
   read : ReadsRows ReadsRow IsValue values text params old new r;
-  kept : Spares old new;
+  leaves : Leaves old new r;
 }
 
--- what is answered, and that a mismatch comes of a row of the table that is no value
-abbrev pub Answered : {K V X : Type 0} → (Contents → X → Type 0) → TableOf K V → State → State
-    → Result X StoreFault → Type 0
-Answered P t old new r = record {
+-- What is answered is so of whatever the tables hold, a mismatch comes of a row of the table whose
+-- columns are no value, and all tables are left.
+pub record Found {X : Type 0} (P : Contents → X → Type 0) (tree : ℕ) (terms : List Term)
+    (IsValue : Row → Type 0) (old new : State) (r : Result X StoreFault) : Type 0 where
+  pub told : (c : Contents) → Holding c old → HasCleanDisk new → IfOk r (P c)
+  pub fails : FailsIn tree terms IsValue old new r
+  pub leaves : Leaves old new r
+
+-- it is answered outside of a transaction
+abbrev pub Answered : {X : Type 0} → (Contents → X → Type 0) → ℕ → List Term → (Row → Type 0)
+    → State → State → Result X StoreFault → Type 0
+Answered P tree terms IsValue old new r = record {
   read : Reads P old new r;
-  mismatch : FailsIn t.tree t.terms t.IsValue old new r;
+  mismatch : FailsIn tree terms IsValue old new r;
 }
 
-answered : {K V X : Type 0} {P : Contents → X → Type 0} (t : TableOf K V) {old new : State}
-    {r : Result X StoreFault} → Spares old new → FailsIn t.tree t.terms t.IsValue old new r
-    → ((c : Contents) → Holding c old → HasCleanDisk new → IfOk r (P c)) → Answered P t old new r
-answered t {old} {new} {r} kept failing told = record {
+pub answered : {K V X : Type 0} {P : Contents → X → Type 0} (t : TableOf K V) {old new : State}
+    {r : Result X StoreFault} → Found P t.tree t.terms t.IsValue old new r
+    → Answered P t.tree t.terms t.IsValue old new r
+answered t {old} {new} {r} it = record {
   read = record {
-    told = λ c stand. told c (λ d o. (stand d o).0);
-    kept = kept;
-    blames = blames_of t old new r failing;
+    told = λ c stand. it.told c (λ d o. (stand d o).0);
+    kept = it.leaves.spares;
+    blames = blames_of t old new r it.fails;
   };
-  mismatch = failing;
+  mismatch = it.fails;
 }
 
--- it reads alone, whatever tables there are
-pub asks_alone : {K V : Type 0} {t : TableOf K V} {terms : List Term} {view : V → Row}
-    (q : PartsOn t terms view) → ReadsAlone q.text
-asks_alone q = alone q.means
+-- or in one that goes on
+pub inside : {X : Type 0} {P : Contents → X → Type 0} {tree : ℕ} {terms : List Term}
+    {IsValue : Row → Type 0} {old new : State} {r : Result X StoreFault}
+    → Found P tree terms IsValue old new r → Inside P old new r
+inside it c holds = it.told c (λ d o. (holds d o).0)
 
-module _ {K V : Type 0} {t : TableOf K V} (q : QueryOn t) {old new : State} where
-  -- the one value, or none, is what passes of the table
-  pub finds : {r : Result (Option V) StoreFault}
-      → Asked t.Reads t.IsValue option_to_list q.text q.params old new r
-      → Answered (λ c x. option_to_list x ≡ filter q.passing (t.list c)) t old new r
-  finds {r} asked = answered t asked.kept (fails q asked.kept.clean asked.read)
-      (λ c holding now. if_ok r (λ x it. one_read t.view t.Reads t.back x
-      (passing_shown q _ _ asked.kept.clean c holding now it.0 it.1) it.2) (asked.read.read now))
+-- a query on a table, by what its text means
+module _ {K V X Y Same : Type 0} (t : TableOf K V) {values : X → List Y}
+    {ReadsRow : Row → Y → Type 0} {IsValue : Row → Type 0} {text : List ℕ} {params : Row}
+    {names : List (List ℕ)} {test terms : List Term} {old new : State} {r : Result X StoreFault}
+    (asked : Asked Same ReadsRow IsValue values text params old new r) (order : List Term)
+    (means : Selects text (reads t.tree test terms order) names)
+    (same : (row : Row) → shows terms params row ≡ shows terms [] row)
+  where
+    found : {P : Contents → X → Type 0} → ((c : Contents) → Holding c old → HasCleanDisk new
+        → (x : X) (rows : List Row) → Shown text params old new rows
+        → AllZip ReadsRow rows (values x) → P c x) → Found P t.tree terms IsValue old new r
+    found so = record {
+      told = λ c holding now. if_ok r (λ x it. so c holding now x it.0 it.1 it.2)
+          (asked.read.read now);
+      fails = fails_of t.tree terms (table_rows text params t.tree test terms order means old new
+          asked.leaves.spares.clean) same r asked.read;
+      leaves = asked.leaves;
+    }
 
-  -- a list in any order is what passes of the table
-  pub lists_any : {X : Type 0} {r : Result X StoreFault} {values : X → List V}
-      → Asked t.Reads t.IsValue values q.text q.params old new r
-      → Answered (λ c x. IsPermutation (filter q.passing (t.list c)) (values x)) t old new r
-  lists_any {r} asked = answered t asked.kept (fails q asked.kept.clean asked.read)
-      (λ c holding now. if_ok r (λ x it. all_shown t.view t.Reads t.back
-      (passing_shown q _ _ asked.kept.clean c holding now it.0 it.1) it.2) (asked.read.read now))
+    module _ (c : Contents) (holding : Holding c old) (now : HasCleanDisk new) (rows : List Row)
+        (h : Shown text params old new rows)
+      where
+        tables : Tables c old.now
+        tables = tables_shown c text params old new rows asked.leaves.spares.clean holding now h
 
-  module _ {X : Type 0} {r : Result X StoreFault} {cmp : V → V → Ordering} (orders : RanksBy q cmp)
-    where
-      pub lists : {values : X → List V} → Asked t.Reads t.IsValue values q.text q.params old new r
-          → Answered (λ c x. AreOrdered cmp (filter q.passing (t.list c)) (values x)) t old new r
-      lists asked = answered t asked.kept (fails q asked.kept.clean asked.read)
-          (holds_in_order q cmp orders asked.kept.clean asked.read)
+        picks : Picks t.tree test terms order params (old.now.trees t.tree) rows
+        picks = picked_by text params old new tables.schema t.tree test terms order means rows h
 
-      pub lists_parts : {Y : Type 0} {part : V → Y} {ReadsPart : Row → Y → Type 0}
-          {values : X → List Y} → ((a : V) (b : Y) → ReadsPart (t.view a) b → b ≡ part a)
-          → Asked ReadsPart t.IsValue values q.text q.params old new r
-          → Answered (λ c x. AreParts part cmp (filter q.passing (t.list c)) (values x)) t old new r
-      lists_parts back asked = answered t asked.kept (fails q asked.kept.clean asked.read)
-          (holds_parts q cmp orders asked.kept.clean back asked.read)
+        -- which values pass, and what is shown of each
+        module _ {view : V → Row} (passing : V → Bool)
+            (tests : (k : K) → passes test params (t.row k) ≡ passing (t.value k))
+            (shown : (k : K) → shows terms params (t.row k) ≡ view (t.value k))
+          where
+            shown_in_any : Shows view (filter passing (t.list c)) rows
+            shown_in_any = shows_values view passing tests shown (t.kept c old.now tables) picks
 
-      -- where every row passes, the list is that of the table
-      pub lists_all : {values : X → List V} → ((v : V) → q.passing v ≡ true)
-          → Asked t.Reads t.IsValue values q.text q.params old new r
-          → Answered (λ c x. AreOrdered cmp (t.list c) (values x)) t old new r
-      lists_all {values} every asked = subst (λ (list : Contents → List V). Answered (λ c x.
-          AreOrdered cmp (list c) (values x)) t old new r) (λ i c. filter_all q.passing (t.list c)
-          (all_of (λ v. q.passing v ≡ true) every (t.list c)) i) (lists asked)
+            shown_in_order : (cmp : V → V → Ordering)
+                → ((a b : K) → output_cmp (reads t.tree test terms order)
+                (output (reads t.tree test terms order) (params ∷ t.row a ∷ []))
+                (output (reads t.tree test terms order) (params ∷ t.row b ∷ []))
+                ≡ cmp (t.value a) (t.value b)) → Lists cmp view (filter passing (t.list c)) rows
+            shown_in_order =
+                lists_values view passing tests shown (t.kept c old.now tables) picks
 
--- the numbers of what passes, with what is blamed of the numbers' table
-pub lists_numbers : {K V L X : Type 0} {t : TableOf K V} {number : V → ℕ} (numbers : TableOf L ℕ)
-    (q : NumbersOn t number) {cmp : V → V → Ordering} (orders : RanksBy q cmp) {values : X → List ℕ}
-    {old new : State} {r : Result X StoreFault}
-    → (FailsIn t.tree last_id_terms IsNumberRow old new r
-    → FailsIn numbers.tree numbers.terms numbers.IsValue old new r)
-    → Asked ReadsCount IsNumberRow values q.text q.params old new r
-    → Answered (λ c x. AreParts number cmp (filter q.passing (t.list c)) (values x)) numbers old new
-    r
-lists_numbers numbers q {cmp} orders into asked = answered numbers asked.kept
-    (into (fails q asked.kept.clean asked.read))
-    (holds_numbers q cmp orders asked.kept.clean asked.read)
+    -- a part of each value that passes, in the order of the values
+    pub parts : {view : V → Row} {cmp : V → V → Ordering} {part : V → Y} (passing : V → Bool)
+        → ((k : K) → passes test params (t.row k) ≡ passing (t.value k))
+        → ((k : K) → shows terms params (t.row k) ≡ view (t.value k))
+        → ((a : V) (b : Y) → ReadsRow (view a) b → b ≡ part a)
+        → ((a b : K) → output_cmp (reads t.tree test terms order)
+        (output (reads t.tree test terms order) (params ∷ t.row a ∷ []))
+        (output (reads t.tree test terms order) (params ∷ t.row b ∷ []))
+        ≡ cmp (t.value a) (t.value b))
+        → Found (λ c x. AreParts part cmp (filter passing (t.list c)) (values x)) t.tree terms
+        IsValue old new r
+    parts {view} {cmp} {part} passing tests shown back orders = found (λ c holding now x rows h read.
+        let lists = shown_in_order c holding now rows h passing tests shown cmp orders in
+        let are = parts_are view part ReadsRow back lists.values (values x)
+        (rw lists.are at read) in
+        record { values = lists.values; ordered = lists.ordered; are = are })
+
+-- one that shows the values
+module _ {K V X Same : Type 0} (t : TableOf K V) {values : X → List V} {text : List ℕ}
+    {params : Row} {names : List (List ℕ)} {test : List Term} {old new : State}
+    {r : Result X StoreFault} (asked : Asked Same t.Reads t.IsValue values text params old new r)
+    (order : List Term) (means : Selects text (reads t.tree test t.terms order) names)
+    (passing : V → Bool) (tests : (k : K) → passes test params (t.row k) ≡ passing (t.value k))
+  where
+    abbrev FoundSo : (Contents → X → Type 0) → Type 0
+    FoundSo P = Found P t.tree t.terms t.IsValue old new r
+
+    -- in no order that matters
+    pub lists_any : FoundSo (λ c x. IsPermutation (filter passing (t.list c)) (values x))
+    lists_any = found t asked order means (t.same params) (λ c holding now x rows h.
+        all_shown t.view t.Reads t.back (shown_in_any t asked order means (t.same params) c
+        holding now rows h passing tests (t.shown params)))
+
+    pub lists : {cmp : V → V → Ordering} → ((a b : K)
+        → output_cmp (reads t.tree test t.terms order)
+        (output (reads t.tree test t.terms order) (params ∷ t.row a ∷ []))
+        (output (reads t.tree test t.terms order) (params ∷ t.row b ∷ []))
+        ≡ cmp (t.value a) (t.value b))
+        → FoundSo (λ c x. AreOrdered cmp (filter passing (t.list c)) (values x))
+    lists {cmp} orders = found t asked order means (t.same params) (λ c holding now x rows h.
+        all_read t.view t.Reads t.back (shown_in_order t asked order means (t.same params) c
+        holding now rows h passing tests (t.shown params) cmp orders))
+
+-- the one value that passes, or none
+pub finds : {K V Same : Type 0} (t : TableOf K V) {text : List ℕ} {params : Row}
+    {names : List (List ℕ)} {test : List Term} {old new : State} {r : Result (Option V) StoreFault}
+    → Asked Same t.Reads t.IsValue option_to_list text params old new r
+    → Selects text (reads t.tree test t.terms []) names → (passing : V → Bool)
+    → ((k : K) → passes test params (t.row k) ≡ passing (t.value k))
+    → Found (λ c x. option_to_list x ≡ filter passing (t.list c)) t.tree t.terms t.IsValue old new r
+finds t {params = params} asked means passing tests =
+    found t asked [] means (t.same params) (λ c holding now x rows h.
+    one_read t.view t.Reads t.back x (shown_in_any t asked [] means (t.same params) c holding
+    now rows h passing tests (t.shown params)))
+
+-- the values of all rows
+pub lists_all : {K V X Same : Type 0} (t : TableOf K V) {values : X → List V} {text : List ℕ}
+    {names : List (List ℕ)} {old new : State} {r : Result X StoreFault} {cmp : V → V → Ordering}
+    → Asked Same t.Reads t.IsValue values text [] old new r → (order : List Term)
+    → Selects text (reads t.tree [] t.terms order) names → ((a b : K)
+    → output_cmp (reads t.tree [] t.terms order)
+    (output (reads t.tree [] t.terms order) ([] ∷ t.row a ∷ []))
+    (output (reads t.tree [] t.terms order) ([] ∷ t.row b ∷ [])) ≡ cmp (t.value a) (t.value b))
+    → Found (λ c x. AreOrdered cmp (t.list c) (values x)) t.tree t.terms t.IsValue old new r
+lists_all {V = V} t {values = values} {old = old} {new} {r} {cmp} asked order means orders =
+    subst (λ (list : Contents → List V). Found (λ c x. AreOrdered cmp (list c) (values x)) t.tree
+    t.terms t.IsValue old new r) (λ i c. every (t.list c) i)
+    (lists t asked order means (λ _. true) (λ k. refl) orders)

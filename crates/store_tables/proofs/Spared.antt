@@ -1,16 +1,20 @@
 -- What a read spares, whatever rows the tables have.
-use Rattle.std.proofs.Common.{arith, ◌≡◌, ◌∙◌, ℕ, List, IsTrue, inl, inr, refl, subst, sym}
+use Rattle.std.proofs.Common.{arith, ◌≡◌, ◌∙◌, ◌⊎◌, ℕ, Err, List, IsTrue, Ok, Result, inl, inr, refl}
+use Rattle.std.proofs.Common.{subst, sym}
 use Rattle.sqlite.specs.Effect.{Database}
 use Rattle.sqlite.specs.Order.{Row}
-use Rattle.sqlite.specs.State.{State, HasCleanDisk, Shown, FailsToQuery, Survives}
+use Rattle.sqlite.specs.State.{State, HasCleanDisk, IsTooLate, Shown, FailsToQuery, Survives}
 use Rattle.sqlite.specs.Tree.{Trees}
 use Rattle.sqlite.specs.declared.error.Error.{Error}
-use Rattle.store_tables.specs.Calls.{AreLeft, AreThere, Lasts, ReadsAlone, Spares, WasClean}
+use Rattle.store_tables.specs.Calls.{AreLeft, AreThere, Lasts, Leaves, Looks, ReadsAlone, Spares}
+use Rattle.store_tables.specs.Calls.{WasClean}
+use Rattle.store_tables.specs.declared.fault.StoreFault.{StoreFault}
+use Rattle.store_tables.specs.declared.fault.StoreFault.TheVariants.{Refused}
 use Rattle.desk_model.specs.Desk.{Desk}
 use Rattle.store_tables.specs.Contents.{Contents, contents_of, Tables, desk_schema}
 use Rattle.store_tables.specs.Stands.{GoesBack, Stand, StandsFor}
 use Rattle.store_tables.proofs.Lasting.{by, on, same}
-use Rattle.store_tables.proofs.StandLemmas.{failed_left, shown_left, was_clean}
+use Rattle.store_tables.proofs.StandLemmas.{failed_left, shown_alone, shown_left, was_clean}
 
 -- what does nothing spares all
 pub unread : (s : State) → Spares s s
@@ -71,24 +75,48 @@ pub stands_for : {old new : State} → Spares old new → (desk : Desk) → Stan
     → StandsFor desk new
 stands_for kept desk stand = (stand.0, stands kept (contents_of stand.0 desk) stand.1)
 
+-- what a query that reads alone leaves, whether it showed rows or failed
 module _ (sql : List ℕ) (params : Row) (old new : State) (alone : ReadsAlone sql)
     {P : Trees → Type 0} (lived : Survives old new P)
   where
-    abbrev clean : HasCleanDisk new → HasCleanDisk old
-    clean = was_clean old new P lived
+    spared : AreLeft old new → Spares old new
+    spared left = record { clean = was_clean old new P lived; lasts = by lived; left = left }
 
-    pub shown_spares : (rows : List Row) → (HasCleanDisk new → Shown sql params old new rows)
-        → Spares old new
-    shown_spares rows shown = record {
-      clean = clean;
-      lasts = by lived;
-      left = shown_left sql params old new alone rows shown;
+    pub shown_leaves : {X : Type 0} (x : X) (rows : List Row)
+        → (HasCleanDisk new → Shown sql params old new rows) → Leaves {X = X} old new (Ok x)
+    shown_leaves x rows shown = record {
+      spares = spared (shown_left sql params old new alone rows shown);
+      same = λ now. shown_alone sql params old new rows alone (shown now);
     }
 
-    pub failed_spares : (e : Error) → (HasCleanDisk new → FailsToQuery sql params old new e)
-        → Spares old new
-    failed_spares e fails = record {
-      clean = clean;
-      lasts = by lived;
-      left = failed_left sql params old new alone e (λ c. inl (fails c));
+    pub failed_leaves : {X : Type 0} (e : Error)
+        → (HasCleanDisk new → FailsToQuery sql params old new e ⊎ IsTooLate sql params old new e)
+        → Leaves {X = X} old new (Err Refused)
+    failed_leaves e fails = record {
+      spares = spared (failed_left sql params old new alone e fails);
+      same = λ now. tt;
     }
+
+-- so in a transaction the tables hold what they held, and the last commit stays
+pub looks_of : {X : Type 0} {old new : State} (r : Result X StoreFault) → Leaves old new r
+    → Looks old new r
+looks_of {old = old} {new} (Ok x) it = record {
+  makes = λ c holds now live.
+      let same = (it.same now).0 in
+      let was = holds (it.spares.clean now) same.was_open in
+      (subst (Tables c) (sym same.now_is) was.0, same.mode ∙ was.1);
+  same = λ now. let same = (it.same now).0 in (same.was_open, same.now_is);
+  keeps = λ now live. let left = it.spares.left now live in (it.spares.clean now, left.0, left.1);
+  goes_on = λ goes now live.
+      let same = (it.same now).0 in same.mode ∙ goes (it.spares.clean now) same.was_open;
+  clean = it.spares.clean;
+  lasts = it.spares.lasts;
+}
+looks_of {old = old} {new} (Err e) it = record {
+  makes = λ c holds. tt;
+  same = λ now. tt;
+  keeps = λ now live. let left = it.spares.left now live in (it.spares.clean now, left.0, left.1);
+  goes_on = λ goes. tt;
+  clean = it.spares.clean;
+  lasts = it.spares.lasts;
+}

@@ -15,9 +15,8 @@ use Rattle.sqlite.specs.Store.{Ghosts}
 use Rattle.sqlite.specs.Held.{Held, state}
 use Rattle.std.proofs.lemmas.List.{take_more}
 use Rattle.std.specs.Prelude.{fold}
-use Rattle.store_tables.specs.Calls.{AreLeft, Lasts, Looks, ReadsAlone}
+use Rattle.store_tables.specs.Calls.{AreLeft, ReadsAlone}
 use Rattle.store_tables.specs.Contents.{Contents, Tables}
-use Rattle.store_tables.specs.declared.fault.StoreFault.TheVariants.{Refused}
 use Rattle.store_tables.specs.Stands.{HasTables, Stand, GoesOn, HoldsNow, GoesBack}
 use Rattle.store_tables.specs.Stands.{KeepsBase, FirstStand, FirstTables}
 
@@ -165,36 +164,6 @@ module _ (sql : List ℕ) (params : Row) (old new : State) (alone : ReadsAlone s
 
 pub desk_is_there : (c : Contents) (s : State) → HoldsNow c s → HasTables s
 desk_is_there c s holds clean live = (holds clean live).0.schema
-
--- so a query in a transaction leaves what the tables hold, and the last commit
-module _ (sql : List ℕ) (params : Row) (old new : State) (alone : ReadsAlone sql)
-    (clean : HasCleanDisk new → HasCleanDisk old) (lasts : Lasts old new)
-  where
-    pub shown_looks : {X : Type 0} (x : X) (rows : List Row)
-        → (HasCleanDisk new → Shown sql params old new rows) → Looks {X = X} old new (Ok x)
-    shown_looks x rows shown =
-        let unchanged : HasCleanDisk new → IsUnchanged old new = λ d.
-        shown_alone sql params old new rows alone (shown d) in
-        record {
-          makes = λ c holds d o.
-              let it = (unchanged d).0 in
-              let was = holds (clean d) it.was_open in
-              (subst (Tables c) (sym it.now_is) was.0, it.mode ∙ was.1);
-          same = λ d. let it = (unchanged d).0 in (it.was_open, it.now_is);
-          keeps = λ d o. let it = (unchanged d).0 in (clean d, it.was_open, it.committed_is);
-          goes_on = λ goes d o. let it = (unchanged d).0 in it.mode ∙ goes (clean d) it.was_open;
-          clean = clean;
-          lasts = lasts;
-        }
-
-    pub failed_looks : {X : Type 0} (e : Error)
-        → (HasCleanDisk new → FailsToQuery sql params old new e ⊎ IsTooLate sql params old new e)
-        → Looks {X = X} old new (Err Refused)
-    failed_looks e fails =
-        let keeps : KeepsBase old new = λ d o.
-        let it = failed_left sql params old new alone e fails d o in
-        (clean d, it.0, it.1) in
-        search rules
 
 pub either_way : {T E P : Type 0} (r : Result T E) → OnOk r P → OnErr r P → P
 either_way (Ok x) p q = p

@@ -9,7 +9,7 @@ use Rattle.sqlite.specs.Change.{KeepsRows}
 use Rattle.store_tables.specs.Calls.{Does, Looks, Makes, Runs, WasClean}
 use Rattle.store_tables.specs.Contents.{Contents, Tables, desk_schema}
 use Rattle.store_tables.specs.Stands.{GoesOn, HasTables, KeepsBase, OnlyStaysChange, Ran, RanOnAny}
-use Rattle.store_tables.specs.Tables.{first_schema}
+use Rattle.store_tables.specs.Contents.{first_schema}
 use Rattle.store_tables.specs.declared.fault.StoreFault.{StoreFault}
 use Rattle.store_tables.proofs.Lasting.{on}
 use Rattle.store_tables.proofs.StandLemmas.{fold_more}

@@ -16,12 +16,11 @@ use Rattle.sqlite.specs.Order.{Row, value_cmp}
 use Rattle.sqlite.specs.Term.{Term}
 use Rattle.sqlite.specs.Query.{output, output_cmp}
 use Rattle.desk_model.specs.declared.rows.Entry.{Entry}
-use Rattle.store_tables.specs.Dated.{Dated, dated_row}
+use Rattle.store_tables.specs.Contents.Entry.{by_number, entry_columns, entry_shown_terms}
+use Rattle.store_tables.specs.Contents.Request.{Dated, by_id, dated_row}
+use Rattle.store_tables.specs.Query.{id_order, number_order, reads}
+use Rattle.store_tables.specs.Values.{count_value}
 use Rattle.store_tables.specs.Kept.{filed}
-use Rattle.store_tables.specs.Orders.{by_id, by_number}
-use Rattle.store_tables.specs.Spelling.{entry_columns, count_value}
-use Rattle.store_tables.specs.Queries.{id_order, entry_shown_terms}
-use Rattle.store_tables.specs.Queries.{reads, request_test, number_order}
 
 true_again : (b : Bool) → is_true (from_truth (Some b)) ≡ b
 true_again b = grind arith
@@ -50,25 +49,9 @@ moment_before at (Some due) =
 
 -- ---- the orders
 
--- how a query ranks two rows
-abbrev ranking : ℕ → List Term → List Term → List Term → Row → Row → Row → Ordering
-ranking tree test shown order params a b = output_cmp (reads tree test shown order)
-    (output (reads tree test shown order) (params ∷ a ∷ []))
-    (output (reads tree test shown order) (params ∷ b ∷ []))
-
--- whichever requests are shown, and whichever of their columns
-pub id_order_is : (test shown : List Term) (params : Row) (a b : Dated)
-    → ranking 3 test shown id_order params (dated_row a) (dated_row b) ≡ by_id a.0 b.0
-id_order_is test shown params a b = simp (order_numbers, then-Equal)
-
 pub order_moments : (a b : Option ℕ) → value_cmp (or_null count_value a) (or_null count_value b)
     ≡ option_cmp nat_cmp a b
 order_moments None None = value_cmp-Null Null
 order_moments None (Some n) = value_cmp-Null (count_value n)
 order_moments (Some m) None = value_cmp-apart (count_value m) Null (λ e. omega (arith, e))
 order_moments (Some m) (Some n) = order_numbers m n
-
-pub number_order_is : (id : ℕ) (a b : ℤ × Entry)
-    → ranking 8 request_test entry_shown_terms number_order (count_value id ∷ [])
-    (filed entry_columns a) (filed entry_columns b) ≡ by_number a.1 b.1
-number_order_is id a b = simp (order_numbers, then-Equal)

@@ -80,3 +80,8 @@ reads_alone sql none schema c found =
       | inl here ↦ ap (λ (d : Compiled). d.returning) here.2
       | inr there ↦ ap (λ (d : Compiled). d.returning) there.0.2
     ]
+
+-- so what such a text is compiled to gives back none
+pub none_given : (schema : Schema) (sql : List ℕ) (c : Compiled) → understood schema sql ≡ Ok c
+    → GivesNone (first sql) → c.returning ≡ None
+none_given schema sql c found none = reads_alone sql none schema c found

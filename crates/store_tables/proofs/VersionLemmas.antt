@@ -1,4 +1,12 @@
 -- The row of the version: written where there is none, set, and read.
+use Rattle.std.proofs.Common.{codes}
+use Rattle.sqlite_tied.specs.Compute.{everything}
+use Rattle.sqlite.specs.Source.TheVariants.{Values}
+use Rattle.sqlite.specs.Command.TheVariants.{Insert, Update}
+use Rattle.store_tables.specs.Contents.Meta.{version_query}
+use Rattle.store_tables.specs.Query.{reads}
+use Rattle.sqlite.specs.Listing.{understood}
+use Rattle.store_tables.proofs.Meaning.{Changes, Selects}
 use Rattle.std.proofs.Common.{List, filter, arith, refl, subst, drop, IfErr, Result, ◌≤◌, suc, zero}
 use Rattle.std.proofs.Common.{◌≡◌, ℕ, pos, [], ◌∷◌, Ok, map, sym, ap, ◌∙◌, IfOk}
 use Rattle.std.proofs.lemmas.List.Sorted.{IsPermutation-sym}
@@ -12,35 +20,51 @@ use Rattle.std.proofs.lemmas.Cmp.{tied_itself}
 use Rattle.sqlite.specs.Edit.{id_in}
 use Rattle.sqlite.specs.State.{State, HasCleanDisk, Executes, Shown}
 use Rattle.sqlite_rules.specs.Lists.{Has}
-use Rattle.store_tables.specs.Tables.{meta}
+use Rattle.store_tables.specs.Contents.Meta.{add_version_terms, add_version_text, meta}
+use Rattle.store_tables.specs.Contents.Meta.{set_version_terms, set_version_text, version_row}
+use Rattle.store_tables.specs.Contents.Meta.{version_shown, version_text}
+use Rattle.store_tables.specs.Values.{IsNumberRow, IsWholeRow, ReadsWhole, count_value}
 use Rattle.std.specs.Prelude.{◌==◌}
 use Rattle.std.specs.List.{AllByRecursion, list_any}
 use Rattle.std.proofs.lemmas.Bool.{cases_Bool}
 use Rattle.sqlite.specs.Table.{Table}
 use Rattle.std.proofs.Common.{◌≢◌, ◌<◌, ◌^◌, false, inl, inr}
-use Rattle.store_tables.specs.Queries.{add_version_text, add_version_terms, version_shown}
-use Rattle.store_tables.specs.Queries.{set_version_terms, set_version_text, version_text}
 use Rattle.store_tables.specs.Picked.{passes, shows}
 use Rattle.store_tables.specs.Calls.{WasClean}
-use Rattle.store_tables.specs.Reading.{IsNumberRow}
-use Rattle.store_tables.specs.Stands.{HasFront, HoldsNow, Ran}
+use Rattle.store_tables.specs.Stands.{HasFront, HasTables, HoldsNow, Ran}
 use Rattle.store_tables.specs.Making.{AreOfMeta, IsOfMeta, LacksVersion, ReadsMeta, numbered}
-use Rattle.store_tables.specs.Making.{ShowsVersion}
+use Rattle.store_tables.specs.Making.{ReadsVersion, ShowsVersion, ShowsVersionOf}
+use Rattle.std.proofs.Common.{None, Option, Some, length, option_to_list, ℤ}
+use Rattle.std.proofs.lemmas.List.{length-map, nil_from_length}
+use Rattle.std.specs.List.{AllZip}
+use Rattle.store_tables.proofs.RowLemmas.{Asked, fails_of}
+use Rattle.store_tables.proofs.Spared.{looks_of}
 use Rattle.store_tables.specs.Contents.{Contents, set_version, desk_schema, front, table_count}
 use Rattle.store_tables.specs.Contents.{Tables}
-use Rattle.store_tables.specs.Spelling.{count_value, version_row}
 use Rattle.store_tables.specs.declared.fault.StoreFault.{StoreFault}
 use Rattle.store_tables.specs.declared.fault.StoreFault.TheVariants.{Mismatch, Refused}
-use Rattle.store_tables.proofs.AllTables.{same_tables, version_in}
+use Rattle.store_tables.proofs.Contents.{same_tables, version_in}
 use Rattle.store_tables.proofs.BlankLemmas.{none_shown}
 use Rattle.store_tables.proofs.ReadLemmas.{no_permutation}
 use Rattle.store_tables.proofs.PickedLemmas.{picked_by}
 use Rattle.store_tables.proofs.StandLemmas.{shown_open}
-use Rattle.store_tables.proofs.ReadingLemmas.{if_err, if_ok, table_rows}
-use Rattle.store_tables.proofs.Statements.{add_version_is, set_version_is, version_is}
+use Rattle.store_tables.proofs.ReadingLemmas.{every, if_err, if_ok, table_rows}
 use Rattle.store_tables.proofs.ChangeLemmas.{adds, apart, cast_int, cast_null, sets}
-use Rattle.store_tables.proofs.AllTables.{tables_now}
+use Rattle.store_tables.proofs.Contents.{tables_now}
 use Rattle.store_tables.proofs.WriteLemmas.{inserting}
+
+add_version_is : Changes add_version_text (Insert 0 (Values add_version_terms 3))
+unfolding understood everything
+add_version_is = record { is = refl; plain = (refl, refl) }
+
+set_version_is : Changes set_version_text (Update 0
+    (record { lets = []; body = reads meta.tree [] set_version_terms [] }))
+unfolding understood everything
+set_version_is = record { is = refl; plain = (refl, refl) }
+
+pub version_is : Selects version_text version_query (codes "version" ∷ [])
+unfolding understood everything
+version_is = record { is = refl; plain = (refl, refl); unlisted = refl; none = λ s n. refl }
 
 new_version : (db : Trees) → (inserting meta db [] add_version_terms 3).news ≡ version_row 2 ∷ []
 new_version db = rw (cast_int (pos 1), cast_int (pos 2), cast_null)
@@ -100,22 +124,54 @@ sets_version c old new t h =
 
 -- ---- the version that is read
 
-pub shows_none : (c : Contents) (old new : State) → (HasCleanDisk new → HasCleanDisk old)
-    → LacksVersion c old → HasCleanDisk new → (rows : List Row)
-    → Shown version_text [] old new rows → rows ≡ []
-shows_none c old new clean lacks now rows h =
-    let before = lacks (clean now) (shown_open version_text [] old new rows h) in
-    let schema = before.1.schema in
-    let p = picked_by version_text [] old new schema 0 [] version_shown [] version_is rows h in
-    p.shown ∙ ap (map (shows version_shown []))
-    (no_permutation p.picked (IsPermutation-sym _ _ (rw before.0 at p.same)))
-
 pub shows_version : (c : Contents) (old new : State) → Tables c old.now → (rows : List Row)
     → Shown version_text [] old new rows → ShowsVersion c.version rows
 shows_version c old new t rows h =
     let p = picked_by version_text [] old new t.schema 0 [] version_shown [] version_is rows h in
     p.shown ∙ ap (map (shows version_shown []))
     (one_permutation (version_row c.version) p.picked (rw t.meta at p.same))
+
+-- ---- in a transaction, whatever rows stand elsewhere
+
+no_zip : (rows : List Row) → AllZip ReadsWhole rows [] → rows ≡ []
+no_zip [] zip = refl
+no_zip rows zip = absurd (grind arith)
+
+module _ (old new : State) (clean : WasClean old new) (has : HasTables old)
+    (now : HasCleanDisk new)
+  where
+    -- where nothing is shown there is no row
+    none_there : (rows : List Row) → Shown version_text [] old new rows → rows ≡ []
+        → old.now.trees meta.tree ≡ []
+    none_there rows h none =
+        let schema = has (clean now) (shown_open version_text [] old new rows h) in
+        let p = picked_by version_text [] old new schema meta.tree [] version_shown [] version_is
+        rows h in
+        let picked : p.picked ≡ [] = nil_from_length p.picked
+        (sym (length-map p.picked (shows version_shown [])) ∙ ap length (sym p.shown ∙ none)) in
+        sym (every (old.now.trees meta.tree)) ∙ no_permutation _ (rw picked at p.same)
+
+    shows_it : (rows : List Row) → Shown version_text [] old new rows → (v : Option ℤ)
+        → AllZip ReadsWhole rows (option_to_list v) → ShowsVersionOf old v
+    shows_it rows h None zip = none_there rows h (no_zip rows zip)
+    shows_it (row ∷ []) h (Some z) zip =
+        let at = table_rows version_text [] meta.tree [] version_shown [] version_is old new clean
+        has now (row ∷ []) h row (inl refl) in
+        (at.1, at.2, ap (λ r. column r 0) (sym at.3) ∙ zip.0.number)
+    shows_it rows h (Some z) zip = absurd (grind arith)
+
+pub version_read : {Same : Type 0} {old new : State} {r : Result (Option ℤ) StoreFault}
+    → Asked Same ReadsWhole IsWholeRow option_to_list version_text [] old new r
+    → ReadsVersion old new r
+version_read {old = old} {new} {r} asked =
+    let clean = asked.leaves.spares.clean in record {
+      looks = looks_of r asked.leaves;
+      shown = λ has now. if_ok r (λ v it. shows_it old new clean has now it.0 it.1 v it.2)
+          (asked.read.read now);
+      fails = fails_of meta.tree version_shown
+          (table_rows version_text [] meta.tree [] version_shown [] version_is old new clean)
+          (λ row. refl) r asked.read;
+    }
 
 -- ---- where the first n tables are there, whatever rows stand elsewhere
 

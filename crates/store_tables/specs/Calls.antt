@@ -8,7 +8,7 @@ use Rattle.sqlite.specs.declared.error.Error.{Error}
 use Rattle.sqlite.specs.declared.error.Error.TheVariants.{SqliteFailure}
 use Rattle.sqlite.specs.declared.error.ErrorCode.TheVariants.{Closed}
 use Rattle.sqlite_disk.specs.Disk.{MoreFaults}
-use Rattle.sqlite.specs.State.{State, HasCleanDisk, Shown}
+use Rattle.sqlite.specs.State.{State, HasCleanDisk, IsUnchanged, Shown}
 use Rattle.sqlite.specs.Schema.{Schema}
 use Rattle.sqlite.specs.Term.{Term}
 use Rattle.sqlite_resolve.specs.declared.compiled.Compiled.{Compiled}
@@ -28,9 +28,11 @@ AreThere s =
     HasCleanDisk s → IsTrue s.is_open
     → (s.now.schema ≡ desk_schema) × (s.committed.schema ≡ desk_schema)
 
--- The connection lasts: no fault of the disk is forgotten, and only one shuts what was open.
+-- The connection lasts: no fault of the disk is forgotten, only one shuts what was open, and the
+-- limit on steps is kept.
 pub record Lasts (old new : State) : Type 0 where
   pub counts : old.faults ≤ new.faults
+  pub limit : new.step_limit ≡ old.step_limit
   pub closes : HasCleanDisk new → IsTrue old.is_open
       → IsTrue new.is_open ⊎ MoreFaults old.faults new.faults
 
@@ -51,6 +53,12 @@ pub record Spares (old new : State) : Type 0 where
 abbrev pub shut : Error
 shut = SqliteFailure Closed
 
+-- What a query leaves, whatever tables there are: all are spared, and where it isn't refused nothing
+-- has changed.
+pub record Leaves {X : Type 0} (old new : State) (result : Result X StoreFault) : Type 0 where
+  pub spares : Spares old new
+  pub same : HasCleanDisk new → IfOk result (λ x. IsUnchanged old new)
+
 -- whatever tables there are, the text is no statement that gives back rows of what it writes
 abbrev pub ReadsAlone : List ℕ → Type 0
 ReadsAlone sql =
@@ -69,21 +77,6 @@ Answers P old new result = (c : Contents) → Stand c old → HasCleanDisk new �
 abbrev pub Tells : {X E : Type 0} → (Desk → X → Type 0) → State → State → Result X E → Type 0
 Tells P old new result =
     (desk : Desk) → IsDesk desk → StandsFor desk old → HasCleanDisk new → IfOk result (P desk)
-
--- each row shows these columns of a row of that tree
-abbrev pub ShowsRowsOf : {X : Type 0} → ℕ → List Term → (X → List Row) → State → State
-    → Result X StoreFault → Type 0
-ShowsRowsOf tree terms rows old new result =
-    HasTables old → HasCleanDisk new
-    → IfOk result (λ x. (row : Row) → Has (rows x) row → IsTrue old.is_open
-    × (r : Row) × Has (old.now.trees tree) r × (row ≡ shows terms [] r))
-
--- a mismatch comes only of a bad row
-abbrev pub MismatchesIn : {X : Type 0} → ℕ → List Term → (Row → Type 0) → State → State
-    → Result X StoreFault → Type 0
-MismatchesIn tree terms IsValue old new result =
-    IfErr result (λ e. e ≡ Mismatch → HasTables old → HasCleanDisk new
-    → HasBadRow tree terms IsValue old.now)
 
 -- no fault is of the version, and a mismatch comes only of a bad row in an open store
 abbrev pub FailsIn : {X : Type 0} → ℕ → List Term → (Row → Type 0) → State → State

@@ -13,26 +13,35 @@ use Rattle.sqlite_rules.specs.Lists.{Has}
 use Rattle.sqlite_schema.specs.declared.schema.Index.{Index}
 use Rattle.desk_model.specs.Desk.{Desk, request_at}
 use Rattle.desk_model.specs.Watchers.{watchers_of}
-use Rattle.desk_model.specs.declared.rows.Entry.{Entry}
+use Rattle.desk_model.specs.declared.rows.Entry.{Entry as EntryRow}
 use Rattle.desk_model.specs.declared.rows.LinkRow.{LinkRow}
 use Rattle.desk_model.specs.declared.rows.QueueRow.{QueueRow}
 use Rattle.desk_model.specs.declared.rows.RequestRow.{RequestRow}
-use Rattle.desk_model.specs.declared.rows.Watcher.{Watcher}
-use Rattle.store_tables.specs.Dated.{Dated, dated_by, dated_columns, dated_shown, id_of, row_of}
+use Rattle.desk_model.specs.declared.rows.Watcher.{Watcher as WatcherRow}
+use Rattle.store_tables.specs.Contents.Entry.{IsEntryRow, actor_of, entry, entry_columns, entry_key}
+use Rattle.store_tables.specs.Contents.Entry.{entry_shown_terms, entry_text}
+use Rattle.store_tables.specs.Contents.Link.{IsLinkRow, is_link, link, link_columns, link_key}
+use Rattle.store_tables.specs.Contents.Link.{link_text}
+use Rattle.store_tables.specs.Contents.Meta.{meta, meta_text, version_row}
+use Rattle.store_tables.specs.Contents.Queue.{IsQueueRow, queue, queue_columns, queue_key}
+use Rattle.store_tables.specs.Contents.Queue.{queue_shown, queue_text}
+use Rattle.store_tables.specs.Contents.Request.{Dated, IsDatedRow, dated_by, dated_columns}
+use Rattle.store_tables.specs.Contents.Request.{dated_shown, dated_shown_terms, id_of, is_numbered}
+use Rattle.store_tables.specs.Contents.Request.{request, request_text, row_of}
+use Rattle.store_tables.specs.Contents.Stay.{IsStayRow, StayRow, stay, stay_columns, stay_key}
+use Rattle.store_tables.specs.Contents.Stay.{stay_shown, stay_text, stays, with_end}
+use Rattle.store_tables.specs.Contents.Watcher.{IsWatcherRow, is_watcher, watcher, watcher_columns}
+use Rattle.store_tables.specs.Contents.Watcher.{watcher_key, watcher_text}
+use Rattle.store_tables.specs.Query.{three_shown}
 use Rattle.store_tables.specs.Kept.{Keeps, Numbers}
 use Rattle.store_tables.specs.Picked.{shows}
-use Rattle.store_tables.specs.Queries.{dated_shown_terms, entry_shown_terms, queue_shown}
-use Rattle.store_tables.specs.Queries.{stay_shown, three_shown}
-use Rattle.store_tables.specs.Reading.{IsDatedRow, IsEntryRow, IsLinkRow, IsQueueRow, IsStayRow}
-use Rattle.store_tables.specs.Reading.{IsWatcherRow}
-use Rattle.store_tables.specs.Selection.{actor_of, is_link, is_numbered, is_watcher}
-use Rattle.store_tables.specs.Spelling.{entry_columns, link_columns, queue_columns, stay_columns}
-use Rattle.store_tables.specs.Spelling.{version_row, watcher_columns}
-use Rattle.store_tables.specs.Stays.{StayRow, stays, with_end}
-use Rattle.store_tables.specs.Tables.{entry, entry_key, entry_text, link, link_key, link_text, meta}
-use Rattle.store_tables.specs.Tables.{meta_text, queue, queue_key, queue_text, request}
-use Rattle.store_tables.specs.Tables.{request_text}
-use Rattle.store_tables.specs.Tables.{stay, stay_key, stay_text, watcher, watcher_key, watcher_text}
+pub mod Entry
+pub mod Link
+pub mod Meta
+pub mod Queue
+pub mod Request
+pub mod Stay
+pub mod Watcher
 
 -- ---- the tables
 
@@ -59,10 +68,14 @@ front n =
 
 -- all seven
 abbrev pub desk_schema : Schema
-desk_schema = record {
-  tables = meta ∷ queue ∷ request ∷ watcher ∷ link ∷ entry ∷ stay ∷ [];
+desk_schema = record { tables = desk_tables; indexes = desk_keys; views = [] }
+
+-- the six tables of version 1
+abbrev pub first_schema : Schema
+first_schema = record {
+  tables = meta ∷ queue ∷ request ∷ watcher ∷ link ∷ entry ∷ [];
   indexes =
-      queue_key ∷ watcher_key ∷ link_key ∷ entry_key ∷ stay_key ∷ [];
+      queue_key ∷ watcher_key ∷ link_key ∷ entry_key ∷ [];
   views = [];
 }
 
@@ -77,9 +90,9 @@ pub record Contents : Type 0 where
   pub version : ℕ
   pub queues : List QueueRow
   pub dated : List Dated
-  pub watchers : List Watcher
+  pub watchers : List WatcherRow
   pub links : List LinkRow
-  pub entries : List Entry
+  pub entries : List EntryRow
   pub stays : List StayRow
 
 -- texts are in UTF-8, numbers below 2^32, and minutes within the range of due moments
@@ -87,9 +100,9 @@ pub record ShowsValues (c : Contents) : Type 0 where
   pub version : c.version < 2 ^ 32
   pub queues : (q : QueueRow) → Has c.queues q → IsQueueRow (queue_columns q)
   pub dated : (p : Dated) → Has c.dated p → IsDatedRow (dated_shown p)
-  pub watchers : (w : Watcher) → Has c.watchers w → IsWatcherRow (watcher_columns w)
+  pub watchers : (w : WatcherRow) → Has c.watchers w → IsWatcherRow (watcher_columns w)
   pub links : (l : LinkRow) → Has c.links l → IsLinkRow (link_columns l)
-  pub entries : (e : Entry) → Has c.entries e → IsEntryRow (entry_columns e)
+  pub entries : (e : EntryRow) → Has c.entries e → IsEntryRow (entry_columns e)
   pub stays : (s : StayRow) → Has c.stays s → IsStayRow (stay_columns s)
 
 -- the same, as a word that isn't looked into where only the tables matter
@@ -99,13 +112,13 @@ AreValues c = ShowsValues c
 -- meta has its one row, and the other six tables are, up to order, the six lists of values
 pub record Tables (c : Contents) (db : Database) : Type 0 where
   pub schema : db.schema ≡ desk_schema
-  pub meta : db.trees 0 ≡ version_row c.version ∷ []
-  pub queues : Keeps queue_columns c.queues (db.trees 1)
-  pub requests : Numbers id_of dated_columns c.dated (db.trees 3)
-  pub watchers : Keeps watcher_columns c.watchers (db.trees 4)
-  pub links : Keeps link_columns c.links (db.trees 6)
-  pub entries : Keeps entry_columns c.entries (db.trees 8)
-  pub stays : Keeps stay_columns c.stays (db.trees 10)
+  pub meta : db.trees meta.tree ≡ version_row c.version ∷ []
+  pub queues : Keeps queue_columns c.queues (db.trees queue.tree)
+  pub requests : Numbers id_of dated_columns c.dated (db.trees request.tree)
+  pub watchers : Keeps watcher_columns c.watchers (db.trees watcher.tree)
+  pub links : Keeps link_columns c.links (db.trees link.tree)
+  pub entries : Keeps entry_columns c.entries (db.trees entry.tree)
+  pub stays : Keeps stay_columns c.stays (db.trees stay.tree)
   pub values : AreValues c
 
 -- these columns of a row of that tree are no value of the type
@@ -116,9 +129,9 @@ HasBadRow tree terms IsValue db =
 -- a row of a queue, a request, a watcher, a link, an entry or a stay is no value of its type
 abbrev pub HasBadRows : Database → Type 0
 HasBadRows db =
-    HasBadRow 1 queue_shown IsQueueRow db ⊎ HasBadRow 3 dated_shown_terms IsDatedRow db
-    ⊎ HasBadRow 4 three_shown IsWatcherRow db ⊎ HasBadRow 6 three_shown IsLinkRow db
-    ⊎ HasBadRow 8 entry_shown_terms IsEntryRow db ⊎ HasBadRow 10 stay_shown IsStayRow db
+    HasBadRow queue.tree queue_shown IsQueueRow db ⊎ HasBadRow request.tree dated_shown_terms IsDatedRow db
+    ⊎ HasBadRow watcher.tree three_shown IsWatcherRow db ⊎ HasBadRow link.tree three_shown IsLinkRow db
+    ⊎ HasBadRow entry.tree entry_shown_terms IsEntryRow db ⊎ HasBadRow stay.tree stay_shown IsStayRow db
 
 -- the same version and the same rows, in any order
 pub record AreAlike (a b : Contents) : Type 0 where
@@ -140,10 +153,10 @@ requests c = map row_of c.dated
 abbrev pub request_rows : Desk → List RequestRow
 request_rows desk = map (λ r. r.row) desk.requests
 
-abbrev pub watchers : Desk → List Watcher
+abbrev pub watchers : Desk → List WatcherRow
 watchers desk = flat_map watchers_of desk.requests
 
-abbrev pub entries : Desk → List Entry
+abbrev pub entries : Desk → List EntryRow
 entries desk = flat_map (λ r. r.entries) desk.requests
 
 -- who made each entry
@@ -151,7 +164,7 @@ abbrev pub actors : Desk → List (List ℕ)
 actors desk = map actor_of (entries desk)
 
 -- the history of the request with that number, empty where there is none
-abbrev pub history_at : Desk → ℕ → List Entry
+abbrev pub history_at : Desk → ℕ → List EntryRow
 history_at desk id = option_map_or (λ r. r.entries) (request_at desk id) []
 
 -- what tables of the present version hold of a desk, with these due moments
@@ -209,10 +222,10 @@ set_due c id due =
 abbrev pub set_each_due : Contents → ℕ × Option ℕ → Contents
 set_each_due c p = set_due c p.0 p.1
 
-abbrev pub add_watcher : Contents → Watcher → Contents
+abbrev pub add_watcher : Contents → WatcherRow → Contents
 add_watcher c w = record c { watchers = w ∷ c.watchers }
 
-abbrev pub drop_watcher : Contents → Watcher → Contents
+abbrev pub drop_watcher : Contents → WatcherRow → Contents
 drop_watcher c w = record c { watchers = filter (λ x. not (is_watcher w x)) c.watchers }
 
 abbrev pub add_link : Contents → LinkRow → Contents
@@ -221,7 +234,7 @@ add_link c l = record c { links = l ∷ c.links }
 abbrev pub drop_link : Contents → LinkRow → Contents
 drop_link c l = record c { links = filter (λ x. not (is_link l x)) c.links }
 
-abbrev pub add_entry : Contents → Entry → Contents
+abbrev pub add_entry : Contents → EntryRow → Contents
 add_entry c e = record c { entries = e ∷ c.entries }
 
 abbrev pub add_stay : Contents → StayRow → Contents

@@ -8,7 +8,7 @@ use Rattle.sqlite.specs.Order.{Row}
 use Rattle.sqlite.specs.declared.types.Value.TheVariants.{Int}
 use Rattle.sqlite.specs.Term.{Term, eval_all, holds}
 use Rattle.sqlite.specs.Query.{output, output_cmp}
-use Rattle.store_tables.specs.Queries.{reads, last_of}
+use Rattle.store_tables.specs.Query.{last_of, reads}
 
 abbrev pub passes : List Term → Row → Row → Bool
 passes test params r = list_all (holds (params ∷ r ∷ [])) test

@@ -4,6 +4,16 @@ use Rattle.sqlite.specs.State.{State, HasCleanDisk}
 use Rattle.desk_model.specs.Desk.{Desk}
 use Rattle.desk_model.specs.IsDesk.{IsDesk}
 use Rattle.desk_model.specs.declared.rows.RequestRow.{RequestRow}
+use Rattle.store_tables.specs.Contents.Entry.{IsEntryRow, actor_shown, entry, entry_shown_terms}
+use Rattle.store_tables.specs.Contents.Link.{IsLinkRow, link}
+use Rattle.store_tables.specs.Contents.Queue.{IsQueueRow, queue, queue_shown}
+use Rattle.store_tables.specs.Contents.Request.{IsDatedRow, IsRequestRow, dated_shown_terms}
+use Rattle.store_tables.specs.Contents.Request.{last_id_terms, request, request_shown_terms}
+use Rattle.store_tables.specs.Contents.Stay.{IsStayRow, stay, stay_shown}
+use Rattle.store_tables.specs.Contents.Watcher.{IsWatcherRow, watcher}
+use Rattle.store_tables.specs.Query.{three_shown}
+use Rattle.store_tables.specs.Values.{IsNumberRow, IsTextRow}
+use Rattle.store_tables.specs.Calls.{FailsIn}
 use Rattle.store_tables.specs.Calls.{Answers, AreThere, Spares}
 use Rattle.store_tables.specs.Contents.{Contents, contents_of, HasBadRows}
 use Rattle.store_tables.specs.declared.fault.StoreFault.{StoreFault}
@@ -33,3 +43,35 @@ pub record AreOf (desk : Desk) (c : Contents) : Type 0 where
 -- it is so of a desk whose contents these are
 abbrev pub OfDesk : {X : Type 0} → (Desk → X → Type 0) → Contents → X → Type 0
 OfDesk P c x = (desk : Desk) → AreOf desk c → P desk x
+
+-- ---- of each table: a mismatch comes only of a row of it that is no value of its type
+
+abbrev pub MismatchesInQueues : {X : Type 0} → State → State → Result X StoreFault → Type 0
+MismatchesInQueues old new result = FailsIn queue.tree queue_shown IsQueueRow old new result
+
+abbrev pub MismatchesInRequests : {X : Type 0} → State → State → Result X StoreFault → Type 0
+MismatchesInRequests old new result = FailsIn request.tree request_shown_terms IsRequestRow old new result
+
+-- of requests with their due moments
+abbrev pub MismatchesInDated : {X : Type 0} → State → State → Result X StoreFault → Type 0
+MismatchesInDated old new result = FailsIn request.tree dated_shown_terms IsDatedRow old new result
+
+-- of their numbers alone
+abbrev pub MismatchesInNumbers : {X : Type 0} → State → State → Result X StoreFault → Type 0
+MismatchesInNumbers old new result = FailsIn request.tree last_id_terms IsNumberRow old new result
+
+abbrev pub MismatchesInWatchers : {X : Type 0} → State → State → Result X StoreFault → Type 0
+MismatchesInWatchers old new result = FailsIn watcher.tree three_shown IsWatcherRow old new result
+
+abbrev pub MismatchesInLinks : {X : Type 0} → State → State → Result X StoreFault → Type 0
+MismatchesInLinks old new result = FailsIn link.tree three_shown IsLinkRow old new result
+
+abbrev pub MismatchesInEntries : {X : Type 0} → State → State → Result X StoreFault → Type 0
+MismatchesInEntries old new result = FailsIn entry.tree entry_shown_terms IsEntryRow old new result
+
+-- of those who made entries: only of one who is no text
+abbrev pub MismatchesInActors : {X : Type 0} → State → State → Result X StoreFault → Type 0
+MismatchesInActors old new result = FailsIn entry.tree actor_shown IsTextRow old new result
+
+abbrev pub MismatchesInStays : {X : Type 0} → State → State → Result X StoreFault → Type 0
+MismatchesInStays old new result = FailsIn stay.tree stay_shown IsStayRow old new result

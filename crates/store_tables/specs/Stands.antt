@@ -10,7 +10,7 @@ use Rattle.desk_model.specs.Desk.{Desk}
 use Rattle.desk_model.specs.declared.rows.RequestRow.{RequestRow}
 use Rattle.store_tables.specs.Contents.{Contents, contents_of, first_contents_of, desk_schema}
 use Rattle.store_tables.specs.Contents.{front, table_count, Tables}
-use Rattle.store_tables.specs.Tables.{first_schema}
+use Rattle.store_tables.specs.Contents.{first_schema}
 
 -- where the store is open and its disk is clean, the tables hold this, and so do those of the last
 -- commit
@@ -47,6 +47,11 @@ GoesBack old new =
     HasCleanDisk new → IsTrue new.is_open
     → HasCleanDisk old × IsTrue old.is_open × (new.now ≡ old.committed)
     × (new.committed ≡ old.committed)
+
+-- what the tables show is committed, whatever it is
+abbrev pub Commits : State → State → Type 0
+Commits old new =
+    HasCleanDisk new → IsTrue old.is_open × (new.now ≡ old.now) × (new.committed ≡ old.now)
 
 -- the last commit stays what it was, whatever it is
 abbrev pub KeepsBase : State → State → Type 0

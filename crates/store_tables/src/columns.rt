@@ -3,13 +3,14 @@ ghost use Rattle.std.specs.Prelude.{◌≡◌, ◌≢◌, ◌<◌, length, IfOk,
 ghost use Rattle.sqlite.specs.Order.{column as value_at};
 ghost use Rattle.sqlite.specs.Values.{or_null, bound_value};
 ghost use Rattle.sqlite_value.specs.Value.{owned};
-ghost use Rattle.sqlite.specs.declared.types.Value.TheVariants.{Text as Words};
+ghost use Rattle.sqlite.specs.declared.types.Value.TheVariants.{Int, Text as Words};
 ghost use Rattle.desk_model.specs.Links.{kind_number};
-ghost use Rattle.store_tables.specs.Reading.{IsText, IsTextOrNull, IsCount};
-ghost use Rattle.store_tables.specs.Reading.{IsMinute, IsMinuteOrNull, IsTurn, IsRole};
-ghost use Rattle.store_tables.specs.Reading.{IsLinkKind, IsEntryKind, ReadsAt, MismatchesAt};
-ghost use Rattle.store_tables.specs.Spelling.{count_value, turn_number, role_number};
-ghost use Rattle.store_tables.specs.Spelling.{entry_kind_number};
+ghost use Rattle.store_tables.specs.Contents.Entry.{IsEntryKind, entry_kind_number};
+ghost use Rattle.store_tables.specs.Contents.Link.{IsLinkKind};
+ghost use Rattle.store_tables.specs.Contents.Request.{IsTurn, turn_number};
+ghost use Rattle.store_tables.specs.Contents.Watcher.{IsRole, role_number};
+ghost use Rattle.store_tables.specs.Values.{IsCount, IsMinute, IsMinuteOrNull, IsText, IsWhole};
+ghost use Rattle.store_tables.specs.Values.{IsTextOrNull, MismatchesAt, ReadsAt, count_value};
 ghost use Rattle.store_tables.specs.declared.fault.StoreFault.{StoreFault};
 
 use crate::fault::StoreFault;
@@ -72,56 +73,6 @@ pub(crate) fn nullable_minute<'a>(minute: Option<Minute>) -> ValueRef<'a>
     }
 }
 
-/// Whose turn it is, to be bound.
-pub(crate) fn turn<'a>(turn: Turn) -> ValueRef<'a>
-    ensures { bound_value (owned result) ≡ count_value (turn_number turn) }
-{
-    match turn {
-        Turn::Desk => 0u32.to_sql(),
-        Turn::Requestor => 1u32.to_sql(),
-    }
-}
-
-/// A role, to be bound.
-pub(crate) fn role<'a>(role: WatchRole) -> ValueRef<'a>
-    ensures { bound_value (owned result) ≡ count_value (role_number role) }
-{
-    match role {
-        WatchRole::Requestor => 1u32.to_sql(),
-        WatchRole::Cc => 2u32.to_sql(),
-        WatchRole::AdminCc => 3u32.to_sql(),
-    }
-}
-
-/// The kind of a link, to be bound.
-pub(crate) fn link_kind<'a>(kind: LinkKind) -> ValueRef<'a>
-    ensures { bound_value (owned result) ≡ count_value (kind_number kind) }
-{
-    match kind {
-        LinkKind::DependsOn => 1u32.to_sql(),
-        LinkKind::MemberOf => 2u32.to_sql(),
-        LinkKind::RefersTo => 3u32.to_sql(),
-    }
-}
-
-/// The kind of an entry, to be bound.
-pub(crate) fn entry_kind<'a>(kind: EntryKind) -> ValueRef<'a>
-    ensures { bound_value (owned result) ≡ count_value (entry_kind_number kind) }
-{
-    match kind {
-        EntryKind::Create => 1u32.to_sql(),
-        EntryKind::Status => 2u32.to_sql(),
-        EntryKind::Owner => 3u32.to_sql(),
-        EntryKind::Reply => 4u32.to_sql(),
-        EntryKind::Comment => 5u32.to_sql(),
-        EntryKind::Watch => 6u32.to_sql(),
-        EntryKind::Unwatch => 7u32.to_sql(),
-        EntryKind::Link => 8u32.to_sql(),
-        EntryKind::Unlink => 9u32.to_sql(),
-        EntryKind::Level => 10u32.to_sql(),
-    }
-}
-
 /// The value in a column.
 fn column<T: FromSql>(row: &Row, at: usize) -> Result<T, StoreFault>
     ensures ok { IfOk result (λ x. T.FromSql.reads_as (value_at row.now at) x) }
@@ -168,6 +119,15 @@ pub(crate) fn number_at(row: &Row, at: usize) -> Result<u32, StoreFault>
     column(row, at)
 }
 
+/// The whole number in a column.
+pub(crate) fn whole_at(row: &Row, at: usize) -> Result<i64, StoreFault>
+    ensures ok { ReadsAt Int row.now at result }
+    ensures mismatch { MismatchesAt IsWhole row.now at result }
+    ensures fault { IfErr result (λ e. e ≢ StoreFault.WrongVersion) }
+{
+    column(row, at)
+}
+
 /// The minute in a column.
 pub(crate) fn minute_at(row: &Row, at: usize) -> Result<Minute, StoreFault>
     ensures ok { ReadsAt count_value row.now at result }
@@ -194,67 +154,5 @@ pub(crate) fn nullable_minute_at(row: &Row, at: usize) -> Result<Option<Minute>,
     match Minute::new(n) {
         Some(minute) => Ok(Some(minute)),
         None => Err(StoreFault::Mismatch),
-    }
-}
-
-/// Whose turn it is, by a column.
-pub(crate) fn turn_at(row: &Row, at: usize) -> Result<Turn, StoreFault>
-    ensures ok { ReadsAt (λ t. count_value (turn_number t)) row.now at result }
-    ensures mismatch { MismatchesAt IsTurn row.now at result }
-    ensures fault { IfErr result (λ e. e ≢ StoreFault.WrongVersion) }
-{
-    match number_at(row, at)? {
-        0 => Ok(Turn::Desk),
-        1 => Ok(Turn::Requestor),
-        _ => Err(StoreFault::Mismatch),
-    }
-}
-
-/// The role in a column.
-pub(crate) fn role_at(row: &Row, at: usize) -> Result<WatchRole, StoreFault>
-    ensures ok { ReadsAt (λ r. count_value (role_number r)) row.now at result }
-    ensures mismatch { MismatchesAt IsRole row.now at result }
-    ensures fault { IfErr result (λ e. e ≢ StoreFault.WrongVersion) }
-{
-    match number_at(row, at)? {
-        1 => Ok(WatchRole::Requestor),
-        2 => Ok(WatchRole::Cc),
-        3 => Ok(WatchRole::AdminCc),
-        _ => Err(StoreFault::Mismatch),
-    }
-}
-
-/// The kind of a link in a column.
-pub(crate) fn link_kind_at(row: &Row, at: usize) -> Result<LinkKind, StoreFault>
-    ensures ok { ReadsAt (λ k. count_value (kind_number k)) row.now at result }
-    ensures mismatch { MismatchesAt IsLinkKind row.now at result }
-    ensures fault { IfErr result (λ e. e ≢ StoreFault.WrongVersion) }
-{
-    match number_at(row, at)? {
-        1 => Ok(LinkKind::DependsOn),
-        2 => Ok(LinkKind::MemberOf),
-        3 => Ok(LinkKind::RefersTo),
-        _ => Err(StoreFault::Mismatch),
-    }
-}
-
-/// The kind of an entry in a column.
-pub(crate) fn entry_kind_at(row: &Row, at: usize) -> Result<EntryKind, StoreFault>
-    ensures ok { ReadsAt (λ k. count_value (entry_kind_number k)) row.now at result }
-    ensures mismatch { MismatchesAt IsEntryKind row.now at result }
-    ensures fault { IfErr result (λ e. e ≢ StoreFault.WrongVersion) }
-{
-    match number_at(row, at)? {
-        1 => Ok(EntryKind::Create),
-        2 => Ok(EntryKind::Status),
-        3 => Ok(EntryKind::Owner),
-        4 => Ok(EntryKind::Reply),
-        5 => Ok(EntryKind::Comment),
-        6 => Ok(EntryKind::Watch),
-        7 => Ok(EntryKind::Unwatch),
-        8 => Ok(EntryKind::Link),
-        9 => Ok(EntryKind::Unlink),
-        10 => Ok(EntryKind::Level),
-        _ => Err(StoreFault::Mismatch),
     }
 }

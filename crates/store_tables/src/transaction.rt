@@ -4,7 +4,7 @@ ghost use Rattle.sqlite.specs.Held.{state};
 ghost use Rattle.sqlite.specs.Values.{bound};
 ghost use Rattle.store_tables.specs.Calls.{Lasts, Runs, WasClean};
 ghost use Rattle.store_tables.specs.Contents.{Contents};
-ghost use Rattle.store_tables.specs.Stands.{GoesBack, GoesOn, HoldsNow, Ran, RanOnAny, Stand};
+ghost use Rattle.store_tables.specs.Stands.{Commits, GoesBack, GoesOn, HoldsNow, Ran, RanOnAny, Stand};
 ghost use Rattle.store_tables.specs.declared.fault.StoreFault.{StoreFault};
 
 use crate::fault::StoreFault;
@@ -72,6 +72,8 @@ pub fn finish<S: Alter>(tx: Transaction<'_, S>) -> Result<(), StoreFault>
     ensures ended { tx.exit.0.now.in_transaction ≡ false }
     ensures done { (c : Contents) → HoldsNow c (state S.Store tx.entry.conn.now) →
         OnOk result (Stand c (state S.Store tx.exit.0.now)) }
+    ensures shown { OnOk result
+        (Commits (state S.Store tx.entry.conn.now) (state S.Store tx.exit.0.now)) }
     ensures back { GoesOn (state S.Store tx.entry.conn.now) →
         OnErr result (GoesBack (state S.Store tx.entry.conn.now) (state S.Store tx.exit.0.now)) }
     ensures honest { WasClean (state S.Store tx.entry.conn.now) (state S.Store tx.exit.0.now) }

@@ -1,5 +1,5 @@
 -- A message step over tables, from the step of its command.
-use Rattle.std.proofs.Common.{◌≡◌, ◌≢◌, inl, inr, ℕ, Bool, false, List, Option, Some, None}
+use Rattle.std.proofs.Common.{◌≡◌, ◌≢◌, ◌∙◌, inl, inr, ℕ, Bool, false, List, Option, Some, None}
 use Rattle.std.proofs.Common.{true, Result, Ok, Err, refl, sym, subst, is_some}
 use Rattle.std.proofs.lemmas.Bool.{false≢true}
 use Rattle.std.specs.Prelude.{⊤, OnOk}
@@ -7,10 +7,12 @@ use Rattle.std.specs.declared.alloc.AllocError.{AllocError}
 use Rattle.sqlite.specs.State.{State}
 use Rattle.settings_core.specs.declared.settings.Settings.{Settings}
 use Rattle.desk_model.specs.Desk.{Desk}
-use Rattle.desk_model.specs.Step.{Ask, Outcome}
+use Rattle.desk_model.specs.Step.{Ask, Outcome, answer_of, desk_unless, effect, guard}
+use Rattle.desk_model.specs.Step.{outcome_unless}
+use Rattle.desk_model.specs.declared.answer.Answer.{Answer}
 use Rattle.desk_model.specs.declared.command.Command.{Command}
-use Rattle.desk_texts.specs.Short.{is_short}
-use Rattle.desk_texts.proofs.DeskUnchanged.{unchanged_if_long}
+use Rattle.desk_model.specs.declared.refusal.Refusal.{Refusal}
+use Rattle.desk_model.specs.declared.refusal.Refusal.TheVariants.{Unavailable}
 use Rattle.message_core.specs.Message.{Reads}
 use Rattle.message_core.specs.Reply.{bytes_of, unavailable}
 use Rattle.message_core.specs.declared.fault.WireFault.{WireFault}
@@ -50,14 +52,27 @@ pub done : (s : Settings) (ask : Ask) (h : Bool) (outcome : Outcome) (bytes : Li
 done s ask h outcome bytes old new told steps desk is stands clean =
     let step = steps desk is stands clean in (step.0, (outcome, step.1, told), step.2)
 
--- a command was done for whose text there was no memory: it only read
-pub left_out_if_long : (s : Settings) (ask : Ask) (outcome : Outcome) (old new : State)
-    → is_short outcome ≡ false → StepsOn s ask outcome old new → StaysOn s old new
-left_out_if_long s ask outcome old new long steps desk is stands clean =
-    let step = steps desk is stands clean in
-    let same =
-    unchanged_if_long s ask.at ask.caller ask.command desk step.0 outcome long step.1.step in
-    (step.0, same, step.2)
+left_by : (o : Option Refusal) (answer : Answer) (old after : Desk)
+    → Err Unavailable ≡ outcome_unless o answer → desk_unless o old after ≡ old
+left_by None answer old after e = cc
+left_by (Some refusal) answer old after e = refl
+
+-- a command that was out of memory leaves the desk
+pub unavailable_stays : (s : Settings) (ask : Ask) (old new : State)
+    → StepsOn s ask (Err Unavailable) old new → StaysOn s old new
+unavailable_stays s ask old new steps desk is stands clean =
+    let step = steps desk is stands clean in (
+      step.0,
+      elim step.1.step [
+        | inl left ↦ left.1
+        | inr made ↦
+            made.1
+            ∙ left_by (guard s ask.at ask.caller ask.command desk)
+            (answer_of s ask.at ask.caller ask.command desk) desk
+            (effect s ask.at ask.caller ask.command desk) made.0
+      ],
+      step.2,
+    )
 
 -- ---- a message
 

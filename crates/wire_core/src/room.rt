@@ -2,18 +2,17 @@
 ghost use Rattle.std.specs.Prelude.{◌≡◌, ◌≢◌, ◌≤◌, [], true, false, IfErr, OnErr, OnOk};
 ghost use Rattle.std.specs.Prelude.{is_some, length};
 ghost use Rattle.std.specs.Vec.{vec_capacity};
-ghost use Rattle.desk_model.specs.Refusals.{names_its_right};
 ghost use Rattle.desk_texts.specs.Short.{is_short};
+ghost use Rattle.desk_texts.specs.Texts.{outcome_text};
 ghost use Rattle.message_core.specs.Reply as form;
 ghost use Rattle.message_core.specs.Reply.{IsReply, bytes_of};
 ghost use Rattle.wire_core.specs.Replies as replies;
 ghost use Rattle.wire_core.specs.Replies.{TellsFault};
 
 use crate::replies::{fault_reply, outcome_reply, stream_reply};
-use desk_core::{Answer, Refusal};
 use message_core::{Allow, Reply, WireFault, answer_bytes, put_reply, unavailable_reply};
 use route_core::CommandFault;
-use service_core::text_in_room;
+use service_core::Told;
 use std::alloc::{AllocError, Global};
 
 /// Room for any short reply, in bytes.
@@ -23,26 +22,24 @@ pub(crate) const SHORT_REPLY: usize = 512;
 const SHORT_BODY: usize = 100;
 
 /// Puts the reply with what came of a command into the room. One that isn't short takes memory.
-pub(crate) fn put_outcome(
+pub(crate) fn put_told(
     alloc: Global,
     head_only: bool,
-    outcome: &Result<Answer, Refusal>,
-    text: Vec<u8>,
+    told: Told,
     room: &mut Vec<u8>,
 ) -> Result<(), AllocError>
-    requires named { IfErr outcome.now (λ refusal. names_its_right refusal ≡ true) }
-    requires no_text { text.items ≡ [] }
-    requires text { 64 ≤ vec_capacity text }
+    requires told { told.text.items ≡ outcome_text told.outcome }
+    requires short { is_short told.outcome ≡ true → length told.text.items ≤ 64 }
     requires empty { room.old.items ≡ [] }
     requires room { 512 ≤ vec_capacity room.old }
     ensures ok { OnOk result
-        (room.new.items ≡ bytes_of (replies.outcome_reply head_only outcome.now)) }
-    ensures err { OnErr result ((room.new ≡ room.old) × (is_short outcome.now ≡ false)) }
+        (room.new.items ≡ bytes_of (replies.outcome_reply head_only told.outcome)) }
+    ensures err { OnErr result ((room.new ≡ room.old) × (is_short told.outcome ≡ false)) }
 {
-    match text_in_room(alloc, outcome, text) {
-        Ok(text) => put(alloc, &outcome_reply(head_only, outcome, text), room),
-        Err(_) => Err(AllocError),
-    }
+    let outcome = told.outcome;
+    let reply = outcome_reply(head_only, &outcome, told.text);
+    drop(outcome);
+    put(alloc, &reply, room)
 }
 
 /// Puts the reply to a message that asks for no command into the room; its path has these methods.

@@ -16,11 +16,11 @@ ghost use Rattle.wire_core.specs.Replies as replies;
 ghost use Rattle.wire_core.specs.Steps.{CommandStepsOn, IsDoneOn, MessageStepsOn, StaysOn};
 
 use crate::replies::is_head;
-use crate::room::{put_fault, put_outcome, put_unavailable};
+use crate::room::{put_fault, put_told, put_unavailable};
 use desk_core::Command;
 use message_core::Message;
 use route_core::{Routes, command_by, methods_of};
-use service_core::{Desk, SHORT_TEXT};
+use service_core::Desk;
 use std::alloc::{AllocError, Global};
 use store_core::Backend;
 
@@ -86,8 +86,6 @@ fn reply_to<S: Backend>(
 }
 
 /// Does a command by a caller at a moment, and puts the reply with what came of it into the room.
-/// A change is made only once there is room for its text.
-#[tactic(auto, using(store_tables::proofs::Lasting::same))]
 fn do_command<S: Backend>(
     alloc: Global,
     at: u32,
@@ -109,13 +107,8 @@ fn do_command<S: Backend>(
     ensures lasts { Lasts (tables_of S.Store desk.old) (tables_of S.Store desk.new) }
     ensures same { settings_of S.Store desk.new ≡ settings_of S.Store desk.old }
 {
-    match Vec::with_capacity(alloc, SHORT_TEXT) {
-        Ok(text) => {
-            let outcome = desk.execute(alloc, at, caller, command);
-            let told = put_outcome(alloc, head_only, &outcome, text, room);
-            drop(outcome);
-            told
-        }
+    match desk.told(alloc, at, caller, command) {
+        Ok(told) => put_told(alloc, head_only, told, room),
         Err(_) => Err(AllocError),
     }
 }

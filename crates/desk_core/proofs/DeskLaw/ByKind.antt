@@ -1,12 +1,10 @@
 -- The change of a command that isn't refused fits the desk, by the kind of the command.
-use Rattle.std.proofs.Common.{◌≡◌, ◌∙◌, ℕ, ◌+◌, ◌==◌, true, false, not, ◌||◌, List, [], ◌∷◌}
-use Rattle.std.proofs.Common.{◌++◌, length, Option, Some, None, refl, ap, sym, subst, arith}
+use Rattle.std.proofs.Common.{◌≡◌, ◌∙◌, ℕ, ◌+◌, ◌==◌, true, false, not, ◌||◌, List, [], ◌∷◌, ◌++◌}
+use Rattle.std.proofs.Common.{length, Option, Some, None, refl, ap, sym, subst, arith}
 use Rattle.std.proofs.lemmas.Bool.{and_from, or_right}
 use Rattle.std.proofs.lemmas.List.Folds.{list_all-append}
 use Rattle.std.specs.List.{list_all}
 use Rattle.std.specs.Option.{is_none, is_some, option_map}
-use Rattle.hours_core.specs.Moment.{is_moment}
-use Rattle.settings_core.specs.Settings.{knows}
 use Rattle.settings_core.specs.declared.settings.Settings.{Settings}
 use Rattle.text_core.specs.Form.{is_name}
 use Rattle.desk_model.specs.Change.{no_change, request_filed}
@@ -19,23 +17,23 @@ use Rattle.desk_model.specs.IsDesk.{IsDesk}
 use Rattle.desk_model.specs.Links.{has_link, link}
 use Rattle.desk_model.specs.Plan.{Call, Plan, Reads, OnQueue, OnRequest, Nothing, Dependencies}
 use Rattle.desk_model.specs.Plan.{Another, another_shown, besides_on, change_by, change_of_request}
-use Rattle.desk_model.specs.Plan.{conditions_by, is_bad_text, is_missing, is_reading, on_shown}
-use Rattle.desk_model.specs.Plan.{seen_by}
+use Rattle.desk_model.specs.Plan.{conditions_by, conditions_of, conditions_of_words, is_missing}
+use Rattle.desk_model.specs.Plan.{is_reading, on_shown, seen_by}
 use Rattle.desk_model.specs.Step.{call, facts_of, guard}
 use Rattle.desk_model.specs.declared.change.Change.{Change}
 use Rattle.desk_model.specs.declared.command.Command.{Command}
 use Rattle.desk_model.specs.declared.command.Command.TheVariants.{OpenQueue, Create, Reply}
 use Rattle.desk_model.specs.declared.command.Command.TheVariants.{Link}
 use Rattle.desk_model.specs.declared.facts.SeenRequest.{SeenRequest}
-use Rattle.desk_model.specs.declared.refusal.Refusal.TheVariants.{UnknownCaller, BadMoment}
-use Rattle.desk_model.specs.declared.refusal.Refusal.TheVariants.{BadText, NotFound}
+use Rattle.desk_model.specs.declared.refusal.Refusal.TheVariants.{NotFound}
 use Rattle.desk_model.specs.declared.rows.Entry.{Entry}
 use Rattle.desk_core.proofs.DeskLaw.Entries.{counts_apart, counts_found}
 use Rattle.desk_core.proofs.DeskLaw.Fitting.{Appends, FilesNext, Fits, FollowOn}
 use Rattle.desk_core.proofs.DeskLaw.Fitting.{LinksAnew, OpensNamed, OpensNew, StaysInQueue}
 use Rattle.desk_core.proofs.DeskLaw.Fitting.{has_count}
 use Rattle.desk_core.proofs.Every.{every_found}
-use Rattle.desk_core.proofs.Goes.{NoneHolds, holding, none_holds, number_found, passed, rest_passes}
+use Rattle.desk_core.proofs.Goes.{NoneHolds, holding, none_holds, number_found, passed}
+use Rattle.desk_core.proofs.Goes.{plan_passes}
 
 -- what a plan changes at a call meets this, where the plan's conditions let it pass; a reading
 -- changes nothing, which is said in the form of a command on a request, so that one clause covers
@@ -44,10 +42,10 @@ abbrev pub MeetsAt : Call → (Desk → Change → Type 0) → Desk → Plan →
 MeetsAt call P desk (Reads topic answer) =
     (r : Request) → request_at desk r.row.id ≡ Some r → r.row.id ≡ r.row.id
     → Unit {0} → P desk no_change
-MeetsAt call P desk (OnQueue name conditions change) =
-    NoneHolds (conditions call (facts_on_queue desk name))
+MeetsAt call P desk (OnQueue name beforehand conditions change) =
+    NoneHolds (beforehand call ++ conditions call (facts_on_queue desk name))
     → P desk (change call (facts_on_queue desk name))
-MeetsAt call P desk (OnRequest id besides text conditions change) =
+MeetsAt call P desk (OnRequest id besides bad conditions change) =
     (r : Request) → request_at desk id ≡ Some r → id ≡ r.row.id
     → NoneHolds (another_shown call besides (besides_on besides id desk)
     (conditions call (besides_on besides id desk) (seen_request r)))
@@ -58,58 +56,59 @@ abbrev pub Meets : (Desk → Change → Type 0) → Desk → Plan → Type 0
 Meets P desk plan = (call : Call) → MeetsAt call P desk plan
 
 on_request : (P : Change → Type 0) (call : Call) (desk : Desk) (id : ℕ) (o : Option Request)
-    (front : List Condition)
     (asks : SeenRequest → List Condition) (change : SeenRequest → Change) → request_at desk id ≡ o
     → ((r : Request) → request_at desk id ≡ Some r → id ≡ r.row.id
     → NoneHolds (asks (seen_request r))
     → P (change (seen_request r)))
-    → first_holding (front ++ on_shown call (option_map seen_request o) asks) ≡ None
+    → first_holding (on_shown call (option_map seen_request o) asks) ≡ None
     → P (change_of_request (option_map seen_request o) change)
-on_request P call desk id None front asks change there meets free =
-    let none : first_holding ((NotFound, true) ∷ []) ≡ None =
-    rest_passes front ((NotFound, true) ∷ []) free in
-    cc
-on_request P call desk id (Some r) front asks change there meets free =
+on_request P call desk id None asks change there meets free = cc
+on_request P call desk id (Some r) asks change there meets free =
     meets r there (sym (number_found desk id r there))
     (none_holds (asks (seen_request r))
-    (passed (NotFound, is_missing call (Some (seen_request r))) (asks (seen_request r))
-    (rest_passes front _ free)).1)
+    (passed (NotFound, is_missing call (Some (seen_request r))) (asks (seen_request r)) free).1)
+
+meets_by : (P : Desk → Change → Type 0) (call : Call) (plan : Plan) (desk : Desk)
+    → (is_reading plan ≡ true → P desk no_change)
+    → MeetsAt call P desk plan
+    → first_holding (conditions_of_words call plan ++ conditions_by call (seen_by plan desk) plan)
+    ≡ None
+    → first_holding (conditions_by call (seen_by plan desk) plan) ≡ None
+    → P desk (change_by call (seen_by plan desk) plan)
+meets_by P call (Reads topic answer) desk nothing meets all free = nothing refl
+meets_by P call (OnQueue name beforehand conditions change) desk nothing meets all free =
+    meets (none_holds (beforehand call ++ conditions call (facts_on_queue desk name)) all)
+meets_by P call (OnRequest id Nothing bad conditions change) desk nothing meets all free =
+    let facts = besides_on Nothing id desk in
+    on_request (P desk) call desk id (request_at desk id) (conditions call facts)
+    (change call facts) refl meets free
+meets_by P call (OnRequest id Dependencies bad conditions change) desk nothing meets all free =
+    let facts = besides_on Dependencies id desk in
+    on_request (P desk) call desk id (request_at desk id) (conditions call facts)
+    (change call facts) refl meets free
+meets_by P call (OnRequest id (Another kind other) bad conditions change) desk nothing meets all
+    free =
+    let facts = besides_on (Another kind other) id desk in
+    on_request (P desk) call desk id (request_at desk id)
+    (λ request. (NotFound, is_missing call facts.other) ∷ conditions call facts request)
+    (change call facts) refl meets free
 
 -- what goes for the plan goes for the change; a reading makes none
-pub by_plan_at : (P : Desk → Change → Type 0) (call : Call) (plan : Plan) (front : List Condition)
-    (desk : Desk) → (is_reading plan ≡ true → P desk no_change)
+pub by_plan_at : (P : Desk → Change → Type 0) (call : Call) (plan : Plan) (desk : Desk)
+    → (is_reading plan ≡ true → P desk no_change)
     → MeetsAt call P desk plan
-    → first_holding (front ++ conditions_by call (seen_by plan desk) plan) ≡ None
+    → first_holding (conditions_of call (seen_by plan desk) plan) ≡ None
     → P desk (change_by call (seen_by plan desk) plan)
-by_plan_at P call (Reads topic answer) front desk nothing meets free = nothing refl
-by_plan_at P call (OnQueue name conditions change) front desk nothing meets free =
-    let facts = facts_on_queue desk name in
-    meets (none_holds (conditions call facts) (rest_passes front (conditions call facts) free))
-by_plan_at P call (OnRequest id Nothing text conditions change) front desk nothing meets free =
-    let facts = besides_on Nothing id desk in
-    on_request (P desk) call desk id (request_at desk id) ((BadText, is_bad_text text) ∷ [])
-    (conditions call facts) (change call facts) refl meets
-    (rest_passes front _ free)
-by_plan_at P call (OnRequest id Dependencies text conditions change) front desk nothing meets free =
-    let facts = besides_on Dependencies id desk in
-    on_request (P desk) call desk id (request_at desk id) ((BadText, is_bad_text text) ∷ [])
-    (conditions call facts) (change call facts) refl meets
-    (rest_passes front _ free)
-by_plan_at P call (OnRequest id (Another kind other) text conditions change) front desk nothing
-    meets free =
-    let facts = besides_on (Another kind other) id desk in
-    on_request (P desk) call desk id (request_at desk id) ((BadText, is_bad_text text) ∷ [])
-    (λ request. (NotFound, is_missing call facts.other) ∷ conditions call facts request)
-    (change call facts) refl meets
-    (rest_passes front _ free)
+by_plan_at P call plan desk nothing meets free =
+    let passes = plan_passes call (seen_by plan desk) plan free in
+    meets_by P call plan desk nothing meets passes.0 passes.1
 
-pub by_plan : (P : Desk → Change → Type 0) (call : Call) (plan : Plan) (front : List Condition)
-    (desk : Desk) → P desk no_change
-    → Meets P desk plan → first_holding (front ++ conditions_by call (seen_by plan desk) plan)
-    ≡ None
+pub by_plan : (P : Desk → Change → Type 0) (call : Call) (plan : Plan) (desk : Desk)
+    → P desk no_change → Meets P desk plan
+    → first_holding (conditions_of call (seen_by plan desk) plan) ≡ None
     → P desk (change_by call (seen_by plan desk) plan)
-by_plan P call plan front desk nothing meets free =
-    by_plan_at P call plan front desk (λ reads. nothing) (meets call) free
+by_plan P call plan desk nothing meets free =
+    by_plan_at P call plan desk (λ reads. nothing) (meets call) free
 
 pub some_is : {A : Type 0} (o : Option A) → is_none o ≡ false → is_some o ≡ true
 some_is None e = cc
@@ -259,20 +258,18 @@ pub change_fits : (s : Settings) (at : ℕ) (caller : List ℕ) (command : Comma
 change_fits s at caller command desk is free =
     let asks = call s at caller in
     let plan = plan_of command in
-    let front : List Condition =
-    (UnknownCaller, not (knows s caller)) ∷ (BadMoment, not (is_moment at)) ∷ [] in
     record {
-      opens = by_plan (λ d change. OpensNew d change.queue) asks plan front desk tt
+      opens = by_plan (λ d change. OpensNew d change.queue) asks plan desk tt
           (opens desk command) free;
-      named = by_plan (λ d change. OpensNamed change.queue) asks plan front desk tt
+      named = by_plan (λ d change. OpensNamed change.queue) asks plan desk tt
           (named desk command) free;
-      files = by_plan (λ d change. FilesNext d change.filed) asks plan front desk tt
+      files = by_plan (λ d change. FilesNext d change.filed) asks plan desk tt
           (files desk command) free;
-      stays = by_plan (λ d change. StaysInQueue d change.row) asks plan front desk (no_row desk)
+      stays = by_plan (λ d change. StaysInQueue d change.row) asks plan desk (no_row desk)
           (stays desk is command) free;
-      links = by_plan (λ d change. LinksAnew d change.linked) asks plan front desk tt
+      links = by_plan (λ d change. LinksAnew d change.linked) asks plan desk tt
           (links desk command) free;
-      appends = by_plan Appends asks plan front desk
+      appends = by_plan Appends asks plan desk
           (record { id = 0; count = 0; counted = none_of_zero desk is; follow = tt })
           (appends desk is command) free;
     }

@@ -24,13 +24,10 @@ use Rattle.lifecycle_core.specs.declared.parts.Parts.{Parts}
 use Rattle.settings_core.specs.Settings.{knows, lifecycle_named}
 use Rattle.settings_core.specs.Sound.{AreSound}
 use Rattle.settings_core.specs.declared.settings.Settings.{Settings}
+use Rattle.desk_model.specs.Change.{row_in_status, with_level, with_owner}
 use Rattle.desk_model.specs.Commands.{plan_of}
 use Rattle.desk_model.specs.Commands.Create as create
 use Rattle.desk_model.specs.Commands.Reply as reply
-use Rattle.desk_model.specs.Commands.SetLevel as set_level
-use Rattle.desk_model.specs.Commands.SetStatus as set_status
-use Rattle.desk_model.specs.Commands.Take as take
-use Rattle.desk_model.specs.Condition.{Condition}
 use Rattle.desk_model.specs.Desk.{Desk, Request, queue_at, request_at}
 use Rattle.desk_model.specs.Facts.{queue_of, seen_request}
 use Rattle.desk_model.specs.Known.{knows_level, knows_owner, knows_queue, knows_row, knows_status}
@@ -38,7 +35,7 @@ use Rattle.desk_model.specs.Lifecycles.{has_given, has_status, is_creatable, lif
 use Rattle.desk_model.specs.Lifecycles.{first_status, reopening_of}
 use Rattle.desk_model.specs.Names.{in_order, text_order, with_name}
 use Rattle.desk_model.specs.Plan.{Call, Nothing, besides_on, change_by}
-use Rattle.desk_model.specs.Plan.{conditions_by, seen_by}
+use Rattle.desk_model.specs.Plan.{conditions_by, conditions_of_words, seen_by}
 use Rattle.desk_model.specs.Step.{call, facts_of, guard}
 use Rattle.desk_model.specs.declared.change.Change.{Change}
 use Rattle.desk_model.specs.declared.command.Command.{Command}
@@ -233,25 +230,25 @@ rows call desk caller all (SetStatus id status) = λ r there same none.
     let parts = parts_known s desk r.row (every_found _ _ desk.requests r all there) in
     let queue = queue_of desk (request_at desk id) in
     let known = holding (has_status (lifecycle_of s queue) status) none.0 in
-    row_known s desk (set_status.row_in_status (lifecycle_of s queue) call.at status r.row)
+    row_known s desk (row_in_status (lifecycle_of s queue) call.at status r.row)
     (subst (λ (o : Option Request). has_status (lifecycle_of s (queue_of desk o)) status ≡ true)
     there known) parts.1 parts.2
 rows call desk caller all (Take id) = λ r there same none.
     let parts = parts_known call.settings desk r.row
     (every_found _ _ desk.requests r all there) in
-    row_known call.settings desk (take.with_owner (Some call.caller) r.row) parts.0 parts.1 caller
+    row_known call.settings desk (with_owner (Some call.caller) r.row) parts.0 parts.1 caller
 rows call desk caller all (Steal id) = λ r there same none.
     let parts = parts_known call.settings desk r.row
     (every_found _ _ desk.requests r all there) in
-    row_known call.settings desk (take.with_owner (Some call.caller) r.row) parts.0 parts.1 caller
+    row_known call.settings desk (with_owner (Some call.caller) r.row) parts.0 parts.1 caller
 rows call desk caller all (Untake id) = λ r there same none.
     let parts = parts_known call.settings desk r.row
     (every_found _ _ desk.requests r all there) in
-    row_known call.settings desk (take.with_owner None r.row) parts.0 parts.1 refl
+    row_known call.settings desk (with_owner None r.row) parts.0 parts.1 refl
 rows call desk caller all (Give id person) = λ r there same none.
     let parts = parts_known call.settings desk r.row
     (every_found _ _ desk.requests r all there) in
-    row_known call.settings desk (take.with_owner (Some person) r.row) parts.0 parts.1
+    row_known call.settings desk (with_owner (Some person) r.row) parts.0 parts.1
     (holding (knows call.settings person) none.0)
 rows call desk caller all (Reply id text) = λ r there same none.
     let s = call.settings in
@@ -271,7 +268,7 @@ rows call desk caller all (Reply id text) = λ r there same none.
 rows call desk caller all (SetLevel id level) = λ r there same none.
     let parts = parts_known call.settings desk r.row
     (every_found _ _ desk.requests r all there) in
-    row_known call.settings desk (set_level.with_level level r.row) parts.0
+    row_known call.settings desk (with_level level r.row) parts.0
     (holding (knows_level call.settings level) none.0)
     parts.2
 rows call desk caller all other = λ r there same none. tt
@@ -345,20 +342,19 @@ pub change_brings : (s : Settings) (at : ℕ) (caller : List ℕ) (command : Com
 change_brings s at caller command desk sound queues all free =
     let asks = call s at caller in
     let plan = plan_of command in
-    let front : List Condition =
-    (UnknownCaller, not (knows s caller)) ∷ (BadMoment, not (is_moment at)) ∷ [] in
     let known : knows s caller ≡ true =
     holding (knows s caller)
     (passed (UnknownCaller, not (knows s caller))
-    ((BadMoment, not (is_moment at)) ∷ conditions_by asks (seen_by plan desk) plan) free).0 in
+    ((BadMoment, not (is_moment at))
+    ∷ (conditions_of_words asks plan ++ conditions_by asks (seen_by plan desk) plan)) free).0 in
     record {
-      queue = by_plan_at (λ d change. KnowsQueue s change.queue) asks plan front desk (λ reads. tt)
+      queue = by_plan_at (λ d change. KnowsQueue s change.queue) asks plan desk (λ reads. tt)
           (opens asks desk command) free;
-      filed = by_plan_at (λ d change. KnowsRow s d change.filed) asks plan front desk (λ reads. tt)
+      filed = by_plan_at (λ d change. KnowsRow s d change.filed) asks plan desk (λ reads. tt)
           (files asks desk sound queues command) free;
-      row = by_plan_at (λ d change. KnowsRow s d change.row) asks plan front desk (λ reads. tt)
+      row = by_plan_at (λ d change. KnowsRow s d change.row) asks plan desk (λ reads. tt)
           (rows asks desk known all command) free;
       put = by_plan_at (λ d change. list_all (λ w. knows s w.person) change.put ≡ true) asks plan
-          front desk (λ reads. refl) (puts asks desk known command) free;
+          desk (λ reads. refl) (puts asks desk known command) free;
       entries = entries_known s at caller command _ (appended s at caller command desk) known;
     }

@@ -1,6 +1,6 @@
 //! Commenting on a request.
 
-ghost use Rattle.std.specs.Prelude.{◌+◌, ◌^◌, ◌<◌, OnOk, Some};
+ghost use Rattle.std.specs.Prelude.{◌+◌, ◌^◌, ◌<◌, OnOk};
 ghost use Rattle.desk_model.specs.Commands.Comment as comment;
 ghost use Rattle.desk_model.specs.Plan.{Nothing};
 ghost use Rattle.desk_core.specs.Context.{DecidesOn, PassesOn};
@@ -13,10 +13,8 @@ use text_core::Text;
 impl Context<'_> {
     /// Comments on the request.
     pub(super) fn comment(&self, text: &Text) -> Result<Change, Refusal>
-        ensures { DecidesOn result Nothing (Some text.now)
-            comment.conditions (comment.change text.now) self.now }
+        ensures { DecidesOn result Nothing comment.conditions (comment.change text.now) self.now }
     {
-        self.ask_for_text(text)?;
         let request = self.shown()?;
         self.ask_to_comment(request)?;
         let entries = self.one_entry(request, EntryKind::Comment, "", text.as_str())?;

@@ -14,7 +14,7 @@ use desk_model::{
 };
 use rights_core::right;
 use std::alloc::{AllocError, Global};
-use text_core::{Sequence, Text, Texts, is_subject};
+use text_core::{Sequence, Text, Texts};
 
 impl Context<'_> {
     /// Files a request.
@@ -26,10 +26,10 @@ impl Context<'_> {
         requestors: &Texts,
     ) -> Result<Change, Refusal>
         ensures { DecidesOnQueue result
-            (create.conditions queue.now subject.now status.now requestors.now)
+            (create.conditions queue.now status.now requestors.now)
             (create.change queue.now subject.now status.now requestors.now) self.now }
     {
-        self.ask_to_create(queue, subject, status, requestors)?;
+        self.ask_to_create(queue, status, requestors)?;
         let lifecycle = lifecycle_of(self.settings, &self.facts.queue);
         let first = first_status(lifecycle, status);
         let id = self.facts.request_count + 1;
@@ -43,18 +43,14 @@ impl Context<'_> {
     fn ask_to_create(
         &self,
         queue: &Text,
-        subject: &Text,
         status: &Option<Text>,
         requestors: &Texts,
     ) -> Result<(), Refusal>
         ensures asks { Passes result
-            (create.conditions queue.now subject.now status.now requestors.now
+            (create.conditions queue.now status.now requestors.now
             (call_of self.now) self.now.facts.now) }
         ensures fits { OnOk result (self.now.facts.now.request_count + 1 < 2 ^ 32) }
     {
-        if !is_subject(subject.as_str()) {
-            return Err(Refusal::BadText);
-        }
         if self.facts.queue.is_none() {
             return Err(Refusal::NotFound);
         }

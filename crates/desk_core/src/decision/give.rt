@@ -1,6 +1,6 @@
 //! Giving a request to an owner.
 
-ghost use Rattle.std.specs.Prelude.{◌≡◌, ◌+◌, ◌^◌, ◌<◌, OnOk, None};
+ghost use Rattle.std.specs.Prelude.{◌≡◌, ◌+◌, ◌^◌, ◌<◌, OnOk};
 ghost use Rattle.desk_model.specs.Commands.Give as give;
 ghost use Rattle.desk_model.specs.Plan.{Nothing};
 ghost use Rattle.desk_core.specs.Context.{call_of, DecidesOn, PassesOn};
@@ -13,7 +13,7 @@ use text_core::Text;
 impl Context<'_> {
     /// Makes a person the owner of a request.
     pub(super) fn give(&self, person: &Text) -> Result<Change, Refusal>
-        ensures { DecidesOn result Nothing None
+        ensures { DecidesOn result Nothing
             (give.conditions person.now) (give.change person.now) self.now }
     {
         let request = self.shown()?;

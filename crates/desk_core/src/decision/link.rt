@@ -1,6 +1,6 @@
 //! Linking two requests.
 
-ghost use Rattle.std.specs.Prelude.{◌≡◌, ◌+◌, ◌^◌, ◌<◌, IfOk, OnOk, decimal, None};
+ghost use Rattle.std.specs.Prelude.{◌≡◌, ◌+◌, ◌^◌, ◌<◌, IfOk, OnOk, decimal};
 ghost use Rattle.desk_model.specs.Commands.Link as link;
 ghost use Rattle.desk_model.specs.Plan.{Another};
 ghost use Rattle.desk_core.specs.Context.{DecidesOn, PassesOn};
@@ -14,7 +14,7 @@ use text_core::Text;
 impl Context<'_> {
     /// Links the request with another one.
     pub(super) fn link(&self, kind: LinkKind, other: u32) -> Result<Change, Refusal>
-        ensures { DecidesOn result (Another kind other) None
+        ensures { DecidesOn result (Another kind other)
             (link.conditions other) (link.change kind other) self.now }
     {
         let request = self.both_shown()?;

@@ -3,13 +3,12 @@
 ghost use Rattle.std.specs.Prelude.{◌≡◌};
 ghost use Rattle.desk_model.specs.Commands.OpenQueue as open_queue;
 ghost use Rattle.desk_model.specs.Condition.{Passes};
-ghost use Rattle.desk_model.specs.Known as known;
 ghost use Rattle.desk_core.specs.Context.{call_of, DecidesOnQueue};
 
 use crate::decision::Context;
 use desk_model::{Change, QueueRow, Refusal};
 use rights_core::right;
-use text_core::{Text, is_name};
+use text_core::Text;
 
 /// The most queues that a desk opens.
 const MAX_QUEUES: u32 = 1_000;
@@ -22,10 +21,10 @@ impl Context<'_> {
         lifecycle: &Text,
         level: &Option<Text>,
     ) -> Result<Change, Refusal>
-        ensures { DecidesOnQueue result (open_queue.conditions name.now lifecycle.now level.now)
+        ensures { DecidesOnQueue result (open_queue.conditions name.now)
             (open_queue.change name.now lifecycle.now level.now) self.now }
     {
-        self.ask_to_open(name, lifecycle, level)?;
+        self.ask_to_open(name)?;
         let queue = QueueRow {
             name: name.clone()?,
             lifecycle: lifecycle.clone()?,
@@ -35,21 +34,10 @@ impl Context<'_> {
     }
 
     #[tactic(auto, unfolding(rights_core::specs::Right::admin_queue))]
-    fn ask_to_open(
-        &self,
-        name: &Text,
-        lifecycle: &Text,
-        level: &Option<Text>,
-    ) -> Result<(), Refusal>
-        ensures { Passes result (open_queue.conditions name.now lifecycle.now level.now
-            (call_of self.now) self.now.facts.now) }
+    fn ask_to_open(&self, name: &Text) -> Result<(), Refusal>
+        ensures { Passes result
+            (open_queue.conditions name.now (call_of self.now) self.now.facts.now) }
     {
-        if !is_name(name.as_str()) {
-            return Err(Refusal::BadText);
-        }
-        if self.settings.lifecycle(lifecycle.as_str()).is_none() || !self.knows_level(level) {
-            return Err(Refusal::UnknownName);
-        }
         self.ask_on_queue(right::ADMIN_QUEUE, name)?;
         if self.facts.queue.is_some() {
             return Err(Refusal::Exists);
@@ -58,15 +46,5 @@ impl Context<'_> {
             return Err(Refusal::Full);
         }
         Ok(())
-    }
-
-    /// Whether a level that is given is one of the settings.
-    pub(super) fn knows_level(&self, level: &Option<Text>) -> bool
-        ensures { result ≡ known.knows_level self.now.settings.now level.now }
-    {
-        match level {
-            Some(level) => self.settings.level(level.as_str()).is_some(),
-            None => true,
-        }
     }
 }

@@ -1,9 +1,9 @@
 //! Replying on a request, which may open it again.
 
-ghost use Rattle.std.specs.Prelude.{◌≡◌, ◌+◌, ◌^◌, ◌<◌, IfOk, OnOk, Some, unwrap_or};
+ghost use Rattle.std.specs.Prelude.{◌≡◌, ◌+◌, ◌^◌, ◌<◌, IfOk, OnOk, unwrap_or};
 ghost use Rattle.std.specs.Option.{option_map};
+ghost use Rattle.desk_model.specs.Change.{row_in_status};
 ghost use Rattle.desk_model.specs.Commands.Reply as reply;
-ghost use Rattle.desk_model.specs.Commands.SetStatus.{row_in_status};
 ghost use Rattle.desk_model.specs.Plan.{Nothing};
 ghost use Rattle.desk_core.specs.Context.{call_of, DecidesOn, PassesOn};
 
@@ -18,10 +18,8 @@ use text_core::{Sequence, Text};
 impl<'c> Context<'c> {
     /// Replies to the request: the reply may open it again, and the turn passes.
     pub(super) fn reply(&self, text: &Text) -> Result<Change, Refusal>
-        ensures { DecidesOn result Nothing (Some text.now)
-            reply.conditions (reply.change text.now) self.now }
+        ensures { DecidesOn result Nothing reply.conditions (reply.change text.now) self.now }
     {
-        self.ask_for_text(text)?;
         let request = self.shown()?;
         let lifecycle = lifecycle_of(self.settings, &self.facts.queue);
         let is_requestor = request.requestors.contains(self.caller);

@@ -5,6 +5,7 @@ ghost use Rattle.desk_model.specs.Commands.SetLevel as set_level;
 ghost use Rattle.desk_model.specs.Plan.{Nothing};
 ghost use Rattle.desk_core.specs.Context.{DecidesOn, PassesOn};
 
+use crate::beforehand::knows_level;
 use crate::decision::Context;
 use desk_model::{Change, EntryKind, Refusal, RequestRow, SeenRequest};
 use rights_core::right;
@@ -14,7 +15,7 @@ use text_core::Text;
 impl Context<'_> {
     /// Gives the request another level, or none.
     pub(super) fn set_level(&self, level: &Option<Text>) -> Result<Change, Refusal>
-        ensures { DecidesOn result Nothing None
+        ensures { DecidesOn result Nothing
             (set_level.conditions level.now) (set_level.change level.now) self.now }
     {
         let request = self.shown()?;
@@ -30,7 +31,7 @@ impl Context<'_> {
         ensures asks { PassesOn result (set_level.conditions level.now) self.now request.now }
         ensures fits { OnOk result (request.now.entry_count + 1 < 2 ^ 32) }
     {
-        if !self.knows_level(level) {
+        if !knows_level(self.settings, level) {
             return Err(Refusal::UnknownName);
         }
         self.ask(right::MODIFY_TICKET, request)?;

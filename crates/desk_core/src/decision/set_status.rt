@@ -1,7 +1,8 @@
 //! Moving a request to a status.
 
-ghost use Rattle.std.specs.Prelude.{◌≡◌, ◌+◌, ◌^◌, ◌<◌, true, IfOk, IfErr, OnOk, None};
+ghost use Rattle.std.specs.Prelude.{◌≡◌, ◌+◌, ◌^◌, ◌<◌, true, IfOk, IfErr, OnOk};
 ghost use Rattle.desk_model.specs.Commands.SetStatus as set_status;
+ghost use Rattle.desk_model.specs.Entries as entries;
 ghost use Rattle.desk_model.specs.Plan.{Dependencies};
 ghost use Rattle.desk_model.specs.Refusals.{names_its_right};
 ghost use Rattle.desk_core.specs.Context.{call_of, DecidesOn, PassesOn};
@@ -15,7 +16,7 @@ use text_core::Text;
 impl Context<'_> {
     /// Moves the request to another status.
     pub(super) fn set_status(&self, status: &Text) -> Result<Change, Refusal>
-        ensures decides { DecidesOn result Dependencies None
+        ensures decides { DecidesOn result Dependencies
             (set_status.conditions status.now) (set_status.change status.now) self.now }
         ensures named { IfErr result (λ refusal. names_its_right refusal ≡ true) }
     {
@@ -62,7 +63,7 @@ impl Context<'_> {
     ) -> Result<Entry, AllocError>
         requires { request.now.entry_count + number < 2 ^ 32 }
         ensures { IfOk result (λ entry.
-            entry ≡ set_status.moving (call_of self.now) request.now number status.now) }
+            entry ≡ entries.moving (call_of self.now) request.now number status.now) }
     {
         let from = request.row.status.as_str();
         self.entry(request, number, EntryKind::Status, from, status)

@@ -1,6 +1,6 @@
 //! Owning a request that nobody owns.
 
-ghost use Rattle.std.specs.Prelude.{◌≡◌, ◌+◌, ◌^◌, ◌<◌, IfOk, OnOk, Some, None};
+ghost use Rattle.std.specs.Prelude.{◌≡◌, ◌+◌, ◌^◌, ◌<◌, IfOk, OnOk};
 ghost use Rattle.std.specs.Option.{option_map};
 ghost use Rattle.desk_model.specs.Commands.Take as take;
 ghost use Rattle.desk_model.specs.Entries as entries;
@@ -15,8 +15,7 @@ use std::alloc::AllocError;
 impl Context<'_> {
     /// Makes the caller the owner of a request that nobody owns.
     pub(super) fn take(&self) -> Result<Change, Refusal>
-        ensures { DecidesOn result Nothing None
-            take.conditions take.change self.now }
+        ensures { DecidesOn result Nothing take.conditions take.change self.now }
     {
         let request = self.shown()?;
         self.ask_to_take(request)?;
@@ -47,7 +46,7 @@ impl Context<'_> {
     ) -> Result<Change, AllocError>
         requires { request.now.entry_count + 1 < 2 ^ 32 }
         ensures { IfOk result (λ change. change
-            ≡ take.giving_owner (option_map (λ o. o.now) owner.entry)
+            ≡ entries.giving_owner (option_map (λ o. o.now) owner.entry)
             (call_of self.now) request.now) }
     {
         let old = request.row.owner.as_ref().map(|o| o.as_str());

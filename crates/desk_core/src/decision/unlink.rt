@@ -1,6 +1,6 @@
 //! Taking a link away.
 
-ghost use Rattle.std.specs.Prelude.{◌+◌, ◌^◌, ◌<◌, OnOk, None};
+ghost use Rattle.std.specs.Prelude.{◌+◌, ◌^◌, ◌<◌, OnOk};
 ghost use Rattle.desk_model.specs.Commands.Unlink as unlink;
 ghost use Rattle.desk_model.specs.Plan.{Another};
 ghost use Rattle.desk_core.specs.Context.{DecidesOn, PassesOn};
@@ -13,7 +13,7 @@ use rights_core::right;
 impl Context<'_> {
     /// Takes away the link of the request with another one.
     pub(super) fn unlink(&self, kind: LinkKind, other: u32) -> Result<Change, Refusal>
-        ensures { DecidesOn result (Another kind other) None
+        ensures { DecidesOn result (Another kind other)
             unlink.conditions (unlink.change kind other) self.now }
     {
         let request = self.both_shown()?;

@@ -1,6 +1,6 @@
 //! Taking a person out of a role.
 
-ghost use Rattle.std.specs.Prelude.{◌+◌, ◌^◌, ◌<◌, OnOk, None};
+ghost use Rattle.std.specs.Prelude.{◌+◌, ◌^◌, ◌<◌, OnOk};
 ghost use Rattle.desk_model.specs.Commands.Unwatch as unwatch;
 ghost use Rattle.desk_model.specs.Plan.{Nothing};
 ghost use Rattle.desk_core.specs.Context.{DecidesOn, PassesOn};
@@ -14,7 +14,7 @@ use text_core::Text;
 impl Context<'_> {
     /// Takes a person out of a role on the request.
     pub(super) fn unwatch(&self, role: WatchRole, person: &Text) -> Result<Change, Refusal>
-        ensures { DecidesOn result Nothing None
+        ensures { DecidesOn result Nothing
             (unwatch.conditions role person.now) (unwatch.change role person.now) self.now }
     {
         let request = self.shown()?;

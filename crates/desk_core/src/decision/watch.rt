@@ -1,6 +1,6 @@
 //! Putting a person into a role.
 
-ghost use Rattle.std.specs.Prelude.{◌≡◌, ◌+◌, ◌^◌, ◌<◌, [], ◌∷◌, IfOk, OnOk, None};
+ghost use Rattle.std.specs.Prelude.{◌≡◌, ◌+◌, ◌^◌, ◌<◌, [], ◌∷◌, IfOk, OnOk};
 ghost use Rattle.desk_model.specs.Commands.Watch as watch;
 ghost use Rattle.desk_model.specs.Watchers as watchers;
 ghost use Rattle.desk_model.specs.Plan.{Nothing};
@@ -15,7 +15,7 @@ use text_core::{Sequence, Text, Texts};
 impl Context<'_> {
     /// Puts a person into a role on the request.
     pub(super) fn watch(&self, role: WatchRole, person: &Text) -> Result<Change, Refusal>
-        ensures { DecidesOn result Nothing None
+        ensures { DecidesOn result Nothing
             (watch.conditions role person.now) (watch.change role person.now) self.now }
     {
         let request = self.shown()?;

@@ -3,10 +3,10 @@ use Rattle.std.specs.Prelude.{ℕ, ◌+◌, Bool, not, ◌||◌, List, [], ◌�
 use Rattle.std.specs.Prelude.{nat_le, Option, None, is_none, option_and_then}
 use Rattle.std.specs.List.{list_all}
 use Rattle.lifecycle_core.specs.declared.parts.Parts.{Parts}
-use Rattle.text_core.specs.Form.{is_subject}
 use Rattle.rights_core.specs.Right.{create_ticket}
 use Rattle.settings_core.specs.Settings.{knows, request_limit}
 use Rattle.settings_core.specs.declared.settings.Settings.{Settings}
+use Rattle.text_core.specs.Form.{is_subject}
 use Rattle.desk_model.specs.Change.{filing}
 use Rattle.desk_model.specs.Condition.{Condition}
 use Rattle.desk_model.specs.Lifecycles.{first_status, has_given, is_creatable, lifecycle_of}
@@ -16,8 +16,9 @@ use Rattle.desk_model.specs.Rights.{holds_on_queue}
 use Rattle.desk_model.specs.Watchers.{watcher}
 use Rattle.desk_model.specs.declared.change.Change.{Change}
 use Rattle.desk_model.specs.declared.facts.Facts.{Facts}
-use Rattle.desk_model.specs.declared.refusal.Refusal.TheVariants.{BadText, NotFound, UnknownName}
-use Rattle.desk_model.specs.declared.refusal.Refusal.TheVariants.{Denied, NoTransition, Full}
+use Rattle.desk_model.specs.declared.refusal.Refusal.TheVariants.{BadText, NotFound}
+use Rattle.desk_model.specs.declared.refusal.Refusal.TheVariants.{UnknownName, Denied}
+use Rattle.desk_model.specs.declared.refusal.Refusal.TheVariants.{NoTransition, Full}
 use Rattle.desk_model.specs.declared.rows.Entry.{Entry}
 use Rattle.desk_model.specs.declared.rows.EntryKind.TheVariants as kind
 use Rattle.desk_model.specs.declared.rows.QueueRow.{QueueRow}
@@ -35,12 +36,14 @@ is_unknown settings lifecycle status requestors =
 abbrev pub is_full : Settings → Facts → Bool
 is_full settings facts = nat_le (request_limit settings) facts.request_count
 
-abbrev pub conditions : List ℕ → List ℕ → Option (List ℕ) → List (List ℕ) → Call → Facts
-    → List Condition
-conditions queue subject status requestors call facts =
+-- what is asked of the words, on every desk alike
+abbrev pub beforehand : List ℕ → Call → List Condition
+beforehand subject call = (BadText, not (is_subject subject)) ∷ []
+
+abbrev pub conditions : List ℕ → Option (List ℕ) → List (List ℕ) → Call → Facts → List Condition
+conditions queue status requestors call facts =
     let lifecycle = lifecycle_of call.settings facts.queue in
-    (BadText, not (is_subject subject))
-    ∷ (NotFound, is_none facts.queue)
+    (NotFound, is_none facts.queue)
     ∷ (UnknownName, is_unknown call.settings lifecycle status requestors)
     ∷ (Denied create_ticket, not (holds_on_queue call.settings call.caller create_ticket queue))
     ∷ (NoTransition, not (is_creatable lifecycle (first_status lifecycle status)))

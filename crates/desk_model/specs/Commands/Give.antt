@@ -2,9 +2,8 @@
 use Rattle.std.specs.Prelude.{ℕ, not, ◌||◌, Bool, List, [], ◌∷◌, Some}
 use Rattle.rights_core.specs.Right.{own_ticket, reassign_ticket}
 use Rattle.settings_core.specs.Settings.{knows}
-use Rattle.desk_model.specs.Commands.Take.{giving_owner}
 use Rattle.desk_model.specs.Condition.{Condition}
-use Rattle.desk_model.specs.Entries.{lacks_room}
+use Rattle.desk_model.specs.Entries.{giving_owner, lacks_room}
 use Rattle.desk_model.specs.Plan.{Call}
 use Rattle.desk_model.specs.Rights.{holds_on, owns}
 use Rattle.desk_model.specs.declared.change.Change.{Change}

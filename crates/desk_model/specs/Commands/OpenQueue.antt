@@ -1,10 +1,10 @@
 -- Opens a queue.
 use Rattle.std.specs.Prelude.{ℕ, Bool, not, ◌||◌, List, [], ◌∷◌}
 use Rattle.std.specs.Prelude.{nat_le, Option, is_some, is_none}
-use Rattle.text_core.specs.Form.{is_name}
 use Rattle.rights_core.specs.Right.{admin_queue}
 use Rattle.settings_core.specs.Settings.{lifecycle_named}
 use Rattle.settings_core.specs.declared.settings.Settings.{Settings}
+use Rattle.text_core.specs.Form.{is_name}
 use Rattle.desk_model.specs.Change.{opening}
 use Rattle.desk_model.specs.Condition.{Condition}
 use Rattle.desk_model.specs.Known.{knows_level}
@@ -24,11 +24,16 @@ abbrev pub is_unknown : Settings → List ℕ → Option (List ℕ) → Bool
 is_unknown settings lifecycle level =
     is_none (lifecycle_named settings lifecycle) || not (knows_level settings level)
 
-abbrev pub conditions : List ℕ → List ℕ → Option (List ℕ) → Call → Facts → List Condition
-conditions name lifecycle level call facts =
+-- what is asked of the words, on every desk alike
+abbrev pub beforehand : List ℕ → List ℕ → Option (List ℕ) → Call → List Condition
+beforehand name lifecycle level call =
     (BadText, not (is_name name))
     ∷ (UnknownName, is_unknown call.settings lifecycle level)
-    ∷ (Denied admin_queue, not (holds_on_queue call.settings call.caller admin_queue name))
+    ∷ []
+
+abbrev pub conditions : List ℕ → Call → Facts → List Condition
+conditions name call facts =
+    (Denied admin_queue, not (holds_on_queue call.settings call.caller admin_queue name))
     ∷ (Exists, is_some facts.queue)
     ∷ (Full, nat_le queue_limit facts.queue_count)
     ∷ []

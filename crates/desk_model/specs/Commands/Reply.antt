@@ -4,10 +4,9 @@ use Rattle.std.specs.Prelude.{◌∷◌, Option, Some, None, if◌then◌else◌
 use Rattle.lifecycle_core.specs.declared.parts.Parts.{Parts}
 use Rattle.rights_core.specs.Right.{reply_to_ticket}
 use Rattle.text_core.specs.Texts.{is_among}
-use Rattle.desk_model.specs.Change.{revising}
-use Rattle.desk_model.specs.Commands.SetStatus.{row_in_status, moving}
+use Rattle.desk_model.specs.Change.{revising, row_in_status}
 use Rattle.desk_model.specs.Condition.{Condition}
-use Rattle.desk_model.specs.Entries.{entry_of, lacks_room}
+use Rattle.desk_model.specs.Entries.{entry_of, lacks_room, moving}
 use Rattle.desk_model.specs.Lifecycles.{is_inactive, is_initial, lifecycle_of, reopening_of}
 use Rattle.desk_model.specs.Plan.{Call}
 use Rattle.desk_model.specs.Rights.{holds_on}

@@ -3,7 +3,7 @@ use Rattle.std.specs.Prelude.{ℕ, Bool, true, false, not, List, [], ◌∷◌}
 use Rattle.std.specs.Prelude.{Option, Some, None, unwrap_or, codes}
 use Rattle.std.specs.Str.{bytes_eq}
 use Rattle.rights_core.specs.Right.{modify_ticket}
-use Rattle.desk_model.specs.Change.{revising}
+use Rattle.desk_model.specs.Change.{revising, with_level}
 use Rattle.desk_model.specs.Condition.{Condition}
 use Rattle.desk_model.specs.Entries.{entry_of, lacks_room}
 use Rattle.desk_model.specs.Known.{knows_level}
@@ -15,7 +15,6 @@ use Rattle.desk_model.specs.declared.facts.SeenRequest.{SeenRequest}
 use Rattle.desk_model.specs.declared.refusal.Refusal.TheVariants.{UnknownName, Denied}
 use Rattle.desk_model.specs.declared.refusal.Refusal.TheVariants.{NoChange, Full}
 use Rattle.desk_model.specs.declared.rows.EntryKind.TheVariants as kind
-use Rattle.desk_model.specs.declared.rows.RequestRow.{RequestRow}
 
 abbrev pub is_same_level : Option (List ℕ) → Option (List ℕ) → Bool
 is_same_level None None = true
@@ -33,9 +32,6 @@ conditions level call facts request =
 -- a level in an entry, or a dash for none
 abbrev pub level_word : Option (List ℕ) → List ℕ
 level_word level = unwrap_or level (codes "-")
-
-abbrev pub with_level : Option (List ℕ) → RequestRow → RequestRow
-with_level level row = record row { level = level }
 
 abbrev pub change : Option (List ℕ) → Call → Facts → SeenRequest → Change
 change level call facts request =

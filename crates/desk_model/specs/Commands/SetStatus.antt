@@ -1,15 +1,14 @@
 -- Moves a request to another status.
-use Rattle.std.specs.Prelude.{ℕ, Bool, not, ◌&&◌, List, [], ◌∷◌, Option, if◌then◌else◌}
+use Rattle.std.specs.Prelude.{ℕ, Bool, not, ◌&&◌, List, [], ◌∷◌}
 use Rattle.std.specs.List.{list_any}
 use Rattle.std.specs.Str.{bytes_eq}
-use Rattle.lifecycle_core.specs.declared.parts.Parts.{Parts}
 use Rattle.settings_core.specs.Settings.{lifecycle_named}
 use Rattle.settings_core.specs.declared.settings.Settings.{Settings}
-use Rattle.desk_model.specs.Change.{revising}
+use Rattle.desk_model.specs.Change.{revising, row_in_status}
 use Rattle.desk_model.specs.Condition.{Condition}
-use Rattle.desk_model.specs.Entries.{entry_of, lacks_room}
+use Rattle.desk_model.specs.Entries.{lacks_room, moving}
 use Rattle.desk_model.specs.Lifecycles.{has_status, is_allowed, is_inactive}
-use Rattle.desk_model.specs.Lifecycles.{lifecycle_of, opens_anew, right_of}
+use Rattle.desk_model.specs.Lifecycles.{lifecycle_of, right_of}
 use Rattle.desk_model.specs.Plan.{Call}
 use Rattle.desk_model.specs.Rights.{holds_on}
 use Rattle.desk_model.specs.declared.change.Change.{Change}
@@ -19,9 +18,6 @@ use Rattle.desk_model.specs.declared.facts.SeenRequest.{SeenRequest}
 use Rattle.desk_model.specs.declared.refusal.Refusal.TheVariants.{UnknownName, Denied, NoChange}
 use Rattle.desk_model.specs.declared.refusal.Refusal.TheVariants.{NoTransition, OpenDependency}
 use Rattle.desk_model.specs.declared.refusal.Refusal.TheVariants.{Full}
-use Rattle.desk_model.specs.declared.rows.Entry.{Entry}
-use Rattle.desk_model.specs.declared.rows.EntryKind.TheVariants as kind
-use Rattle.desk_model.specs.declared.rows.RequestRow.{RequestRow}
 
 -- a request that another one depends on isn't inactive
 abbrev pub is_open_dependency : Settings → Dependency → Bool
@@ -46,21 +42,6 @@ conditions status call facts request =
     )
     ∷ (Full, lacks_room call request 1)
     ∷ []
-
--- the row after a move
-abbrev pub row_in_status : Option Parts → ℕ → List ℕ → RequestRow → RequestRow
-row_in_status lifecycle at status row =
-    let anew = opens_anew lifecycle row.status status in
-    record row {
-      status = status;
-      opened = if anew then at else row.opened;
-      since = if anew then at else row.since;
-    }
-
--- the entry of a move
-abbrev pub moving : Call → SeenRequest → ℕ → List ℕ → Entry
-moving call request number status =
-    entry_of call request number kind.Status request.row.status status
 
 abbrev pub change : List ℕ → Call → Facts → SeenRequest → Change
 change status call facts request =

@@ -1,9 +1,8 @@
 -- Makes the caller the owner of a request that another person owns.
 use Rattle.std.specs.Prelude.{not, List, [], ◌∷◌, Some, is_none}
 use Rattle.rights_core.specs.Right.{own_ticket, steal_ticket}
-use Rattle.desk_model.specs.Commands.Take.{giving_owner}
 use Rattle.desk_model.specs.Condition.{Condition}
-use Rattle.desk_model.specs.Entries.{lacks_room}
+use Rattle.desk_model.specs.Entries.{giving_owner, lacks_room}
 use Rattle.desk_model.specs.Plan.{Call}
 use Rattle.desk_model.specs.Rights.{holds_on, owns}
 use Rattle.desk_model.specs.declared.change.Change.{Change}

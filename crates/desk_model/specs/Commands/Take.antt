@@ -1,17 +1,14 @@
 -- Makes the caller the owner of a request that nobody owns.
-use Rattle.std.specs.Prelude.{ℕ, not, List, [], ◌∷◌, Option, Some, is_some}
+use Rattle.std.specs.Prelude.{not, List, [], ◌∷◌, Some, is_some}
 use Rattle.rights_core.specs.Right.{own_ticket, take_ticket}
-use Rattle.desk_model.specs.Change.{revising}
 use Rattle.desk_model.specs.Condition.{Condition}
-use Rattle.desk_model.specs.Entries.{entry_of, lacks_room, owner_word}
+use Rattle.desk_model.specs.Entries.{giving_owner, lacks_room}
 use Rattle.desk_model.specs.Plan.{Call}
 use Rattle.desk_model.specs.Rights.{holds_on, owns}
 use Rattle.desk_model.specs.declared.change.Change.{Change}
 use Rattle.desk_model.specs.declared.facts.Facts.{Facts}
 use Rattle.desk_model.specs.declared.facts.SeenRequest.{SeenRequest}
 use Rattle.desk_model.specs.declared.refusal.Refusal.TheVariants.{Denied, NoChange, Owned, Full}
-use Rattle.desk_model.specs.declared.rows.RequestRow.{RequestRow}
-use Rattle.desk_model.specs.declared.rows.EntryKind.TheVariants as kind
 
 abbrev pub conditions : Call → Facts → SeenRequest → List Condition
 conditions call facts request =
@@ -21,15 +18,6 @@ conditions call facts request =
     ∷ (Owned, is_some request.row.owner)
     ∷ (Full, lacks_room call request 1)
     ∷ []
-
-abbrev pub with_owner : Option (List ℕ) → RequestRow → RequestRow
-with_owner owner row = record row { owner = owner }
-
--- the request with another owner, or with none
-abbrev pub giving_owner : Option (List ℕ) → Call → SeenRequest → Change
-giving_owner owner call request =
-    revising (with_owner owner request.row)
-    (entry_of call request 1 kind.Owner (owner_word request.row.owner) (owner_word owner) ∷ [])
 
 abbrev pub change : Call → Facts → SeenRequest → Change
 change call facts request = giving_owner (Some call.caller) call request

@@ -1,8 +1,7 @@
 -- Leaves a request that the caller owns without an owner.
 use Rattle.std.specs.Prelude.{not, List, [], ◌∷◌, None, is_none}
-use Rattle.desk_model.specs.Commands.Take.{giving_owner}
 use Rattle.desk_model.specs.Condition.{Condition}
-use Rattle.desk_model.specs.Entries.{lacks_room}
+use Rattle.desk_model.specs.Entries.{giving_owner, lacks_room}
 use Rattle.desk_model.specs.Plan.{Call}
 use Rattle.desk_model.specs.Rights.{owns}
 use Rattle.desk_model.specs.declared.change.Change.{Change}

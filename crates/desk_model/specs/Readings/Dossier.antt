@@ -1,5 +1,5 @@
 -- All that is told of a request at once: what is shown of it, its history, and its queue.
-use Rattle.std.specs.Prelude.{◌≡◌, Option, Some, Result, Ok, Err}
+use Rattle.std.specs.Prelude.{◌≡◌, Some, Result, Ok, Err}
 use Rattle.desk_model.specs.Desk.{Desk, queue_at}
 use Rattle.desk_model.specs.Step.{Outcome}
 use Rattle.desk_model.specs.declared.answer.Answer.TheVariants.{Shown, History}

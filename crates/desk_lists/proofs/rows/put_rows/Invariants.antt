@@ -2,7 +2,7 @@
 use Rattle.std.proofs.Common.{◌≡◌, ℕ, List, [], false}
 use Rattle.desk_reports.specs.Rows.{WatchesRise}
 use Rattle.store_tables.specs.Calls.{Spares}
-use Rattle.store_tables.specs.Dated.{Dated}
+use Rattle.store_tables.specs.Contents.Request.{Dated}
 use Rattle.store_core.specs.Ahead.{HasGiven}
 use Rattle.store_core.specs.Seen.{state_of}
 use Rattle.stream_core.specs.Seen.{HaveOneWriter, has_write_failed}

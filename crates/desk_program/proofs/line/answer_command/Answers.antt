@@ -1,25 +1,32 @@
 -- the step that was made, and its text, or no memory for it
-use Rattle.desk_program.proofs.LedLines.{if_ok, left_out_if_long, led_by_step, not_asked, on_err}
+use Rattle.std.proofs.Common.{◌∙◌, Err, ap, refl}
+use Rattle.desk_model.specs.declared.refusal.Refusal.TheVariants.{Unavailable}
+use Rattle.desk_program.specs.FaultLines.{unavailable_text}
+use Rattle.desk_program.proofs.LedLines.{led_by_step}
 use Rattle.service_core.specs.Seen.{settings_of, tables_of}
 use Rattle.desk_program.proofs.line.answer_command.Goals as goal
 
 pub returns-in-Ok-clause-ok : goal.returns-in-Ok-clause-ok
 returns-in-Ok-clause-ok g c =
-    if_ok c.text_in_room-text.result _ _ c.text_in_room-text.ensures.ok
-    (λ printed told. led_by_step (settings_of g.S.Store c.args.desk.now) c.args.at
-    c.args.caller.now c.args.command.now c.execute-outcome.result
-    (tables_of g.S.Store c.args.desk.now) (tables_of g.S.Store c.execute-outcome.new.self)
-    printed.items told c.execute-outcome.ensures.step)
-
-pub returns-in-Ok-clause-err : goal.returns-in-Ok-clause-err
-returns-in-Ok-clause-err g c =
-    on_err c.text_in_room-text.result _ _ c.text_in_room-text.ensures.err
-    (λ long. left_out_if_long (settings_of g.S.Store c.args.desk.now) c.args.at
-    c.args.caller.now c.args.command.now c.execute-outcome.result
-    (tables_of g.S.Store c.args.desk.now) (tables_of g.S.Store c.execute-outcome.new.self)
-    long c.execute-outcome.ensures.step)
+    led_by_step (settings_of g.S.Store c.args.desk.now) c.args.at c.args.caller.now
+    c.args.command.now c.in-Ok.told.outcome (tables_of g.S.Store c.args.desk.now)
+    (tables_of g.S.Store c.told.new.self) c.into_text.result.items
+    (ap (λ v. v.items) c.into_text.ensures ∙ c.in-Ok.ensures.ok.told) c.in-Ok.ensures.ok.step
 
 pub returns-in-Err-clause-err : goal.returns-in-Err-clause-err
 returns-in-Err-clause-err g c =
-    not_asked (settings_of g.S.Store c.args.desk.now) c.args.at c.args.caller.now
-    c.args.command.now (tables_of g.S.Store c.args.desk.now)
+    led_by_step (settings_of g.S.Store c.args.desk.now) c.args.at c.args.caller.now
+    c.args.command.now (Err Unavailable) (tables_of g.S.Store c.args.desk.now)
+    (tables_of g.S.Store c.told.new.self) unavailable_text refl c.in-Err.ensures.err
+
+pub returns-in-Ok-clause-honest : goal.returns-in-Ok-clause-honest
+returns-in-Ok-clause-honest g c = c.told.ensures.keeps.clean
+
+pub returns-in-Ok-clause-lasts : goal.returns-in-Ok-clause-lasts
+returns-in-Ok-clause-lasts g c = c.told.ensures.keeps.lasts
+
+pub returns-in-Err-clause-honest : goal.returns-in-Err-clause-honest
+returns-in-Err-clause-honest g c = c.told.ensures.keeps.clean
+
+pub returns-in-Err-clause-lasts : goal.returns-in-Err-clause-lasts
+returns-in-Err-clause-lasts g c = c.told.ensures.keeps.lasts

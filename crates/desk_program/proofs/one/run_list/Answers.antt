@@ -13,7 +13,7 @@ returns-in-Ok-clause-printed g c =
       it.0,
       list_printed (settings_of g.S.Store c.args.desk.now) c.args.at c.args.caller.now
           c.args.command.now (tables_of g.S.Store c.args.desk.now)
-          (tables_of g.S.Store c.stream_counted.new.self) c.in-Ok.ensures.kept
+          (tables_of g.S.Store c.stream_counted.new.self) c.in-Ok.ensures.kept c.requires.list
           (has_write_failed c.stream_counted.new.output) it.0 it.2,
       it.1,
     )
@@ -24,7 +24,7 @@ returns-in-Err-Write-clause-printed g c =
       it.0,
       list_failed (settings_of g.S.Store c.args.desk.now) c.args.at c.args.caller.now
           c.args.command.now (tables_of g.S.Store c.args.desk.now)
-          (tables_of g.S.Store c.stream_counted.new.self) c.in-Err-Write.ensures.kept
+          (tables_of g.S.Store c.stream_counted.new.self) c.in-Err-Write.ensures.kept c.requires.list
           (has_write_failed c.stream_counted.new.output) it.0 0
           (rw c.in-Err-Write.field-0-is at c.in-Err-Write.ensures.failed) it.2,
       it.1,
@@ -37,7 +37,7 @@ returns-in-Err-Refused-clause-printed g c =
       it.0 ++ refusal_text told.0,
       list_refused (settings_of g.S.Store c.args.desk.now) c.args.at c.args.caller.now
           c.args.command.now (tables_of g.S.Store c.args.desk.now)
-          (tables_of g.S.Store c.stream_counted.new.self) c.in-Err-Refused.ensures.kept
+          (tables_of g.S.Store c.stream_counted.new.self) c.in-Err-Refused.ensures.kept c.requires.list
           (has_write_failed c.put_refusal.new.output) it.0 c.in-Err-Refused.refusal told.0 told.1
           it.2,
       prints_both g.W.Write.contents _ _ _ _ _ it.1 told.2,

@@ -1,10 +1,11 @@
 use Rattle.std.proofs.Common.{◌∙◌, ◌&&◌, Err, ap, ap₂, map, rules, Result}
 use Rattle.std.specs.Prelude.{⊤}
-use Rattle.store_tables.specs.Dated.{row_of}
+use Rattle.store_tables.specs.Contents.Request.{row_of}
 use Rattle.store_tables.proofs.Spared.{joined, stands_for}
 use Rattle.store_core.specs.Seen.{state_of}
 use Rattle.store_tables.specs.declared.fault.StoreFault.{StoreFault}
-use Rattle.store_tables.proofs.BlameLemmas.{watchers_blame}
+use Rattle.store_tables.proofs.Contents.Watcher.{watcher_table}
+use Rattle.store_tables.proofs.RowLemmas.{blames_of}
 use Rattle.store_tables.proofs.ReadOn.{blames_after, blames_failed}
 use Rattle.service_core.specs.Attaching.{knows_rows}
 use Rattle.service_core.proofs.attach.is_known.Goals as goal
@@ -28,7 +29,7 @@ returns-in_err-watchers-clause-fault g c =
     let result : Result ⊤ StoreFault = Err c.in_err-watchers.field-0.0 in
     blames_failed (blames_after (joined c.read_links.ensures.kept c.knows_histories.ensures.kept)
     c.watchers.ensures.kept.clean
-    (watchers_blame before new result c.in_err-watchers.ensures.mismatch)) (search rules)
+    (blames_of watcher_table before new result c.in_err-watchers.ensures.mismatch)) (search rules)
 
 pub returns-in_err-watchers-clause-kept : goal.returns-in_err-watchers-clause-kept
 returns-in_err-watchers-clause-kept g c =

@@ -2,7 +2,8 @@ use Rattle.std.proofs.Common.{Err, Result}
 use Rattle.std.specs.Prelude.{⊤}
 use Rattle.store_core.specs.Seen.{state_of}
 use Rattle.store_tables.specs.declared.fault.StoreFault.{StoreFault}
-use Rattle.store_tables.proofs.BlameLemmas.{links_blame}
+use Rattle.store_tables.proofs.Contents.Link.{link_table}
+use Rattle.store_tables.proofs.RowLemmas.{blames_of}
 use Rattle.store_tables.proofs.ReadOn.{blames_failed}
 use Rattle.service_core.proofs.attach.read_links.Goals.{in-Err, in-Ok}
 use Rattle.service_core.proofs.attach.read_links.Goals as goal
@@ -15,5 +16,5 @@ returns-clause-fault g c =
       | in-Ok w ↦ rw w.result-is (record { known = tt; mismatch = tt })
       | in-Err w ↦
           let result : Result ⊤ StoreFault = Err w.in-Err.fault in
-          blames_failed (links_blame old new result w.in-Err.ensures.mismatch) w.result-is
+          blames_failed (blames_of link_table old new result w.in-Err.ensures.mismatch) w.result-is
     ]

@@ -7,7 +7,10 @@ use Rattle.store_tables.specs.Contents.{contents_of}
 use Rattle.store_tables.proofs.Lasting.{on}
 use Rattle.store_tables.proofs.Spared.{joined, stands, stands_for}
 use Rattle.store_tables.specs.declared.fault.StoreFault.{StoreFault}
-use Rattle.store_tables.proofs.BlameLemmas.{dated_blame, queues_blame, stays_blame}
+use Rattle.store_tables.proofs.Contents.Request.{dated_table}
+use Rattle.store_tables.proofs.RowLemmas.{blames_of}
+use Rattle.store_tables.proofs.Contents.Queue.{queue_table}
+use Rattle.store_tables.proofs.Contents.Stay.{stay_table}
 use Rattle.store_tables.proofs.ReadOn.{blames_after, blames_failed, blames_refused}
 use Rattle.service_core.proofs.KnownLemmas.{known_of_dated}
 use Rattle.service_core.proofs.attach.renew_known.Goals as goal
@@ -17,7 +20,7 @@ returns-in_err-dated-clause-fault g c =
     let old = state_of g.S.Store c.args.store.now in
     let new = state_of g.S.Store c.dated_requests.new.self in
     let result : Result ⊤ StoreFault = Err c.in_err-dated.field-0.0 in
-    blames_failed (dated_blame old new result c.in_err-dated.ensures.mismatch) (search rules)
+    blames_failed (blames_of dated_table old new result c.in_err-dated.ensures.mismatch) (search rules)
 
 pub returns-in_err-queues-clause-fault : goal.returns-in_err-queues-clause-fault
 returns-in_err-queues-clause-fault g c =
@@ -25,7 +28,7 @@ returns-in_err-queues-clause-fault g c =
     let new = state_of g.S.Store c.queues.new.self in
     let result : Result ⊤ StoreFault = Err c.in_err-queues.field-0.0 in
     blames_failed (blames_after c.dated_requests.ensures.kept c.queues.ensures.kept.clean
-    (queues_blame before new result c.in_err-queues.ensures.mismatch)) (search rules)
+    (blames_of queue_table before new result c.in_err-queues.ensures.mismatch)) (search rules)
 
 pub returns-in_err-stays-clause-fault : goal.returns-in_err-stays-clause-fault
 returns-in_err-stays-clause-fault g c =
@@ -33,7 +36,7 @@ returns-in_err-stays-clause-fault g c =
     let new = state_of g.S.Store c.stays.new.self in
     let result : Result ⊤ StoreFault = Err c.in_err-stays.field-0.0 in
     blames_failed (blames_after (joined c.dated_requests.ensures.kept c.queues.ensures.kept)
-    c.stays.ensures.kept.clean (stays_blame before new result c.in_err-stays.ensures.mismatch))
+    c.stays.ensures.kept.clean (blames_of stay_table before new result c.in_err-stays.ensures.mismatch))
     (search rules)
 
 pub returns-then-not-branch-clause-told : goal.returns-then-not-branch-clause-told

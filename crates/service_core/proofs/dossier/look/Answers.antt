@@ -9,10 +9,10 @@ use Rattle.service_core.proofs.dossier.look.Goals as goal
 
 pub returns-in-Ok-clause-told : goal.returns-in-Ok-clause-told
 returns-in-Ok-clause-told g c desk is stand clean =
-    let due = due_of_row c.args.settings.now desk in
+    let due = due_of_row c.args.call.settings.now desk in
     c.judged-dossier.ensures.told desk is
     (c.in-Ok.ensures.told desk is (due, stand) (c.judged-dossier.ensures.kept.clean clean)
-    ∙ ap (λ show. facts_of show desk) c.requires)
+    ∙ ap (λ show. facts_of show desk) c.requires.shows)
     (stands c.facts_for.ensures.kept (contents_of due desk) stand) clean
 
 pub returns-in-Ok-clause-kept : goal.returns-in-Ok-clause-kept
@@ -20,7 +20,9 @@ returns-in-Ok-clause-kept g c = joined c.facts_for.ensures.kept c.judged-dossier
 
 pub returns-in-Err-clause-told : goal.returns-in-Err-clause-told
 returns-in-Err-clause-told g c desk is stand clean = (
-  refused_both c.args.settings.now c.args.at c.args.caller.now c.args.id desk c.unavailable.result
+  refused_both c.args.call.settings.now c.args.call.at c.args.call.caller.now c.args.id desk
+      c.unavailable.result
       is (λ other. absurd (other c.unavailable.ensures)),
-  stands c.facts_for.ensures.kept (contents_of (due_of_row c.args.settings.now desk) desk) stand,
+  stands c.facts_for.ensures.kept (contents_of (due_of_row c.args.call.settings.now desk) desk)
+      stand,
 )

@@ -7,13 +7,13 @@ use Rattle.store_core.specs.Seen.{state_of}
 use Rattle.service_core.proofs.dossier.put_together.Goals as goal
 
 pub returns-in-Ok-clause-told : goal.returns-in-Ok-clause-told
-returns-in-Ok-clause-told g c at id desk is stand clean =
+returns-in-Ok-clause-told g c id desk is stand clean =
     let before : StandsFor desk (state_of g.S.Store c.args.store.now) =
-    (due_of_row c.args.settings.now desk, stand) in
+    (due_of_row c.args.call.settings.now desk, stand) in
     let shows =
-    c.in-Ok.ensures.told at id desk is before (c.with_history.ensures.kept.clean clean) in
+    c.in-Ok.ensures.told id desk is before (c.with_history.ensures.kept.clean clean) in
     if_ok c.with_history.result (λ dossier told seen. told seen (shows seen))
-    (c.with_history.ensures.told at id desk is (stands_for c.shown.ensures.kept desk before) clean)
+    (c.with_history.ensures.told id desk is (stands_for c.shown.ensures.kept desk before) clean)
 
 pub returns-in-Ok-clause-kept : goal.returns-in-Ok-clause-kept
 returns-in-Ok-clause-kept g c = joined c.shown.ensures.kept c.with_history.ensures.kept

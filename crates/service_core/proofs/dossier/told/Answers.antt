@@ -4,6 +4,6 @@ use Rattle.store_tables.proofs.ReadingLemmas.{if_ok}
 use Rattle.service_core.proofs.dossier.told.Goals as goal
 
 pub returns-in-Ok-clause-told : goal.returns-in-Ok-clause-told
-returns-in-Ok-clause-told g c at id desk is stand clean =
+returns-in-Ok-clause-told g c id desk is stand clean =
     if_ok c.entries_in.result (λ value same seen. sym same
-    ∙ c.in-Ok.ensures.told at id desk is stand clean seen) c.entries_in.ensures.ok
+    ∙ c.in-Ok.ensures.told id desk is stand clean seen) c.entries_in.ensures.ok

@@ -3,7 +3,8 @@ use Rattle.service_core.proofs.DossierLemmas.{made}
 use Rattle.service_core.proofs.dossier.with_history.Goals as goal
 
 pub returns-in-Ok-clause-told : goal.returns-in-Ok-clause-told
-returns-in-Ok-clause-told g c at id desk is stand clean =
-    made c.args.settings.now at c.args.caller.now id desk c.args.facts.now c.args.shown
-    c.in-Ok.entries c.with_queue.result (c.in-Ok.ensures.told at id desk is stand clean)
+returns-in-Ok-clause-told g c id desk is stand clean =
+    made c.args.call.settings.now c.args.call.at c.args.call.caller.now id desk
+    c.args.facts.now c.args.shown
+    c.in-Ok.entries c.with_queue.result (c.in-Ok.ensures.told id desk is stand clean)
     c.with_queue.ensures.shown c.with_queue.ensures.entries c.with_queue.ensures.queue

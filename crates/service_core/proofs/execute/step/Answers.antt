@@ -1,10 +1,29 @@
--- what every desk refuses leaves the tables
-use Rattle.service_core.specs.TableSteps.{ask_by}
-use Rattle.service_core.proofs.Stepping.{refused_on}
+-- what is seen of the desk is what the command is decided by
+use Rattle.std.proofs.Common.{Err}
+use Rattle.store_core.specs.Due.{due_of_row}
 use Rattle.store_core.specs.Seen.{state_of}
+use Rattle.service_core.specs.Asked.{asked}
+use Rattle.service_core.specs.TableSteps.{StepsOn}
+use Rattle.service_core.proofs.Safely.{seen_safely, spared_safely}
+use Rattle.service_core.proofs.Stepping.{unavailable_on}
 use Rattle.service_core.proofs.execute.step.Goals as goal
 
-pub returns-in-Some-clause-step : goal.returns-in-Some-clause-step
-returns-in-Some-clause-step g c =
-    refused_on c.args.settings.now (ask_by c.args.at c.args.caller.now c.args.command.now)
-    c.in-Some.refusal (state_of g.S.Store c.args.store.now) c.in-Some.ensures.always
+pub returns-in-Ok : goal.returns-in-Ok
+returns-in-Ok g c =
+    let settings = c.args.call.settings.now in
+    seen_safely c.in-Ok.facts settings (asked c.args.call c.args.command.now)
+    (state_of g.S.Store c.args.store.now) (state_of g.S.Store c.facts_for.new.self)
+    (state_of g.S.Store c.step_seeing-outcome.new.store) c.step_seeing-outcome.result
+    (λ desk is stand clean. c.in-Ok.ensures.told desk is (due_of_row settings desk, stand) clean)
+    c.facts_for.ensures.kept c.step_seeing-outcome.ensures
+
+pub returns-in-Err : goal.returns-in-Err
+returns-in-Err g c =
+    let settings = c.args.call.settings.now in
+    let ask = asked c.args.call c.args.command.now in
+    let old = state_of g.S.Store c.args.store.now in
+    let new = state_of g.S.Store c.facts_for.new.self in
+    spared_safely (StepsOn settings ask) old new (Err c.unavailable.result)
+    (unavailable_on settings ask c.unavailable.result old new c.unavailable.ensures
+    c.facts_for.ensures.kept)
+    c.unavailable.ensures c.facts_for.ensures.kept

@@ -9,19 +9,19 @@ use Rattle.service_core.proofs.find.look.Goals as goal
 pub returns-in-Some-clause-found : goal.returns-in-Some-clause-found
 returns-in-Some-clause-found g c desk is stand clean = (
   λ told.
-      refused_so c.args.settings.now c.args.at c.args.caller.now
-      (findings c.args.settings.now c.args.at c.args.caller.now c.args.search.now c.args.limit
-      c.args.after desk) c.args.overdue.now c.requires c.in-Some.refusal c.in-Some.ensures.first,
+      refused_so c.args.call.settings.now c.args.call.at c.args.call.caller.now
+      (findings c.args.call.settings.now c.args.call.at c.args.call.caller.now c.args.search.now
+      c.args.limit c.args.after desk) c.args.overdue.now c.requires c.in-Some.refusal c.in-Some.ensures.first,
   stand,
 )
 
 pub returns-in-None-clause-found : goal.returns-in-None-clause-found
 returns-in-None-clause-found g c desk is stand clean = (
-  read_so c.args.settings.now c.args.at c.args.caller.now
-      (findings c.args.settings.now c.args.at c.args.caller.now c.args.search.now c.args.limit
-      c.args.after desk) c.args.overdue.now c.requires c.find.result c.in-None.ensures.first
+  read_so c.args.call.settings.now c.args.call.at c.args.call.caller.now
+      (findings c.args.call.settings.now c.args.call.at c.args.call.caller.now c.args.search.now
+      c.args.limit c.args.after desk) c.args.overdue.now c.requires c.find.result c.in-None.ensures.first
       (c.find.ensures.told desk is stand clean) c.find.ensures.fault,
-  stands c.find.ensures.kept (contents_of (due_of_row c.args.settings.now desk) desk) stand,
+  stands c.find.ensures.kept (contents_of (due_of_row c.args.call.settings.now desk) desk) stand,
 )
 
 pub returns-in-None-clause-named : goal.returns-in-None-clause-named

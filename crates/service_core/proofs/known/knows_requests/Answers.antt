@@ -3,7 +3,7 @@ use Rattle.std.proofs.lemmas.Iterator.{YieldsList-from_slice}
 use Rattle.std.proofs.lemmas.Iterator.Search.{all_from_yields_List}
 use Rattle.std.proofs.lemmas.List.Folds.{list_all-map}
 use Rattle.desk_model.specs.Known.{knows_row}
-use Rattle.store_tables.specs.Dated.{Dated, row_of}
+use Rattle.store_tables.specs.Contents.Request.{Dated, row_of}
 use Rattle.service_core.specs.Attaching.{of_queues}
 use Rattle.service_core.proofs.known.knows_requests.Goals as goal
 

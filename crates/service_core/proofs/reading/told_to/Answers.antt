@@ -7,8 +7,10 @@ use Rattle.service_core.proofs.reading.told_to.Goals as goal
 
 pub returns-clause-told : goal.returns-clause-told
 returns-clause-told g c desk is stand clean =
-    let comments = may_show_comments c.args.settings.now c.args.caller.now c.args.request.now in
+    let comments =
+    may_show_comments c.args.call.settings.now c.args.call.caller.now c.args.request.now in
     ap History (c.told.ensures
     ∙ ap (λ b. filter (is_told b) c.in_ok-entries.entries.items)
     c.shows_comments_to-comments.ensures
-    ∙ ap (filter (is_told comments)) (IfOk-at_ok _ c.in_ok-entries.ensures.ok (c.entries_of.ensures.listed desk is stand clean)))
+    ∙ ap (filter (is_told comments))
+    (IfOk-at_ok _ c.in_ok-entries.ensures.ok (c.entries_of.ensures.listed desk is stand clean)))

@@ -3,4 +3,4 @@ use Rattle.store_core.proofs.change.write_history.Goals as goal
 
 pub returns-clause-made : goal.returns-clause-made
 returns-clause-made g c =
-    does_both (rw c.as_slice.ensures at c.in_ok-put_entries.ensures.put) c.write_stay.ensures.made
+    does_both (rw c.as_slice.ensures at c.in_ok-put_all.ensures.put) c.write_stay.ensures.made

@@ -2,4 +2,4 @@ use Rattle.store_tables.proofs.StepLemmas.{does_both}
 use Rattle.store_core.proofs.change.write_links.Goals as goal
 
 pub returns-clause-made : goal.returns-clause-made
-returns-clause-made g c = does_both c.in_ok-link.ensures.linked c.unlink.ensures.unlinked
+returns-clause-made g c = does_both c.in_ok-put_any.ensures.put c.take_any.ensures.taken

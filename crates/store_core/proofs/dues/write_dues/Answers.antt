@@ -3,5 +3,5 @@ use Rattle.store_core.proofs.dues.write_dues.Goals as goal
 
 pub returns-clause-done : goal.returns-clause-done
 returns-clause-done g c d stand =
-    c.finish.ensures.done _ (c.in_ok-set_dues.ensures.set.makes d
+    c.finish.ensures.done _ (c.in_ok-put_all.ensures.put.makes d
     (begins g.S.Store c.args.tables.now.conn _ d c.transaction-tx.ensures.begun stand))

@@ -1,9 +1,14 @@
-use Rattle.std.proofs.Common.{refl, rules}
+use Rattle.std.proofs.Common.{pos, refl, rules, subst, sym}
+use Rattle.sqlite.specs.Held.{state}
+use Rattle.sqlite_rules.specs.Lists.{Has}
+use Rattle.store_tables.specs.Stands.{HasFront}
+use Rattle.store_core.specs.Migrating.{IsGrown}
+use Rattle.store_core.proofs.RunLemmas.{and_then}
 use Rattle.store_tables.specs.Contents.{first_contents_of}
 use Rattle.store_tables.proofs.Lasting.{on}
 use Rattle.store_tables.proofs.ReadingLemmas.{if_err}
-use Rattle.store_core.proofs.MakeLemmas.{blamed_before, front_there, of_meta_before, part_grown}
-use Rattle.store_core.proofs.MakeLemmas.{unnumbered_grown}
+use Rattle.store_core.proofs.MakeLemmas.{blamed_before, front_there, over_before, part_grown}
+use Rattle.store_core.proofs.MakeLemmas.{unnumbered_grown, version_before}
 use Rattle.store_core.proofs.making.make_all.Goals as goal
 
 pub returns-clause-numbered : goal.returns-clause-numbered
@@ -55,8 +60,29 @@ returns-clause-blames g c has clean =
     let grows = c.in_ok-make_tables.ensures.grows refl in
     if_err c.bring_up.result (λ e why wrong.
     let it = why wrong in
-    let before = of_meta_before made grows has (c.bring_up.ensures.on.clean clean) it.0 it.1 in
+    let before = version_before made grows has (c.bring_up.ensures.on.clean clean) it.0 it.1 in
     (it.0, before, it.2)) (c.bring_up.ensures.blames (front_there made grows has) clean)
+
+pub returns-clause-over : goal.returns-clause-over
+returns-clause-over g c has clean =
+    let made = c.make_tables.ensures.runs in
+    let grows = c.in_ok-make_tables.ensures.grows refl in
+    and_then c.bring_up.result
+    (over_before made grows has (c.bring_up.ensures.on.clean clean))
+    (c.bring_up.ensures.others.over (front_there made grows has) clean)
+
+pub returns-clause-alone : goal.returns-clause-alone
+returns-clause-alone g c n low schema row within first clean =
+    let made = c.make_tables.ensures.runs in
+    let grows = c.in_ok-make_tables.ensures.grows refl in
+    let before = c.bring_up.ensures.on.clean clean in
+    let grown = (grows before).2 n low schema in
+    let has : HasFront (state g.S.Store c.args.tx.now.conn.now) = λ d o. (n, low, schema) in
+    let here = subst (λ rows. Has rows row) (sym grown.1.0) within in
+    and_then c.bring_up.result
+    (λ same. subst (IsGrown n (state g.S.Store c.args.tx.now.conn.now).now) (sym same) grown)
+    (c.bring_up.ensures.others.alone (front_there made grows has) clean
+    (λ one. first (version_before made grows has before (pos 1) one)) row here)
 
 pub returns-clause-lasts : goal.returns-clause-lasts
 returns-clause-lasts g c = search (rules, on)

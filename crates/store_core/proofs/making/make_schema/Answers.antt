@@ -1,13 +1,15 @@
-use Rattle.std.proofs.Common.{◌≡◌, Err, Result, rules}
+use Rattle.std.proofs.Common.{◌≡◌, Err, Result, rules, subst, sym}
 use Rattle.std.specs.Prelude.{⊤}
 use Rattle.sqlite.specs.Held.{state}
-use Rattle.store_tables.specs.Contents.{contents_of, first_contents_of}
+use Rattle.store_tables.specs.Contents.{contents_of}
 use Rattle.store_tables.proofs.Lasting.{by, through}
 use Rattle.store_tables.specs.Stands.{GoesBack}
 use Rattle.store_tables.specs.declared.fault.StoreFault.{StoreFault}
 use Rattle.store_tables.proofs.ReadingLemmas.{if_err}
 use Rattle.store_tables.proofs.StandLemmas.{begins_on, begun_back, was_clean}
-use Rattle.store_core.proofs.MakeLemmas.{always_ok, first_part}
+use Rattle.store_core.proofs.MakeLemmas.{always, always_ok}
+use Rattle.store_core.proofs.RunLemmas.{and_then}
+use Rattle.store_core.specs.Migrating.{IsGrown}
 use Rattle.store_core.proofs.making.make_schema.Goals as goal
 
 pub returns-in_err-make_all-clause-blames : goal.returns-in_err-make_all-clause-blames
@@ -36,11 +38,26 @@ returns-clause-completed g c =
     }
 
 pub returns-clause-brings : goal.returns-clause-brings
-returns-clause-brings g c desk is due stand =
-    let first = first_contents_of due desk in
-    let old = state g.S.Store c.args.tables.now.conn in
+returns-clause-brings g c desk is due part =
     c.finish.ensures.done (contents_of due desk) (c.in_ok-make_all.ensures.brings desk is due
-    (rw c.transaction-tx.ensures.begun (first_part first old stand)))
+    (rw c.transaction-tx.ensures.begun part))
+
+pub returns-clause-over : goal.returns-clause-over
+returns-clause-over g c has clean =
+    let begun = c.transaction-tx.ensures.begun in
+    let over = c.in_ok-make_all.ensures.over (rw begun has) (c.finish.ensures.honest clean) in
+    always c.finish.result (rw begun at over)
+
+pub returns-clause-alone : goal.returns-clause-alone
+returns-clause-alone g c n low schema row within first clean =
+    let begun = c.transaction-tx.ensures.begun in
+    let grown = c.in_ok-make_all.ensures.alone n low (rw begun schema) row (rw begun within)
+    (λ one. first (rw begun at one)) (c.finish.ensures.honest clean) in
+    and_then c.finish.result (λ commits.
+    let it = commits clean in
+    let grows = IsGrown n (state g.S.Store c.args.tables.now.conn).now in
+    (subst grows (sym it.1) (rw begun at grown), subst grows (sym it.2) (rw begun at grown)))
+    c.finish.ensures.shown
 
 pub returns-in_err-make_all-clause-lasts : goal.returns-in_err-make_all-clause-lasts
 returns-in_err-make_all-clause-lasts g c =

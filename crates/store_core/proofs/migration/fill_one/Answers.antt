@@ -1,7 +1,7 @@
 use Rattle.std.proofs.Common.{◌≡◌, ◌∙◌, ap, inr, rules}
 use Rattle.desk_model.specs.Facts.{stays_at}
 use Rattle.desk_model.specs.Stays.{stays_of}
-use Rattle.store_tables.proofs.EachTable.{entry_table}
+use Rattle.store_tables.proofs.Contents.Entry.{entry_table}
 use Rattle.store_tables.proofs.StepLemmas.{looks_beside}
 use Rattle.store_core.proofs.MigrationLemmas.{one_told}
 use Rattle.store_core.proofs.RunLemmas.{and_then, beside_then, blamed_inside, does_on, looks_on}
@@ -21,12 +21,12 @@ returns-clause-fills g c desk is due d dated entries holds =
 
 pub returns-in_err-entries-clause-refuses : goal.returns-in_err-entries-clause-refuses
 returns-in_err-entries-clause-refuses g c =
-    refused_inside entry_table c.entries_of.ensures.looks c.in_err-entries.ensures.mismatch
+    refused_inside entry_table c.entries_inside.ensures.looks c.in_err-entries.ensures.mismatch
     (search rules)
 
 pub returns-in_err-entries-clause-blames : goal.returns-in_err-entries-clause-blames
 returns-in_err-entries-clause-blames g c =
-    blamed_inside entry_table c.entries_of.ensures.looks c.in_err-entries.ensures.mismatch
+    blamed_inside entry_table c.entries_inside.ensures.looks c.in_err-entries.ensures.mismatch
     (search rules) inr
 
 pub returns-clause-on : goal.returns-clause-on

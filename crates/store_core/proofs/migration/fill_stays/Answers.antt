@@ -1,6 +1,6 @@
 use Rattle.std.proofs.Common.{◌≡◌, ◌∙◌, inl, rules}
 use Rattle.desk_model.specs.IsDesk.{ids}
-use Rattle.store_tables.proofs.EachTable.{id_table}
+use Rattle.store_tables.proofs.Contents.Request.{id_table}
 use Rattle.store_tables.proofs.StepLemmas.{looks_beside}
 use Rattle.store_core.proofs.MigrationLemmas.{all_numbers}
 use Rattle.store_core.proofs.RunLemmas.{and_then, blamed_inside, blames_then, looks_on, looks_then}
@@ -20,11 +20,11 @@ returns-clause-fills g c desk is due d dated entries holds =
 
 pub returns-in_err-ids-clause-refuses : goal.returns-in_err-ids-clause-refuses
 returns-in_err-ids-clause-refuses g c =
-    refused_inside id_table c.numbers.ensures.looks c.in_err-ids.ensures.mismatch (search rules)
+    refused_inside id_table c.numbers_inside.ensures.looks c.in_err-ids.ensures.mismatch (search rules)
 
 pub returns-in_err-ids-clause-blames : goal.returns-in_err-ids-clause-blames
 returns-in_err-ids-clause-blames g c =
-    blamed_inside id_table c.numbers.ensures.looks c.in_err-ids.ensures.mismatch (search rules) inl
+    blamed_inside id_table c.numbers_inside.ensures.looks c.in_err-ids.ensures.mismatch (search rules) inl
 
 pub returns-clause-blames : goal.returns-clause-blames
 returns-clause-blames g c =

@@ -12,7 +12,7 @@ returns-in-None g c =
 pub returns-in_ok-seen_request-in-Some : goal.returns-in_ok-seen_request-in-Some
 returns-in_ok-seen_request-in-Some g c =
     giving (λ d it desk of.
-    ap Some (rw c.as_slice.ensures.value at c.in_ok-seen_request-in-Some.ensures.ok)
+    ap Some c.in_ok-seen_request-in-Some.ensures.ok
     ∙ some_seen desk c.args.id _ (rw (c.in-Some.is, of.same, rows_dated of.due desk) at it.0.0)
     of.is _ (rw of.same at it.1) _ (rw of.same at it.0.1))
     (then (then c.in_ok-request_numbered.ensures c.in_ok-entry_count-in-Some.ensures)

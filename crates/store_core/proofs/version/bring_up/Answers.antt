@@ -1,15 +1,53 @@
-use Rattle.std.proofs.Common.{◌≡◌, inl, inr, Err, rules}
+use Rattle.std.proofs.Common.{◌≡◌, inl, inr, Err, pos, refl, rules}
+use Rattle.store_core.proofs.MakeLemmas.{always}
 use Rattle.store_tables.specs.Contents.{first_contents_of}
 use Rattle.store_tables.proofs.Lasting.{on}
 use Rattle.store_tables.proofs.ReadingLemmas.{if_err}
 use Rattle.store_tables.proofs.StepLemmas.{looks_beside}
-use Rattle.store_core.proofs.RunLemmas.{and_then, blames_then, looks_on, looks_then}
+use Rattle.store_core.proofs.RunLemmas.{and_then, blames_then, looks_on, looks_then, no_row}
 use Rattle.store_core.proofs.version.bring_up.Goals as goal
 
 pub returns-in_err-read_version-clause-mismatch : goal.returns-in_err-read_version-clause-mismatch
 returns-in_err-read_version-clause-mismatch g c =
     let is : c.from_residual.result ≡ Err c.in_err-read_version.field-0.0 = search rules in
-    rw is (λ wrong has clean. inl (c.in_err-read_version.ensures.mismatch wrong has clean))
+    rw is (λ wrong has clean.
+    inl (c.in_err-read_version.ensures.mismatch.1 wrong has clean).1)
+
+pub returns-in-None-clause-others : goal.returns-in-None-clause-others
+returns-in-None-clause-others g c = record {
+  over = λ has clean. always c.add_version.result (inl (rw c.in-None.is at
+      (c.in_ok-read_version.ensures.shown has (c.add_version.ensures.runs.clean clean))));
+  alone = λ has clean first row within. absurd (no_row (rw c.in-None.is at
+      (c.in_ok-read_version.ensures.shown has (c.add_version.ensures.runs.clean clean))) row
+      within);
+}
+
+pub returns-in-Some-eq1-clause-others : goal.returns-in-Some-eq1-clause-others
+returns-in-Some-eq1-clause-others g c =
+    let one : c.in-Some-eq1.field-0 ≡ pos 1 = search rules in
+    record {
+      over = λ has clean. always c.migrate.result (inr (
+        1,
+        rw (c.in-Some-eq1.is, one) at
+            (c.in_ok-read_version.ensures.shown has (c.migrate.ensures.on.clean clean)),
+        inl refl,
+      ));
+      alone = λ has clean first row within. absurd (first (rw (c.in-Some-eq1.is, one) at
+          (c.in_ok-read_version.ensures.shown has (c.migrate.ensures.on.clean clean))));
+    }
+
+pub returns-in-Some-eq2-clause-others : goal.returns-in-Some-eq2-clause-others
+returns-in-Some-eq2-clause-others g c =
+    let two : c.in-Some-eq2.field-0 ≡ pos 2 = search rules in
+    record {
+      over = λ has clean. inr (
+        2,
+        rw (c.in-Some-eq2.is, two) at
+            (c.in_ok-read_version.ensures.shown has clean),
+        inr refl,
+      );
+      alone = λ has clean first row within. (c.in_ok-read_version.ensures.looks.same clean).1;
+    }
 
 -- where there is a version, it was read
 pub returns-in-None-clause-on : goal.returns-in-None-clause-on
@@ -41,11 +79,11 @@ returns-in-Some-eq1-clause-on g c =
 
 pub returns-in-Some-eq1-clause-mismatch : goal.returns-in-Some-eq1-clause-mismatch
 returns-in-Some-eq1-clause-mismatch g c =
-    let first : c.in-Some-eq1.field-0 ≡ 1 = search rules in
+    let first : c.in-Some-eq1.field-0 ≡ pos 1 = search rules in
     let looks = c.in_ok-read_version.ensures.looks in
     let on = c.migrate.ensures.on in
     if_err c.migrate.result (λ e why wrong has clean.
-    let of = c.in_ok-read_version.ensures.of_meta has (on.clean clean) in
+    let of = c.in_ok-read_version.ensures.shown has (on.clean clean) in
     inr (rw (c.in-Some-eq1.is, first) at of, (why wrong has clean).1))
     (blames_then (looks_on looks) (looks_beside looks) on c.migrate.ensures.blames).mismatch
 

@@ -1,23 +1,25 @@
 use Rattle.sqlite.specs.Held.{state}
 use Rattle.store_tables.proofs.ReadingLemmas.{if_err}
 use Rattle.store_tables.proofs.StandLemmas.{desk_is_there}
-use Rattle.store_tables.proofs.RowLemmas.{only_refused}
-use Rattle.store_core.proofs.RunLemmas.{version_valued}
+use Rattle.store_core.proofs.RunLemmas.{numbered_if, refused_numbered, refused_unnumbered}
+use Rattle.store_core.proofs.RunLemmas.{unnumbered_if}
 use Rattle.store_core.proofs.version.read_version.Goals as goal
 
-pub returns-clause-mismatch : goal.returns-clause-mismatch
-returns-clause-mismatch g c =
-    if_err c.version_in.result (λ e why wrong has clean.
-    let it = why wrong in
-    let at = c.in_ok-rows.ensures.of_table has clean it.0 (rw c.as_slice.ensures.value at it.1) in
-    (at.1, at.2, rw at.3 at it.2)) c.version_in.ensures.mismatch
+pub returns-clause-none : goal.returns-clause-none
+returns-clause-none g c d = unnumbered_if d _ _ c.version_inside.result c.version_inside.ensures.read
+
+pub returns-clause-refused : goal.returns-clause-refused
+returns-clause-refused g c d lacks = refused_unnumbered d _ _ c.version_inside.result
+    c.version_inside.ensures.read (λ clean live. (lacks clean live).1.schema) lacks
+
+pub returns-clause-one : goal.returns-clause-one
+returns-clause-one g c d = numbered_if d _ _ c.version_inside.result c.version_inside.ensures.read
 
 pub returns-clause-refuses : goal.returns-clause-refuses
-returns-clause-refuses g c d holds clean =
-    let old = state g.S.Store c.args.tx.now.conn.now in
-    let live = holds (c.version_rows.ensures.looks.clean clean) in
-    only_refused c.version_in.result c.version_in.ensures.fault
-    (λ it.
-    let at = c.in_ok-rows.ensures.of_table (desk_is_there d old holds) clean it.0
-    (rw c.as_slice.ensures.value at it.1) in
-    it.2 (rw at.3 (version_valued d old.now (live at.0).0 at.1 at.2))) c.version_in.ensures.mismatch
+returns-clause-refuses g c d holds = refused_numbered d _ _ c.version_inside.result
+    c.version_inside.ensures.read (desk_is_there d (state g.S.Store c.args.tx.now.conn.now) holds)
+    holds
+
+pub returns-clause-fault : goal.returns-clause-fault
+returns-clause-fault g c =
+    if_err c.version_inside.result (λ e fail. fail.0) c.version_inside.ensures.read.fails

@@ -1,28 +1,56 @@
 -- the command was done and told, or it only read and there was no memory for its reply
+use Rattle.std.proofs.Common.{refl}
 use Rattle.std.proofs.lemmas.Result.{on_err_weaker, on_ok_weaker}
 use Rattle.service_core.specs.Seen.{settings_of, tables_of}
 use Rattle.service_core.specs.TableSteps.{ask_by}
-use Rattle.wire_core.proofs.Stepping.{done, left_out_if_long}
+use Rattle.wire_core.proofs.Stepping.{done, unavailable_stays}
 use Rattle.wire_core.proofs.step.do_command.Goals as goal
 
 pub returns-in-Ok-clause-ok : goal.returns-in-Ok-clause-ok
 returns-in-Ok-clause-ok g c =
-    on_ok_weaker c.put_outcome-told.result
+    on_ok_weaker c.put_told.result
     (λ told. done (settings_of g.S.Store c.args.desk.now)
     (ask_by c.args.at c.args.caller.now c.args.command.now) c.args.head_only
-    c.execute-outcome.result c.put_outcome-told.new.room.items
-    (tables_of g.S.Store c.args.desk.now) (tables_of g.S.Store c.execute-outcome.new.self)
-    told c.execute-outcome.ensures.step)
-    c.put_outcome-told.ensures.ok
+    c.in-Ok.told.outcome c.put_told.new.room.items
+    (tables_of g.S.Store c.args.desk.now) (tables_of g.S.Store c.told.new.self)
+    told c.in-Ok.ensures.ok.step)
+    c.put_told.ensures.ok
 
 pub returns-in-Ok-clause-err : goal.returns-in-Ok-clause-err
 returns-in-Ok-clause-err g c =
-    on_err_weaker c.put_outcome-told.result
+    on_err_weaker c.put_told.result
     (λ untold. (
       untold.0,
-      left_out_if_long (settings_of g.S.Store c.args.desk.now)
-          (ask_by c.args.at c.args.caller.now c.args.command.now) c.execute-outcome.result
-          (tables_of g.S.Store c.args.desk.now) (tables_of g.S.Store c.execute-outcome.new.self)
-          untold.1 c.execute-outcome.ensures.step,
+      unavailable_stays (settings_of g.S.Store c.args.desk.now)
+          (ask_by c.args.at c.args.caller.now c.args.command.now)
+          (tables_of g.S.Store c.args.desk.now) (tables_of g.S.Store c.told.new.self)
+          (c.in-Ok.ensures.ok.long untold.1),
     ))
-    c.put_outcome-told.ensures.err
+    c.put_told.ensures.err
+
+pub returns-in-Ok-clause-honest : goal.returns-in-Ok-clause-honest
+returns-in-Ok-clause-honest g c = c.told.ensures.keeps.clean
+
+pub returns-in-Ok-clause-lasts : goal.returns-in-Ok-clause-lasts
+returns-in-Ok-clause-lasts g c = c.told.ensures.keeps.lasts
+
+pub put_told-requires-clause-told : goal.put_told-requires-clause-told
+put_told-requires-clause-told g c = c.in-Ok.ensures.ok.told
+
+pub put_told-requires-clause-short : goal.put_told-requires-clause-short
+put_told-requires-clause-short g c = c.in-Ok.ensures.ok.short
+
+pub returns-in-Err-clause-err : goal.returns-in-Err-clause-err
+returns-in-Err-clause-err g c = (
+  refl,
+  unavailable_stays (settings_of g.S.Store c.args.desk.now)
+      (ask_by c.args.at c.args.caller.now c.args.command.now)
+      (tables_of g.S.Store c.args.desk.now) (tables_of g.S.Store c.told.new.self)
+      c.in-Err.ensures.err,
+)
+
+pub returns-in-Err-clause-honest : goal.returns-in-Err-clause-honest
+returns-in-Err-clause-honest g c = c.told.ensures.keeps.clean
+
+pub returns-in-Err-clause-lasts : goal.returns-in-Err-clause-lasts
+returns-in-Err-clause-lasts g c = c.told.ensures.keeps.lasts

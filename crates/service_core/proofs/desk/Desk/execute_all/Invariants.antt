@@ -3,16 +3,15 @@ use Rattle.std.proofs.Common.{◌≡◌, ◌≤◌, length, map, take}
 use Rattle.std.specs.Vec.{vec_capacity, vec_len}
 use Rattle.store_tables.specs.Calls.{Lasts, WasClean}
 use Rattle.desk_texts.specs.Short.{AreNamed}
-use Rattle.service_core.specs.TableSteps.{ask_of}
+use Rattle.service_core.specs.TableSteps.{RunsOn, ask_of}
 use Rattle.service_core.specs.Seen.{settings_of, tables_of}
-use Rattle.service_core.proofs.Running.{RunsSoFar}
 use Rattle.service_core.proofs.desk.Desk.execute_all.Given as goal
 
 abbrev pub invariant-loop-ask : goal.invariant-loop-ask
 invariant-loop-ask g l =
     record {
       run :
-          RunsSoFar (settings_of g.S.Store l.fn.self) (map ask_of (take l.ask-index l.asks))
+          RunsOn (settings_of g.S.Store l.fn.self) (map ask_of (take l.ask-index l.asks))
           l.outcomes.items (tables_of g.S.Store l.fn.self) (tables_of g.S.Store l.self);
       named : AreNamed l.outcomes.items;
       honest : WasClean (tables_of g.S.Store l.fn.self) (tables_of g.S.Store l.self);

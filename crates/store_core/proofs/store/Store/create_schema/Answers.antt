@@ -1,7 +1,8 @@
 use Rattle.sqlite.specs.Held.{state}
 use Rattle.store_tables.specs.Contents.{first_contents_of, no_contents}
 use Rattle.store_tables.proofs.StandLemmas.{back_first, back_stands, either_way}
-use Rattle.store_core.proofs.MakeLemmas.{at_fault, back_blank, blank_part, stand_part}
+use Rattle.store_core.proofs.MakeLemmas.{at_fault, back_blank, blank_part, first_part}
+use Rattle.store_core.proofs.MakeLemmas.{stand_part}
 use Rattle.store_core.proofs.StandsAlike.{empty_stands}
 use Rattle.store_core.proofs.store.Store.create_schema.Goals as goal
 
@@ -21,7 +22,8 @@ returns-clause-migrated g c desk is due stand =
     let old = state g.S.Store c.args.self.now.tables.conn in
     let new = state g.S.Store c.make_schema.new.tables.conn in
     let back = back_first (first_contents_of due desk) old new (λ d o. (stand d o).1) in (
-      c.make_schema.ensures.brings desk is due stand,
+      c.make_schema.ensures.brings desk is due
+          (first_part (first_contents_of due desk) old stand),
       at_fault c.make_schema.result back c.make_schema.ensures.back,
     )
 

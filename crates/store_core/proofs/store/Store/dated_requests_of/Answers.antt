@@ -1,8 +1,7 @@
 use Rattle.std.proofs.Common.{◌∙◌}
 use Rattle.sqlite_trees.proofs.ListLemmas.{filter-map}
 use Rattle.store_tables.specs.Contents.{request_rows}
-use Rattle.store_tables.specs.Dated.{dated_by}
-use Rattle.store_tables.specs.Selection.{is_dated_in}
+use Rattle.store_tables.specs.Contents.Request.{dated_by, is_dated_in}
 use Rattle.store_tables.proofs.ReadingLemmas.{if_ok}
 use Rattle.store_core.proofs.RiseLemmas.{dated_total, the_part, dated_rise}
 use Rattle.store_core.proofs.store.Store.dated_requests_of.Goals as goal

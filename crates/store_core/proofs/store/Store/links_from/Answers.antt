@@ -1,4 +1,4 @@
-use Rattle.store_tables.specs.Selection.{starts_at}
+use Rattle.store_tables.specs.Contents.Link.{starts_at}
 use Rattle.store_tables.proofs.ReadingLemmas.{if_ok}
 use Rattle.store_core.proofs.RiseLemmas.{link_total, the_part, links_rise}
 use Rattle.store_core.proofs.store.Store.links_from.Goals as goal

@@ -1,4 +1,4 @@
-use Rattle.store_tables.specs.Selection.{is_filed_in}
+use Rattle.store_tables.specs.Contents.Request.{is_filed_in}
 use Rattle.store_tables.proofs.DueLemmas.{rows_dated}
 use Rattle.store_tables.proofs.ReadingLemmas.{if_ok}
 use Rattle.store_core.proofs.RiseLemmas.{id_total, the_part, requests_rise}

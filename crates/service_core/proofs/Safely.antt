@@ -1,0 +1,71 @@
+-- What is left of the store, beside what is done of a command.
+use Rattle.std.proofs.Common.{◌≡◌, Err, IfErr, true}
+use Rattle.sqlite.specs.State.{HasCleanDisk, State}
+use Rattle.settings_core.specs.declared.settings.Settings.{Settings}
+use Rattle.desk_model.specs.Desk.{Desk}
+use Rattle.desk_model.specs.IsDesk.{IsDesk}
+use Rattle.desk_model.specs.Refusals.{names_its_right}
+use Rattle.desk_model.specs.Step.{Ask, Outcome, facts_of}
+use Rattle.desk_model.specs.declared.facts.Facts.{Facts}
+use Rattle.desk_model.specs.declared.refusal.Refusal.{Refusal}
+use Rattle.desk_model.specs.declared.refusal.Refusal.TheVariants.{Unavailable}
+use Rattle.store_core.specs.Due.{StandsDue, due_of_row}
+use Rattle.store_tables.proofs.Lasting.{on}
+use Rattle.store_tables.proofs.Spared.{stands, unread}
+use Rattle.store_tables.specs.Calls.{Spares}
+use Rattle.store_tables.specs.Contents.{contents_of}
+use Rattle.service_core.specs.Decided.{StepsSeeing}
+use Rattle.service_core.specs.Leaves.{KeepsStore, StepsSafely}
+use Rattle.service_core.specs.TableSteps.{StepsOn}
+use Rattle.service_core.proofs.FindLemmas.{named_by}
+use Rattle.service_core.proofs.Stepping.{spared_after, spared_by}
+
+-- what spares the tables keeps the store
+spared_keeps : {old new : State} → Spares old new → KeepsStore old new
+spared_keeps kept = record { clean = kept.clean; lasts = kept.lasts }
+
+-- one call, and another after it
+keeps_both : {a b c : State} → Spares a b → KeepsStore b c → KeepsStore a c
+keeps_both first second = record {
+  clean = λ clean. first.clean (second.clean clean);
+  lasts = on second.clean first.lasts second.lasts;
+}
+
+-- a command that is refused before anything is done
+pub refused_safely : (Does : Outcome → State → State → Type 0) (tables : State)
+    (refusal : Refusal) → Does (Err refusal) tables tables → names_its_right refusal ≡ true
+    → StepsSafely Does tables tables (Err refusal)
+refused_safely Does tables refusal step named = record {
+  step = step;
+  refused = unread tables;
+  named = named;
+  keeps = spared_keeps (unread tables);
+}
+
+-- one that spares the tables, and whose refusal is that memory or the store refused
+pub spared_safely : (Does : Outcome → State → State → Type 0) (old new : State)
+    (outcome : Outcome) → Does outcome old new
+    → IfErr outcome (λ refusal. refusal ≡ Unavailable) → Spares old new
+    → StepsSafely Does old new outcome
+spared_safely Does old new outcome step fault kept = record {
+  step = step;
+  refused = spared_by outcome old new kept;
+  named = named_by outcome fault;
+  keeps = spared_keeps kept;
+}
+
+-- a step of what is seen of the desk is the desk's own
+pub seen_safely : (facts : Facts) (s : Settings) (ask : Ask) (old mid new : State)
+    (outcome : Outcome)
+    → ((desk : Desk) → IsDesk desk → StandsDue s desk old → HasCleanDisk mid
+    → facts ≡ facts_of ask.command desk)
+    → Spares old mid → StepsSafely (StepsSeeing facts s ask) mid new outcome
+    → StepsSafely (StepsOn s ask) old new outcome
+seen_safely facts s ask old mid new outcome seen kept done = record {
+  step = λ desk is stand clean.
+      done.step desk is (seen desk is stand (done.keeps.clean clean))
+      (stands kept (contents_of (due_of_row s desk) desk) stand) clean;
+  refused = spared_after outcome old mid new kept done.refused;
+  named = done.named;
+  keeps = keeps_both kept done.keeps;
+}

@@ -1,0 +1,27 @@
+-- what every desk refuses leaves the tables
+use Rattle.store_core.specs.Seen.{state_of}
+use Rattle.service_core.specs.Seen.{settings_of, tables_of}
+use Rattle.service_core.specs.TableSteps.{ask_by}
+use Rattle.service_core.proofs.Stepping.{refused_on}
+use Rattle.service_core.proofs.desk.Desk.execute.Goals as goal
+
+pub returns-in-Some-clause-step : goal.returns-in-Some-clause-step
+returns-in-Some-clause-step g c =
+    refused_on (settings_of g.S.Store c.args.self.now)
+    (ask_by c.args.at c.args.caller.now c.args.command.now) c.in-Some.refusal
+    (tables_of g.S.Store c.args.self.now) c.in-Some.ensures.always
+
+pub returns-in-None-clause-step : goal.returns-in-None-clause-step
+returns-in-None-clause-step g c = c.step.ensures.step
+
+pub returns-in-None-clause-refused : goal.returns-in-None-clause-refused
+returns-in-None-clause-refused g c = c.step.ensures.refused
+
+pub returns-in-None-clause-named : goal.returns-in-None-clause-named
+returns-in-None-clause-named g c = c.step.ensures.named
+
+pub returns-in-None-clause-honest : goal.returns-in-None-clause-honest
+returns-in-None-clause-honest g c = c.step.ensures.keeps.clean
+
+pub returns-in-None-clause-lasts : goal.returns-in-None-clause-lasts
+returns-in-None-clause-lasts g c = c.step.ensures.keeps.lasts

@@ -1,0 +1,42 @@
+-- what every desk refuses writes nothing, and leaves the tables
+use Rattle.std.proofs.Common.{[]}
+use Rattle.desk_lists.proofs.PrintedLemmas.{prints_none}
+use Rattle.store_core.specs.Due.{due_of_row}
+use Rattle.store_tables.proofs.Spared.{stands, unread}
+use Rattle.store_tables.specs.Contents.{contents_of}
+use Rattle.service_core.specs.Seen.{settings_of}
+use Rattle.service_core.specs.TableSteps.{ask_by}
+use Rattle.service_core.proofs.StreamLemmas.{refused_stream}
+use Rattle.service_core.proofs.desk.Desk.stream_counted.Goals as goal
+
+pub returns-in-Some-clause-streamed : goal.returns-in-Some-clause-streamed
+returns-in-Some-clause-streamed g c = (
+  [],
+  prints_none g.W.Write.contents c.args.output.now,
+  λ desk is stand clean.
+      refused_stream (settings_of g.S.Store c.args.self.now)
+      (ask_by c.args.at c.args.caller.now c.args.command.now) desk is c.in-Some.refusal
+      (λ available. c.in-Some.ensures.always desk),
+)
+
+pub returns-in-Some-clause-stands : goal.returns-in-Some-clause-stands
+returns-in-Some-clause-stands g c = λ desk stand. stand
+
+pub returns-in-Some-clause-kept : goal.returns-in-Some-clause-kept
+returns-in-Some-clause-kept g c = unread _
+
+pub returns-in-None-clause-streamed : goal.returns-in-None-clause-streamed
+returns-in-None-clause-streamed g c = c.put_if_admitted.ensures.streamed.streamed
+
+pub returns-in-None-clause-failed : goal.returns-in-None-clause-failed
+returns-in-None-clause-failed g c = c.put_if_admitted.ensures.streamed.failed
+
+pub returns-in-None-clause-stands : goal.returns-in-None-clause-stands
+returns-in-None-clause-stands g c =
+    let settings = settings_of g.S.Store c.args.self.now in
+    λ desk stand.
+    stands c.put_if_admitted.ensures.streamed.kept (contents_of (due_of_row settings desk) desk)
+    stand
+
+pub returns-in-None-clause-kept : goal.returns-in-None-clause-kept
+returns-in-None-clause-kept g c = c.put_if_admitted.ensures.streamed.kept

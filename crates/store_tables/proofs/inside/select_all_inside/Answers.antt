@@ -1,7 +1,0 @@
-use Rattle.store_tables.proofs.RowLemmas.{rows_read}
-use Rattle.store_tables.proofs.inside.select_all_inside.Goals as goal
-
-pub returns-clause-read : goal.returns-clause-read
-returns-clause-read g c = rows_read c.in_ok-rows.rows.items c.in_ok-rows.ensures.shown
-    c.read_all.result (rw c.as_slice.ensures.value at c.read_all.ensures.ok)
-    (rw c.as_slice.ensures.value at c.read_all.ensures.mismatch) c.read_all.ensures.fault

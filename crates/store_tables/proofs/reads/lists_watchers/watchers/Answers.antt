@@ -1,9 +1,0 @@
-use Rattle.store_tables.proofs.EachQuery.{all_watchers}
-use Rattle.store_tables.proofs.RowLemmas.{asks_alone, lists_all, ranked}
-use Rattle.store_tables.proofs.reads.lists_watchers.watchers.Goals as goal
-
-pub select_all-requires : goal.select_all-requires
-select_all-requires g c = asks_alone all_watchers
-
-pub returns : goal.returns
-returns g c = lists_all all_watchers (λ a b. simp ranked) (λ v. cc) c.select_all.ensures

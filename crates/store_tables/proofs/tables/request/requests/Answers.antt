@@ -1,0 +1,18 @@
+use Rattle.std.proofs.Common.{refl}
+use Rattle.sqlite.specs.Listing.{understood}
+use Rattle.sqlite_tied.specs.Compute.{everything}
+use Rattle.store_tables.specs.Query.{id_order}
+use Rattle.store_tables.proofs.Contents.Request.{request_table}
+use Rattle.store_tables.proofs.RowLemmas.{answered, lists_all, ranked}
+use Rattle.store_tables.proofs.TextLemmas.{none_given}
+use Rattle.store_tables.proofs.tables.request.requests.Goals as goal
+
+pub select_all-requires : goal.select_all-requires
+unfolding everything
+select_all-requires g c schema k found = none_given schema _ k found (λ s n. refl)
+
+pub returns : goal.returns
+unfolding understood everything
+returns g c = answered request_table (lists_all request_table c.select_all.ensures id_order
+    (record { is = refl; plain = (refl, refl); unlisted = refl; none = λ s n. refl })
+    (λ a b. simp ranked))

@@ -1,6 +1,0 @@
-use Rattle.store_tables.proofs.StepLemmas.{does_one}
-use Rattle.store_tables.proofs.VersionLemmas.{sets_version}
-use Rattle.store_tables.proofs.writes.version.set_version.Goals as goal
-
-pub returns-clause-set : goal.returns-clause-set
-returns-clause-set g c = does_one c.run_on_one.ensures.runs (λ now. sets_version now _ _)
