@@ -13,7 +13,7 @@ use Rattle.desk_model.specs.Condition.{Condition, first_holding}
 use Rattle.desk_model.specs.Desk.{Desk, Request, request_at}
 use Rattle.desk_model.specs.Facts.{seen_request, seen_request_at}
 use Rattle.desk_model.specs.Plan.{Call, Plan, Reads, OnQueue, OnRequest, Nothing}
-use Rattle.desk_model.specs.Plan.{Dependencies, Another, besides_on, conditions_of}
+use Rattle.desk_model.specs.Plan.{Stays, Dependencies, Another, besides_on, conditions_of}
 use Rattle.desk_model.specs.Plan.{OneQueue, OneRequest, WholeDesk, is_missing}
 use Rattle.desk_model.specs.Plan.{named_by, on_shown, seen_by}
 use Rattle.desk_model.specs.Step.{answer_of}
@@ -168,6 +168,9 @@ hidden_by_plan c (Reads (OneRequest asked) answer) desk id named hidden =
 hidden_by_plan c (OnQueue name beforehand conditions change) desk id named hidden = cc
 hidden_by_plan c (OnRequest asked Nothing bad conditions change) desk id named hidden =
     hidden_first c asked bad (λ d. conditions c (besides_on Nothing asked d)) desk id
+    (sym (or-false (asked == id)) ∙ named) hidden
+hidden_by_plan c (OnRequest asked Stays bad conditions change) desk id named hidden =
+    hidden_first c asked bad (λ d. conditions c (besides_on Stays asked d)) desk id
     (sym (or-false (asked == id)) ∙ named) hidden
 hidden_by_plan c (OnRequest asked Dependencies bad conditions change) desk id named hidden =
     hidden_first c asked bad (λ d. conditions c (besides_on Dependencies asked d)) desk id

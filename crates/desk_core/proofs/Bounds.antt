@@ -15,7 +15,7 @@ use Rattle.desk_model.specs.Desk.{Desk, Request, has_lower_name, placed}
 use Rattle.desk_model.specs.Entries.{lacks_room}
 use Rattle.desk_model.specs.Facts.{facts_on_queue, seen_request}
 use Rattle.desk_model.specs.IsDesk.{IsDesk}
-use Rattle.desk_model.specs.Plan.{Besides, Call, Plan, Reads, OnQueue, OnRequest, Nothing}
+use Rattle.desk_model.specs.Plan.{Besides, Call, Plan, Reads, OnQueue, OnRequest, Nothing, Stays}
 use Rattle.desk_model.specs.Plan.{Dependencies, Another, another_shown, besides_on, change_by}
 use Rattle.desk_model.specs.Step.{call, desk_unless, effect, facts_of, guard}
 use Rattle.desk_model.specs.declared.change.Change.{Change}
@@ -187,6 +187,7 @@ last_fails condition (next ∷ rest) fails none = last_fails next rest none.0 no
 own_fail : (call : Call) (besides : Besides) (facts : Facts) (conditions : List Condition)
     → NoneHolds (another_shown call besides facts conditions) → NoneHolds conditions
 own_fail call Nothing facts conditions none = none
+own_fail call Stays facts conditions none = none
 own_fail call Dependencies facts conditions none = none
 own_fail call (Another kind other) facts conditions none = none.1
 

@@ -13,7 +13,7 @@ use Rattle.desk_model.specs.Desk.{Desk, Request, request_at}
 use Rattle.desk_model.specs.Facts.{facts_on_queue, seen_request, stays_at}
 use Rattle.desk_model.specs.IsDesk.{IsDesk}
 use Rattle.desk_model.specs.Lifecycles.{first_status, lifecycle_of}
-use Rattle.desk_model.specs.Plan.{Call, Nothing, besides_on}
+use Rattle.desk_model.specs.Plan.{Call, Stays, besides_on}
 use Rattle.desk_model.specs.Stays.{stays_after, stays_of}
 use Rattle.desk_model.specs.Step.{call, facts_of}
 use Rattle.desk_model.specs.declared.change.Change.{Change}
@@ -129,7 +129,7 @@ begins desk (OpenQueue name lifecycle level) = λ call none. tt
 begins desk (Create queue subject status requestors) = λ call none. refl
 begins desk (SetStatus id status) = λ call r there same none. refl
 begins desk (Reply id text) = λ call r there same none.
-    let facts = besides_on Nothing id desk in
+    let facts = besides_on Stays id desk in
     let move = reply.move_of call facts (seen_request r) in
     reply_begins text call (seen_request r) (reply.replied_row call facts move (seen_request r))
     move refl

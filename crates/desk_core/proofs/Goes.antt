@@ -12,7 +12,7 @@ use Rattle.desk_model.specs.Condition.{Condition, first_holding}
 use Rattle.desk_model.specs.Desk.{Desk, Request, queue_at, request_at}
 use Rattle.desk_model.specs.Facts.{queue_of, seen_request}
 use Rattle.desk_model.specs.Plan.{Call, Plan, Reads, OnQueue, OnRequest, Nothing}
-use Rattle.desk_model.specs.Plan.{Dependencies, Another, besides_on}
+use Rattle.desk_model.specs.Plan.{Stays, Dependencies, Another, besides_on}
 use Rattle.desk_model.specs.Plan.{change_by, change_of_request, conditions_by, conditions_of}
 use Rattle.desk_model.specs.Plan.{conditions_of_words, is_missing, on_shown, seen_by}
 use Rattle.desk_model.specs.Step.{call, desk_after}
@@ -214,6 +214,12 @@ by_plan P call (OnQueue name beforehand conditions change) desk id before new wa
 by_plan P call (OnRequest asked Nothing bad conditions change) desk id before new was ids free
     sets same goes =
     let facts = besides_on Nothing asked desk in
+    on_request (P call facts) call facts.queue desk asked id (request_at desk asked)
+    (conditions call facts) (conditions call facts) (change call facts) before new
+    refl was refl (λ request h. h) (ids call facts) free sets same (goes call facts)
+by_plan P call (OnRequest asked Stays bad conditions change) desk id before new was ids free
+    sets same goes =
+    let facts = besides_on Stays asked desk in
     on_request (P call facts) call facts.queue desk asked id (request_at desk asked)
     (conditions call facts) (conditions call facts) (change call facts) before new
     refl was refl (λ request h. h) (ids call facts) free sets same (goes call facts)

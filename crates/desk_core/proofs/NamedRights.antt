@@ -11,7 +11,7 @@ use Rattle.desk_model.specs.Commands.{IsMove, plan_of}
 use Rattle.desk_model.specs.Condition.{Condition, Decides, first_holding}
 use Rattle.desk_model.specs.Plan.{Call, Plan, Reads, OnQueue, OnRequest, OneQueue, OneRequest}
 use Rattle.desk_model.specs.Plan.{WholeDesk}
-use Rattle.desk_model.specs.Plan.{Besides, Nothing, Dependencies, Another, another_shown}
+use Rattle.desk_model.specs.Plan.{Besides, Nothing, Stays, Dependencies, Another, another_shown}
 use Rattle.desk_model.specs.Plan.{change_by, conditions_by, of_request}
 use Rattle.desk_model.specs.Refusals.{names_its_right}
 use Rattle.desk_model.specs.declared.change.Change.{Change}
@@ -51,6 +51,7 @@ another_named : (call : Call) (besides : Besides) (facts : Facts) (conditions : 
     → list_all is_named conditions ≡ true
     → list_all is_named (another_shown call besides facts conditions) ≡ true
 another_named call Nothing facts conditions named = named
+another_named call Stays facts conditions named = named
 another_named call Dependencies facts conditions named = named
 another_named call (Another kind other) facts conditions named = named
 

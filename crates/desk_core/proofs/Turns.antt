@@ -13,7 +13,7 @@ use Rattle.desk_model.specs.Commands.SetStatus as set_status
 use Rattle.desk_model.specs.Desk.{Desk, Request, queue_at, request_at}
 use Rattle.desk_model.specs.Facts.{queue_of, seen_request}
 use Rattle.desk_model.specs.Lifecycles.{lifecycle_of, opens_anew, is_inactive}
-use Rattle.desk_model.specs.Plan.{Call, Nothing, Dependencies, besides_on, change_by, is_reading}
+use Rattle.desk_model.specs.Plan.{Call, Stays, Dependencies, besides_on, change_by, is_reading}
 use Rattle.desk_model.specs.Step.{call, desk_unless, effect, facts_of, guard}
 use Rattle.desk_model.specs.declared.change.Change.{Change}
 use Rattle.desk_model.specs.declared.command.Command.{Command}
@@ -160,7 +160,7 @@ turns_met call desk (SetStatus id status) = λ r there same none.
     (ap (queue_of desk) there)
     (record { turn = refl; since = refl; opened = refl }))
 turns_met call desk (Reply id text) = λ r there same none.
-    let facts = besides_on Nothing id desk in
+    let facts = besides_on Stays id desk in
     let request = seen_request r in
     let move = reply.move_of call facts request in
     let new = reply.replied_row call facts move request in

@@ -17,7 +17,7 @@ use Rattle.desk_model.specs.Commands.Untake as untake
 use Rattle.desk_model.specs.Commands.Unwatch as unwatch
 use Rattle.desk_model.specs.Commands.Watch as watch
 use Rattle.desk_model.specs.Plan.{Plan, OnQueue, OnRequest}
-use Rattle.desk_model.specs.Plan.{Nothing, Dependencies, Another, is_reading, named_by}
+use Rattle.desk_model.specs.Plan.{Nothing, Stays, Dependencies, Another, is_reading, named_by}
 use Rattle.desk_model.specs.Readings.History as history
 use Rattle.desk_model.specs.Readings.Listing as listing
 use Rattle.desk_model.specs.Readings.Overdue as overdue
@@ -50,13 +50,13 @@ plan_of (command.Create queue subject status requestors) =
     (create.change queue subject status requestors)
 plan_of (command.SetStatus id status) =
     OnRequest id Dependencies false (set_status.conditions status) (set_status.change status)
-plan_of (command.Take id) = OnRequest id Nothing false take.conditions take.change
-plan_of (command.Steal id) = OnRequest id Nothing false steal.conditions steal.change
-plan_of (command.Untake id) = OnRequest id Nothing false untake.conditions untake.change
+plan_of (command.Take id) = OnRequest id Stays false take.conditions take.change
+plan_of (command.Steal id) = OnRequest id Stays false steal.conditions steal.change
+plan_of (command.Untake id) = OnRequest id Stays false untake.conditions untake.change
 plan_of (command.Give id person) =
-    OnRequest id Nothing false (give.conditions person) (give.change person)
+    OnRequest id Stays false (give.conditions person) (give.change person)
 plan_of (command.Reply id text) =
-    OnRequest id Nothing (not (is_text text)) reply.conditions (reply.change text)
+    OnRequest id Stays (not (is_text text)) reply.conditions (reply.change text)
 plan_of (command.Comment id text) =
     OnRequest id Nothing (not (is_text text)) comment.conditions (comment.change text)
 plan_of (command.Watch id role person) =
@@ -68,7 +68,7 @@ plan_of (command.Link id kind other) =
 plan_of (command.Unlink id kind other) =
     OnRequest id (Another kind other) false unlink.conditions (unlink.change kind other)
 plan_of (command.SetLevel id level) =
-    OnRequest id Nothing false (set_level.conditions level) (set_level.change level)
+    OnRequest id Stays false (set_level.conditions level) (set_level.change level)
 plan_of command.Queues = queues.reading
 plan_of (command.Show id) = show.reading id
 plan_of (command.List queue) = listing.reading queue

@@ -77,11 +77,14 @@ facts_on_queue desk name =
       request_count = request_count desk;
     }
 
--- of a command on a request: the request, its stays and its queue
-abbrev pub facts_on_request : Desk → ℕ → Facts
-facts_on_request desk id =
+-- of a command that leaves a request's row: the request and its queue
+abbrev pub facts_of_request : Desk → ℕ → Facts
+facts_of_request desk id =
     record no_facts {
       queue = queue_of desk (request_at desk id);
       request = seen_request_at desk id;
-      stays = stays_at desk id;
     }
+
+-- of one that puts another row, and of a reading of a request: its stays too, by which it is due
+abbrev pub facts_on_request : Desk → ℕ → Facts
+facts_on_request desk id = record (facts_of_request desk id) { stays = stays_at desk id }

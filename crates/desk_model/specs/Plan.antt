@@ -9,7 +9,8 @@ use Rattle.settings_core.specs.declared.settings.Settings.{Settings}
 use Rattle.desk_model.specs.Change.{no_change}
 use Rattle.desk_model.specs.Condition.{Condition}
 use Rattle.desk_model.specs.Desk.{Desk, Request}
-use Rattle.desk_model.specs.Facts.{no_facts, facts_of_queue, facts_on_queue, facts_on_request}
+use Rattle.desk_model.specs.Facts.{no_facts, facts_of_queue, facts_on_queue}
+use Rattle.desk_model.specs.Facts.{facts_of_request, facts_on_request}
 use Rattle.desk_model.specs.Facts.{seen_request_at, dependencies_of}
 use Rattle.desk_model.specs.Links.{has_link, link}
 use Rattle.desk_model.specs.Rights.{may_show, sees_queue}
@@ -30,9 +31,11 @@ pub record Call : Type 0 where
   pub at : ℕ
   pub caller : List ℕ
 
--- what a command on a request looks at besides it and its queue
+-- what a command on a request looks at besides it and its queue: nothing, its stays, its stays and
+-- what it depends on, or the other end of a link
 pub data Besides : Type 0 where
   Nothing : Besides
+  Stays : Besides
   Dependencies : Besides
   Another : LinkKind → ℕ → Besides
 
@@ -56,11 +59,12 @@ pub data Plan : Type 0 where
 
 -- what a command on a request looks at on a desk
 abbrev pub besides_on : Besides → ℕ → Desk → Facts
-besides_on Nothing id desk = facts_on_request desk id
+besides_on Nothing id desk = facts_of_request desk id
+besides_on Stays id desk = facts_on_request desk id
 besides_on Dependencies id desk =
     record (facts_on_request desk id) { dependencies = dependencies_of desk id }
 besides_on (Another kind other) id desk =
-    record (facts_on_request desk id) {
+    record (facts_of_request desk id) {
       other = seen_request_at desk other;
       is_linked = has_link desk (link id kind other);
     }
@@ -84,6 +88,7 @@ is_missing call request =
 
 abbrev pub another_shown : Call → Besides → Facts → List Condition → List Condition
 another_shown call Nothing facts conditions = conditions
+another_shown call Stays facts conditions = conditions
 another_shown call Dependencies facts conditions = conditions
 another_shown call (Another kind other) facts conditions =
     (NotFound, is_missing call facts.other) ∷ conditions
@@ -184,6 +189,7 @@ is_reading plan = is_some (topic_of plan)
 -- the requests that a plan names: the one that it is on, and the other end of a link
 abbrev pub named_besides : Besides → List ℕ
 named_besides Nothing = []
+named_besides Stays = []
 named_besides Dependencies = []
 named_besides (Another kind other) = other ∷ []
 

@@ -160,9 +160,9 @@ impl Command {
             Command::Untake { id } => Scope::Request(*id),
             Command::Give { id, .. } => Scope::Request(*id),
             Command::Reply { id, .. } => Scope::Request(*id),
-            Command::Comment { id, .. } => Scope::Request(*id),
-            Command::Watch { id, .. } => Scope::Request(*id),
-            Command::Unwatch { id, .. } => Scope::Request(*id),
+            Command::Comment { id, .. } => Scope::RequestAlone(*id),
+            Command::Watch { id, .. } => Scope::RequestAlone(*id),
+            Command::Unwatch { id, .. } => Scope::RequestAlone(*id),
             Command::Link { id, kind, other } => Scope::Link(LinkRow {
                 source: *id,
                 kind: *kind,

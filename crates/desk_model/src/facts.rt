@@ -22,7 +22,7 @@ pub struct Facts {
     pub request_count: u32,
     /// The request that the command names.
     pub request: Option<SeenRequest>,
-    /// The stays of that request, in order.
+    /// The stays of that request, in order, where the command may put another row or tells it.
     pub stays: Sequence<Stay>,
     /// The other request that the command names.
     pub other: Option<SeenRequest>,

@@ -23,8 +23,10 @@ pub enum Scope<'c> {
     /// A queue, and how many queues and requests there are.
     Queue(&'c Text),
     /// A request and its queue.
+    RequestAlone(u32),
+    /// A request, its queue, and its stays.
     Request(u32),
-    /// A request, its queue, and what it depends on.
+    /// A request, its queue, its stays, and what it depends on.
     Dependencies(u32),
     /// A request, its queue, the request at the other end of a link, and whether the link is there.
     Link(LinkRow),

@@ -28,8 +28,8 @@ use Rattle.desk_model.specs.declared.rows.QueueRow.{QueueRow}
 use Rattle.desk_model.specs.declared.rows.RequestRow.{RequestRow}
 use Rattle.desk_model.specs.declared.rows.Watcher.{Watcher}
 use Rattle.desk_model.specs.Desk.{Desk, Request, queue_at, request_at}
-use Rattle.desk_model.specs.Facts.{dependencies_of, dependency_links, facts_on_request}
-use Rattle.desk_model.specs.Facts.{seen_request, seen_request_at, stays_at}
+use Rattle.desk_model.specs.Facts.{dependencies_of, dependency_links, facts_of_request}
+use Rattle.desk_model.specs.Facts.{facts_on_request, seen_request, seen_request_at, stays_at}
 use Rattle.desk_model.specs.Plan.{Dependencies, besides_on}
 use Rattle.desk_model.specs.IsDesk.{IsDesk, has_both_ends, has_its_entries, persons_rise}
 use Rattle.desk_model.specs.Rights.{is_shown}
@@ -190,6 +190,12 @@ pub request_facts : (desk : Desk) (id : ℕ) (q : Option QueueRow) (request : Op
     → filed q request stays ≡ facts_on_request desk id
 request_facts desk id q request stays on_is stays_are q_is =
     rw (stays_are, q_is, on_is) (grind arith)
+
+-- the same without the stays
+pub request_alone : (desk : Desk) (id : ℕ) (q : Option QueueRow) (request : Option SeenRequest)
+    → request ≡ seen_request_at desk id → q ≡ queue_by desk request
+    → filed q request [] ≡ facts_of_request desk id
+request_alone desk id q request on_is q_is = rw (q_is, on_is) (grind arith)
 
 pub link_read : {a b : State} {r : Result (Option LinkRow) StoreFault} (l : LinkRow)
     → Reads (λ c found. option_to_list found ≡ filter (chosen.is_link l) c.links) a b r

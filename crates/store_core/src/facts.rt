@@ -74,6 +74,7 @@ fn facts_in<S: Alter>(
         Scope::Nothing => Ok(no_facts(alloc)),
         Scope::QueueAlone(name) => facts_of_queue(alloc, tables, name),
         Scope::Queue(name) => facts_on_queue(alloc, tables, name),
+        Scope::RequestAlone(id) => facts_of(alloc, tables, id),
         Scope::Request(id) => facts_on(alloc, tables, id),
         Scope::Dependencies(id) => facts_of_move(alloc, tables, id),
         Scope::Link(link) => facts_of_link(alloc, tables, link),
@@ -109,7 +110,17 @@ fn facts_on_queue<S: Alter>(
     Ok(counted(alloc, queue, queues, requests))
 }
 
-/// Of a command on a request: the request, its stays and its queue.
+/// Of a command that leaves a request's row: the request and its queue.
+fn facts_of<S: Alter>(alloc: Global, tables: &mut Tables<S>, id: u32) -> Result<Facts, StoreFault>
+    ensures { Reads (OfDesk (λ desk seen. seen ≡ facts.facts_of_request desk id))
+        (seen S.Store tables.old) (seen S.Store tables.new) result }
+{
+    let request = seen_request_at(alloc, tables, id)?;
+    let queue = queue_of(tables, &request)?;
+    Ok(filed(alloc, queue, request, Sequence::from(Vec::new(alloc))))
+}
+
+/// Of one that puts another row, and of a reading of a request: its stays too.
 fn facts_on<S: Alter>(alloc: Global, tables: &mut Tables<S>, id: u32) -> Result<Facts, StoreFault>
     ensures { Reads (OfDesk (λ desk seen. seen ≡ facts.facts_on_request desk id))
         (seen S.Store tables.old) (seen S.Store tables.new) result }
@@ -153,7 +164,7 @@ fn facts_of_link<S: Alter>(
 {
     let linked = link_like(tables, link)?;
     let other = seen_request_at(alloc, tables, link.target)?;
-    let facts = facts_on(alloc, tables, link.source)?;
+    let facts = facts_of(alloc, tables, link.source)?;
     Ok(with_link(facts, other, linked.is_some()))
 }
 

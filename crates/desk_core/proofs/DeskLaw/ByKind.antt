@@ -15,8 +15,8 @@ use Rattle.desk_model.specs.Desk.{Desk, Request, queue_at, request_at}
 use Rattle.desk_model.specs.Facts.{facts_on_queue, seen_request}
 use Rattle.desk_model.specs.IsDesk.{IsDesk}
 use Rattle.desk_model.specs.Links.{has_link, link}
-use Rattle.desk_model.specs.Plan.{Call, Plan, Reads, OnQueue, OnRequest, Nothing, Dependencies}
-use Rattle.desk_model.specs.Plan.{Another, another_shown, besides_on, change_by, change_of_request}
+use Rattle.desk_model.specs.Plan.{Call, Plan, Reads, OnQueue, OnRequest, Nothing, Stays}
+use Rattle.desk_model.specs.Plan.{Dependencies, Another, another_shown, besides_on, change_by, change_of_request}
 use Rattle.desk_model.specs.Plan.{conditions_by, conditions_of, conditions_of_words, is_missing}
 use Rattle.desk_model.specs.Plan.{is_reading, on_shown, seen_by}
 use Rattle.desk_model.specs.Step.{call, facts_of, guard}
@@ -80,6 +80,10 @@ meets_by P call (OnQueue name beforehand conditions change) desk nothing meets a
     meets (none_holds (beforehand call ++ conditions call (facts_on_queue desk name)) all)
 meets_by P call (OnRequest id Nothing bad conditions change) desk nothing meets all free =
     let facts = besides_on Nothing id desk in
+    on_request (P desk) call desk id (request_at desk id) (conditions call facts)
+    (change call facts) refl meets free
+meets_by P call (OnRequest id Stays bad conditions change) desk nothing meets all free =
+    let facts = besides_on Stays id desk in
     on_request (P desk) call desk id (request_at desk id) (conditions call facts)
     (change call facts) refl meets free
 meets_by P call (OnRequest id Dependencies bad conditions change) desk nothing meets all free =

@@ -34,7 +34,7 @@ use Rattle.desk_model.specs.Known.{knows_level, knows_owner, knows_queue, knows_
 use Rattle.desk_model.specs.Lifecycles.{has_given, has_status, is_creatable, lifecycle_of}
 use Rattle.desk_model.specs.Lifecycles.{first_status, reopening_of}
 use Rattle.desk_model.specs.Names.{in_order, text_order, with_name}
-use Rattle.desk_model.specs.Plan.{Call, Nothing, besides_on, change_by}
+use Rattle.desk_model.specs.Plan.{Call, Stays, besides_on, change_by}
 use Rattle.desk_model.specs.Plan.{conditions_by, conditions_of_words, seen_by}
 use Rattle.desk_model.specs.Step.{call, facts_of, guard}
 use Rattle.desk_model.specs.declared.change.Change.{Change}
@@ -252,7 +252,7 @@ rows call desk caller all (Give id person) = λ r there same none.
     (holding (knows call.settings person) none.0)
 rows call desk caller all (Reply id text) = λ r there same none.
     let s = call.settings in
-    let facts = besides_on Nothing id desk in
+    let facts = besides_on Stays id desk in
     let request = seen_request r in
     let parts = parts_known s desk r.row (every_found _ _ desk.requests r all there) in
     let queue : queue_of desk (request_at desk id) ≡ queue_at desk r.row.queue =

@@ -2,7 +2,7 @@
 
 ghost use Rattle.std.specs.Prelude.{◌≡◌, ◌+◌, ◌^◌, ◌<◌, OnOk};
 ghost use Rattle.desk_model.specs.Commands.Give as give;
-ghost use Rattle.desk_model.specs.Plan.{Nothing};
+ghost use Rattle.desk_model.specs.Plan.{Stays};
 ghost use Rattle.desk_core.specs.Context.{call_of, DecidesOn, PassesOn};
 
 use crate::decision::Context;
@@ -13,7 +13,7 @@ use text_core::Text;
 impl Context<'_> {
     /// Makes a person the owner of a request.
     pub(super) fn give(&self, person: &Text) -> Result<Change, Refusal>
-        ensures { DecidesOn result Nothing
+        ensures { DecidesOn result Stays
             (give.conditions person.now) (give.change person.now) self.now }
     {
         let request = self.shown()?;

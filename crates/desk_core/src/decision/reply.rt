@@ -4,7 +4,7 @@ ghost use Rattle.std.specs.Prelude.{◌≡◌, ◌+◌, ◌^◌, ◌<◌, IfOk, 
 ghost use Rattle.std.specs.Option.{option_map};
 ghost use Rattle.desk_model.specs.Change.{row_in_status};
 ghost use Rattle.desk_model.specs.Commands.Reply as reply;
-ghost use Rattle.desk_model.specs.Plan.{Nothing};
+ghost use Rattle.desk_model.specs.Plan.{Stays};
 ghost use Rattle.desk_core.specs.Context.{call_of, DecidesOn, PassesOn};
 
 use crate::decision::Context;
@@ -18,7 +18,7 @@ use text_core::{Sequence, Text};
 impl<'c> Context<'c> {
     /// Replies to the request: the reply may open it again, and the turn passes.
     pub(super) fn reply(&self, text: &Text) -> Result<Change, Refusal>
-        ensures { DecidesOn result Nothing reply.conditions (reply.change text.now) self.now }
+        ensures { DecidesOn result Stays reply.conditions (reply.change text.now) self.now }
     {
         let request = self.shown()?;
         let lifecycle = lifecycle_of(self.settings, &self.facts.queue);

@@ -2,7 +2,7 @@
 
 ghost use Rattle.std.specs.Prelude.{◌≡◌, ◌+◌, ◌^◌, ◌<◌, IfOk, OnOk, None};
 ghost use Rattle.desk_model.specs.Commands.SetLevel as set_level;
-ghost use Rattle.desk_model.specs.Plan.{Nothing};
+ghost use Rattle.desk_model.specs.Plan.{Stays};
 ghost use Rattle.desk_core.specs.Context.{DecidesOn, PassesOn};
 
 use crate::beforehand::knows_level;
@@ -15,7 +15,7 @@ use text_core::Text;
 impl Context<'_> {
     /// Gives the request another level, or none.
     pub(super) fn set_level(&self, level: &Option<Text>) -> Result<Change, Refusal>
-        ensures { DecidesOn result Nothing
+        ensures { DecidesOn result Stays
             (set_level.conditions level.now) (set_level.change level.now) self.now }
     {
         let request = self.shown()?;

@@ -2,7 +2,7 @@
 
 ghost use Rattle.std.specs.Prelude.{◌+◌, ◌^◌, ◌<◌, OnOk};
 ghost use Rattle.desk_model.specs.Commands.Steal as steal;
-ghost use Rattle.desk_model.specs.Plan.{Nothing};
+ghost use Rattle.desk_model.specs.Plan.{Stays};
 ghost use Rattle.desk_core.specs.Context.{DecidesOn, PassesOn};
 
 use crate::decision::Context;
@@ -12,7 +12,7 @@ use rights_core::right;
 impl Context<'_> {
     /// Makes the caller the owner of a request that another person owns.
     pub(super) fn steal(&self) -> Result<Change, Refusal>
-        ensures { DecidesOn result Nothing steal.conditions steal.change self.now }
+        ensures { DecidesOn result Stays steal.conditions steal.change self.now }
     {
         let request = self.shown()?;
         self.ask_to_steal(request)?;

@@ -4,7 +4,7 @@ ghost use Rattle.std.specs.Prelude.{◌≡◌, ◌+◌, ◌^◌, ◌<◌, IfOk, 
 ghost use Rattle.std.specs.Option.{option_map};
 ghost use Rattle.desk_model.specs.Commands.Take as take;
 ghost use Rattle.desk_model.specs.Entries as entries;
-ghost use Rattle.desk_model.specs.Plan.{Nothing};
+ghost use Rattle.desk_model.specs.Plan.{Stays};
 ghost use Rattle.desk_core.specs.Context.{call_of, DecidesOn, PassesOn};
 
 use crate::decision::Context;
@@ -15,7 +15,7 @@ use std::alloc::AllocError;
 impl Context<'_> {
     /// Makes the caller the owner of a request that nobody owns.
     pub(super) fn take(&self) -> Result<Change, Refusal>
-        ensures { DecidesOn result Nothing take.conditions take.change self.now }
+        ensures { DecidesOn result Stays take.conditions take.change self.now }
     {
         let request = self.shown()?;
         self.ask_to_take(request)?;

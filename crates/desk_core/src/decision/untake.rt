@@ -2,7 +2,7 @@
 
 ghost use Rattle.std.specs.Prelude.{◌+◌, ◌^◌, ◌<◌, OnOk};
 ghost use Rattle.desk_model.specs.Commands.Untake as untake;
-ghost use Rattle.desk_model.specs.Plan.{Nothing};
+ghost use Rattle.desk_model.specs.Plan.{Stays};
 ghost use Rattle.desk_core.specs.Context.{DecidesOn, PassesOn};
 
 use crate::decision::Context;
@@ -11,7 +11,7 @@ use desk_model::{Change, Refusal, SeenRequest};
 impl Context<'_> {
     /// Leaves a request that the caller owns without an owner.
     pub(super) fn untake(&self) -> Result<Change, Refusal>
-        ensures { DecidesOn result Nothing untake.conditions untake.change self.now }
+        ensures { DecidesOn result Stays untake.conditions untake.change self.now }
     {
         let request = self.shown()?;
         self.ask_to_untake(request)?;
