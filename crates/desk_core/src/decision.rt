@@ -16,7 +16,7 @@ ghost use Rattle.desk_core.specs.Decision.{Accepts, FollowsPlan, Refuses, change
 
 use crate::beforehand::{moment_of, refused_beforehand};
 use desk_model::{
-    Change, Command, Entry, EntryKind, Facts, Refusal, SeenRequest, Topic, sees_queue,
+    Call, Change, Command, Entry, EntryKind, Facts, Refusal, SeenRequest, Topic, sees_queue,
 };
 use hours_core::Minute;
 use rights_core::{Roles, right};
@@ -82,30 +82,35 @@ pub fn decide_on_facts(
     ensures reads { IsReading command.now → IfOk result (λ change. change ≡ no_change) }
     ensures named { IfErr result (λ refusal. names_its_right refusal ≡ true) }
 {
-    follow_plan(alloc, settings, at, caller, facts, command)
+    let call = Call {
+        settings,
+        at,
+        caller,
+    };
+    follow_plan(alloc, call, facts, command)
 }
 
 /// The decision by the plan of the command.
 fn follow_plan(
     alloc: Global,
-    settings: &Settings,
-    at: u32,
-    caller: &str,
+    call: Call<'_>,
     facts: &Facts,
     command: &Command,
 ) -> Result<Change, Refusal>
-    requires { refusal_beforehand settings.now at caller.now command.now ≡ None }
-    ensures planned { FollowsPlan settings.now at caller.now facts.now command.now result }
+    requires { refusal_beforehand call.entry.settings.now call.entry.at call.entry.caller.now
+        command.now ≡ None }
+    ensures planned { FollowsPlan call.entry.settings.now call.entry.at call.entry.caller.now
+        facts.now command.now result }
     ensures named { IfErr result (λ refusal. names_its_right refusal ≡ true) }
 {
-    let Some(moment) = moment_of(at) else {
+    let Some(moment) = moment_of(call.at) else {
         unreachable!()
     };
     let context = Context {
         alloc,
-        settings,
+        settings: call.settings,
         moment,
-        caller,
+        caller: call.caller,
         facts,
     };
     context.decide_dated(command)

@@ -27,7 +27,7 @@ pub mod laws;
 pub use beforehand::refused_beforehand;
 pub use decision::{decide, decide_on_facts};
 pub use desk_model::{
-    Answer, Change, Command, Dependency, Dossier, Entry, EntryKind, Facts, LateLine, Line,
+    Answer, Call, Change, Command, Dependency, Dossier, Entry, EntryKind, Facts, LateLine, Line,
     LinkKind, LinkRow, Links, Load, QueueRow, Refusal, RequestRow, Scope, SeenRequest, Shown,
     Topic, Turn, WatchRole, Watcher, due_of, is_role, may_show, sees_queue,
 };

@@ -80,8 +80,9 @@ pub record Ask : Type 0 where
   pub caller : List ℕ
   pub command : Command
 
--- one after the other, each from the desk that the one before left
-abbrev pub RunsBy : (Ask → Desk → Outcome → Desk → Type 0) → Desk → List Ask → List Outcome → Desk
+-- what is asked, and what comes of it, one after the other, each from the desk that the one before
+-- left
+abbrev pub RunsBy : {A B : Type 0} → (A → Desk → B → Desk → Type 0) → Desk → List A → List B → Desk
     → Type 0
 RunsBy Does old [] [] new = new ≡ old
 RunsBy Does old (ask ∷ asks) (outcome ∷ outcomes) new =

@@ -23,6 +23,7 @@
 #![tactic(auto)]
 
 pub mod answer;
+pub mod call;
 pub mod change;
 pub mod command;
 pub mod due;
@@ -37,6 +38,7 @@ pub mod scope;
 pub mod stays;
 
 pub use answer::{Answer, Dossier, LateLine, Line, Links, Load, Shown};
+pub use call::Call;
 pub use change::Change;
 pub use command::Command;
 pub use due::due_of;

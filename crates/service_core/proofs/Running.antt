@@ -15,8 +15,8 @@ use Rattle.desk_texts.specs.Short.{AreNamed}
 use Rattle.service_core.specs.TableSteps.{IsStep, RunsOn, StepsOn, ask_by}
 use Rattle.service_core.specs.TableSteps.{ask_of, asks_of}
 
-run_more : (Does : Ask → Desk → Outcome → Desk → Type 0) (old : Desk) (asks : List Ask)
-    (outcomes : List Outcome) (mid : Desk) (ask : Ask) (outcome : Outcome) (new : Desk)
+pub run_more : {A B : Type 0} (Does : A → Desk → B → Desk → Type 0) (old : Desk) (asks : List A)
+    (outcomes : List B) (mid : Desk) (ask : A) (outcome : B) (new : Desk)
     → RunsBy Does old asks outcomes mid → Does ask mid outcome new
     → RunsBy Does old (asks ++ ask ∷ []) (outcomes ++ outcome ∷ []) new
 run_more Does old [] [] mid ask outcome new same does =

@@ -1,7 +1,7 @@
 -- What is asked by a call.
+use Rattle.desk_model.specs.declared.call.Call.{Call}
 use Rattle.desk_model.specs.declared.command.Command.{Command}
 use Rattle.desk_model.specs.Step.{Ask}
-use Rattle.service_core.specs.declared.call.Call.{Call}
 use Rattle.service_core.specs.TableSteps.{ask_by}
 
 -- the command, by its caller at its moment

@@ -9,11 +9,10 @@ ghost use Rattle.store_core.specs.Seen.{state_of};
 ghost use Rattle.service_core.specs.Dossiers.{DossierOn, DossierWhere, IsTold};
 ghost use Rattle.service_core.specs.Seen.{settings_of, tables_of};
 
-use crate::call::Call;
 use crate::desk::Desk;
 use crate::reading::{history, show};
 use desk_core::{
-    Answer, Command, Dossier, Entry, Facts, QueueRow, Refusal, Shown, decide_on_facts,
+    Answer, Call, Command, Dossier, Entry, Facts, QueueRow, Refusal, Shown, decide_on_facts,
     refused_beforehand,
 };
 use desk_lists::unavailable;

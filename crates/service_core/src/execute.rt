@@ -14,10 +14,11 @@ ghost use Rattle.service_core.specs.Leaves.{KeepsStore, StepsSafely};
 ghost use Rattle.service_core.specs.TableSteps.{StepsOn, ask_by};
 ghost use Rattle.service_core.specs.Seen.{settings_of, tables_of};
 
-use crate::call::Call;
 use crate::desk::Desk;
 use crate::reading;
-use desk_core::{Answer, Change, Command, Facts, Refusal, decide_on_facts, refused_beforehand};
+use desk_core::{
+    Answer, Call, Change, Command, Facts, Refusal, decide_on_facts, refused_beforehand,
+};
 use desk_lists::unavailable;
 use std::alloc::Global;
 use store_core::{Backend, Store};

@@ -4,7 +4,6 @@
 
 pub mod alike;
 mod attach;
-mod call;
 pub mod desk;
 mod dossier;
 pub mod dues;

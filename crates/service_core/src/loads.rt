@@ -6,9 +6,8 @@ ghost use Rattle.store_core.specs.Seen.{state_of};
 ghost use Rattle.service_core.specs.Loading.{LoadsOn};
 ghost use Rattle.service_core.specs.Seen.{settings_of, tables_of};
 
-use crate::call::Call;
 use crate::desk::Desk;
-use desk_core::{Command, Refusal, refused_beforehand};
+use desk_core::{Call, Command, Refusal, refused_beforehand};
 use find_core::QueueLoad;
 use std::alloc::Global;
 use store_core::{Backend, Store};

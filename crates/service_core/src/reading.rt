@@ -8,10 +8,9 @@ ghost use Rattle.service_core.specs.Asked.{asked};
 ghost use Rattle.service_core.specs.Decided.{Answers, AnswersDue};
 ghost use Rattle.service_core.specs.Shown as shown;
 
-use crate::call::Call;
 use crate::links::links_of;
 use crate::queues::queues;
-use desk_core::{Answer, Command, Entry, Facts, Links, Refusal, SeenRequest, Shown, due_of};
+use desk_core::{Answer, Call, Command, Entry, Facts, Links, Refusal, SeenRequest, Shown, due_of};
 use desk_lists::or_unavailable;
 use hours_core::Minute;
 use settings_core::Settings;

@@ -15,9 +15,8 @@ ghost use Rattle.service_core.specs.Streaming.{Admits, IsAdmitted, StreamsAdmitt
 ghost use Rattle.service_core.specs.Streaming.{StreamsOn, StreamsSafely, is_write};
 ghost use Rattle.service_core.specs.TableSteps.{StandsOn, ask_by};
 
-use crate::call::Call;
 use crate::desk::Desk;
-use desk_core::{Command, Facts, Refusal, decide_on_facts, refused_beforehand};
+use desk_core::{Call, Command, Facts, Refusal, decide_on_facts, refused_beforehand};
 use desk_lists::{StreamFault, or_unavailable, stream_list, stream_overdue};
 use std::alloc::Global;
 use std::io::Write;

@@ -9,12 +9,12 @@ use Rattle.desk_core.proofs.decision.follow_plan.Goals as goal
 
 pub returns-clause-planned : goal.returns-clause-planned
 returns-clause-planned c =
-    let settings = c.args.settings.now in
-    let caller = c.args.caller.now in
+    let settings = c.args.call.settings.now in
+    let caller = c.args.call.caller.now in
     let facts = c.args.facts.now in
     let command = c.args.command.now in
     let asked = call settings c.in-Some.moment caller in
-    let same = moment_is (is_moment c.args.at) c.args.at c.in-Some.moment c.in-Some.ensures in
+    let same = moment_is (is_moment c.args.call.at) c.args.call.at c.in-Some.moment c.in-Some.ensures in
     subst (λ (at : ℕ). FollowsPlan settings at caller facts command c.decide_dated.result) same
     (decided_after asked facts (plan_of command) c.decide_dated.result
     (change_of asked facts command)
