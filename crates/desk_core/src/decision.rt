@@ -97,7 +97,7 @@ fn follow_plan(
     facts: &Facts,
     command: &Command,
 ) -> Result<Change, Refusal>
-    requires { refusal_beforehand call.entry.settings.now call.entry.at call.entry.caller.now
+    requires { refusal_beforehand call.settings.now call.at call.caller.now
         command.now ≡ None }
     ensures planned { FollowsPlan call.entry.settings.now call.entry.at call.entry.caller.now
         facts.now command.now result }
