@@ -1,10 +1,8 @@
--- Which answers are short, and their texts: at most 64 bytes.
-use Rattle.std.specs.Prelude.{◌≡◌, ℕ, nat_le, Bool, true, false, if◌then◌else◌, IfErr}
-use Rattle.std.specs.Prelude.{List, [], length, Ok, Err}
+-- Which answers are short: their texts have at most 64 bytes.
+use Rattle.std.specs.Prelude.{◌≡◌, nat_le, Bool, true, false, IfErr, List, length, Ok, Err}
 use Rattle.std.specs.List.{AllByRecursion}
 use Rattle.desk_model.specs.Refusals.{names_its_right}
 use Rattle.desk_model.specs.Step.{Outcome}
-use Rattle.desk_texts.specs.Texts.{outcome_text}
 use Rattle.desk_model.specs.declared.answer.Answer.TheVariants.{Done, Created}
 use Rattle.desk_model.specs.declared.refusal.Refusal.{Refusal}
 use Rattle.desk_model.specs.declared.refusal.Refusal.TheVariants.{Denied}
@@ -20,11 +18,6 @@ is_short (Err refusal) = true
 abbrev pub is_short_refusal : Refusal → Bool
 is_short_refusal (Denied right) = nat_le (length right) 32
 is_short_refusal other = true
-
--- its text; nothing where a refusal names a longer right
-abbrev pub short_text : Outcome → List ℕ
-short_text (Ok answer) = outcome_text (Ok answer)
-short_text (Err refusal) = if is_short_refusal refusal then outcome_text (Err refusal) else []
 
 -- the right that each refusal among these names is a right's name
 abbrev pub AreNamed : List Outcome → Type 0

@@ -1,8 +1,9 @@
 //! Short answers, put after other bytes without taking memory.
-ghost use Rattle.std.specs.Prelude.{◌≡◌, ◌++◌, ◌+◌, ◌≤◌, true, length, decimal};
+ghost use Rattle.std.specs.Prelude.{◌≡◌, ◌++◌, ◌+◌, ◌≤◌, true, length, decimal, IfErr};
 ghost use Rattle.std.specs.Vec.{vec_capacity, vec_len};
+ghost use Rattle.desk_model.specs.Refusals.{names_its_right};
 ghost use Rattle.desk_texts.specs.Short as short;
-ghost use Rattle.desk_texts.specs.Short.{is_short, short_text};
+ghost use Rattle.desk_texts.specs.Short.{is_short};
 ghost use Rattle.desk_texts.specs.Texts as text;
 
 use desk_model::{Answer, Refusal};
@@ -10,9 +11,6 @@ use itoa::Buffer;
 
 /// Room for any short answer, in bytes.
 pub const SHORT_TEXT: usize = 64;
-
-/// The most bytes that a right's name has.
-const LONGEST_RIGHT: usize = 32;
 
 /// Whether the text of what came of a command is a short one: of `Done`, of `Created` or of a
 /// refusal.
@@ -28,29 +26,19 @@ pub fn is_short(outcome: &Result<Answer, Refusal>) -> bool
 }
 
 /// Puts the text of `Done`, of `Created` or of a refusal at the end, where there is room for 64
-/// bytes. Takes no memory. Where the right of `Denied` has more than 32 bytes, which no right of
-/// `decide` or `execute` has, its text might be longer than that: nothing is put.
+/// bytes. Takes no memory. What `Denied` names is a right's name, as it is of each refusal of a
+/// desk: so its text fits.
 pub fn put_short(outcome: &Result<Answer, Refusal>, out: &mut Vec<u8>)
     requires short { is_short outcome.now ≡ true }
+    requires named { IfErr outcome.now (λ refusal. names_its_right refusal ≡ true) }
     requires room { vec_len out.old + 64 ≤ vec_capacity out.old }
-    ensures put { out.new.items ≡ out.old.items ++ short_text outcome.now }
+    ensures put { out.new.items ≡ out.old.items ++ text.outcome_text outcome.now }
     ensures short { vec_len out.new ≤ vec_len out.old + 64 }
 {
     match outcome {
         Ok(Answer::Created(id)) => put_created(out, *id),
         Ok(_) => put(out, "ok\n"),
-        Err(refusal) if is_short_refusal(refusal) => put_refusal(out, refusal),
-        Err(_) => (),
-    }
-}
-
-/// Whether a right that the refusal names is no longer than a right's name can be.
-fn is_short_refusal(refusal: &Refusal) -> bool
-    ensures { result ≡ short.is_short_refusal refusal.now }
-{
-    match refusal {
-        Refusal::Denied(right) => right.as_str().len() <= LONGEST_RIGHT,
-        _ => true,
+        Err(refusal) => put_refusal(out, refusal),
     }
 }
 
