@@ -1,15 +1,18 @@
 -- The counts of owners, with one request more.
 use Rattle.std.proofs.Common.{◌≡◌, ◌∙◌, ℕ, ◌+◌, ◌-◌, ◌^◌, ◌≤◌, ◌<◌, Bool, true, false, ◌||◌, ◌&&◌, cond}
 use Rattle.std.proofs.Common.{List, [], ◌∷◌, ◌++◌, filter, fold, length, map, Option, Some, None}
-use Rattle.std.proofs.Common.{get_or, take, refl, ap, ap₂, sym, arith, rules, Ordering, Less, Equal, Greater}
-use Rattle.std.specs.Prelude.{min, unwrap_or}
+use Rattle.std.proofs.Common.{get_or, take, refl, ap, ap₂, subst, sym, arith, rules, Ordering, Less, Equal}
+use Rattle.std.proofs.Common.{Greater, suc, zero}
+use Rattle.std.specs.Prelude.{IsSome, min, nat_lt, unwrap_or}
 use Rattle.std.specs.BTreeMap.{insert_entry, is_at}
 use Rattle.std.specs.BTreeSet.{insert_key}
 use Rattle.std.specs.Cmp.{IsTotalOrder}
 use Rattle.std.specs.Cmp.Lexicographic.{nat_list_cmp_total}
 use Rattle.std.specs.List.{AllByRecursion, list_any}
-use Rattle.std.specs.Map.{lookup}
+use Rattle.std.specs.List.Sorted.{IsStrictlySortedBy}
+use Rattle.std.specs.Map.{keys_of, lookup, set_value}
 use Rattle.std.specs.Ordering.{is_eq, is_lt, match_ordering, ordering_reverse}
+use Rattle.std.proofs.lemmas.Bool.{and_from, and_parts, lt-ltb, ltb-true}
 use Rattle.std.proofs.lemmas.List.Elements.{filter-append, filter_agree}
 use Rattle.std.proofs.lemmas.List.{length-append, length-map, length-take-le, map-append, take_more}
 use Rattle.settings_core.specs.declared.settings.Settings.{Settings}
@@ -19,7 +22,7 @@ use Rattle.desk_model.specs.declared.rows.QueueRow.{QueueRow}
 use Rattle.desk_model.specs.declared.rows.RequestRow.{RequestRow}
 use Rattle.desk_core.proofs.Rising.{Climbs, all_keyed_rise, climbs, orders_go_on}
 use Rattle.desk_reports.specs.Rows.{counted, counts_of, entries_of, live_among, no_counts}
-use Rattle.desk_reports.specs.Rows.{told_among, with_counts}
+use Rattle.desk_reports.specs.Rows.{numbers_rise, told_among, with_counts}
 use Rattle.desk_reports.specs.declared.load.Counts.{Counts}
 
 abbrev Owner : Type 0
@@ -31,6 +34,47 @@ owners_total = record {
   trans = λ x y z. search (rules, nat_list_cmp_total.trans);
   congr = λ x y z. search (rules, nat_list_cmp_total.congr);
 }
+
+-- ---- rows whose numbers rise
+
+-- from above a lower number too
+rise_from : (low n : ℕ) (rows : List (RequestRow × Option ℕ)) → low ≤ n
+    → numbers_rise n rows ≡ true → numbers_rise low rows ≡ true
+rise_from low n [] below rise = refl
+rise_from low n (dated ∷ rest) below rise =
+    let parts = and_parts (nat_lt n dated.0.id) (numbers_rise dated.0.id rest) rise in
+    let above = ltb-true n dated.0.id parts.0 in
+    and_from (nat_lt low dated.0.id) (numbers_rise dated.0.id rest)
+    (lt-ltb low dated.0.id (omega (arith, below, above))) parts.1
+
+-- with some taken away
+pub fewer_rise : (test : RequestRow × Option ℕ → Bool) (n : ℕ)
+    (rows : List (RequestRow × Option ℕ))
+    → numbers_rise n rows ≡ true → numbers_rise n (filter test rows) ≡ true
+fewer_rise test n [] rise = refl
+fewer_rise test n (dated ∷ rest) rise =
+    let parts = and_parts (nat_lt n dated.0.id) (numbers_rise dated.0.id rest) rise in
+    let above = ltb-true n dated.0.id parts.0 in
+    let kept = filter test rest in
+    let rises = fewer_rise test dated.0.id rest parts.1 in
+    elim (test dated) as (λ b. numbers_rise n (cond b (dated ∷ kept) kept) ≡ true) [
+      | true ↦ and_from (nat_lt n dated.0.id) (numbers_rise dated.0.id kept) parts.0 rises
+      | false ↦ rise_from n dated.0.id kept (omega (arith, above)) rises
+    ]
+
+-- a row's number is above its place
+pub above_place : (n : ℕ) (rows : List (RequestRow × Option ℕ)) (i : ℕ)
+    (d : RequestRow × Option ℕ)
+    → numbers_rise n rows ≡ true → i < length rows → n + i < (get_or rows i d).0.id
+above_place n [] i d rise low = absurd (omega (arith, low))
+above_place n (dated ∷ rest) zero d rise low =
+    let parts = and_parts (nat_lt n dated.0.id) (numbers_rise dated.0.id rest) rise in
+    omega (arith, ltb-true n dated.0.id parts.0)
+above_place n (dated ∷ rest) (suc i) d rise low =
+    let parts = and_parts (nat_lt n dated.0.id) (numbers_rise dated.0.id rest) rise in
+    let above = ltb-true n dated.0.id parts.0 in
+    let later = above_place dated.0.id rest i d parts.1 (omega (arith, low)) in
+    omega (arith, above, later)
 
 -- ---- owners that compare as one
 
@@ -328,6 +372,45 @@ counted_more at ts t small =
     (climbs (λ a b. is_lt (owner_order a b)) (owners ts) (orders_go_on owners_total)
     (all_keyed_rise owner_order owners_total (map (λ x. x.row.owner) ts) [] refl))
     ∙ ap (map (with_counts at more)) (sym (owners_more ts t))
+
+-- ---- an owner who is there
+
+apart_if_lower : (o : Ordering) → is_lt o ≡ true → is_eq o ≡ false
+apart_if_lower Less low = refl
+apart_if_lower Equal low = cc
+apart_if_lower Greater low = cc
+
+-- who comes before all isn't among them
+not_after : (k y : Owner) (es : List (Owner × Counts)) → is_lt (owner_order k y) ≡ true
+    → AllByRecursion (λ z. owner_order y z ≡ Less) (keys_of es)
+    → IsSome (lookup (is_at (owner_order k)) es) → ⊥
+not_after k y [] low above there = cc
+not_after k y (e ∷ es) low above there =
+    let lower = orders_go_on owners_total k y e.0 low (ap is_lt above.0) in
+    not_after k y es low above.1
+    (subst (λ (b : Bool). IsSome (cond b (Some e.1) (lookup (is_at (owner_order k)) es)))
+    (apart_if_lower (owner_order k e.0) lower) there)
+
+-- to write new counts of an owner who is there is to put them
+pub written_where_found : (k : Owner) (w : Counts) (es : List (Owner × Counts))
+    → IsStrictlySortedBy owner_order (keys_of es)
+    → IsSome (lookup (is_at (owner_order k)) es)
+    → set_value (is_at (owner_order k)) es w ≡ insert_entry owner_order es k w
+unfolding IsStrictlySortedBy
+written_where_found k w [] rise there = cc
+written_where_found k w (e ∷ es) rise there =
+    by (owner_order k e.0) refl there (written_where_found k w es rise.1)
+  where
+    by : (o : Ordering) → owner_order k e.0 ≡ o
+        → IsSome (cond (is_eq o) (Some e.1) (lookup (is_at (owner_order k)) es))
+        → (IsSome (lookup (is_at (owner_order k)) es)
+        → set_value (is_at (owner_order k)) es w ≡ insert_entry owner_order es k w)
+        → cond (is_eq o) ((e.0, w) ∷ es) (e ∷ set_value (is_at (owner_order k)) es w)
+        ≡ match_ordering o ((k, w) ∷ e ∷ es) ((e.0, w) ∷ es) (e ∷ insert_entry owner_order es k w)
+    by Less is found rest = absurd (not_after k e.0 es (ap is_lt is) rise.0 found)
+    by Equal is found rest = refl
+    by Greater is found rest =
+        ap (λ (entries : List (Owner × Counts)). e ∷ entries) (rest found)
 
 -- what is live among the rows, with one more
 pub live_more : (settings : Settings) (queues : List QueueRow)

@@ -1,6 +1,7 @@
 -- What the reports tell of rows.
-use Rattle.std.specs.Prelude.{◌≡◌, ℕ, ◌+◌, ◌-◌, ◌^◌, min, Bool, true, not, if◌then◌else◌}
-use Rattle.std.specs.Prelude.{List, filter, filter_map, find, map, Option, Some, None}
+use Rattle.std.specs.Prelude.{◌≡◌, ℕ, ◌+◌, ◌-◌, ◌^◌, min, Bool, true, not, ◌&&◌, if◌then◌else◌}
+use Rattle.std.specs.Prelude.{nat_lt, List, [], ◌∷◌, filter, filter_map, find, map, Option, Some}
+use Rattle.std.specs.Prelude.{None}
 use Rattle.std.specs.Prelude.{option_and_then}
 use Rattle.std.specs.List.Sorted.{IsNonDecreasingBy}
 use Rattle.std.specs.Str.{bytes_eq}
@@ -27,6 +28,15 @@ QueuesRise queues = is_rising has_lower_name queues ≡ true
 -- the watches stand in the order of their requests
 abbrev pub WatchesRise : List Watcher → Type 0
 WatchesRise watches = IsNonDecreasingBy (λ w. w.id) watches
+
+-- the numbers of the rows rise, the first from above this one
+abbrev pub numbers_rise : ℕ → List (RequestRow × Option ℕ) → Bool
+numbers_rise last [] = true
+numbers_rise last (dated ∷ rest) = nat_lt last dated.0.id && numbers_rise dated.0.id rest
+
+-- the rows stand in the order of their numbers, each once, and none is 0
+abbrev pub RowsRise : List (RequestRow × Option ℕ) → Type 0
+RowsRise rows = numbers_rise 0 rows ≡ true
 
 -- the queue of that name, if it is among these
 abbrev pub queue_among : List QueueRow → List ℕ → Option QueueRow

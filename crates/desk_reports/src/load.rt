@@ -1,11 +1,11 @@
 //! What each owner has to do.
-ghost use Rattle.std.specs.Prelude.{◌≡◌, ◌<◌, ◌^◌, false, length, map, nat_lt};
+ghost use Rattle.std.specs.Prelude.{◌≡◌, ◌<◌, ◌^◌, false, map, nat_lt};
 ghost use Rattle.std.specs.Prelude.{IfOk, OnOk, unwrap_or};
 ghost use Rattle.std.specs.BTreeMap.{get, insert_entry};
 ghost use Rattle.std.specs.Option.{option_map, option_map_or};
 ghost use Rattle.desk_model.specs.Readings.Workload.{owner_order};
-ghost use Rattle.desk_reports.specs.Rows.{QueuesRise, counted, entries_of, is_live, live_among};
-ghost use Rattle.desk_reports.specs.Rows.{load_in, loads_by, no_counts};
+ghost use Rattle.desk_reports.specs.Rows.{QueuesRise, RowsRise, counted, entries_of, is_live};
+ghost use Rattle.desk_reports.specs.Rows.{live_among, load_in, loads_by, no_counts};
 
 use crate::queues::queue_named;
 use desk_model::lifecycles::is_inactive;
@@ -28,7 +28,7 @@ type Owners = BTreeMap<Option<Text>, Counts>;
 
 /// What each owner has of the rows that aren't inactive, and how much of it was due before the
 /// moment: nobody first, then in the order of the names. The queues stand in the order of their
-/// names. `AllocError` where memory is refused.
+/// names, and the rows in the order of their numbers. `AllocError` where memory is refused.
 pub(crate) fn loads(
     alloc: Global,
     at: u32,
@@ -36,7 +36,7 @@ pub(crate) fn loads(
     queues: &[QueueRow],
     rows: &[(RequestRow, Option<Minute>)],
 ) -> Result<Vec<Load>, AllocError>
-    ensures { QueuesRise queues.now → length rows.now < 2 ^ 32
+    ensures { QueuesRise queues.now → RowsRise rows.now
         → IfOk result (λ loads. loads.items ≡ loads_by at settings.now queues.now rows.now) }
 {
     let owners = owners_of(alloc, at, settings, queues, rows)?;
@@ -72,12 +72,14 @@ fn owners_of(
     queues: &[QueueRow],
     rows: &[(RequestRow, Option<Minute>)],
 ) -> Result<Owners, AllocError>
-    ensures { QueuesRise queues.now → length rows.now < 2 ^ 32
+    ensures { QueuesRise queues.now → RowsRise rows.now
         → IfOk result (λ owners. owners.entries
         ≡ entries_of at (live_among settings.now queues.now rows.now)) }
 {
     let mut owners = BTreeMap::new(alloc);
     for (row, due) in rows {
+        // rows whose numbers rise are no more than there are numbers, so no count is too great
+        let _number = number_of(row);
         let queue = queue_named(queues, &row.queue);
         if is_live(settings, queue, row) {
             count(&mut owners, &row.owner, is_late(at, due))?;
@@ -86,22 +88,37 @@ fn owners_of(
     Ok(owners)
 }
 
+/// The number of a request, which has 32 bits.
+fn number_of(row: &RequestRow) -> u32
+    ensures is { result ≡ row.now.id }
+    ensures fits { result < 2 ^ 32 }
+{
+    row.id
+}
+
 /// Counts one request more of an owner.
 fn count(owners: &mut Owners, owner: &Option<Text>, is_late: bool) -> Result<(), AllocError>
     ensures { OnOk result (owners.new.entries
         ≡ insert_entry owner_order owners.old.entries owner.now
         (counted is_late (unwrap_or (get owner_order owners.old owner.now) no_counts))) }
 {
-    let before = match owners.get(owner) {
-        Some(counts) => *counts,
-        None => Counts {
-            live: 0,
-            overdue: 0,
-        },
-    };
-    owners.insert(owner.clone()?, before.with(is_late))?;
-    Ok(())
+    match owners.get_mut(owner) {
+        Some(counts) => {
+            *counts = counts.with(is_late);
+            Ok(())
+        }
+        None => {
+            owners.insert(owner.clone()?, NO_COUNTS.with(is_late))?;
+            Ok(())
+        }
+    }
 }
+
+/// The counts of an owner of nothing.
+const NO_COUNTS: Counts = Counts {
+    live: 0,
+    overdue: 0,
+};
 
 impl Counts {
     /// With one request more, late or not.

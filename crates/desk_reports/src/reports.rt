@@ -3,8 +3,8 @@
 //! Each is told of rows, with their due moments, to a person, whose watches are handed in, in the
 //! order of their requests. Queues stand in the order of their names.
 ghost use Rattle.std.specs.Prelude.{◌≡◌, IfOk};
-ghost use Rattle.desk_reports.specs.Rows.{QueuesRise, WatchesRise, late_lines_shown, lines_shown};
-ghost use Rattle.desk_reports.specs.Rows.{loads_by, shown_by};
+ghost use Rattle.desk_reports.specs.Rows.{QueuesRise, RowsRise, WatchesRise, late_lines_shown};
+ghost use Rattle.desk_reports.specs.Rows.{lines_shown, loads_by, shown_by};
 
 use crate::late::late_lines;
 use crate::lines::lines_of;
@@ -52,8 +52,8 @@ pub fn overdue(
 }
 
 /// What each owner has of the requests that the person may show and that aren't inactive, and how
-/// much of it was due before the moment: nobody first, then in the order of the names. `AllocError`
-/// where memory is refused, or where there are more rows than there are numbers for requests.
+/// much of it was due before the moment: nobody first, then in the order of the names. The rows
+/// stand in the order of their numbers. `AllocError` where memory is refused.
 pub fn workload(
     alloc: Global,
     at: u32,
@@ -63,16 +63,10 @@ pub fn workload(
     queues: &[QueueRow],
     rows: Vec<(RequestRow, Option<Minute>)>,
 ) -> Result<Sequence<Load>, AllocError>
-    ensures { WatchesRise watches.now → QueuesRise queues.now
+    ensures { WatchesRise watches.now → QueuesRise queues.now → RowsRise rows.items
         → IfOk result (λ told. told ≡ loads_by at settings.now queues.now
         (shown_by settings.now person.now watches.now rows.items)) }
 {
     let shown = shown(settings, person, watches, rows);
-    if shown.len() > MOST_REQUESTS {
-        return Err(AllocError);
-    }
     Ok(Sequence::from(loads(alloc, at, settings, queues, shown.as_slice())?))
 }
-
-/// The greatest number that a request can have.
-const MOST_REQUESTS: usize = 4_294_967_295;

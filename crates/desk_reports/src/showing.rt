@@ -2,7 +2,7 @@
 ghost use Rattle.std.specs.Prelude.{◌≡◌, ℕ, List};
 ghost use Rattle.desk_model.specs.Watchers as watchers;
 ghost use Rattle.desk_model.specs.declared.rows.WatchRole.{WatchRole};
-ghost use Rattle.desk_reports.specs.Rows.{WatchesRise, shown_by};
+ghost use Rattle.desk_reports.specs.Rows.{RowsRise, WatchesRise, shown_by};
 
 use desk_model::{RequestRow, Watcher, may_show};
 use hours_core::Minute;
@@ -16,8 +16,9 @@ pub(crate) fn shown(
     watches: &[Watcher],
     mut rows: Vec<(RequestRow, Option<Minute>)>,
 ) -> Vec<(RequestRow, Option<Minute>)>
-    ensures { WatchesRise watches.now
+    ensures shown { WatchesRise watches.now
         → result.items ≡ shown_by settings.now person.now watches.now rows.items }
+    ensures rise { WatchesRise watches.now → RowsRise rows.items → RowsRise result.items }
 {
     rows.retain(|dated| is_shown(settings, person, watches, &dated.0));
     rows

@@ -14,12 +14,12 @@ loads_told at ts (owner ∷ owners) =
     ap (λ (loads : List Load). load_of at ts owner ∷ loads) (loads_told at ts owners)
 
 pub returns : goal.returns
-returns c rise small =
+returns c rise numbered =
     let ts = live_among c.args.settings.now c.args.queues.now c.args.rows.now in
     IfOk-weaker c.told.result
     (λ loads. loads.items ≡ map load_in c.in_ok-owners.owners.entries)
     (λ loads. loads.items
     ≡ loads_by c.args.at c.args.settings.now c.args.queues.now c.args.rows.now)
-    (λ loads told. told ∙ ap (map load_in) (c.in_ok-owners.ensures rise small)
+    (λ loads told. told ∙ ap (map load_in) (c.in_ok-owners.ensures rise numbered)
     ∙ loads_told c.args.at ts (owners ts))
     c.told.ensures

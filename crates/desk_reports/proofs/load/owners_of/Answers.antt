@@ -1,19 +1,19 @@
 -- one row more is counted, where its status isn't inactive
-use Rattle.std.proofs.Common.{◌≡◌, ◌∙◌, ◌+◌, ◌++◌, [], ◌∷◌, ap, append-nil, arith, cond}
-use Rattle.std.proofs.Common.{sym, take}
+use Rattle.std.proofs.Common.{◌≡◌, ◌∙◌, ℕ, ◌+◌, ◌<◌, ◌^◌, ◌++◌, [], ◌∷◌, ap, append-nil, arith}
+use Rattle.std.proofs.Common.{cond, Option, subst, sym, take}
 use Rattle.std.specs.Prelude.{unwrap_or}
 use Rattle.std.specs.BTreeMap.{insert_entry, is_at}
 use Rattle.std.specs.Map.{lookup}
 use Rattle.desk_model.specs.Readings.Workload.{owner_order}
-use Rattle.desk_model.specs.Told.{is_late}
+use Rattle.desk_model.specs.declared.rows.RequestRow.{RequestRow}
 use Rattle.desk_reports.specs.Rows.{counted, entries_of, is_live, live_among, no_counts}
 use Rattle.desk_reports.specs.Rows.{told_among}
-use Rattle.desk_reports.proofs.LoadLemmas.{counted_more, live_fewer, live_more}
+use Rattle.desk_reports.proofs.LoadLemmas.{above_place, counted_more, live_fewer, live_more}
 use Rattle.desk_reports.proofs.load.owners_of.Goals as goal
 use Rattle.desk_reports.proofs.load.owners_of.Goals.{then-is_live+in_ok-count, else-is_live}
 
 pub loop-row-preserved : goal.loop-row-preserved
-loop-row-preserved c rise small =
+loop-row-preserved c rise numbered =
     let at = c.args.at in
     let settings = c.args.settings.now in
     let queues = c.args.queues.now in
@@ -26,7 +26,12 @@ loop-row-preserved c rise small =
     let few = live_fewer settings queues rows i (omega (arith, c.loop-row-test.true)) in
     let grown = live_more settings queues rows i row c.loop-row-test.true c.loop-row-item.is in
     let named = c.queue_named-queue.ensures rise in
-    let so_far = c.loop-row.invariant rise small in
+    let so_far = c.loop-row.invariant rise numbered in
+    let above : 0 + i < row.0.id =
+    subst (λ (d : RequestRow × Option ℕ). 0 + i < d.0.id) (sym c.loop-row-item.is)
+    (above_place 0 rows i row numbered c.loop-row-test.true) in
+    let fits : row.0.id < 2 ^ 32 = subst (λ n. n < 2 ^ 32) c.number_of-number.ensures.is
+    c.number_of-number.ensures.fits in
     let lives : c.is_live.result ≡ t.is_live =
     c.is_live.ensures ∙ ap (λ q. is_live settings q row.0) named in
     elim c.if-is_live.branch [
@@ -38,7 +43,7 @@ loop-row-preserved c rise small =
           ∙ ap (λ b. insert_entry owner_order (entries_of at before) owner (counted b
           (unwrap_or (lookup (is_at (owner_order owner)) (entries_of at before)) no_counts)))
           w.is_late.ensures
-          ∙ counted_more at before t (omega (arith, few, small, c.loop-row-test.true))
+          ∙ counted_more at before t (omega (arith, few, above, fits))
           ∙ ap (entries_of at) (sym (grown
           ∙ ap (λ b. before ++ cond b (t ∷ []) []) (sym lives ∙ w.if-is_live.true)))
       | else-is_live w ↦
