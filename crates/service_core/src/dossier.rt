@@ -80,7 +80,7 @@ fn look<S: Backend>(
     show: &Command,
 ) -> Result<Dossier, Refusal>
     requires shows { show.now ≡ Command.Show id }
-    requires free { refusal_beforehand call.entry.settings.now call.entry.at call.entry.caller.now
+    requires free { refusal_beforehand call.settings.now call.at call.caller.now
         show.now ≡ None }
     ensures told { DossierOn call.entry.settings.now call.entry.at call.entry.caller.now id result
         (state_of S.Store store.old) (state_of S.Store store.new) }
@@ -107,7 +107,7 @@ fn judged<S: Backend>(
     facts: &Facts,
 ) -> Result<Dossier, Refusal>
     requires shows { show.now ≡ Command.Show id }
-    requires free { refusal_beforehand call.entry.settings.now call.entry.at call.entry.caller.now
+    requires free { refusal_beforehand call.settings.now call.at call.caller.now
         show.now ≡ None }
     ensures told { DossierWhere (λ desk. facts.now ≡ facts_on_request desk id)
         call.entry.settings.now call.entry.at call.entry.caller.now id result

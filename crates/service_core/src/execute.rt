@@ -72,7 +72,7 @@ fn step<S: Backend>(
     call: Call<'_>,
     command: &Command,
 ) -> Result<Answer, Refusal>
-    requires { refusal_beforehand call.entry.settings.now call.entry.at call.entry.caller.now
+    requires { refusal_beforehand call.settings.now call.at call.caller.now
         command.now ≡ None }
     ensures { StepsSafely (StepsOn call.entry.settings.now (asked call.entry command.now))
         (state_of S.Store store.old) (state_of S.Store store.new) result }
@@ -95,7 +95,7 @@ fn step_seeing<S: Backend>(
     command: &Command,
     facts: &Facts,
 ) -> Result<Answer, Refusal>
-    requires { refusal_beforehand call.entry.settings.now call.entry.at call.entry.caller.now
+    requires { refusal_beforehand call.settings.now call.at call.caller.now
         command.now ≡ None }
     ensures { StepsSafely
         (StepsSeeing facts.now call.entry.settings.now (asked call.entry command.now))

@@ -101,7 +101,7 @@ fn put_if_admitted<S: Backend, W: Write>(
     output: &mut CountedWriter<'_, W>,
 ) -> Result<(), StreamFault>
     requires ready { has_write_failed output.old ≡ false }
-    requires free { refusal_beforehand call.entry.settings.now call.entry.at call.entry.caller.now
+    requires free { refusal_beforehand call.settings.now call.at call.caller.now
         command.now ≡ None }
     ensures same_writer { HaveOneWriter output.new output.old }
     ensures streamed { StreamsSafely
@@ -121,7 +121,7 @@ fn admit<S: Backend>(
     call: Call<'_>,
     command: &Command,
 ) -> Result<(), Refusal>
-    requires { refusal_beforehand call.entry.settings.now call.entry.at call.entry.caller.now
+    requires { refusal_beforehand call.settings.now call.at call.caller.now
         command.now ≡ None }
     ensures admitted { Admits call.entry.settings.now (asked call.entry command.now) result
         (state_of S.Store store.old) (state_of S.Store store.new) }
@@ -140,7 +140,7 @@ fn admit_seeing(
     command: &Command,
     facts: &Facts,
 ) -> Result<(), Refusal>
-    requires { refusal_beforehand call.entry.settings.now call.entry.at call.entry.caller.now
+    requires { refusal_beforehand call.settings.now call.at call.caller.now
         command.now ≡ None }
     ensures { (desk : desks.Desk) → facts.now ≡ facts_of command.now desk
         → IsAdmitted call.entry.settings.now (asked call.entry command.now) desk result }
