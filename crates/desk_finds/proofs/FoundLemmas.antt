@@ -49,9 +49,9 @@ use Rattle.store_tables.specs.Contents.{request_rows}
 use Rattle.store_tables.specs.Contents.Request.{dated_by, is_filed_in}
 use Rattle.store_core.specs.Due.{due_of_row}
 use Rattle.store_core.specs.Rows.{dated_rows}
-use Rattle.desk_lists.proofs.Reported.{Alike, HaveDues, have_dues, requestors_alike, shows_alike}
-use Rattle.desk_lists.proofs.Reported.{watches_on}
-use Rattle.desk_reports.specs.Rows.{QueuesRise}
+use Rattle.desk_reports.proofs.Reported.{Alike, HaveDues, have_dues, requestors_alike, shows_alike}
+use Rattle.desk_reports.proofs.Reported.{watches_on}
+use Rattle.report_core.specs.Rows.{QueuesRise}
 use Rattle.desk_finds.specs.Found.{ArePart, asked_on, dated_on, found_of, met_on, placed_by, theirs_on}
 use Rattle.desk_finds.specs.Found.{is_by_last, looks_inside, told_at}
 

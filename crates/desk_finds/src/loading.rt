@@ -9,7 +9,7 @@ ghost use Rattle.store_core.specs.Seen.{state_of};
 
 use crate::reading::asked;
 use desk_core::{QueueRow, Refusal};
-use desk_lists::or_unavailable;
+use desk_reports::or_unavailable;
 use find_core::{QueueLoad, open_ones, queues_seen};
 use settings_core::Settings;
 use std::alloc::Global;

@@ -10,7 +10,7 @@ ghost use Rattle.store_core.specs.Seen.{state_of};
 ghost use Rattle.desk_finds.specs.Found.{ArePart, asked_on, theirs_on, told_at};
 
 use desk_core::{Command, Entry, Facts, Refusal, RequestRow, Watcher};
-use desk_lists::or_unavailable;
+use desk_reports::or_unavailable;
 use find_core::{Search, asked_rows, told};
 use hours_core::Minute;
 use settings_core::Settings;

@@ -17,8 +17,8 @@ use Rattle.desk_model.specs.Desk.{Desk}
 use Rattle.desk_model.specs.IsDesk.{IsDesk}
 use Rattle.desk_model.specs.Known.{is_known}
 use Rattle.desk_model.specs.Step.{Ask, Outcome, Steps}
-use Rattle.desk_lists.specs.declared.fault.StreamFault.{StreamFault}
-use Rattle.desk_lists.specs.declared.fault.StreamFault.TheVariants.{Refused, Write}
+use Rattle.desk_reports.specs.declared.fault.StreamFault.{StreamFault}
+use Rattle.desk_reports.specs.declared.fault.StreamFault.TheVariants.{Refused, Write}
 use Rattle.desk_texts.specs.Texts.{outcome_text, refusal_text}
 use Rattle.service_core.specs.Streaming.{IsStreamed}
 use Rattle.service_core.specs.TableSteps.{LeadsOn, StepsOn, ask_by}

@@ -1,2 +1,4 @@
-mod Halves
-mod LoadLemmas
+pub mod LateLemmas
+pub mod PrintedLemmas
+pub mod Reported
+pub mod ShownLemmas

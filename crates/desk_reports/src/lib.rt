@@ -1,16 +1,14 @@
-//! What reports tell of rows: of the requests, of the queues, and of the watches of who reads them.
+//! What lists and reports tell of the tables: whole, or row by row to a writer.
 //!
-//! Nothing here reads a table. Rows are handed in, and what isn't told of them goes.
+//! Rows are read by `store_core`, told by `report_core` and put into words by `desk_texts`.
 #![tactic(auto)]
 
-mod late;
+mod fault;
 mod lines;
-mod load;
-mod queues;
 mod reports;
-mod showing;
+mod rows;
+mod stream;
 
-pub use late::late_line_shown;
-pub use lines::line_shown;
-pub use queues::queue_named;
+pub use fault::{StreamFault, or_unavailable, unavailable};
 pub use reports::{list, overdue, workload};
+pub use stream::{stream_list, stream_overdue};

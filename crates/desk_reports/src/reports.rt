@@ -1,72 +1,88 @@
-//! The three reports: a queue's list, the requests that are late, and the workload.
-//!
-//! Each is told of rows, with their due moments, to a person, whose watches are handed in, in the
-//! order of their requests. Queues stand in the order of their names.
-ghost use Rattle.std.specs.Prelude.{◌≡◌, IfOk};
-ghost use Rattle.desk_reports.specs.Rows.{QueuesRise, RowsRise, WatchesRise, late_lines_shown};
-ghost use Rattle.desk_reports.specs.Rows.{lines_shown, loads_by, shown_by};
+//! What the commands that report answer, of the tables: the rows are read here, and told by
+//! `report_core`.
+ghost use Rattle.std.specs.Prelude.{◌≡◌, IfErr, filter};
+ghost use Rattle.desk_model.specs.Readings.Listing as listing;
+ghost use Rattle.desk_model.specs.Readings.Overdue as overdue;
+ghost use Rattle.desk_model.specs.Readings.Workload as workload;
+ghost use Rattle.desk_model.specs.Told as reports;
+ghost use Rattle.store_tables.specs.Calls.{Spares};
+ghost use Rattle.store_core.specs.Due.{TellsDue};
+ghost use Rattle.store_core.specs.Seen.{state_of};
 
-use crate::late::late_lines;
-use crate::lines::lines_of;
-use crate::load::loads;
-use crate::showing::shown;
-use desk_model::{LateLine, Line, Load, QueueRow, RequestRow, Watcher};
-use hours_core::Minute;
+use crate::fault::or_unavailable;
+use desk_core::{LateLine, Line, Load, Refusal};
 use settings_core::Settings;
-use std::alloc::{AllocError, Global};
-use text_core::Sequence;
+use std::alloc::Global;
+use store_core::{Backend, Store};
+use text_core::{Sequence, Text};
 
-/// The list of a queue, of the rows of its requests: a line for each that the person may show, in
-/// the order of the rows. `AllocError` where memory is refused.
-pub fn list(
+/// A line for each request of the queue that the caller may show, with the due moments that the
+/// tables keep. `Unavailable` where memory or the store refused. The tables stay as they are.
+#[tactic(auto, using(store_tables::proofs::Spared::joined, store_tables::proofs::Spared::stands))]
+pub fn list<S: Backend>(
     alloc: Global,
+    store: &mut Store<S>,
     settings: &Settings,
-    person: &str,
-    watches: &[Watcher],
-    rows: Vec<(RequestRow, Option<Minute>)>,
-) -> Result<Sequence<Line>, AllocError>
-    ensures { WatchesRise watches.now
-        → IfOk result (λ lines. lines
-        ≡ lines_shown settings.now person.now watches.now rows.items) }
+    caller: &str,
+    queue: &Text,
+) -> Result<Sequence<Line>, Refusal>
+    ensures told { TellsDue settings.now (λ desk lines. lines
+        ≡ listing.lines_of queue.now (reports.told settings.now caller.now desk))
+        (state_of S.Store store.old) (state_of S.Store store.new) result }
+    ensures kept { Spares (state_of S.Store store.old) (state_of S.Store store.new) }
+    ensures fault { IfErr result (λ refusal. refusal ≡ Refusal.Unavailable) }
 {
-    let lines = lines_of(alloc, settings, person, watches, rows)?;
-    Ok(Sequence::from(lines))
+    let watches = or_unavailable(store.watches_of(alloc, caller))?;
+    let rows = or_unavailable(store.dated_requests_of(alloc, queue))?;
+    let own = watches.as_slice();
+    let lines = report_core::list(alloc, settings, caller, own, rows)?;
+    Ok(lines)
 }
 
-/// A line for each request that the person may show and that was due before the moment, in the
-/// order of the rows. `AllocError` where memory is refused.
-pub fn overdue(
+/// A line for each request that the caller may show and that was due before the moment, by the due
+/// moments that the tables keep. `Unavailable` where memory or the store refused. The tables stay
+/// as they are.
+#[tactic(auto, using(store_tables::proofs::Spared::joined, store_tables::proofs::Spared::stands))]
+pub fn overdue<S: Backend>(
     alloc: Global,
-    at: u32,
+    store: &mut Store<S>,
     settings: &Settings,
-    person: &str,
-    watches: &[Watcher],
-    rows: Vec<(RequestRow, Option<Minute>)>,
-) -> Result<Sequence<LateLine>, AllocError>
-    ensures { WatchesRise watches.now
-        → IfOk result (λ lines. lines
-        ≡ late_lines_shown at settings.now person.now watches.now rows.items) }
+    at: u32,
+    caller: &str,
+) -> Result<Sequence<LateLine>, Refusal>
+    ensures told { TellsDue settings.now
+        (λ desk lines. lines ≡ overdue.lines_of at (reports.told settings.now caller.now desk))
+        (state_of S.Store store.old) (state_of S.Store store.new) result }
+    ensures kept { Spares (state_of S.Store store.old) (state_of S.Store store.new) }
+    ensures fault { IfErr result (λ refusal. refusal ≡ Refusal.Unavailable) }
 {
-    let lines = late_lines(alloc, at, settings, person, watches, rows)?;
-    Ok(Sequence::from(lines))
+    let watches = or_unavailable(store.watches_of(alloc, caller))?;
+    let rows = or_unavailable(store.requests_due_before(alloc, at))?;
+    let own = watches.as_slice();
+    let lines = report_core::overdue(alloc, at, settings, caller, own, rows)?;
+    Ok(lines)
 }
 
-/// What each owner has of the requests that the person may show and that aren't inactive, and how
-/// much of it was due before the moment: nobody first, then in the order of the names. The rows
-/// stand in the order of their numbers. `AllocError` where memory is refused.
-pub fn workload(
+/// What each owner has of the requests that the caller may show, by the due moments that the tables
+/// keep. `Unavailable` where memory or the store refused. The tables stay as they are.
+#[tactic(auto, using(store_tables::proofs::Spared::joined, store_tables::proofs::Spared::stands))]
+pub fn workload<S: Backend>(
     alloc: Global,
-    at: u32,
+    store: &mut Store<S>,
     settings: &Settings,
-    person: &str,
-    watches: &[Watcher],
-    queues: &[QueueRow],
-    rows: Vec<(RequestRow, Option<Minute>)>,
-) -> Result<Sequence<Load>, AllocError>
-    ensures { WatchesRise watches.now → QueuesRise queues.now → RowsRise rows.items
-        → IfOk result (λ told. told ≡ loads_by at settings.now queues.now
-        (shown_by settings.now person.now watches.now rows.items)) }
+    at: u32,
+    caller: &str,
+) -> Result<Sequence<Load>, Refusal>
+    ensures told { TellsDue settings.now (λ desk loads. loads ≡ workload.loads at
+        (filter (λ r. r.is_live) (reports.told settings.now caller.now desk)))
+        (state_of S.Store store.old) (state_of S.Store store.new) result }
+    ensures kept { Spares (state_of S.Store store.old) (state_of S.Store store.new) }
+    ensures fault { IfErr result (λ refusal. refusal ≡ Refusal.Unavailable) }
 {
-    let shown = shown(settings, person, watches, rows);
-    Ok(Sequence::from(loads(alloc, at, settings, queues, shown.as_slice())?))
+    let watches = or_unavailable(store.watches_of(alloc, caller))?;
+    let queues = or_unavailable(store.queues(alloc))?;
+    let rows = or_unavailable(store.dated_requests(alloc))?;
+    let (watches, queues) = (watches.as_slice(), queues.as_slice());
+    let loads = report_core::workload(alloc, at, settings, caller, watches, queues, rows)?;
+    Ok(loads)
 }

@@ -14,7 +14,7 @@ use Rattle.desk_model.specs.declared.rows.QueueRow.{QueueRow}
 use Rattle.desk_model.specs.declared.rows.RequestRow.{RequestRow}
 use Rattle.desk_model.specs.declared.rows.Watcher.{Watcher}
 use Rattle.desk_model.specs.declared.rows.WatchRole.TheVariants.{Requestor}
-use Rattle.desk_reports.specs.Rows.{queue_among}
+use Rattle.report_core.specs.Rows.{queue_among}
 use Rattle.find_core.specs.Conditions.{has_owner, has_status, is_due, is_filed, is_in, texts_sought}
 use Rattle.find_core.specs.Find.{class_in, last_of, replies_of, sight_in}
 use Rattle.find_core.specs.Places.{place_in}

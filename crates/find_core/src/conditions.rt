@@ -3,16 +3,16 @@ ghost use Rattle.std.specs.Prelude.{◌≡◌, true, Some, filter, nat_le, nat_l
 ghost use Rattle.std.specs.Option.{option_map, option_map_or};
 ghost use Rattle.desk_model.specs.Due.{is_live_class};
 ghost use Rattle.desk_model.specs.Lifecycles.{is_inactive_class};
-ghost use Rattle.desk_reports.specs.Rows.{QueuesRise};
+ghost use Rattle.report_core.specs.Rows.{QueuesRise};
 ghost use Rattle.find_core.specs.Conditions as conditions;
 ghost use Rattle.find_core.specs.Find.{class_in};
 ghost use Rattle.find_core.specs.Rows as judged;
 
 use crate::search::{OwnerAsked, Search, StatusAsked};
 use desk_core::{QueueRow, RequestRow, WatchRole, Watcher, is_role, may_show};
-use desk_reports::queue_named;
 use hours_core::Minute;
 use lifecycle_core::Class;
+use report_core::queue_named;
 use settings_core::Settings;
 use text_core::Text;
 

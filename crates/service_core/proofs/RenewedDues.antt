@@ -16,7 +16,7 @@ use Rattle.desk_model.specs.declared.rows.QueueRow.{QueueRow}
 use Rattle.desk_model.specs.declared.rows.RequestRow.{RequestRow}
 use Rattle.desk_core.proofs.EachRequest.{each_both, each_so, numbers_lie}
 use Rattle.sqlite.specs.State.{State}
-use Rattle.desk_reports.specs.Rows.{QueuesRise}
+use Rattle.report_core.specs.Rows.{QueuesRise}
 use Rattle.store_tables.specs.Contents.{Contents, contents_of, request_rows}
 use Rattle.store_tables.specs.Contents.Request.{Dated, dated_by, due_but, dues_but}
 use Rattle.store_tables.specs.Stands.{Stand}

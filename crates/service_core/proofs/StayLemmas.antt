@@ -17,7 +17,7 @@ use Rattle.desk_model.specs.Desk.{Desk, Request}
 use Rattle.desk_model.specs.Facts.{stays_at}
 use Rattle.desk_model.specs.IsDesk.{IsDesk, are_numbered}
 use Rattle.desk_model.specs.Stays.{stays_of}
-use Rattle.desk_lists.proofs.Reported.{not_falling}
+use Rattle.desk_reports.proofs.Reported.{not_falling}
 use Rattle.store_tables.specs.Contents.Stay.{request_stay, stay_rows, stay_rows_from}
 use Rattle.service_core.specs.Renewing.{AreApart, StaysRise, all_stays, stays_among}
 

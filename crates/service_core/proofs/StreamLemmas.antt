@@ -9,9 +9,9 @@ use Rattle.desk_model.specs.IsDesk.{IsDesk}
 use Rattle.desk_model.specs.Step.{Ask, answer_of, guard}
 use Rattle.desk_model.specs.declared.refusal.Refusal.{Refusal}
 use Rattle.desk_model.specs.declared.refusal.Refusal.TheVariants.{Unavailable}
-use Rattle.desk_lists.specs.Streams.{IsCutBy, IsPrintedOf}
-use Rattle.desk_lists.specs.declared.fault.StreamFault.{StreamFault}
-use Rattle.desk_lists.specs.declared.fault.StreamFault.TheVariants.{Refused, Write}
+use Rattle.desk_reports.specs.Streams.{IsCutBy, IsPrintedOf}
+use Rattle.desk_reports.specs.declared.fault.StreamFault.{StreamFault}
+use Rattle.desk_reports.specs.declared.fault.StreamFault.TheVariants.{Refused, Write}
 use Rattle.desk_texts.specs.Texts.{answer_text}
 use Rattle.stream_core.specs.Seen.{has_write_failed, held_in}
 use Rattle.stream_core.specs.Written.{IsWritten, Prints, WritesOn}

@@ -11,8 +11,8 @@ use Rattle.desk_model.specs.Step.{Ask, Outcome, outcome_of}
 use Rattle.desk_model.specs.declared.answer.Answer.{Answer}
 use Rattle.desk_model.specs.declared.refusal.Refusal.TheVariants.{Unavailable}
 use Rattle.desk_texts.specs.Texts.{answer_text}
-use Rattle.desk_lists.specs.declared.fault.StreamFault.{StreamFault}
-use Rattle.desk_lists.specs.declared.fault.StreamFault.TheVariants.{Refused, Write}
+use Rattle.desk_reports.specs.declared.fault.StreamFault.{StreamFault}
+use Rattle.desk_reports.specs.declared.fault.StreamFault.TheVariants.{Refused, Write}
 use Rattle.stream_core.specs.Written.{IsWritten}
 use Rattle.service_core.specs.Alike.{IsWhole, WritesAlike}
 use Rattle.service_core.specs.Streaming.{IsStreamed, is_write}

@@ -11,8 +11,8 @@ use Rattle.desk_model.specs.IsDesk.{IsDesk}
 use Rattle.desk_model.specs.Step.{Ask, Outcome}
 use Rattle.desk_model.specs.View.{view}
 use Rattle.desk_model.specs.declared.refusal.Refusal.TheVariants.{Unavailable}
-use Rattle.desk_lists.specs.declared.fault.StreamFault.{StreamFault}
-use Rattle.desk_lists.specs.declared.fault.StreamFault.TheVariants.{Refused, Write}
+use Rattle.desk_reports.specs.declared.fault.StreamFault.{StreamFault}
+use Rattle.desk_reports.specs.declared.fault.StreamFault.TheVariants.{Refused, Write}
 use Rattle.store_core.specs.Due.{StandsDue}
 use Rattle.stream_core.specs.Written.{IsWritten}
 use Rattle.service_core.specs.Streaming.{StreamsOn, is_write}

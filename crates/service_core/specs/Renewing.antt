@@ -11,7 +11,7 @@ use Rattle.desk_model.specs.Due.{due_of, due_on}
 use Rattle.desk_model.specs.IsDesk.{IsDesk}
 use Rattle.desk_model.specs.declared.rows.QueueRow.{QueueRow}
 use Rattle.desk_model.specs.declared.rows.RequestRow.{RequestRow}
-use Rattle.desk_reports.specs.Rows.{queue_among}
+use Rattle.report_core.specs.Rows.{queue_among}
 use Rattle.store_tables.specs.Contents.{contents_of}
 use Rattle.store_tables.specs.Contents.Request.{Dated}
 use Rattle.store_tables.specs.Contents.Stay.{request_stay, stays}

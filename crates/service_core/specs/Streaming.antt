@@ -9,8 +9,8 @@ use Rattle.desk_model.specs.Step.{Ask, guard}
 use Rattle.desk_model.specs.declared.answer.Answer.{Answer}
 use Rattle.desk_model.specs.declared.refusal.Refusal.{Refusal}
 use Rattle.desk_model.specs.declared.refusal.Refusal.TheVariants.{Unavailable}
-use Rattle.desk_lists.specs.declared.fault.StreamFault.{StreamFault}
-use Rattle.desk_lists.specs.declared.fault.StreamFault.TheVariants.{Refused, Write}
+use Rattle.desk_reports.specs.declared.fault.StreamFault.{StreamFault}
+use Rattle.desk_reports.specs.declared.fault.StreamFault.TheVariants.{Refused, Write}
 use Rattle.desk_texts.specs.Texts.{answer_text}
 use Rattle.store_core.specs.Due.{StandsDue}
 use Rattle.store_tables.specs.Calls.{Spares}

@@ -11,7 +11,7 @@ ghost use Rattle.store_tables.specs.Contents.Request.{row_of};
 ghost use Rattle.store_tables.specs.Readings.{Blames};
 ghost use Rattle.store_tables.specs.Stands.{StandsFor};
 ghost use Rattle.store_core.specs.Seen.{state_of};
-ghost use Rattle.desk_reports.specs.Rows.{QueuesRise};
+ghost use Rattle.report_core.specs.Rows.{QueuesRise};
 ghost use Rattle.service_core.specs.Attaching as attaching;
 ghost use Rattle.service_core.specs.Attaching.{BlamesBad, FailsOver, TellsKnown};
 ghost use Rattle.service_core.specs.Renewing.{AreRenewed};

@@ -7,7 +7,7 @@ ghost use Rattle.store_core.specs.Seen.{connection_of};
 ghost use Rattle.service_core.specs.Seen.{settings_of, tables_of};
 
 use desk_core::Refusal;
-use desk_lists::or_unavailable;
+use desk_reports::or_unavailable;
 use settings_core::Settings;
 use store_core::{Backend, Store};
 

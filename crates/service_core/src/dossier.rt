@@ -15,7 +15,7 @@ use desk_core::{
     Answer, Call, Command, Dossier, Entry, Facts, QueueRow, Refusal, Shown, decide_on_facts,
     refused_beforehand,
 };
-use desk_lists::unavailable;
+use desk_reports::unavailable;
 use std::alloc::{AllocError, Global};
 use store_core::{Backend, Store};
 use text_core::Sequence;

@@ -19,7 +19,7 @@ use crate::reading;
 use desk_core::{
     Answer, Call, Change, Command, Facts, Refusal, decide_on_facts, refused_beforehand,
 };
-use desk_lists::unavailable;
+use desk_reports::unavailable;
 use std::alloc::Global;
 use store_core::{Backend, Store};
 

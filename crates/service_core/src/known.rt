@@ -5,12 +5,12 @@ ghost use Rattle.settings_core.specs.Settings.{knows, lifecycle_named};
 ghost use Rattle.desk_model.specs.Known as known;
 ghost use Rattle.desk_model.specs.Lifecycles as lifecycles;
 ghost use Rattle.store_tables.specs.Contents.Request.{row_of};
-ghost use Rattle.desk_reports.specs.Rows.{QueuesRise};
+ghost use Rattle.report_core.specs.Rows.{QueuesRise};
 ghost use Rattle.service_core.specs.Attaching as attaching;
 
 use desk_core::{QueueRow, RequestRow, Watcher};
-use desk_reports::queue_named;
 use hours_core::Minute;
+use report_core::queue_named;
 use settings_core::Settings;
 use text_core::Text;
 

@@ -23,7 +23,7 @@ mod stream;
 mod told;
 
 pub use desk::Desk;
-pub use desk_lists::StreamFault;
+pub use desk_reports::StreamFault;
 pub use desk_texts::{
     SHORT_TEXT, answer_text, history_text, is_short, list_text, outcome_text, overdue_text,
     put_short, queues_text, refusal_text, show_text, text_in_room, workload_text,

@@ -7,7 +7,7 @@ ghost use Rattle.store_core.specs.Seen.{state_of};
 ghost use Rattle.service_core.specs.Shown as shown;
 
 use desk_core::{LinkKind, LinkRow, Links, Refusal};
-use desk_lists::or_unavailable;
+use desk_reports::or_unavailable;
 use settings_core::Settings;
 use std::alloc::{AllocError, Global};
 use store_core::{Backend, Store};

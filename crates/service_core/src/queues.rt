@@ -12,7 +12,7 @@ ghost use Rattle.service_core.specs.TableSteps.{ask_by};
 
 use crate::sight::{Sight, sight_of};
 use desk_core::{Answer, QueueRow, Refusal, sees_queue};
-use desk_lists::or_unavailable;
+use desk_reports::or_unavailable;
 use settings_core::Settings;
 use std::alloc::{AllocError, Global};
 use store_core::{Backend, Store};

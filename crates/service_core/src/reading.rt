@@ -11,7 +11,7 @@ ghost use Rattle.service_core.specs.Shown as shown;
 use crate::links::links_of;
 use crate::queues::queues;
 use desk_core::{Answer, Call, Command, Entry, Facts, Links, Refusal, SeenRequest, Shown, due_of};
-use desk_lists::or_unavailable;
+use desk_reports::or_unavailable;
 use hours_core::Minute;
 use settings_core::Settings;
 use std::alloc::Global;
@@ -125,7 +125,7 @@ fn list<S: Backend>(
     ensures kept { Spares (state_of S.Store store.old) (state_of S.Store store.new) }
     ensures fault { IfErr result (λ refusal. refusal ≡ Refusal.Unavailable) }
 {
-    let lines = desk_lists::list(alloc, store, call.settings, call.caller, queue)?;
+    let lines = desk_reports::list(alloc, store, call.settings, call.caller, queue)?;
     Ok(Answer::Listed(lines))
 }
 
@@ -143,7 +143,7 @@ fn overdue<S: Backend>(
     ensures kept { Spares (state_of S.Store store.old) (state_of S.Store store.new) }
     ensures fault { IfErr result (λ refusal. refusal ≡ Refusal.Unavailable) }
 {
-    let lines = desk_lists::overdue(alloc, store, call.settings, call.at, call.caller)?;
+    let lines = desk_reports::overdue(alloc, store, call.settings, call.at, call.caller)?;
     Ok(Answer::Late(lines))
 }
 
@@ -160,7 +160,7 @@ fn workload<S: Backend>(
     ensures kept { Spares (state_of S.Store store.old) (state_of S.Store store.new) }
     ensures fault { IfErr result (λ refusal. refusal ≡ Refusal.Unavailable) }
 {
-    let loads = desk_lists::workload(alloc, store, call.settings, call.at, call.caller)?;
+    let loads = desk_reports::workload(alloc, store, call.settings, call.at, call.caller)?;
     Ok(Answer::Workload(loads))
 }
 

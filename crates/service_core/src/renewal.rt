@@ -4,14 +4,14 @@ ghost use Rattle.hours_core.specs.declared.stay.Stay as stay;
 ghost use Rattle.store_tables.specs.Calls.{Lasts, Spares, WasClean};
 ghost use Rattle.store_tables.specs.declared.fault.StoreFault.{StoreFault};
 ghost use Rattle.store_core.specs.Seen.{state_of};
-ghost use Rattle.desk_reports.specs.Rows.{QueuesRise};
+ghost use Rattle.report_core.specs.Rows.{QueuesRise};
 ghost use Rattle.service_core.specs.Renewing as renewing;
 ghost use Rattle.service_core.specs.Renewing.{AreApart, AreRenewedFrom, StaysRise};
 
 use crate::stays::{apart, stays_among};
 use desk_core::{QueueRow, RequestRow, due_of};
-use desk_reports::queue_named;
 use hours_core::{Minute, Stay};
+use report_core::queue_named;
 use settings_core::Settings;
 use std::alloc::{AllocError, Global};
 use store_core::{Backend, Store, StoreFault};

@@ -17,7 +17,7 @@ ghost use Rattle.service_core.specs.TableSteps.{StandsOn, ask_by};
 
 use crate::desk::Desk;
 use desk_core::{Call, Command, Facts, Refusal, decide_on_facts, refused_beforehand};
-use desk_lists::{StreamFault, or_unavailable, stream_list, stream_overdue};
+use desk_reports::{StreamFault, or_unavailable, stream_list, stream_overdue};
 use std::alloc::Global;
 use std::io::Write;
 use store_core::{Backend, Store};

@@ -1,7 +1,7 @@
 -- the settings know what was read, and what was read is renewed
 use Rattle.std.proofs.Common.{◌∙◌, ◌≡◌, Err, rules, subst, sym, Result}
 use Rattle.std.specs.Prelude.{⊤}
-use Rattle.desk_reports.specs.Rows.{QueuesRise}
+use Rattle.report_core.specs.Rows.{QueuesRise}
 use Rattle.store_core.specs.Seen.{state_of}
 use Rattle.store_tables.specs.Contents.{contents_of}
 use Rattle.store_tables.proofs.Lasting.{on}

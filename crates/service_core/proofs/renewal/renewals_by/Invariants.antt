@@ -1,7 +1,7 @@
 -- of the rows so far
 use Rattle.std.proofs.Common.{◌≡◌, ℕ, List, take}
 use Rattle.hours_core.specs.declared.stay.Stay.{Stay}
-use Rattle.desk_reports.specs.Rows.{QueuesRise}
+use Rattle.report_core.specs.Rows.{QueuesRise}
 use Rattle.service_core.specs.Renewing as renewing
 use Rattle.service_core.specs.Renewing.{AreApart, StaysRise}
 use Rattle.service_core.proofs.renewal.renewals_by.Given as goal

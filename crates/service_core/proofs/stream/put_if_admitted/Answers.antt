@@ -1,6 +1,6 @@
 -- the list of a command that isn't refused, or nothing
 use Rattle.std.proofs.Common.{[]}
-use Rattle.desk_lists.proofs.PrintedLemmas.{prints_none}
+use Rattle.desk_reports.proofs.PrintedLemmas.{prints_none}
 use Rattle.store_core.specs.Due.{due_of_row}
 use Rattle.store_tables.proofs.Spared.{joined, stands}
 use Rattle.store_tables.specs.Contents.{contents_of}

@@ -4,7 +4,7 @@ use Rattle.desk_model.specs.declared.command.Command.{Command}
 use Rattle.desk_model.specs.declared.command.Command.TheVariants.{List, Overdue}
 use Rattle.stream_core.specs.Seen.{has_write_failed}
 use Rattle.stream_core.specs.Written.{Prints}
-use Rattle.desk_lists.proofs.PrintedLemmas.{prints_none}
+use Rattle.desk_reports.proofs.PrintedLemmas.{prints_none}
 use Rattle.store_tables.proofs.Spared.{unread}
 use Rattle.store_core.specs.Seen.{state_of}
 use Rattle.service_core.specs.Asked.{asked}

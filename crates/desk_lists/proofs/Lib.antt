@@ -1,4 +1,0 @@
-pub mod LateLemmas
-pub mod PrintedLemmas
-pub mod Reported
-pub mod ShownLemmas

@@ -1,4 +1,0 @@
-pub mod Fault
-pub mod Lines
-pub mod Rows
-pub mod Streams

@@ -1,0 +1,22 @@
+-- what is listed of the rows is what is told of the desk
+use Rattle.std.proofs.Common.{◌∙◌}
+use Rattle.std.proofs.lemmas.Result.{IfOk-at_ok}
+use Rattle.store_tables.specs.Contents.{contents_of}
+use Rattle.store_tables.proofs.Spared.{stands}
+use Rattle.store_core.specs.Due.{due_of_row}
+use Rattle.desk_reports.proofs.ShownLemmas.{list_of}
+use Rattle.desk_reports.proofs.reports.list.Goals as goal
+
+pub returns-clause-told : goal.returns-clause-told
+returns-clause-told g c desk is stand clean =
+    let due = due_of_row c.args.settings.now desk in
+    let after = stands c.watches_of.ensures.kept (contents_of due desk) stand in
+    let clean-before = c.dated_requests_of.ensures.kept.clean clean in
+    list_of c.args.settings.now c.args.caller.now c.args.queue.now desk is
+    c.as_slice-own.result.now c.in_ok-rows.rows.items c.in_ok-lines.lines
+    (c.as_slice-own.ensures.value
+    ∙ IfOk-at_ok _ c.in_ok-watches.ensures.ok
+    (c.watches_of.ensures.listed desk is (due, stand) clean-before))
+    (IfOk-at_ok _ c.in_ok-rows.ensures.ok
+    (c.dated_requests_of.ensures.listed desk is due after clean))
+    c.in_ok-lines.ensures

@@ -1,0 +1,33 @@
+-- what is told of the rows is what is told of the desk
+use Rattle.std.proofs.Common.{◌∙◌}
+use Rattle.std.proofs.lemmas.Result.{IfOk-at_ok}
+use Rattle.store_tables.specs.Contents.{contents_of}
+use Rattle.store_tables.proofs.Spared.{stands}
+use Rattle.store_core.specs.Due.{due_of_row}
+use Rattle.desk_reports.proofs.ShownLemmas.{loads_of}
+use Rattle.desk_reports.proofs.reports.workload.Goals as goal
+
+pub returns-clause-told : goal.returns-clause-told
+returns-clause-told g c desk is stand clean =
+    let due = due_of_row c.args.settings.now desk in
+    let first = stands c.watches_of.ensures.kept (contents_of due desk) stand in
+    let second = stands c.queues.ensures.kept (contents_of due desk) first in
+    let clean-second = c.dated_requests.ensures.kept.clean clean in
+    let clean-first = c.queues.ensures.kept.clean clean-second in
+    loads_of c.args.at c.args.settings.now c.args.caller.now desk is
+    c.as_slice-watches.result.now c.as_slice-queues.result.now c.in_ok-rows.rows.items
+    c.in_ok-loads.loads
+    (record {
+      own =
+          c.as_slice-watches.ensures.value
+          ∙ IfOk-at_ok _ c.in_ok-watches.ensures.ok
+          (c.watches_of.ensures.listed desk is (due, stand) clean-first);
+      all_queues =
+          c.as_slice-queues.ensures.value
+          ∙ IfOk-at_ok _ c.in_ok-queues.ensures.ok
+          (c.queues.ensures.listed desk is (due, first) clean-second);
+      all_rows =
+          IfOk-at_ok _ c.in_ok-rows.ensures.ok
+          (c.dated_requests.ensures.listed desk is due second clean);
+    })
+    c.in_ok-loads.ensures
