@@ -1,16 +1,47 @@
 -- The first head of a stream is the only one, and ends with the byte that completes it.
 use Rattle.std.proofs.Common.{◌≡◌, ◌≢◌, ◌∙◌, ◌⊎◌, inl, inr, ℕ, ◌≤◌, ◌<◌, List, [], ◌∷◌, ◌++◌}
-use Rattle.std.proofs.Common.{length, take, drop, ap, sym, subst, arith, append_assoc, append-nil}
+use Rattle.std.proofs.Common.{true, false, length, take, drop, refl, ap, sym, subst, arith}
+use Rattle.std.proofs.Common.{append_assoc, append-nil}
+use Rattle.std.proofs.lemmas.Bool.{and_from, and_parts}
+use Rattle.std.proofs.lemmas.List.Folds.{list_all-append}
 use Rattle.std.proofs.lemmas.List.{length-map, length-take-le}
-use Rattle.httparse.specs.Grammar.{ReadsRequest, RequestHead, print_request}
+use Rattle.httparse.specs.Grammar.{HasNoRequest, ReadsRequest, RequestHead, print_blank, print_end}
+use Rattle.httparse.specs.Grammar.{print_request, print_section, print_version}
 use Rattle.httparse.specs.Spans.{IsRequestAt, IsRequestOf, IsRequestWithin, RequestOverflows}
 use Rattle.httparse.specs.Spans.{header_bytes, name_and_value}
 use Rattle.httparse.specs.declared.spans.HeaderSpan.{HeaderSpan}
 use Rattle.httparse.specs.declared.spans.RequestSpans.{RequestSpans}
-use Rattle.httparse.proofs.GrammarLemmas.{request_prefix_free}
-use Rattle.message_core.specs.Head.{HasLimitedHead, HasNoLimitedHead, IsHead}
+use Rattle.httparse.proofs.GrammarLemmas.{print_request-append, request_prefix_free}
+use Rattle.message_core.specs.Head.{HasLimitedHead, HasNoLimitedHead, IsHead, are_line_ends}
+use Rattle.message_core.specs.Head.{is_line_end}
 use Rattle.message_core.proofs.Fronts.{front_of, same_last}
 use Rattle.message_core.proofs.HeadEnds.{head_ends}
+
+-- ---- empty lines
+
+-- a head has a space
+pub no_head_in_ends : (bytes : List ℕ) → are_line_ends bytes ≡ true → HasNoRequest bytes
+no_head_in_ends bytes ends = λ h rest reads.
+    let blank = print_blank h.blank in
+    let after = h.target ++ 32 ∷ (print_version h.minor ++ (print_end h.line_end
+    ++ (print_section h.fields h.last ++ rest))) in
+    let all : are_line_ends (blank ++ (h.method ++ 32 ∷ after)) ≡ true =
+    subst (λ (l : List ℕ). are_line_ends l ≡ true) (reads.1 ∙ print_request-append h rest) ends in
+    no_space blank h.method after all
+  where
+    no_space : (xs ys zs : List ℕ) → are_line_ends (xs ++ (ys ++ 32 ∷ zs)) ≡ true → ⊥
+    no_space [] [] zs all = let lie : false ≡ true = all in cc
+    no_space [] (y ∷ ys) zs all =
+        no_space [] ys zs (and_parts (is_line_end y) (are_line_ends (ys ++ 32 ∷ zs)) all).1
+    no_space (x ∷ xs) ys zs all =
+        no_space xs ys zs (and_parts (is_line_end x) (are_line_ends (xs ++ (ys ++ 32 ∷ zs))) all).1
+
+pub ends_more : (before now : List ℕ) (b : ℕ) → now ≡ before ++ b ∷ []
+    → are_line_ends before ≡ true → is_line_end b ≡ true → are_line_ends now ≡ true
+ends_more before now b e all this =
+    ap are_line_ends e ∙ list_all-append is_line_end before (b ∷ [])
+    ∙ and_from (are_line_ends before) (are_line_ends (b ∷ [])) all
+    (and_from (is_line_end b) true this refl)
 
 -- ---- a byte more
 

@@ -1,6 +1,7 @@
 -- The head of a message: a request's head as `httparse` reads it, of at most 8,192 bytes and 32
 -- header lines.
-use Rattle.std.specs.Prelude.{◌≤◌, ℕ, List, [], ◌++◌, length, Option}
+use Rattle.std.specs.Prelude.{◌≤◌, ◌==◌, ◌||◌, ℕ, Bool, List, [], ◌++◌, length, Option}
+use Rattle.std.specs.List.{list_all}
 use Rattle.httparse.specs.Grammar.{ReadsRequest, RequestHead, print_request}
 use Rattle.stream_core.specs.Streams.{Takes}
 
@@ -40,3 +41,12 @@ HasNoLimitedHead bytes =
 abbrev pub LacksHead : Option (List ℕ) → Option (List ℕ) → Type 0
 LacksHead old new =
     (taken : List ℕ) × (rest : List ℕ) × Takes old new taken rest × HasNoHead (taken ++ rest)
+
+-- ---- empty lines
+
+-- a line feed or a carriage return
+abbrev pub is_line_end : ℕ → Bool
+is_line_end b = b == 10 || b == 13
+
+abbrev pub are_line_ends : List ℕ → Bool
+are_line_ends bytes = list_all is_line_end bytes

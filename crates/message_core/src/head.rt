@@ -1,13 +1,14 @@
 //! The head of a message is taken from a reader, and nothing after it.
 ghost use Rattle.std.specs.Prelude.{◌≡◌, ◌≢◌, ◌≤◌, ◌+◌, ◌||◌, ◌∷◌, [], ℕ, IfOk, IfErr, IfSome};
-ghost use Rattle.std.specs.Prelude.{None, Err};
+ghost use Rattle.std.specs.Prelude.{None, Err, true};
 ghost use Rattle.std.specs.Io.KnownBytes.{Consumes, IsAtEnd, Keeps};
 ghost use Rattle.httparse.specs.Grammar.{HasNoRequest};
 ghost use Rattle.httparse.specs.Spans.{RequestOverflows};
 ghost use Rattle.stream_core.specs.Seen.{HaveOneReader, has_read_failed, left_in, reads_of};
 ghost use Rattle.stream_core.specs.Streams.{ConsumesAtMost};
 ghost use Rattle.message_core.specs.Fault.{tells_failed_read};
-ghost use Rattle.message_core.specs.Head.{HasLimitedHead, IsHead, LacksHead};
+ghost use Rattle.message_core.specs.Head.{HasLimitedHead, IsHead, LacksHead, are_line_ends};
+ghost use Rattle.message_core.specs.Head.{is_line_end};
 
 use crate::fault::WireFault;
 use httparse::spans::{EMPTY_HEADER_SPAN, parse_request};
@@ -25,6 +26,41 @@ const MAX_LINES: usize = 32;
 /// How many header lines are looked at: a head with more than 32, and no more than these, is
 /// refused where it ends.
 const LINES_READ: usize = 64;
+
+/// Which bytes stand at the front of a stream. Empty lines may stand before a head.
+#[derive(Clone, Copy)]
+enum Front {
+    /// Empty lines alone, or nothing.
+    Empty,
+    /// Empty lines, and a carriage return after them.
+    Returned,
+    /// Other bytes are among them.
+    Begun,
+}
+
+impl Front {
+    /// The front with a byte more.
+    fn with(self, byte: u8) -> Front
+        ensures { result ≢ Front.Begun → (self ≢ Front.Begun) × (is_line_end byte ≡ true) }
+    {
+        match self {
+            Front::Empty => {
+                match byte {
+                    b'\n' => Front::Empty,
+                    b'\r' => Front::Returned,
+                    _ => Front::Begun,
+                }
+            }
+            Front::Returned => {
+                match byte {
+                    b'\n' => Front::Empty,
+                    _ => Front::Begun,
+                }
+            }
+            Front::Begun => Front::Begun,
+        }
+    }
+}
 
 /// How bytes at the front of a stream stand to a head of at most 32 header lines.
 #[derive(Clone, Copy)]
@@ -58,6 +94,21 @@ fn standing_of(bytes: &[u8]) -> Standing
         Ok(Status::Partial) => Standing::Unfinished,
         Err(Error::TooManyHeaders) => Standing::Crowded,
         Err(_) => Standing::Refused,
+    }
+}
+
+/// The same of the bytes of this front. Empty lines alone aren't read again.
+#[tactic(auto, using(crate::proofs::HeadLemmas::no_head_in_ends))]
+fn standing_after(front: Front, bytes: &[u8]) -> Standing
+    requires { front ≢ Front.Begun → are_line_ends bytes.now ≡ true }
+    ensures whole { result ≡ Standing.Whole → HasLimitedHead bytes.now }
+    ensures unfinished { result ≡ Standing.Unfinished → HasNoRequest bytes.now }
+    ensures refused { result ≡ Standing.Refused → RequestOverflows 32 bytes.now }
+    ensures crowded { result ≡ Standing.Crowded → RequestOverflows 32 bytes.now }
+{
+    match front {
+        Front::Empty => Standing::Unfinished,
+        Front::Returned | Front::Begun => standing_of(bytes),
     }
 }
 
@@ -106,14 +157,16 @@ pub(crate) fn take_head<R: Read>(
     ensures reads { reads_of reader.new ≤ reads_of reader.old + 8192 }
 {
     let mut taken = Vec::new(alloc);
+    let mut front = Front::Empty;
     let mut crowded = false;
     for _turn in 0..MAX_HEAD {
         let Some(byte) = next_byte(reader)? else {
             return Err(WireFault::BadHead);
         };
         taken.push(byte).map_err(|_| WireFault::NoMemory)?;
+        front = front.with(byte);
         if byte == b'\n' && !crowded {
-            match standing_of(taken.as_slice()) {
+            match standing_after(front, taken.as_slice()) {
                 Standing::Whole => return Ok(taken),
                 Standing::Unfinished => {}
                 Standing::Refused => return Err(WireFault::BadHead),

@@ -4,7 +4,7 @@ use Rattle.std.proofs.Common.{length-append, refl, ap, sym, arith}
 use Rattle.httparse.specs.Spans.{RequestOverflows}
 use Rattle.stream_core.specs.Seen.{has_read_failed, left_in}
 use Rattle.stream_core.proofs.ReaderLemmas.{consumes_none}
-use Rattle.message_core.proofs.HeadLemmas.{no_head_over}
+use Rattle.message_core.proofs.HeadLemmas.{ends_more, no_head_over}
 use Rattle.message_core.proofs.Turns.{lacks_far, lacks_over, lost_at_most, lost_more, no_head_yet}
 use Rattle.message_core.proofs.Turns.{none_now, none_still, over_now, over_still, whole_head}
 use Rattle.message_core.proofs.head.take_head.Goals as goal
@@ -21,6 +21,7 @@ loop-turn-init g c =
       one = refl;
       lost = rw e (consumes_none (left_in g.R.Read.remaining c.args.reader.now));
       count = rw e refl;
+      front = λ _. rw e refl;
       none = rw e no_head_yet;
       crowded = λ no. let lie : false ≡ true = no in cc;
       failed = refl;
@@ -68,6 +69,9 @@ loop-turn-preserved g c =
         ap length pushed,
         c.loop-turn.invariant.count,
       );
+      front = λ some.
+          let was = c.with-front.ensures some in
+          ends_more before now byte pushed (c.loop-turn.invariant.front was.0) was.1;
       none = elim c.if-byte-eq10.branch [
         | then-byte-eq10+then-not-crowded+in-Unfinished w ↦
             none_now now w.as_slice.result.now w.as_slice.ensures.value
