@@ -35,17 +35,19 @@ pub(crate) fn take_body<R: Read>(
     ensures reads { reads_of reader.new ≤ reads_of reader.old + wanted }
 {
     let mut body = Vec::new(alloc);
+    let mut chunk = [0u8; CHUNK];
     while body.len() < wanted as usize {
-        if take_some(reader, &mut body, wanted as usize)? == 0 {
+        if take_some(reader, &mut chunk, &mut body, wanted as usize)? == 0 {
             return Err(WireFault::Truncated);
         }
     }
     Ok(body)
 }
 
-/// One read, whose bytes go to the end of the body: how many they are.
+/// One read into the chunk, whose bytes go to the end of the body: how many they are.
 fn take_some<R: Read>(
     reader: &mut CountedReader<'_, R>,
+    chunk: &mut [u8; CHUNK],
     body: &mut Vec<u8>,
     wanted: usize,
 ) -> Result<usize, WireFault>
@@ -63,7 +65,6 @@ fn take_some<R: Read>(
         ≡ (tells_failed_read result || has_read_failed reader.old) }
     ensures reads { reads_of reader.new ≤ reads_of reader.old + 1 }
 {
-    let mut chunk = [0u8; CHUNK];
     let room = CHUNK.min(wanted - body.len());
     match reader.read(&mut chunk[..room]) {
         Ok(count) => match body.extend_from_slice(&chunk[..count]) {

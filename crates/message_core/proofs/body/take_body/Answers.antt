@@ -6,6 +6,6 @@ use Rattle.message_core.proofs.body.take_body.Goals as goal
 pub returns-in_err-take_some-clause-taken : goal.returns-in_err-take_some-clause-taken
 returns-in_err-take_some-clause-taken g c =
     let left = left_in g.R.Read.remaining in
-    consumes_at_most_both (left c.args.reader.now) (left c.loop-reader.reader)
-    (left c.take_some.new.reader) c.loop-reader.body.items c.args.wanted
-    c.loop-reader.invariant.lost c.take_some.ensures.taken c.loop-reader.invariant.within
+    consumes_at_most_both (left c.args.reader.now) (left c.loop-chunk.reader)
+    (left c.take_some.new.reader) c.loop-chunk.body.items c.args.wanted
+    c.loop-chunk.invariant.lost c.take_some.ensures.taken c.loop-chunk.invariant.within
