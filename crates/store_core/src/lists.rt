@@ -14,17 +14,17 @@ ghost use Rattle.store_tables.specs.Readings.{MismatchesInStays, MismatchesInWat
 ghost use Rattle.store_core.specs.Rows.{AreDueBefore, AreFiledIn, TellsDated, dated_rows};
 ghost use Rattle.store_core.specs.Seen.{state_of};
 
-use crate::Backend;
 use crate::store::Store;
 use desk_core::{Entry, LinkRow, QueueRow, RequestRow, Watcher};
 use hours_core::{Minute, Stay};
+use sqlite::Alter;
 use std::alloc::Global;
 use store_tables::StoreFault;
 use store_tables::tables::request::dated;
 use store_tables::tables::{entry, link, queue, request, stay, watcher};
 use text_core::Text;
 
-impl<S: Backend> Store<S> {
+impl<S: Alter> Store<S> {
     /// The queues, in the order of their names. `Mismatch` where a row is no queue, `Refused` where
     /// the store or memory refuses it. The tables stay as they are.
     pub fn queues(&mut self, alloc: Global) -> Result<Vec<QueueRow>, StoreFault>
