@@ -7,7 +7,7 @@ use Rattle.std.proofs.lemmas.Bool.{and_parts}
 use Rattle.std.proofs.lemmas.Cmp.{nat_cmp_total, on_total}
 use Rattle.std.proofs.lemmas.List.{map-append, length-map, take_more, take_all as all_taken}
 use Rattle.std.proofs.lemmas.List.Elements.{filter-append}
-use Rattle.std.specs.List.{list_all}
+use Rattle.std.specs.List.{list_all, list_any}
 use Rattle.std.proofs.lemmas.Bool.Decides.{nat_tests}
 use Rattle.std.proofs.lemmas.Grind.{flat_map-append}
 use Rattle.sqlite_rules.proofs.ListLemmas.{has_filtered, all_from, has_found, test_has}
@@ -30,7 +30,7 @@ use Rattle.desk_model.specs.declared.rows.Watcher.{Watcher}
 use Rattle.desk_model.specs.Desk.{Desk, Request, queue_at, request_at}
 use Rattle.desk_model.specs.Facts.{dependencies_of, dependency_links, facts_of_request}
 use Rattle.desk_model.specs.Facts.{facts_on_request, seen_request, seen_request_at, stays_at}
-use Rattle.desk_model.specs.Plan.{Dependencies, besides_on}
+use Rattle.desk_model.specs.Plan.{Another, Dependencies, besides_on}
 use Rattle.desk_model.specs.IsDesk.{IsDesk, has_both_ends, has_its_entries, persons_rise}
 use Rattle.desk_model.specs.Rights.{is_shown}
 use Rattle.desk_core.proofs.Roles.{own_roles_law}
@@ -50,6 +50,7 @@ use Rattle.store_core.proofs.FactsLemmas.{each_alike, found_row, greatest_counts
 use Rattle.store_core.proofs.FactsLemmas.{some_found}
 use Rattle.store_core.specs.Found.{persons_in, has_number, dependency_at, dependency_by}
 use Rattle.store_core.specs.Found.{dependency_of, filed, queue_by, seen_request_of, stays_if}
+use Rattle.store_core.specs.Found.{other_end, with_link}
 use Rattle.store_core.proofs.RiseLemmas.{ascending_where, role_total, the_list}
 use Rattle.store_core.proofs.RiseLemmas.{links_rise, all_tested, entries_numbered, own_entries}
 use Rattle.store_core.proofs.RiseLemmas.{their_own, watchers_ascend}
@@ -203,6 +204,32 @@ pub link_read : {a b : State} {r : Result (Option LinkRow) StoreFault} (l : Link
 link_read l = telling (λ c found is desk of.
     some_found (chosen.is_link l) (is_link l) (same_link_is l) desk.links found
     (rw of.same at is))
+
+-- a link that is there has both ends
+ends_there : (desk : Desk) (l : LinkRow) (ls : List LinkRow)
+    → list_all (has_both_ends desk) ls ≡ true → list_any (is_link l) ls ≡ true
+    → has_both_ends desk l ≡ true
+ends_there desk l [] all any = absurd (cc)
+ends_there desk l (x ∷ xs) all any = grind (arith, nat_tests, ends_there desk l xs)
+
+linked_ends : (desk : Desk) (l : LinkRow) → IsDesk desk
+    → ((is_some (seen_request_at desk l.source) && is_some (seen_request_at desk l.target))
+    && has_link desk l) ≡ has_link desk l
+linked_ends desk l is = grind (arith, ends_there desk l desk.links is.ends)
+
+pub end_read : (desk : Desk) (l : LinkRow) (has_source : Bool) (other : Option SeenRequest)
+    (linked : Bool) → other ≡ seen_request_at desk l.target
+    → linked ≡ ((has_source && is_some other) && has_link desk l)
+    → (other, linked) ≡ other_end desk l has_source
+end_read desk l has_source other linked other_is linked_is = rw (linked_is, other_is) refl
+
+pub link_facts : (desk : Desk) (l : LinkRow) (facts : Facts) (end : Option SeenRequest × Bool)
+    → IsDesk desk → facts ≡ facts_of_request desk l.source
+    → end ≡ other_end desk l (is_some facts.request)
+    → with_link facts end.0 end.1 ≡ besides_on (Another l.kind l.target) l.source desk
+link_facts desk l facts end is facts_are end_is =
+    rw (end_is, facts_are) (ap (with_link (facts_of_request desk l.source)
+    (seen_request_at desk l.target)) (linked_ends desk l is))
 
 -- a request that isn't there depends on nothing
 pub absent_facts : (desk : Desk) (id : ℕ) (facts : Facts) → IsDesk desk

@@ -1,6 +1,6 @@
 -- What reads by key find of a desk, and how facts are put together of it.
-use Rattle.std.specs.Prelude.{◌==◌, ℕ, Bool, List, [], filter, if◌then◌else◌, map, Option}
-use Rattle.std.specs.Prelude.{option_and_then}
+use Rattle.std.specs.Prelude.{◌==◌, ◌&&◌, ℕ, Bool, List, [], filter, if◌then◌else◌}
+use Rattle.std.specs.Prelude.{is_some, map, Option, option_and_then}
 use Rattle.std.specs.Option.{option_map, option_to_list}
 use Rattle.hours_core.specs.declared.stay.Stay.{Stay}
 use Rattle.desk_model.specs.declared.facts.Dependency.{Dependency}
@@ -13,7 +13,8 @@ use Rattle.desk_model.specs.declared.rows.Watcher.{Watcher}
 use Rattle.desk_model.specs.declared.rows.WatchRole.{WatchRole}
 use Rattle.desk_model.specs.declared.rows.WatchRole.TheVariants.{Requestor, Cc, AdminCc}
 use Rattle.desk_model.specs.Desk.{Desk, Request, queue_at, request_at}
-use Rattle.desk_model.specs.Facts.{as_dependency, no_facts}
+use Rattle.desk_model.specs.Facts.{as_dependency, no_facts, seen_request_at}
+use Rattle.desk_model.specs.Links.{has_link}
 use Rattle.desk_model.specs.Watchers.{is_role}
 
 -- the persons in a role, in the order of the watchers
@@ -50,6 +51,12 @@ dependency_of row queue =
 -- what a link leads to
 unfoldable pub dependency_by : Desk → LinkRow → List Dependency
 dependency_by desk link = option_to_list (dependency_at desk link.target)
+
+-- the request at the other end of a link, and whether the link is there, which both ends have to be
+abbrev pub other_end : Desk → LinkRow → Bool → Option SeenRequest × Bool
+other_end desk link has_source =
+    let other = seen_request_at desk link.target in
+    (other, (has_source && is_some other) && has_link desk link)
 
 -- ---- facts, put together
 

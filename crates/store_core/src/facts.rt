@@ -2,9 +2,10 @@
 //!
 //! What owns much is given back by `drop`, whose proof stands once; at the end of its scope it
 //! would be taken apart for each function's own proof.
-ghost use Rattle.std.specs.Prelude.{◌≡◌, ◌≢◌, IfErr};
+ghost use Rattle.std.specs.Prelude.{◌≡◌, ◌≢◌, ◌&&◌, IfErr};
 ghost use Rattle.desk_model.specs.Desk as desk_at;
 ghost use Rattle.desk_model.specs.Facts as facts;
+ghost use Rattle.desk_model.specs.Links.{has_link};
 ghost use Rattle.desk_model.specs.Plan.{Dependencies, besides_on};
 ghost use Rattle.desk_model.specs.Scope.{seen_in};
 ghost use Rattle.desk_model.specs.Step.{facts_of};
@@ -153,7 +154,7 @@ fn facts_of_move<S: Alter>(
     }
 }
 
-/// Of a link: the request at its other end too, and whether it is there.
+/// Of a link: the request at its other end too, and whether the link is there.
 fn facts_of_link<S: Alter>(
     alloc: Global,
     tables: &mut Tables<S>,
@@ -162,10 +163,49 @@ fn facts_of_link<S: Alter>(
     ensures { Reads (OfDesk (λ desk seen. seen ≡ seen_in (Scope.Link link) desk))
         (seen S.Store tables.old) (seen S.Store tables.new) result }
 {
-    let linked = link_like(tables, link)?;
-    let other = seen_request_at(alloc, tables, link.target)?;
     let facts = facts_of(alloc, tables, link.source)?;
-    Ok(with_link(facts, other, linked.is_some()))
+    match other_end(alloc, tables, link, facts.request.is_some()) {
+        Ok((other, is_linked)) => Ok(with_link(facts, other, is_linked)),
+        Err(fault) => {
+            drop(facts);
+            Err(fault)
+        }
+    }
+}
+
+/// The request at the other end of a link, and whether the link is there, which it can't be where
+/// its source isn't.
+fn other_end<S: Alter>(
+    alloc: Global,
+    tables: &mut Tables<S>,
+    link: LinkRow,
+    has_source: bool,
+) -> Result<(Option<SeenRequest>, bool), StoreFault>
+    ensures { Reads (OfDesk (λ desk end. end ≡ found.other_end desk link has_source))
+        (seen S.Store tables.old) (seen S.Store tables.new) result }
+{
+    let other = seen_request_at(alloc, tables, link.target)?;
+    let is_linked = is_linked_if(tables, link, has_source, other.is_some())?;
+    Ok((other, is_linked))
+}
+
+/// Whether the link is there; it isn't read where an end is missing.
+fn is_linked_if<S: Alter>(
+    tables: &mut Tables<S>,
+    link: LinkRow,
+    has_source: bool,
+    has_target: bool,
+) -> Result<bool, StoreFault>
+    ensures { Reads (OfDesk (λ desk linked.
+        linked ≡ ((has_source && has_target) && has_link desk link)))
+        (seen S.Store tables.old) (seen S.Store tables.new) result }
+{
+    if has_source && has_target {
+        let linked = link_like(tables, link)?;
+        Ok(linked.is_some())
+    } else {
+        Ok(false)
+    }
 }
 
 /// Facts of a queue, with both counts.
