@@ -2,12 +2,15 @@
 use Rattle.std.proofs.Common.{Bool, cond, map, Less, arith, append-nil, ◌≡◌, ◌∙◌, ℕ, List, [], ◌∷◌}
 use Rattle.std.proofs.Common.{map-id, flat_map, ◌==◌, ◌&&◌, option_map, option_to_list}
 use Rattle.std.proofs.Common.{◌++◌, filter, length, Option, Some, None, Result, Ok, Err, OnOk, IfOk}
-use Rattle.std.proofs.Common.{is_some, false, true, refl, ap, ◌+◌, ◌<◌, ◌≤◌, get_or, take}
+use Rattle.std.proofs.Common.{is_some, false, subst, sym, true, refl, ap, ◌+◌, ◌<◌, ◌≤◌, get_or, take}
 use Rattle.std.proofs.lemmas.Bool.{and_parts}
 use Rattle.std.proofs.lemmas.Cmp.{nat_cmp_total, on_total}
 use Rattle.std.proofs.lemmas.List.{map-append, length-map, take_more, take_all as all_taken}
 use Rattle.std.proofs.lemmas.List.Elements.{filter-append}
 use Rattle.std.specs.List.{list_all, list_any}
+use Rattle.std.specs.Option.{option_map_or}
+use Rattle.std.specs.Str.{bytes_eq}
+use Rattle.std.proofs.lemmas.Slice.Eq.{bytes_eq-Decides}
 use Rattle.std.proofs.lemmas.Bool.Decides.{nat_tests}
 use Rattle.std.proofs.lemmas.Grind.{flat_map-append}
 use Rattle.sqlite_rules.proofs.ListLemmas.{has_filtered, all_from, has_found, test_has}
@@ -39,18 +42,19 @@ use Rattle.store_tables.specs.Contents.Entry.{place_of, tells_of}
 use Rattle.store_tables.specs.Contents.Link.{by_link, by_target, links_from}
 use Rattle.store_tables.specs.Contents.Request.{is_numbered, number_of}
 use Rattle.store_tables.specs.Contents.Watcher.{by_role, watches}
-use Rattle.store_tables.specs.Contents.{entries, request_rows, requests, watchers}
+use Rattle.store_tables.specs.Contents.{Contents, entries, request_rows, requests, watchers}
 use Rattle.store_tables.specs.Readings.{OfDesk, Reads}
 use Rattle.store_tables.specs.declared.fault.StoreFault.{StoreFault}
 use Rattle.store_tables.proofs.DueLemmas.{rows_dated}
-use Rattle.store_tables.proofs.ReadOn.{telling}
+use Rattle.store_tables.proofs.ReadOn.{blames_refused, telling}
+use Rattle.store_tables.proofs.Spared.{unread}
 use Rattle.store_tables.specs.Picked.{AreOrdered, IsGreatest}
 use Rattle.store_tables.specs.Contents.Link as chosen
 use Rattle.store_core.proofs.FactsLemmas.{each_alike, found_row, greatest_counts, part_is}
 use Rattle.store_core.proofs.FactsLemmas.{some_found}
 use Rattle.store_core.specs.Found.{persons_in, has_number, dependency_at, dependency_by}
 use Rattle.store_core.specs.Found.{dependency_of, filed, queue_by, seen_request_of, stays_if}
-use Rattle.store_core.specs.Found.{other_end, with_link}
+use Rattle.store_core.specs.Found.{IsQueue, other_end, with_link}
 use Rattle.store_core.proofs.RiseLemmas.{ascending_where, role_total, the_list}
 use Rattle.store_core.proofs.RiseLemmas.{links_rise, all_tested, entries_numbered, own_entries}
 use Rattle.store_core.proofs.RiseLemmas.{their_own, watchers_ascend}
@@ -155,6 +159,23 @@ dependencies_are desk id ls ds is listed all =
     ∙ (λ t. filter (λ l. l.source == id && same_kinds l.kind DependsOn t) desk.links) in
     all ∙ ap (flat_map (dependency_by desk)) links
 
+-- a queue that was read is the one with its name
+pub queue_read : (desk : Desk) (name : List ℕ) (q : Option QueueRow) → q ≡ queue_at desk name
+    → IsQueue desk q
+queue_read desk name None is = tt
+queue_read desk name (Some q) is =
+    let named = has_found (λ x. bytes_eq x.name name) desk.queues q (sym is) in
+    let same = (bytes_eq-Decides q.name name).0 named.1 in
+    subst (λ n. queue_at desk n ≡ Some q) (sym same) (sym is)
+
+-- and so the one with a name that is its name
+pub queue_again : (desk : Desk) (name : List ℕ) (q : Option QueueRow)
+    → option_map_or (λ x. bytes_eq x.name name) q false ≡ true → IsQueue desk q
+    → q ≡ queue_at desk name
+queue_again desk name None named is = absurd (cc)
+queue_again desk name (Some q) named is =
+    sym (subst (λ n. queue_at desk n ≡ Some q) ((bytes_eq-Decides q.name name).0 named) is)
+
 -- a loop's step
 pub flat_map_more : {X Y : Type 0} (f : X → List Y) (xs : List X) (i : ℕ) (d : X)
     (was now : List Y) → i < length xs → now ≡ was ++ f (get_or xs i d)
@@ -204,6 +225,15 @@ pub link_read : {a b : State} {r : Result (Option LinkRow) StoreFault} (l : Link
 link_read l = telling (λ c found is desk of.
     some_found (chosen.is_link l) (is_link l) (same_link_is l) desk.links found
     (rw of.same at is))
+
+-- what is answered where nothing is read
+pub unasked : {X : Type 0} {Q : Contents → X → Type 0} {a : State} {x : X}
+    → ((d : Contents) → Q d x) → Reads Q a a (Ok x)
+unasked {a = a} {x} so = record {
+  told = λ d stand clean. so d;
+  kept = unread a;
+  blames = blames_refused (Ok x) tt;
+}
 
 -- a link that is there has both ends
 ends_there : (desk : Desk) (l : LinkRow) (ls : List LinkRow)

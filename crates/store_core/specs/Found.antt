@@ -1,6 +1,6 @@
 -- What reads by key find of a desk, and how facts are put together of it.
-use Rattle.std.specs.Prelude.{◌==◌, ◌&&◌, ℕ, Bool, List, [], filter, if◌then◌else◌}
-use Rattle.std.specs.Prelude.{is_some, map, Option, option_and_then}
+use Rattle.std.specs.Prelude.{◌==◌, ◌≡◌, ◌&&◌, ℕ, Bool, IfSome, List, [], filter, if◌then◌else◌}
+use Rattle.std.specs.Prelude.{is_some, map, Option, option_and_then, Some}
 use Rattle.std.specs.Option.{option_map, option_to_list}
 use Rattle.hours_core.specs.declared.stay.Stay.{Stay}
 use Rattle.desk_model.specs.declared.facts.Dependency.{Dependency}
@@ -47,6 +47,10 @@ dependency_at desk id = option_and_then (as_dependency desk) (request_at desk id
 abbrev pub dependency_of : RequestRow → Option QueueRow → Option Dependency
 dependency_of row queue =
     option_map (λ q. record { lifecycle = q.lifecycle; status = row.status }) queue
+
+-- if there is a queue, it is the one with its name
+abbrev pub IsQueue : Desk → Option QueueRow → Type 0
+IsQueue desk queue = IfSome queue (λ q. queue_at desk q.name ≡ Some q)
 
 -- what a link leads to
 unfoldable pub dependency_by : Desk → LinkRow → List Dependency

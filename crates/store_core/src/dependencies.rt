@@ -1,20 +1,23 @@
 //! What a request depends on, of its links and the rows that they lead to.
-ghost use Rattle.std.specs.Prelude.{◌++◌, ◌∷◌, ◌≡◌, IfErr, OnOk, []};
+ghost use Rattle.std.specs.Prelude.{◌++◌, ◌∷◌, ◌≡◌, IfErr, IfOk, OnOk, [], false};
 ghost use Rattle.std.specs.List.{flat_map};
+ghost use Rattle.std.specs.Option.{option_map_or};
+ghost use Rattle.std.specs.Str.{bytes_eq};
+ghost use Rattle.desk_model.specs.Desk.{queue_at};
 ghost use Rattle.desk_model.specs.Facts as facts;
 ghost use Rattle.store_tables.specs.declared.fault.StoreFault.{StoreFault};
 ghost use Rattle.store_tables.specs.Readings.{OfDesk, Reads};
 ghost use Rattle.store_core.specs.Found as found;
 ghost use Rattle.store_tables.specs.Seen.{seen};
 
-use crate::seen_request::queue_at;
+use crate::seen_request;
 use desk_core::{Dependency, LinkKind, LinkRow, QueueRow, RequestRow};
 use sqlite::Alter;
 use std::alloc::Global;
 use store_tables::tables::link::links_of_kind;
 use store_tables::tables::request::request_numbered;
 use store_tables::{StoreFault, Tables};
-use text_core::Sequence;
+use text_core::{Sequence, Text};
 
 /// What a request depends on.
 pub(crate) fn dependencies_of<S: Alter>(
@@ -29,7 +32,7 @@ pub(crate) fn dependencies_of<S: Alter>(
     dependencies_by(alloc, tables, links.as_slice())
 }
 
-/// What the links lead to.
+/// What the links lead to. A queue is read only where it isn't that of the link before.
 fn dependencies_by<S: Alter>(
     alloc: Global,
     tables: &mut Tables<S>,
@@ -39,8 +42,9 @@ fn dependencies_by<S: Alter>(
         (seen S.Store tables.old) (seen S.Store tables.new) result }
 {
     let mut all = Vec::new(alloc);
+    let mut queue = None;
     for link in links {
-        put_dependency(&mut all, tables, link)?;
+        put_dependency(&mut all, tables, &mut queue, link)?;
     }
     Ok(Sequence::from(all))
 }
@@ -49,13 +53,15 @@ fn dependencies_by<S: Alter>(
 fn put_dependency<S: Alter>(
     all: &mut Vec<Dependency>,
     tables: &mut Tables<S>,
+    queue: &mut Option<QueueRow>,
     link: &LinkRow,
 ) -> Result<(), StoreFault>
-    ensures { Reads (OfDesk (λ desk done.
-        all.new.items ≡ all.old.items ++ found.dependency_by desk link.now))
+    ensures { Reads (OfDesk (λ desk done. found.IsQueue desk queue.old →
+        (all.new.items ≡ all.old.items ++ found.dependency_by desk link.now)
+        × found.IsQueue desk queue.new))
         (seen S.Store tables.old) (seen S.Store tables.new) result }
 {
-    match dependency_at(tables, link.target)? {
+    match dependency_at(tables, queue, link.target)? {
         None => Ok(()),
         Some(dependency) => push_dependency(all, dependency),
     }
@@ -71,33 +77,68 @@ fn push_dependency(all: &mut Vec<Dependency>, one: Dependency) -> Result<(), Sto
     }
 }
 
-/// What a request is to one that depends on it, if it and its queue are there.
+/// What a request is to one that depends on it, if it and its queue are there. The queue is the one
+/// that is kept, or it is read and kept.
 fn dependency_at<S: Alter>(
     tables: &mut Tables<S>,
+    queue: &mut Option<QueueRow>,
     id: u32,
 ) -> Result<Option<Dependency>, StoreFault>
-    ensures { Reads (OfDesk (λ desk one. one ≡ found.dependency_at desk id))
+    ensures { Reads (OfDesk (λ desk one. found.IsQueue desk queue.old →
+        (one ≡ found.dependency_at desk id) × found.IsQueue desk queue.new))
         (seen S.Store tables.old) (seen S.Store tables.new) result }
 {
     match request_numbered(tables, id)? {
         None => Ok(None),
         Some(row) => {
-            let queue = queue_at(tables, &row.queue)?;
-            Ok(dependency_of(row, queue))
+            keep_queue(tables, queue, &row.queue)?;
+            dependency_of(row, queue)
         }
     }
 }
 
-/// A request that another one depends on, if its queue is there.
-fn dependency_of(row: RequestRow, queue: Option<QueueRow>) -> Option<Dependency>
-    ensures { result ≡ found.dependency_of row queue }
+/// Keeps the queue with that name, or none where it isn't there. It is read unless it is the one
+/// that is kept.
+fn keep_queue<S: Alter>(
+    tables: &mut Tables<S>,
+    queue: &mut Option<QueueRow>,
+    name: &Text,
+) -> Result<(), StoreFault>
+    ensures { Reads (OfDesk (λ desk done. found.IsQueue desk queue.old →
+        queue.new ≡ queue_at desk name.now))
+        (seen S.Store tables.old) (seen S.Store tables.new) result }
+{
+    if is_named(queue, name) {
+        return Ok(());
+    }
+    *queue = seen_request::queue_at(tables, name)?;
+    Ok(())
+}
+
+/// Whether there is a queue, with that name.
+fn is_named(queue: &Option<QueueRow>, name: &Text) -> bool
+    ensures { result ≡ option_map_or (λ q. bytes_eq q.name name.now) queue.now false }
+{
+    match queue {
+        Some(queue) => queue.name == *name,
+        None => false,
+    }
+}
+
+/// A request that another one depends on, if its queue is there. `Refused` where out of memory.
+fn dependency_of(
+    row: RequestRow,
+    queue: &Option<QueueRow>,
+) -> Result<Option<Dependency>, StoreFault>
+    ensures ok { IfOk result (λ one. one ≡ found.dependency_of row queue.now) }
+    ensures fault { IfErr result (λ e. e ≡ StoreFault.Refused) }
 {
     let status = row.status;
     match queue {
-        None => None,
-        Some(queue) => Some(Dependency {
-            lifecycle: queue.lifecycle,
-            status,
-        }),
+        None => Ok(None),
+        Some(queue) => match queue.lifecycle.clone() {
+            Ok(lifecycle) => Ok(Some(Dependency { lifecycle, status })),
+            Err(_) => Err(StoreFault::Refused),
+        },
     }
 }
