@@ -1,4 +1,10 @@
-//! The texts of answers and refusals, as they are printed.
+//! The texts of answers and refusals, as they are printed: `answer_text`, `refusal_text` and
+//! `outcome_text`. Lists, reports and histories are in columns.
+//!
+//! `put_short` puts the text of `Done`, `Created` or a refusal after other bytes, without memory,
+//! where there is room for 64. What a refusal names as a right must be a right's name, as it is in
+//! all that a desk refuses. `text_in_room` is any text, short ones in room had before. A command
+//! with another text changes nothing.
 #![tactic(auto)]
 
 pub mod room;

@@ -1,5 +1,24 @@
 //! The desk over its tables: settings are attached to it, and commands are executed, one or a list.
 //! The texts of answers and refusals stand in `desk_texts`, and are passed on.
+//!
+//! - `Desk::attach` gives a desk over tables where the settings know each name in them, and
+//!   `UnknownName` only where they don't; the store is given back. Then the tables keep the due
+//!   moments that the settings give (`AreRenewed`). Those that differ are written, all or none.
+//! - `Desk::execute` is one step (`StepsOn`), to a well-formed desk, with the laws beside it
+//!   (`IsStep`); or `Unavailable`. A refusal changes no table, whatever rows there are.
+//! - `Desk::execute_all` is a run of such steps, to a well-formed desk (`RunsOn`). Where there is no
+//!   room for its answers nothing is done.
+//! - `Desk::told` is `execute` and the text of what came of it (`TellsOn`). A command that changes
+//!   the desk has the room for its text before its step. Where there is no memory for the text the
+//!   command is `Unavailable`, and the desk stays.
+//! - `Desk::stream` writes what `execute` would answer to `ls` or `overdue`. It refuses others. The
+//!   tables stand for the desk that they stood for.
+//! - The due moments kept are those of the desk (`kept_due_law`).
+//!
+//! What `refused_beforehand` refuses costs no statement, a command on a request that isn't there
+//! one, but `link` and `link -d` two, four or six. `queues` reads one row where the grants let the
+//! caller see one queue alone, else all. `show` asks once or twice for each link, and goes over all
+//! links. `ls`, `overdue` and `workload` go over all requests.
 #![tactic(auto)]
 
 pub mod alike;
