@@ -1,6 +1,8 @@
 -- What is read of the tables, as it is answered.
-use Rattle.std.specs.Prelude.{ℕ, Bool, not, ◌||◌, List, Option, filter, map}
+use Rattle.std.specs.Prelude.{◌≡◌, ℕ, Bool, not, ◌||◌, List, Option, IfSome, filter, map}
 use Rattle.std.specs.Prelude.{option_and_then}
+use Rattle.std.specs.BTreeMap.{BTreeMap, get}
+use Rattle.std.specs.Ordering.{nat_cmp}
 use Rattle.settings_core.specs.declared.settings.Settings.{Settings}
 use Rattle.desk_model.specs.declared.answer.Links.{Links}
 use Rattle.desk_model.specs.declared.answer.Shown.{Shown}
@@ -28,6 +30,12 @@ number_at Target link = link.target
 -- the request at that end of the link is there, and the caller may show it
 abbrev pub is_shown_at : Settings → List ℕ → Desk → End → LinkRow → Bool
 is_shown_at settings caller desk end link = is_shown settings caller desk (number_at end link)
+
+-- what was answered of the requests with these numbers: whether the caller may show each
+abbrev pub AreAnswers : Settings → List ℕ → Desk → BTreeMap ℕ Bool → Type 0
+AreAnswers settings caller desk asked =
+    (number : ℕ) → IfSome (get nat_cmp asked number)
+    (λ shown. shown ≡ is_shown settings caller desk number)
 
 -- the numbers at that end of the links of a kind
 abbrev pub numbers_at : End → LinkKind → List LinkRow → List ℕ

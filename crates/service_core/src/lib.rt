@@ -17,8 +17,8 @@
 //!
 //! What `refused_beforehand` refuses costs no statement, a command on a request that isn't there
 //! one, but `link` and `link -d` two, four or six. `queues` reads one row where the grants let the
-//! caller see one queue alone, else all. `show` asks once or twice for each link, and goes over all
-//! links. `ls`, `overdue` and `workload` go over all requests.
+//! caller see one queue alone, else all. `show` asks once or twice for each request that one
+//! is linked with, and goes over all links. `ls`, `overdue` and `workload` go over all requests.
 #![tactic(auto)]
 
 pub mod alike;

@@ -2,14 +2,17 @@
 ghost use Rattle.std.specs.Prelude.{◌≡◌, IfErr, IfOk, filter};
 ghost use Rattle.desk_model.specs.Links.{is_kind};
 ghost use Rattle.desk_model.specs.Readings.Show as showing;
+ghost use Rattle.desk_model.specs.Rights.{is_shown};
 ghost use Rattle.store_tables.specs.Calls.{Spares, Tells};
 ghost use Rattle.store_core.specs.Seen.{state_of};
 ghost use Rattle.service_core.specs.Shown as shown;
+ghost use Rattle.service_core.specs.Shown.{AreAnswers};
 
 use desk_core::{LinkKind, LinkRow, Links, Refusal};
 use desk_reports::or_unavailable;
 use settings_core::Settings;
 use std::alloc::{AllocError, Global};
+use std::collections::BTreeMap;
 use store_core::{Backend, Store};
 use text_core::Sequence;
 
@@ -32,8 +35,12 @@ impl End {
     }
 }
 
-/// The requests that one is linked with, as far as the caller may show them. `Unavailable` where
-/// memory or the store refused. The tables stay as they are.
+/// Of each request that was asked for, by its number, whether the caller may show it.
+type Asked = BTreeMap<u32, bool>;
+
+/// The requests that one is linked with, as far as the caller may show them. Each is asked for
+/// once, however many links lead to it and from it. `Unavailable` where memory or the store
+/// refused. The tables stay as they are.
 pub(crate) fn links_of<S: Backend>(
     alloc: Global,
     store: &mut Store<S>,
@@ -47,15 +54,35 @@ pub(crate) fn links_of<S: Backend>(
     ensures kept { Spares (state_of S.Store store.old) (state_of S.Store store.new) }
     ensures fault { IfErr result (λ refusal. refusal ≡ Refusal.Unavailable) }
 {
+    let mut asked = BTreeMap::new(alloc);
     let from = or_unavailable(store.links_from(alloc, id))?;
-    let targets = shown_at(alloc, store, settings, caller, End::Target, from.as_slice())?;
+    let leading = from.as_slice();
+    let targets = shown_at(
+        alloc,
+        store,
+        settings,
+        caller,
+        End::Target,
+        leading,
+        &mut asked,
+    )?;
     let to = or_unavailable(store.links_to(alloc, id))?;
-    let sources = shown_at(alloc, store, settings, caller, End::Source, to.as_slice())?;
+    let ending = to.as_slice();
+    let sources = shown_at(
+        alloc,
+        store,
+        settings,
+        caller,
+        End::Source,
+        ending,
+        &mut asked,
+    )?;
     let links = links_by(alloc, targets.as_slice(), sources.as_slice())?;
     Ok(links)
 }
 
-/// The links of which the caller may show the request at this end.
+/// The links of which the caller may show the request at this end. Who was asked for stays asked
+/// for, with the answer.
 fn shown_at<S: Backend>(
     alloc: Global,
     store: &mut Store<S>,
@@ -63,21 +90,52 @@ fn shown_at<S: Backend>(
     caller: &str,
     end: End,
     links: &[LinkRow],
+    asked: &mut Asked,
 ) -> Result<Vec<LinkRow>, Refusal>
-    ensures told { Tells (λ desk found. found.items
-        ≡ filter (shown.is_shown_at settings.now caller.now desk end) links.now)
+    ensures told { Tells (λ desk found. AreAnswers settings.now caller.now desk asked.old
+        → (found.items ≡ filter (shown.is_shown_at settings.now caller.now desk end) links.now)
+        × AreAnswers settings.now caller.now desk asked.new)
         (state_of S.Store store.old) (state_of S.Store store.new) result }
     ensures kept { Spares (state_of S.Store store.old) (state_of S.Store store.new) }
     ensures fault { IfErr result (λ refusal. refusal ≡ Refusal.Unavailable) }
 {
     let mut found = Vec::new(alloc);
     for link in links {
-        let shown = or_unavailable(store.is_shown(alloc, settings, caller, end.number(link)))?;
+        let number = end.number(link);
+        let shown = is_shown_once(alloc, store, settings, caller, number, asked)?;
         if shown {
             found.push(*link)?;
         }
     }
     Ok(found)
+}
+
+/// Whether the request with that number is there and the caller may show it: as it was answered
+/// before, if it was asked for. `Unavailable` where memory or the store refused. The tables stay as
+/// they are.
+fn is_shown_once<S: Backend>(
+    alloc: Global,
+    store: &mut Store<S>,
+    settings: &Settings,
+    caller: &str,
+    number: u32,
+    asked: &mut Asked,
+) -> Result<bool, Refusal>
+    ensures told { Tells (λ desk shown. AreAnswers settings.now caller.now desk asked.old
+        → (shown ≡ is_shown settings.now caller.now desk number)
+        × AreAnswers settings.now caller.now desk asked.new)
+        (state_of S.Store store.old) (state_of S.Store store.new) result }
+    ensures kept { Spares (state_of S.Store store.old) (state_of S.Store store.new) }
+    ensures fault { IfErr result (λ refusal. refusal ≡ Refusal.Unavailable) }
+{
+    match asked.get(&number).copied() {
+        Some(shown) => Ok(shown),
+        None => {
+            let shown = or_unavailable(store.is_shown(alloc, settings, caller, number))?;
+            asked.insert(number, shown)?;
+            Ok(shown)
+        }
+    }
 }
 
 /// The six lists of numbers, of the links that lead from a request and of those that lead to it.

@@ -1,7 +1,11 @@
-use Rattle.std.proofs.Common.{◌∙◌, ap, filter}
+use Rattle.std.proofs.Common.{◌≡◌, ◌∙◌, ℕ, Bool, List, IfSome, ap, filter, subst, sym}
+use Rattle.std.specs.BTreeMap.{is_at}
+use Rattle.std.specs.Map.{lookup}
+use Rattle.std.specs.Ordering.{nat_cmp}
 use Rattle.std.proofs.lemmas.Result.{IfOk-at_ok}
 use Rattle.store_tables.proofs.Spared.{joined, stands_for}
-use Rattle.service_core.specs.Shown.{is_shown_at}
+use Rattle.desk_model.specs.Rights.{is_shown}
+use Rattle.service_core.specs.Shown.{AreAnswers, is_shown_at}
 use Rattle.service_core.specs.declared.links.End.TheVariants.{Source, Target}
 use Rattle.service_core.proofs.Linked.{links_are}
 use Rattle.service_core.proofs.links.links_of.Goals as goal
@@ -13,18 +17,24 @@ returns-clause-told g c desk is stand clean =
     let second = stands_for c.links_from.ensures.kept desk stand in
     let third = stands_for c.shown_at.ensures.kept desk second in
     let shows = is_shown_at c.args.settings.now c.args.caller.now desk in
+    let none : AreAnswers c.args.settings.now c.args.caller.now desk c.new-asked.result =
+    λ number. subst (λ (es : List (ℕ × Bool)). IfSome (lookup (is_at (nat_cmp number)) es)
+    (λ b. b ≡ is_shown c.args.settings.now c.args.caller.now desk number))
+    (sym c.new-asked.ensures.empty) tt in
+    let first = c.in_ok-targets.ensures.told desk is second first_clean none in
     let targets =
-    c.in_ok-targets.ensures.told desk is second first_clean
-    ∙ ap (filter (shows Target)) (c.as_slice.ensures.value
+    first.0
+    ∙ ap (filter (shows Target)) (c.as_slice-leading.ensures.value
     ∙ IfOk-at_ok _ c.in_ok-from.ensures.ok
     (c.links_from.ensures.listed desk is stand (c.shown_at.ensures.kept.clean first_clean))) in
     let sources =
-    c.in_ok-sources.ensures.told desk is (stands_for c.links_to.ensures.kept desk third) clean
-    ∙ ap (filter (shows Source)) (c.as_slice-2.ensures.value
+    (c.in_ok-sources.ensures.told desk is (stands_for c.links_to.ensures.kept desk third) clean
+    first.1).0
+    ∙ ap (filter (shows Source)) (c.as_slice-ending.ensures.value
     ∙ IfOk-at_ok _ c.in_ok-to.ensures.ok (c.links_to.ensures.listed desk is third was_clean)) in
     c.in_ok-links.ensures
     ∙ links_are c.args.settings.now c.args.caller.now desk c.args.id _ _
-    (c.as_slice-3.ensures.value ∙ targets) (c.as_slice-4.ensures.value ∙ sources)
+    (c.as_slice.ensures.value ∙ targets) (c.as_slice-2.ensures.value ∙ sources)
 
 pub returns-in_err-sources-clause-kept : goal.returns-in_err-sources-clause-kept
 returns-in_err-sources-clause-kept g c =

@@ -6,7 +6,7 @@ use Rattle.desk_model.specs.IsDesk.{IsDesk}
 use Rattle.store_tables.specs.Calls.{Spares}
 use Rattle.store_core.specs.Seen.{state_of}
 use Rattle.store_tables.specs.Stands.{StandsFor}
-use Rattle.service_core.specs.Shown.{is_shown_at}
+use Rattle.service_core.specs.Shown.{AreAnswers, is_shown_at}
 use Rattle.service_core.proofs.links.shown_at.Given as goal
 
 abbrev pub invariant-loop-link : goal.invariant-loop-link
@@ -15,7 +15,9 @@ invariant-loop-link g l =
     let now = state_of g.S.Store l.store in record {
       told :
           (desk : Desk) → IsDesk desk → StandsFor desk old → HasCleanDisk now
-          → l.found.items
-          ≡ filter (is_shown_at l.settings l.caller desk l.end) (take l.link-index l.links);
+          → AreAnswers l.settings l.caller desk l.fn.asked
+          → (l.found.items
+          ≡ filter (is_shown_at l.settings l.caller desk l.end) (take l.link-index l.links))
+          × AreAnswers l.settings l.caller desk l.asked;
       kept : Spares old now;
     }
