@@ -1,17 +1,17 @@
 -- What is told of rows with the due moments of a desk is what is told of the desk.
-use Rattle.std.proofs.Common.{◌≡◌, ◌∙◌, ℕ, true, false, cond, List, [], ◌∷◌, ◌++◌, filter}
-use Rattle.std.proofs.Common.{flat_map, map, Option, Some, None, inl, inr, refl, ap, ap₂, subst}
-use Rattle.std.proofs.Common.{sym}
-use Rattle.std.specs.Prelude.{filter_map, option_and_then}
+use Rattle.std.proofs.Common.{◌≡◌, ◌∙◌, ℕ, ◌+◌, ◌==◌, true, false, cond, List, [], ◌∷◌, ◌++◌}
+use Rattle.std.proofs.Common.{filter, flat_map, map, Option, Some, None, inl, inr, refl, ap, ap₂}
+use Rattle.std.proofs.Common.{arith, subst, sym}
+use Rattle.std.specs.Prelude.{filter_map, nat_lt, option_and_then}
 use Rattle.std.specs.List.{cons_option}
 use Rattle.std.specs.Cmp.Lexicographic.{texts_ties}
 use Rattle.std.specs.Option.{option_map_or}
 use Rattle.std.specs.Str.{bytes_eq}
-use Rattle.std.proofs.lemmas.Bool.{cases_Bool}
+use Rattle.std.proofs.lemmas.Bool.{and_from, and_parts, cases_Bool, eqb-true, lt-ltb}
 use Rattle.settings_core.specs.declared.settings.Settings.{Settings}
 use Rattle.desk_model.specs.Desk.{Desk, Request}
 use Rattle.desk_model.specs.Facts.{seen_request}
-use Rattle.desk_model.specs.IsDesk.{IsDesk}
+use Rattle.desk_model.specs.IsDesk.{IsDesk, are_numbered}
 use Rattle.desk_model.specs.Readings.Listing as listing
 use Rattle.desk_model.specs.Readings.Overdue as overdue
 use Rattle.desk_model.specs.Readings.Workload.{loads}
@@ -23,9 +23,9 @@ use Rattle.desk_model.specs.declared.answer.Load.{Load}
 use Rattle.desk_model.specs.declared.rows.QueueRow.{QueueRow}
 use Rattle.desk_model.specs.declared.rows.RequestRow.{RequestRow}
 use Rattle.desk_model.specs.declared.rows.Watcher.{Watcher}
-use Rattle.report_core.specs.Rows.{QueuesRise, WatchesRise, late_line_shown, late_lines_shown}
-use Rattle.report_core.specs.Rows.{line_shown, line_with, lines_shown, loads_by, shown_by}
-use Rattle.report_core.specs.Rows.{told_among}
+use Rattle.report_core.specs.Rows.{QueuesRise, RowsRise, WatchesRise, late_line_shown}
+use Rattle.report_core.specs.Rows.{late_lines_shown, line_shown, line_with, lines_shown, loads_by}
+use Rattle.report_core.specs.Rows.{numbers_rise, shown_by, told_among}
 use Rattle.desk_texts.specs.Texts.Listed as listed
 use Rattle.desk_texts.specs.Texts.Overdue as late
 use Rattle.store_tables.specs.Contents.Request.{Dated, dated_by, is_filed_in}
@@ -155,6 +155,20 @@ list_of s person queue desk is watches rows lines own filed made =
     → lines ≡ lines_shown s person ws rows) own made in
     one (watches_in_order person desk is) ∙ filed_told s person queue desk is rows filed
 
+-- the rows of numbered requests are in the order of their numbers
+rows_rise : (due : RequestRow → Option ℕ) (n : ℕ) (rs : List Request)
+    → are_numbered (n + 1) (map (λ r. r.row.id) rs) ≡ true
+    → numbers_rise n (map (dated_by due) (map (λ r. r.row) rs)) ≡ true
+rows_rise due n [] numbered = refl
+rows_rise due n (r ∷ rs) numbered =
+    let parts = and_parts (r.row.id == n + 1) (are_numbered (n + 1 + 1) (map (λ x. x.row.id) rs))
+    numbered in
+    let rows : List Dated = map (dated_by due) (map (λ x. x.row) rs) in
+    let next : r.row.id ≡ n + 1 = eqb-true r.row.id (n + 1) parts.0 in
+    and_from (nat_lt n r.row.id) (numbers_rise r.row.id rows)
+    (lt-ltb n r.row.id (omega (arith, next)))
+    (ap (λ m. numbers_rise m rows) next ∙ rows_rise due (n + 1) rs parts.1)
+
 -- the lists that the workload is told of
 pub record AreOf (s : Settings) (desk : Desk) (person : List ℕ) (watches : List Watcher)
     (queues : List QueueRow) (rows : List Dated) : Type 0 where
@@ -165,17 +179,19 @@ pub record AreOf (s : Settings) (desk : Desk) (person : List ℕ) (watches : Lis
 pub loads_of : (at : ℕ) (s : Settings) (person : List ℕ) (desk : Desk) → IsDesk desk
     → (watches : List Watcher) (queues : List QueueRow) (rows : List Dated)
     (given : List Load) → AreOf s desk person watches queues rows
-    → (WatchesRise watches → QueuesRise queues
+    → (WatchesRise watches → QueuesRise queues → RowsRise rows
     → given ≡ loads_by at s queues (shown_by s person watches rows))
     → given ≡ loads at (filter (λ t. t.is_live) (told s person desk))
 loads_of at s person desk is watches queues rows given same made =
     let W = watches_on desk person in
-    let one = subst (λ (ws : List Watcher). WatchesRise ws → QueuesRise queues
+    let due = due_of_row s desk in
+    let one = subst (λ (ws : List Watcher). WatchesRise ws → QueuesRise queues → RowsRise rows
     → given ≡ loads_by at s queues (shown_by s person ws rows)) same.own made in
-    let two = subst (λ (qs : List QueueRow). WatchesRise W → QueuesRise qs
+    let two = subst (λ (qs : List QueueRow). WatchesRise W → QueuesRise qs → RowsRise rows
     → given ≡ loads_by at s qs (shown_by s person W rows)) same.all_queues one in
-    two (watches_in_order person desk is) is.queues
-    ∙ ap (λ ds. loads_by at s desk.queues (shown_by s person W ds)) same.all_rows
+    let three = subst (λ (ds : List Dated). WatchesRise W → QueuesRise desk.queues → RowsRise ds
+    → given ≡ loads_by at s desk.queues (shown_by s person W ds)) same.all_rows two in
+    three (watches_in_order person desk is) is.queues (rows_rise due 0 desk.requests is.requests)
     ∙ ap (λ ts. loads at (filter (λ t. t.is_live) ts))
     (rows_told s person desk W desk.requests (shows_alike s person desk is)
     (have_dues s desk is))
