@@ -12,7 +12,7 @@ ghost use Rattle.desk_finds.specs.Found.{found_of, is_by_last, looks_inside};
 ghost use Rattle.desk_finds.specs.Found.{placed_by, told_at};
 
 use crate::reading::{Dated, asked, history};
-use desk_core::Refusal;
+use desk_core::{Call, Refusal};
 use find_core::{Findings, Found, Order, Place, Placed, Search, place_if};
 use hours_core::Minute;
 use settings_core::Settings;
@@ -28,20 +28,20 @@ use text_core::Sequence;
 pub fn find<S: Backend>(
     alloc: Global,
     store: &mut Store<S>,
-    settings: &Settings,
-    at: u32,
-    caller: &str,
+    call: Call<'_>,
     search: &Search,
     limit: u32,
     after: Option<Place>,
 ) -> Result<Findings, Refusal>
-    ensures told { TellsDue settings.now (λ desk found. found
-        ≡ findings settings.now at caller.now search.now limit after desk)
+    ensures told { TellsDue call.entry.settings.now (λ desk found. found
+        ≡ findings call.entry.settings.now call.entry.at call.entry.caller.now search.now limit after
+        desk)
         (state_of S.Store store.old) (state_of S.Store store.new) result }
     ensures kept { Spares (state_of S.Store store.old) (state_of S.Store store.new) }
     ensures fault { IfErr result (λ refusal. refusal ≡ Refusal.Unavailable) }
 {
-    let rows = asked(alloc, store, settings, at, caller, search)?;
+    let (settings, caller) = (call.settings, call.caller);
+    let rows = asked(alloc, store, call, search)?;
     let placed = placed(alloc, store, settings, caller, search, rows.as_slice())?;
     drop(rows);
     let count = count_of(placed.as_slice())?;

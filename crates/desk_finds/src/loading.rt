@@ -8,7 +8,7 @@ ghost use Rattle.store_core.specs.Due.{TellsDue};
 ghost use Rattle.store_core.specs.Seen.{state_of};
 
 use crate::reading::asked;
-use desk_core::{QueueRow, Refusal};
+use desk_core::{Call, QueueRow, Refusal};
 use desk_reports::or_unavailable;
 use find_core::{QueueLoad, open_ones, queues_seen};
 use settings_core::Settings;
@@ -24,21 +24,20 @@ use text_core::Sequence;
 pub fn queue_loads<S: Backend>(
     alloc: Global,
     store: &mut Store<S>,
-    settings: &Settings,
-    at: u32,
-    caller: &str,
+    call: Call<'_>,
 ) -> Result<Sequence<QueueLoad>, Refusal>
-    ensures told { TellsDue settings.now
-        (λ desk told. told ≡ loads.queue_loads settings.now at caller.now desk)
+    ensures told { TellsDue call.entry.settings.now
+        (λ desk told. told
+        ≡ loads.queue_loads call.entry.settings.now call.entry.at call.entry.caller.now desk)
         (state_of S.Store store.old) (state_of S.Store store.new) result }
     ensures kept { Spares (state_of S.Store store.old) (state_of S.Store store.new) }
     ensures fault { IfErr result (λ refusal. refusal ≡ Refusal.Unavailable) }
 {
-    let queues = seen(alloc, store, settings, caller)?;
+    let queues = seen(alloc, store, call.settings, call.caller)?;
     if queues.as_slice().is_empty() {
         Ok(Sequence::from(Vec::new(alloc)))
     } else {
-        loads(alloc, store, settings, at, caller, queues)
+        loads(alloc, store, call, queues)
     }
 }
 
@@ -64,19 +63,18 @@ fn seen<S: Backend>(
 fn loads<S: Backend>(
     alloc: Global,
     store: &mut Store<S>,
-    settings: &Settings,
-    at: u32,
-    caller: &str,
+    call: Call<'_>,
     queues: Vec<QueueRow>,
 ) -> Result<Sequence<QueueLoad>, Refusal>
-    ensures told { TellsDue settings.now (λ desk told. told
-        ≡ map (loads.load_among at (sights settings.now caller.now desk)) queues.items)
+    ensures told { TellsDue call.entry.settings.now (λ desk told. told
+        ≡ map (loads.load_among call.entry.at
+        (sights call.entry.settings.now call.entry.caller.now desk)) queues.items)
         (state_of S.Store store.old) (state_of S.Store store.new) result }
     ensures kept { Spares (state_of S.Store store.old) (state_of S.Store store.new) }
     ensures fault { IfErr result (λ refusal. refusal ≡ Refusal.Unavailable) }
 {
     let search = open_ones(alloc);
-    let rows = asked(alloc, store, settings, at, caller, &search)?;
-    let told = find_core::queue_loads(alloc, at, queues, rows.as_slice())?;
+    let rows = asked(alloc, store, call, &search)?;
+    let told = find_core::queue_loads(alloc, call.at, queues, rows.as_slice())?;
     Ok(told)
 }

@@ -9,7 +9,7 @@ ghost use Rattle.store_core.specs.Rows.{TellsDated};
 ghost use Rattle.store_core.specs.Seen.{state_of};
 ghost use Rattle.desk_finds.specs.Found.{ArePart, asked_on, theirs_on, told_at};
 
-use desk_core::{Command, Entry, Facts, Refusal, RequestRow, Watcher};
+use desk_core::{Call, Command, Entry, Facts, Refusal, RequestRow, Watcher};
 use desk_reports::or_unavailable;
 use find_core::{Search, asked_rows, told};
 use hours_core::Minute;
@@ -28,22 +28,22 @@ pub(crate) type Dated = (RequestRow, Option<Minute>);
 pub(crate) fn asked<S: Backend>(
     alloc: Global,
     store: &mut Store<S>,
-    settings: &Settings,
-    at: u32,
-    caller: &str,
+    call: Call<'_>,
     search: &Search,
 ) -> Result<Vec<Dated>, Refusal>
-    ensures told { TellsDue settings.now
-        (λ desk rows. rows.items ≡ asked_on settings.now at caller.now search.now desk)
+    ensures told { TellsDue call.entry.settings.now
+        (λ desk rows. rows.items ≡ asked_on call.entry.settings.now call.entry.at
+        call.entry.caller.now search.now desk)
         (state_of S.Store store.old) (state_of S.Store store.new) result }
     ensures kept { Spares (state_of S.Store store.old) (state_of S.Store store.new) }
     ensures fault { IfErr result (λ refusal. refusal ≡ Refusal.Unavailable) }
 {
-    let own = or_unavailable(store.watches_of(alloc, caller))?;
+    let own = or_unavailable(store.watches_of(alloc, call.caller))?;
     let theirs = watches_by(alloc, store, &search.requestor)?;
     let queues = or_unavailable(store.queues(alloc))?;
     let rows = rows_in(alloc, store, &search.queue)?;
     let (own, theirs, queues) = (own.as_slice(), theirs.as_slice(), queues.as_slice());
+    let (settings, at, caller) = (call.settings, call.at, call.caller);
     Ok(asked_rows(settings, at, caller, search, own, theirs, queues, rows))
 }
 

@@ -10,7 +10,7 @@ ghost use Rattle.store_core.specs.Due.{TellsDue};
 ghost use Rattle.store_core.specs.Seen.{state_of};
 
 use crate::fault::or_unavailable;
-use desk_core::{LateLine, Line, Load, Refusal};
+use desk_core::{Call, LateLine, Line, Load, Refusal};
 use settings_core::Settings;
 use std::alloc::Global;
 use store_core::{Backend, Store};
@@ -46,19 +46,19 @@ pub fn list<S: Backend>(
 pub fn overdue<S: Backend>(
     alloc: Global,
     store: &mut Store<S>,
-    settings: &Settings,
-    at: u32,
-    caller: &str,
+    call: Call<'_>,
 ) -> Result<Sequence<LateLine>, Refusal>
-    ensures told { TellsDue settings.now
-        (λ desk lines. lines ≡ overdue.lines_of at (reports.told settings.now caller.now desk))
+    ensures told { TellsDue call.entry.settings.now
+        (λ desk lines. lines ≡ overdue.lines_of call.entry.at
+        (reports.told call.entry.settings.now call.entry.caller.now desk))
         (state_of S.Store store.old) (state_of S.Store store.new) result }
     ensures kept { Spares (state_of S.Store store.old) (state_of S.Store store.new) }
     ensures fault { IfErr result (λ refusal. refusal ≡ Refusal.Unavailable) }
 {
-    let watches = or_unavailable(store.watches_of(alloc, caller))?;
-    let rows = or_unavailable(store.requests_due_before(alloc, at))?;
+    let watches = or_unavailable(store.watches_of(alloc, call.caller))?;
+    let rows = or_unavailable(store.requests_due_before(alloc, call.at))?;
     let own = watches.as_slice();
+    let (at, settings, caller) = (call.at, call.settings, call.caller);
     let lines = report_core::overdue(alloc, at, settings, caller, own, rows)?;
     Ok(lines)
 }
@@ -69,20 +69,20 @@ pub fn overdue<S: Backend>(
 pub fn workload<S: Backend>(
     alloc: Global,
     store: &mut Store<S>,
-    settings: &Settings,
-    at: u32,
-    caller: &str,
+    call: Call<'_>,
 ) -> Result<Sequence<Load>, Refusal>
-    ensures told { TellsDue settings.now (λ desk loads. loads ≡ workload.loads at
-        (filter (λ r. r.is_live) (reports.told settings.now caller.now desk)))
+    ensures told { TellsDue call.entry.settings.now (λ desk loads. loads
+        ≡ workload.loads call.entry.at (filter (λ r. r.is_live)
+        (reports.told call.entry.settings.now call.entry.caller.now desk)))
         (state_of S.Store store.old) (state_of S.Store store.new) result }
     ensures kept { Spares (state_of S.Store store.old) (state_of S.Store store.new) }
     ensures fault { IfErr result (λ refusal. refusal ≡ Refusal.Unavailable) }
 {
-    let watches = or_unavailable(store.watches_of(alloc, caller))?;
+    let watches = or_unavailable(store.watches_of(alloc, call.caller))?;
     let queues = or_unavailable(store.queues(alloc))?;
     let rows = or_unavailable(store.dated_requests(alloc))?;
     let (watches, queues) = (watches.as_slice(), queues.as_slice());
+    let (at, settings, caller) = (call.at, call.settings, call.caller);
     let loads = report_core::workload(alloc, at, settings, caller, watches, queues, rows)?;
     Ok(loads)
 }

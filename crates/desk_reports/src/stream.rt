@@ -13,6 +13,7 @@ ghost use Rattle.desk_reports.specs.Streams.{IsCutBy, WritesText};
 use crate::fault::StreamFault;
 use crate::lines::ListKind;
 use crate::rows::put_list;
+use desk_core::Call;
 use settings_core::Settings;
 use std::alloc::Global;
 use std::io::Write;
@@ -63,29 +64,28 @@ pub fn stream_list<S: Backend, W: Write>(
 pub fn stream_overdue<S: Backend, W: Write>(
     alloc: Global,
     store: &mut Store<S>,
-    settings: &Settings,
-    at: u32,
-    caller: &str,
+    call: Call<'_>,
     output: &mut CountedWriter<'_, W>,
 ) -> Result<(), StreamFault>
     requires { has_write_failed output.old ≡ false }
     ensures same_writer { HaveOneWriter output.new output.old }
     ensures failed { IsCutBy result (has_write_failed output.new) }
-    ensures written { WritesText settings.now
+    ensures written { WritesText call.entry.settings.now
         (λ desk. overdue_text.overdue_text
-        (overdue.lines_of at (reports.told settings.now caller.now desk)))
+        (overdue.lines_of call.entry.at
+        (reports.told call.entry.settings.now call.entry.caller.now desk)))
         (state_of S.Store store.old) (state_of S.Store store.new)
         W.contents output.old output.new result }
     ensures kept { Spares (state_of S.Store store.old) (state_of S.Store store.new) }
 {
-    let watches = store.watches_of(alloc, caller)?;
-    let mut rows = store.rows_overdue(alloc, at)?;
+    let watches = store.watches_of(alloc, call.caller)?;
+    let mut rows = store.rows_overdue(alloc, call.at)?;
     let own = watches.as_slice();
     put_list(
         alloc,
-        ListKind::Overdue(at),
-        settings,
-        caller,
+        ListKind::Overdue(call.at),
+        call.settings,
+        call.caller,
         own,
         &mut rows,
         output,

@@ -63,9 +63,8 @@ fn look<S: Backend>(
     ensures kept { Spares (state_of S.Store store.old) (state_of S.Store store.new) }
     ensures named { IfErr result (λ refusal. names_its_right refusal ≡ true) }
 {
-    let (settings, at, caller) = (call.settings, call.at, call.caller);
-    match refused_beforehand(settings, at, caller, overdue) {
+    match refused_beforehand(call.settings, call.at, call.caller, overdue) {
         Some(refusal) => Err(refusal),
-        None => desk_finds::find(alloc, store, settings, at, caller, search, limit, after),
+        None => desk_finds::find(alloc, store, call, search, limit, after),
     }
 }

@@ -143,7 +143,7 @@ fn overdue<S: Backend>(
     ensures kept { Spares (state_of S.Store store.old) (state_of S.Store store.new) }
     ensures fault { IfErr result (λ refusal. refusal ≡ Refusal.Unavailable) }
 {
-    let lines = desk_reports::overdue(alloc, store, call.settings, call.at, call.caller)?;
+    let lines = desk_reports::overdue(alloc, store, call)?;
     Ok(Answer::Late(lines))
 }
 
@@ -160,7 +160,7 @@ fn workload<S: Backend>(
     ensures kept { Spares (state_of S.Store store.old) (state_of S.Store store.new) }
     ensures fault { IfErr result (λ refusal. refusal ≡ Refusal.Unavailable) }
 {
-    let loads = desk_reports::workload(alloc, store, call.settings, call.at, call.caller)?;
+    let loads = desk_reports::workload(alloc, store, call)?;
     Ok(Answer::Workload(loads))
 }
 

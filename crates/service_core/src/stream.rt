@@ -171,7 +171,7 @@ fn put_list<S: Backend, W: Write>(
     let (settings, caller) = (call.settings, call.caller);
     match command {
         Command::List { queue } => stream_list(alloc, store, settings, caller, queue, output),
-        Command::Overdue => stream_overdue(alloc, store, settings, call.at, caller, output),
+        Command::Overdue => stream_overdue(alloc, store, call, output),
         _ => Err(StreamFault::Refused(Refusal::Unavailable)),
     }
 }

@@ -10,8 +10,8 @@ use Rattle.desk_finds.proofs.finding.find.Goals as goal
 
 pub returns-clause-told : goal.returns-clause-told
 returns-clause-told g c desk is stand clean =
-    let s = c.args.settings.now in
-    let caller = c.args.caller.now in
+    let s = c.args.call.settings.now in
+    let caller = c.args.call.caller.now in
     let search = c.args.search.now in
     let due = due_of_row s desk in
     let first = stands c.asked.ensures.kept (contents_of due desk) stand in
@@ -19,7 +19,7 @@ returns-clause-told g c desk is stand clean =
     let clean-second = c.found.ensures.kept.clean clean in
     let clean-first = c.placed.ensures.kept.clean clean-second in
     ap (λ rows. as_findings rows c.in_ok-count.count) c.from.ensures
-    ∙ findings_are s c.args.at caller search desk is c.args.limit c.args.after
+    ∙ findings_are s c.args.call.at caller search desk is c.args.limit c.args.after
     c.in_ok-rows.rows.items c.in_ok-placed.placed.items c.in_ok-page.page.items
     c.in_ok-found.found.items c.in_ok-count.count
     (c.in_ok-rows.ensures.told desk is stand clean-first)

@@ -8,9 +8,9 @@ use Rattle.desk_finds.proofs.loading.loads.Goals as goal
 
 pub returns-clause-told : goal.returns-clause-told
 returns-clause-told g c desk is stand clean =
-    let s = c.args.settings.now in
-    let at = c.args.at in
-    let caller = c.args.caller.now in
+    let s = c.args.call.settings.now in
+    let at = c.args.call.at in
+    let caller = c.args.call.caller.now in
     let queues = c.args.queues.items in
     c.in_ok-told.ensures
     ∙ ap (λ rows. map (load_of at rows) queues) c.as_slice.ensures.value

@@ -10,16 +10,16 @@ pub returns-then-is_empty-clause-told : goal.returns-then-is_empty-clause-told
 returns-then-is_empty-clause-told g c desk is stand clean =
     c.from.ensures
     ∙ c.new.ensures.items
-    ∙ none_seen c.args.settings.now c.args.at c.args.caller.now desk c.in_ok-queues.queues.items
-    (c.in_ok-queues.ensures.told desk is (due_of_row c.args.settings.now desk, stand) clean)
+    ∙ none_seen c.args.call.settings.now c.args.call.at c.args.call.caller.now desk c.in_ok-queues.queues.items
+    (c.in_ok-queues.ensures.told desk is (due_of_row c.args.call.settings.now desk, stand) clean)
     (ap (λ qs. length qs == 0) (sym c.as_slice.ensures.value)
     ∙ sym c.is_empty.ensures ∙ c.if-is_empty.true)
 
 pub returns-else-is_empty-clause-told : goal.returns-else-is_empty-clause-told
 returns-else-is_empty-clause-told g c desk is stand clean =
-    let s = c.args.settings.now in
+    let s = c.args.call.settings.now in
     let due = due_of_row s desk in
     let first = stands c.seen.ensures.kept (contents_of due desk) stand in
-    some_seen s c.args.at c.args.caller.now desk c.in_ok-queues.queues.items c.loads.result
+    some_seen s c.args.call.at c.args.call.caller.now desk c.in_ok-queues.queues.items c.loads.result
     (c.in_ok-queues.ensures.told desk is (due, stand) (c.loads.ensures.kept.clean clean))
     (c.loads.ensures.told desk is first clean)

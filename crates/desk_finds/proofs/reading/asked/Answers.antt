@@ -9,7 +9,7 @@ use Rattle.desk_finds.proofs.reading.asked.Goals as goal
 
 pub returns-clause-told : goal.returns-clause-told
 returns-clause-told g c desk is stand clean =
-    let s = c.args.settings.now in
+    let s = c.args.call.settings.now in
     let due = due_of_row s desk in
     let first = stands c.watches_of.ensures.kept (contents_of due desk) stand in
     let second = stands c.watches_by.ensures.kept (contents_of due desk) first in
@@ -17,7 +17,7 @@ returns-clause-told g c desk is stand clean =
     let clean-third = c.rows_in.ensures.kept.clean clean in
     let clean-second = c.queues.ensures.kept.clean clean-third in
     let clean-first = c.watches_by.ensures.kept.clean clean-second in
-    asked_from s c.args.at c.args.caller.now c.args.search.now desk is
+    asked_from s c.args.call.at c.args.call.caller.now c.args.search.now desk is
     c.as_slice-own.result.now c.as_slice-theirs.result.now c.as_slice-queues.result.now
     c.in_ok-rows.rows.items c.asked_rows.result.items
     (c.as_slice-own.ensures.value

@@ -9,10 +9,10 @@ use Rattle.desk_reports.proofs.reports.overdue.Goals as goal
 
 pub returns-clause-told : goal.returns-clause-told
 returns-clause-told g c desk is stand clean =
-    let due = due_of_row c.args.settings.now desk in
+    let due = due_of_row c.args.call.settings.now desk in
     let after = stands c.watches_of.ensures.kept (contents_of due desk) stand in
     let clean-before = c.requests_due_before.ensures.kept.clean clean in
-    late_of c.args.at c.args.settings.now c.args.caller.now desk is
+    late_of c.args.call.at c.args.call.settings.now c.args.call.caller.now desk is
     c.as_slice-own.result.now c.in_ok-rows.rows.items c.in_ok-lines.lines
     (c.as_slice-own.ensures.value
     ∙ IfOk-at_ok _ c.in_ok-watches.ensures.ok

@@ -9,12 +9,12 @@ use Rattle.desk_reports.proofs.reports.workload.Goals as goal
 
 pub returns-clause-told : goal.returns-clause-told
 returns-clause-told g c desk is stand clean =
-    let due = due_of_row c.args.settings.now desk in
+    let due = due_of_row c.args.call.settings.now desk in
     let first = stands c.watches_of.ensures.kept (contents_of due desk) stand in
     let second = stands c.queues.ensures.kept (contents_of due desk) first in
     let clean-second = c.dated_requests.ensures.kept.clean clean in
     let clean-first = c.queues.ensures.kept.clean clean-second in
-    loads_of c.args.at c.args.settings.now c.args.caller.now desk is
+    loads_of c.args.call.at c.args.call.settings.now c.args.call.caller.now desk is
     c.as_slice-watches.result.now c.as_slice-queues.result.now c.in_ok-rows.rows.items
     c.in_ok-loads.loads
     (record {

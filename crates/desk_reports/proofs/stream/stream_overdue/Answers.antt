@@ -17,8 +17,8 @@ returns-clause-written g c =
       it.0,
       it.1,
       λ desk is stand clean.
-          let s = c.args.settings.now in
-          let person = c.args.caller.now in
+          let s = c.args.call.settings.now in
+          let person = c.args.call.caller.now in
           let due = due_of_row s desk in
           let begun = c.in_ok-rows.ensures.begun in
           let left = c.put_list.new.rows.store.now in
@@ -30,7 +30,7 @@ returns-clause-written g c =
           ∙ c.in_ok-watches.ensures.listed desk is (due, stand) (begun.kept.clean clean-rows) in
           let rows = begun.none_yet desk is due first clean-rows in
           subst (λ text. IsPrintedOf text it.0 c.put_list.result)
-          (overdue_text c.args.at s person desk is c.as_slice-own.result.now rows.0 own rows.1)
+          (overdue_text c.args.call.at s person desk is c.as_slice-own.result.now rows.0 own rows.1)
           (it.2 (subst WatchesRise (sym own) (watches_in_order person desk is)) desk is due next
           late rows.0 rows.2),
     )
