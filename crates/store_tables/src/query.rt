@@ -102,7 +102,9 @@ fn read_all<T: Stored + Drop>(alloc: Global, rows: &[Row]) -> Result<Vec<T>, Sto
         (r : _) × Has rows.now r × ¬ T.Stored.is_value r) }
     ensures fault { IfErr result (λ e. e ≢ StoreFault.WrongVersion) }
 {
-    let mut values = Vec::new(alloc);
+    let Ok(mut values) = Vec::with_capacity(alloc, rows.len()) else {
+        return Err(StoreFault::Refused);
+    };
     for row in rows {
         let value = T::read(row)?;
         match values.push(value) {

@@ -16,4 +16,4 @@ pub loop-row-preserved : goal.loop-row-preserved
 loop-row-preserved g c =
     read_more g.T.Stored.reads c.args.rows.now c.loop-row.values.items c.loop-row.row-index
     c.row-item.result c.in_ok-value.value c.push.new.self.items (search rules) c.row-item.is
-    c.in-Ok.ensures.items c.loop-row.invariant c.in_ok-value.ensures.ok
+    c.in-Ok-push.ensures.items c.loop-row.invariant c.in_ok-value.ensures.ok
