@@ -1,12 +1,13 @@
 //! Messages that go over connections in memory, to a server that answers them one after the other.
 
+use crate::calls::{Served, serve_connections};
 use crate::cases::str_of;
 use crate::failure::Failure;
 use crate::served::Sent;
 use crate::streams::Slow;
-use crate::words::replaced;
-use desk_program::{CountedListener, serve_on_counted};
+use crate::words::{number, replaced};
 use service_core::Desk;
+use std::alloc::Global;
 use std::cell::{Cell, RefCell};
 use std::io::{Error, ErrorKind, Read, Result, Write};
 use std::net::{Ipv4Addr, OpenListener, SocketAddr, SocketAddrV4};
@@ -15,7 +16,7 @@ use store_core::Backend;
 
 /// What the clock of a server does.
 #[derive(Clone, Copy)]
-pub(crate) enum Ticking {
+enum Ticking {
     /// It tells the moment of the first message always.
     Stands,
     /// It tells that first, and each time a minute more.
@@ -27,56 +28,75 @@ pub(crate) enum Ticking {
 /// A server over connections in memory.
 #[derive(Clone, Copy)]
 pub(crate) struct Server {
-    pub(crate) ticking: Ticking,
+    ticking: Ticking,
     /// After how many accepts one fails, if one does.
-    pub(crate) fails_at: Option<u32>,
+    fails_at: Option<u32>,
     /// Whether the second connection fails after three reads, and the third after five writes.
-    pub(crate) breaks: bool,
+    breaks: bool,
 }
 
-/// How a server ended, and what its listener counted.
-#[derive(Clone, Copy)]
-struct Ended {
-    status: u8,
-    accepted: u64,
-    answered: u64,
-    unread: u64,
+/// No connection fails.
+const TICKS: Server = Server {
+    ticking: Ticking::Ticks,
+    fails_at: None,
+    breaks: false,
+};
+
+/// The server that words name, if they do:
+///
+/// | Words | The server |
+/// |---|---|
+/// | `clock stands`, `clock ticks`, `clock fails` | its clock tells the first message's moment, that and each time a minute more, or nothing |
+/// | `breaks` | its clock ticks; the second connection fails after three reads, and the third after five writes |
+/// | `accept_fails N` | its clock ticks; an accept fails after N |
+pub(crate) fn server_of(kind: &str, rest: &str) -> std::result::Result<Option<Server>, Failure> {
+    match kind {
+        "clock" => Ok(Some(by_clock(rest))),
+        "breaks" => Ok(Some(Server {
+            breaks: true,
+            ..TICKS
+        })),
+        "accept_fails" => Ok(Some(Server {
+            fails_at: Some(number(rest)?),
+            ..TICKS
+        })),
+        _ => Ok(None),
+    }
+}
+
+fn by_clock(word: &str) -> Server {
+    let ticking = match word {
+        "stands" => Ticking::Stands,
+        "ticks" => Ticking::Ticks,
+        _ => Ticking::Fails,
+    };
+    Server { ticking, ..TICKS }
 }
 
 /// Serves the messages, each over a connection of its own. Adds what was sent over all of them, and
 /// how the server ended.
 pub(crate) fn answer_by_connections<S: Backend>(
-    rt: &HostRuntime,
+    alloc: Global,
     out: &mut String,
     sent: &[Sent],
     server: Server,
     desk: &mut Desk<S>,
 ) -> std::result::Result<(), Failure> {
-    let taken = RefCell::new(Vec::new(rt.alloc()));
-    let ended = served(rt, sent, server, &taken, desk);
+    let taken = RefCell::new(Vec::new(alloc));
+    let served = serve(alloc, sent, server, &taken, desk);
     let taken = taken.into_inner();
-    out.push_str(replaced(rt.alloc(), str_of(taken.as_slice()), "\r", "\\r")?.as_str())?;
-    let Ended {
-        status,
-        accepted,
-        answered,
-        unread,
-    } = ended;
-    writeln!(
-        out,
-        "status {status}: {accepted} accepted, {answered} answered, {unread} unread"
-    )?;
-    Ok(())
+    out.push_str(replaced(alloc, str_of(taken.as_slice()), "\r", "\\r")?.as_str())?;
+    put_served(out, served)
 }
 
-/// Serves the messages, and takes what is sent.
-fn served<S: Backend>(
-    rt: &HostRuntime,
+/// Serves the messages, and keeps what is sent.
+fn serve<S: Backend>(
+    alloc: Global,
     sent: &[Sent],
     server: Server,
     taken: &RefCell<Vec<u8>>,
     desk: &mut Desk<S>,
-) -> Ended {
+) -> Served {
     let listener = Listener {
         sent,
         server,
@@ -84,22 +104,37 @@ fn served<S: Backend>(
         accepts: Cell::new(0),
     };
     let clock = CaseClock {
-        first: match sent.first() {
-            Some(message) => message.0,
-            None => 0,
-        },
+        first: first_of(sent),
         ticking: server.ticking,
         readings: Cell::new(0),
     };
-    let mut counted = CountedListener::new(&listener);
-    let count = u32::try_from(sent.len()).unwrap_or(u32::MAX);
-    let status = serve_on_counted(rt.alloc(), &mut counted, count, &clock, desk);
-    Ended {
-        status,
-        accepted: counted.accepted(),
-        answered: counted.answered(),
-        unread: counted.unread(),
+    serve_connections(alloc, &listener, count_of(sent), &clock, desk)
+}
+
+/// The moment of the first message.
+fn first_of(sent: &[Sent]) -> u32 {
+    match sent.first() {
+        Some(message) => message.0,
+        None => 0,
     }
+}
+
+/// How many messages there are.
+fn count_of(sent: &[Sent]) -> u32 {
+    u32::try_from(sent.len()).unwrap_or(u32::MAX)
+}
+
+/// Adds how a server ended.
+pub(crate) fn put_served(out: &mut String, served: Served) -> std::result::Result<(), Failure> {
+    let Served {
+        status,
+        accepted,
+        answered,
+        unread,
+    } = served;
+    write!(out, "status {status}: {accepted} accepted")?;
+    writeln!(out, ", {answered} answered, {unread} unread")?;
+    Ok(())
 }
 
 /// Gives a connection for each message.
@@ -159,7 +194,7 @@ struct Wire<'c> {
 }
 
 impl Wire<'_> {
-    fn take(&self, byte: u8) -> Result<()> {
+    fn keep(&self, byte: u8) -> Result<()> {
         match self.taken.try_borrow_mut() {
             Ok(mut taken) => Ok(taken.push(byte)?),
             Err(_) => Err(Error::from(ErrorKind::BrokenPipe)),
@@ -179,7 +214,7 @@ impl Write for Wire<'_> {
         self.writes = self.writes.saturating_add(1);
         match buf.first() {
             Some(byte) if !falters => {
-                self.take(*byte)?;
+                self.keep(*byte)?;
                 Ok(1)
             }
             _ => Err(Error::from(ErrorKind::BrokenPipe)),

@@ -3,10 +3,9 @@
 use crate::dues::put_due;
 use crate::failure::Failure;
 use crate::stores::tell_fault;
-use desk_core::{Command, Entry, Facts, LinkRow, QueueRow, RequestRow, Turn, WatchRole, Watcher};
+use desk_core::{Entry, LinkRow, QueueRow, RequestRow, Turn, WatchRole, Watcher};
 use hours_core::{Minute, Stay};
-use std::alloc::Global;
-use store_core::{Backend, Store, StoreFault};
+use store_core::StoreFault;
 use text_core::Text;
 
 /// What stands where there is nothing to tell.
@@ -109,34 +108,6 @@ impl Line for (RequestRow, Option<Minute>) {
         writeln!(out)?;
         Ok(())
     }
-}
-
-/// What a command looks at of a request: its status, how many entries it has, and the statuses of
-/// what it depends on.
-pub(crate) fn tell_facts<S: Backend>(
-    alloc: Global,
-    out: &mut String,
-    line: &str,
-    store: &mut Store<S>,
-    command: &Command,
-) -> Result<(), Failure> {
-    match store.facts_for(alloc, command) {
-        Ok(facts) => seen(out, line, &facts),
-        Err(fault) => tell_fault(out, line, fault),
-    }
-}
-
-fn seen(out: &mut String, line: &str, facts: &Facts) -> Result<(), Failure> {
-    writeln!(out, "{line}:")?;
-    if let Some(request) = &facts.request {
-        let status = request.row.status.as_str();
-        writeln!(out, "  {status} {}", request.entry_count)?;
-    }
-    for dependency in facts.dependencies.as_slice() {
-        let lifecycle = dependency.lifecycle.as_str();
-        writeln!(out, "  {lifecycle} {}", dependency.status.as_str())?;
-    }
-    Ok(())
 }
 
 fn optional(text: &Option<Text>) -> &str {

@@ -3,7 +3,7 @@
 use crate::asks::asks_of;
 use crate::calls::execute_all;
 use crate::cases::Case;
-use crate::connections::{Server, Ticking};
+use crate::connections::server_of;
 use crate::desks::{COMMANDS, attached};
 use crate::each;
 use crate::expansion::{Named, expanded};
@@ -150,20 +150,19 @@ fn served_after<S: Backend>(
 /// | `writer_fails N` | the same; of the first the writer fails after N writes |
 /// | `writer_stops N` | the same, and takes nothing then |
 /// | `loopback` | each over a connection of its own, by a server that ends after it |
-/// | `clock stands`, `clock ticks`, `clock fails` | each over a connection in memory, by a server whose clock tells the first's moment, that and each time a minute more, or nothing |
-/// | `breaks` | so by a clock that ticks, where the second connection fails after three reads, and the third after five writes |
-/// | `accept_fails N` | so by a clock that ticks, where an accept fails after N |
+/// | `leaves N` | over two connections: of the first message N bytes come, and the second whole |
 /// | `endless` | each followed by bytes that never end, and told how often they were read |
 /// | `made N` | N turns of messages made of them: how many had which code; then the first |
 /// | `many N` | N times over, in one list: how many had which code |
 /// | `asked` | each read by one call, and told by another what it asks for |
 ///
+/// Words that name a server let them be served each over a connection in memory (`server_of`).
 /// `each_read_fails` and `each_write_fails` let the first fail after each number of calls in turn
 /// (`each.rt`).
 fn manner_of(line: &str) -> Result<Manner, Failure> {
     let (kind, rest) = line.split_once(' ').unwrap_or((line, "0"));
-    if kind == "clock" {
-        return Ok(by_clock(ticking_of(rest)?));
+    if let Some(server) = server_of(kind, rest)? {
+        return Ok(Manner::Connections(server));
     }
     let count = number(rest)?;
     match kind {
@@ -171,37 +170,11 @@ fn manner_of(line: &str) -> Result<Manner, Failure> {
         "writer_fails" => Ok(Manner::streams(None, count, true)),
         "writer_stops" => Ok(Manner::streams(None, count, false)),
         "loopback" => Ok(Manner::Loopback),
+        "leaves" => Ok(Manner::Leaves(count)),
         "endless" => Ok(Manner::Endless),
         "made" => Ok(Manner::Made(count)),
         "many" => Ok(Manner::Many(count)),
         "asked" => Ok(Manner::Asked),
-        "breaks" => Ok(Manner::Connections(Server {
-            ticking: Ticking::Ticks,
-            fails_at: None,
-            breaks: true,
-        })),
-        "accept_fails" => Ok(Manner::Connections(Server {
-            ticking: Ticking::Ticks,
-            fails_at: Some(count),
-            breaks: false,
-        })),
-        _ => Err(Failure::BadLine),
-    }
-}
-
-fn by_clock(ticking: Ticking) -> Manner {
-    Manner::Connections(Server {
-        ticking,
-        fails_at: None,
-        breaks: false,
-    })
-}
-
-fn ticking_of(word: &str) -> Result<Ticking, Failure> {
-    match word {
-        "stands" => Ok(Ticking::Stands),
-        "ticks" => Ok(Ticking::Ticks),
-        "fails" => Ok(Ticking::Fails),
         _ => Err(Failure::BadLine),
     }
 }

@@ -3,14 +3,15 @@
 //! What owns much is given back by `drop`, whose proof stands once; at the end of its scope it
 //! would be taken apart for each function's own proof.
 
-use crate::asks::asks_of;
-use crate::calls::execute_all;
+use crate::calls::{open, open_whole};
 use crate::cases::str_of;
+use crate::desks::tell_each;
 use crate::failure::Failure;
 use crate::stores::{opened, tell_fault};
 use crate::streams::{Faltering, Slow};
-use desk_program::{InputFault, open_desk, open_desk_whole, take_settings};
-use service_core::{Desk, outcome_text};
+use crate::words::number;
+use desk_program::{InputFault, take_settings};
+use service_core::Desk;
 use std::alloc::Global;
 use store_core::{Backend, Store};
 
@@ -18,16 +19,51 @@ use store_core::{Backend, Store};
 #[derive(Clone, Copy)]
 pub(crate) struct Opening {
     /// After how many reads the reader of the settings fails, if it does.
-    pub(crate) reader_at: Option<u32>,
+    reader_at: Option<u32>,
     /// After how many writes the writer of a fault fails.
-    pub(crate) writer_at: u32,
+    writer_at: u32,
     /// Whether the store is given back where there is no desk.
-    pub(crate) whole: bool,
+    whole: bool,
 }
 
-/// Takes the settings of a reader that gives a byte at a time, opens the desk over the tables that
-/// the statements make, and does the commands. Adds how many bytes were taken, what was written when
-/// the desk was opened and how that ended, and the text of each command.
+/// No call fails.
+const OPENED: Opening = Opening {
+    reader_at: None,
+    writer_at: u32::MAX,
+    whole: false,
+};
+
+/// How a line asks that the desk be opened, if it does:
+///
+/// | Line | The desk is opened |
+/// |---|---|
+/// | `opened` | by the call that lets the store go where there is no desk |
+/// | `opened_whole` | by the one that gives it back then |
+/// | `settings_fail N` | as `opened`; the reader of the settings gives a byte at a time, and fails after N reads |
+/// | `fault_fails N` | as `opened`; the writer of a fault fails after N writes |
+pub(crate) fn opening_of(line: &str) -> Result<Option<Opening>, Failure> {
+    let (kind, rest) = line.split_once(' ').unwrap_or((line, ""));
+    match kind {
+        "opened" => Ok(Some(OPENED)),
+        "opened_whole" => Ok(Some(Opening {
+            whole: true,
+            ..OPENED
+        })),
+        "settings_fail" => Ok(Some(Opening {
+            reader_at: Some(number(rest)?),
+            ..OPENED
+        })),
+        "fault_fails" => Ok(Some(Opening {
+            writer_at: number(rest)?,
+            ..OPENED
+        })),
+        _ => Ok(None),
+    }
+}
+
+/// Takes the settings of a reader, opens the desk over the tables that the statements make, and does
+/// the commands. Adds how many bytes were taken, what was written when the desk was opened and how
+/// that ended, and the text of each command.
 pub(crate) fn run(
     alloc: Global,
     out: &mut String,
@@ -36,36 +72,19 @@ pub(crate) fn run(
     commands: &str,
     opening: Opening,
 ) -> Result<(), Failure> {
-    let taken = match take(alloc, settings.as_bytes(), opening.reader_at) {
-        Ok(taken) => taken,
+    match take(alloc, settings.as_bytes(), opening.reader_at) {
+        Ok(taken) => {
+            writeln!(out, "take: {} bytes", taken.len())?;
+            open_over(alloc, out, statements, taken.as_slice(), commands, opening)
+        }
         Err(fault) => {
             writeln!(out, "take: {} {}", fault.number(), fault.name())?;
-            return Ok(());
+            Ok(())
         }
-    };
-    writeln!(out, "take: {} bytes", taken.len())?;
-    let store = opened(alloc, statements)?;
-    if opening.whole {
-        open_whole(
-            alloc,
-            out,
-            store,
-            taken.as_slice(),
-            commands,
-            opening.writer_at,
-        )
-    } else {
-        open(
-            alloc,
-            out,
-            store,
-            taken.as_slice(),
-            commands,
-            opening.writer_at,
-        )
     }
 }
 
+/// Takes the settings of a reader; of one that may fail, a byte at a time.
 fn take(alloc: Global, settings: &[u8], fails_at: Option<u32>) -> Result<Vec<u8>, InputFault> {
     match fails_at {
         Some(reads) => take_settings(alloc, &mut Slow::failing(settings, reads)),
@@ -73,39 +92,54 @@ fn take(alloc: Global, settings: &[u8], fails_at: Option<u32>) -> Result<Vec<u8>
     }
 }
 
-fn open<S: Backend + Drop>(
+fn open_over(
+    alloc: Global,
+    out: &mut String,
+    statements: &str,
+    settings: &[u8],
+    commands: &str,
+    opening: Opening,
+) -> Result<(), Failure> {
+    let store = opened(alloc, statements)?;
+    let writer = Faltering::after(alloc, opening.writer_at, true);
+    if opening.whole {
+        try_whole(alloc, out, store, settings, commands, writer)
+    } else {
+        try_open(alloc, out, store, settings, commands, writer)
+    }
+}
+
+fn try_open<S: Backend + Drop>(
     alloc: Global,
     out: &mut String,
     store: Store<S>,
     settings: &[u8],
     commands: &str,
-    writer_at: u32,
+    writer: Faltering,
 ) -> Result<(), Failure> {
-    let mut writer = Faltering::after(alloc, writer_at, true);
-    match open_desk(alloc, store, settings, &mut writer) {
+    let mut writer = writer;
+    match open(alloc, store, settings, &mut writer) {
         Ok(desk) => do_all(alloc, out, desk, commands),
         Err(status) => tell_unopened(out, writer.taken.as_slice(), status),
     }
 }
 
-fn open_whole<S: Backend + Drop>(
+fn try_whole<S: Backend + Drop>(
     alloc: Global,
     out: &mut String,
     store: Store<S>,
     settings: &[u8],
     commands: &str,
-    writer_at: u32,
+    writer: Faltering,
 ) -> Result<(), Failure> {
-    let mut writer = Faltering::after(alloc, writer_at, true);
-    match open_desk_whole(alloc, store, settings, &mut writer) {
+    let mut writer = writer;
+    match open_whole(alloc, store, settings, &mut writer) {
         Ok(desk) => do_all(alloc, out, desk, commands),
         Err((status, store)) => {
             let mut store = store;
-            let told = tell_unopened(out, writer.taken.as_slice(), status);
-            let version = tell_version(out, &mut store);
+            let told = tell_given_back(out, writer.taken.as_slice(), status, &mut store);
             drop(store);
-            told?;
-            version
+            told
         }
     }
 }
@@ -115,8 +149,14 @@ fn tell_unopened(out: &mut String, taken: &[u8], status: u8) -> Result<(), Failu
     Ok(())
 }
 
-/// Adds which version the tables have that were given back.
-fn tell_version<S: Backend>(out: &mut String, store: &mut Store<S>) -> Result<(), Failure> {
+/// The same, and which version the tables have that were given back.
+fn tell_given_back<S: Backend>(
+    out: &mut String,
+    taken: &[u8],
+    status: u8,
+    store: &mut Store<S>,
+) -> Result<(), Failure> {
+    tell_unopened(out, taken, status)?;
     match store.version() {
         Ok(version) => {
             writeln!(out, "given back: version {version}")?;
@@ -134,22 +174,17 @@ fn do_all<S: Backend + Drop>(
     commands: &str,
 ) -> Result<(), Failure> {
     let mut desk = desk;
-    writeln!(out, "open: ok")?;
-    let told = tell_all(alloc, out, &mut desk, commands);
+    let told = tell_opened(alloc, out, &mut desk, commands);
     drop(desk);
     told
 }
 
-fn tell_all<S: Backend>(
+fn tell_opened<S: Backend>(
     alloc: Global,
     out: &mut String,
     desk: &mut Desk<S>,
     commands: &str,
 ) -> Result<(), Failure> {
-    let asks = asks_of(alloc, commands)?;
-    let outcomes = execute_all(alloc, desk, asks.as_slice())?;
-    for outcome in outcomes.as_slice() {
-        out.push_str(outcome_text(alloc, outcome)?.as_str())?;
-    }
-    Ok(())
+    writeln!(out, "open: ok")?;
+    tell_each(alloc, out, desk, commands)
 }

@@ -6,7 +6,7 @@
 use crate::cases::{Case, str_of};
 use crate::disks::{End, ended};
 use crate::failure::Failure;
-use crate::opening::{self, Opening};
+use crate::opening::{self, opening_of};
 use crate::stores::opened;
 use crate::streams::Faltering;
 use crate::words::number;
@@ -26,11 +26,7 @@ use wire_core::words_of;
 /// - `alone`: each is run on tables of its own that the statements make, by the call that lets them
 ///   go;
 /// - `alone_on_file PATH`: that is done on the tables in that file;
-/// - `opened`: the settings are taken of a reader, the desk is opened with them once, and the
-///   commands are done on it (`opening.rt`); so with `opened_whole`, by the call that gives the store
-///   back where there is no desk;
-/// - `settings_fail N`: as `opened`, and the reader of the settings fails after N reads;
-/// - `fault_fails N`: as `opened`, and the writer of a fault fails after N writes.
+/// - how the desk is opened (`opening.rt`): it is opened once, and the commands are done on it.
 pub(crate) fn run_case(rt: &HostRuntime, out: &mut String, case: &Case<'_>) -> Result<(), Failure> {
     let (settings, statements) = (case.text("settings"), case.text("tables"));
     let streams = case.text("streams").trim_end();
@@ -56,31 +52,6 @@ pub(crate) fn run_case(rt: &HostRuntime, out: &mut String, case: &Case<'_>) -> R
     };
     let store = opened(rt.alloc(), statements)?;
     run_each(rt.alloc(), out, settings, store, asked, fails_at)
-}
-
-/// How the line asks that the desk be opened, if it does.
-fn opening_of(line: &str) -> Result<Option<Opening>, Failure> {
-    let opened = Opening {
-        reader_at: None,
-        writer_at: u32::MAX,
-        whole: false,
-    };
-    match line.split_once(' ') {
-        None if line == "opened" => Ok(Some(opened)),
-        None if line == "opened_whole" => Ok(Some(Opening {
-            whole: true,
-            ..opened
-        })),
-        Some(("settings_fail", reads)) => Ok(Some(Opening {
-            reader_at: Some(number(reads)?),
-            ..opened
-        })),
-        Some(("fault_fails", writes)) => Ok(Some(Opening {
-            writer_at: number(writes)?,
-            ..opened
-        })),
-        _ => Ok(None),
-    }
 }
 
 /// A line `MOMENT CALLER WORDS ..`, and what it asks for.

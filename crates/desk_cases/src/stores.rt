@@ -5,9 +5,9 @@ use crate::asks::command_of;
 use crate::cases::Case;
 use crate::changes::change_of;
 use crate::dues;
-use crate::facts::tell_all;
+use crate::facts::{All, Statuses, Telling, tell_facts};
 use crate::failure::Failure;
-use crate::lists::{tell_facts, tell_rows};
+use crate::lists::tell_rows;
 use crate::queries::ask_database;
 use crate::words::number;
 use desk_core::{Change, Command, RequestRow};
@@ -59,8 +59,8 @@ impl<S: Backend> Answering for Store<S> {
             "links_from" => tell_rows(out, line, self.links_from(alloc, number(rest)?)),
             "links_to" => tell_rows(out, line, self.links_to(alloc, number(rest)?)),
             "facts" => facts(alloc, out, line, self, rest),
-            "facts_for" => tell_facts(alloc, out, line, self, &command_of(alloc, rest)?),
-            "all_facts_for" => tell_all(alloc, out, line, self, &command_of(alloc, rest)?),
+            "facts_for" => facts_for(alloc, out, line, self, rest, &Statuses),
+            "all_facts_for" => facts_for(alloc, out, line, self, rest, &All),
             "version" => version(out, line, self),
             _ => tell_written(alloc, out, line, self),
         }
@@ -92,7 +92,20 @@ fn facts<S: Backend>(
         id: number(id)?,
         status: Text::new(alloc, "resolved")?,
     };
-    tell_facts(alloc, out, line, store, &command)
+    tell_facts(alloc, out, line, store, &command, &Statuses)
+}
+
+/// What the command looks at that the words spell.
+fn facts_for<S: Backend, T: Telling>(
+    alloc: Global,
+    out: &mut String,
+    line: &str,
+    store: &mut Store<S>,
+    words: &str,
+    telling: &T,
+) -> Result<(), Failure> {
+    let command = command_of(alloc, words)?;
+    tell_facts(alloc, out, line, store, &command, telling)
 }
 
 fn version<S: Backend>(out: &mut String, line: &str, store: &mut Store<S>) -> Result<(), Failure> {
