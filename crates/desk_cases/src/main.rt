@@ -13,6 +13,7 @@ mod asking;
 mod asks;
 mod calls;
 mod cases;
+mod chain;
 mod changes;
 mod connections;
 mod course;

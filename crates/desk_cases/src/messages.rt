@@ -5,11 +5,11 @@ use crate::calls::execute_all;
 use crate::cases::Case;
 use crate::connections::server_of;
 use crate::desks::{COMMANDS, attached};
-use crate::each;
 use crate::expansion::{Named, expanded};
 use crate::failure::Failure;
 use crate::served::{LEFT, Manner, Sent, serve};
 use crate::words::number;
+use crate::{chain, each};
 use service_core::Desk;
 use std::alloc::Global;
 use store_core::Backend;
@@ -23,9 +23,9 @@ const NEXT: &str = "\n> ";
 /// The tables, settings and commands that messages find.
 #[derive(Clone, Copy)]
 pub(crate) struct Before<'b> {
-    tables: &'b str,
-    settings: &'b str,
-    commands: &'b str,
+    pub(crate) tables: &'b str,
+    pub(crate) settings: &'b str,
+    pub(crate) commands: &'b str,
 }
 
 /// Serves the messages of a case in each of three manners, each over a desk of its own: one after
@@ -59,6 +59,7 @@ fn serve_by_each(
         match line {
             "each_read_fails" => each::reads(rt, out, before, sent)?,
             "each_write_fails" => each::writes(rt, out, before, sent)?,
+            "chained" => chain::run(rt.alloc(), out, before, sent)?,
             _ => out.push_str(replies(rt, before, sent, manner_of(line)?)?.as_str())?,
         }
     }
@@ -158,7 +159,7 @@ fn served_after<S: Backend>(
 ///
 /// Words that name a server let them be served each over a connection in memory (`server_of`).
 /// `each_read_fails` and `each_write_fails` let the first fail after each number of calls in turn
-/// (`each.rt`).
+/// (`each.rt`); `chained` has them served after the calls of a desk in a program (`chain.rt`).
 fn manner_of(line: &str) -> Result<Manner, Failure> {
     let (kind, rest) = line.split_once(' ').unwrap_or((line, "0"));
     if let Some(server) = server_of(kind, rest)? {
