@@ -35,6 +35,6 @@ returns-in-Err-clause-streamed g c = record {
         refused_stream c.args.call.settings.now (asked c.args.call c.args.command.now) desk is
         c.in-Err.refusal (c.in-Err.ensures.admitted desk is stand clean),
   );
-  failed = c.requires;
+  failed = c.requires.ready;
   kept = c.admit.ensures.kept;
 }
