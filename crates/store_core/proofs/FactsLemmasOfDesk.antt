@@ -215,9 +215,10 @@ request_facts desk id q request stays on_is stays_are q_is =
 
 -- the same without the stays
 pub request_alone : (desk : Desk) (id : ℕ) (q : Option QueueRow) (request : Option SeenRequest)
-    → request ≡ seen_request_at desk id → q ≡ queue_by desk request
-    → filed q request [] ≡ facts_of_request desk id
-request_alone desk id q request on_is q_is = rw (q_is, on_is) (grind arith)
+    (none : List Stay) → none ≡ [] → request ≡ seen_request_at desk id
+    → q ≡ queue_by desk request → filed q request none ≡ facts_of_request desk id
+request_alone desk id q request none none_is on_is q_is =
+    rw (none_is, q_is, on_is) (grind arith)
 
 pub link_read : {a b : State} {r : Result (Option LinkRow) StoreFault} (l : LinkRow)
     → Reads (λ c found. option_to_list found ≡ filter (chosen.is_link l) c.links) a b r
