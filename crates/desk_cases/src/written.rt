@@ -5,6 +5,7 @@ use crate::course::{Course, outcome};
 use crate::desks::attached;
 use crate::failure::Failure;
 use crate::streams::Faltering;
+use desk_core::Command;
 use service_core::{Desk, StreamFault};
 use std::alloc::Global;
 use store_core::Backend;
@@ -86,7 +87,12 @@ fn try_once<S: Backend>(
     fails: bool,
 ) -> Tried {
     let mut writer = Faltering::after(alloc, count, fails);
-    let ended = desk.stream(alloc, ask.0, ask.1.as_str(), &ask.2, &mut writer);
+    let ended = match &ask.2 {
+        Command::List { .. } | Command::Overdue => {
+            desk.stream(alloc, ask.0, ask.1.as_str(), &ask.2, &mut writer)
+        }
+        _ => return Tried::Wrong,
+    };
     let taken = writer.taken.as_slice();
     let is_cut = taken.len() == count as usize && whole.starts_with(taken);
     match ended {

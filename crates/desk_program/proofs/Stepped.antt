@@ -20,14 +20,14 @@ use Rattle.desk_model.specs.Step.{Ask, Outcome, Steps}
 use Rattle.desk_reports.specs.declared.fault.StreamFault.{StreamFault}
 use Rattle.desk_reports.specs.declared.fault.StreamFault.TheVariants.{Refused, Write}
 use Rattle.desk_texts.specs.Texts.{outcome_text, refusal_text}
-use Rattle.service_core.specs.Streaming.{IsStreamed}
+use Rattle.service_core.specs.Streaming.{IsStreamed, is_list}
 use Rattle.service_core.specs.TableSteps.{LeadsOn, StepsOn, ask_by}
 use Rattle.store_tables.proofs.Spared.{stands}
 use Rattle.store_tables.specs.Calls.{Spares, WasClean}
 use Rattle.store_tables.specs.Contents.{contents_of}
 use Rattle.store_core.specs.Due.{StandsDue, due_of_row}
 use Rattle.desk_program.specs.FaultLines.{unavailable_text}
-use Rattle.desk_program.specs.One.{IsDone, IsGivenOutput, TakesStep, TellsStep, is_list}
+use Rattle.desk_program.specs.One.{IsDone, IsGivenOutput, TakesStep, TellsStep}
 use Rattle.desk_program.specs.One.{status_of}
 use Rattle.desk_program.specs.Opening.{IsOpened, IsOpeningFault}
 use Rattle.desk_program.proofs.LedLines.{knows_empty}

@@ -1,5 +1,5 @@
 -- One command on the tables of a store.
-use Rattle.std.specs.Prelude.{◌≡◌, ◌⊎◌, ◌++◌, ℕ, Bool, true, false, List, Option, Some, None, Result}
+use Rattle.std.specs.Prelude.{◌≡◌, ◌⊎◌, ◌++◌, ℕ, Bool, true, List, Option, Some, None, Result}
 use Rattle.std.specs.Prelude.{Ok, Err}
 use Rattle.std.specs.Prelude.{if◌then◌else◌}
 use Rattle.sqlite.specs.Held.{Held, state}
@@ -9,14 +9,13 @@ use Rattle.settings_core.specs.declared.fault.SettingsFault.{SettingsFault}
 use Rattle.settings_core.specs.declared.settings.Settings.{Settings}
 use Rattle.desk_model.specs.declared.answer.Answer.{Answer}
 use Rattle.desk_model.specs.declared.command.Command.{Command}
-use Rattle.desk_model.specs.declared.command.Command.TheVariants as commands
 use Rattle.desk_model.specs.Desk.{Desk, empty_desk}
 use Rattle.desk_model.specs.IsDesk.{IsDesk}
 use Rattle.desk_model.specs.Known.{is_known}
 use Rattle.desk_model.specs.Step.{Ask, Outcome, Steps}
 use Rattle.desk_texts.specs.Texts.{answer_text, outcome_text}
 use Rattle.desk_words.specs.Spelling.{command_of}
-use Rattle.service_core.specs.Streaming.{IsBeginningOf}
+use Rattle.service_core.specs.Streaming.{IsBeginningOf, is_list}
 use Rattle.service_core.specs.TableSteps.{ask_by}
 use Rattle.store_core.specs.Due.{StandsDue}
 use Rattle.store_tables.specs.Making.{IsBlank}
@@ -49,12 +48,6 @@ abbrev pub TellsStep : Settings → Ask → List ℕ → ℕ → Desk → Desk �
 TellsStep settings ask line status old new =
     (outcome : Outcome) × Steps settings ask.at ask.caller ask.command old outcome new
     × (line ≡ outcome_text outcome) × (status ≡ status_of outcome)
-
--- one of the commands whose text is written row by row
-abbrev pub is_list : Command → Bool
-is_list (commands.List queue) = true
-is_list commands.Overdue = true
-is_list other = false
 
 -- A list was cut short: a part from the front of the answer's text, in which a write failed; or
 -- that and the line that memory or the store refused, with the status of a refusal. The desk stays.

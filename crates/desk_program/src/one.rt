@@ -8,13 +8,14 @@ ghost use Rattle.sqlite.specs.Held.{Held};
 ghost use Rattle.store_core.specs.Seen.{connection_of, state_of};
 ghost use Rattle.store_tables.specs.Calls.{WasClean};
 ghost use Rattle.service_core.specs.Seen.{settings_of, tables_of};
+ghost use Rattle.service_core.specs.Streaming.{is_list};
 ghost use Rattle.service_core.specs.TableSteps.{LeadsOn, ask_by};
 ghost use Rattle.stream_core.specs.Seen.{HaveOneWriter, has_write_failed};
 ghost use Rattle.stream_core.specs.Written.{Prints};
 ghost use Rattle.desk_model.specs.declared.refusal.Refusal.{Refusal};
 ghost use Rattle.desk_texts.specs.Texts.{refusal_text};
 ghost use Rattle.desk_program.specs.One as one;
-ghost use Rattle.desk_program.specs.One.{RunsOne, TakesStep, asked_by, is_list};
+ghost use Rattle.desk_program.specs.One.{RunsOne, TakesStep, asked_by};
 ghost use Rattle.desk_program.specs.Status.{code_of};
 
 use crate::fault_lines::{put_bad_words, put_unavailable};

@@ -7,6 +7,8 @@ use Rattle.desk_model.specs.Desk.{Desk}
 use Rattle.desk_model.specs.IsDesk.{IsDesk}
 use Rattle.desk_model.specs.Step.{Ask, guard}
 use Rattle.desk_model.specs.declared.answer.Answer.{Answer}
+use Rattle.desk_model.specs.declared.command.Command.{Command}
+use Rattle.desk_model.specs.declared.command.Command.TheVariants as commands
 use Rattle.desk_model.specs.declared.refusal.Refusal.{Refusal}
 use Rattle.desk_model.specs.declared.refusal.Refusal.TheVariants.{Unavailable}
 use Rattle.desk_reports.specs.declared.fault.StreamFault.{StreamFault}
@@ -18,6 +20,12 @@ use Rattle.stream_core.specs.Seen.{has_write_failed}
 use Rattle.stream_core.specs.Written.{Prints}
 use Rattle.stream_core.specs.declared.writer.CountedWriter.{CountedWriter}
 use Rattle.service_core.specs.TableSteps.{IsStep}
+
+-- one of the commands whose text is written row by row
+abbrev pub is_list : Command → Bool
+is_list (commands.List queue) = true
+is_list commands.Overdue = true
+is_list other = false
 
 -- the command was answered, the desk stays, and the text of the answer is so
 abbrev pub IsAnswered : Settings → Ask → Desk → (List ℕ → Type 0) → Type 0

@@ -2,7 +2,7 @@
 //!
 //! What owns much is given back by `drop`, whose proof stands once; at the end of its scope it
 //! would be taken apart for each function's own proof.
-ghost use Rattle.std.specs.Prelude.{◌≡◌, false, None};
+ghost use Rattle.std.specs.Prelude.{◌≡◌, false, true, None};
 ghost use Rattle.desk_model.specs.Desk as desks;
 ghost use Rattle.desk_model.specs.Step.{facts_of, refusal_beforehand};
 ghost use Rattle.store_tables.specs.Calls.{Spares};
@@ -12,7 +12,7 @@ ghost use Rattle.stream_core.specs.Written.{IsWritten, Prints};
 ghost use Rattle.service_core.specs.Asked.{asked};
 ghost use Rattle.service_core.specs.Seen.{settings_of, tables_of};
 ghost use Rattle.service_core.specs.Streaming.{Admits, IsAdmitted, StreamsAdmitted};
-ghost use Rattle.service_core.specs.Streaming.{StreamsOn, StreamsSafely, is_write};
+ghost use Rattle.service_core.specs.Streaming.{StreamsOn, StreamsSafely, is_list, is_write};
 ghost use Rattle.service_core.specs.TableSteps.{StandsOn, ask_by};
 
 use crate::desk::Desk;
@@ -30,7 +30,7 @@ impl<S: Backend> Desk<S> {
     ///
     /// A command that is refused writes nothing. `Write` where a write fails or takes no byte: a
     /// part from the front of the text was written. `Unavailable` where memory or the store
-    /// refused, maybe after a part of the text, and for any other command.
+    /// refused, maybe after a part of the text.
     pub fn stream<W: Write>(
         &mut self,
         alloc: Global,
@@ -39,6 +39,7 @@ impl<S: Backend> Desk<S> {
         command: &Command,
         writer: &mut W,
     ) -> Result<(), StreamFault>
+        requires { is_list command.now ≡ true }
         ensures streamed { StreamsOn (settings_of S.Store self.old)
             (ask_by at caller.now command.now)
             (tables_of S.Store self.old) (tables_of S.Store self.new) result
@@ -62,7 +63,8 @@ impl<S: Backend> Desk<S> {
         command: &Command,
         output: &mut CountedWriter<'_, W>,
     ) -> Result<(), StreamFault>
-        requires { has_write_failed output.old ≡ false }
+        requires list { is_list command.now ≡ true }
+        requires unfailed { has_write_failed output.old ≡ false }
         ensures same_writer { HaveOneWriter output.new output.old }
         ensures streamed { StreamsOn (settings_of S.Store self.old)
             (ask_by at caller.now command.now)
@@ -100,6 +102,7 @@ fn put_if_admitted<S: Backend, W: Write>(
     command: &Command,
     output: &mut CountedWriter<'_, W>,
 ) -> Result<(), StreamFault>
+    requires list { is_list command.now ≡ true }
     requires ready { has_write_failed output.old ≡ false }
     requires free { refusal_beforehand call.settings.now call.at call.caller.now
         command.now ≡ None }
@@ -154,7 +157,7 @@ fn admit_seeing(
     }
 }
 
-/// Writes the list of a command that isn't refused. Another command is `Unavailable`.
+/// Writes the list of a command that isn't refused.
 fn put_list<S: Backend, W: Write>(
     alloc: Global,
     store: &mut Store<S>,
@@ -162,7 +165,8 @@ fn put_list<S: Backend, W: Write>(
     command: &Command,
     output: &mut CountedWriter<'_, W>,
 ) -> Result<(), StreamFault>
-    requires { has_write_failed output.old ≡ false }
+    requires list { is_list command.now ≡ true }
+    requires unfailed { has_write_failed output.old ≡ false }
     ensures same_writer { HaveOneWriter output.new output.old }
     ensures streamed { StreamsSafely
         (StreamsAdmitted call.entry.settings.now (asked call.entry command.now)) W.contents
@@ -172,6 +176,6 @@ fn put_list<S: Backend, W: Write>(
     match command {
         Command::List { queue } => stream_list(alloc, store, settings, caller, queue, output),
         Command::Overdue => stream_overdue(alloc, store, call, output),
-        _ => Err(StreamFault::Refused(Refusal::Unavailable)),
+        _ => unreachable!(),
     }
 }

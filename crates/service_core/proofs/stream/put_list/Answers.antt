@@ -1,15 +1,13 @@
 -- what was written of the list is what comes of the command
-use Rattle.std.proofs.Common.{[], refl, subst, sym}
+use Rattle.std.proofs.Common.{refl, subst, sym}
 use Rattle.desk_model.specs.declared.command.Command.{Command}
 use Rattle.desk_model.specs.declared.command.Command.TheVariants.{List, Overdue}
 use Rattle.stream_core.specs.Seen.{has_write_failed}
 use Rattle.stream_core.specs.Written.{Prints}
-use Rattle.desk_reports.proofs.PrintedLemmas.{prints_none}
-use Rattle.store_tables.proofs.Spared.{unread}
 use Rattle.store_core.specs.Seen.{state_of}
 use Rattle.service_core.specs.Asked.{asked}
 use Rattle.service_core.specs.Streaming.{StreamsAdmitted}
-use Rattle.service_core.proofs.StreamLemmas.{is_cut_by, listed_stream, refused_stream}
+use Rattle.service_core.proofs.StreamLemmas.{is_cut_by, listed_stream}
 use Rattle.service_core.proofs.stream.put_list.Goals as goal
 
 pub returns-in-List-clause-streamed : goal.returns-in-List-clause-streamed
@@ -59,16 +57,3 @@ returns-in-Overdue-clause-streamed g c =
           c.stream_overdue.ensures.failed;
       kept = c.stream_overdue.ensures.kept;
     }
-
-pub returns-in_default-clause-streamed : goal.returns-in_default-clause-streamed
-returns-in_default-clause-streamed g c = record {
-  streamed = (
-    [],
-    prints_none g.W.Write.contents c.args.output.now,
-    λ desk is free stand clean.
-        refused_stream c.args.call.settings.now (asked c.args.call c.args.command.now) desk is _
-        (λ available. absurd (available refl)),
-  );
-  failed = c.requires;
-  kept = unread _;
-}
