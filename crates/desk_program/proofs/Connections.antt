@@ -9,7 +9,7 @@ use Rattle.desk_model.specs.IsDesk.{IsDesk}
 use Rattle.service_core.specs.TableSteps.{LeadsOn}
 use Rattle.store_tables.specs.Calls.{WasClean}
 use Rattle.wire_core.proofs.Serving.{formed_stream}
-use Rattle.wire_core.proofs.Stepping.{leads_nowhere, leads_wider}
+use Rattle.wire_core.proofs.Stepping.{leads_nowhere, leads_wider, spared_stays, stream_leads}
 use Rattle.wire_core.specs.Served.{IsServed}
 use Rattle.wire_core.specs.declared.fault.ServeFault.{ServeFault}
 use Rattle.wire_core.specs.declared.fault.ServeFault.TheVariants.{NoMemory, Read, Write}
@@ -25,7 +25,8 @@ connection_leads : (s : Settings) (at : ℕ) (answered : Bool) (old new : State)
     → AnswersAt s at answered old new
     → LeadsOn s (λ desk after. AnswersConnection s answered desk after) old new
 connection_leads s at true old new did =
-    leads_wider s _ _ old new (λ desk after steps. (at, did.0, did.1, did.2, steps)) did.3
+    leads_wider s _ _ old new (λ desk after steps. (at, did.0, did.1, did.2, steps))
+    (stream_leads s at did.0 did.1 did.2 old new did.3)
 connection_leads s at false old new stays = stays
 
 -- a message that was served is a connection that was answered, or in which a read failed
@@ -34,7 +35,7 @@ pub served : (s : Settings) (at : ℕ) (had left before after : Option (List ℕ
     → IsServed s at had left before after r old new → AnswersAt s at (is_answered r) old new
 served s at had left before after (Ok done) old new did = (had, left, did.0, did.1)
 served s at had left before after (Err Write) old new did = (had, left, did.0, did.1)
-served s at had left before after (Err Read) old new did = did.1
+served s at had left before after (Err Read) old new did = spared_stays s old new did.1
 served s at had left before after (Err NoMemory) old new did = absurd did
 
 -- it leaves a well-formed desk

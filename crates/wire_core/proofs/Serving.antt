@@ -1,61 +1,140 @@
 -- What stands after a reply was written, and after a list of messages.
-use Rattle.std.proofs.Common.{◌≡◌, ◌∙◌, ◌<◌, ◌≤◌, ◌+◌, inl, inr, ℕ, false, List, [], ◌∷◌, ◌++◌}
-use Rattle.std.proofs.Common.{Option, Result, Ok, Err, refl, ap, sym, subst, length, map, take}
-use Rattle.std.proofs.Common.{get_or}
-use Rattle.std.proofs.lemmas.List.{map-append, take_more}
-use Rattle.std.specs.Prelude.{Vec, ⊤}
-use Rattle.sqlite.specs.State.{State}
+use Rattle.std.proofs.Common.{◌≡◌, ◌≢◌, ◌∙◌, ◌<◌, ◌≤◌, ◌+◌, inl, inr, ℕ, Bool, true, false, List, []}
+use Rattle.std.proofs.Common.{◌∷◌, ◌++◌, Option, Some, None, Result, Ok, Err, refl, ap, sym, subst}
+use Rattle.std.proofs.Common.{length, map, take, get_or}
+use Rattle.std.proofs.lemmas.List.{map-append, take_all, take_more}
+use Rattle.std.specs.Prelude.{OnErr, Vec, ⊤}
+use Rattle.sqlite.specs.State.{HasCleanDisk, State}
 use Rattle.settings_core.specs.declared.settings.Settings.{Settings}
 use Rattle.desk_model.specs.Desk.{Desk}
 use Rattle.desk_model.specs.IsDesk.{IsDesk}
-use Rattle.message_core.specs.Reply.{bytes_of, unavailable}
-use Rattle.service_core.specs.TableSteps.{LeadsOn}
-use Rattle.store_core.proofs.FactsLemmasOfDesk.{take_all}
 use Rattle.store_tables.specs.Calls.{WasClean}
-use Rattle.wire_core.specs.Runs.{IsReplyTo, Replied, RepliesOn, RunsMessages, RunsMessagesOn, Sent}
+use Rattle.stream_core.specs.Seen.{has_write_failed, held_in}
+use Rattle.stream_core.specs.Written.{IsWritten, Prints, WritesOn}
+use Rattle.stream_core.specs.declared.writer.CountedWriter.{CountedWriter}
+use Rattle.message_core.specs.Fault.{is_read}
+use Rattle.message_core.specs.declared.fault.WireFault.{WireFault}
+use Rattle.wire_core.specs.Fault.{is_unread, tells_failed_read, tells_failed_write}
+use Rattle.wire_core.specs.Runs.{IsReplyOver, IsReplyTo, Replied, RunsMessagesOn, RunsOver, Sent}
 use Rattle.wire_core.specs.Runs.{all_replied, all_sent, replied_of, sent_of}
-use Rattle.wire_core.specs.Served.{IsSent, IsServed}
-use Rattle.wire_core.specs.Steps.{CommandSteps, ReadSteps, StreamSteps}
-use Rattle.wire_core.specs.Steps.{StaysOn, StreamStepsOn}
+use Rattle.wire_core.specs.Served.{IsAnswer, IsSent, IsServed, IsServedBy, Replies, TellsRead}
+use Rattle.wire_core.specs.Served.{reply_in}
+use Rattle.wire_core.specs.Steps.{CommandSteps, ReadSteps, StaysOn, StreamSteps, StreamStepsOn}
 use Rattle.wire_core.specs.declared.fault.ServeFault.{ServeFault}
 use Rattle.wire_core.specs.declared.fault.ServeFault.TheVariants.{NoMemory, Read, Write}
-use Rattle.wire_core.proofs.Stepping.{leads_wider}
+use Rattle.wire_core.specs.declared.fault.Unanswered.{Unanswered}
+use Rattle.wire_core.specs.declared.fault.Unanswered.TheVariants.{NoRoom, Unread}
+use Rattle.wire_core.proofs.Stepping.{replied, stays}
 
 -- ---- one message
 
-pub served : (s : Settings) (at : ℕ) (had left before after : Option (List ℕ)) (bytes : List ℕ)
-    (r : Result ⊤ ServeFault) (old new : State)
-    → StreamStepsOn s at had left bytes old new → IsSent before after bytes r
-    → IsServed s at had left before after r old new
-served s at had left before after bytes (Ok done) old new steps sent = (bytes, steps, sent)
-served s at had left before after bytes (Err Write) old new steps sent = (bytes, steps, sent)
-served s at had left before after bytes (Err Read) old new steps sent = absurd sent
-served s at had left before after bytes (Err NoMemory) old new steps sent = absurd sent
+-- a reply was written, whole or up to a write that failed
+pub sent_reply : {W : Type 0} (contents : W → Option (List ℕ)) (before after : CountedWriter W)
+    (reply bytes : List ℕ) (r : Result ⊤ ServeFault) → bytes ≡ reply
+    → Prints contents before after bytes → OnErr r (r ≡ Err Write)
+    → IsSent contents before after (Some reply) r
+sent_reply contents before after reply bytes (Ok done) same printed kinds =
+    subst (Prints contents before after) same printed
+sent_reply contents before after reply bytes (Err Write) same printed kinds =
+    subst (Prints contents before after) same printed
+sent_reply contents before after reply bytes (Err Read) same printed kinds = absurd cc
+sent_reply contents before after reply bytes (Err NoMemory) same printed kinds = absurd cc
 
--- the same of a counted reader and a counted writer, in place of those that they count for
-pub served_counted : (s : Settings) (at : ℕ) (had left before after : Option (List ℕ))
-    (in_reader left_in_it in_writer held_in_it : Option (List ℕ)) (bytes sent : List ℕ)
-    (r : Result ⊤ ServeFault) (old new : State)
-    → in_reader ≡ had → left_in_it ≡ left → in_writer ≡ before → held_in_it ≡ after
-    → sent ≡ bytes → StreamStepsOn s at in_reader left_in_it bytes old new
-    → IsSent in_writer held_in_it sent r → IsServed s at had left before after r old new
-served_counted s at had left before after had1 left1 before1 after1 bytes sent r old new h l b a same
-    steps is_sent =
-    let by_reader =
-    subst (λ (x : Option (List ℕ)). StreamStepsOn s at x left1 bytes old new) h steps in
-    let by_both =
-    subst (λ (x : Option (List ℕ)). StreamStepsOn s at had x bytes old new) l by_reader in
-    let from = subst (λ (x : Option (List ℕ)). IsSent x after1 sent r) b is_sent in
-    let to = subst (λ (x : Option (List ℕ)). IsSent before x sent r) a from in
-    let whole = subst (λ (x : List ℕ). IsSent before after x r) same to in
-    served s at had left before after bytes r old new by_both whole
+-- and no read failed in it
+pub not_unread : (r : Result ⊤ ServeFault) → OnErr r (r ≡ Err Write)
+    → tells_failed_read r ≡ false
+not_unread (Ok done) kinds = refl
+not_unread (Err Write) kinds = refl
+not_unread (Err Read) kinds = absurd cc
+not_unread (Err NoMemory) kinds = absurd cc
 
--- there is no room for a reply: nothing is read, and nothing is done
-pub left_out : (s : Settings) (at : ℕ) (had left : Option (List ℕ)) (bytes : List ℕ)
-    (old new : State) → bytes ≡ bytes_of (unavailable false) → StaysOn s old new
-    → StreamStepsOn s at had left bytes old new
-left_out s at had left bytes old new told stay =
-    leads_wider s _ _ old new (λ desk after same. inl (told, same)) stay
+-- what was answered went out, and so the message was served
+pub served_by : {W : Type 0} (contents : W → Option (List ℕ)) (s : Settings) (at : ℕ)
+    (had left : Option (List ℕ)) (before after : CountedWriter W) (reply : Option (List ℕ))
+    (r : Result ⊤ ServeFault) (old new : State)
+    → IsAnswer s at had left reply old new → IsSent contents before after reply r
+    → IsServedBy contents s at had left before after r old new
+served_by contents s at had left before after (Some bytes) (Ok done) old new steps sent =
+    (bytes, steps, sent)
+served_by contents s at had left before after (Some bytes) (Err Write) old new steps sent =
+    (bytes, steps, sent)
+served_by contents s at had left before after (Some bytes) (Err Read) old new steps sent =
+    absurd sent
+served_by contents s at had left before after (Some bytes) (Err NoMemory) old new steps sent =
+    absurd sent
+served_by contents s at had left before after None (Ok done) old new same sent = absurd sent
+served_by contents s at had left before after None (Err Write) old new same sent = absurd sent
+served_by contents s at had left before after None (Err Read) old new same sent = (sent, same)
+served_by contents s at had left before after None (Err NoMemory) old new same sent = absurd sent
+
+reads_not : (fault : WireFault) → fault ≢ WireFault.Read → is_read fault ≡ false
+reads_not WireFault.Read other = absurd (other refl)
+reads_not WireFault.NoMemory other = refl
+reads_not WireFault.TooLong other = refl
+reads_not WireFault.Truncated other = refl
+reads_not WireFault.BadHead other = refl
+reads_not WireFault.BadLength other = refl
+
+-- whether a read failed is told by there being no reply
+pub unread_told : {A : Type 0} (fault : WireFault) (r : Result (Vec ℕ A) Unanswered)
+    → TellsRead fault (reply_in r) → is_unread r ≡ is_read fault
+unread_told fault (Ok bytes) told = sym (reads_not fault told.0)
+unread_told fault (Err NoRoom) told = sym (reads_not fault told.0)
+unread_told fault (Err Unread) told = sym (ap is_read told)
+
+-- what is so where there is no reply is so where a read failed
+pub untouched_by : {A : Type 0} (r : Result A Unanswered) (P : Type 0) → OnErr r P
+    → is_unread r ≡ true → P
+untouched_by (Ok reply) P err unread = absurd cc
+untouched_by (Err fault) P err unread = err
+
+-- a text was written by a writer that hadn't failed, and whether it failed then
+is_written : {W : Type 0} (contents : W → Option (List ℕ)) (before after : CountedWriter W)
+    (bytes : List ℕ) (failed : Bool) → has_write_failed before ≡ false
+    → has_write_failed after ≡ failed → Prints contents before after bytes
+    → IsWritten failed (held_in contents before) (held_in contents after) bytes
+is_written contents before after bytes failed unfailed is printed =
+    subst (λ (f : Bool). IsWritten f (held_in contents before) (held_in contents after) bytes) is
+    (subst (λ (f : Bool). WritesOn f (has_write_failed after) (held_in contents before)
+    (held_in contents after) bytes) unfailed printed.written)
+
+-- what a counted reader had and has left, and a counted writer held and holds, is what the reader
+-- and the writer do for which they count
+replies_of : (s : Settings) (at : ℕ) (had left before after h l b a : Option (List ℕ))
+    (bytes : List ℕ) (failed : Bool) (old new : State) → h ≡ had → l ≡ left → b ≡ before → a ≡ after
+    → StreamStepsOn s at h l bytes old new → IsWritten failed b a bytes
+    → Replies s at had left before after failed old new
+replies_of s at had left before after h l b a bytes failed old new had_is left_is before_is after_is
+    steps written = (
+      bytes,
+      subst (λ (x : Option (List ℕ)). StreamStepsOn s at had x bytes old new) left_is
+          (subst (λ (x : Option (List ℕ)). StreamStepsOn s at x l bytes old new) had_is steps),
+      subst (λ (x : Option (List ℕ)). IsWritten failed before x bytes) after_is
+          (subst (λ (x : Option (List ℕ)). IsWritten failed x a bytes) before_is written),
+    )
+
+-- so it is of a message that was served
+pub served_counted : {W : Type 0} (contents : W → Option (List ℕ)) (s : Settings) (at : ℕ)
+    (had left before after h l : Option (List ℕ)) (from to : CountedWriter W)
+    (r : Result ⊤ ServeFault) (old new : State)
+    → h ≡ had → l ≡ left → held_in contents from ≡ before → held_in contents to ≡ after
+    → has_write_failed from ≡ false → has_write_failed to ≡ tells_failed_write r
+    → IsServedBy contents s at h l from to r old new → IsServed s at had left before after r old new
+served_counted contents s at had left before after h l from to (Ok done) old new had_is left_is
+    before_is after_is unfailed failed served =
+    replies_of s at had left before after h l (held_in contents from) (held_in contents to) served.0
+    false old new had_is left_is before_is after_is served.1
+    (is_written contents from to served.0 false unfailed failed served.2)
+served_counted contents s at had left before after h l from to (Err Write) old new had_is left_is
+    before_is after_is unfailed failed served =
+    replies_of s at had left before after h l (held_in contents from) (held_in contents to) served.0
+    true old new had_is left_is before_is after_is served.1
+    (is_written contents from to served.0 true unfailed failed served.2)
+served_counted contents s at had left before after h l from to (Err Read) old new had_is left_is
+    before_is after_is unfailed failed served =
+    (sym after_is ∙ ap (held_in contents) served.0 ∙ before_is, served.1)
+served_counted contents s at had left before after h l from to (Err NoMemory) old new had_is left_is
+    before_is after_is unfailed failed served = absurd served
 
 -- ---- a message step leaves a well-formed desk
 
@@ -66,7 +145,7 @@ formed_command s at message (Ok asked) old bytes new is did = did.1.formed
 
 formed_read : (s : Settings) (at : ℕ) (read : _) (old : Desk) (bytes : List ℕ) (new : Desk)
     → IsDesk old → ReadSteps s at read old bytes new → IsDesk new
-formed_read s at (Err fault) old bytes new is did = subst IsDesk (sym did.1) is
+formed_read s at (Err fault) old bytes new is told = subst IsDesk (sym told.1) is
 formed_read s at (Ok message) old bytes new is (inl left) = subst IsDesk (sym left.1) is
 formed_read s at (Ok message) old bytes new is (inr did) =
     formed_command s at message _ old bytes new is did
@@ -74,8 +153,7 @@ formed_read s at (Ok message) old bytes new is (inr did) =
 pub formed_stream : (s : Settings) (at : ℕ) (had left : Option (List ℕ)) (old : Desk)
     (bytes : List ℕ) (new : Desk) → IsDesk old → StreamSteps s at had left old bytes new
     → IsDesk new
-formed_stream s at had left old bytes new is (inl out) = subst IsDesk (sym out.1) is
-formed_stream s at had left old bytes new is (inr did) =
+formed_stream s at had left old bytes new is did =
     formed_read s at did.0 old bytes new is did.2
 
 formed : (s : Settings) (sent : Sent) (old : Desk) (reply : Replied) (new : Desk) → IsDesk old
@@ -87,39 +165,48 @@ formed s sent old (Err Write) new is did = absurd did
 
 -- ---- a run
 
-run_more : (s : Settings) (old : Desk) (sent : List Sent) (replies : List Replied) (mid : Desk)
-    (m : Sent) (r : Replied) (new : Desk)
-    → RunsMessages s old sent replies mid → IsReplyTo s m mid r new
-    → RunsMessages s old (sent ++ m ∷ []) (replies ++ r ∷ []) new
-run_more s old [] [] mid m r new same did =
-    (new, subst (λ (d : Desk). IsReplyTo s m d r new) same did, refl)
-run_more s old (a ∷ sent) (b ∷ replies) mid m r new run did =
-    (run.0, run.1, run_more s run.0 sent replies mid m r new run.2 did)
-run_more s old [] (b ∷ replies) mid m r new run did = absurd run
-run_more s old (a ∷ sent) [] mid m r new run did = absurd run
+module _ {D : Type 0} (tables : D → State) (s : Settings) where
+  -- a disk that is clean after a run was clean before it
+  clean_run : (sent : List Sent) (replies : List Replied) (old new : D)
+      → RunsOver tables s sent replies old new → WasClean (tables old) (tables new)
+  clean_run [] [] old new same clean = subst (λ (d : D). HasCleanDisk (tables d)) same clean
+  clean_run (m ∷ sent) (r ∷ replies) old new run clean =
+      run.2 (clean_run sent replies run.0 new run.3 clean)
+  clean_run [] (r ∷ replies) old new run clean = absurd run
+  clean_run (m ∷ sent) [] old new run clean = absurd run
 
--- a run on tables, and that the desk which it leaves is well formed
-abbrev pub RunsSoFar : Settings → List Sent → List Replied → State → State → Type 0
-RunsSoFar s sent replies =
-    LeadsOn s (λ desk after. RunsMessages s desk sent replies after × IsDesk after)
+  -- a run over tables is one of whatever desk they stand for
+  pub run_leads : (sent : List Sent) (replies : List Replied) (old new : D)
+      → RunsOver tables s sent replies old new
+      → RunsMessagesOn s sent replies (tables old) (tables new)
+  run_leads [] [] old new same desk is stand clean =
+      subst (λ (d : D). StaysOn s (tables old) (tables d)) (sym same) (stays s (tables old)) desk is
+      stand clean
+  run_leads (m ∷ sent) (r ∷ replies) old new run desk is stand clean =
+      let between = clean_run sent replies run.0 new run.3 clean in
+      let here = replied s m r (tables old) (tables run.0) run.1 desk is stand between in
+      let then =
+      run_leads sent replies run.0 new run.3 here.0 (formed s m desk r here.0 is here.1) here.2
+      clean in
+      (then.0, (here.0, here.1, then.1), then.2)
+  run_leads [] (r ∷ replies) old new run desk is stand clean = absurd run
+  run_leads (m ∷ sent) [] old new run desk is stand clean = absurd run
 
-pub run_begins : (s : Settings) (tables : State) → RunsSoFar s [] [] tables tables
-run_begins s tables desk is stand clean = (desk, (refl, is), stand)
-
-run_goes_on : (s : Settings) (sent : List Sent) (replies : List Replied) (m : Sent) (r : Replied)
-    (old mid new : State)
-    → RunsSoFar s sent replies old mid → WasClean mid new → RepliesOn s m r mid new
-    → RunsSoFar s (sent ++ m ∷ []) (replies ++ r ∷ []) old new
-run_goes_on s sent replies m r old mid new run honest step desk is stand clean =
-    let so_far = run desk is stand (honest clean) in
-    let then = step so_far.0 so_far.1.1 so_far.2 clean in (
-      then.0,
-      (
-        run_more s desk sent replies so_far.0 m r then.0 so_far.1.0 then.1,
-        formed s m so_far.0 r then.0 so_far.1.1 then.1,
-      ),
-      then.2,
-    )
+  run_more : (sent : List Sent) (replies : List Replied) (m : Sent) (r : Replied)
+      (old mid new : D)
+      → RunsOver tables s sent replies old mid → IsReplyOver s m r (tables mid) (tables new)
+      → WasClean (tables mid) (tables new)
+      → RunsOver tables s (sent ++ m ∷ []) (replies ++ r ∷ []) old new
+  run_more [] [] m r old mid new same did honest = (
+    new,
+    subst (λ (d : D). IsReplyOver s m r (tables d) (tables new)) same did,
+    subst (λ (d : D). WasClean (tables d) (tables new)) same honest,
+    refl,
+  )
+  run_more (a ∷ sent) (b ∷ replies) m r old mid new run did honest =
+      (run.0, run.1, run.2, run_more sent replies m r run.0 mid new run.3 did honest)
+  run_more [] (b ∷ replies) m r old mid new run did honest = absurd run
+  run_more (a ∷ sent) [] m r old mid new run did honest = absurd run
 
 map_more : {X Y : Type 0} (f : X → Y) (xs : List X) (i : ℕ) (d : X) → i < length xs
     → map f (take (i + 1) xs) ≡ map f (take i xs) ++ f (get_or xs i d) ∷ []
@@ -127,35 +214,38 @@ map_more f xs i d low =
     ap (map f) (take_more xs i d low) ∙ map-append f (take i xs) (get_or xs i d ∷ [])
 
 -- the next of the messages
-pub run_on : {A B : Type 0} (s t : Settings) (all : List (ℕ × Vec ℕ A)) (i : ℕ)
-    (item : ℕ × Vec ℕ A) (seen : List ℕ) (before after : List (Result (Vec ℕ B) ServeFault))
-    (r : Result (Vec ℕ B) ServeFault) (old mid new : State)
+pub run_on : {A B D : Type 0} (tables : D → State) (s t : Settings) (all : List (ℕ × Vec ℕ A))
+    (i : ℕ) (item : ℕ × Vec ℕ A) (seen : List ℕ)
+    (before after : List (Result (Vec ℕ B) ServeFault)) (r : Result (Vec ℕ B) ServeFault)
+    (old mid new : D)
     → i < length all → after ≡ before ++ r ∷ [] → t ≡ s
     → item ≡ get_or all i item → seen ≡ item.1.items
-    → RunsSoFar s (map sent_of (take i all)) (all_replied before) old mid → WasClean mid new
-    → RepliesOn t (item.0, seen) (replied_of r) mid new
-    → RunsSoFar s (map sent_of (take (i + 1) all)) (all_replied after) old new
-run_on s t all i item seen before after r old mid new low pushed same is shown run honest step =
+    → RunsOver tables s (map sent_of (take i all)) (all_replied before) old mid
+    → WasClean (tables mid) (tables new)
+    → IsReplyOver t (item.0, seen) (replied_of r) (tables mid) (tables new)
+    → RunsOver tables s (map sent_of (take (i + 1) all)) (all_replied after) old new
+run_on tables s t all i item seen before after r old mid new low pushed same is shown run honest
+    step =
     let sent = map sent_of (take i all) in
     let shown_step =
-    subst (λ (bytes : List ℕ). RepliesOn t (item.0, bytes) (replied_of r) mid new) shown step in
+    subst (λ (bytes : List ℕ). IsReplyOver t (item.0, bytes) (replied_of r) (tables mid)
+    (tables new)) shown step in
     let this_step =
-    subst (λ (x : Settings). RepliesOn x (sent_of item) (replied_of r) mid new) same shown_step in
+    subst (λ (x : Settings). IsReplyOver x (sent_of item) (replied_of r) (tables mid) (tables new))
+    same shown_step in
     let goes =
-    run_goes_on s sent (all_replied before) (sent_of item) (replied_of r) old mid new run honest
-    this_step in
+    run_more tables s sent (all_replied before) (sent_of item) (replied_of r) old mid new run
+    this_step honest in
     let grown = map_more sent_of all i item low ∙ ap (λ x. sent ++ sent_of x ∷ []) (sym is) in
     let longer = ap all_replied pushed ∙ map-append replied_of before (r ∷ []) in
-    subst (λ (xs : List Sent). RunsSoFar s xs (all_replied after) old new) (sym grown)
-    (subst (λ (rs : List Replied). RunsSoFar s (sent ++ sent_of item ∷ []) rs old new) (sym longer)
-    goes)
+    subst (λ (xs : List Sent). RunsOver tables s xs (all_replied after) old new) (sym grown)
+    (subst (λ (rs : List Replied). RunsOver tables s (sent ++ sent_of item ∷ []) rs old new)
+    (sym longer) goes)
 
-pub all_run : {A : Type 0} (s : Settings) (all : List (ℕ × Vec ℕ A)) (i : ℕ)
-    (replies : List Replied) (old new : State) → length all ≤ i
-    → RunsSoFar s (map sent_of (take i all)) replies old new
-    → RunsMessagesOn s (all_sent all) replies old new
-all_run s all i replies old new whole run desk is stand clean =
-    let so_far =
-    subst (λ (xs : List (ℕ × Vec ℕ _)). RunsSoFar s (map sent_of xs) replies old new)
-    (take_all i all whole) run in
-    let led = so_far desk is stand clean in (led.0, led.1.0, led.2)
+pub all_run : {A D : Type 0} (tables : D → State) (s : Settings) (all : List (ℕ × Vec ℕ A))
+    (i : ℕ) (replies : List Replied) (old new : D) → length all ≤ i
+    → RunsOver tables s (map sent_of (take i all)) replies old new
+    → RunsOver tables s (all_sent all) replies old new
+all_run tables s all i replies old new whole run =
+    subst (λ (xs : List (ℕ × Vec ℕ _)). RunsOver tables s (map sent_of xs) replies old new)
+    (take_all i all whole) run

@@ -7,7 +7,7 @@ use Rattle.std.specs.declared.alloc.AllocError.{AllocError}
 use Rattle.sqlite.specs.State.{State}
 use Rattle.settings_core.specs.declared.settings.Settings.{Settings}
 use Rattle.desk_model.specs.Desk.{Desk}
-use Rattle.desk_model.specs.Step.{Ask, Outcome, answer_of, desk_unless, effect, guard}
+use Rattle.desk_model.specs.Step.{Ask, Outcome, Steps, answer_of, desk_unless, effect, guard}
 use Rattle.desk_model.specs.Step.{outcome_unless}
 use Rattle.desk_model.specs.declared.answer.Answer.{Answer}
 use Rattle.desk_model.specs.declared.command.Command.{Command}
@@ -23,10 +23,17 @@ use Rattle.route_core.specs.Places.{Place}
 use Rattle.route_core.specs.declared.fault.CommandFault.{CommandFault}
 use Rattle.route_core.specs.declared.fault.CommandFault.TheVariants.{BadMethod, NoMemory}
 use Rattle.service_core.specs.TableSteps.{LeadsOn, StepsOn}
+use Rattle.store_core.specs.Due.{StandsDue, due_of_row}
+use Rattle.store_tables.proofs.Spared.{stands, unread}
+use Rattle.store_tables.specs.Calls.{Spares}
+use Rattle.store_tables.specs.Contents.{contents_of}
 use Rattle.wire_core.specs.Replies.{fault_reply, is_head, outcome_reply}
-use Rattle.wire_core.specs.Steps.{CommandSteps, CommandStepsOn, IsDoneOn, MessageStepsOn, StaysOn}
-use Rattle.wire_core.specs.Steps.{StreamSteps, StreamStepsOn}
-use Rattle.wire_core.specs.Runs.{RepliesOn}
+use Rattle.wire_core.specs.Runs.{IsReplyOver, RepliesOn, Replied, Sent}
+use Rattle.wire_core.specs.Served.{IsAnswer, TellsRead}
+use Rattle.wire_core.specs.Steps.{CommandSteps, CommandStepsOn, IsDoneOn, LeavesOn, LeavesOut}
+use Rattle.wire_core.specs.Steps.{MessageStepsOn, ReadSteps, ReadStepsOn, StaysOn, StreamSteps}
+use Rattle.wire_core.specs.Steps.{StreamStepsOn, WasRead}
+use Rattle.wire_core.specs.declared.fault.ServeFault.{ServeFault}
 
 -- what one relation leads to, a wider one does
 pub leads_wider : (s : Settings) (P Q : Desk → Desk → Type 0) (old new : State)
@@ -52,25 +59,27 @@ pub done : (s : Settings) (ask : Ask) (h : Bool) (outcome : Outcome) (bytes : Li
 done s ask h outcome bytes old new told steps desk is stands clean =
     let step = steps desk is stands clean in (step.0, (outcome, step.1, told), step.2)
 
-left_by : (o : Option Refusal) (answer : Answer) (old after : Desk)
-    → Err Unavailable ≡ outcome_unless o answer → desk_unless o old after ≡ old
-left_by None answer old after e = cc
-left_by (Some refusal) answer old after e = refl
+left_by : (o : Option Refusal) (answer : Answer) (refusal : Refusal) (old after : Desk)
+    → Err refusal ≡ outcome_unless o answer → desk_unless o old after ≡ old
+left_by None answer refusal old after e = cc
+left_by (Some other) answer refusal old after e = refl
 
--- a command that was out of memory leaves the desk
+-- a refused command leaves the desk
+pub refused_same : (s : Settings) (at : ℕ) (caller : List ℕ) (command : Command) (old new : Desk)
+    (refusal : Refusal) → Steps s at caller command old (Err refusal) new → new ≡ old
+refused_same s at caller command old new refusal (inl left) = left.1
+refused_same s at caller command old new refusal (inr made) =
+    made.1
+    ∙ left_by (guard s at caller command old) (answer_of s at caller command old) refusal old
+    (effect s at caller command old) made.0
+
+-- so does one that was out of memory
 pub unavailable_stays : (s : Settings) (ask : Ask) (old new : State)
     → StepsOn s ask (Err Unavailable) old new → StaysOn s old new
 unavailable_stays s ask old new steps desk is stands clean =
     let step = steps desk is stands clean in (
       step.0,
-      elim step.1.step [
-        | inl left ↦ left.1
-        | inr made ↦
-            made.1
-            ∙ left_by (guard s ask.at ask.caller ask.command desk)
-            (answer_of s ask.at ask.caller ask.command desk) desk
-            (effect s ask.at ask.caller ask.command desk) made.0
-      ],
+      refused_same s ask.at ask.caller ask.command desk step.0 Unavailable step.1.step,
       step.2,
     )
 
@@ -98,9 +107,7 @@ pub faulty : (s : Settings) (at : ℕ) (message : Message) (fault : CommandFault
     (tables : State)
     → bytes ≡ bytes_of (fault_reply (is_head message) (methods_of message.target) fault)
     → CommandStepsOn s at message (Err fault) bytes tables tables
-faulty s at message fault bytes tables told =
-    leads_nowhere s (λ desk after. CommandSteps s at message (Err fault) desk bytes after) tables
-    (λ desk. (told, refl))
+faulty s at message fault bytes tables told = (told, unread tables)
 
 -- the same, once its reply is put: then the fault isn't that it was out of memory
 pub told_without_memory : (s : Settings) (at : ℕ) (message : Message) (fault : CommandFault)
@@ -117,22 +124,27 @@ told_without_memory s at message fault h methods (Ok done) bytes tables head at_
     let by_path =
     subst (λ (m : Option Allow). bytes ≡ bytes_of (fault_reply (is_head message) m fault)) at_path
     by_head in
-    subst (λ (a : Result (List ℕ × Command) CommandFault). CommandStepsOn s at message a bytes
-    tables tables) (sym (is memory)) (faulty s at message fault bytes tables by_path)
+    subst (λ (a : Result (List ℕ × Command) CommandFault). CommandStepsOn s at message a bytes tables
+    tables) (sym (is memory)) (faulty s at message fault bytes tables by_path)
 
-pub message_done : (s : Settings) (at : ℕ) (message : Message) (bytes : List ℕ) (old new : State)
-    → CommandStepsOn s at message (command_of s message) bytes old new
-    → MessageStepsOn s at message bytes old new
-message_done s at message bytes old new steps =
-    leads_wider s _ _ old new (λ desk after did. inr did) steps
-
-pub message_left_out : (s : Settings) (at : ℕ) (message : Message) (bytes : List ℕ)
-    (old new : State) → bytes ≡ bytes_of (unavailable (is_head message)) → StaysOn s old new
-    → MessageStepsOn s at message bytes old new
-message_left_out s at message bytes old new told stay =
-    leads_wider s _ _ old new (λ desk after same. inl (told, same)) stay
+-- whatever a message asks for, it is left out where nothing is done
+pub leaves_same : (s : Settings) (asked : Result (List ℕ × Command) CommandFault) (tables : State)
+    → LeavesOn s asked tables tables
+leaves_same s (Err fault) tables = unread tables
+leaves_same s (Ok asked) tables = stays s tables
 
 -- ---- a stream
+
+was_told : (had left : Option (List ℕ)) (fault : WireFault)
+    → (◌≢◌ {A = Result Message WireFault} (Err fault) (Err WireFault.Read)
+    → ◌≢◌ {A = Result Message WireFault} (Err fault) (Err WireFault.NoMemory)
+    → Reads had left (Err fault)) → fault ≢ WireFault.Read → WasRead had left (Err fault)
+was_told had left WireFault.NoMemory reads other = inl refl
+was_told had left WireFault.Read reads other = absurd (other refl)
+was_told had left WireFault.TooLong reads other = inr (reads (λ e. cc) (λ e. cc))
+was_told had left WireFault.Truncated reads other = inr (reads (λ e. cc) (λ e. cc))
+was_told had left WireFault.BadHead reads other = inr (reads (λ e. cc) (λ e. cc))
+was_told had left WireFault.BadLength reads other = inr (reads (λ e. cc) (λ e. cc))
 
 pub stream_done : (s : Settings) (at : ℕ) (had left : Option (List ℕ)) (message : Message)
     (bytes : List ℕ) (old new : State)
@@ -140,17 +152,92 @@ pub stream_done : (s : Settings) (at : ℕ) (had left : Option (List ℕ)) (mess
     → Reads had left (Ok message))
     → MessageStepsOn s at message bytes old new → StreamStepsOn s at had left bytes old new
 stream_done s at had left message bytes old new reads steps =
-    let read = reads (λ e. cc) (λ e. cc) in
-    leads_wider s _ _ old new (λ desk after did. inr (Ok message, read, did)) steps
+    (Ok message, inr (reads (λ e. cc) (λ e. cc)), steps)
+
+-- a fault of reading is told, if a reply tells it
+pub faulted : (s : Settings) (at : ℕ) (had left : Option (List ℕ)) (fault : WireFault)
+    (reply : Option (List ℕ)) (tables : State)
+    → (◌≢◌ {A = Result Message WireFault} (Err fault) (Err WireFault.Read)
+    → ◌≢◌ {A = Result Message WireFault} (Err fault) (Err WireFault.NoMemory)
+    → Reads had left (Err fault)) → TellsRead fault reply
+    → IsAnswer s at had left reply tables tables
+faulted s at had left fault None tables reads told = unread tables
+faulted s at had left fault (Some bytes) tables reads told =
+    (Err fault, was_told had left fault reads told.0, (told.1, unread tables))
+
+-- there is no room for a reply: nothing is read, and nothing is done
+pub left_out : (s : Settings) (at : ℕ) (had left : Option (List ℕ)) (tables : State)
+    → StreamStepsOn s at had left (bytes_of (unavailable false)) tables tables
+left_out s at had left tables = (Err WireFault.NoMemory, inl refl, (inl refl, unread tables))
+
+-- ---- what is so over whatever tables is so of the desk that they stand for
+
+-- tables that are spared stand for the desk that they stood for
+still : (s : Settings) (old new : State) → Spares old new → (desk : Desk)
+    → StandsDue s desk old → StandsDue s desk new
+still s old new kept desk stand = stands kept (contents_of (due_of_row s desk) desk) stand
+
+leads_same : (s : Settings) (P : Desk → Desk → Type 0) (old new : State) → Spares old new
+    → ((desk : Desk) → P desk desk) → LeadsOn s P old new
+leads_same s P old new kept holds desk is stand clean =
+    (desk, holds desk, still s old new kept desk stand)
+
+pub spared_stays : (s : Settings) (old new : State) → Spares old new → StaysOn s old new
+spared_stays s old new kept =
+    leads_same s (λ desk after. after ≡ desk) old new kept (λ desk. refl)
+
+module _ (s : Settings) (at : ℕ) where
+  command_leads : (message : Message) (asked : Result (List ℕ × Command) CommandFault)
+      (bytes : List ℕ) (old new : State) → CommandStepsOn s at message asked bytes old new
+      → LeadsOn s (λ desk after. CommandSteps s at message asked desk bytes after) old new
+  command_leads message (Err fault) bytes old new did =
+      leads_same s (λ desk after. CommandSteps s at message (Err fault) desk bytes after) old new
+      did.1 (λ desk. (did.0, refl))
+  command_leads message (Ok asked) bytes old new did = did
+
+  left_leads : (h : Bool) (asked : Result (List ℕ × Command) CommandFault) (bytes : List ℕ)
+      (old new : State) → bytes ≡ bytes_of (unavailable h) → LeavesOn s asked old new
+      → LeadsOn s (λ desk after. LeavesOut h desk bytes after) old new
+  left_leads h (Err fault) bytes old new told same =
+      leads_same s (λ desk after. LeavesOut h desk bytes after) old new same (λ desk. (told, refl))
+  left_leads h (Ok asked) bytes old new told stay =
+      leads_wider s _ _ old new (λ desk after same. (told, same)) stay
+
+  read_leads : (read : Result Message WireFault) (bytes : List ℕ) (old new : State)
+      → ReadStepsOn s at read bytes old new
+      → LeadsOn s (λ desk after. ReadSteps s at read desk bytes after) old new
+  read_leads (Err fault) bytes old new did =
+      leads_same s (λ desk after. ReadSteps s at (Err fault) desk bytes after) old new did.1
+      (λ desk. (did.0, refl))
+  read_leads (Ok message) bytes old new (inl left) =
+      leads_wider s _ _ old new (λ desk after out. inl out)
+      (left_leads (is_head message) (command_of s message) bytes old new left.0 left.1)
+  read_leads (Ok message) bytes old new (inr did) =
+      leads_wider s _ _ old new (λ desk after done. inr done)
+      (command_leads message (command_of s message) bytes old new did)
+
+  pub stream_leads : (had left : Option (List ℕ)) (bytes : List ℕ) (old new : State)
+      → StreamStepsOn s at had left bytes old new
+      → LeadsOn s (λ desk after. StreamSteps s at had left desk bytes after) old new
+  stream_leads had left bytes old new did =
+      leads_wider s _ _ old new (λ desk after steps. (did.0, did.1, steps))
+      (read_leads did.0 bytes old new did.2)
+
+-- ---- the reply to bytes
 
 -- what a stream steps by is the reply to its bytes
-pub replied : (s : Settings) (at : ℕ) (had left : Option (List ℕ)) (stream bytes : List ℕ)
+pub replied_over : (s : Settings) (at : ℕ) (had left : Option (List ℕ)) (stream bytes : List ℕ)
     (old new : State) → had ≡ Some stream → StreamStepsOn s at had left bytes old new
-    → RepliesOn s (at, stream) (Ok bytes) old new
-replied s at had left stream bytes old new known steps =
-    leads_wider s _ _ old new
-    (λ desk after did. (
-      left,
-      subst (λ (h : Option (List ℕ)). StreamSteps s at h left desk bytes
-          after) known did,
-    )) steps
+    → IsReplyOver s (at, stream) (Ok bytes) old new
+replied_over s at had left stream bytes old new known steps =
+    (left, subst (λ (h : Option (List ℕ)). StreamStepsOn s at h left bytes old new) known steps)
+
+pub replied : (s : Settings) (sent : Sent) (reply : Replied) (old new : State)
+    → IsReplyOver s sent reply old new → RepliesOn s sent reply old new
+replied s sent (Ok bytes) old new did =
+    leads_wider s _ _ old new (λ desk after steps. (did.0, steps))
+    (stream_leads s sent.0 (Some sent.1) did.0 bytes old new did.1)
+replied s sent (Err ServeFault.NoMemory) old new same =
+    spared_stays s old new same
+replied s sent (Err ServeFault.Read) old new did = absurd did
+replied s sent (Err ServeFault.Write) old new did = absurd did

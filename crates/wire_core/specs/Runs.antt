@@ -4,7 +4,8 @@ use Rattle.sqlite.specs.State.{State}
 use Rattle.settings_core.specs.declared.settings.Settings.{Settings}
 use Rattle.desk_model.specs.Desk.{Desk}
 use Rattle.service_core.specs.TableSteps.{LeadsOn}
-use Rattle.wire_core.specs.Steps.{StreamSteps}
+use Rattle.store_tables.specs.Calls.{Spares, WasClean}
+use Rattle.wire_core.specs.Steps.{StreamSteps, StreamStepsOn}
 use Rattle.wire_core.specs.declared.fault.ServeFault.{ServeFault}
 use Rattle.wire_core.specs.declared.fault.ServeFault.TheVariants.{Read, Write, NoMemory}
 
@@ -32,7 +33,27 @@ RunsMessages settings old (sent ∷ others) (reply ∷ replies) new =
 RunsMessages settings old [] (reply ∷ replies) new = ⊥
 RunsMessages settings old (sent ∷ others) [] new = ⊥
 
--- ---- over tables
+-- ---- over whatever tables
+
+-- the reply to a message; out of memory all tables are as they were
+abbrev pub IsReplyOver : Settings → Sent → Replied → State → State → Type 0
+IsReplyOver settings sent (Ok bytes) old new =
+    (left : Option (List ℕ)) × StreamStepsOn settings sent.0 (Some sent.1) left bytes old new
+IsReplyOver settings sent (Err NoMemory) old new = Spares old new
+IsReplyOver settings sent (Err Read) old new = ⊥
+IsReplyOver settings sent (Err Write) old new = ⊥
+
+-- one reply for each message, each of the desk that the one before left, whatever its tables are
+abbrev pub RunsOver : {D : Type 0} → (D → State) → Settings → List Sent → List Replied → D → D
+    → Type 0
+RunsOver tables settings [] [] old new = new ≡ old
+RunsOver {D} tables settings (sent ∷ others) (reply ∷ replies) old new =
+    (mid : D) × IsReplyOver settings sent reply (tables old) (tables mid)
+    × WasClean (tables old) (tables mid) × RunsOver tables settings others replies mid new
+RunsOver tables settings [] (reply ∷ replies) old new = ⊥
+RunsOver tables settings (sent ∷ others) [] old new = ⊥
+
+-- ---- over tables that stand for a desk
 
 abbrev pub RepliesOn : Settings → Sent → Replied → State → State → Type 0
 RepliesOn settings sent reply =

@@ -1,11 +1,19 @@
 -- What stands after a message was served over tables.
-use Rattle.std.specs.Prelude.{◌≡◌, ℕ, Bool, true, false, List, Option, Result, Ok, Err, ⊤}
+use Rattle.std.specs.Prelude.{◌≡◌, ◌≢◌, ℕ, ⊤, Bool, true, false, List, Option, Some, None, Result}
+use Rattle.std.specs.Prelude.{Ok, Err, Vec}
 use Rattle.sqlite.specs.State.{State}
 use Rattle.settings_core.specs.declared.settings.Settings.{Settings}
-use Rattle.stream_core.specs.Written.{IsWritten}
-use Rattle.wire_core.specs.Steps.{StaysOn, StreamStepsOn}
+use Rattle.message_core.specs.Reply.{bytes_of, unavailable}
+use Rattle.message_core.specs.declared.fault.WireFault.{WireFault}
+use Rattle.store_tables.specs.Calls.{Spares}
+use Rattle.stream_core.specs.Written.{IsWritten, Prints}
+use Rattle.stream_core.specs.declared.writer.CountedWriter.{CountedWriter}
+use Rattle.wire_core.specs.Replies.{TellsFault}
+use Rattle.wire_core.specs.Steps.{StreamStepsOn}
 use Rattle.wire_core.specs.declared.fault.ServeFault.{ServeFault}
 use Rattle.wire_core.specs.declared.fault.ServeFault.TheVariants.{Read, Write, NoMemory}
+use Rattle.wire_core.specs.declared.fault.Unanswered.{Unanswered}
+use Rattle.wire_core.specs.declared.fault.Unanswered.TheVariants.{NoRoom, Unread}
 
 -- the message step, whose reply goes out whole, or where a write failed short of a byte or more
 abbrev pub Replies : Settings → ℕ → Option (List ℕ) → Option (List ℕ) → Option (List ℕ)
@@ -23,13 +31,51 @@ IsServed settings at had left before after (Ok done) old new =
     Replies settings at had left before after false old new
 IsServed settings at had left before after (Err Write) old new =
     Replies settings at had left before after true old new
-IsServed settings at had left before after (Err Read) old new =
-    (after ≡ before) × StaysOn settings old new
+IsServed settings at had left before after (Err Read) old new = (after ≡ before) × Spares old new
 IsServed settings at had left before after (Err NoMemory) old new = ⊥
 
--- the bytes went out whole, or short of a byte or more
-abbrev pub IsSent : Option (List ℕ) → Option (List ℕ) → List ℕ → Result ⊤ ServeFault → Type 0
-IsSent before after bytes (Ok done) = IsWritten false before after bytes
-IsSent before after bytes (Err Write) = IsWritten true before after bytes
-IsSent before after bytes (Err Read) = ⊥
-IsSent before after bytes (Err NoMemory) = ⊥
+-- ---- by a reader and a writer that count
+
+-- the same, in at most as many writes as the reply has bytes
+abbrev pub IsServedBy : {W : Type 0} → (W → Option (List ℕ)) → Settings → ℕ → Option (List ℕ)
+    → Option (List ℕ) → CountedWriter W → CountedWriter W → Result ⊤ ServeFault → State → State
+    → Type 0
+IsServedBy contents settings at had left before after (Ok done) old new =
+    (bytes : List ℕ) × StreamStepsOn settings at had left bytes old new
+    × Prints contents before after bytes
+IsServedBy contents settings at had left before after (Err Write) old new =
+    (bytes : List ℕ) × StreamStepsOn settings at had left bytes old new
+    × Prints contents before after bytes
+IsServedBy contents settings at had left before after (Err Read) old new =
+    (after ≡ before) × Spares old new
+IsServedBy contents settings at had left before after (Err NoMemory) old new = ⊥
+
+-- the reply that goes out, if there is one: where there was no room for any, that there was none
+abbrev pub reply_in : {A : Type 0} → Result (Vec ℕ A) Unanswered → Option (List ℕ)
+reply_in (Ok bytes) = Some bytes.items
+reply_in (Err NoRoom) = Some (bytes_of (unavailable false))
+reply_in (Err Unread) = None
+
+-- the reply is that of the message step; there is none where nothing is done
+abbrev pub IsAnswer : Settings → ℕ → Option (List ℕ) → Option (List ℕ) → Option (List ℕ) → State
+    → State → Type 0
+IsAnswer settings at had left (Some bytes) old new =
+    StreamStepsOn settings at had left bytes old new
+IsAnswer settings at had left None old new = Spares old new
+
+-- it went out, whole or up to a write that failed; or there is none, and none went out
+abbrev pub IsSent : {W : Type 0} → (W → Option (List ℕ)) → CountedWriter W → CountedWriter W
+    → Option (List ℕ) → Result ⊤ ServeFault → Type 0
+IsSent contents before after (Some bytes) (Ok done) = Prints contents before after bytes
+IsSent contents before after (Some bytes) (Err Write) = Prints contents before after bytes
+IsSent contents before after (Some bytes) (Err Read) = ⊥
+IsSent contents before after (Some bytes) (Err NoMemory) = ⊥
+IsSent contents before after None (Ok done) = ⊥
+IsSent contents before after None (Err Write) = ⊥
+IsSent contents before after None (Err Read) = after ≡ before
+IsSent contents before after None (Err NoMemory) = ⊥
+
+-- a fault of reading is told, or that there was no memory; there is no reply where a read failed
+abbrev pub TellsRead : WireFault → Option (List ℕ) → Type 0
+TellsRead fault None = fault ≡ WireFault.Read
+TellsRead fault (Some bytes) = (fault ≢ WireFault.Read) × TellsFault fault bytes

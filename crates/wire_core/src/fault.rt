@@ -38,3 +38,12 @@ impl ServeFault {
         }
     }
 }
+
+/// Why a message has no reply of its own.
+#[derive(Clone, Copy, Debug, PartialEq, Eq)]
+pub(crate) enum Unanswered {
+    /// There is no room for a reply. Nothing was read.
+    NoRoom,
+    /// A read failed.
+    Unread,
+}

@@ -4,9 +4,10 @@
 //!
 //! `serve_one` answers `Ok` where the whole reply went out. After `Write` the same step was made, and
 //! a part of its bytes went out that lacks a byte or more. After `Read` nothing was written, and the
-//! tables are as before. `NoMemory` is never its answer. By its contract `Read` and `Write` may come
-//! at any time; that they come of a failed call alone is tested. `serve_list` is a run of such steps
-//! over bytes in memory, where an element that is `NoMemory` changes nothing.
+//! tables are as before. `NoMemory` is never its answer. It is `serve_one_counted` by new counters,
+//! whose contract says that `Read` and `Write` come of a failed call alone. `serve_list` is a run of
+//! such steps over bytes in memory, where an element that is `NoMemory` changes nothing. A message
+//! that asks for no command has its reply and leaves the tables, whatever they are.
 #![tactic(auto)]
 
 mod fault;
@@ -22,4 +23,4 @@ pub use list::{serve_bytes, serve_list};
 pub use message_core::{Allow, Message, Reply, WireFault, answer_bytes, put_reply, read_message};
 pub use replies::{code_of_refusal, is_head};
 pub use route_core::{CommandFault, Routes, command_of};
-pub use serve::{serve_one, serve_one_by};
+pub use serve::{serve_one, serve_one_by, serve_one_counted};

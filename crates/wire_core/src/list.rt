@@ -2,10 +2,11 @@
 ghost use Rattle.std.specs.Prelude.{◌≡◌, IfOk, OnErr};
 ghost use Rattle.service_core.specs.Seen.{settings_of, tables_of};
 ghost use Rattle.store_tables.specs.Calls.{Lasts, WasClean};
-ghost use Rattle.wire_core.specs.Runs.{RepliesOn, RunsMessagesOn, all_replied, all_sent, replied_of};
+ghost use Rattle.wire_core.specs.Runs.{IsReplyOver, RepliesOn, RunsMessagesOn, RunsOver};
+ghost use Rattle.wire_core.specs.Runs.{all_replied, all_sent, replied_of};
 
 use crate::fault::ServeFault;
-use crate::serve::answer;
+use crate::serve::answer_counted;
 use route_core::Routes;
 use service_core::Desk;
 use std::alloc::{AllocError, Global};
@@ -14,7 +15,8 @@ use stream_core::CountedReader;
 
 /// Serves each message in turn at its moment, in minutes since 1970-01-01 00:00 UTC, as `serve_one`
 /// does: the bytes of its reply, or `NoMemory` where there was no memory for it and nothing was
-/// done. What follows a message in its bytes isn't looked at.
+/// done. What follows a message in its bytes isn't looked at. There are as many replies as messages,
+/// whatever the tables are.
 ///
 /// Room for the replies is had before the first message: `AllocError` where it is refused, and
 /// nothing is done.
@@ -26,6 +28,9 @@ pub fn serve_list<S: Backend>(
     ensures run { IfOk result (λ replies. RunsMessagesOn (settings_of S.Store desk.old)
         (all_sent messages.now) (all_replied replies.items)
         (tables_of S.Store desk.old) (tables_of S.Store desk.new)) }
+    ensures each { IfOk result (λ replies. RunsOver (tables_of S.Store)
+        (settings_of S.Store desk.old) (all_sent messages.now) (all_replied replies.items)
+        desk.old desk.new) }
     ensures err { OnErr result (desk.new ≡ desk.old) }
     ensures honest { WasClean (tables_of S.Store desk.old) (tables_of S.Store desk.new) }
     ensures lasts { Lasts (tables_of S.Store desk.old) (tables_of S.Store desk.new) }
@@ -52,6 +57,8 @@ pub fn serve_bytes<S: Backend>(
 ) -> Result<Vec<u8>, ServeFault>
     ensures reply { RepliesOn (settings_of S.Store desk.old) (moment, bytes.now)
         (replied_of result) (tables_of S.Store desk.old) (tables_of S.Store desk.new) }
+    ensures over { IsReplyOver (settings_of S.Store desk.old) (moment, bytes.now)
+        (replied_of result) (tables_of S.Store desk.old) (tables_of S.Store desk.new) }
     ensures err { OnErr result (desk.new ≡ desk.old) }
     ensures honest { WasClean (tables_of S.Store desk.old) (tables_of S.Store desk.new) }
     ensures lasts { Lasts (tables_of S.Store desk.old) (tables_of S.Store desk.new) }
@@ -59,7 +66,7 @@ pub fn serve_bytes<S: Backend>(
 {
     let mut stream = bytes;
     let mut reader = CountedReader::new(&mut stream);
-    match answer(alloc, routes, &mut reader, moment, desk) {
+    match answer_counted(alloc, routes, &mut reader, moment, desk) {
         Ok(reply) => Ok(reply),
         Err(_) => Err(ServeFault::NoMemory),
     }

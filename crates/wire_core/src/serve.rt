@@ -1,14 +1,17 @@
 //! One message is read, what it asks for is done, and one reply is written.
-ghost use Rattle.std.specs.Prelude.{◌≡◌, ◌≢◌, ◌≤◌, false, Ok, Err, IfOk, OnErr};
-ghost use Rattle.stream_core.specs.Seen.{HaveOneReader, HaveOneWriter, has_write_failed, held_in};
-ghost use Rattle.stream_core.specs.Seen.{left_in};
+ghost use Rattle.std.specs.Prelude.{◌≡◌, ◌≤◌, ◌+◌, ◌||◌, [], false, Err, OnErr};
+ghost use Rattle.std.specs.Vec.{vec_capacity};
+ghost use Rattle.stream_core.specs.Seen.{HaveOneReader, HaveOneWriter, has_read_failed};
+ghost use Rattle.stream_core.specs.Seen.{has_write_failed, left_in, reads_of};
 ghost use Rattle.stream_core.specs.Streams.{ConsumesAtMost};
+ghost use Rattle.stream_core.specs.Written.{Prints};
 ghost use Rattle.service_core.specs.Seen.{settings_of, tables_of};
 ghost use Rattle.store_tables.specs.Calls.{Lasts, WasClean};
-ghost use Rattle.wire_core.specs.Served.{IsSent, IsServed};
-ghost use Rattle.wire_core.specs.Steps.{StreamStepsOn};
+ghost use Rattle.wire_core.specs.Fault.{is_unread, tells_failed_read, tells_failed_write};
+ghost use Rattle.wire_core.specs.Served.{IsAnswer, IsSent, IsServed, IsServedBy, TellsRead};
+ghost use Rattle.wire_core.specs.Served.{reply_in};
 
-use crate::fault::ServeFault;
+use crate::fault::{ServeFault, Unanswered};
 use crate::room::{SHORT_REPLY, put_stream_fault};
 use crate::step::answer_message;
 use message_core::{WireFault, read_message_counted, unavailable_reply};
@@ -70,10 +73,56 @@ pub fn serve_one_by<R: Read, W: Write, S: Backend>(
 {
     let mut reader = CountedReader::new(reader);
     let mut output = CountedWriter::new(writer);
-    match answer(alloc, routes, &mut reader, moment, desk) {
-        Ok(bytes) => send(&mut output, bytes.as_slice()),
-        Err(ServeFault::NoMemory) => send(&mut output, unavailable_reply(false)),
-        Err(fault) => Err(fault),
+    serve_one_counted(alloc, routes, &mut reader, &mut output, moment, desk)
+}
+
+/// Serves one message as `serve_one_by` does, by a reader that counts, and a writer that counts and
+/// hasn't failed. `Read` is answered exactly where a read failed, and `Write` exactly where a write
+/// failed. At most 73,728 reads are made, and at most as many writes as the reply has bytes.
+pub fn serve_one_counted<R: Read, W: Write, S: Backend>(
+    alloc: Global,
+    routes: Option<&Routes>,
+    reader: &mut CountedReader<'_, R>,
+    output: &mut CountedWriter<'_, W>,
+    moment: u32,
+    desk: &mut Desk<S>,
+) -> Result<(), ServeFault>
+    requires { has_write_failed output.old ≡ false }
+    ensures same_reader { HaveOneReader reader.new reader.old }
+    ensures same_writer { HaveOneWriter output.new output.old }
+    ensures served { IsServedBy W.contents (settings_of S.Store desk.old) moment
+        (left_in R.remaining reader.old) (left_in R.remaining reader.new) output.old output.new
+        result (tables_of S.Store desk.old) (tables_of S.Store desk.new) }
+    ensures unread { has_read_failed reader.new
+        ≡ (tells_failed_read result || has_read_failed reader.old) }
+    ensures unwritten { has_write_failed output.new ≡ tells_failed_write result }
+    ensures untouched { result ≡ Err ServeFault.Read → desk.new ≡ desk.old }
+    ensures taken { ConsumesAtMost (left_in R.remaining reader.old)
+        (left_in R.remaining reader.new) 73728 }
+    ensures reads { reads_of reader.new ≤ reads_of reader.old + 73728 }
+    ensures honest { WasClean (tables_of S.Store desk.old) (tables_of S.Store desk.new) }
+    ensures lasts { Lasts (tables_of S.Store desk.old) (tables_of S.Store desk.new) }
+    ensures same { settings_of S.Store desk.new ≡ settings_of S.Store desk.old }
+{
+    let answer = answer_counted(alloc, routes, reader, moment, desk);
+    send_answer(output, answer)
+}
+
+/// Writes the reply, or the one that there was no memory for it; nothing where a read failed.
+fn send_answer<W: Write>(
+    output: &mut CountedWriter<'_, W>,
+    answer: Result<Vec<u8>, Unanswered>,
+) -> Result<(), ServeFault>
+    requires { has_write_failed output.old ≡ false }
+    ensures same_writer { HaveOneWriter output.new output.old }
+    ensures sent { IsSent W.contents output.old output.new (reply_in answer) result }
+    ensures unread { tells_failed_read result ≡ is_unread answer }
+    ensures unwritten { has_write_failed output.new ≡ tells_failed_write result }
+{
+    match answer {
+        Ok(bytes) => send(output, bytes.as_slice()),
+        Err(Unanswered::NoRoom) => send(output, unavailable_reply(false)),
+        Err(Unanswered::Unread) => Err(ServeFault::Read),
     }
 }
 
@@ -81,8 +130,9 @@ pub fn serve_one_by<R: Read, W: Write, S: Backend>(
 fn send<W: Write>(output: &mut CountedWriter<'_, W>, bytes: &[u8]) -> Result<(), ServeFault>
     requires { has_write_failed output.old ≡ false }
     ensures same_writer { HaveOneWriter output.new output.old }
-    ensures sent { IsSent (held_in W.contents output.old) (held_in W.contents output.new)
-        bytes.now result }
+    ensures printed { Prints W.contents output.old output.new bytes.now }
+    ensures kinds { OnErr result (result ≡ Err ServeFault.Write) }
+    ensures unwritten { has_write_failed output.new ≡ tells_failed_write result }
 {
     output.put(bytes);
     if output.failed() {
@@ -93,40 +143,80 @@ fn send<W: Write>(output: &mut CountedWriter<'_, W>, bytes: &[u8]) -> Result<(),
 }
 
 /// The bytes of the reply to the message with which a reader's stream begins, after what it asks
-/// for is done. There is room for a short reply before a byte is read: `NoMemory` where there
-/// isn't, and `Read` where a read failed; nothing is done then.
+/// for is done. There is room for a short reply before a byte is read: `NoRoom` where there
+/// isn't, and `Unread` where a read failed; nothing is done then.
 #[tactic(auto, using(store_tables::proofs::Lasting::same))]
-pub(crate) fn answer<R: Read, S: Backend>(
+pub(crate) fn answer_counted<R: Read, S: Backend>(
     alloc: Global,
     routes: Option<&Routes>,
     reader: &mut CountedReader<'_, R>,
     moment: u32,
     desk: &mut Desk<S>,
-) -> Result<Vec<u8>, ServeFault>
-    ensures one { HaveOneReader reader.new reader.old }
-    ensures ok { IfOk result (λ bytes. StreamStepsOn (settings_of S.Store desk.old) moment
-        (left_in R.remaining reader.old) (left_in R.remaining reader.new) bytes.items
-        (tables_of S.Store desk.old) (tables_of S.Store desk.new)) }
+) -> Result<Vec<u8>, Unanswered>
+    ensures same_reader { HaveOneReader reader.new reader.old }
+    ensures answered { IsAnswer (settings_of S.Store desk.old) moment
+        (left_in R.remaining reader.old) (left_in R.remaining reader.new) (reply_in result)
+        (tables_of S.Store desk.old) (tables_of S.Store desk.new) }
     ensures err { OnErr result (desk.new ≡ desk.old) }
-    ensures kinds { result ≢ Err ServeFault.Write }
+    ensures unread { has_read_failed reader.new ≡ (is_unread result || has_read_failed reader.old) }
     ensures taken { ConsumesAtMost (left_in R.remaining reader.old)
         (left_in R.remaining reader.new) 73728 }
+    ensures reads { reads_of reader.new ≤ reads_of reader.old + 73728 }
     ensures honest { WasClean (tables_of S.Store desk.old) (tables_of S.Store desk.new) }
     ensures lasts { Lasts (tables_of S.Store desk.old) (tables_of S.Store desk.new) }
     ensures same { settings_of S.Store desk.new ≡ settings_of S.Store desk.old }
 {
-    let Ok(mut room) = Vec::with_capacity(alloc, SHORT_REPLY) else {
-        return Err(ServeFault::NoMemory);
-    };
+    match Vec::with_capacity(alloc, SHORT_REPLY) {
+        Ok(room) => answer_in_room(alloc, routes, reader, moment, desk, room),
+        Err(_) => Err(Unanswered::NoRoom),
+    }
+}
+
+/// The same, once there is room for a short reply.
+#[tactic(auto, using(store_tables::proofs::Lasting::same))]
+fn answer_in_room<R: Read, S: Backend>(
+    alloc: Global,
+    routes: Option<&Routes>,
+    reader: &mut CountedReader<'_, R>,
+    moment: u32,
+    desk: &mut Desk<S>,
+    room: Vec<u8>,
+) -> Result<Vec<u8>, Unanswered>
+    requires empty { room.items ≡ [] }
+    requires room { 512 ≤ vec_capacity room }
+    ensures same_reader { HaveOneReader reader.new reader.old }
+    ensures answered { IsAnswer (settings_of S.Store desk.old) moment
+        (left_in R.remaining reader.old) (left_in R.remaining reader.new) (reply_in result)
+        (tables_of S.Store desk.old) (tables_of S.Store desk.new) }
+    ensures err { OnErr result (desk.new ≡ desk.old) }
+    ensures unread { has_read_failed reader.new ≡ (is_unread result || has_read_failed reader.old) }
+    ensures taken { ConsumesAtMost (left_in R.remaining reader.old)
+        (left_in R.remaining reader.new) 73728 }
+    ensures reads { reads_of reader.new ≤ reads_of reader.old + 73728 }
+    ensures honest { WasClean (tables_of S.Store desk.old) (tables_of S.Store desk.new) }
+    ensures lasts { Lasts (tables_of S.Store desk.old) (tables_of S.Store desk.new) }
+    ensures same { settings_of S.Store desk.new ≡ settings_of S.Store desk.old }
+{
+    let mut room = room;
     match read_message_counted(alloc, reader) {
         Ok(message) => {
             answer_message(alloc, routes, &message, moment, desk, &mut room);
             Ok(room)
         }
-        Err(WireFault::Read) => Err(ServeFault::Read),
-        Err(fault) => {
-            put_stream_fault(alloc, fault, &mut room);
-            Ok(room)
-        }
+        Err(fault) => tell_fault(alloc, fault, room),
     }
+}
+
+/// The reply that tells why a stream has no message; there is none where a read failed.
+fn tell_fault(alloc: Global, fault: WireFault, room: Vec<u8>) -> Result<Vec<u8>, Unanswered>
+    requires empty { room.items ≡ [] }
+    requires room { 512 ≤ vec_capacity room }
+    ensures { TellsRead fault (reply_in result) }
+{
+    if fault == WireFault::Read {
+        return Err(Unanswered::Unread);
+    }
+    let mut room = room;
+    put_stream_fault(alloc, fault, &mut room);
+    Ok(room)
 }

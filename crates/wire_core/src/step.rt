@@ -13,7 +13,8 @@ ghost use Rattle.service_core.specs.Seen.{settings_of, tables_of};
 ghost use Rattle.service_core.specs.TableSteps.{ask_by};
 ghost use Rattle.store_tables.specs.Calls.{Lasts, WasClean};
 ghost use Rattle.wire_core.specs.Replies as replies;
-ghost use Rattle.wire_core.specs.Steps.{CommandStepsOn, IsDoneOn, MessageStepsOn, StaysOn};
+ghost use Rattle.wire_core.specs.Steps.{CommandStepsOn, IsDoneOn, LeavesOn, MessageStepsOn};
+ghost use Rattle.wire_core.specs.Steps.{StaysOn};
 
 use crate::replies::is_head;
 use crate::room::{put_fault, put_told, put_unavailable};
@@ -65,7 +66,8 @@ fn reply_to<S: Backend>(
         (commands.command_of (settings_of S.Store desk.old) message.now) room.new.items
         (tables_of S.Store desk.old) (tables_of S.Store desk.new)) }
     ensures err { OnErr result ((room.new ≡ room.old)
-        × StaysOn (settings_of S.Store desk.old)
+        × LeavesOn (settings_of S.Store desk.old)
+        (commands.command_of (settings_of S.Store desk.old) message.now)
         (tables_of S.Store desk.old) (tables_of S.Store desk.new)) }
     ensures honest { WasClean (tables_of S.Store desk.old) (tables_of S.Store desk.new) }
     ensures lasts { Lasts (tables_of S.Store desk.old) (tables_of S.Store desk.new) }

@@ -2,18 +2,15 @@
 use Rattle.std.proofs.Common.{◌≡◌, ◌∙◌, ◌<◌, ◌++◌, ◌∷◌, [], length, refl, rules}
 use Rattle.store_tables.proofs.Lasting.{on, same as lasting}
 use Rattle.service_core.specs.Seen.{settings_of, tables_of}
-use Rattle.wire_core.specs.Runs.{all_replied}
-use Rattle.wire_core.proofs.Serving.{all_run, run_begins, run_on}
+use Rattle.wire_core.specs.Runs.{all_replied, all_sent}
+use Rattle.wire_core.proofs.Serving.{all_run, run_leads, run_on}
 use Rattle.wire_core.proofs.list.serve_list.Goals as goal
 
 pub loop-message-init : goal.loop-message-init
 loop-message-init g c =
     let none : c.in_ok-replies.replies.items ≡ [] = search rules in
     record {
-      run =
-          rw none
-          (run_begins (settings_of g.S.Store c.args.desk.now)
-          (tables_of g.S.Store c.args.desk.now));
+      run = rw none refl;
       honest = λ clean. clean;
       lasts = lasting (tables_of g.S.Store c.args.desk.now);
       same = refl;
@@ -31,14 +28,13 @@ loop-message-preserved g c =
     search rules in
     record {
       run =
-          run_on (settings_of g.S.Store c.args.desk.now) (settings_of g.S.Store c.loop-message.desk)
+          run_on (tables_of g.S.Store) (settings_of g.S.Store c.args.desk.now)
+          (settings_of g.S.Store c.loop-message.desk)
           c.args.messages.now c.loop-message.message-index c.message-item.result
           c.as_slice.result.now c.loop-message.replies.items c.push.new.self.items
-          c.serve_bytes-reply.result
-          (tables_of g.S.Store c.args.desk.now) (tables_of g.S.Store c.loop-message.desk)
-          (tables_of g.S.Store c.serve_bytes-reply.new.desk)
+          c.serve_bytes-reply.result c.args.desk.now c.loop-message.desk c.serve_bytes-reply.new.desk
           low pushed so_far.same c.message-item.is c.as_slice.ensures.value so_far.run
-          step.honest step.reply;
+          step.honest step.over;
       honest = λ clean. so_far.honest (step.honest clean);
       lasts = on step.honest so_far.lasts step.lasts;
       same = step.same ∙ so_far.same;
@@ -46,9 +42,15 @@ loop-message-preserved g c =
       count = search rules;
     }
 
+pub returns-clause-each : goal.returns-clause-each
+returns-clause-each g c =
+    all_run (tables_of g.S.Store) (settings_of g.S.Store c.args.desk.now) c.args.messages.now
+    c.loop-message.message-index (all_replied c.loop-message.replies.items)
+    c.args.desk.now c.loop-message.desk
+    c.loop-message-test.false c.loop-message.invariant.run
+
 pub returns-clause-run : goal.returns-clause-run
 returns-clause-run g c =
-    all_run (settings_of g.S.Store c.args.desk.now) c.args.messages.now
-    c.loop-message.message-index (all_replied c.loop-message.replies.items)
-    (tables_of g.S.Store c.args.desk.now) (tables_of g.S.Store c.loop-message.desk)
-    c.loop-message-test.false c.loop-message.invariant.run
+    run_leads (tables_of g.S.Store) (settings_of g.S.Store c.args.desk.now)
+    (all_sent c.args.messages.now) (all_replied c.loop-message.replies.items)
+    c.args.desk.now c.loop-message.desk (returns-clause-each g c)

@@ -3,17 +3,16 @@ use Rattle.std.proofs.Common.{◌≡◌, ◌≤◌, length, map, take}
 use Rattle.std.specs.Vec.{vec_capacity, vec_len}
 use Rattle.store_tables.specs.Calls.{Lasts, WasClean}
 use Rattle.service_core.specs.Seen.{settings_of, tables_of}
-use Rattle.wire_core.specs.Runs.{all_replied, sent_of}
-use Rattle.wire_core.proofs.Serving.{RunsSoFar}
+use Rattle.wire_core.specs.Runs.{RunsOver, all_replied, sent_of}
 use Rattle.wire_core.proofs.list.serve_list.Given as goal
 
 abbrev pub invariant-loop-message : goal.invariant-loop-message
 invariant-loop-message g l =
     record {
       run :
-          RunsSoFar (settings_of g.S.Store l.fn.desk) (map sent_of (take l.message-index l.messages))
-          (all_replied l.replies.items) (tables_of g.S.Store l.fn.desk)
-          (tables_of g.S.Store l.desk);
+          RunsOver (tables_of g.S.Store) (settings_of g.S.Store l.fn.desk)
+          (map sent_of (take l.message-index l.messages)) (all_replied l.replies.items)
+          l.fn.desk l.desk;
       honest : WasClean (tables_of g.S.Store l.fn.desk) (tables_of g.S.Store l.desk);
       lasts : Lasts (tables_of g.S.Store l.fn.desk) (tables_of g.S.Store l.desk);
       same : settings_of g.S.Store l.desk ≡ settings_of g.S.Store l.fn.desk;

@@ -1,12 +1,12 @@
 -- what the message asks for, or its fault
 use Rattle.std.proofs.Common.{◌≡◌, ◌∙◌, ℕ, Ok, Err, List, Result, ap, is_some, rules, subst}
-use Rattle.std.proofs.lemmas.Result.{on_ok_weaker}
+use Rattle.std.proofs.lemmas.Result.{on_err_weaker, on_ok_weaker}
 use Rattle.desk_model.specs.declared.command.Command.{Command}
 use Rattle.route_core.specs.Commands.{command_of, methods_of}
 use Rattle.route_core.specs.declared.fault.CommandFault.{CommandFault}
 use Rattle.service_core.specs.Seen.{settings_of, tables_of}
-use Rattle.wire_core.specs.Steps.{CommandStepsOn}
-use Rattle.wire_core.proofs.Stepping.{has_others, told_without_memory}
+use Rattle.wire_core.specs.Steps.{CommandStepsOn, LeavesOn}
+use Rattle.wire_core.proofs.Stepping.{has_others, leaves_same, told_without_memory}
 use Rattle.wire_core.proofs.step.reply_to.Goals as goal
 
 pub returns-in-Ok-clause-ok : goal.returns-in-Ok-clause-ok
@@ -21,6 +21,21 @@ returns-in-Ok-clause-ok g c =
     (tables_of g.S.Store c.args.desk.now) (tables_of g.S.Store c.do_command-replied.new.desk))
     asked (rw c.is_head-head_only.ensures at done))
     c.do_command-replied.ensures.ok
+
+pub returns-in-Ok-clause-err : goal.returns-in-Ok-clause-err
+returns-in-Ok-clause-err g c =
+    let settings = settings_of g.S.Store c.args.desk.now in
+    let asked :
+    Ok (c.as_str.result.now, c.in-Ok.command) ≡ command_of settings c.args.message.now =
+    search rules in
+    on_err_weaker c.do_command-replied.result
+    (λ left. (
+      left.0,
+      subst (λ (a : Result (List ℕ × Command) CommandFault). LeavesOn settings a
+          (tables_of g.S.Store c.args.desk.now)
+          (tables_of g.S.Store c.do_command-replied.new.desk)) asked left.1,
+    ))
+    c.do_command-replied.ensures.err
 
 pub put_fault-requires-clause-told : goal.put_fault-requires-clause-told
 put_fault-requires-clause-told g c bad =
@@ -40,3 +55,14 @@ returns-in-Err-clause-ok g c =
     c.in-Err.fault c.is_head-head_only.result c.methods_of-methods.result c.put_fault.result
     c.put_fault.new.room.items (tables_of g.S.Store c.args.desk.now)
     c.is_head-head_only.ensures at_path is c.put_fault.ensures.memory c.put_fault.ensures.ok
+
+pub returns-in-Err-clause-err : goal.returns-in-Err-clause-err
+returns-in-Err-clause-err g c =
+    let settings = settings_of g.S.Store c.args.desk.now in
+    on_err_weaker c.put_fault.result
+    (λ none. (
+      none,
+      leaves_same settings (command_of settings c.args.message.now)
+          (tables_of g.S.Store c.args.desk.now),
+    ))
+    c.put_fault.ensures.err
