@@ -1,5 +1,5 @@
 -- A message step: from a stream and a desk to the bytes of a reply and the desk afterwards.
-use Rattle.std.specs.Prelude.{◌≡◌, ◌⊎◌, ℕ, Bool, List, Option, Result, Ok, Err}
+use Rattle.std.specs.Prelude.{◌≡◌, ◌⊎◌, ℕ, Bool, List, Option, Result, Ok, Err, codes, take}
 use Rattle.sqlite.specs.State.{State}
 use Rattle.settings_core.specs.declared.settings.Settings.{Settings}
 use Rattle.desk_model.specs.Desk.{Desk}
@@ -59,6 +59,10 @@ abbrev pub StreamSteps : Settings → ℕ → Option (List ℕ) → Option (List
 StreamSteps settings at had left old bytes new =
     (read : Result Message WireFault) × WasRead had left read
     × ReadSteps settings at read old bytes new
+
+-- the reply begins with the bytes of 503
+abbrev pub IsUnavailable : List ℕ → Type 0
+IsUnavailable bytes = take 12 bytes ≡ codes "HTTP/1.1 503"
 
 -- ---- over whatever tables
 
