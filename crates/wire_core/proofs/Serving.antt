@@ -180,15 +180,16 @@ module _ {D : Type 0} (tables : D → State) (s : Settings) where
       → RunsOver tables s sent replies old new
       → RunsMessagesOn s sent replies (tables old) (tables new)
   run_leads [] [] old new same desk is stand clean =
-      subst (λ (d : D). StaysOn s (tables old) (tables d)) (sym same) (stays s (tables old)) desk is
-      stand clean
+      let stayed = subst (λ (d : D). StaysOn s (tables old) (tables d)) (sym same)
+      (stays s (tables old)) desk is stand clean in
+      (stayed.0, (stayed.1, subst IsDesk (sym stayed.1) is), stayed.2)
   run_leads (m ∷ sent) (r ∷ replies) old new run desk is stand clean =
       let between = clean_run sent replies run.0 new run.3 clean in
       let here = replied s m r (tables old) (tables run.0) run.1 desk is stand between in
       let then =
       run_leads sent replies run.0 new run.3 here.0 (formed s m desk r here.0 is here.1) here.2
       clean in
-      (then.0, (here.0, here.1, then.1), then.2)
+      (then.0, ((here.0, here.1, then.1.0), then.1.1), then.2)
   run_leads [] (r ∷ replies) old new run desk is stand clean = absurd run
   run_leads (m ∷ sent) [] old new run desk is stand clean = absurd run
 

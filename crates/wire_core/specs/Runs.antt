@@ -3,6 +3,8 @@ use Rattle.std.specs.Prelude.{◌≡◌, ℕ, List, [], ◌∷◌, Option, Some,
 use Rattle.sqlite.specs.State.{State}
 use Rattle.settings_core.specs.declared.settings.Settings.{Settings}
 use Rattle.desk_model.specs.Desk.{Desk}
+use Rattle.desk_model.specs.IsDesk.{IsDesk}
+use Rattle.desk_model.specs.Step.{RunsBy}
 use Rattle.service_core.specs.TableSteps.{LeadsOn}
 use Rattle.store_tables.specs.Calls.{Spares, WasClean}
 use Rattle.wire_core.specs.Steps.{StreamSteps, StreamStepsOn}
@@ -23,15 +25,6 @@ IsReplyTo settings sent old (Ok bytes) new =
 IsReplyTo settings sent old (Err NoMemory) new = new ≡ old
 IsReplyTo settings sent old (Err Read) new = ⊥
 IsReplyTo settings sent old (Err Write) new = ⊥
-
--- one after the other, each from the desk that the one before left
-abbrev pub RunsMessages : Settings → Desk → List Sent → List Replied → Desk → Type 0
-RunsMessages settings old [] [] new = new ≡ old
-RunsMessages settings old (sent ∷ others) (reply ∷ replies) new =
-    (mid : Desk) × IsReplyTo settings sent old reply mid
-    × RunsMessages settings mid others replies new
-RunsMessages settings old [] (reply ∷ replies) new = ⊥
-RunsMessages settings old (sent ∷ others) [] new = ⊥
 
 -- ---- over whatever tables
 
@@ -59,9 +52,11 @@ abbrev pub RepliesOn : Settings → Sent → Replied → State → State → Typ
 RepliesOn settings sent reply =
     LeadsOn settings (λ desk after. IsReplyTo settings sent desk reply after)
 
+-- a run of messages, and the desk that it leaves is well formed
 abbrev pub RunsMessagesOn : Settings → List Sent → List Replied → State → State → Type 0
 RunsMessagesOn settings sent replies =
-    LeadsOn settings (λ desk after. RunsMessages settings desk sent replies after)
+    LeadsOn settings
+    (λ desk after. RunsBy (IsReplyTo settings) desk sent replies after × IsDesk after)
 
 -- ---- as they are handed over
 
