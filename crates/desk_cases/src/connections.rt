@@ -46,9 +46,11 @@ const TICKS: Server = Server {
 ///
 /// | Words | The server |
 /// |---|---|
-/// | `clock stands`, `clock ticks`, `clock fails` | its clock tells the first message's moment, that and each time a minute more, or nothing |
-/// | `breaks` | its clock ticks; the second connection fails after three reads, and the third after five writes |
-/// | `accept_fails N` | its clock ticks; an accept fails after N |
+/// | `clock stands` | its clock tells the moment of the first message always |
+/// | `clock ticks` | it tells that first, and each time a minute more |
+/// | `clock fails` | it tells nothing |
+/// | `breaks` | it ticks; the second connection fails after 3 reads, the third after 5 writes |
+/// | `accept_fails N` | it ticks; an accept fails after N |
 pub(crate) fn server_of(kind: &str, rest: &str) -> std::result::Result<Option<Server>, Failure> {
     match kind {
         "clock" => Ok(Some(by_clock(rest))),

@@ -39,7 +39,7 @@ const OPENED: Opening = Opening {
 /// |---|---|
 /// | `opened` | by the call that lets the store go where there is no desk |
 /// | `opened_whole` | by the one that gives it back then |
-/// | `settings_fail N` | as `opened`; the reader of the settings gives a byte at a time, and fails after N reads |
+/// | `settings_fail N` | as `opened`; the settings come a byte a read, and fail after N reads |
 /// | `fault_fails N` | as `opened`; the writer of a fault fails after N writes |
 pub(crate) fn opening_of(line: &str) -> Result<Option<Opening>, Failure> {
     let (kind, rest) = line.split_once(' ').unwrap_or((line, ""));
@@ -61,9 +61,9 @@ pub(crate) fn opening_of(line: &str) -> Result<Option<Opening>, Failure> {
     }
 }
 
-/// Takes the settings of a reader, opens the desk over the tables that the statements make, and does
-/// the commands. Adds how many bytes were taken, what was written when the desk was opened and how
-/// that ended, and the text of each command.
+/// Takes the settings of a reader, opens the desk over the tables that the statements make, and
+/// does the commands. Adds how many bytes were taken, what was written when the desk was opened and
+/// how that ended, and the text of each command.
 pub(crate) fn run(
     alloc: Global,
     out: &mut String,
