@@ -2,8 +2,9 @@
 //!
 //! What owns much is given back by `drop`, whose proof stands once; at the end of its scope it
 //! would be taken apart for each function's own proof.
-ghost use Rattle.std.specs.Prelude.{◌≡◌};
+ghost use Rattle.std.specs.Prelude.{◌≡◌, true};
 ghost use Rattle.service_core.specs.Seen.{settings_of, tables_of};
+ghost use Rattle.service_core.specs.Streaming.{is_list};
 ghost use Rattle.store_tables.specs.Calls.{Lasts, WasClean};
 
 use crate::asks::{Ask, asks_of};
@@ -13,6 +14,7 @@ use crate::desks::{attached, put_outcomes};
 use crate::failure::Failure;
 use crate::messages::Before;
 use crate::served::{Sent, put_replies};
+use desk_core::Command;
 use service_core::{Desk, StreamFault, outcome_text};
 use std::alloc::{AllocError, Global};
 use std::io::Write;
@@ -52,29 +54,39 @@ fn tell<S: Backend>(
 ) -> Result<(), Failure> {
     let last = asks.last().ok_or(Failure::BadLine)?;
     let mut list = Vec::new(alloc);
-    let chain = follow(alloc, desk, asks, last, &mut list, sent);
-    let told = put_chain(alloc, out, &chain, str_of(list.as_slice()));
-    drop(chain);
-    told
+    match &last.2 {
+        Command::List { .. } | Command::Overdue => {
+            let caller = last.1.as_str();
+            let chain = follow(alloc, desk, asks, last.0, caller, &last.2, &mut list, sent);
+            let told = put_chain(alloc, out, &chain, str_of(list.as_slice()));
+            drop(chain);
+            told
+        }
+        _ => Err(Failure::BadLine),
+    }
 }
 
-/// Makes the calls. From first to last the settings stay, the connection lasts, and a disk that is
-/// clean after the last call was clean before the first.
+/// Makes the calls, the last commands by this caller at this moment. From first to last the settings
+/// stay, the connection lasts, and a disk that is clean after the last call was clean before the
+/// first.
 fn follow<S: Backend, W: Write>(
     alloc: Global,
     desk: &mut Desk<S>,
     asks: &[Ask],
-    last: &Ask,
+    at: u32,
+    caller: &str,
+    command: &Command,
     writer: &mut W,
     sent: &[Sent],
 ) -> Chain
+    requires { is_list command.now ≡ true }
     ensures honest { WasClean (tables_of S.Store desk.old) (tables_of S.Store desk.new) }
     ensures lasts { Lasts (tables_of S.Store desk.old) (tables_of S.Store desk.new) }
     ensures same { settings_of S.Store desk.new ≡ settings_of S.Store desk.old }
 {
     let outcomes = desk.execute_all(alloc, asks);
-    let outcome = desk.execute(alloc, last.0, last.1.as_str(), &last.2);
-    let listed = desk.stream(alloc, last.0, last.1.as_str(), &last.2, writer);
+    let outcome = desk.execute(alloc, at, caller, command);
+    let listed = desk.stream(alloc, at, caller, command, writer);
     let replies = serve_list(alloc, sent, desk);
     Chain {
         outcomes,
