@@ -19,6 +19,7 @@ use Rattle.store_tables.specs.Contents.{Tables, desk_schema, front, table_count,
 use Rattle.store_tables.specs.Kept.{Holds}
 use Rattle.store_tables.specs.Making.{numbered}
 use Rattle.store_tables.specs.Contents.Entry.{entry}
+use Rattle.store_tables.specs.Contents.Label.{label}
 use Rattle.store_tables.specs.Contents.Link.{link}
 use Rattle.store_tables.specs.Contents.Meta.{meta, version_query, version_row, version_text}
 use Rattle.store_tables.specs.Contents.Queue.{queue}
@@ -31,6 +32,7 @@ use Rattle.store_tables.proofs.CreateLemmas.{Defines, IsCreate, is_there}
 use Rattle.store_tables.proofs.DueLemmas.{AreEach}
 use Rattle.store_tables.proofs.Contents.Request.{dated_table}
 use Rattle.store_tables.proofs.Contents.Entry.{entry_table}
+use Rattle.store_tables.proofs.Contents.Label.{label_table}
 use Rattle.store_tables.proofs.Contents.Link.{link_table}
 use Rattle.store_tables.proofs.Contents.Queue.{queue_table}
 use Rattle.store_tables.proofs.Contents.Stay.{stay_table}
@@ -41,24 +43,26 @@ use Rattle.store_tables.proofs.RowLemmas.{TableOf, no_bad}
 use Rattle.store_tables.proofs.TextLemmas.{GivesNone}
 use Rattle.store_tables.proofs.ValueLemmas.{values_of, are_values}
 pub mod Entry
+pub mod Label
 pub mod Link
 pub mod Queue
 pub mod Request
 pub mod Stay
 pub mod Watcher
 
--- what is so of each number up to seven
-up_to : (P : ℕ → Type 0) → P 0 → P 1 → P 2 → P 3 → P 4 → P 5 → P 6 → P 7 → (n : ℕ) → n ≤ 7
-    → P n
-up_to P a b c d e f g h zero low = a
-up_to P a b c d e f g h (suc zero) low = b
-up_to P a b c d e f g h (suc (suc zero)) low = c
-up_to P a b c d e f g h (suc (suc (suc zero))) low = d
-up_to P a b c d e f g h (suc (suc (suc (suc zero)))) low = e
-up_to P a b c d e f g h (suc (suc (suc (suc (suc zero))))) low = f
-up_to P a b c d e f g h (suc (suc (suc (suc (suc (suc zero)))))) low = g
-up_to P a b c d e f g h (suc (suc (suc (suc (suc (suc (suc zero))))))) low = h
-up_to P a b c d e f g h (suc (suc (suc (suc (suc (suc (suc (suc n)))))))) low =
+-- what is so of each number up to eight
+up_to : (P : ℕ → Type 0) → P 0 → P 1 → P 2 → P 3 → P 4 → P 5 → P 6 → P 7 → P 8 → (n : ℕ)
+    → n ≤ 8 → P n
+up_to P a b c d e f g h i zero low = a
+up_to P a b c d e f g h i (suc zero) low = b
+up_to P a b c d e f g h i (suc (suc zero)) low = c
+up_to P a b c d e f g h i (suc (suc (suc zero))) low = d
+up_to P a b c d e f g h i (suc (suc (suc (suc zero)))) low = e
+up_to P a b c d e f g h i (suc (suc (suc (suc (suc zero))))) low = f
+up_to P a b c d e f g h i (suc (suc (suc (suc (suc (suc zero)))))) low = g
+up_to P a b c d e f g h i (suc (suc (suc (suc (suc (suc (suc zero))))))) low = h
+up_to P a b c d e f g h i (suc (suc (suc (suc (suc (suc (suc (suc zero)))))))) low = i
+up_to P a b c d e f g h i (suc (suc (suc (suc (suc (suc (suc (suc (suc n))))))))) low =
     absurd (omega (arith, low))
 
 -- the table's name and its tree are among the first n tables just where n is above its place
@@ -70,77 +74,83 @@ IsFound at table n =
 -- the text makes the table after the first n
 pub record Makes (at : ℕ) (text : List ℕ) (table : Table) : Type 0 where
   pub defines : Defines text table
-  pub found : (n : ℕ) → n ≤ 7 → IsFound at table n
+  pub found : (n : ℕ) → n ≤ 8 → IsFound at table n
   pub makes : created (front at) table ≡ front (suc at)
   pub unnumbered : lacks_sequence (front (suc at)) ≡ false
 
--- each of the seven texts does
+-- each of the eight texts does
 abbrev pub text_at : ℕ → List ℕ
 text_at i = get_or table_texts i []
 
 made_by : {at : ℕ} {text : List ℕ} {table : Table} → IsCreate text table.name (first text)
     → table_defined_by text ≡ Ok (record table { tree = 0 })
-    → ((n : ℕ) → n ≤ 7 → IsFound at table n) → created (front at) table ≡ front (suc at)
+    → ((n : ℕ) → n ≤ 8 → IsFound at table n) → created (front at) table ≡ front (suc at)
     → lacks_sequence (front (suc at)) ≡ false → Makes at text table
 made_by create defined found makes unnumbered = search rules
 
-pub made_at : (i : ℕ) → i < 7 → (table : Table) × Makes i (text_at i) table
+pub made_at : (i : ℕ) → i < 8 → (table : Table) × Makes i (text_at i) table
 unfolding understood everything
 made_at zero low = (
   meta,
   made_by (_, refl, refl, refl, refl) refl
-      (up_to (IsFound 0 meta) refl refl refl refl refl refl refl refl) refl refl,
+      (up_to (IsFound 0 meta) refl refl refl refl refl refl refl refl refl) refl refl,
 )
 made_at (suc zero) low = (
   queue,
   made_by (_, refl, refl, refl, refl) refl
-      (up_to (IsFound 1 queue) refl refl refl refl refl refl refl refl) refl refl,
+      (up_to (IsFound 1 queue) refl refl refl refl refl refl refl refl refl) refl refl,
 )
 made_at (suc (suc zero)) low = (
   request,
   made_by (_, refl, refl, refl, refl) refl
-      (up_to (IsFound 2 request) refl refl refl refl refl refl refl refl) refl refl,
+      (up_to (IsFound 2 request) refl refl refl refl refl refl refl refl refl) refl refl,
 )
 made_at (suc (suc (suc zero))) low = (
   watcher,
   made_by (_, refl, refl, refl, refl) refl
-      (up_to (IsFound 3 watcher) refl refl refl refl refl refl refl refl) refl refl,
+      (up_to (IsFound 3 watcher) refl refl refl refl refl refl refl refl refl) refl refl,
 )
 made_at (suc (suc (suc (suc zero)))) low = (
   link,
   made_by (_, refl, refl, refl, refl) refl
-      (up_to (IsFound 4 link) refl refl refl refl refl refl refl refl) refl refl,
+      (up_to (IsFound 4 link) refl refl refl refl refl refl refl refl refl) refl refl,
 )
 made_at (suc (suc (suc (suc (suc zero))))) low = (
   entry,
   made_by (_, refl, refl, refl, refl) refl
-      (up_to (IsFound 5 entry) refl refl refl refl refl refl refl refl) refl refl,
+      (up_to (IsFound 5 entry) refl refl refl refl refl refl refl refl refl) refl refl,
 )
 made_at (suc (suc (suc (suc (suc (suc zero)))))) low = (
   stay,
   made_by (_, refl, refl, refl, refl) refl
-      (up_to (IsFound 6 stay) refl refl refl refl refl refl refl refl) refl refl,
+      (up_to (IsFound 6 stay) refl refl refl refl refl refl refl refl refl) refl refl,
 )
-made_at (suc (suc (suc (suc (suc (suc (suc n))))))) low = absurd (omega (arith, low))
+made_at (suc (suc (suc (suc (suc (suc (suc zero))))))) low = (
+  label,
+  made_by (_, refl, refl, refl, refl) refl
+      (up_to (IsFound 7 label) refl refl refl refl refl refl refl refl refl) refl refl,
+)
+made_at (suc (suc (suc (suc (suc (suc (suc (suc n)))))))) low = absurd (omega (arith, low))
 
 -- those that were there first are what they were
-pub first_rows : (db : Database) (n : ℕ) → n ≤ 7
+pub first_rows : (db : Database) (n : ℕ) → n ≤ 8
     → KeepsRows (front n).tables (filled n db).trees db.trees
 first_rows db = up_to (λ n. KeepsRows (front n).tables (filled n db).trees db.trees) tt (refl, tt)
     (refl, (refl, tt)) (refl, (refl, (refl, tt))) (refl, (refl, (refl, (refl, tt))))
     (refl, (refl, (refl, (refl, (refl, tt))))) (refl, (refl, (refl, (refl, (refl, (refl, tt))))))
     (refl, (refl, (refl, (refl, (refl, (refl, (refl, tt)))))))
+    (refl, (refl, (refl, (refl, (refl, (refl, (refl, (refl, tt))))))))
 
 -- ---- where only the first n tables are there
 
-pub version_in : (n : ℕ) → n ≤ 7
+pub version_in : (n : ℕ) → n ≤ 8
     → SelectsIn (front (suc n)) version_text version_query (codes "version" ∷ [])
 unfolding understood everything
 version_in =
     let none : GivesNone (first version_text) = λ s n. refl in
     up_to (λ n. SelectsIn (front (suc n)) version_text version_query (codes "version" ∷ []))
     (assumption) (assumption) (assumption) (assumption) (assumption) (assumption) (assumption)
-    (assumption)
+    (assumption) (assumption)
 
 -- ---- what tables hold
 
@@ -158,6 +168,7 @@ none_held db = record {
   links = holds_none _ _;
   entries = holds_none _ _;
   stays = holds_none _ _;
+  labels = holds_none _ _;
   values = are_values no_contents (search rules);
 }
 
@@ -173,6 +184,7 @@ same_tables c a b schema same t = record {
   links = rw same.1.1.1.1.0 t.links;
   entries = rw same.1.1.1.1.1.0 t.entries;
   stays = rw same.1.1.1.1.1.1.0 t.stays;
+  labels = rw same.1.1.1.1.1.1.1.0 t.labels;
   values = t.values;
 }
 
@@ -187,7 +199,8 @@ none_bad c db t bad = elim bad [
   | inr (inr (inl watcher)) ↦ no_bad watcher_table c db t watcher
   | inr (inr (inr (inl link))) ↦ no_bad link_table c db t link
   | inr (inr (inr (inr (inl entry)))) ↦ no_bad entry_table c db t entry
-  | inr (inr (inr (inr (inr stay)))) ↦ no_bad stay_table c db t stay
+  | inr (inr (inr (inr (inr (inl stay))))) ↦ no_bad stay_table c db t stay
+  | inr (inr (inr (inr (inr (inr label))))) ↦ no_bad label_table c db t label
 ]
 
 has_alike : {X : Type 0} {xs ys : List X} → IsPermutation xs ys → (x : X) → Has ys x → Has xs x
@@ -197,7 +210,7 @@ pub values_alike : (a b : Contents) → AreAlike a b → AreValues a → AreValu
 values_alike a b same values =
     let v = values_of a values in
     let version = rw same.version at v.version in
-    are_values b (search (v.queues, v.dated, v.watchers, v.links, v.entries, v.stays, has_alike))
+    are_values b (search (v.queues, v.dated, v.watchers, v.links, v.entries, v.stays, v.labels, has_alike))
 
 -- ---- where one table changes
 
@@ -222,7 +235,7 @@ module _ (m : ℕ) (c d : Contents) (old new : Database) where
   abbrev pub Changed : Type 0
   Changed = MatchBool (0 == m) (Versions c.version (new.trees 0)) (c.version ≡ d.version)
       × Now queue_table × Now dated_table × Now watcher_table × Now link_table × Now entry_table
-      × Now stay_table
+      × Now stay_table × Now label_table
 
   now : {K V : Type 0} (n : TableOf K V) → Tables d old
       → (n.tree ≢ m → new.trees n.tree ≡ old.trees n.tree) → Now n → Kept n (n.list c) new
@@ -242,4 +255,5 @@ module _ (m : ℕ) (c d : Contents) (old new : Database) where
       let links = now link_table t moves.1.1.1.1.0 is.4 in
       let entries = now entry_table t moves.1.1.1.1.1.0 is.5 in
       let stays = now stay_table t moves.1.1.1.1.1.1.0 is.6 in
+      let labels = now label_table t moves.1.1.1.1.1.1.1.0 is.7 in
       let values = are_values c (assumption) in assumption

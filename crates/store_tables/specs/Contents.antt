@@ -1,4 +1,4 @@
--- The tables of a desk, and what they hold: a version, and the rows of six lists, in no order that
+-- The tables of a desk, and what they hold: a version, and the rows of seven lists, in no order that
 -- matters. All that names each table stands here.
 use Rattle.std.specs.Prelude.{◌≡◌, ◌⊎◌, ◌<◌, ◌^◌, ◌==◌, ℕ, List, Option, [], ◌∷◌, filter, flat_map}
 use Rattle.std.specs.Prelude.{if◌then◌else◌, IsPermutation, length, map, not, take}
@@ -20,6 +20,8 @@ use Rattle.desk_model.specs.declared.rows.RequestRow.{RequestRow}
 use Rattle.desk_model.specs.declared.rows.Watcher.{Watcher as WatcherRow}
 use Rattle.store_tables.specs.Contents.Entry.{IsEntryRow, actor_of, entry, entry_columns, entry_key}
 use Rattle.store_tables.specs.Contents.Entry.{entry_shown_terms, entry_text}
+use Rattle.store_tables.specs.Contents.Label.{IsLabelRow, label, label_columns, label_key}
+use Rattle.store_tables.specs.Contents.Label.{label_shown, label_text}
 use Rattle.store_tables.specs.Contents.Link.{IsLinkRow, is_link, link, link_columns, link_key}
 use Rattle.store_tables.specs.Contents.Link.{link_text}
 use Rattle.store_tables.specs.Contents.Meta.{meta, meta_text, version_row}
@@ -32,10 +34,12 @@ use Rattle.store_tables.specs.Contents.Stay.{IsStayRow, StayRow, stay, stay_colu
 use Rattle.store_tables.specs.Contents.Stay.{stay_shown, stay_text, stays, with_end}
 use Rattle.store_tables.specs.Contents.Watcher.{IsWatcherRow, is_watcher, watcher, watcher_columns}
 use Rattle.store_tables.specs.Contents.Watcher.{watcher_key, watcher_text}
+use Rattle.store_tables.specs.declared.tables.label.Label.{Label as LabelRow}
 use Rattle.store_tables.specs.Query.{three_shown}
 use Rattle.store_tables.specs.Kept.{Keeps, Numbers}
 use Rattle.store_tables.specs.Picked.{shows}
 pub mod Entry
+pub mod Label
 pub mod Link
 pub mod Meta
 pub mod Queue
@@ -45,16 +49,16 @@ pub mod Watcher
 
 -- ---- the tables
 
--- the seven tables, in the order in which they are made
+-- the eight tables, in the order in which they are made
 abbrev pub desk_tables : List Table
-desk_tables = meta ∷ queue ∷ request ∷ watcher ∷ link ∷ entry ∷ stay ∷ []
+desk_tables = meta ∷ queue ∷ request ∷ watcher ∷ link ∷ entry ∷ stay ∷ label ∷ []
 
 abbrev pub table_count : ℕ
 table_count = length desk_tables
 
 -- and the indexes of their keys
 abbrev pub desk_keys : List Index
-desk_keys = queue_key ∷ watcher_key ∷ link_key ∷ entry_key ∷ stay_key ∷ []
+desk_keys = queue_key ∷ watcher_key ∷ link_key ∷ entry_key ∷ stay_key ∷ label_key ∷ []
 
 -- the first n of the tables
 abbrev pub front : ℕ → Schema
@@ -66,7 +70,7 @@ front n =
       views = [];
     }
 
--- all seven
+-- all eight
 abbrev pub desk_schema : Schema
 desk_schema = record { tables = desk_tables; indexes = desk_keys; views = [] }
 
@@ -82,7 +86,8 @@ first_schema = record {
 -- the texts that make them, in this order
 abbrev pub table_texts : List (List ℕ)
 table_texts =
-    meta_text ∷ queue_text ∷ request_text ∷ watcher_text ∷ link_text ∷ entry_text ∷ stay_text ∷ []
+    meta_text ∷ queue_text ∷ request_text ∷ watcher_text ∷ link_text ∷ entry_text ∷ stay_text
+    ∷ label_text ∷ []
 
 -- ---- what they hold
 
@@ -94,6 +99,7 @@ pub record Contents : Type 0 where
   pub links : List LinkRow
   pub entries : List EntryRow
   pub stays : List StayRow
+  pub labels : List LabelRow
 
 -- texts are in UTF-8, numbers below 2^32, and minutes within the range of due moments
 pub record ShowsValues (c : Contents) : Type 0 where
@@ -104,12 +110,13 @@ pub record ShowsValues (c : Contents) : Type 0 where
   pub links : (l : LinkRow) → Has c.links l → IsLinkRow (link_columns l)
   pub entries : (e : EntryRow) → Has c.entries e → IsEntryRow (entry_columns e)
   pub stays : (s : StayRow) → Has c.stays s → IsStayRow (stay_columns s)
+  pub labels : (l : LabelRow) → Has c.labels l → IsLabelRow (label_columns l)
 
 -- the same, as a word that isn't looked into where only the tables matter
 unfoldable pub AreValues : Contents → Type 0
 AreValues c = ShowsValues c
 
--- meta has its one row, and the other six tables are, up to order, the six lists of values
+-- meta has its one row, and the other tables are, up to order, the lists of values
 pub record Tables (c : Contents) (db : Database) : Type 0 where
   pub schema : db.schema ≡ desk_schema
   pub meta : db.trees meta.tree ≡ version_row c.version ∷ []
@@ -119,6 +126,7 @@ pub record Tables (c : Contents) (db : Database) : Type 0 where
   pub links : Keeps link_columns c.links (db.trees link.tree)
   pub entries : Keeps entry_columns c.entries (db.trees entry.tree)
   pub stays : Keeps stay_columns c.stays (db.trees stay.tree)
+  pub labels : Keeps label_columns c.labels (db.trees label.tree)
   pub values : AreValues c
 
 -- these columns of a row of that tree are no value of the type
@@ -126,12 +134,13 @@ abbrev pub HasBadRow : ℕ → List Term → (Row → Type 0) → Database → T
 HasBadRow tree terms IsValue db =
     (r : Row) × Has (db.trees tree) r × ¬ IsValue (shows terms [] r)
 
--- a row of a queue, a request, a watcher, a link, an entry or a stay is no value of its type
+-- a row of a queue, a request, a watcher, a link, an entry, a stay or a label is no value of its type
 abbrev pub HasBadRows : Database → Type 0
 HasBadRows db =
     HasBadRow queue.tree queue_shown IsQueueRow db ⊎ HasBadRow request.tree dated_shown_terms IsDatedRow db
     ⊎ HasBadRow watcher.tree three_shown IsWatcherRow db ⊎ HasBadRow link.tree three_shown IsLinkRow db
     ⊎ HasBadRow entry.tree entry_shown_terms IsEntryRow db ⊎ HasBadRow stay.tree stay_shown IsStayRow db
+    ⊎ HasBadRow label.tree label_shown IsLabelRow db
 
 -- the same version and the same rows, in any order
 pub record AreAlike (a b : Contents) : Type 0 where
@@ -142,6 +151,7 @@ pub record AreAlike (a b : Contents) : Type 0 where
   pub links : IsPermutation a.links b.links
   pub entries : IsPermutation a.entries b.entries
   pub stays : IsPermutation a.stays b.stays
+  pub labels : IsPermutation a.labels b.labels
 
 -- ---- of a desk
 
@@ -178,6 +188,7 @@ contents_of due desk =
       links = desk.links;
       entries = entries desk;
       stays = stays desk;
+      labels = [];
     }
 
 -- and what those of version 1 do, which know no stays
@@ -194,6 +205,7 @@ no_contents =
       links = [];
       entries = [];
       stays = [];
+      labels = [];
     }
 
 -- ---- what one statement makes of them
@@ -236,6 +248,9 @@ drop_link c l = record c { links = filter (λ x. not (is_link l x)) c.links }
 
 abbrev pub add_entry : Contents → EntryRow → Contents
 add_entry c e = record c { entries = e ∷ c.entries }
+
+abbrev pub add_label : Contents → LabelRow → Contents
+add_label c l = record c { labels = l ∷ c.labels }
 
 abbrev pub add_stay : Contents → StayRow → Contents
 add_stay c s = record c { stays = s ∷ c.stays }

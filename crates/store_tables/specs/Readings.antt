@@ -5,6 +5,7 @@ use Rattle.desk_model.specs.Desk.{Desk}
 use Rattle.desk_model.specs.IsDesk.{IsDesk}
 use Rattle.desk_model.specs.declared.rows.RequestRow.{RequestRow}
 use Rattle.store_tables.specs.Contents.Entry.{IsEntryRow, actor_shown, entry, entry_shown_terms}
+use Rattle.store_tables.specs.Contents.Label.{IsLabelRow, label, label_shown}
 use Rattle.store_tables.specs.Contents.Link.{IsLinkRow, link}
 use Rattle.store_tables.specs.Contents.Queue.{IsQueueRow, queue, queue_shown}
 use Rattle.store_tables.specs.Contents.Request.{IsDatedRow, IsRequestRow, dated_shown_terms}
@@ -75,3 +76,6 @@ MismatchesInActors old new result = FailsIn entry.tree actor_shown IsTextRow old
 
 abbrev pub MismatchesInStays : {X : Type 0} → State → State → Result X StoreFault → Type 0
 MismatchesInStays old new result = FailsIn stay.tree stay_shown IsStayRow old new result
+
+abbrev pub MismatchesInLabels : {X : Type 0} → State → State → Result X StoreFault → Type 0
+MismatchesInLabels old new result = FailsIn label.tree label_shown IsLabelRow old new result

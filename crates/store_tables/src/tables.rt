@@ -2,6 +2,7 @@
 ghost use Rattle.std.specs.Prelude.{◌≡◌, false};
 
 pub mod entry;
+pub mod label;
 pub mod link;
 pub mod meta;
 pub mod queue;
@@ -20,7 +21,7 @@ pub struct Tables<S: Alter> {
 }
 
 /// The statements that make the tables, in an order in which each finds those that it refers to.
-pub const TABLES: [&str; 7] = [
+pub const TABLES: [&str; 8] = [
     meta::TABLE,
     queue::TABLE,
     request::TABLE,
@@ -28,4 +29,5 @@ pub const TABLES: [&str; 7] = [
     link::TABLE,
     entry::TABLE,
     stay::TABLE,
+    label::TABLE,
 ];

@@ -1,0 +1,18 @@
+use Rattle.std.proofs.Common.{refl}
+use Rattle.sqlite.specs.Listing.{understood}
+use Rattle.sqlite_tied.specs.Compute.{everything}
+use Rattle.store_tables.specs.Contents.Label.{label_order}
+use Rattle.store_tables.proofs.Contents.Label.{label_table}
+use Rattle.store_tables.proofs.RowLemmas.{answered, lists_all, ranked}
+use Rattle.store_tables.proofs.TextLemmas.{none_given}
+use Rattle.store_tables.proofs.tables.label.labels.Goals as goal
+
+pub select_all-requires : goal.select_all-requires
+unfolding everything
+select_all-requires g c schema k found = none_given schema _ k found (λ s n. refl)
+
+pub returns : goal.returns
+unfolding understood everything
+returns g c = answered label_table (lists_all label_table c.select_all.ensures label_order
+    (record { is = refl; plain = (refl, refl); unlisted = refl; none = λ s n. refl })
+    (λ a b. simp ranked))
