@@ -3,12 +3,15 @@ ghost use Rattle.std.specs.Prelude.{◌≡◌, filter, IsPermutation, map};
 ghost use Rattle.desk_model.specs.Facts.{stays_at};
 ghost use Rattle.store_tables.specs.Calls.{Spares, Tells};
 ghost use Rattle.store_tables.specs.Contents.{actors, history_at, request_rows, watchers};
+ghost use Rattle.store_tables.specs.Contents.Label.{by_label};
 ghost use Rattle.store_tables.specs.Contents.Link.{ends_at, starts_at};
 ghost use Rattle.store_tables.specs.Contents.Request.{is_filed_in};
 ghost use Rattle.store_tables.specs.Contents.Stay.{request_stay, stays};
 ghost use Rattle.store_tables.specs.Contents.Watcher.{is_of_person};
 ghost use Rattle.store_tables.specs.Readings.{MismatchesInActors, MismatchesInDated};
-ghost use Rattle.store_tables.specs.Readings.{MismatchesInEntries, MismatchesInLinks};
+ghost use Rattle.store_tables.specs.Picked.{AreOrdered};
+ghost use Rattle.store_tables.specs.Readings.{MismatchesInEntries, MismatchesInLabels};
+ghost use Rattle.store_tables.specs.Readings.{MismatchesInLinks, Reads};
 ghost use Rattle.store_tables.specs.Readings.{MismatchesInQueues, MismatchesInRequests};
 ghost use Rattle.store_tables.specs.Readings.{MismatchesInStays, MismatchesInWatchers};
 ghost use Rattle.store_core.specs.Rows.{AreDueBefore, AreFiledIn, TellsDated, dated_rows};
@@ -20,8 +23,9 @@ use desk_core::{Entry, LinkRow, QueueRow, RequestRow, Watcher};
 use hours_core::{Minute, Stay};
 use std::alloc::Global;
 use store_tables::StoreFault;
+use store_tables::tables::label::Label;
 use store_tables::tables::request::dated;
-use store_tables::tables::{entry, link, queue, request, stay, watcher};
+use store_tables::tables::{entry, label, link, queue, request, stay, watcher};
 use text_core::Text;
 
 impl<S: Backend> Store<S> {
@@ -217,6 +221,18 @@ impl<S: Backend> Store<S> {
         ensures kept { Spares (state_of S.Store self.old) (state_of S.Store self.new) }
     {
         stay::stays(alloc, &mut self.tables)
+    }
+
+    /// The labels that the tables keep, in the order of their names. `Mismatch` where a row is no
+    /// label, `Refused` where the store or memory refuses it. The tables stay as they are.
+    pub fn labels(&mut self, alloc: Global) -> Result<Vec<Label>, StoreFault>
+        ensures listed { Reads (λ c xs. AreOrdered by_label c.labels xs.items)
+            (state_of S.Store self.old) (state_of S.Store self.new) result }
+        ensures mismatch { MismatchesInLabels
+            (state_of S.Store self.old) (state_of S.Store self.new) result }
+        ensures kept { Spares (state_of S.Store self.old) (state_of S.Store self.new) }
+    {
+        label::labels(alloc, &mut self.tables)
     }
 
     /// Who made each entry, one name an entry, in no order that matters. `Mismatch` where one is no
