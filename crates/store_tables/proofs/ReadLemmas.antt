@@ -5,7 +5,8 @@ use Rattle.std.proofs.Common.{[], filter, length, get_or, subst₂, IsPermutatio
 use Rattle.std.specs.Option.{option_to_list}
 use Rattle.std.specs.List.{AllZip}
 use Rattle.std.specs.Ordering.{is_lt, nat_cmp}
-use Rattle.std.proofs.lemmas.List.{get_or-map, map-id, length-map, nil_from_length, take_more}
+use Rattle.std.proofs.lemmas.List.{get_or-map, map-id, length-map, nil_from_length, take-map}
+use Rattle.std.proofs.lemmas.List.{take_more}
 use Rattle.std.proofs.lemmas.List.Sorted.{IsPermutation-map, IsPermutation-trans, IsPermutation-sym}
 use Rattle.std.proofs.lemmas.List.Sorted.{length_permutation, ranks_by, sorted_far}
 use Rattle.std.proofs.lemmas.List.Sorted.{Contains-permutation}
@@ -19,7 +20,7 @@ use Rattle.store_tables.specs.Kept.{Holds}
 use Rattle.store_tables.specs.Query.{last_of, reads}
 use Rattle.store_tables.specs.Values.{count_value}
 use Rattle.store_tables.specs.Picked.{passes, shows, Picks, Shows, Lists, AreOrdered, PicksLast}
-use Rattle.store_tables.specs.Picked.{ShowsGreatest}
+use Rattle.store_tables.specs.Picked.{AreFirst, ShowsGreatest}
 use Rattle.store_tables.proofs.KeptLemmas.{found, unmapped_one}
 use Rattle.std.proofs.lemmas.Map.Keys.{ge_from_not_lt}
 use Rattle.std.proofs.lemmas.Cmp.{back_total, nat_cmp_total}
@@ -103,6 +104,16 @@ module _ {X : Type 0} (view : X → Row) (Reads : Row → X → Type 0)
       → Lists cmp view xs rows → AllZip Reads rows vs → AreOrdered cmp xs vs
   all_read {cmp} {xs} {rows} {vs} h zip = subst (AreOrdered cmp xs)
       (read_same h.values vs (subst (λ rs. AllZip Reads rs vs) h.are zip)) h.ordered
+
+  -- those that were read of the first rows are the first of them
+  pub first_read : {cmp : X → X → Ordering} {xs : List X} {all : List Row} {vs : List X} (count : ℕ)
+      → Lists cmp view xs all → AllZip Reads (take count all) vs → AreFirst count cmp xs vs
+  first_read {vs = vs} count h zip = record {
+    values = h.values;
+    ordered = h.ordered;
+    are = sym (read_same (take count h.values) vs (subst (λ rs. AllZip Reads rs vs)
+        (ap (take count) h.are ∙ take-map view count h.values) zip));
+  }
 
   pub all_shown : {xs : List X} {rows : List Row} {vs : List X} → Shows view xs rows
       → AllZip Reads rows vs → IsPermutation xs vs
