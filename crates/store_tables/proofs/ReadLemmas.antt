@@ -126,6 +126,22 @@ read_more Reads rows vs i row v now low is pushed zip reads =
     subst₂ (AllZip Reads) (sym (take_more rows i row low ∙ ap (λ r. take i rows ++ r ∷ [])
     (sym is))) (sym pushed) (zip_more Reads (take i rows) vs row v zip reads)
 
+-- what is so of each of some rows, and of the next one
+has_more : {X : Type 0} (P : X → Type 0) (xs : List X) (x : X) → ((y : X) → Has xs y → P y) → P x
+    → (y : X) → Has (xs ++ x ∷ []) y → P y
+has_more P [] x all p y (inl same) = subst P (sym same) p
+has_more P [] x all p y (inr none) = absurd none
+has_more P (z ∷ xs) x all p y (inl same) = all y (inl same)
+has_more P (z ∷ xs) x all p y (inr later) = has_more P xs x (λ w has. all w (inr has)) p y later
+
+pub shown_more : (IsValue : Row → Type 0) (rows : List Row) (i : ℕ) (row : Row) → i < length rows
+    → row ≡ get_or rows i row → ((r : Row) → Has (take i rows) r → IsValue r) → IsValue row
+    → (r : Row) → Has (take (i + 1) rows) r → IsValue r
+shown_more IsValue rows i row low is all value =
+    subst (λ (rs : List Row). (r : Row) → Has rs r → IsValue r)
+    (sym (take_more rows i row low ∙ ap (λ r. take i rows ++ r ∷ []) (sym is)))
+    (has_more IsValue (take i rows) row all value)
+
 pub has_permuted : {X : Type 0} (xs ys : List X) (x : X) → IsPermutation xs ys → Has xs x → Has ys x
 has_permuted xs ys x same has = has_contained ys x
     (Contains-permutation xs ys x same (contains_had xs x has))

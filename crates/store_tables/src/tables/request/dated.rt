@@ -3,7 +3,7 @@ ghost use Rattle.std.specs.Prelude.{◌≡◌, filter, option_to_list, fold};
 ghost use Rattle.store_tables.specs.declared.fault.StoreFault.{StoreFault};
 ghost use Rattle.store_tables.specs.Contents.Request.{IsDatedRow, ReadsDated, by_dated_id, by_due};
 ghost use Rattle.store_tables.specs.Contents.Request.{has_number, is_dated_in, is_due_before};
-ghost use Rattle.store_tables.specs.Readings.{MismatchesInDated, Reads};
+ghost use Rattle.store_tables.specs.Readings.{MismatchesInDated, Reads, TestsDated};
 ghost use Rattle.store_tables.specs.Picked.{AreOrdered};
 ghost use Rattle.store_tables.specs.Seen.{seen};
 ghost use Rattle.store_tables.specs.Contents.{set_each_due};
@@ -40,7 +40,7 @@ pub fn dated_requests<S: Alter>(
 ) -> Result<Vec<(RequestRow, Option<Minute>)>, StoreFault>
     ensures read { Reads (λ c xs. AreOrdered by_dated_id c.dated xs.items)
         (seen S.Store tables.old) (seen S.Store tables.new) result }
-    ensures mismatch { MismatchesInDated
+    ensures tested { TestsDated
         (seen S.Store tables.old) (seen S.Store tables.new) result }
 {
     select_all(
