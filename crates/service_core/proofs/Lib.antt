@@ -10,6 +10,7 @@ pub mod RunsAlike
 pub mod StayLemmas
 pub mod WrittenAlike
 pub mod Linked
+pub mod TestLemmas
 pub mod ToldLemmas
 pub mod Telling
 pub mod SightLemmas

@@ -12,7 +12,16 @@ use Rattle.desk_model.specs.IsDesk.{IsDesk}
 use Rattle.desk_model.specs.Known.{is_known, knows_queue, knows_row}
 use Rattle.store_tables.specs.declared.fault.StoreFault.{StoreFault}
 use Rattle.store_tables.specs.declared.fault.StoreFault.TheVariants.{Refused}
-use Rattle.store_tables.specs.Contents.{Contents, actors}
+use Rattle.sqlite.specs.Effect.{Database}
+use Rattle.store_tables.specs.Calls.{AreThere}
+use Rattle.store_tables.specs.Contents.{Contents, HasBadRow, actors}
+use Rattle.store_tables.specs.Contents.Entry.{IsBareEntry, bare_shown, entry}
+use Rattle.store_tables.specs.Contents.Link.{IsLinkRow, link}
+use Rattle.store_tables.specs.Contents.Queue.{IsQueueRow, queue, queue_shown}
+use Rattle.store_tables.specs.Contents.Request.{IsDatedRow, dated_shown_terms, request}
+use Rattle.store_tables.specs.Contents.Stay.{IsStayRow, stay, stay_shown}
+use Rattle.store_tables.specs.Contents.Watcher.{IsWatcherRow, watcher}
+use Rattle.store_tables.specs.Query.{three_shown}
 use Rattle.store_tables.specs.Readings.{Blames}
 use Rattle.store_tables.specs.Stands.{Stand, StandsFor}
 use Rattle.service_core.specs.declared.fault.AttachFault.{AttachFault}
@@ -36,6 +45,51 @@ BlamesBad old new fault =
     (fault ≡ UnknownName)
     ⊎ ((e : StoreFault) × (fault ≡ Store e)
     × (let r : Result ⊤ StoreFault = Err e in Blames old new r))
+
+-- ---- which rows are tested
+
+abbrev pub GoodQueues : Database → Type 0
+GoodQueues db = ¬ HasBadRow queue.tree queue_shown IsQueueRow db
+
+abbrev pub GoodRequests : Database → Type 0
+GoodRequests db = ¬ HasBadRow request.tree dated_shown_terms IsDatedRow db
+
+abbrev pub GoodWatchers : Database → Type 0
+GoodWatchers db = ¬ HasBadRow watcher.tree three_shown IsWatcherRow db
+
+abbrev pub GoodLinks : Database → Type 0
+GoodLinks db = ¬ HasBadRow link.tree three_shown IsLinkRow db
+
+-- but for the texts of entries
+abbrev pub GoodEntries : Database → Type 0
+GoodEntries db = ¬ HasBadRow entry.tree bare_shown IsBareEntry db
+
+abbrev pub GoodStays : Database → Type 0
+GoodStays db = ¬ HasBadRow stay.tree stay_shown IsStayRow db
+
+-- no row of a queue, a request, a watcher, a link, an entry or a stay is bad
+pub record AreGood (db : Database) : Type 0 where
+  pub queues : GoodQueues db
+  pub requests : GoodRequests db
+  pub watchers : GoodWatchers db
+  pub links : GoodLinks db
+  pub entries : GoodEntries db
+  pub stays : GoodStays db
+
+-- no row of a link, an entry or a watcher is bad
+pub record GoodPersons (db : Database) : Type 0 where
+  pub links : GoodLinks db
+  pub entries : GoodEntries db
+  pub watchers : GoodWatchers db
+
+-- where the tables are there, no row that they had is bad
+abbrev pub TestsRows : State → State → Type 0
+TestsRows old new = AreThere old → HasCleanDisk new → AreGood old.now
+
+-- some of them are tested so, and nothing has changed
+pub record Tests (P : Database → Type 0) (old new : State) : Type 0 where
+  pub good : AreThere old → HasCleanDisk new → P old.now
+  pub same : AreThere old → HasCleanDisk new → new.now ≡ old.now
 
 -- ---- what is asked of the rows
 

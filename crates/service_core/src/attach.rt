@@ -13,7 +13,8 @@ ghost use Rattle.store_tables.specs.Stands.{StandsFor};
 ghost use Rattle.store_core.specs.Seen.{state_of};
 ghost use Rattle.report_core.specs.Rows.{QueuesRise};
 ghost use Rattle.service_core.specs.Attaching as attaching;
-ghost use Rattle.service_core.specs.Attaching.{BlamesBad, FailsOver, TellsKnown};
+ghost use Rattle.service_core.specs.Attaching.{BlamesBad, FailsOver, GoodEntries, GoodLinks};
+ghost use Rattle.service_core.specs.Attaching.{GoodPersons, TellsKnown, Tests, TestsRows};
 ghost use Rattle.service_core.specs.Renewing.{AreRenewed};
 ghost use Rattle.service_core.specs.Seen.{settings_of, tables_of};
 
@@ -33,14 +34,18 @@ impl<S: Backend> Desk<S> {
     ///
     /// Answers `Store` where a row is no value of its type, or the store or memory refuses it, and
     /// otherwise `UnknownName` where the settings lack a name of the tables; the store is given
-    /// back with either, and the tables are as they were, whatever rows they have. Of an entry only
-    /// the one who made it is looked at, and of a stay all but its number.
+    /// back with either, and the tables are as they were, whatever rows they have. All rows are
+    /// tested before a name is looked for, but for the two texts of an entry.
     pub fn attach(
         alloc: Global,
         mut store: Store<S>,
         settings: Settings,
     ) -> Result<Desk<S>, (AttachFault, Store<S>)>
         ensures settings { IfOk result (λ desk. settings_of S.Store desk ≡ settings) }
+        ensures tested { IfOk result (λ desk.
+            TestsRows (state_of S.Store store) (tables_of S.Store desk)) }
+        ensures tested_first { IfErr result (λ back. back.0 ≡ AttachFault.UnknownName
+            → TestsRows (state_of S.Store store) (state_of S.Store back.1)) }
         ensures known { IfOk result (λ desk.
             TellsKnown settings (state_of S.Store store) (tables_of S.Store desk) true) }
         ensures unknown { IfErr result (λ back. back.0 ≡ AttachFault.UnknownName
@@ -84,6 +89,8 @@ fn renew_known<S: Backend>(
     store: &mut Store<S>,
     settings: &Settings,
 ) -> Result<bool, StoreFault>
+    ensures tested { OnOk result
+        (TestsRows (state_of S.Store store.old) (state_of S.Store store.new)) }
     ensures told { Tells (λ desk found. known.is_known settings.now desk ≡ found)
         (state_of S.Store store.old) (state_of S.Store store.new) result }
     ensures renewed { result ≡ Ok true
@@ -119,6 +126,8 @@ fn is_known<S: Backend>(
         ≡ (attaching.knows_rows settings.now queues.now (map row_of dated.now) (watchers desk)
         && attaching.knows_histories settings.now desk))
         (state_of S.Store store.old) (state_of S.Store store.new) result }
+    ensures tested { OnOk result
+        (Tests GoodPersons (state_of S.Store store.old) (state_of S.Store store.new)) }
     ensures kept { Spares (state_of S.Store store.old) (state_of S.Store store.new) }
     ensures fault { Blames
         (state_of S.Store store.old) (state_of S.Store store.new) result }
@@ -132,6 +141,8 @@ fn is_known<S: Backend>(
 
 /// Reads the links: they have no names, but each has to be one. The tables stay as they are.
 fn read_links<S: Backend>(alloc: Global, store: &mut Store<S>) -> Result<(), StoreFault>
+    ensures tested { OnOk result
+        (Tests GoodLinks (state_of S.Store store.old) (state_of S.Store store.new)) }
     ensures kept { Spares (state_of S.Store store.old) (state_of S.Store store.new) }
     ensures fault { Blames
         (state_of S.Store store.old) (state_of S.Store store.new) result }
@@ -150,6 +161,8 @@ fn knows_histories<S: Backend>(
 ) -> Result<bool, StoreFault>
     ensures told { Tells (λ desk found. found ≡ attaching.knows_histories settings.now desk)
         (state_of S.Store store.old) (state_of S.Store store.new) result }
+    ensures tested { OnOk result
+        (Tests GoodEntries (state_of S.Store store.old) (state_of S.Store store.new)) }
     ensures kept { Spares (state_of S.Store store.old) (state_of S.Store store.new) }
     ensures fault { Blames
         (state_of S.Store store.old) (state_of S.Store store.new) result }

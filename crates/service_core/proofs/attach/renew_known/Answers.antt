@@ -2,6 +2,7 @@
 use Rattle.std.proofs.Common.{◌∙◌, ◌≡◌, Err, rules, subst, sym, Result}
 use Rattle.std.specs.Prelude.{⊤}
 use Rattle.report_core.specs.Rows.{QueuesRise}
+use Rattle.sqlite.specs.Effect.{Database}
 use Rattle.store_core.specs.Seen.{state_of}
 use Rattle.store_tables.specs.Contents.{contents_of}
 use Rattle.store_tables.proofs.Lasting.{on}
@@ -12,15 +13,28 @@ use Rattle.store_tables.proofs.RowLemmas.{blames_of}
 use Rattle.store_tables.proofs.Contents.Queue.{queue_table}
 use Rattle.store_tables.proofs.Contents.Stay.{stay_table}
 use Rattle.store_tables.proofs.ReadOn.{blames_after, blames_failed, blames_refused}
+use Rattle.service_core.specs.Attaching.{AreGood, GoodPersons, GoodQueues, GoodRequests, GoodStays}
 use Rattle.service_core.proofs.KnownLemmas.{known_of_dated}
+use Rattle.service_core.proofs.TestLemmas.{tests_of, tests_then}
 use Rattle.service_core.proofs.attach.renew_known.Goals as goal
+
+are_good : {db : Database} → ((GoodRequests db × GoodQueues db) × GoodStays db) × GoodPersons db
+    → AreGood db
+are_good it = record {
+  queues = it.0.0.1;
+  requests = it.0.0.0;
+  watchers = it.1.watchers;
+  links = it.1.links;
+  entries = it.1.entries;
+  stays = it.0.1;
+}
 
 pub returns-in_err-dated-clause-fault : goal.returns-in_err-dated-clause-fault
 returns-in_err-dated-clause-fault g c =
     let old = state_of g.S.Store c.args.store.now in
     let new = state_of g.S.Store c.dated_requests.new.self in
     let result : Result ⊤ StoreFault = Err c.in_err-dated.field-0.0 in
-    blames_failed (blames_of dated_table old new result c.in_err-dated.ensures.mismatch) (search rules)
+    blames_failed (blames_of dated_table old new result c.in_err-dated.ensures.tested.fails) (search rules)
 
 pub returns-in_err-queues-clause-fault : goal.returns-in_err-queues-clause-fault
 returns-in_err-queues-clause-fault g c =
@@ -28,7 +42,7 @@ returns-in_err-queues-clause-fault g c =
     let new = state_of g.S.Store c.queues.new.self in
     let result : Result ⊤ StoreFault = Err c.in_err-queues.field-0.0 in
     blames_failed (blames_after c.dated_requests.ensures.kept c.queues.ensures.kept.clean
-    (blames_of queue_table before new result c.in_err-queues.ensures.mismatch)) (search rules)
+    (blames_of queue_table before new result c.in_err-queues.ensures.tested.fails)) (search rules)
 
 pub returns-in_err-stays-clause-fault : goal.returns-in_err-stays-clause-fault
 returns-in_err-stays-clause-fault g c =
@@ -36,7 +50,7 @@ returns-in_err-stays-clause-fault g c =
     let new = state_of g.S.Store c.stays.new.self in
     let result : Result ⊤ StoreFault = Err c.in_err-stays.field-0.0 in
     blames_failed (blames_after (joined c.dated_requests.ensures.kept c.queues.ensures.kept)
-    c.stays.ensures.kept.clean (blames_of stay_table before new result c.in_err-stays.ensures.mismatch))
+    c.stays.ensures.kept.clean (blames_of stay_table before new result c.in_err-stays.ensures.tested.fails))
     (search rules)
 
 pub returns-then-not-branch-clause-told : goal.returns-then-not-branch-clause-told
@@ -133,6 +147,26 @@ pub returns-in_err-renew-clause-fault : goal.returns-in_err-renew-clause-fault
 returns-in_err-renew-clause-fault g c =
     let is : c.from_residual-in_err-renew.result ≡ Err c.in_err-renew.field-0.0 = search rules in
     rw is (blames_refused _ c.in_err-renew.ensures.fault)
+
+pub returns-then-not-branch-clause-tested : goal.returns-then-not-branch-clause-tested
+returns-then-not-branch-clause-tested g c there clean =
+    let rows = tests_then c.dated_requests.ensures.kept c.queues.ensures.kept
+    (tests_of c.in_ok-dated.ensures.tested) (tests_of c.in_ok-queues.ensures.tested) in
+    let durations = tests_then (joined c.dated_requests.ensures.kept c.queues.ensures.kept)
+    c.stays.ensures.kept rows (tests_of c.in_ok-stays.ensures.tested) in
+    let all = tests_then (joined (joined c.dated_requests.ensures.kept c.queues.ensures.kept)
+    c.stays.ensures.kept) c.is_known.ensures.kept durations c.in_ok-is_known.ensures.tested in
+    are_good (all.good there clean)
+
+pub returns-clause-tested : goal.returns-clause-tested
+returns-clause-tested g c there clean =
+    let rows = tests_then c.dated_requests.ensures.kept c.queues.ensures.kept
+    (tests_of c.in_ok-dated.ensures.tested) (tests_of c.in_ok-queues.ensures.tested) in
+    let durations = tests_then (joined c.dated_requests.ensures.kept c.queues.ensures.kept)
+    c.stays.ensures.kept rows (tests_of c.in_ok-stays.ensures.tested) in
+    let all = tests_then (joined (joined c.dated_requests.ensures.kept c.queues.ensures.kept)
+    c.stays.ensures.kept) c.is_known.ensures.kept durations c.in_ok-is_known.ensures.tested in
+    are_good (all.good there (c.renew.ensures.honest clean))
 
 pub returns-then-not-branch-clause-left : goal.returns-then-not-branch-clause-left
 returns-then-not-branch-clause-left g c other =
