@@ -1,5 +1,5 @@
 -- Tables whose rows are tested, one after another.
-use Rattle.std.proofs.Common.{◌∙◌, Ok, Result, subst}
+use Rattle.std.proofs.Common.{◌∙◌, Err, Ok, OnOk, Result, subst}
 use Rattle.sqlite.specs.Effect.{Database}
 use Rattle.sqlite.specs.Order.{Row}
 use Rattle.sqlite.specs.State.{State}
@@ -36,3 +36,8 @@ pub tests_as : {P Q : Database → Type 0} {a b : State} → Tests P a b
     → ((db : Database) → P db → Q db) → Tests Q a b
 tests_as {a = a} it so =
     record { good = λ there clean. so a.now (it.good there clean); same = it.same }
+
+-- what is so anyway is so where it goes well
+pub anyway : {X E : Type 0} {P : Type 0} (r : Result X E) → P → OnOk r P
+anyway (Ok x) p = p
+anyway (Err e) p = tt

@@ -1,5 +1,5 @@
 -- What it is that settings are attached to tables.
-use Rattle.std.specs.Prelude.{◌≡◌, ◌⊎◌, Bool, ◌&&◌, Err, List, Result, ⊤}
+use Rattle.std.specs.Prelude.{◌≡◌, ◌⊎◌, Bool, true, false, ◌&&◌, Err, List, Result, ⊤}
 use Rattle.std.specs.List.{list_all}
 use Rattle.sqlite.specs.State.{State, HasCleanDisk}
 use Rattle.settings_core.specs.Settings.{knows}
@@ -25,7 +25,9 @@ use Rattle.store_tables.specs.Query.{three_shown}
 use Rattle.store_tables.specs.Readings.{Blames}
 use Rattle.store_tables.specs.Stands.{Stand, StandsFor}
 use Rattle.service_core.specs.declared.fault.AttachFault.{AttachFault}
-use Rattle.service_core.specs.declared.fault.AttachFault.TheVariants.{Store, UnknownName}
+use Rattle.service_core.specs.declared.fault.AttachFault.TheVariants.{NoMemory, Store, UnknownName}
+use Rattle.service_core.specs.declared.renewal.Renewal.{Renewal}
+use Rattle.service_core.specs.declared.renewal.Renewal.TheVariants as renewal
 
 -- whether the settings know each name of whatever desk the tables stand for
 abbrev pub TellsKnown : Settings → State → State → Bool → Type 0
@@ -37,14 +39,20 @@ TellsKnown settings old new known =
 abbrev pub FailsOver : State → State → AttachFault → Type 0
 FailsOver old new fault =
     (c : Contents) → Stand c old → HasCleanDisk new
-    → (fault ≡ UnknownName) ⊎ (fault ≡ Store Refused)
+    → (fault ≡ UnknownName) ⊎ ((fault ≡ NoMemory) ⊎ (fault ≡ Store Refused))
 
--- the fault is an unknown name, or one of the store that blames a row only where one is bad
+-- the fault is an unknown name, want of memory, or one of the store that blames a row only where
+-- one is bad
 abbrev pub BlamesBad : State → State → AttachFault → Type 0
 BlamesBad old new fault =
-    (fault ≡ UnknownName)
+    (fault ≡ UnknownName) ⊎ ((fault ≡ NoMemory)
     ⊎ ((e : StoreFault) × (fault ≡ Store e)
-    × (let r : Result ⊤ StoreFault = Err e in Blames old new r))
+    × (let r : Result ⊤ StoreFault = Err e in Blames old new r)))
+
+-- whether no name of the tables was unknown
+abbrev pub knows_names : Renewal → Bool
+knows_names renewal.UnknownName = false
+knows_names other = true
 
 -- ---- which rows are tested
 

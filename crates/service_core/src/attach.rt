@@ -15,13 +15,14 @@ ghost use Rattle.report_core.specs.Rows.{QueuesRise};
 ghost use Rattle.service_core.specs.Attaching as attaching;
 ghost use Rattle.service_core.specs.Attaching.{BlamesBad, FailsOver, GoodEntries, GoodLinks};
 ghost use Rattle.service_core.specs.Attaching.{GoodPersons, TellsKnown, Tests, TestsRows};
+ghost use Rattle.service_core.specs.Attaching.{knows_names};
 ghost use Rattle.service_core.specs.Renewing.{AreRenewed};
 ghost use Rattle.service_core.specs.Seen.{settings_of, tables_of};
 
 use crate::desk::Desk;
 use crate::fault::AttachFault;
 use crate::known::{knows_actors, knows_rows};
-use crate::renewal::renew;
+use crate::renewal::{Renewal, renew};
 use desk_core::{QueueRow, RequestRow};
 use hours_core::Minute;
 use settings_core::Settings;
@@ -32,10 +33,11 @@ impl<S: Backend> Desk<S> {
     /// The desk over these tables, with these settings. The due moments that the tables keep become
     /// those by these settings: the ones that differ are written, all or none.
     ///
-    /// Answers `Store` where a row is no value of its type, or the store or memory refuses it, and
-    /// otherwise `UnknownName` where the settings lack a name of the tables; the store is given
-    /// back with either, and the tables are as they were, whatever rows they have. All rows are
-    /// tested before a name is looked for, but for the two texts of an entry.
+    /// Answers `Store` where a row is no value of its type, or the store refuses it or has no memory
+    /// for it; otherwise `UnknownName` where the settings lack a name of the tables, and otherwise
+    /// `NoMemory` where there is none for the due moments. The store is given back with each, and
+    /// the tables are as they were, whatever rows they have. All rows are tested before a name is
+    /// looked for, but for the two texts of an entry.
     pub fn attach(
         alloc: Global,
         mut store: Store<S>,
@@ -68,10 +70,14 @@ impl<S: Backend> Desk<S> {
             WasClean (state_of S.Store store) (state_of S.Store back.1)) }
     {
         match renew_known(alloc, &mut store, &settings) {
-            Ok(true) => Ok(Desk { store, settings }),
-            Ok(false) => {
+            Ok(Renewal::Done) => Ok(Desk { store, settings }),
+            Ok(Renewal::UnknownName) => {
                 drop(settings);
                 Err((AttachFault::UnknownName, store))
+            }
+            Ok(Renewal::NoMemory) => {
+                drop(settings);
+                Err((AttachFault::NoMemory, store))
             }
             Err(fault) => {
                 drop(settings);
@@ -81,21 +87,21 @@ impl<S: Backend> Desk<S> {
     }
 }
 
-/// Whether the settings know each name of the tables. Where they do, the due moments of the tables
-/// are renewed; else, and on a fault, the tables stay as they are, whatever rows they have.
+/// Renews the due moments of the tables where the settings know each name of them. Unless that is
+/// done the tables stay as they are, whatever rows they have.
 #[tactic(auto, using(store_tables::proofs::Spared::joined, store_tables::proofs::Spared::stands))]
 fn renew_known<S: Backend>(
     alloc: Global,
     store: &mut Store<S>,
     settings: &Settings,
-) -> Result<bool, StoreFault>
+) -> Result<Renewal, StoreFault>
     ensures tested { OnOk result
         (TestsRows (state_of S.Store store.old) (state_of S.Store store.new)) }
-    ensures told { Tells (λ desk found. known.is_known settings.now desk ≡ found)
+    ensures told { Tells (λ desk came. known.is_known settings.now desk ≡ knows_names came)
         (state_of S.Store store.old) (state_of S.Store store.new) result }
-    ensures renewed { result ≡ Ok true
+    ensures renewed { result ≡ Ok Renewal.Done
         → AreRenewed settings.now (state_of S.Store store.old) (state_of S.Store store.new) }
-    ensures left { result ≢ Ok true
+    ensures left { result ≢ Ok Renewal.Done
         → Spares (state_of S.Store store.old) (state_of S.Store store.new) }
     ensures honest { WasClean (state_of S.Store store.old) (state_of S.Store store.new) }
     ensures lasts { Lasts (state_of S.Store store.old) (state_of S.Store store.new) }
@@ -107,10 +113,9 @@ fn renew_known<S: Backend>(
     let stays = store.stays(alloc)?;
     let (dated, queues) = (dated.as_slice(), queues.as_slice());
     if !is_known(alloc, store, settings, queues, dated)? {
-        return Ok(false);
+        return Ok(Renewal::UnknownName);
     }
-    renew(alloc, store, settings, queues, stays, dated)?;
-    Ok(true)
+    renew(alloc, store, settings, queues, stays, dated)
 }
 
 /// Whether the settings know each name of the tables, of which these are the queues and the

@@ -1,6 +1,8 @@
 -- the settings know what was read, and what was read is renewed
 use Rattle.std.proofs.Common.{◌∙◌, ◌≡◌, Err, rules, subst, sym, Result}
-use Rattle.std.specs.Prelude.{⊤}
+use Rattle.std.specs.Prelude.{true, ⊤}
+use Rattle.std.proofs.lemmas.Result.{IfOk-weaker}
+use Rattle.desk_model.specs.Known.{is_known}
 use Rattle.report_core.specs.Rows.{QueuesRise}
 use Rattle.sqlite.specs.Effect.{Database}
 use Rattle.store_core.specs.Seen.{state_of}
@@ -14,8 +16,9 @@ use Rattle.store_tables.proofs.Contents.Queue.{queue_table}
 use Rattle.store_tables.proofs.Contents.Stay.{stay_table}
 use Rattle.store_tables.proofs.ReadOn.{blames_after, blames_failed, blames_refused}
 use Rattle.service_core.specs.Attaching.{AreGood, GoodPersons, GoodQueues, GoodRequests, GoodStays}
+use Rattle.service_core.specs.Attaching.{knows_names}
 use Rattle.service_core.proofs.KnownLemmas.{known_of_dated}
-use Rattle.service_core.proofs.TestLemmas.{tests_of, tests_then}
+use Rattle.service_core.proofs.TestLemmas.{anyway, tests_of, tests_then}
 use Rattle.service_core.proofs.attach.renew_known.Goals as goal
 
 are_good : {db : Database} → ((GoodRequests db × GoodQueues db) × GoodStays db) × GoodPersons db
@@ -72,10 +75,10 @@ returns-then-not-branch-clause-told g c desk is stand clean =
     clean)
     ∙ c.if-not-branch.true
 
-pub returns-in_err-renew-clause-left : goal.returns-in_err-renew-clause-left
-returns-in_err-renew-clause-left g c other =
+pub returns-clause-left : goal.returns-clause-left
+returns-clause-left g c other =
     joined (joined (joined (joined c.dated_requests.ensures.kept c.queues.ensures.kept)
-    c.stays.ensures.kept) c.is_known.ensures.kept) c.in_err-renew.ensures.left
+    c.stays.ensures.kept) c.is_known.ensures.kept) (c.renew.ensures.left other)
 
 pub returns-clause-told : goal.returns-clause-told
 returns-clause-told g c desk is stand clean =
@@ -92,10 +95,14 @@ returns-clause-told g c desk is stand clean =
     let these =
     c.as_slice-queues.ensures.value
     ∙ c.in_ok-queues.ensures.listed desk is after_dated queues_clean in
+    let all_known =
     known_of_dated c.args.settings.now desk stand.0 _ _ c.in_ok-is_known.field-0 these those
     (c.in_ok-is_known.ensures.told (subst QueuesRise (sym these) is.queues) desk is after_stays
     known_clean)
-    ∙ c.if-not-branch.false
+    ∙ c.if-not-branch.false in
+    IfOk-weaker c.renew.result (λ came. knows_names came ≡ true)
+    (λ came. is_known c.args.settings.now desk ≡ knows_names came)
+    (λ came e. all_known ∙ sym e) c.renew.ensures.known
 
 pub returns-clause-renewed : goal.returns-clause-renewed
 returns-clause-renewed g c known desk is stand clean live =
@@ -112,15 +119,9 @@ returns-clause-renewed g c known desk is stand clean live =
     c.as_slice-queues.ensures.value
     ∙ c.in_ok-queues.ensures.listed desk is after_dated queues_clean in
     let all = c.in_ok-stays.ensures.listed desk is after_queues stays_clean in
-    c.in_ok-renew.ensures.renewed desk is stand.0 these all those
+    c.renew.ensures.renewed known desk is stand.0 these all those
     (stands (joined (joined (joined c.dated_requests.ensures.kept c.queues.ensures.kept)
     c.stays.ensures.kept) c.is_known.ensures.kept) (contents_of stand.0 desk) stand.1) clean live
-
-pub returns-in_err-renew-clause-lasts : goal.returns-in_err-renew-clause-lasts
-returns-in_err-renew-clause-lasts g c =
-    let known = joined (joined (joined c.dated_requests.ensures.kept c.queues.ensures.kept)
-    c.stays.ensures.kept) c.is_known.ensures.kept in
-    on c.renew.ensures.honest known.lasts c.renew.ensures.lasts
 
 pub returns-clause-lasts : goal.returns-clause-lasts
 returns-clause-lasts g c =
@@ -143,10 +144,8 @@ returns-in_err-is_known-clause-fault g c =
     c.queues.ensures.kept) c.stays.ensures.kept) c.is_known.ensures.kept.clean
     c.in_err-is_known.ensures.fault) (search rules)
 
-pub returns-in_err-renew-clause-fault : goal.returns-in_err-renew-clause-fault
-returns-in_err-renew-clause-fault g c =
-    let is : c.from_residual-in_err-renew.result ≡ Err c.in_err-renew.field-0.0 = search rules in
-    rw is (blames_refused _ c.in_err-renew.ensures.fault)
+pub returns-clause-fault : goal.returns-clause-fault
+returns-clause-fault g c = blames_refused c.renew.result c.renew.ensures.fault
 
 pub returns-then-not-branch-clause-tested : goal.returns-then-not-branch-clause-tested
 returns-then-not-branch-clause-tested g c there clean =
@@ -159,14 +158,14 @@ returns-then-not-branch-clause-tested g c there clean =
     are_good (all.good there clean)
 
 pub returns-clause-tested : goal.returns-clause-tested
-returns-clause-tested g c there clean =
+returns-clause-tested g c = anyway c.renew.result (λ there clean.
     let rows = tests_then c.dated_requests.ensures.kept c.queues.ensures.kept
     (tests_of c.in_ok-dated.ensures.tested) (tests_of c.in_ok-queues.ensures.tested) in
     let durations = tests_then (joined c.dated_requests.ensures.kept c.queues.ensures.kept)
     c.stays.ensures.kept rows (tests_of c.in_ok-stays.ensures.tested) in
     let all = tests_then (joined (joined c.dated_requests.ensures.kept c.queues.ensures.kept)
     c.stays.ensures.kept) c.is_known.ensures.kept durations c.in_ok-is_known.ensures.tested in
-    are_good (all.good there (c.renew.ensures.honest clean))
+    are_good (all.good there (c.renew.ensures.honest clean)))
 
 pub returns-then-not-branch-clause-left : goal.returns-then-not-branch-clause-left
 returns-then-not-branch-clause-left g c other =
