@@ -4,11 +4,16 @@
 use crate::asks::Ask;
 use crate::served::Sent;
 use desk_core::{Answer, Change, Command, Facts, Refusal};
-use desk_program::{Ended, Memory, run_script_counted};
+use desk_program::{
+    CountedListener, Ended, Memory, open_desk, open_desk_whole, run_script_counted,
+    serve_on_counted,
+};
 use service_core::{AttachFault, Desk};
 use settings_core::Settings;
 use std::alloc::{AllocError, Global};
 use std::io::{Read, Write};
+use std::net::OpenListener;
+use std::time::Clock;
 use store_core::{Backend, Store};
 use wire_core::{ServeFault, serve_list, serve_one};
 
@@ -24,6 +29,24 @@ pub(crate) fn attach<S: Backend>(
     settings: Settings,
 ) -> Result<Desk<S>, (AttachFault, Store<S>)> {
     Desk::attach(alloc, store, settings)
+}
+
+pub(crate) fn open<S: Backend + Drop, W: Write>(
+    alloc: Global,
+    store: Store<S>,
+    settings: &[u8],
+    writer: &mut W,
+) -> Result<Desk<S>, u8> {
+    open_desk(alloc, store, settings, writer)
+}
+
+pub(crate) fn open_whole<S: Backend, W: Write>(
+    alloc: Global,
+    store: Store<S>,
+    settings: &[u8],
+    writer: &mut W,
+) -> Result<Desk<S>, (u8, Store<S>)> {
+    open_desk_whole(alloc, store, settings, writer)
 }
 
 pub(crate) fn decide(
@@ -79,4 +102,33 @@ pub(crate) fn run_counted<R: Read, W: Write>(
     writer: &mut W,
 ) -> Ended {
     run_script_counted(alloc, reader, writer, Memory::GivenBack)
+}
+
+/// How a server ended, and what its listener counted.
+#[derive(Clone, Copy)]
+pub(crate) struct Served {
+    pub(crate) status: u8,
+    pub(crate) accepted: u64,
+    pub(crate) answered: u64,
+    pub(crate) unread: u64,
+}
+
+pub(crate) fn serve_connections<L: OpenListener, K: Clock, S: Backend>(
+    alloc: Global,
+    listener: &L,
+    count: u32,
+    clock: &K,
+    desk: &mut Desk<S>,
+) -> Served
+where
+    L::Stream: Read + Write,
+{
+    let mut counted = CountedListener::new(listener);
+    let status = serve_on_counted(alloc, &mut counted, count, clock, desk);
+    Served {
+        status,
+        accepted: counted.accepted(),
+        answered: counted.answered(),
+        unread: counted.unread(),
+    }
 }

@@ -4,7 +4,7 @@
 //! would be taken apart for each function's own proof.
 
 use crate::asks::asks_of;
-use crate::calls::{self, execute_all};
+use crate::calls::{self, Outcome, execute_all};
 use crate::cases::Case;
 use crate::failure::Failure;
 use crate::queries::ask_database;
@@ -103,11 +103,30 @@ fn ask_all<S: Backend>(
     desk: &mut Desk<S>,
     commands: &str,
 ) -> Result<(), Failure> {
-    let asks = asks_of(alloc, commands)?;
     let room = desk.settings().max_requests();
     writeln!(out, "attach: ok, room for {room} requests")?;
+    tell_each(alloc, out, desk, commands)
+}
+
+/// Writes what comes of each command, all asked at once.
+pub(crate) fn tell_each<S: Backend>(
+    alloc: Global,
+    out: &mut String,
+    desk: &mut Desk<S>,
+    commands: &str,
+) -> Result<(), Failure> {
+    let asks = asks_of(alloc, commands)?;
     let outcomes = execute_all(alloc, desk, asks.as_slice())?;
-    for outcome in outcomes.as_slice() {
+    put_outcomes(alloc, out, outcomes.as_slice())
+}
+
+/// Adds the text of each outcome.
+pub(crate) fn put_outcomes(
+    alloc: Global,
+    out: &mut String,
+    outcomes: &[Outcome],
+) -> Result<(), Failure> {
+    for outcome in outcomes {
         out.push_str(outcome_text(alloc, outcome)?.as_str())?;
     }
     Ok(())

@@ -3,12 +3,13 @@
 use crate::asks::asks_of;
 use crate::calls::execute_all;
 use crate::cases::Case;
+use crate::connections::server_of;
 use crate::desks::{COMMANDS, attached};
-use crate::each;
 use crate::expansion::{Named, expanded};
 use crate::failure::Failure;
 use crate::served::{LEFT, Manner, Sent, serve};
 use crate::words::number;
+use crate::{chain, each};
 use service_core::Desk;
 use std::alloc::Global;
 use store_core::Backend;
@@ -22,9 +23,9 @@ const NEXT: &str = "\n> ";
 /// The tables, settings and commands that messages find.
 #[derive(Clone, Copy)]
 pub(crate) struct Before<'b> {
-    tables: &'b str,
-    settings: &'b str,
-    commands: &'b str,
+    pub(crate) tables: &'b str,
+    pub(crate) settings: &'b str,
+    pub(crate) commands: &'b str,
 }
 
 /// Serves the messages of a case in each of three manners, each over a desk of its own: one after
@@ -58,6 +59,7 @@ fn serve_by_each(
         match line {
             "each_read_fails" => each::reads(rt, out, before, sent)?,
             "each_write_fails" => each::writes(rt, out, before, sent)?,
+            "chained" => chain::run(rt.alloc(), out, before, sent)?,
             _ => out.push_str(replies(rt, before, sent, manner_of(line)?)?.as_str())?,
         }
     }
@@ -149,21 +151,27 @@ fn served_after<S: Backend>(
 /// | `writer_fails N` | the same; of the first the writer fails after N writes |
 /// | `writer_stops N` | the same, and takes nothing then |
 /// | `loopback` | each over a connection of its own, by a server that ends after it |
+/// | `leaves N` | over two connections: of the first message N bytes come, and the second whole |
 /// | `endless` | each followed by bytes that never end, and told how often they were read |
 /// | `made N` | N turns of messages made of them: how many had which code; then the first |
 /// | `many N` | N times over, in one list: how many had which code |
 /// | `asked` | each read by one call, and told by another what it asks for |
 ///
+/// Words that name a server let them be served each over a connection in memory (`server_of`).
 /// `each_read_fails` and `each_write_fails` let the first fail after each number of calls in turn
-/// (`each.rt`).
+/// (`each.rt`); `chained` has them served after the calls of a desk in a program (`chain.rt`).
 fn manner_of(line: &str) -> Result<Manner, Failure> {
     let (kind, rest) = line.split_once(' ').unwrap_or((line, "0"));
+    if let Some(server) = server_of(kind, rest)? {
+        return Ok(Manner::Connections(server));
+    }
     let count = number(rest)?;
     match kind {
         "reader_fails" => Ok(Manner::streams(Some(count), u32::MAX, true)),
         "writer_fails" => Ok(Manner::streams(None, count, true)),
         "writer_stops" => Ok(Manner::streams(None, count, false)),
         "loopback" => Ok(Manner::Loopback),
+        "leaves" => Ok(Manner::Leaves(count)),
         "endless" => Ok(Manner::Endless),
         "made" => Ok(Manner::Made(count)),
         "many" => Ok(Manner::Many(count)),

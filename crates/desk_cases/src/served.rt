@@ -1,10 +1,11 @@
 //! Messages that are served on a desk, in one of several manners.
 
 use crate::asking::answer_asked;
-use crate::calls::{self, serve_all};
+use crate::calls::{self, Reply, serve_all};
 use crate::cases::str_of;
+use crate::connections::{Server, answer_by_connections};
 use crate::failure::Failure;
-use crate::loopback::answer_by_loopback;
+use crate::loopback::{answer_beside_one_that_leaves, answer_by_loopback};
 use crate::made::{answer_made, answer_many};
 use crate::streams::{Faltering, Slow};
 use crate::words::replaced;
@@ -34,6 +35,10 @@ pub(crate) enum Manner {
     Streams(Failing),
     /// Each over the loopback, at the clock's minute.
     Loopback,
+    /// Over the loopback, where the first client sends so many bytes and leaves.
+    Leaves(u32),
+    /// Each over a connection in memory, by such a server.
+    Connections(Server),
     /// Each followed by bytes that never end.
     Endless,
     /// So many turns of messages made of them.
@@ -87,6 +92,10 @@ pub(crate) fn serve<S: Backend>(
         Manner::Streams(failing) => one_by_one(rt.alloc(), out, sent, Some(failing), desk),
         Manner::List => in_list(rt.alloc(), out, sent, desk),
         Manner::Loopback => answer_by_loopback(rt, out, sent, desk),
+        Manner::Leaves(count) => answer_beside_one_that_leaves(rt, out, sent, count, desk),
+        Manner::Connections(server) => {
+            answer_by_connections(rt.alloc(), out, sent, server, desk)
+        }
         Manner::Endless => before_others(rt.alloc(), out, sent, desk),
         Manner::Made(turns) => answer_made(rt.alloc(), out, sent, turns, desk),
         Manner::Many(times) => answer_many(rt.alloc(), out, sent, times, desk),
@@ -100,10 +109,20 @@ fn in_list<S: Backend>(
     sent: &[Sent],
     desk: &mut Desk<S>,
 ) -> Result<(), Failure> {
-    for reply in serve_all(alloc, sent, desk)? {
+    let replies = serve_all(alloc, sent, desk)?;
+    put_replies(alloc, out, replies.as_slice())
+}
+
+/// Adds the replies that came in a list.
+pub(crate) fn put_replies(
+    alloc: Global,
+    out: &mut String,
+    replies: &[Reply],
+) -> Result<(), Failure> {
+    for reply in replies {
         match reply {
             Ok(bytes) => put_reply(alloc, out, bytes.as_slice(), Ok(()))?,
-            Err(fault) => put_reply(alloc, out, b"", Err(fault))?,
+            Err(fault) => put_reply(alloc, out, b"", Err(*fault))?,
         }
     }
     Ok(())

@@ -6,6 +6,7 @@
 use crate::cases::{Case, str_of};
 use crate::disks::{End, ended};
 use crate::failure::Failure;
+use crate::opening::{self, opening_of};
 use crate::stores::opened;
 use crate::streams::Faltering;
 use crate::words::number;
@@ -24,12 +25,17 @@ use wire_core::words_of;
 /// - `on_file PATH`: the tables are in that file, which is opened anew for each command;
 /// - `alone`: each is run on tables of its own that the statements make, by the call that lets them
 ///   go;
-/// - `alone_on_file PATH`: that is done on the tables in that file.
+/// - `alone_on_file PATH`: that is done on the tables in that file;
+/// - how the desk is opened (`opening.rt`): it is opened once, and the commands are done on it.
 pub(crate) fn run_case(rt: &HostRuntime, out: &mut String, case: &Case<'_>) -> Result<(), Failure> {
     let (settings, statements) = (case.text("settings"), case.text("tables"));
+    let streams = case.text("streams").trim_end();
+    if let Some(opening) = opening_of(streams)? {
+        let commands = case.text("commands");
+        return opening::run(rt.alloc(), out, statements, settings, commands, opening);
+    }
     let asked = all_asked(rt.alloc(), case.text("commands"))?;
     let asked = asked.as_slice();
-    let streams = case.text("streams").trim_end();
     if let Some(path) = streams.strip_prefix("on_file ") {
         return run_on_file(rt, out, settings, path, asked, false);
     }
