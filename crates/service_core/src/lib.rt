@@ -11,8 +11,8 @@
 //! - `Desk::told` is `execute` and the text of what came of it (`TellsOn`). A command that changes
 //!   the desk has the room for its text before its step. Where there is no memory for the text the
 //!   command is `Unavailable`, and the desk stays.
-//! - `Desk::stream` writes what `execute` would answer to `ls` or `overdue`. It refuses others. The
-//!   tables stand for the desk that they stood for.
+//! - `Desk::stream` writes what `execute` would answer to `ls` or `overdue`, the two commands that it
+//!   takes. The tables stand for the desk that they stood for.
 //! - The due moments kept are those of the desk (`kept_due_law`).
 //!
 //! What `refused_beforehand` refuses costs no statement, a command on a request that isn't there
