@@ -1,14 +1,16 @@
--- Rows of requests that a store gives one at a time, by numbers that were read before.
-use Rattle.std.specs.Prelude.{◌≡◌, ◌++◌, ◌∷◌, ℕ, [], Err, List, None, Ok, Option, Result, Some}
-use Rattle.std.specs.Prelude.{drop, unwrap_or}
+-- Rows of requests that a store gives one at a time: by numbers that were read before, or those of a
+-- queue, of which several are read at once.
+use Rattle.std.specs.Prelude.{◌≡◌, ◌++◌, ◌∷◌, ◌-◌, ℕ, [], Err, List, None, Ok, Option, Result, Some}
+use Rattle.std.specs.Prelude.{drop, filter, length, slice_get, unwrap_or}
+use Rattle.std.specs.Option.{option_map_or}
 use Rattle.sqlite.specs.State.{HasCleanDisk}
 use Rattle.sqlite.specs.Store.{Ghosts}
 use Rattle.desk_model.specs.Desk.{Desk}
 use Rattle.desk_model.specs.IsDesk.{IsDesk}
 use Rattle.desk_model.specs.declared.rows.RequestRow.{RequestRow}
 use Rattle.store_tables.specs.Calls.{Spares}
-use Rattle.store_tables.specs.Contents.{contents_of}
-use Rattle.store_tables.specs.Contents.Request.{Dated}
+use Rattle.store_tables.specs.Contents.{Contents, contents_of}
+use Rattle.store_tables.specs.Contents.Request.{Dated, id_of, is_dated_after}
 use Rattle.store_tables.specs.Readings.{MismatchesInNumbers}
 use Rattle.store_tables.specs.Stands.{Stand}
 use Rattle.store_tables.specs.declared.fault.StoreFault.{StoreFault}
@@ -16,7 +18,10 @@ use Rattle.store_core.specs.Rows.{dated_rows, rows_numbered}
 use Rattle.store_core.specs.Seen.{state_of}
 use Rattle.store_core.specs.declared.rows.Progress.{Progress}
 use Rattle.store_core.specs.declared.rows.Progress.TheVariants.{Over, Reading, Spent}
+use Rattle.store_core.specs.declared.filed.Filed.{Filed}
 use Rattle.store_core.specs.declared.rows.RequestRows.{RequestRows}
+use Rattle.store_core.specs.declared.rows.Source.{Source}
+use Rattle.store_core.specs.declared.rows.Source.TheVariants.{ByNumber, OfQueue}
 use Rattle.store_core.specs.declared.store.Store.{Store}
 
 -- the numbers that a store keeps, by which rows are read
@@ -36,10 +41,51 @@ abbrev pub HasAhead : {S : Type 0} (g : Ghosts S)
 HasAhead g IsAnswer store due desk =
     (all : List Dated) × IsAnswer due desk all × (all ≡ rows_ahead g store 0 due desk)
 
+-- the rows of a queue that are still to come: those that were read, and those after the last of them
+abbrev pub filed_ahead : Filed → (RequestRow → Option ℕ) → Desk → List Dated
+filed_ahead filed due desk =
+    filed.read.items ++ filter (is_dated_after filed.queue filed.last) (dated_rows due desk)
+
+-- those of the queue by which a store reads, if there is one
+abbrev pub rows_filed : Option Filed → (RequestRow → Option ℕ) → Desk → List Dated
+rows_filed None due desk = []
+rows_filed (Some filed) due desk = filed_ahead filed due desk
+
+-- the rows of a source that are still to come
+abbrev pub rows_of : {S : Type 0} (g : Ghosts S) → Store S g → Source → (RequestRow → Option ℕ)
+    → Desk → List Dated
+rows_of g store (ByNumber at) due desk = rows_ahead g store at due desk
+rows_of g store OfQueue due desk = rows_filed store.filed due desk
+
+-- the next one is taken of these rows, or there was none
+abbrev pub TakesNext : List Dated → Option Dated → List Dated → Type 0
+TakesNext before (Some row) after = before ≡ row ∷ after
+TakesNext before None after = before ≡ []
+
+-- the number of the last row, or this one where there is none
+abbrev pub number_of_last : List Dated → ℕ → ℕ
+number_of_last rows number = option_map_or id_of (slice_get rows (length rows - 1)) number
+
+-- it is so of each desk and due moments whose contents these are
+abbrev pub OfDated : {X : Type 0} → ((RequestRow → Option ℕ) → Desk → X → Type 0) → Contents → X
+    → Type 0
+OfDated P c x =
+    (due : RequestRow → Option ℕ) (desk : Desk) → IsDesk desk → c ≡ contents_of due desk
+    → P due desk x
+
+-- what came after the last row that was read is still to come, and some of it was read, if there
+-- was any
+pub record ReadsOn (old new : Filed) (due : RequestRow → Option ℕ) (desk : Desk) : Type 0 where
+  pub same : filter (is_dated_after old.queue old.last) (dated_rows due desk)
+      ≡ filed_ahead new due desk
+  pub some : new.read.items ≡ []
+      → filter (is_dated_after old.queue old.last) (dated_rows due desk) ≡ []
+
 -- of all the rows of an answer these were given, and the others are still to come
 abbrev pub HasGiven : {S : Type 0} (g : Ghosts S) → RequestRows S g → (RequestRow → Option ℕ) → Desk
     → List Dated → List Dated → Type 0
-HasGiven g rows due desk all given = all ≡ given ++ rows_ahead g rows.store.now rows.at due desk
+HasGiven g rows due desk all given =
+    all ≡ given ++ rows_of g rows.store.now rows.source due desk
 
 -- one more row is given, or those so far were all
 abbrev pub GivesNext : {S : Type 0} (g : Ghosts S) → RequestRows S g → RequestRows S g

@@ -20,7 +20,7 @@ use Rattle.store_tables.specs.Contents.Request.{last_id_terms, request}
 use Rattle.store_tables.specs.Contents.Stay.{stay_rows}
 use Rattle.store_tables.specs.Values.{IsNumberRow, IsWholeRow}
 use Rattle.store_tables.specs.Stands.{FirstStand, GoesOn, HasFront, HasTables, HoldsNow, KeepsBase}
-use Rattle.store_tables.specs.Stands.{Stand, filled}
+use Rattle.store_tables.specs.Stands.{Stand, WhereOpen, filled}
 use Rattle.store_tables.specs.declared.fault.StoreFault.{StoreFault}
 use Rattle.store_tables.specs.declared.fault.StoreFault.TheVariants.{Mismatch, Refused}
 use Rattle.store_tables.specs.declared.fault.StoreFault.TheVariants.{WrongVersion}
@@ -31,9 +31,8 @@ use Rattle.store_tables.specs.declared.fault.StoreFault.TheVariants.{WrongVersio
 abbrev pub PartTables : Contents → Database → Type 0
 PartTables c db = (n : ℕ) × (n ≤ table_count) × (db.schema ≡ front n) × Tables c (filled n db)
 
--- where the store is open and its disk is clean, they do
 abbrev pub HoldsPart : Contents → State → Type 0
-HoldsPart c s = HasCleanDisk s → IsTrue s.is_open → PartTables c s.now
+HoldsPart c = WhereOpen (λ s. PartTables c s.now)
 
 -- they hold this but for the version, of which there is no row
 abbrev pub UnnumberedTables : Contents → Database → Type 0
@@ -42,7 +41,7 @@ UnnumberedTables c db =
     × Tables c (numbered (filled n db))
 
 abbrev pub HoldsUnnumbered : Contents → State → Type 0
-HoldsUnnumbered c s = HasCleanDisk s → IsTrue s.is_open → UnnumberedTables c s.now
+HoldsUnnumbered c = WhereOpen (λ s. UnnumberedTables c s.now)
 
 -- ---- while they are made
 

@@ -16,8 +16,8 @@
 //!   key. `actors` is who made each entry, in no order.
 //! - `dated_requests` and `dated_requests_of` have each row with the due moment that the tables
 //!   keep. `requests_due_before` is ordered by due moment and number.
-//! - `rows_of_queue` and `rows_overdue` give such rows one at a time. A `RequestRows` may be dropped
-//!   at any row. After a fault it always answers `Refused`.
+//! - `rows_of_queue` and `rows_overdue` give such rows one at a time; those of a queue are read 64 at
+//!   once. A `RequestRows` may be dropped at any row. After a fault it always answers `Refused`.
 //! - `facts_for` is what a command sees of the desk (`facts_of`). Requests and entries are counted by
 //!   the last number, queues by `count(*)`.
 //! - `apply` writes a change in one transaction (`Applies`), `set_dues` due moments (`DatesDesk`). On
@@ -36,6 +36,7 @@ mod change;
 mod dependencies;
 mod dues;
 mod facts;
+mod filed;
 pub mod laws;
 mod limits;
 mod lists;

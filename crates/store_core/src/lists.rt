@@ -7,10 +7,11 @@ ghost use Rattle.store_tables.specs.Contents.Link.{ends_at, starts_at};
 ghost use Rattle.store_tables.specs.Contents.Request.{is_filed_in};
 ghost use Rattle.store_tables.specs.Contents.Stay.{request_stay, stays};
 ghost use Rattle.store_tables.specs.Contents.Watcher.{is_of_person};
-ghost use Rattle.store_tables.specs.Readings.{MismatchesInActors, MismatchesInDated};
-ghost use Rattle.store_tables.specs.Readings.{MismatchesInEntries, MismatchesInLinks};
-ghost use Rattle.store_tables.specs.Readings.{MismatchesInQueues, MismatchesInRequests};
+ghost use Rattle.store_tables.specs.Readings.{MismatchesInDated, MismatchesInEntries};
+ghost use Rattle.store_tables.specs.Readings.{MismatchesInLinks, MismatchesInRequests};
 ghost use Rattle.store_tables.specs.Readings.{MismatchesInStays, MismatchesInWatchers};
+ghost use Rattle.store_tables.specs.Readings.{TestsDated, TestsEntries, TestsLinks, TestsQueues};
+ghost use Rattle.store_tables.specs.Readings.{TestsRequests, TestsStays, TestsWatchers};
 ghost use Rattle.store_core.specs.Rows.{AreDueBefore, AreFiledIn, TellsDated, dated_rows};
 ghost use Rattle.store_core.specs.Seen.{state_of};
 
@@ -30,7 +31,7 @@ impl<S: Alter> Store<S> {
     pub fn queues(&mut self, alloc: Global) -> Result<Vec<QueueRow>, StoreFault>
         ensures listed { Tells (λ desk xs. xs.items ≡ desk.queues)
             (state_of S.Store self.old) (state_of S.Store self.new) result }
-        ensures mismatch { MismatchesInQueues
+        ensures tested { TestsQueues
             (state_of S.Store self.old) (state_of S.Store self.new) result }
         ensures kept { Spares (state_of S.Store self.old) (state_of S.Store self.new) }
     {
@@ -42,7 +43,7 @@ impl<S: Alter> Store<S> {
     pub fn requests(&mut self, alloc: Global) -> Result<Vec<RequestRow>, StoreFault>
         ensures listed { Tells (λ desk xs. xs.items ≡ request_rows desk)
             (state_of S.Store self.old) (state_of S.Store self.new) result }
-        ensures mismatch { MismatchesInRequests
+        ensures tested { TestsRequests
             (state_of S.Store self.old) (state_of S.Store self.new) result }
         ensures kept { Spares (state_of S.Store self.old) (state_of S.Store self.new) }
     {
@@ -75,7 +76,7 @@ impl<S: Alter> Store<S> {
     ) -> Result<Vec<(RequestRow, Option<Minute>)>, StoreFault>
         ensures listed { TellsDated (λ due desk xs. xs.items ≡ dated_rows due desk)
             (state_of S.Store self.old) (state_of S.Store self.new) result }
-        ensures mismatch { MismatchesInDated
+        ensures tested { TestsDated
             (state_of S.Store self.old) (state_of S.Store self.new) result }
         ensures kept { Spares (state_of S.Store self.old) (state_of S.Store self.new) }
     {
@@ -122,7 +123,7 @@ impl<S: Alter> Store<S> {
     pub fn links(&mut self, alloc: Global) -> Result<Vec<LinkRow>, StoreFault>
         ensures listed { Tells (λ desk xs. xs.items ≡ desk.links)
             (state_of S.Store self.old) (state_of S.Store self.new) result }
-        ensures mismatch { MismatchesInLinks
+        ensures tested { TestsLinks
             (state_of S.Store self.old) (state_of S.Store self.new) result }
         ensures kept { Spares (state_of S.Store self.old) (state_of S.Store self.new) }
     {
@@ -160,7 +161,7 @@ impl<S: Alter> Store<S> {
     pub fn watchers(&mut self, alloc: Global) -> Result<Vec<Watcher>, StoreFault>
         ensures listed { Tells (λ desk xs. xs.items ≡ watchers desk)
             (state_of S.Store self.old) (state_of S.Store self.new) result }
-        ensures mismatch { MismatchesInWatchers
+        ensures tested { TestsWatchers
             (state_of S.Store self.old) (state_of S.Store self.new) result }
         ensures kept { Spares (state_of S.Store self.old) (state_of S.Store self.new) }
     {
@@ -194,8 +195,7 @@ impl<S: Alter> Store<S> {
     }
 
     /// The stays of a request, in order, none where there is no such request. `Mismatch` where a
-    /// row is no stay, whose number isn't looked at, `Refused` where the store or memory refuses it.
-    /// The tables stay as they are.
+    /// row is no stay, `Refused` where the store or memory refuses it. The tables stay as they are.
     pub fn stays_of(&mut self, alloc: Global, id: u32) -> Result<Vec<Stay>, StoreFault>
         ensures listed { Tells (λ desk xs. xs.items ≡ stays_at desk id)
             (state_of S.Store self.old) (state_of S.Store self.new) result }
@@ -207,24 +207,25 @@ impl<S: Alter> Store<S> {
     }
 
     /// The stays of all requests, each with the number of its request, in the order of those
-    /// numbers and of each request's stays. `Mismatch` where a row is no stay, whose number isn't
-    /// looked at, `Refused` where the store or memory refuses it. The tables stay as they are.
+    /// numbers and of each request's stays. `Mismatch` where a row is no stay, `Refused` where the
+    /// store or memory refuses it. The tables stay as they are.
     pub fn stays(&mut self, alloc: Global) -> Result<Vec<(u32, Stay)>, StoreFault>
         ensures listed { Tells (λ desk xs. xs.items ≡ map request_stay (stays desk))
             (state_of S.Store self.old) (state_of S.Store self.new) result }
-        ensures mismatch { MismatchesInStays
+        ensures tested { TestsStays
             (state_of S.Store self.old) (state_of S.Store self.new) result }
         ensures kept { Spares (state_of S.Store self.old) (state_of S.Store self.new) }
     {
         stay::stays(alloc, &mut self.tables)
     }
 
-    /// Who made each entry, one name an entry, in no order that matters. `Mismatch` where one is no
-    /// text, `Refused` where the store or memory refuses it. The tables stay as they are.
+    /// Who made each entry, one name an entry, in no order that matters. `Mismatch` where a row is
+    /// no entry, whose texts aren't looked at, `Refused` where the store or memory refuses it. The
+    /// tables stay as they are.
     pub fn actors(&mut self, alloc: Global) -> Result<Vec<Text>, StoreFault>
         ensures listed { Tells (λ desk xs. IsPermutation (actors desk) xs.items)
             (state_of S.Store self.old) (state_of S.Store self.new) result }
-        ensures mismatch { MismatchesInActors
+        ensures tested { TestsEntries
             (state_of S.Store self.old) (state_of S.Store self.new) result }
         ensures kept { Spares (state_of S.Store self.old) (state_of S.Store self.new) }
     {

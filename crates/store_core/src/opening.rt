@@ -42,6 +42,7 @@ impl<S: Alter> Store<S> {
         Store {
             tables: Tables { conn },
             ahead: None,
+            filed: None,
         }
     }
 

@@ -1,5 +1,6 @@
-//! Rows of requests with their due moments, one at a time. The numbers are read first and kept in
-//! the store, and each row is then read by its number.
+//! Rows of requests with their due moments, one at a time. Those of a queue are read 64 at once. Of
+//! those that are due the numbers are read first, and each row is then read by its number. What is
+//! read ahead is kept in the store.
 ghost use Rattle.std.specs.Prelude.{◌+◌, ◌<◌, ◌≡◌, ◌≢◌, ◌^◌, ◌∷◌, [], Err, IfErr, IfOk, IsSome};
 ghost use Rattle.std.specs.Prelude.{None, Ok, filter, slice_get};
 ghost use Rattle.std.specs.Borrow.{RestsIfErr, sem};
@@ -9,11 +10,13 @@ ghost use Rattle.store_tables.specs.Readings.{MismatchesInNumbers};
 ghost use Rattle.store_tables.specs.declared.fault.StoreFault.{StoreFault};
 ghost use Rattle.store_tables.specs.Readings.{Blames, Reads};
 ghost use Rattle.store_core.specs.Ahead.{Begins, GivesNext, HasAhead, IsRefused};
-ghost use Rattle.store_core.specs.Ahead.{numbers_ahead, progress_after};
+ghost use Rattle.store_core.specs.Ahead.{TakesNext, numbers_ahead, progress_after, rows_ahead};
+ghost use Rattle.store_core.specs.Ahead.{rows_filed, rows_of};
 ghost use Rattle.store_core.specs.Rows.{AreDueBefore, AreFiledIn, TellsDated};
 ghost use Rattle.store_core.specs.Seen.{state_of};
 ghost use Rattle.store_core.specs.contracts.store.Store.{the_row};
 
+use crate::filed::Filed;
 use crate::store::Store;
 use desk_core::RequestRow;
 use hours_core::Minute;
@@ -21,7 +24,7 @@ use sqlite::Alter;
 use std::alloc::Global;
 use store_tables::StoreFault;
 use store_tables::tables::request::dated::dated_numbered;
-use store_tables::tables::request::numbers::{numbers_due_before, numbers_in};
+use store_tables::tables::request::numbers::numbers_due_before;
 use text_core::{Sequence, Text};
 
 /// How far rows are read.
@@ -35,17 +38,26 @@ pub enum Progress {
     Spent,
 }
 
+/// Where rows come from.
+#[derive(Drop)]
+enum Source {
+    /// The numbers that the store keeps, from this place on.
+    ByNumber(usize),
+    /// What the store keeps of the rows of a queue.
+    OfQueue,
+}
+
 /// Rows of requests with their due moments, one at a time. It may be dropped at any row.
 pub struct RequestRows<'s, S: Alter> {
     store: &'s mut Store<S>,
-    at: usize,
+    source: Source,
     progress: Progress,
 }
 
 impl<S: Alter> Store<S> {
-    /// The rows of a queue's requests, in the order of their numbers, of which none is given yet.
-    /// `Mismatch` where a number is none, `Refused` where the store or memory refuses it. The
-    /// tables stay as they are.
+    /// The rows of a queue's requests, in the order of their numbers, of which none is read yet.
+    /// `Refused` where out of memory. The tables stay as they are.
+    #[tactic(auto, using(store_tables::proofs::Spared::unread))]
     pub fn rows_of_queue(
         &mut self,
         alloc: Global,
@@ -57,8 +69,10 @@ impl<S: Alter> Store<S> {
             rows.store.ghost_name ≡ self.entry.ghost_name) }
         ensures begun { IfOk result (Begins S.Store (AreFiledIn name.now) self.old) }
     {
-        self.keep_numbers_in(alloc, name)?;
-        Ok(RequestRows::begin(self))
+        let Ok(queue) = name.clone() else {
+            return Err(StoreFault::Refused);
+        };
+        Ok(RequestRows::of_queue(self, alloc, queue))
     }
 
     /// The rows of the requests that are due before that moment, by due moment, and by number where
@@ -72,21 +86,7 @@ impl<S: Alter> Store<S> {
         ensures begun { IfOk result (Begins S.Store (AreDueBefore at) self.old) }
     {
         self.keep_numbers_due_before(alloc, at)?;
-        Ok(RequestRows::begin(self))
-    }
-
-    /// Reads and keeps the numbers of a queue's requests, in their order.
-    fn keep_numbers_in(&mut self, alloc: Global, name: &Text) -> Result<(), StoreFault>
-        ensures ahead { TellsDated
-            (λ due desk done. HasAhead S.Store (AreFiledIn name.now) self.new due desk)
-            (state_of S.Store self.old) (state_of S.Store self.new) result }
-        ensures mismatch { MismatchesInNumbers
-            (state_of S.Store self.old) (state_of S.Store self.new) result }
-        ensures kept { Spares (state_of S.Store self.old) (state_of S.Store self.new) }
-    {
-        let numbers = numbers_in(alloc, &mut self.tables, name)?;
-        self.ahead = Some(Sequence::from(numbers));
-        Ok(())
+        Ok(RequestRows::begin(self, Source::ByNumber(0)))
     }
 
     /// Reads and keeps the numbers of the requests that are due before that moment, by due moment.
@@ -127,6 +127,63 @@ impl<S: Alter> Store<S> {
             None => Err(StoreFault::Refused),
         }
     }
+
+    /// The next row by the numbers that are kept, from that place on, or none after the last.
+    /// `Mismatch` and `Refused` are as of `next`.
+    #[tactic(auto, using(store_tables::proofs::Spared::unread))]
+    fn next_numbered(
+        &mut self,
+        at: &mut usize,
+    ) -> Result<Option<(RequestRow, Option<Minute>)>, StoreFault>
+        ensures given { TellsDated (λ due desk row.
+            TakesNext (rows_ahead S.Store self.old at.old due desk) row
+            (rows_ahead S.Store self.new at.new due desk))
+            (state_of S.Store self.old) (state_of S.Store self.new) result }
+        ensures kept { Spares (state_of S.Store self.old) (state_of S.Store self.new) }
+        ensures blames { Blames (state_of S.Store self.old) (state_of S.Store self.new) result }
+    {
+        let Some(id) = self.number_ahead(*at) else {
+            return Ok(None);
+        };
+        let row = self.dated_request(id)?;
+        *at += 1;
+        Ok(Some(row))
+    }
+
+    /// The next row, or none after the last. `Mismatch` and `Refused` are as of `next`.
+    fn next_of(
+        &mut self,
+        source: &mut Source,
+    ) -> Result<Option<(RequestRow, Option<Minute>)>, StoreFault>
+        ensures given { TellsDated (λ due desk row.
+            TakesNext (rows_of S.Store self.old source.old due desk) row
+            (rows_of S.Store self.new source.new due desk))
+            (state_of S.Store self.old) (state_of S.Store self.new) result }
+        ensures kept { Spares (state_of S.Store self.old) (state_of S.Store self.new) }
+        ensures blames { Blames (state_of S.Store self.old) (state_of S.Store self.new) result }
+    {
+        match source {
+            Source::ByNumber(at) => self.next_numbered(at),
+            Source::OfQueue => self.next_filed(),
+        }
+    }
+
+    /// The next of the rows of a queue that are kept, or none after the last. `Mismatch` and
+    /// `Refused` are as of `next`.
+    #[tactic(auto, using(store_tables::proofs::Spared::unread))]
+    fn next_filed(&mut self) -> Result<Option<(RequestRow, Option<Minute>)>, StoreFault>
+        ensures given { TellsDated (λ due desk row.
+            TakesNext (rows_filed self.old.filed due desk) row
+            (rows_filed self.new.filed due desk))
+            (state_of S.Store self.old) (state_of S.Store self.new) result }
+        ensures kept { Spares (state_of S.Store self.old) (state_of S.Store self.new) }
+        ensures blames { Blames (state_of S.Store self.old) (state_of S.Store self.new) result }
+    {
+        match &mut self.filed {
+            None => Ok(None),
+            Some(filed) => filed.next(&mut self.tables),
+        }
+    }
 }
 
 /// The number at that place, if there is one.
@@ -142,23 +199,32 @@ fn number_at(numbers: &[u32], at: usize) -> Option<u32>
 }
 
 impl<'s, S: Alter> RequestRows<'s, S> {
-    fn begin(store: &'s mut Store<S>) -> RequestRows<'s, S>
+    /// The rows of that queue, of which none is read yet.
+    fn of_queue(store: &'s mut Store<S>, alloc: Global, queue: Text) -> RequestRows<'s, S>
+        ensures same_reference { result.store.ghost_name ≡ store.entry.ghost_name }
+        ensures begun { Begins S.Store (AreFiledIn queue) store.old result }
+    {
+        store.filed = Some(Filed::whole(alloc, queue));
+        RequestRows::begin(store, Source::OfQueue)
+    }
+
+    fn begin(store: &'s mut Store<S>, source: Source) -> RequestRows<'s, S>
         ensures same_reference { result.store.ghost_name ≡ store.entry.ghost_name }
         ensures same { result.store.now ≡ store.old }
-        ensures first { result.at ≡ 0 }
+        ensures source { result.source ≡ source }
         ensures reading { result.progress ≡ Progress.Reading }
     {
         RequestRows {
             store,
-            at: 0,
+            source,
             progress: Progress::Reading,
         }
     }
 
-    /// The next row, or none after the last, and then none again. `Mismatch` where it is no request
-    /// or its due moment is neither a minute nor absent, `Refused` where the store or memory
-    /// refuses it, or its number has no row or two; after a fault it is spent, and always `Refused`.
-    /// The tables stay as they are.
+    /// The next row, or none after the last, and then none again. `Mismatch` where it or one that is
+    /// read with it is no request or its due moment is neither a minute nor absent, `Refused` where
+    /// the store or memory refuses it, or its number has no row or two; after a fault it is spent,
+    /// and always `Refused`. The tables stay as they are.
     #[tactic(auto, using(store_tables::proofs::Spared::unread))]
     pub fn next(&mut self) -> Result<Option<(RequestRow, Option<Minute>)>, StoreFault>
         ensures same_reference { self.new.store.ghost_name ≡ self.old.store.ghost_name }
@@ -183,8 +249,7 @@ impl<'s, S: Alter> RequestRows<'s, S> {
         }
     }
 
-    /// The row by the number at the place where it stands.
-    #[tactic(auto, using(store_tables::proofs::Spared::unread))]
+    /// The next row, or none after the last.
     fn read(&mut self) -> Result<Option<(RequestRow, Option<Minute>)>, StoreFault>
         requires { self.old.progress ≡ Progress.Reading }
         ensures same_reference { self.new.store.ghost_name ≡ self.old.store.ghost_name }
@@ -196,14 +261,11 @@ impl<'s, S: Alter> RequestRows<'s, S> {
         ensures blames { Blames
             (state_of S.Store self.old.store.now) (state_of S.Store self.new.store.now) result }
     {
-        let Some(id) = self.store.number_ahead(self.at) else {
-            self.progress = Progress::Over;
-            return Ok(None);
-        };
-        match self.store.dated_request(id) {
-            Ok(row) => {
-                self.at += 1;
-                Ok(Some(row))
+        match self.store.next_of(&mut self.source) {
+            Ok(Some(row)) => Ok(Some(row)),
+            Ok(None) => {
+                self.progress = Progress::Over;
+                Ok(None)
             }
             Err(fault) => {
                 self.progress = Progress::Spent;
@@ -219,7 +281,7 @@ impl<S: Alter> Drop for RequestRows<'_, S> {
     {
         let RequestRows {
             store: _,
-            at: _,
+            source: _,
             progress: _,
         } = self;
     }

@@ -1,4 +1,5 @@
 //! The store of a desk: its tables, over one connection.
+use crate::filed::Filed;
 use sqlite::Alter;
 use store_tables::Tables;
 use text_core::Sequence;
@@ -7,6 +8,8 @@ use text_core::Sequence;
 #[derive(Drop)]
 pub struct Store<S: Alter> {
     pub(crate) tables: Tables<S>,
-    /// The numbers by which `RequestRows` reads, once there were any.
+    /// The numbers by which `rows_overdue` reads, once there were any.
     pub(crate) ahead: Option<Sequence<u32>>,
+    /// The rows of the queue by which `rows_of_queue` reads, once there was one.
+    pub(crate) filed: Option<Filed>,
 }

@@ -1,24 +1,24 @@
 -- One number that is read: the last one, or 0 where there is none; and how many rows there are.
 use Rattle.std.proofs.Common.{◌≡◌, Bool, true, List, None, Some, refl, subst, arith, codes, filter}
-use Rattle.std.proofs.Common.{◌∙◌, [], ◌∷◌, inl, inr, ap, sym, ◌≤◌, Ok, map, ◌<◌, min, ◌^◌}
+use Rattle.std.proofs.Common.{◌∙◌, [], ◌∷◌, inl, inr, ap, sym, ◌≤◌, Ok, map, ◌<◌, min, ◌^◌, Ordering}
 use Rattle.std.proofs.Common.{ℕ, Option, Result, length, option_to_list, nat_cmp, filter, unwrap_or}
 use Rattle.std.specs.List.{AllZip}
 use Rattle.sqlite.specs.Query.{output, output_cmp, IsAnswer, page, Output}
 use Rattle.sqlite.specs.Order.{Row, column}
 use Rattle.sqlite.specs.State.{State, HasCleanDisk, Shown}
 use Rattle.sqlite.specs.Term.{Term, col, Env}
-use Rattle.store_tables.specs.Picked.{IsGreatest, ShowsGreatest, passes, shows}
+use Rattle.store_tables.specs.Picked.{AreFirst, IsGreatest, ShowsGreatest, passes, shows}
 use Rattle.store_tables.specs.Values.{IsNumberRow, ReadsCount, count_value}
 use Rattle.store_tables.specs.declared.fault.StoreFault.{StoreFault}
 use Rattle.store_tables.specs.Contents.{desk_schema}
-use Rattle.store_tables.specs.Query.{counting, counts, last_of}
+use Rattle.store_tables.specs.Query.{counting, counts, first_of, last_of, reads}
 use Rattle.store_tables.specs.Readings.{Reads}
-use Rattle.store_tables.proofs.ReadingLemmas.{every, if_ok, last_rows}
+use Rattle.store_tables.proofs.ReadingLemmas.{every, first_rows, if_ok, last_rows}
 use Rattle.store_tables.proofs.RowLemmas.{Asked, Found, TableOf, fails_of}
 use Rattle.store_tables.proofs.StandLemmas.{shown_tables, tables_shown}
-use Rattle.store_tables.proofs.ReadLemmas.{shows_greatest}
+use Rattle.store_tables.proofs.ReadLemmas.{first_read, lists_values, shows_greatest}
 use Rattle.store_tables.proofs.Meaning.{Selects}
-use Rattle.store_tables.proofs.PickedLemmas.{last_by, bare, matched}
+use Rattle.store_tables.proofs.PickedLemmas.{bare, first_by, last_by, matched}
 use Rattle.sqlite_tied.proofs.RuleLemmas.{and_true}
 use Rattle.std.proofs.lemmas.List.{length-map}
 use Rattle.std.proofs.lemmas.List.Sorted.{length_permutation}
@@ -71,6 +71,34 @@ greatest t key {text} {params} {test = test} {at} {old} {new} {r} asked means sa
           (asked.read.read now);
       fails = fails_of t.tree (at ∷ []) (last_rows text params t.tree test at means old new
           asked.leaves.spares.clean) same r asked.read;
+      leaves = asked.leaves;
+    }
+
+-- the first of the values that pass
+pub lists_first : {K V X Same : Type 0} (t : TableOf K V) (most : ℕ) {values : X → List V}
+    {text : List ℕ} {params : Row} {names : List (List ℕ)} {test : List Term} {old new : State}
+    {r : Result X StoreFault} {cmp : V → V → Ordering}
+    → Asked Same t.Reads t.IsValue values text params old new r → (order : List Term)
+    → Selects text (first_of most t.tree test t.terms order) names
+    → (passing : V → Bool) → ((k : K) → passes test params (t.row k) ≡ passing (t.value k))
+    → ((a b : K) → output_cmp (reads t.tree test t.terms order)
+    (output (reads t.tree test t.terms order) (params ∷ t.row a ∷ []))
+    (output (reads t.tree test t.terms order) (params ∷ t.row b ∷ []))
+    ≡ cmp (t.value a) (t.value b))
+    → Found (λ c x. AreFirst most cmp (filter passing (t.list c)) (values x)) t.tree t.terms
+    t.IsValue old new r
+lists_first t most {values} {text} {params} {test = test} {old} {new} {r} {cmp} asked order means
+    passing tests orders = record {
+      told = λ c holding now. if_ok r (λ x it.
+          let tables = tables_shown c text params old new it.0 asked.leaves.spares.clean holding now
+          it.1 in
+          let picked = first_by text params old new tables.schema most t.tree test t.terms order
+          means it.0 it.1 in
+          let all = lists_values t.view passing tests (t.shown params) (t.kept c old.now tables)
+          picked.1 cmp orders in
+          first_read t.view t.Reads t.back most all (rw picked.2 at it.2)) (asked.read.read now);
+      fails = fails_of t.tree t.terms (first_rows text params most t.tree test t.terms order means
+          old new asked.leaves.spares.clean) (t.same params) r asked.read;
       leaves = asked.leaves;
     }
 

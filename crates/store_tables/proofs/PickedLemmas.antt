@@ -13,8 +13,8 @@ use Rattle.sqlite.specs.State.{State, Shown}
 use Rattle.sqlite.proofs.Callers.{reads_as}
 use Rattle.sqlite_trees.proofs.ListLemmas.{map-map, pull_back}
 use Rattle.store_tables.specs.Contents.{desk_schema}
-use Rattle.store_tables.specs.Query.{last_of, reads}
-use Rattle.store_tables.specs.Picked.{passes, Picks, PicksLast}
+use Rattle.store_tables.specs.Query.{first_of, last_of, reads}
+use Rattle.store_tables.specs.Picked.{passes, Picks, PicksLast, shows}
 use Rattle.store_tables.proofs.Meaning.{Selects, SelectsIn}
 
 -- a query with no tables of its own reads those of the database
@@ -62,6 +62,37 @@ picked_by {schema} sql params old new has tree test project order is rows h =
     let got = reads_as sql params old new schema has _ is.is is.plain is.unlisted rows h in
     rw (bare old.now.trees tree) at
     (picks tree test project order params (overlay old.now.trees []) rows (got.answer Null))
+
+-- and so with the first rows
+pub picks_first : (count tree : ℕ) (test project order : List Term) (params : Row) (db : Trees)
+    (rows : List Row) → IsAnswer (first_of count tree test project order) db params rows
+    → (all : List Row) × Picks tree test project order params (db tree) all
+    × (rows ≡ take count all)
+picks_first count tree test project order params db rows a =
+    let q = first_of count tree test project order in
+    let back = put_out q test params (db tree) a.grouped a.distinct a.same in (
+      map (shows project params) back.0,
+      record {
+        picked = back.0;
+        same = back.1;
+        sorted = subst (IsSorted (output_cmp q)) back.2 a.sorted;
+        shown = refl;
+      },
+      a.shown ∙ ap (λ os. take count (map (λ (o : Output). o.1) os)) back.2
+          ∙ ap (take count) (map-map (λ (o : Output). o.1) (λ r. output q (params ∷ r ∷ [])) back.0),
+    )
+
+pub first_by : {names : List (List ℕ)} (sql : List ℕ) (params : Row) (old new : State)
+    (has : old.now.schema ≡ desk_schema) (count tree : ℕ) (test project order : List Term)
+    → Selects sql (first_of count tree test project order) names → (rows : List Row)
+    → Shown sql params old new rows
+    → (all : List Row) × Picks tree test project order params (old.now.trees tree) all
+    × (rows ≡ take count all)
+first_by sql params old new has count tree test project order is rows h =
+    let got = reads_as sql params old new desk_schema has _ is.is is.plain is.unlisted rows h in
+    rw (bare old.now.trees tree) at
+    (picks_first count tree test project order params (overlay old.now.trees []) rows
+    (got.answer Null))
 
 pub picks_last : (tree : ℕ) (test : List Term) (at : Term) (params : Row) (db : Trees)
     (rows : List Row) → IsAnswer (last_of tree test at) db params rows

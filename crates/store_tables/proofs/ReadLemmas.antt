@@ -5,7 +5,8 @@ use Rattle.std.proofs.Common.{[], filter, length, get_or, subst₂, IsPermutatio
 use Rattle.std.specs.Option.{option_to_list}
 use Rattle.std.specs.List.{AllZip}
 use Rattle.std.specs.Ordering.{is_lt, nat_cmp}
-use Rattle.std.proofs.lemmas.List.{get_or-map, map-id, length-map, nil_from_length, take_more}
+use Rattle.std.proofs.lemmas.List.{get_or-map, map-id, length-map, nil_from_length, take-map}
+use Rattle.std.proofs.lemmas.List.{take_more}
 use Rattle.std.proofs.lemmas.List.Sorted.{IsPermutation-map, IsPermutation-trans, IsPermutation-sym}
 use Rattle.std.proofs.lemmas.List.Sorted.{length_permutation, ranks_by, sorted_far}
 use Rattle.std.proofs.lemmas.List.Sorted.{Contains-permutation}
@@ -19,7 +20,7 @@ use Rattle.store_tables.specs.Kept.{Holds}
 use Rattle.store_tables.specs.Query.{last_of, reads}
 use Rattle.store_tables.specs.Values.{count_value}
 use Rattle.store_tables.specs.Picked.{passes, shows, Picks, Shows, Lists, AreOrdered, PicksLast}
-use Rattle.store_tables.specs.Picked.{ShowsGreatest}
+use Rattle.store_tables.specs.Picked.{AreFirst, ShowsGreatest}
 use Rattle.store_tables.proofs.KeptLemmas.{found, unmapped_one}
 use Rattle.std.proofs.lemmas.Map.Keys.{ge_from_not_lt}
 use Rattle.std.proofs.lemmas.Cmp.{back_total, nat_cmp_total}
@@ -104,6 +105,16 @@ module _ {X : Type 0} (view : X → Row) (Reads : Row → X → Type 0)
   all_read {cmp} {xs} {rows} {vs} h zip = subst (AreOrdered cmp xs)
       (read_same h.values vs (subst (λ rs. AllZip Reads rs vs) h.are zip)) h.ordered
 
+  -- those that were read of the first rows are the first of them
+  pub first_read : {cmp : X → X → Ordering} {xs : List X} {all : List Row} {vs : List X} (count : ℕ)
+      → Lists cmp view xs all → AllZip Reads (take count all) vs → AreFirst count cmp xs vs
+  first_read {vs = vs} count h zip = record {
+    values = h.values;
+    ordered = h.ordered;
+    are = sym (read_same (take count h.values) vs (subst (λ rs. AllZip Reads rs vs)
+        (ap (take count) h.are ∙ take-map view count h.values) zip));
+  }
+
   pub all_shown : {xs : List X} {rows : List Row} {vs : List X} → Shows view xs rows
       → AllZip Reads rows vs → IsPermutation xs vs
   all_shown {xs} {rows} {vs} h zip = subst (IsPermutation xs)
@@ -125,6 +136,22 @@ pub read_more : {X : Type 0} (Reads : Row → X → Type 0) (rows : List Row) (v
 read_more Reads rows vs i row v now low is pushed zip reads =
     subst₂ (AllZip Reads) (sym (take_more rows i row low ∙ ap (λ r. take i rows ++ r ∷ [])
     (sym is))) (sym pushed) (zip_more Reads (take i rows) vs row v zip reads)
+
+-- what is so of each of some rows, and of the next one
+has_more : {X : Type 0} (P : X → Type 0) (xs : List X) (x : X) → ((y : X) → Has xs y → P y) → P x
+    → (y : X) → Has (xs ++ x ∷ []) y → P y
+has_more P [] x all p y (inl same) = subst P (sym same) p
+has_more P [] x all p y (inr none) = absurd none
+has_more P (z ∷ xs) x all p y (inl same) = all y (inl same)
+has_more P (z ∷ xs) x all p y (inr later) = has_more P xs x (λ w has. all w (inr has)) p y later
+
+pub shown_more : (IsValue : Row → Type 0) (rows : List Row) (i : ℕ) (row : Row) → i < length rows
+    → row ≡ get_or rows i row → ((r : Row) → Has (take i rows) r → IsValue r) → IsValue row
+    → (r : Row) → Has (take (i + 1) rows) r → IsValue r
+shown_more IsValue rows i row low is all value =
+    subst (λ (rs : List Row). (r : Row) → Has rs r → IsValue r)
+    (sym (take_more rows i row low ∙ ap (λ r. take i rows ++ r ∷ []) (sym is)))
+    (has_more IsValue (take i rows) row all value)
 
 pub has_permuted : {X : Type 0} (xs ys : List X) (x : X) → IsPermutation xs ys → Has xs x → Has ys x
 has_permuted xs ys x same has = has_contained ys x

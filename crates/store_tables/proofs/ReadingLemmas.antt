@@ -1,6 +1,6 @@
 -- What each query shows of the desk that the tables stand for.
 use Rattle.std.proofs.Common.{IsPermutation, map, ◌≡◌, ℕ, true, List, [], ◌∷◌, filter, Ok, Err}
-use Rattle.std.proofs.Common.{Result, IfOk, IfErr, IsTrue, inl, inr, take, refl, subst}
+use Rattle.std.proofs.Common.{Result, IfOk, IfErr, IsTrue, inl, inr, take, refl, subst, suc, zero}
 use Rattle.sqlite.specs.Order.{Row}
 use Rattle.sqlite.specs.Schema.{Schema}
 use Rattle.sqlite.specs.Term.{Term}
@@ -10,10 +10,10 @@ use Rattle.sqlite_rules.proofs.ProbeLemmas.{has_mapped}
 use Rattle.sqlite_rules.proofs.ListLemmas.{has_filtered}
 use Rattle.sqlite.specs.State.{State, HasCleanDisk, Shown}
 use Rattle.sqlite_trees.proofs.ListLemmas.{filter_all, all_of}
-use Rattle.store_tables.specs.Query.{last_of, reads}
+use Rattle.store_tables.specs.Query.{first_of, last_of, reads}
 use Rattle.store_tables.specs.Picked.{passes, shows}
 use Rattle.store_tables.specs.Stands.{HasTables}
-use Rattle.store_tables.proofs.PickedLemmas.{picked_by, last_by}
+use Rattle.store_tables.proofs.PickedLemmas.{first_by, picked_by, last_by}
 use Rattle.store_tables.proofs.ReadLemmas.{has_permuted}
 use Rattle.store_tables.proofs.StandLemmas.{shown_open}
 use Rattle.store_tables.proofs.Meaning.{Selects, SelectsIn}
@@ -64,6 +64,28 @@ last_rows sql params tree test at is old new clean has c rows h row within =
     let p = last_by sql params old new (has (clean c) live) tree test at is rows h in
     let it = has_picked test (at ∷ []) params (old.now.trees tree) p.picked p.same row
     (has_first _ row (subst (λ rs. Has rs row) p.shown within)) in
+    (live, it.0, it.1, it.2)
+
+-- and of the first rows
+has_taken : {X : Type 0} (n : ℕ) (xs : List X) (x : X) → Has (take n xs) x → Has xs x
+has_taken zero xs x h = absurd h
+has_taken (suc n) [] x h = absurd h
+has_taken (suc n) (y ∷ ys) x (inl same) = inl same
+has_taken (suc n) (y ∷ ys) x (inr h) = inr (has_taken n ys x h)
+
+pub first_rows : {names : List (List ℕ)} (sql : List ℕ) (params : Row) (count tree : ℕ)
+    (test project order : List Term)
+    → Selects sql (first_of count tree test project order) names
+    → (old new : State) → (HasCleanDisk new → HasCleanDisk old) → HasTables old → HasCleanDisk new
+    → (rows : List Row) → Shown sql params old new rows → (row : Row) → Has rows row
+    → IsTrue old.is_open × (r : Row) × Has (old.now.trees tree) r × (row ≡ shows project params r)
+first_rows sql params count tree test project order is old new clean has c rows h row within =
+    let live = shown_open sql params old new rows h in
+    let p = first_by sql params old new (has (clean c) live) count tree test project order is rows h
+    in
+    let it = has_picked test project params (old.now.trees tree) p.1.picked p.1.same row
+    (subst (λ rs. Has rs row) p.1.shown
+    (has_taken count p.0 row (subst (λ rs. Has rs row) p.2 within))) in
     (live, it.0, it.1, it.2)
 
 pub if_ok : {T E : Type 0} {P Q : T → Type 0} (r : Result T E) → ((x : T) → P x → Q x) → IfOk r P

@@ -3,24 +3,23 @@
 use Rattle.std.proofs.Common.{◌≡◌, ◌≢◌, ℕ, true, List, ◌∷◌, IfOk, IfErr, subst, arith, IsTrue}
 use Rattle.std.proofs.Common.{Bool, filter, IsPermutation, Option, Result, Ordering, option_to_list}
 use Rattle.std.proofs.Common.{[], ◌∷◌, map, Ok, Err, ap, inl, refl, sym, ◌∙◌}
+use Rattle.std.proofs.lemmas.List.Sorted.{IsPermutation-map}
 use Rattle.std.specs.List.{AllZip}
 use Rattle.sqlite.specs.Effect.{Database}
 use Rattle.sqlite.specs.Order.{Row}
 use Rattle.sqlite.specs.Query.{output, output_cmp}
 use Rattle.sqlite.specs.State.{State, HasCleanDisk, Shown}
 use Rattle.sqlite.specs.Term.{Term}
-use Rattle.sqlite_trees.proofs.ListLemmas.{all_of, filter_all}
 use Rattle.sqlite_rules.specs.Lists.{Has}
 use Rattle.sqlite_rules.proofs.ProbeLemmas.{has_mapped, mapped_has}
-use Rattle.store_tables.specs.Calls.{FailsIn, Inside, Leaves, OnlyRefuses, ReadsRows, WasClean}
+use Rattle.store_tables.specs.Calls.{FailsIn, Inside, Leaves, OnlyRefuses, ReadsRows, TestsAll}
+use Rattle.store_tables.specs.Calls.{WasClean}
 use Rattle.store_tables.specs.Contents.{Contents, HasBadRow, HasBadRows, Tables}
 use Rattle.store_tables.specs.Kept.{Holds}
 use Rattle.store_tables.specs.Picked.{AreOrdered, AreParts, Lists, Picks, passes, shows, Shows}
-use Rattle.store_tables.specs.Contents.Request.{last_id_terms}
 use Rattle.store_tables.specs.Query.{reads}
-use Rattle.store_tables.specs.Values.{IsNumberRow, ReadsCount, count_value}
 use Rattle.store_tables.specs.Readings.{Blames, Reads}
-use Rattle.store_tables.specs.Stands.{HasTables}
+use Rattle.store_tables.specs.Stands.{HasTables, WhereOpen}
 use Rattle.store_tables.specs.declared.fault.StoreFault.{StoreFault}
 use Rattle.store_tables.specs.declared.fault.StoreFault.TheVariants.{Mismatch, Refused}
 use Rattle.store_tables.specs.declared.fault.StoreFault.TheVariants.{WrongVersion}
@@ -32,18 +31,24 @@ use Rattle.store_tables.proofs.TestLemmas.{order_moments, order_numbers}
 use Rattle.sqlite_value.proofs.OrderLemmas.{then-Equal, value_cmp-Text}
 use Rattle.store_tables.proofs.PickedLemmas.{picked_by}
 use Rattle.store_tables.proofs.ReadingLemmas.{every, if_err, if_ok, table_rows}
-use Rattle.store_tables.proofs.StandLemmas.{Holding, tables_shown}
+use Rattle.store_tables.proofs.StandLemmas.{shown_open, tables_shown}
+
+both_ok : {T E : Type 0} (P Q : T → Type 0) (r : Result T E) → IfOk r P → IfOk r Q
+    → IfOk r (λ x. P x × Q x)
+both_ok P Q (Ok x) p q = (p, q)
+both_ok P Q (Err e) p q = tt
 
 -- What was read of the rows of a query.
 pub rows_read : {X V : Type 0} {Reads : Row → V → Type 0} {IsValue : Row → Type 0}
     {values : X → List V} {sql : List ℕ} {params : Row} {old new : State} (rows : List Row)
     → (HasCleanDisk new → Shown sql params old new rows) → (result : Result X StoreFault)
     → IfOk result (λ x. AllZip Reads rows (values x))
+    → IfOk result (λ x. (row : Row) → Has rows row → IsValue row)
     → IfErr result (λ e. e ≡ Mismatch → (row : Row) × Has rows row × ¬ IsValue row)
     → IfErr result (λ e. e ≢ WrongVersion)
     → ReadsRows Reads IsValue values sql params old new result
-rows_read rows shown r read mismatch known = record {
-  read = λ clean. if_ok r (λ x zip. (rows, shown clean, zip)) read;
+rows_read rows shown r read value mismatch known = record {
+  read = λ clean. if_ok r (λ x it. (rows, shown clean, it.0, it.1)) (both_ok _ _ r read value);
   mismatch = λ clean. if_err r
       (λ e bad wrong. let it = bad wrong in (rows, shown clean, it.0, it.1, it.2)) mismatch;
   known = known;
@@ -182,7 +187,8 @@ Asked Same ReadsRow IsValue values text params old new r = record {
 -- columns are no value, and all tables are left.
 pub record Found {X : Type 0} (P : Contents → X → Type 0) (tree : ℕ) (terms : List Term)
     (IsValue : Row → Type 0) (old new : State) (r : Result X StoreFault) : Type 0 where
-  pub told : (c : Contents) → Holding c old → HasCleanDisk new → IfOk r (P c)
+  pub told : (c : Contents) → WhereOpen (λ s. Tables c s.now) old → HasCleanDisk new
+      → IfOk r (P c)
   pub fails : FailsIn tree terms IsValue old new r
   pub leaves : Leaves old new r
 
@@ -220,8 +226,8 @@ module _ {K V X Y Same : Type 0} (t : TableOf K V) {values : X → List Y}
     (means : Selects text (reads t.tree test terms order) names)
     (same : (row : Row) → shows terms params row ≡ shows terms [] row)
   where
-    found : {P : Contents → X → Type 0} → ((c : Contents) → Holding c old → HasCleanDisk new
-        → (x : X) (rows : List Row) → Shown text params old new rows
+    found : {P : Contents → X → Type 0} → ((c : Contents) → WhereOpen (λ s. Tables c s.now) old
+        → HasCleanDisk new → (x : X) (rows : List Row) → Shown text params old new rows
         → AllZip ReadsRow rows (values x) → P c x) → Found P t.tree terms IsValue old new r
     found so = record {
       told = λ c holding now. if_ok r (λ x it. so c holding now x it.0 it.1 it.2)
@@ -231,8 +237,8 @@ module _ {K V X Y Same : Type 0} (t : TableOf K V) {values : X → List Y}
       leaves = asked.leaves;
     }
 
-    module _ (c : Contents) (holding : Holding c old) (now : HasCleanDisk new) (rows : List Row)
-        (h : Shown text params old new rows)
+    module _ (c : Contents) (holding : WhereOpen (λ s. Tables c s.now) old) (now : HasCleanDisk new)
+        (rows : List Row) (h : Shown text params old new rows)
       where
         tables : Tables c old.now
         tables = tables_shown c text params old new rows asked.leaves.spares.clean holding now h
@@ -311,6 +317,48 @@ finds t {params = params} asked means passing tests =
     one_read t.view t.Reads t.back x (shown_in_any t asked [] means (t.same params) c holding
     now rows h passing tests (t.shown params)))
 
+-- ---- a query on a whole table
+
+-- what was read of each row shows that it isn't bad
+tests_all : {X Y : Type 0} {ReadsPart : Row → Y → Type 0} {IsValue : Row → Type 0}
+    {values : X → List Y} {text : List ℕ} {names : List (List ℕ)} {old new : State} (tree : ℕ)
+    (terms order : List Term) → Selects text (reads tree [] terms order) names → WasClean old new
+    → (r : Result X StoreFault) → ReadsRows ReadsPart IsValue values text [] old new r
+    → HasTables old → HasCleanDisk new → IfOk r (λ x. ¬ HasBadRow tree terms IsValue old.now)
+tests_all {text = text} {old = old} {new} tree terms order means was r read has now =
+    if_ok r (λ x it bad.
+    let rows = it.0 in
+    let live = shown_open text [] old new rows it.1 in
+    let from = old.now.trees tree in
+    let p = picked_by text [] old new (has (was now) live) tree [] terms order means rows it.1 in
+    let within = has_permuted from p.picked bad.0
+    (subst (λ (rs : List Row). IsPermutation rs p.picked) (every from) p.same) bad.1 in
+    bad.2 (it.3 (shows terms [] bad.0) (subst (λ (rs : List Row). Has rs (shows terms [] bad.0))
+    (sym p.shown) (mapped_has (shows terms []) p.picked bad.0 within)))) (read.read now)
+
+-- it is answered, and each row is tested
+abbrev pub Tested : {X : Type 0} → (Contents → X → Type 0) → ℕ → List Term → (Row → Type 0)
+    → State → State → Result X StoreFault → Type 0
+Tested P tree terms IsValue old new r = record {
+  read : Reads P old new r;
+  tested : TestsAll tree terms IsValue old new r;
+}
+
+pub tested : {K V X Y Same : Type 0} {P : Contents → X → Type 0} (t : TableOf K V)
+    {values : X → List Y} {ReadsRow : Row → Y → Type 0} {text : List ℕ} {names : List (List ℕ)}
+    {old new : State} {r : Result X StoreFault}
+    → Asked Same ReadsRow t.IsValue values text [] old new r → (order : List Term)
+    → Selects text (reads t.tree [] t.terms order) names
+    → Found P t.tree t.terms t.IsValue old new r → Tested P t.tree t.terms t.IsValue old new r
+tested t {r = r} asked order means it = record {
+  read = (answered t it).read;
+  tested = record {
+    fails = it.fails;
+    good = tests_all t.tree t.terms order means asked.leaves.spares.clean r asked.read;
+    same = it.leaves.same;
+  };
+}
+
 -- the values of all rows
 pub lists_all : {K V X Same : Type 0} (t : TableOf K V) {values : X → List V} {text : List ℕ}
     {names : List (List ℕ)} {old new : State} {r : Result X StoreFault} {cmp : V → V → Ordering}
@@ -319,8 +367,45 @@ pub lists_all : {K V X Same : Type 0} (t : TableOf K V) {values : X → List V} 
     → output_cmp (reads t.tree [] t.terms order)
     (output (reads t.tree [] t.terms order) ([] ∷ t.row a ∷ []))
     (output (reads t.tree [] t.terms order) ([] ∷ t.row b ∷ [])) ≡ cmp (t.value a) (t.value b))
-    → Found (λ c x. AreOrdered cmp (t.list c) (values x)) t.tree t.terms t.IsValue old new r
+    → Tested (λ c x. AreOrdered cmp (t.list c) (values x)) t.tree t.terms t.IsValue old new r
 lists_all {V = V} t {values = values} {old = old} {new} {r} {cmp} asked order means orders =
-    subst (λ (list : Contents → List V). Found (λ c x. AreOrdered cmp (list c) (values x)) t.tree
+    tested t asked order means
+    (subst (λ (list : Contents → List V). Found (λ c x. AreOrdered cmp (list c) (values x)) t.tree
     t.terms t.IsValue old new r) (λ i c. every (t.list c) i)
-    (lists t asked order means (λ _. true) (λ k. refl) orders)
+    (lists t asked order means (λ _. true) (λ k. refl) orders))
+
+-- a part of each value, in the order of the values
+pub parts_all : {K V X Y Same : Type 0} (t : TableOf K V) {values : X → List Y}
+    {ReadsRow : Row → Y → Type 0} {text : List ℕ} {names : List (List ℕ)} {old new : State}
+    {r : Result X StoreFault} {cmp : V → V → Ordering} {part : V → Y}
+    → Asked Same ReadsRow t.IsValue values text [] old new r → (order : List Term)
+    → Selects text (reads t.tree [] t.terms order) names
+    → ((a : V) (b : Y) → ReadsRow (t.view a) b → b ≡ part a)
+    → ((a b : K) → output_cmp (reads t.tree [] t.terms order)
+    (output (reads t.tree [] t.terms order) ([] ∷ t.row a ∷ []))
+    (output (reads t.tree [] t.terms order) ([] ∷ t.row b ∷ [])) ≡ cmp (t.value a) (t.value b))
+    → Tested (λ c x. AreParts part cmp (t.list c) (values x)) t.tree t.terms t.IsValue old new r
+parts_all {V = V} t {values = values} {old = old} {new} {r} {cmp} {part} asked order means back
+    orders =
+    tested t asked order means
+    (subst (λ (list : Contents → List V). Found (λ c x. AreParts part cmp (list c) (values x))
+    t.tree t.terms t.IsValue old new r) (λ i c. every (t.list c) i)
+    (parts t asked order means (t.same []) (λ _. true) (λ k. refl) (t.shown []) back orders))
+
+-- and in no order that matters
+pub parts_any : {K V X Y Same : Type 0} (t : TableOf K V) {values : X → List Y}
+    {ReadsRow : Row → Y → Type 0} {text : List ℕ} {names : List (List ℕ)} {old new : State}
+    {r : Result X StoreFault} {part : V → Y}
+    → Asked Same ReadsRow t.IsValue values text [] old new r
+    → Selects text (reads t.tree [] t.terms []) names
+    → ((a : V) (b : Y) → ReadsRow (t.view a) b → b ≡ part a)
+    → Tested (λ c x. IsPermutation (map part (t.list c)) (values x)) t.tree t.terms t.IsValue old
+    new r
+parts_any {V = V} t {values = values} {ReadsRow} {part = part} asked means back =
+    tested t asked [] means (found t asked [] means (t.same []) (λ c holding now x rows h read.
+    let those = shown_in_any t asked [] means (t.same []) c holding now rows h (λ _. true)
+    (λ k. refl) (t.shown []) in
+    let are = parts_are t.view part ReadsRow back those.values (values x) (rw those.are at read) in
+    let all = subst (λ (vs : List V). IsPermutation vs those.values) (every (t.list c)) those.same in
+    subst (λ ys. IsPermutation (map part (t.list c)) ys) (sym are)
+    (IsPermutation-map part (t.list c) those.values all)))

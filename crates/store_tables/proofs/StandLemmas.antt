@@ -18,7 +18,7 @@ use Rattle.std.specs.Prelude.{fold}
 use Rattle.store_tables.specs.Calls.{AreLeft, ReadsAlone}
 use Rattle.store_tables.specs.Contents.{Contents, Tables}
 use Rattle.store_tables.specs.Stands.{HasTables, Stand, GoesOn, HoldsNow, GoesBack}
-use Rattle.store_tables.specs.Stands.{KeepsBase, FirstStand, FirstTables}
+use Rattle.store_tables.specs.Stands.{KeepsBase, FirstStand, FirstTables, WhereOpen}
 
 -- what was open before, by what a query showed
 shown_was_open : (old new : State) (sql : List ℕ) (c : Compiled) (full : Row) (rows : List Row)
@@ -30,17 +30,10 @@ pub was_clean : (old new : State) (P : Trees → Type 0) → Survives old new P 
     → HasCleanDisk old
 was_clean old new P s c = omega (arith, s.clean)
 
--- the tables hold this, whatever the last commit left
-abbrev pub Holding : Contents → State → Type 0
-Holding c s = HasCleanDisk s → IsTrue s.is_open → Tables c s.now
-
--- the last commit left this, so that a rollback goes back to it
-abbrev pub Rests : Contents → State → Type 0
-Rests c s = HasCleanDisk s → IsTrue s.is_open → Tables c s.committed
-
 -- a query that showed rows ran on the tables
 pub tables_shown : (d : Contents) (sql : List ℕ) (params : Row) (old new : State) (rows : List Row)
-    → (HasCleanDisk new → HasCleanDisk old) → Holding d old → HasCleanDisk new
+    → (HasCleanDisk new → HasCleanDisk old) → WhereOpen (λ s. Tables d s.now) old
+    → HasCleanDisk new
     → Shown sql params old new rows → Tables d old.now
 unfolding Shown
 tables_shown d sql params old new rows clean holding c h = holding (clean c)
@@ -86,13 +79,13 @@ back_both P old new rests back c o =
     let was = rests it.0 it.1 in
     (subst P (sym it.2) was, subst P (sym it.3) was)
 
-pub back_stands : (d : Contents) (old new : State) → Rests d old → GoesBack old new → Stand d new
+pub back_stands : (d : Contents) (old new : State) → WhereOpen (λ s. Tables d s.committed) old
+    → GoesBack old new → Stand d new
 back_stands d = back_both (Tables d)
 
 -- six tables too
 pub back_first : (d : Contents) (old new : State)
-    → (HasCleanDisk old → IsTrue old.is_open → FirstTables d old.committed) → GoesBack old new
-    → FirstStand d new
+    → WhereOpen (λ s. FirstTables d s.committed) old → GoesBack old new → FirstStand d new
 back_first d = back_both (FirstTables d)
 
 -- a transaction begins, whatever rows the tables have

@@ -2,6 +2,7 @@
 use Rattle.std.proofs.Common.{◌≡◌, ℕ, ℤ, pos, List, [], ◌∷◌, refl, ap, None, Some, ◌∙◌, ◌==◌, is_lt}
 use Rattle.std.proofs.Common.{Bool, false, Ordering, Option, arith, nat_lt, is_eq, nat_cmp}
 use Rattle.std.specs.Option.{option_cmp, option_map_or}
+use Rattle.std.specs.Ordering.{is_gt}
 use Rattle.std.specs.Cmp.Lexicographic.{slice_cmp}
 use Rattle.std.proofs.lemmas.Bool.Decides.{nat_tests}
 use Rattle.sqlite.specs.declared.types.Value.TheVariants.{Int, Null, Text as Words}
@@ -9,7 +10,7 @@ use Rattle.sqlite.specs.Values.{or_null}
 use Rattle.sqlite.specs.Collation.TheVariants.{Binary}
 use Rattle.sqlite.specs.Ops.{binary, is_true, from_truth}
 use Rattle.sqlite_sql.specs.declared.ops.BinaryOp.TheVariants.{Compare}
-use Rattle.sqlite_sql.specs.declared.ops.CompareOp.TheVariants.{Eq, Lt}
+use Rattle.sqlite_sql.specs.declared.ops.CompareOp.TheVariants.{Eq, Gt, Lt}
 use Rattle.sqlite_value.proofs.OrderLemmas.{value_cmp-Text, value_cmp-Int, then-Equal}
 use Rattle.sqlite_value.proofs.OrderLemmas.{value_cmp-Null, value_cmp-apart}
 use Rattle.sqlite.specs.Order.{Row, value_cmp}
@@ -37,6 +38,12 @@ pub equal_numbers : (a b : ℕ) → is_true (binary (Compare Eq Binary) (Int (po
     ≡ (a == b)
 unfolding binary
 equal_numbers a b = true_again _ ∙ ap is_eq (order_numbers a b) ∙ grind (arith, nat_tests)
+
+-- whether a number comes after another
+pub number_after : (a b : ℕ) → is_true (binary (Compare Gt Binary) (Int (pos a)) (Int (pos b)))
+    ≡ nat_lt b a
+unfolding binary
+number_after a b = true_again _ ∙ ap is_gt (order_numbers a b) ∙ grind (arith, nat_tests)
 
 -- whether a moment, or none, is before another
 pub moment_before : (at : ℕ) (due : Option ℕ)

@@ -1,5 +1,5 @@
 -- What calls over the tables answer, and what they leave.
-use Rattle.std.specs.Prelude.{◌≡◌, ◌≢◌, ◌≤◌, ◌⊎◌, ℕ, [], IfErr, IfOk, IsTrue, List, None, Ok, OnOk}
+use Rattle.std.specs.Prelude.{◌≡◌, ◌≢◌, ◌≤◌, ◌⊎◌, ℕ, IfErr, IfOk, IsTrue, List, None, Ok, OnOk}
 use Rattle.std.specs.Prelude.{Result}
 use Rattle.std.specs.List.{AllZip}
 use Rattle.sqlite.specs.Listing.{understood}
@@ -16,7 +16,6 @@ use Rattle.sqlite_rules.specs.Lists.{Has}
 use Rattle.desk_model.specs.Desk.{Desk}
 use Rattle.desk_model.specs.IsDesk.{IsDesk}
 use Rattle.store_tables.specs.Contents.{Contents, desk_schema, HasBadRow}
-use Rattle.store_tables.specs.Picked.{shows}
 use Rattle.store_tables.specs.Stands.{GoesOn, HasTables, HoldsNow, KeepsBase, Stand, StandsFor}
 use Rattle.store_tables.specs.declared.fault.StoreFault.{StoreFault}
 use Rattle.store_tables.specs.declared.fault.StoreFault.TheVariants.{Mismatch, Refused}
@@ -85,13 +84,23 @@ FailsIn tree terms IsValue old new result =
     IfErr result (λ e. (e ≢ WrongVersion) × (e ≡ Mismatch → HasTables old → HasCleanDisk new
     → IsTrue old.is_open × HasBadRow tree terms IsValue old.now))
 
--- What a query reads: the values are those that its rows show, one for each; a mismatch comes only
--- of a row that shows none, and no fault is of the version.
+-- What a reading of a whole table tests. Where it goes well, no row of the table is bad and nothing
+-- has changed.
+pub record TestsAll {X : Type 0} (tree : ℕ) (terms : List Term) (IsValue : Row → Type 0)
+    (old new : State) (result : Result X StoreFault) : Type 0 where
+  pub fails : FailsIn tree terms IsValue old new result
+  pub good : HasTables old → HasCleanDisk new
+      → IfOk result (λ x. ¬ HasBadRow tree terms IsValue old.now)
+  pub same : HasCleanDisk new → IfOk result (λ x. IsUnchanged old new)
+
+-- What a query reads: the values are those that its rows show, one for each, and each row shows one;
+-- a mismatch comes only of a row that shows none, and no fault is of the version.
 pub record ReadsRows {X V : Type 0} (Reads : Row → V → Type 0) (IsValue : Row → Type 0)
     (values : X → List V) (sql : List ℕ) (params : Row) (old new : State)
     (result : Result X StoreFault) : Type 0 where
   pub read : HasCleanDisk new → IfOk result (λ x.
-      (rows : List Row) × Shown sql params old new rows × AllZip Reads rows (values x))
+      (rows : List Row) × Shown sql params old new rows × AllZip Reads rows (values x)
+      × ((row : Row) → Has rows row → IsValue row))
   pub mismatch : HasCleanDisk new → IfErr result (λ e. e ≡ Mismatch →
       (rows : List Row) × Shown sql params old new rows
       × (row : Row) × Has rows row × ¬ IsValue row)

@@ -13,16 +13,14 @@ use Rattle.store_tables.specs.Strict.{no_schema}
 use Rattle.store_tables.specs.Values.{IsNumberRow, IsWholeRow}
 use Rattle.store_tables.specs.Contents.{Contents, HasBadRow, Tables}
 use Rattle.store_tables.specs.Picked.{shows}
-use Rattle.store_tables.specs.Stands.{HasFront, HasTables, HoldsNow, StandsFor}
+use Rattle.store_tables.specs.Stands.{HasFront, HasTables, HoldsNow, StandsFor, WhereOpen}
 use Rattle.store_tables.specs.declared.fault.StoreFault.{StoreFault}
 use Rattle.store_tables.specs.declared.fault.StoreFault.TheVariants.{Mismatch, Refused}
 use Rattle.store_tables.specs.declared.fault.StoreFault.TheVariants.{WrongVersion}
 
 -- no table at all
 abbrev pub IsBlank : State → Type 0
-IsBlank s =
-    HasCleanDisk s → IsTrue s.is_open
-    → (s.now.schema ≡ no_schema) × (s.committed.schema ≡ no_schema)
+IsBlank = WhereOpen (λ s. (s.now.schema ≡ no_schema) × (s.committed.schema ≡ no_schema))
 
 -- with the present version, where none is written
 abbrev pub numbered : Database → Database
@@ -30,9 +28,9 @@ numbered db = record db { trees = λ t. if t == meta.tree then version_row 2 ∷
 
 -- in a transaction, the tables hold this, but for the version, of which there is no row
 abbrev pub LacksVersion : Contents → State → Type 0
-LacksVersion c s =
-    HasCleanDisk s → IsTrue s.is_open
-    → (s.now.trees meta.tree ≡ []) × Tables c (numbered s.now) × (s.in_transaction ≡ true)
+LacksVersion c =
+    WhereOpen (λ s. (s.now.trees meta.tree ≡ []) × Tables c (numbered s.now)
+    × (s.in_transaction ≡ true))
 
 -- the one row shows that version
 abbrev pub ShowsVersion : ℕ → List Row → Type 0

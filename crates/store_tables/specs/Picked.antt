@@ -45,6 +45,13 @@ pub record AreOrdered {X : Type 0} (cmp : X → X → Ordering) (xs ys : List X)
   pub same : IsPermutation xs ys
   pub sorted : IsSorted cmp ys
 
+-- the first of these values, in this order
+pub record AreFirst {X : Type 0} (count : ℕ) (cmp : X → X → Ordering) (xs ys : List X) : Type 0
+  where
+    pub values : List X
+    pub ordered : AreOrdered cmp xs values
+    pub are : ys ≡ take count values
+
 -- a part of each of these values, in the order of the values
 pub record AreParts {X Y : Type 0} (part : X → Y) (cmp : X → X → Ordering) (xs : List X)
     (ys : List Y) : Type 0 where

@@ -29,6 +29,20 @@ reads tree filter project order = record {
   offset = lit (Int (pos 0));
 }
 
+-- the first rows of such a query
+abbrev pub first_of : ℕ → ℕ → List Term → List Term → List Term → Query
+first_of count tree filter project order = record {
+  from = inner tree end;
+  filter = filter;
+  group = None;
+  project = project;
+  distinct = false;
+  collations = [];
+  order = by order;
+  limit = lit (Int (pos count));
+  offset = lit (Int (pos 0));
+}
+
 -- the last by one column: the query in the other direction, cut to one row
 abbrev pub last_of : ℕ → List Term → Term → Query
 last_of tree test column = record {

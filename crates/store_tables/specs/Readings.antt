@@ -4,7 +4,8 @@ use Rattle.sqlite.specs.State.{State, HasCleanDisk}
 use Rattle.desk_model.specs.Desk.{Desk}
 use Rattle.desk_model.specs.IsDesk.{IsDesk}
 use Rattle.desk_model.specs.declared.rows.RequestRow.{RequestRow}
-use Rattle.store_tables.specs.Contents.Entry.{IsEntryRow, actor_shown, entry, entry_shown_terms}
+use Rattle.store_tables.specs.Contents.Entry.{IsBareEntry, IsEntryRow, bare_shown, entry}
+use Rattle.store_tables.specs.Contents.Entry.{entry_shown_terms}
 use Rattle.store_tables.specs.Contents.Link.{IsLinkRow, link}
 use Rattle.store_tables.specs.Contents.Queue.{IsQueueRow, queue, queue_shown}
 use Rattle.store_tables.specs.Contents.Request.{IsDatedRow, IsRequestRow, dated_shown_terms}
@@ -12,9 +13,8 @@ use Rattle.store_tables.specs.Contents.Request.{last_id_terms, request, request_
 use Rattle.store_tables.specs.Contents.Stay.{IsStayRow, stay, stay_shown}
 use Rattle.store_tables.specs.Contents.Watcher.{IsWatcherRow, watcher}
 use Rattle.store_tables.specs.Query.{three_shown}
-use Rattle.store_tables.specs.Values.{IsNumberRow, IsTextRow}
-use Rattle.store_tables.specs.Calls.{FailsIn}
-use Rattle.store_tables.specs.Calls.{Answers, AreThere, Spares}
+use Rattle.store_tables.specs.Values.{IsNumberRow}
+use Rattle.store_tables.specs.Calls.{Answers, AreThere, FailsIn, Spares, TestsAll}
 use Rattle.store_tables.specs.Contents.{Contents, contents_of, HasBadRows}
 use Rattle.store_tables.specs.declared.fault.StoreFault.{StoreFault}
 use Rattle.store_tables.specs.declared.fault.StoreFault.TheVariants.{Mismatch, WrongVersion}
@@ -69,9 +69,30 @@ MismatchesInLinks old new result = FailsIn link.tree three_shown IsLinkRow old n
 abbrev pub MismatchesInEntries : {X : Type 0} → State → State → Result X StoreFault → Type 0
 MismatchesInEntries old new result = FailsIn entry.tree entry_shown_terms IsEntryRow old new result
 
--- of those who made entries: only of one who is no text
-abbrev pub MismatchesInActors : {X : Type 0} → State → State → Result X StoreFault → Type 0
-MismatchesInActors old new result = FailsIn entry.tree actor_shown IsTextRow old new result
-
 abbrev pub MismatchesInStays : {X : Type 0} → State → State → Result X StoreFault → Type 0
 MismatchesInStays old new result = FailsIn stay.tree stay_shown IsStayRow old new result
+
+-- ---- of a whole table: where it is read, no row of it is bad
+
+abbrev pub TestsQueues : {X : Type 0} → State → State → Result X StoreFault → Type 0
+TestsQueues old new result = TestsAll queue.tree queue_shown IsQueueRow old new result
+
+abbrev pub TestsRequests : {X : Type 0} → State → State → Result X StoreFault → Type 0
+TestsRequests old new result = TestsAll request.tree request_shown_terms IsRequestRow old new result
+
+-- of requests with their due moments
+abbrev pub TestsDated : {X : Type 0} → State → State → Result X StoreFault → Type 0
+TestsDated old new result = TestsAll request.tree dated_shown_terms IsDatedRow old new result
+
+abbrev pub TestsWatchers : {X : Type 0} → State → State → Result X StoreFault → Type 0
+TestsWatchers old new result = TestsAll watcher.tree three_shown IsWatcherRow old new result
+
+abbrev pub TestsLinks : {X : Type 0} → State → State → Result X StoreFault → Type 0
+TestsLinks old new result = TestsAll link.tree three_shown IsLinkRow old new result
+
+-- of entries but for their texts
+abbrev pub TestsEntries : {X : Type 0} → State → State → Result X StoreFault → Type 0
+TestsEntries old new result = TestsAll entry.tree bare_shown IsBareEntry old new result
+
+abbrev pub TestsStays : {X : Type 0} → State → State → Result X StoreFault → Type 0
+TestsStays old new result = TestsAll stay.tree stay_shown IsStayRow old new result

@@ -12,10 +12,13 @@ use Rattle.store_tables.specs.Contents.{Contents, contents_of, first_contents_of
 use Rattle.store_tables.specs.Contents.{front, table_count, Tables}
 use Rattle.store_tables.specs.Contents.{first_schema}
 
--- where the store is open and its disk is clean, the tables hold this, and so do those of the last
--- commit
+-- it is so where the store is open and its disk is clean
+abbrev pub WhereOpen : (State → Type 0) → State → Type 0
+WhereOpen P s = HasCleanDisk s → IsTrue s.is_open → P s
+
+-- the tables hold this, and so do those of the last commit
 abbrev pub Stand : Contents → State → Type 0
-Stand c s = HasCleanDisk s → IsTrue s.is_open → Tables c s.now × Tables c s.committed
+Stand c = WhereOpen (λ s. Tables c s.now × Tables c s.committed)
 
 -- the tables stand for the desk, with any due moments
 abbrev pub StandsFor : Desk → State → Type 0
@@ -23,16 +26,15 @@ StandsFor desk s = (due : RequestRow → Option ℕ) × Stand (contents_of due d
 
 -- in a transaction the tables hold this, whatever the last commit left
 abbrev pub HoldsNow : Contents → State → Type 0
-HoldsNow c s =
-    HasCleanDisk s → IsTrue s.is_open → Tables c s.now × (s.in_transaction ≡ true)
+HoldsNow c = WhereOpen (λ s. Tables c s.now × (s.in_transaction ≡ true))
 
 -- in a transaction that goes on, whatever rows the tables have
 abbrev pub GoesOn : State → Type 0
-GoesOn s = HasCleanDisk s → IsTrue s.is_open → s.in_transaction ≡ true
+GoesOn = WhereOpen (λ s. s.in_transaction ≡ true)
 
 -- the tables are there, with any rows
 abbrev pub HasTables : State → Type 0
-HasTables s = HasCleanDisk s → IsTrue s.is_open → s.now.schema ≡ desk_schema
+HasTables = WhereOpen (λ s. s.now.schema ≡ desk_schema)
 
 -- the tables are there still, and none but that of stays has other rows
 abbrev pub OnlyStaysChange : State → State → Type 0
@@ -85,16 +87,13 @@ pub record FirstTables (c : Contents) (db : Database) : Type 0 where
   pub version : c.version ≡ 1
   pub tables : Tables c (filled 6 db)
 
--- where the store is open and its disk is clean, the six tables hold this, and so do those of the
--- last commit
+-- the six tables hold this, and so do those of the last commit
 abbrev pub FirstStand : Contents → State → Type 0
-FirstStand c s =
-    HasCleanDisk s → IsTrue s.is_open → FirstTables c s.now × FirstTables c s.committed
+FirstStand c = WhereOpen (λ s. FirstTables c s.now × FirstTables c s.committed)
 
 -- the first n of the seven tables are there, none, some or all, with any rows
 abbrev pub HasFront : State → Type 0
-HasFront s =
-    HasCleanDisk s → IsTrue s.is_open → (n : ℕ) × (n ≤ table_count) × (s.now.schema ≡ front n)
+HasFront = WhereOpen (λ s. (n : ℕ) × (n ≤ table_count) × (s.now.schema ≡ front n))
 
 -- the six tables stand for the desk, with any due moments
 abbrev pub FirstStandsFor : Desk → State → Type 0

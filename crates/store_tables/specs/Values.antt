@@ -1,5 +1,5 @@
 -- How single values are spelt in a column, and which columns and rows of one show a value of a type.
-use Rattle.std.specs.Prelude.{[], ◌∷◌, List, ℕ, ℤ, pos, ◌≡◌, ◌<◌, ◌^◌, ◌⊎◌, length, IsUtf8, Result}
+use Rattle.std.specs.Prelude.{List, ℕ, ℤ, pos, ◌≡◌, ◌<◌, ◌^◌, ◌⊎◌, length, IsUtf8, Result}
 use Rattle.std.specs.Prelude.{IfErr, IfOk, Bool}
 use Rattle.sqlite.specs.declared.types.Value.TheVariants.{Null, Int, Text as Words}
 use Rattle.sqlite.specs.Order.{Row, column}
@@ -15,10 +15,6 @@ same_text a b = is_eq (slice_cmp nat_cmp a b)
 
 abbrev pub count_value : ℕ → Value
 count_value n = Int (pos n)
-
--- a row that shows one text
-abbrev pub text_shown : List ℕ → Row
-text_shown t = Words t ∷ []
 
 abbrev pub IsText : Value → Type 0
 IsText v = (t : List ℕ) × (v ≡ Words t) × IsUtf8 t
@@ -38,22 +34,23 @@ IsMinuteOrNull v = (v ≡ Null) ⊎ IsMinute v
 abbrev pub IsWhole : Value → Type 0
 IsWhole v = (z : ℤ) × (v ≡ Int z)
 
+-- the row has that column, and a value of the type there
+pub record HasAt (IsValue : Value → Type 0) (row : Row) (at : ℕ) : Type 0 where
+  pub wide : at < length row
+  pub value : IsValue (column row at)
+
 -- what was read of a column is spelt so there
 abbrev pub ReadsAt : {X : Type 0} → (X → Value) → Row → ℕ → Result X StoreFault → Type 0
 ReadsAt spelt row at result = IfOk result (λ x. column row at ≡ spelt x)
+
+-- only a value of the type is read
+abbrev pub NeedsAt : {X : Type 0} → (Value → Type 0) → Row → ℕ → Result X StoreFault → Type 0
+NeedsAt IsValue row at result = IfOk result (λ x. HasAt IsValue row at)
 
 -- a mismatch comes only where the column has no value of the type
 abbrev pub MismatchesAt : {X : Type 0} → (Value → Type 0) → Row → ℕ → Result X StoreFault → Type 0
 MismatchesAt IsValue row at result =
     IfErr result (λ e. e ≡ Mismatch → at < length row → ¬ IsValue (column row at))
-
--- a row of one text: who made an entry
-pub record ReadsText (row : Row) (x : List ℕ) : Type 0 where
-  pub text : column row 0 ≡ Words x
-
-pub record IsTextRow (row : Row) : Type 0 where
-  pub wide : 0 < length row
-  pub text : IsText (column row 0)
 
 -- a row of one number: a version, the last number, or that of a request
 pub record ReadsCount (row : Row) (n : ℕ) : Type 0 where

@@ -10,7 +10,8 @@ ghost use Rattle.store_tables.specs.Contents.Link.{IsLinkKind};
 ghost use Rattle.store_tables.specs.Contents.Request.{IsTurn, turn_number};
 ghost use Rattle.store_tables.specs.Contents.Watcher.{IsRole, role_number};
 ghost use Rattle.store_tables.specs.Values.{IsCount, IsMinute, IsMinuteOrNull, IsText, IsWhole};
-ghost use Rattle.store_tables.specs.Values.{IsTextOrNull, MismatchesAt, ReadsAt, count_value};
+ghost use Rattle.store_tables.specs.Values.{IsTextOrNull, MismatchesAt, NeedsAt, ReadsAt};
+ghost use Rattle.store_tables.specs.Values.{count_value};
 ghost use Rattle.store_tables.specs.declared.fault.StoreFault.{StoreFault};
 
 use crate::fault::StoreFault;
@@ -76,6 +77,7 @@ pub(crate) fn nullable_minute<'a>(minute: Option<Minute>) -> ValueRef<'a>
 /// The value in a column.
 fn column<T: FromSql>(row: &Row, at: usize) -> Result<T, StoreFault>
     ensures ok { IfOk result (λ x. T.FromSql.reads_as (value_at row.now at) x) }
+    ensures wide { IfOk result (λ x. at < length row.now) }
     ensures mismatch { IfErr result (λ e. e ≡ StoreFault.Mismatch → at < length row.now →
         ¬ T.FromSql.is_readable (value_at row.now at)) }
     ensures fault { IfErr result (λ e. e ≢ StoreFault.WrongVersion) }
@@ -90,6 +92,7 @@ fn column<T: FromSql>(row: &Row, at: usize) -> Result<T, StoreFault>
 /// The text in a column.
 pub(crate) fn text_at(row: &Row, at: usize) -> Result<Text, StoreFault>
     ensures ok { ReadsAt Words row.now at result }
+    ensures value { NeedsAt IsText row.now at result }
     ensures mismatch { MismatchesAt IsText row.now at result }
     ensures fault { IfErr result (λ e. e ≢ StoreFault.WrongVersion) }
 {
@@ -100,6 +103,7 @@ pub(crate) fn text_at(row: &Row, at: usize) -> Result<Text, StoreFault>
 /// The text in a column, or none.
 pub(crate) fn nullable_at(row: &Row, at: usize) -> Result<Option<Text>, StoreFault>
     ensures ok { ReadsAt (or_null Words) row.now at result }
+    ensures value { NeedsAt IsTextOrNull row.now at result }
     ensures mismatch { MismatchesAt IsTextOrNull row.now at result }
     ensures fault { IfErr result (λ e. e ≢ StoreFault.WrongVersion) }
 {
@@ -113,6 +117,7 @@ pub(crate) fn nullable_at(row: &Row, at: usize) -> Result<Option<Text>, StoreFau
 /// The number in a column.
 pub(crate) fn number_at(row: &Row, at: usize) -> Result<u32, StoreFault>
     ensures ok { ReadsAt count_value row.now at result }
+    ensures value { NeedsAt IsCount row.now at result }
     ensures mismatch { MismatchesAt IsCount row.now at result }
     ensures fault { IfErr result (λ e. e ≢ StoreFault.WrongVersion) }
 {
@@ -122,6 +127,7 @@ pub(crate) fn number_at(row: &Row, at: usize) -> Result<u32, StoreFault>
 /// The whole number in a column.
 pub(crate) fn whole_at(row: &Row, at: usize) -> Result<i64, StoreFault>
     ensures ok { ReadsAt Int row.now at result }
+    ensures value { NeedsAt IsWhole row.now at result }
     ensures mismatch { MismatchesAt IsWhole row.now at result }
     ensures fault { IfErr result (λ e. e ≢ StoreFault.WrongVersion) }
 {
@@ -131,6 +137,7 @@ pub(crate) fn whole_at(row: &Row, at: usize) -> Result<i64, StoreFault>
 /// The minute in a column.
 pub(crate) fn minute_at(row: &Row, at: usize) -> Result<Minute, StoreFault>
     ensures ok { ReadsAt count_value row.now at result }
+    ensures value { NeedsAt IsMinute row.now at result }
     ensures mismatch { MismatchesAt IsMinute row.now at result }
     ensures fault { IfErr result (λ e. e ≢ StoreFault.WrongVersion) }
 {
@@ -144,6 +151,7 @@ pub(crate) fn minute_at(row: &Row, at: usize) -> Result<Minute, StoreFault>
 /// The minute in a column, or none.
 pub(crate) fn nullable_minute_at(row: &Row, at: usize) -> Result<Option<Minute>, StoreFault>
     ensures ok { ReadsAt (or_null count_value) row.now at result }
+    ensures value { NeedsAt IsMinuteOrNull row.now at result }
     ensures mismatch { MismatchesAt IsMinuteOrNull row.now at result }
     ensures fault { IfErr result (λ e. e ≢ StoreFault.WrongVersion) }
 {

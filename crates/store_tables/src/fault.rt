@@ -1,7 +1,9 @@
 //! The faults of a store.
 ghost use Rattle.std.specs.Prelude.{◌≡◌};
+ghost use Rattle.desk_model.specs.declared.refusal.Refusal.TheVariants.{Unavailable};
 ghost use Rattle.store_tables.specs.Fault.{number_of, name_of};
 
+use desk_model::Refusal;
 use thiserror::Error;
 
 /// Why the store didn't do what it was asked.
@@ -35,5 +37,14 @@ impl StoreFault {
             StoreFault::Mismatch => "Mismatch",
             StoreFault::Refused => "Refused",
         }
+    }
+}
+
+/// What a command answers where its store didn't do what it was asked, for whichever fault.
+impl From<StoreFault> for Refusal {
+    ghost from_gives = { λ _ refusal. refusal ≡ Unavailable };
+
+    fn from(_fault: StoreFault) -> Refusal {
+        Refusal::Unavailable
     }
 }

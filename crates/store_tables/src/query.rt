@@ -2,6 +2,7 @@
 ghost use Rattle.std.specs.Prelude.{◌≡◌, ◌≢◌, ⊤, option_to_list, IfOk, IfErr};
 ghost use Rattle.std.specs.List.{AllZip};
 ghost use Rattle.sqlite.specs.Held.{state};
+ghost use Rattle.sqlite.specs.Order.{Row as Columns};
 ghost use Rattle.sqlite.specs.State.{HasCleanDisk, Shown, State};
 ghost use Rattle.sqlite.specs.Values.{bound};
 ghost use Rattle.sqlite_rules.specs.Lists.{Has};
@@ -98,6 +99,7 @@ pub(crate) fn select_one<T: Stored + Drop, F: Shows>(
 /// The values that the rows show. `Mismatch` where one shows none.
 fn read_all<T: Stored + Drop>(alloc: Global, rows: &[Row]) -> Result<Vec<T>, StoreFault>
     ensures ok { IfOk result (λ xs. AllZip T.Stored.reads rows.now xs.items) }
+    ensures value { IfOk result (λ xs. (row : Columns) → Has rows.now row → T.Stored.is_value row) }
     ensures mismatch { IfErr result (λ e. e ≡ StoreFault.Mismatch →
         (r : _) × Has rows.now r × ¬ T.Stored.is_value r) }
     ensures fault { IfErr result (λ e. e ≢ StoreFault.WrongVersion) }
@@ -119,6 +121,7 @@ fn read_all<T: Stored + Drop>(alloc: Global, rows: &[Row]) -> Result<Vec<T>, Sto
 /// there are more rows.
 fn read_one<T: Stored + Drop>(rows: &[Row]) -> Result<Option<T>, StoreFault>
     ensures ok { IfOk result (λ x. AllZip T.Stored.reads rows.now (option_to_list x)) }
+    ensures value { IfOk result (λ x. (row : Columns) → Has rows.now row → T.Stored.is_value row) }
     ensures mismatch { IfErr result (λ e. e ≡ StoreFault.Mismatch →
         (r : _) × Has rows.now r × ¬ T.Stored.is_value r) }
     ensures fault { IfErr result (λ e. e ≢ StoreFault.WrongVersion) }

@@ -2,14 +2,12 @@
 
 ghost use Rattle.std.specs.Prelude.{◌≡◌, ◌≢◌, IfOk, IfErr};
 ghost use Rattle.sqlite.specs.Order.{Row as Columns};
-ghost use Rattle.store_tables.specs.Values.{IsNumberRow, IsTextRow, IsWholeRow, ReadsCount};
-ghost use Rattle.store_tables.specs.Values.{ReadsText, ReadsWhole};
+ghost use Rattle.store_tables.specs.Values.{IsNumberRow, IsWholeRow, ReadsCount, ReadsWhole};
 ghost use Rattle.store_tables.specs.declared.fault.StoreFault.{StoreFault};
 
-use crate::columns::{number_at, text_at, whole_at};
+use crate::columns::{number_at, whole_at};
 use crate::fault::StoreFault;
 use sqlite::Row;
-use text_core::Text;
 
 /// A value that a row of a query shows.
 pub(crate) trait Stored: Sized {
@@ -22,6 +20,7 @@ pub(crate) trait Stored: Sized {
     /// The value that the row shows. `Mismatch` where it shows none, `Refused` where out of memory.
     fn read(row: &Row) -> Result<Self, StoreFault>
         ensures ok { IfOk result (reads row.now) }
+        ensures value { IfOk result (λ x. is_value row.now) }
         ensures mismatch { IfErr result (λ e. e ≡ StoreFault.Mismatch → ¬ is_value row.now) }
         ensures fault { IfErr result (λ e. e ≢ StoreFault.WrongVersion) };
 }
@@ -45,16 +44,5 @@ impl Stored for i64 {
 
     fn read(row: &Row) -> Result<i64, StoreFault> {
         whole_at(row, 0)
-    }
-}
-
-/// Who made an entry.
-impl Stored for Text {
-    ghost reads = { ReadsText };
-
-    ghost is_value = { IsTextRow };
-
-    fn read(row: &Row) -> Result<Text, StoreFault> {
-        text_at(row, 0)
     }
 }

@@ -10,7 +10,7 @@ use Rattle.sqlite.specs.declared.types.Value.{Value}
 use Rattle.desk_model.specs.declared.rows.Entry.{Entry}
 use Rattle.desk_model.specs.declared.rows.EntryKind.{EntryKind}
 use Rattle.desk_model.specs.declared.rows.EntryKind.TheVariants as what
-use Rattle.std.specs.Ordering.{nat_cmp, on, then_cmp}
+use Rattle.std.specs.Ordering.{nat_cmp}
 use Rattle.std.specs.declared.cmp.Ordering.{Ordering}
 use Rattle.store_tables.specs.Strict.{needed, refers, strict_table, key_of}
 use Rattle.store_tables.specs.Values.{count_value, IsText, IsCount, IsMinute}
@@ -71,6 +71,40 @@ pub record IsEntryRow (row : Row) : Type 0 where
   pub head : IsText (column row 5)
   pub body : IsText (column row 6)
 
+-- an entry without its texts
+pub record BareEntry : Type 0 where
+  pub id : ℕ
+  pub number : ℕ
+  pub moment : ℕ
+  pub actor : List ℕ
+  pub kind : EntryKind
+
+abbrev pub bare_of : Entry → BareEntry
+bare_of e = record {
+  id = e.id;
+  number = e.number;
+  moment = e.moment;
+  actor = e.actor;
+  kind = e.kind;
+}
+
+abbrev pub bare_columns : BareEntry → Row
+bare_columns e =
+    count_value e.id ∷ count_value e.number ∷ count_value e.moment ∷ Words e.actor
+    ∷ count_value (entry_kind_number e.kind) ∷ []
+
+-- who made the entry of a row without its texts
+pub record ReadsActor (row : Row) (x : List ℕ) : Type 0 where
+  pub actor : column row 3 ≡ Words x
+
+pub record IsBareEntry (row : Row) : Type 0 where
+  pub wide : 4 < length row
+  pub id : IsCount (column row 0)
+  pub number : IsCount (column row 1)
+  pub moment : IsMinute (column row 2)
+  pub actor : IsText (column row 3)
+  pub kind : IsEntryKind (column row 4)
+
 -- an entry of that request
 abbrev pub tells_of : ℕ → Entry → Bool
 tells_of id e = e.id == id
@@ -90,8 +124,8 @@ by_number a b = nat_cmp a.number b.number
 abbrev pub entry_shown_terms : List Term
 entry_shown_terms = col 1 1 ∷ col 1 2 ∷ col 1 3 ∷ col 1 4 ∷ col 1 5 ∷ col 1 6 ∷ col 1 7 ∷ []
 
-abbrev pub actor_shown : List Term
-actor_shown = col 1 4 ∷ []
+abbrev pub bare_shown : List Term
+bare_shown = col 1 1 ∷ col 1 2 ∷ col 1 3 ∷ col 1 4 ∷ col 1 5 ∷ []
 
 abbrev pub last_number_terms : List Term
 last_number_terms = col 1 2 ∷ []

@@ -1,7 +1,7 @@
 -- The table `request`: its columns, how a request is spelt and read there, with its due moment and
 -- without, its statements.
 use Rattle.std.specs.Prelude.{false, [], ◌∷◌, ◌++◌, codes, List, ℕ, Option, ◌≡◌, ◌<◌, length, Bool}
-use Rattle.std.specs.Prelude.{nat_lt, ◌==◌, fold, if◌then◌else◌}
+use Rattle.std.specs.Prelude.{nat_lt, ◌==◌, ◌&&◌, fold, if◌then◌else◌}
 use Rattle.sqlite.specs.Collation.TheVariants.{Binary}
 use Rattle.sqlite.specs.declared.types.Value.TheVariants.{Null, Text as Words}
 use Rattle.sqlite.specs.Table.{Table}
@@ -152,6 +152,10 @@ has_number id p = is_numbered id p.0
 -- the same, of one with its due moment
 abbrev pub is_dated_in : List ℕ → Dated → Bool
 is_dated_in name p = is_filed_in name p.0
+
+-- and after that number
+abbrev pub is_dated_after : List ℕ → ℕ → Dated → Bool
+is_dated_after name after p = is_dated_in name p && nat_lt after p.0.id
 
 -- a request that is due before that moment
 abbrev pub is_due_before : ℕ → Dated → Bool

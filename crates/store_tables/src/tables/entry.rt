@@ -2,13 +2,13 @@
 ghost use Rattle.std.specs.Prelude.{◌≢◌, IfErr};
 ghost use Rattle.sqlite.specs.Values.{bound_value};
 ghost use Rattle.sqlite_value.specs.Value.{owned};
-ghost use Rattle.store_tables.specs.Values.{MismatchesAt, ReadsAt, count_value};
+ghost use Rattle.store_tables.specs.Values.{MismatchesAt, NeedsAt, ReadsAt, count_value};
 ghost use Rattle.store_tables.specs.Contents.Entry.{IsEntryKind, entry_kind_number};
 ghost use Rattle.std.specs.Prelude.{◌≡◌, filter, [], map, IsPermutation, fold};
 ghost use Rattle.store_tables.specs.declared.fault.StoreFault.{StoreFault};
-ghost use Rattle.store_tables.specs.Contents.Entry.{IsEntryRow, ReadsEntry, by_number, tells_of};
-ghost use Rattle.store_tables.specs.Contents.Entry.{place_of, actor_of};
-ghost use Rattle.store_tables.specs.Readings.{MismatchesInEntries, Reads, MismatchesInActors};
+ghost use Rattle.store_tables.specs.Contents.Entry.{IsBareEntry, IsEntryRow, ReadsActor, ReadsEntry};
+ghost use Rattle.store_tables.specs.Contents.Entry.{actor_of, by_number, place_of, tells_of};
+ghost use Rattle.store_tables.specs.Readings.{MismatchesInEntries, Reads, TestsEntries};
 ghost use Rattle.store_tables.specs.Picked.{AreOrdered, IsGreatest};
 ghost use Rattle.store_tables.specs.Seen.{seen};
 ghost use Rattle.sqlite.specs.Held.{state};
@@ -53,6 +53,21 @@ impl Stored for Entry {
             head: text_at(row, 5)?,
             body: text_at(row, 6)?,
         })
+    }
+}
+
+/// Who made the entry of a row without its texts, each column of which has to be one of an entry.
+impl Stored for Text {
+    ghost reads = { ReadsActor };
+
+    ghost is_value = { IsBareEntry };
+
+    fn read(row: &Row) -> Result<Text, StoreFault> {
+        number_at(row, 0)?;
+        number_at(row, 1)?;
+        minute_at(row, 2)?;
+        entry_kind_at(row, 4)?;
+        text_at(row, 3)
     }
 }
 
@@ -105,15 +120,20 @@ pub fn last_number<S: Alter>(tables: &mut Tables<S>, id: u32) -> Result<u32, Sto
     Ok(last.unwrap_or(0))
 }
 
-/// Who made each entry, in no order that matters. `Mismatch` where one is no text, `Refused` where
-/// the store refuses it.
+/// Who made each entry, in no order that matters. `Mismatch` where a row is no entry, whose texts
+/// aren't looked at, `Refused` where the store or memory refuses it.
 pub fn actors<S: Alter>(alloc: Global, tables: &mut Tables<S>) -> Result<Vec<Text>, StoreFault>
     ensures read { Reads (λ c xs. IsPermutation (map actor_of c.entries) xs.items)
         (seen S.Store tables.old) (seen S.Store tables.new) result }
-    ensures mismatch { MismatchesInActors
+    ensures tested { TestsEntries
         (seen S.Store tables.old) (seen S.Store tables.new) result }
 {
-    select_all(alloc, tables, "SELECT actor FROM entry", &[])
+    select_all(
+        alloc,
+        tables,
+        "SELECT request, number, moment, actor, kind FROM entry",
+        &[],
+    )
 }
 
 /// The kind of an entry, to be bound.
@@ -137,6 +157,7 @@ fn entry_kind<'a>(kind: EntryKind) -> ValueRef<'a>
 /// The kind of an entry in a column.
 fn entry_kind_at(row: &Row, at: usize) -> Result<EntryKind, StoreFault>
     ensures ok { ReadsAt (λ k. count_value (entry_kind_number k)) row.now at result }
+    ensures value { NeedsAt IsEntryKind row.now at result }
     ensures mismatch { MismatchesAt IsEntryKind row.now at result }
     ensures fault { IfErr result (λ e. e ≢ StoreFault.WrongVersion) }
 {

@@ -2,14 +2,14 @@
 ghost use Rattle.std.specs.Prelude.{◌≢◌, IfErr};
 ghost use Rattle.sqlite.specs.Values.{bound_value};
 ghost use Rattle.sqlite_value.specs.Value.{owned};
-ghost use Rattle.store_tables.specs.Values.{MismatchesAt, ReadsAt, count_value};
+ghost use Rattle.store_tables.specs.Values.{MismatchesAt, NeedsAt, ReadsAt, count_value};
 ghost use Rattle.desk_model.specs.Links.{kind_number};
 ghost use Rattle.store_tables.specs.Contents.Link.{IsLinkKind};
 ghost use Rattle.std.specs.Prelude.{◌≡◌, filter, IsPermutation, option_to_list};
 ghost use Rattle.store_tables.specs.declared.fault.StoreFault.{StoreFault};
 ghost use Rattle.store_tables.specs.Contents.Link.{IsLinkRow, ReadsLink, by_link, ends_at};
 ghost use Rattle.store_tables.specs.Contents.Link.{starts_at, by_target};
-ghost use Rattle.store_tables.specs.Readings.{MismatchesInLinks, Reads};
+ghost use Rattle.store_tables.specs.Readings.{MismatchesInLinks, Reads, TestsLinks};
 ghost use Rattle.store_tables.specs.Picked.{AreOrdered};
 ghost use Rattle.store_tables.specs.Seen.{seen};
 ghost use Rattle.store_tables.specs.Contents.Link as chosen;
@@ -53,7 +53,7 @@ pub fn links<S: Alter>(alloc: Global, tables: &mut Tables<S>) -> Result<Vec<Link
     ensures read { Reads (λ c xs.
         AreOrdered by_link c.links xs.items)
         (seen S.Store tables.old) (seen S.Store tables.new) result }
-    ensures mismatch { MismatchesInLinks
+    ensures tested { TestsLinks
         (seen S.Store tables.old) (seen S.Store tables.new) result }
 {
     select_all(
@@ -177,6 +177,7 @@ fn link_kind<'a>(kind: LinkKind) -> ValueRef<'a>
 /// The kind of a link in a column.
 fn link_kind_at(row: &Row, at: usize) -> Result<LinkKind, StoreFault>
     ensures ok { ReadsAt (λ k. count_value (kind_number k)) row.now at result }
+    ensures value { NeedsAt IsLinkKind row.now at result }
     ensures mismatch { MismatchesAt IsLinkKind row.now at result }
     ensures fault { IfErr result (λ e. e ≢ StoreFault.WrongVersion) }
 {

@@ -2,7 +2,7 @@
 ghost use Rattle.std.specs.Prelude.{◌≡◌, IfErr, filter, option_to_list, length};
 ghost use Rattle.store_tables.specs.declared.fault.StoreFault.{StoreFault};
 ghost use Rattle.store_tables.specs.Contents.Queue.{IsQueueRow, ReadsQueue, by_name, is_named};
-ghost use Rattle.store_tables.specs.Readings.{MismatchesInQueues, Reads};
+ghost use Rattle.store_tables.specs.Readings.{MismatchesInQueues, Reads, TestsQueues};
 ghost use Rattle.store_tables.specs.Picked.{AreOrdered};
 ghost use Rattle.store_tables.specs.Seen.{seen};
 ghost use Rattle.store_tables.specs.Contents.{add_queue};
@@ -42,7 +42,7 @@ impl Stored for QueueRow {
 pub fn queues<S: Alter>(alloc: Global, tables: &mut Tables<S>) -> Result<Vec<QueueRow>, StoreFault>
     ensures read { Reads (λ c xs. AreOrdered by_name c.queues xs.items)
         (seen S.Store tables.old) (seen S.Store tables.new) result }
-    ensures mismatch { MismatchesInQueues
+    ensures tested { TestsQueues
         (seen S.Store tables.old) (seen S.Store tables.new) result }
 {
     select_all(

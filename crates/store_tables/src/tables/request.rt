@@ -2,7 +2,7 @@
 ghost use Rattle.std.specs.Prelude.{◌≢◌, IfErr};
 ghost use Rattle.sqlite.specs.Values.{bound_value};
 ghost use Rattle.sqlite_value.specs.Value.{owned};
-ghost use Rattle.store_tables.specs.Values.{MismatchesAt, ReadsAt, count_value};
+ghost use Rattle.store_tables.specs.Values.{MismatchesAt, NeedsAt, ReadsAt, count_value};
 ghost use Rattle.store_tables.specs.Contents.Request.{IsTurn, turn_number};
 ghost use Rattle.std.specs.Prelude.{◌≡◌, filter, option_to_list};
 ghost use Rattle.store_tables.specs.declared.fault.StoreFault.{StoreFault};
@@ -11,7 +11,7 @@ ghost use Rattle.store_tables.specs.Contents.Request.{by_id, is_filed_in, is_num
 ghost use Rattle.store_tables.specs.Contents.Request.{dated_shown};
 ghost use Rattle.store_tables.specs.Contents.{requests as rows_of, requests, add_request};
 ghost use Rattle.store_tables.specs.Contents.{set_request as with_row};
-ghost use Rattle.store_tables.specs.Readings.{MismatchesInRequests, Reads};
+ghost use Rattle.store_tables.specs.Readings.{MismatchesInRequests, Reads, TestsRequests};
 ghost use Rattle.store_tables.specs.Picked.{AreOrdered, IsGreatest};
 ghost use Rattle.store_tables.specs.Seen.{seen};
 ghost use Rattle.sqlite.specs.Held.{state};
@@ -74,7 +74,7 @@ pub fn requests<S: Alter>(
     ensures read { Reads (λ c xs.
         AreOrdered by_id (rows_of c) xs.items)
         (seen S.Store tables.old) (seen S.Store tables.new) result }
-    ensures mismatch { MismatchesInRequests
+    ensures tested { TestsRequests
         (seen S.Store tables.old) (seen S.Store tables.new) result }
 {
     select_all(
@@ -210,6 +210,7 @@ fn turn<'a>(turn: Turn) -> ValueRef<'a>
 /// Whose turn it is, by a column.
 fn turn_at(row: &Row, at: usize) -> Result<Turn, StoreFault>
     ensures ok { ReadsAt (λ t. count_value (turn_number t)) row.now at result }
+    ensures value { NeedsAt IsTurn row.now at result }
     ensures mismatch { MismatchesAt IsTurn row.now at result }
     ensures fault { IfErr result (λ e. e ≢ StoreFault.WrongVersion) }
 {

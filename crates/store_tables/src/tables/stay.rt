@@ -4,7 +4,7 @@ ghost use Rattle.store_tables.specs.declared.fault.StoreFault.{StoreFault};
 ghost use Rattle.store_tables.specs.Contents.Stay.{IsStayRow, ReadsRequestStay, ReadsStay, by_stay};
 ghost use Rattle.store_tables.specs.Contents.Stay.{by_stay_number, is_of, request_stay, stay_of};
 ghost use Rattle.store_tables.specs.Contents.Stay.{stay_row, stay_rows};
-ghost use Rattle.store_tables.specs.Readings.{MismatchesInStays, Reads};
+ghost use Rattle.store_tables.specs.Readings.{MismatchesInStays, Reads, TestsStays};
 ghost use Rattle.store_tables.specs.Picked.{AreParts};
 ghost use Rattle.store_tables.specs.Seen.{seen};
 ghost use Rattle.sqlite.specs.Held.{state};
@@ -36,6 +36,8 @@ impl Stored for Stay {
     ghost is_value = { IsStayRow };
 
     fn read(row: &Row) -> Result<Stay, StoreFault> {
+        number_at(row, 0)?;
+        number_at(row, 1)?;
         Ok(Stay {
             from: minute_at(row, 3)?,
             until: nullable_minute_at(row, 4)?,
@@ -86,7 +88,7 @@ pub fn stays<S: Alter>(
 ) -> Result<Vec<(u32, Stay)>, StoreFault>
     ensures read { Reads (λ c xs. AreParts request_stay by_stay c.stays xs.items)
         (seen S.Store tables.old) (seen S.Store tables.new) result }
-    ensures mismatch { MismatchesInStays
+    ensures tested { TestsStays
         (seen S.Store tables.old) (seen S.Store tables.new) result }
 {
     select_all(

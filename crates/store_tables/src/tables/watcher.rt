@@ -2,13 +2,13 @@
 ghost use Rattle.std.specs.Prelude.{◌≢◌, IfErr};
 ghost use Rattle.sqlite.specs.Values.{bound_value};
 ghost use Rattle.sqlite_value.specs.Value.{owned};
-ghost use Rattle.store_tables.specs.Values.{MismatchesAt, ReadsAt, count_value};
+ghost use Rattle.store_tables.specs.Values.{MismatchesAt, NeedsAt, ReadsAt, count_value};
 ghost use Rattle.store_tables.specs.Contents.Watcher.{IsRole, role_number};
 ghost use Rattle.std.specs.Prelude.{◌≡◌, filter, fold};
 ghost use Rattle.store_tables.specs.declared.fault.StoreFault.{StoreFault};
 ghost use Rattle.store_tables.specs.Contents.Watcher.{IsWatcherRow, ReadsWatcher, by_watcher};
 ghost use Rattle.store_tables.specs.Contents.Watcher.{by_role, watches, by_standing, is_of_person};
-ghost use Rattle.store_tables.specs.Readings.{MismatchesInWatchers, Reads};
+ghost use Rattle.store_tables.specs.Readings.{MismatchesInWatchers, Reads, TestsWatchers};
 ghost use Rattle.store_tables.specs.Picked.{AreOrdered};
 ghost use Rattle.store_tables.specs.Seen.{seen};
 ghost use Rattle.store_tables.specs.Contents.{add_watcher, drop_watcher};
@@ -50,7 +50,7 @@ pub fn watchers<S: Alter>(alloc: Global, tables: &mut Tables<S>) -> Result<Vec<W
     ensures read { Reads (λ c xs.
         AreOrdered by_watcher c.watchers xs.items)
         (seen S.Store tables.old) (seen S.Store tables.new) result }
-    ensures mismatch { MismatchesInWatchers
+    ensures tested { TestsWatchers
         (seen S.Store tables.old) (seen S.Store tables.new) result }
 {
     select_all(
@@ -114,6 +114,7 @@ fn role<'a>(role: WatchRole) -> ValueRef<'a>
 /// The role in a column.
 fn role_at(row: &Row, at: usize) -> Result<WatchRole, StoreFault>
     ensures ok { ReadsAt (λ r. count_value (role_number r)) row.now at result }
+    ensures value { NeedsAt IsRole row.now at result }
     ensures mismatch { MismatchesAt IsRole row.now at result }
     ensures fault { IfErr result (λ e. e ≢ StoreFault.WrongVersion) }
 {

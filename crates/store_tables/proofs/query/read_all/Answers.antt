@@ -1,6 +1,6 @@
-use Rattle.std.proofs.Common.{◌≡◌, Err, rules}
+use Rattle.std.proofs.Common.{◌≡◌, ◌<◌, Err, length, rules}
 use Rattle.sqlite_rules.proofs.ListLemmas.{has_at}
-use Rattle.store_tables.proofs.ReadLemmas.{read_more}
+use Rattle.store_tables.proofs.ReadLemmas.{read_more, shown_more}
 use Rattle.store_tables.proofs.query.read_all.Goals as goal
 
 pub returns-in_err-value-clause-mismatch : goal.returns-in_err-value-clause-mismatch
@@ -14,6 +14,10 @@ returns-in_err-value-clause-mismatch g c =
 
 pub loop-row-preserved : goal.loop-row-preserved
 loop-row-preserved g c =
-    read_more g.T.Stored.reads c.args.rows.now c.loop-row.values.items c.loop-row.row-index
-    c.row-item.result c.in_ok-value.value c.push.new.self.items (search rules) c.row-item.is
-    c.in-Ok-push.ensures.items c.loop-row.invariant c.in_ok-value.ensures.ok
+    let low : c.loop-row.row-index < length c.args.rows.now = search rules in (
+      read_more g.T.Stored.reads c.args.rows.now c.loop-row.values.items c.loop-row.row-index
+          c.row-item.result c.in_ok-value.value c.push.new.self.items low c.row-item.is
+          c.in-Ok-push.ensures.items c.loop-row.invariant.0 c.in_ok-value.ensures.ok,
+      shown_more g.T.Stored.is_value c.args.rows.now c.loop-row.row-index c.row-item.result low
+          c.row-item.is c.loop-row.invariant.1 c.in_ok-value.ensures.value,
+    )

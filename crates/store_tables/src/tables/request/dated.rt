@@ -2,9 +2,10 @@
 ghost use Rattle.std.specs.Prelude.{◌≡◌, filter, option_to_list, fold};
 ghost use Rattle.store_tables.specs.declared.fault.StoreFault.{StoreFault};
 ghost use Rattle.store_tables.specs.Contents.Request.{IsDatedRow, ReadsDated, by_dated_id, by_due};
-ghost use Rattle.store_tables.specs.Contents.Request.{has_number, is_dated_in, is_due_before};
-ghost use Rattle.store_tables.specs.Readings.{MismatchesInDated, Reads};
-ghost use Rattle.store_tables.specs.Picked.{AreOrdered};
+ghost use Rattle.store_tables.specs.Contents.Request.{has_number, is_dated_after, is_dated_in};
+ghost use Rattle.store_tables.specs.Contents.Request.{is_due_before};
+ghost use Rattle.store_tables.specs.Readings.{MismatchesInDated, Reads, TestsDated};
+ghost use Rattle.store_tables.specs.Picked.{AreFirst, AreOrdered};
 ghost use Rattle.store_tables.specs.Seen.{seen};
 ghost use Rattle.store_tables.specs.Contents.{set_each_due};
 
@@ -40,7 +41,7 @@ pub fn dated_requests<S: Alter>(
 ) -> Result<Vec<(RequestRow, Option<Minute>)>, StoreFault>
     ensures read { Reads (λ c xs. AreOrdered by_dated_id c.dated xs.items)
         (seen S.Store tables.old) (seen S.Store tables.new) result }
-    ensures mismatch { MismatchesInDated
+    ensures tested { TestsDated
         (seen S.Store tables.old) (seen S.Store tables.new) result }
 {
     select_all(
@@ -72,6 +73,30 @@ pub fn dated_of<S: Alter>(
         "SELECT id, queue, subject, status, owner, level, created, opened, turn, since, due FROM \
         request WHERE queue = ?1 ORDER BY id",
         &[words(queue)],
+    )
+}
+
+/// The first 64 requests of a queue after that number, by number, each with its due moment.
+/// `Mismatch` where one of these rows is no request or its due moment is neither a minute nor
+/// absent, `Refused` where the store or memory refuses it.
+pub fn dated_after<S: Alter>(
+    alloc: Global,
+    tables: &mut Tables<S>,
+    queue: &Text,
+    after: u32,
+) -> Result<Vec<(RequestRow, Option<Minute>)>, StoreFault>
+    ensures read { Reads (λ c xs.
+        AreFirst 64 by_dated_id (filter (is_dated_after queue.now after) c.dated) xs.items)
+        (seen S.Store tables.old) (seen S.Store tables.new) result }
+    ensures mismatch { MismatchesInDated
+        (seen S.Store tables.old) (seen S.Store tables.new) result }
+{
+    select_all(
+        alloc,
+        tables,
+        "SELECT id, queue, subject, status, owner, level, created, opened, turn, since, due FROM \
+        request WHERE queue = ?1 AND id > ?2 ORDER BY id LIMIT 64",
+        &[words(queue), number(after)],
     )
 }
 

@@ -2,7 +2,7 @@
 ghost use Rattle.std.specs.Prelude.{filter, ◌≡◌, []};
 ghost use Rattle.store_tables.specs.Contents.{requests};
 ghost use Rattle.store_tables.specs.Contents.Request.{by_due, by_id, id_of, is_due_before};
-ghost use Rattle.store_tables.specs.Contents.Request.{is_filed_in, number_of};
+ghost use Rattle.store_tables.specs.Contents.Request.{number_of};
 ghost use Rattle.store_tables.specs.Readings.{MismatchesInNumbers, Reads};
 ghost use Rattle.store_tables.specs.Picked.{AreParts};
 ghost use Rattle.store_tables.specs.declared.fault.StoreFault.{StoreFault};
@@ -10,34 +10,12 @@ ghost use Rattle.store_tables.specs.Seen.{seen};
 ghost use Rattle.sqlite.specs.Held.{state};
 ghost use Rattle.store_tables.specs.Calls.{Inside, Looks};
 
-use crate::columns::{number, words};
+use crate::columns::number;
 use crate::fault::StoreFault;
 use crate::query::select_all;
 use crate::tables::Tables;
 use sqlite::{Alter, Transaction};
 use std::alloc::Global;
-use text_core::Text;
-
-/// The numbers of the requests of a queue, in their order. `Mismatch` where one is no number,
-/// `Refused` where the store or memory refuses it.
-pub fn numbers_in<S: Alter>(
-    alloc: Global,
-    tables: &mut Tables<S>,
-    queue: &Text,
-) -> Result<Vec<u32>, StoreFault>
-    ensures read { Reads (λ c ns.
-        AreParts number_of by_id (filter (is_filed_in queue.now) (requests c)) ns.items)
-        (seen S.Store tables.old) (seen S.Store tables.new) result }
-    ensures mismatch { MismatchesInNumbers
-        (seen S.Store tables.old) (seen S.Store tables.new) result }
-{
-    select_all(
-        alloc,
-        tables,
-        "SELECT id FROM request WHERE queue = ?1 ORDER BY id",
-        &[words(queue)],
-    )
-}
 
 /// The numbers of the requests that are due before that moment: by due moment, and by number where
 /// those are the same. `Mismatch` where one is no number, `Refused` where the store or memory

@@ -1,11 +1,11 @@
-use Rattle.std.proofs.Common.{[], map, refl, true}
+use Rattle.std.proofs.Common.{refl}
 use Rattle.sqlite.specs.Listing.{understood}
+use Rattle.sqlite_trees.proofs.ListLemmas.{map-map}
 use Rattle.sqlite_tied.specs.Compute.{everything}
-use Rattle.store_tables.specs.Contents.Entry.{actor_of}
-use Rattle.store_tables.proofs.Contents.Entry.{actor_table}
+use Rattle.store_tables.specs.Contents.Entry.{BareEntry, bare_of}
+use Rattle.store_tables.proofs.Contents.Entry.{actor_back, bare_table}
 use Rattle.store_tables.proofs.ReadOn.{telling}
-use Rattle.store_tables.proofs.ReadingLemmas.{every}
-use Rattle.store_tables.proofs.RowLemmas.{answered, lists_any}
+use Rattle.store_tables.proofs.RowLemmas.{parts_any}
 use Rattle.store_tables.proofs.TextLemmas.{none_given}
 use Rattle.store_tables.proofs.tables.entry.actors.Goals as goal
 
@@ -16,8 +16,8 @@ select_all-requires g c schema k found = none_given schema _ k found (λ s n. re
 pub returns : goal.returns
 unfolding understood everything
 returns g c =
-    let it = answered actor_table (lists_any actor_table c.select_all.ensures []
-    (record { is = refl; plain = (refl, refl); unlisted = refl; none = λ s n. refl })
-    (λ _. true) (λ k. refl)) in
-    let read = telling (λ d xs listed. rw (every (map actor_of d.entries)) at listed) it.read in
-    assumption
+    let it = parts_any bare_table {part = λ e. e.actor} c.select_all.ensures
+    (record { is = refl; plain = (refl, refl); unlisted = refl; none = λ s n. refl }) actor_back in
+    let read = telling (λ d xs listed. rw (map-map (λ (e : BareEntry). e.actor) bare_of d.entries)
+    at listed) it.read in
+    let tested = it.tested in assumption

@@ -3,7 +3,7 @@ use Rattle.sqlite.specs.Listing.{understood}
 use Rattle.sqlite_tied.specs.Compute.{everything}
 use Rattle.store_tables.specs.Contents.Queue.{queue_order}
 use Rattle.store_tables.proofs.Contents.Queue.{queue_table}
-use Rattle.store_tables.proofs.RowLemmas.{answered, lists_all, ranked}
+use Rattle.store_tables.proofs.RowLemmas.{lists_all, ranked}
 use Rattle.store_tables.proofs.TextLemmas.{none_given}
 use Rattle.store_tables.proofs.tables.queue.queues.Goals as goal
 
@@ -13,6 +13,6 @@ select_all-requires g c schema k found = none_given schema _ k found (λ s n. re
 
 pub returns : goal.returns
 unfolding understood everything
-returns g c = answered queue_table (lists_all queue_table c.select_all.ensures queue_order
+returns g c = lists_all queue_table c.select_all.ensures queue_order
     (record { is = refl; plain = (refl, refl); unlisted = refl; none = λ s n. refl })
-    (λ a b. simp ranked))
+    (λ a b. simp ranked)

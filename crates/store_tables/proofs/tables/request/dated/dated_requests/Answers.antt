@@ -3,7 +3,7 @@ use Rattle.sqlite.specs.Listing.{understood}
 use Rattle.sqlite_tied.specs.Compute.{everything}
 use Rattle.store_tables.specs.Query.{id_order}
 use Rattle.store_tables.proofs.Contents.Request.{dated_table}
-use Rattle.store_tables.proofs.RowLemmas.{answered, lists_all, ranked}
+use Rattle.store_tables.proofs.RowLemmas.{lists_all, ranked}
 use Rattle.store_tables.proofs.TextLemmas.{none_given}
 use Rattle.store_tables.proofs.tables.request.dated.dated_requests.Goals as goal
 
@@ -13,6 +13,6 @@ select_all-requires g c schema k found = none_given schema _ k found (λ s n. re
 
 pub returns : goal.returns
 unfolding understood everything
-returns g c = answered dated_table (lists_all dated_table c.select_all.ensures id_order
+returns g c = lists_all dated_table c.select_all.ensures id_order
     (record { is = refl; plain = (refl, refl); unlisted = refl; none = λ s n. refl })
-    (λ a b. simp ranked))
+    (λ a b. simp ranked)
