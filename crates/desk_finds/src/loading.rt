@@ -9,7 +9,6 @@ ghost use Rattle.store_core.specs.Seen.{state_of};
 
 use crate::reading::asked;
 use desk_core::{Call, QueueRow, Refusal};
-use desk_reports::or_unavailable;
 use find_core::{QueueLoad, open_ones, queues_seen};
 use settings_core::Settings;
 use std::alloc::Global;
@@ -54,7 +53,7 @@ fn seen<S: Backend>(
     ensures kept { Spares (state_of S.Store store.old) (state_of S.Store store.new) }
     ensures fault { IfErr result (λ refusal. refusal ≡ Refusal.Unavailable) }
 {
-    let queues = or_unavailable(store.queues(alloc))?;
+    let queues = store.queues(alloc)?;
     Ok(queues_seen(settings, caller, queues))
 }
 

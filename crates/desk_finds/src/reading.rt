@@ -10,7 +10,6 @@ ghost use Rattle.store_core.specs.Seen.{state_of};
 ghost use Rattle.desk_finds.specs.Found.{ArePart, asked_on, theirs_on, told_at};
 
 use desk_core::{Call, Command, Entry, Facts, Refusal, RequestRow, Watcher};
-use desk_reports::or_unavailable;
 use find_core::{Search, asked_rows, told};
 use hours_core::Minute;
 use settings_core::Settings;
@@ -38,9 +37,9 @@ pub(crate) fn asked<S: Backend>(
     ensures kept { Spares (state_of S.Store store.old) (state_of S.Store store.new) }
     ensures fault { IfErr result (λ refusal. refusal ≡ Refusal.Unavailable) }
 {
-    let own = or_unavailable(store.watches_of(alloc, call.caller))?;
+    let own = store.watches_of(alloc, call.caller)?;
     let theirs = watches_by(alloc, store, &search.requestor)?;
-    let queues = or_unavailable(store.queues(alloc))?;
+    let queues = store.queues(alloc)?;
     let rows = rows_in(alloc, store, &search.queue)?;
     let (own, theirs, queues) = (own.as_slice(), theirs.as_slice(), queues.as_slice());
     let (settings, at, caller) = (call.settings, call.at, call.caller);
@@ -60,7 +59,7 @@ fn watches_by<S: Backend>(
 {
     match person {
         Some(person) => {
-            let watches = or_unavailable(store.watches_of(alloc, person.as_str()))?;
+            let watches = store.watches_of(alloc, person.as_str())?;
             Ok(watches)
         }
         None => Ok(Vec::new(alloc)),
@@ -80,11 +79,11 @@ fn rows_in<S: Backend>(
 {
     match queue {
         Some(queue) => {
-            let rows = or_unavailable(store.dated_requests_of(alloc, queue))?;
+            let rows = store.dated_requests_of(alloc, queue)?;
             Ok(rows)
         }
         None => {
-            let rows = or_unavailable(store.dated_requests(alloc))?;
+            let rows = store.dated_requests(alloc)?;
             Ok(rows)
         }
     }
@@ -127,7 +126,7 @@ fn facts_at<S: Backend>(alloc: Global, store: &mut Store<S>, id: u32) -> Result<
     let show = Command::Show { id };
     let read = store.facts_for(alloc, &show);
     drop(show);
-    let facts = or_unavailable(read)?;
+    let facts = read?;
     Ok(facts)
 }
 
@@ -146,6 +145,6 @@ fn told_of<S: Backend>(
     ensures kept { Spares (state_of S.Store store.old) (state_of S.Store store.new) }
     ensures fault { IfErr result (λ refusal. refusal ≡ Refusal.Unavailable) }
 {
-    let entries = or_unavailable(store.entries_of(alloc, id))?;
+    let entries = store.entries_of(alloc, id)?;
     Ok(told(settings, caller, &facts.request, entries))
 }

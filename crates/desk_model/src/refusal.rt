@@ -9,7 +9,7 @@ use text_core::Text;
 use thiserror::Error;
 
 /// Why a command is refused. The desk is then as it was.
-#[derive(Debug, Drop, Error)]
+#[derive(Clone, Debug, PartialEq, Drop, Error)]
 pub enum Refusal {
     /// The caller is no person of the settings.
     #[error("the caller is no person of the settings")]

@@ -1,3 +1,4 @@
+pub mod GatheredLemmas
 pub mod LateLemmas
 pub mod PrintedLemmas
 pub mod Reported

@@ -6,6 +6,7 @@ use Rattle.desk_model.specs.Desk.{Desk}
 use Rattle.desk_model.specs.IsDesk.{IsDesk}
 use Rattle.desk_model.specs.declared.refusal.Refusal.TheVariants.{Unavailable}
 use Rattle.store_core.specs.Due.{StandsDue}
+use Rattle.stream_core.specs.Seen.{HaveOneWriter, has_write_failed}
 use Rattle.stream_core.specs.Written.{Prints}
 use Rattle.stream_core.specs.declared.writer.CountedWriter.{CountedWriter}
 use Rattle.desk_reports.specs.declared.fault.StreamFault.{StreamFault}
@@ -16,6 +17,13 @@ abbrev pub IsCutBy : {X : Type 0} → Result X StreamFault → Bool → Type 0
 IsCutBy (Ok done) failed = failed ≡ false
 IsCutBy (Err Write) failed = failed ≡ true
 IsCutBy (Err (Refused refusal)) failed = (failed ≡ false) × (refusal ≡ Unavailable)
+
+-- What a call leaves of a writer: it is the one that it was, and the answer says whether a write
+-- failed.
+pub record LeavesWriter {W X : Type 0} (old new : CountedWriter W) (result : Result X StreamFault)
+    : Type 0 where
+  pub same_writer : HaveOneWriter new old
+  pub failed : IsCutBy result (has_write_failed new)
 
 -- what was printed is the text, or where it was cut short a part from the front of the text
 abbrev pub IsPrintedOf : List ℕ → List ℕ → Result ⊤ StreamFault → Type 0

@@ -1,5 +1,5 @@
-//! Why a stream was cut short, and what a fault of the store is to a command.
-ghost use Rattle.std.specs.Prelude.{◌≡◌, IfErr, IfOk, Ok};
+//! Why a stream was cut short.
+ghost use Rattle.std.specs.Prelude.{◌≡◌};
 ghost use Rattle.desk_model.specs.declared.refusal.Refusal.TheVariants.{Unavailable};
 ghost use Rattle.desk_reports.specs.Fault.{name_of, number_of};
 ghost use Rattle.desk_reports.specs.declared.fault.StreamFault.TheVariants.{Refused};
@@ -56,23 +56,4 @@ impl From<AllocError> for StreamFault {
     fn from(_error: AllocError) -> StreamFault {
         StreamFault::Refused(Refusal::Unavailable)
     }
-}
-
-/// What was read, or `Unavailable`, for whichever fault of the store.
-pub fn or_unavailable<T>(read: Result<T, StoreFault>) -> Result<T, Refusal>
-    ensures ok { IfOk result (λ value. read ≡ Ok value) }
-    ensures err { IfErr result (λ refusal. refusal ≡ Refusal.Unavailable) }
-    ensures kept { IfOk read (λ value. result ≡ Ok value) }
-{
-    match read {
-        Ok(value) => Ok(value),
-        Err(fault) => Err(unavailable(fault)),
-    }
-}
-
-/// What a command answers where its store did not do what it was asked, for whichever fault.
-pub fn unavailable(_fault: StoreFault) -> Refusal
-    ensures { result ≡ Refusal.Unavailable }
-{
-    Refusal::Unavailable
 }

@@ -4,18 +4,19 @@
 //! `list`, `overdue` and `workload` answer what is so of the desk, by the due moments kept.
 //! `overdue` makes values only of rows that are due before the moment; the store still goes over
 //! each. `stream_list` and `stream_overdue` write the same texts row by row (`WritesText`): whole,
-//! or a part from the front with `Write` or `Refused(Unavailable)`. `specs/Rows.antt` has the words
-//! of the contracts on rows, `Lines.antt` those of their texts.
-//!
-//! A fault of the store is `Unavailable` to a command (`fault.rt`).
+//! or a part from the front with `Write` or `Refused(Unavailable)`. The texts of rows are gathered,
+//! and go out 8 KiB at a time; what is gathered when a list is cut short goes out as well.
+//! `specs/Rows.antt` has the words of the contracts on rows, `Gathered.antt` those on what is
+//! gathered, `Lines.antt` those of their texts.
 #![tactic(auto)]
 
 mod fault;
+mod gathered;
 mod lines;
 mod reports;
 mod rows;
 mod stream;
 
-pub use fault::{StreamFault, or_unavailable, unavailable};
+pub use fault::StreamFault;
 pub use reports::{list, overdue, workload};
 pub use stream::{stream_list, stream_overdue};

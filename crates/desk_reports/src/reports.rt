@@ -9,7 +9,6 @@ ghost use Rattle.store_tables.specs.Calls.{Spares};
 ghost use Rattle.store_core.specs.Due.{TellsDue};
 ghost use Rattle.store_core.specs.Seen.{state_of};
 
-use crate::fault::or_unavailable;
 use desk_core::{Call, LateLine, Line, Load, Refusal};
 use settings_core::Settings;
 use std::alloc::Global;
@@ -32,8 +31,8 @@ pub fn list<S: Backend>(
     ensures kept { Spares (state_of S.Store store.old) (state_of S.Store store.new) }
     ensures fault { IfErr result (λ refusal. refusal ≡ Refusal.Unavailable) }
 {
-    let watches = or_unavailable(store.watches_of(alloc, caller))?;
-    let rows = or_unavailable(store.dated_requests_of(alloc, queue))?;
+    let watches = store.watches_of(alloc, caller)?;
+    let rows = store.dated_requests_of(alloc, queue)?;
     let own = watches.as_slice();
     let lines = report_core::list(alloc, settings, caller, own, rows)?;
     Ok(lines)
@@ -55,8 +54,8 @@ pub fn overdue<S: Backend>(
     ensures kept { Spares (state_of S.Store store.old) (state_of S.Store store.new) }
     ensures fault { IfErr result (λ refusal. refusal ≡ Refusal.Unavailable) }
 {
-    let watches = or_unavailable(store.watches_of(alloc, call.caller))?;
-    let rows = or_unavailable(store.requests_due_before(alloc, call.at))?;
+    let watches = store.watches_of(alloc, call.caller)?;
+    let rows = store.requests_due_before(alloc, call.at)?;
     let own = watches.as_slice();
     let (at, settings, caller) = (call.at, call.settings, call.caller);
     let lines = report_core::overdue(alloc, at, settings, caller, own, rows)?;
@@ -78,9 +77,9 @@ pub fn workload<S: Backend>(
     ensures kept { Spares (state_of S.Store store.old) (state_of S.Store store.new) }
     ensures fault { IfErr result (λ refusal. refusal ≡ Refusal.Unavailable) }
 {
-    let watches = or_unavailable(store.watches_of(alloc, call.caller))?;
-    let queues = or_unavailable(store.queues(alloc))?;
-    let rows = or_unavailable(store.dated_requests(alloc))?;
+    let watches = store.watches_of(alloc, call.caller)?;
+    let queues = store.queues(alloc)?;
+    let rows = store.dated_requests(alloc)?;
     let (watches, queues) = (watches.as_slice(), queues.as_slice());
     let (at, settings, caller) = (call.at, call.settings, call.caller);
     let loads = report_core::workload(alloc, at, settings, caller, watches, queues, rows)?;

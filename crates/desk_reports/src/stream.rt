@@ -1,4 +1,5 @@
-//! Lists that are written row by row. Of the rows one at a time is in memory.
+//! Lists that are written row by row. Of a queue 64 rows at most are in memory; of what was due one
+//! row, and the numbers of all. Of the text at most 8 KiB and a row's are held before they go out.
 ghost use Rattle.std.specs.Prelude.{◌≡◌, false};
 ghost use Rattle.desk_model.specs.Readings.Listing as listing;
 ghost use Rattle.desk_model.specs.Readings.Overdue as overdue;

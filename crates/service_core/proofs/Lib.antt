@@ -1,6 +1,8 @@
+pub mod AttachLemmas
 pub mod DossierLemmas
 pub mod KnownLemmas
 pub mod Laws
+pub mod LeftLemmas
 pub mod RenewedDues
 pub mod Stepping
 pub mod Safely
@@ -10,6 +12,7 @@ pub mod RunsAlike
 pub mod StayLemmas
 pub mod WrittenAlike
 pub mod Linked
+pub mod TestLemmas
 pub mod ToldLemmas
 pub mod Telling
 pub mod SightLemmas

@@ -38,8 +38,8 @@ run_goes_on s asks outcomes ask outcome old mid new run honest step desk is stan
     let then = step so_far.0 so_far.1.1 so_far.2 clean in (
       then.0,
       (
-        run_more (IsStep s) desk asks outcomes so_far.0 ask outcome then.0 so_far.1.0 then.1,
-        then.1.formed,
+        run_more (IsStep s) desk asks outcomes so_far.0 ask outcome then.0 so_far.1.0 then.1.0,
+        then.1.1,
       ),
       then.2,
     )

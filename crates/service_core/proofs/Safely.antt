@@ -10,26 +10,15 @@ use Rattle.desk_model.specs.declared.facts.Facts.{Facts}
 use Rattle.desk_model.specs.declared.refusal.Refusal.{Refusal}
 use Rattle.desk_model.specs.declared.refusal.Refusal.TheVariants.{Unavailable}
 use Rattle.store_core.specs.Due.{StandsDue, due_of_row}
-use Rattle.store_tables.proofs.Lasting.{on}
 use Rattle.store_tables.proofs.Spared.{stands, unread}
 use Rattle.store_tables.specs.Calls.{Spares}
 use Rattle.store_tables.specs.Contents.{contents_of}
 use Rattle.service_core.specs.Decided.{StepsSeeing}
-use Rattle.service_core.specs.Leaves.{KeepsStore, StepsSafely}
+use Rattle.service_core.specs.Leaves.{StepsSafely}
 use Rattle.service_core.specs.TableSteps.{StepsOn}
 use Rattle.service_core.proofs.FindLemmas.{named_by}
+use Rattle.service_core.proofs.LeftLemmas.{keeps_after, spared_keeps}
 use Rattle.service_core.proofs.Stepping.{spared_after, spared_by}
-
--- what spares the tables keeps the store
-spared_keeps : {old new : State} → Spares old new → KeepsStore old new
-spared_keeps kept = record { clean = kept.clean; lasts = kept.lasts }
-
--- one call, and another after it
-keeps_both : {a b c : State} → Spares a b → KeepsStore b c → KeepsStore a c
-keeps_both first second = record {
-  clean = λ clean. first.clean (second.clean clean);
-  lasts = on second.clean first.lasts second.lasts;
-}
 
 -- a command that is refused before anything is done
 pub refused_safely : (Does : Outcome → State → State → Type 0) (tables : State)
@@ -63,9 +52,11 @@ pub seen_safely : (facts : Facts) (s : Settings) (ask : Ask) (old mid new : Stat
     → StepsSafely (StepsOn s ask) old new outcome
 seen_safely facts s ask old mid new outcome seen kept done = record {
   step = λ desk is stand clean.
+      let stepped =
       done.step desk is (seen desk is stand (done.keeps.clean clean))
-      (stands kept (contents_of (due_of_row s desk) desk) stand) clean;
+      (stands kept (contents_of (due_of_row s desk) desk) stand) clean in
+      (stepped.0, (stepped.1, stepped.1.formed), stepped.2);
   refused = spared_after outcome old mid new kept done.refused;
   named = done.named;
-  keeps = keeps_both kept done.keeps;
+  keeps = keeps_after kept done.keeps;
 }

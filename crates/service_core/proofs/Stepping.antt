@@ -135,7 +135,7 @@ pub unavailable_on : (s : Settings) (ask : Ask) (refusal : Refusal) (old new : S
     → refusal ≡ Unavailable → Spares old new → StepsOn s ask (Err refusal) old new
 unavailable_on s ask refusal old new same kept desk is stand clean = (
   desk,
-  lawful s ask desk (Err refusal) desk is (inl (ap Err same, refl)),
+  (lawful s ask desk (Err refusal) desk is (inl (ap Err same, refl)), is),
   stands kept (contents_of (due_of_row s desk) desk) stand,
 )
 
@@ -156,7 +156,7 @@ pub refused_on : (s : Settings) (ask : Ask) (refusal : Refusal) (tables : State)
     → StepsOn s ask (Err refusal) tables tables
 refused_on s ask refusal tables always desk is stand clean = (
   desk,
-  refused_step s ask desk refusal is (λ known. always desk),
+  (refused_step s ask desk refusal is (λ known. always desk), is),
   stand,
 )
 

@@ -18,8 +18,11 @@ pub left_out_if_long : (s : Settings) (ask : Ask) (outcome : Outcome) (old new :
 left_out_if_long s ask outcome old new long steps desk is stand clean =
     let done = steps desk is stand clean in
     let same =
-    unchanged_if_long s ask.at ask.caller ask.command desk done.0 outcome long done.1.step in
-    (done.0, lawful s ask desk (Err Unavailable) done.0 is (inl (refl, same)), done.2)
+    unchanged_if_long s ask.at ask.caller ask.command desk done.0 outcome long done.1.0.step in (
+      done.0,
+      (lawful s ask desk (Err Unavailable) done.0 is (inl (refl, same)), done.1.1),
+      done.2,
+    )
 
 -- one for whose text there was no room
 pub left_out : (s : Settings) (ask : Ask) (tables : State)

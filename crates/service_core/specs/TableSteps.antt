@@ -41,23 +41,21 @@ pub record IsStep (settings : Settings) (ask : Ask) (old : Desk) (outcome : Outc
       → HiddenLaw settings ask.at ask.caller ask.command old outcome
 
 -- whatever desk the tables stand for before a call, with its due moments, afterwards they stand for
--- one to which `Leads` leads from it, with its own
+-- one to which `Leads` leads from it, with its own, and which is well formed as well
 abbrev pub LeadsOn : Settings → (Desk → Desk → Type 0) → State → State → Type 0
 LeadsOn settings Leads old new =
     (desk : Desk) → IsDesk desk → StandsDue settings desk old → HasCleanDisk new
-    → (after : Desk) × Leads desk after × StandsDue settings after new
+    → (after : Desk) × (Leads desk after × IsDesk after) × StandsDue settings after new
 
 -- one step
 abbrev pub StepsOn : Settings → Ask → Outcome → State → State → Type 0
 StepsOn settings ask outcome =
     LeadsOn settings (λ desk after. IsStep settings ask desk outcome after)
 
--- a run of steps, each from the desk that the one before left; the last is well formed, as the
--- first is
+-- a run of steps, each from the desk that the one before left
 abbrev pub RunsOn : Settings → List Ask → List Outcome → State → State → Type 0
 RunsOn settings asks outcomes =
-    LeadsOn settings
-    (λ desk after. RunsBy (IsStep settings) desk asks outcomes after × IsDesk after)
+    LeadsOn settings (λ desk after. RunsBy (IsStep settings) desk asks outcomes after)
 
 -- the tables stand for whatever desk they stood for, with its due moments
 abbrev pub StandsOn : Settings → State → State → Type 0

@@ -2,25 +2,24 @@
 //!
 //! What owns much is given back by `drop`, whose proof stands once; at the end of its scope it
 //! would be taken apart for each function's own proof.
-ghost use Rattle.std.specs.Prelude.{◌≡◌, ◌&&◌, ◌≢◌, false, map, true, IfErr, IfOk, Ok, OnOk, OnErr};
-ghost use Rattle.desk_model.specs.Desk as desks;
+ghost use Rattle.std.specs.Prelude.{◌≡◌, ◌&&◌, map, IfErr, IfOk, Ok, OnOk};
 ghost use Rattle.desk_model.specs.Known as known;
-ghost use Rattle.store_tables.specs.Calls.{Lasts, Spares, Tells, WasClean};
+ghost use Rattle.store_tables.specs.Calls.{Spares, Tells};
 ghost use Rattle.store_tables.specs.Contents.{watchers};
 ghost use Rattle.store_tables.specs.Contents.Request.{row_of};
 ghost use Rattle.store_tables.specs.Readings.{Blames};
-ghost use Rattle.store_tables.specs.Stands.{StandsFor};
 ghost use Rattle.store_core.specs.Seen.{state_of};
 ghost use Rattle.report_core.specs.Rows.{QueuesRise};
 ghost use Rattle.service_core.specs.Attaching as attaching;
-ghost use Rattle.service_core.specs.Attaching.{BlamesBad, FailsOver, TellsKnown};
+ghost use Rattle.service_core.specs.Attaching.{GoodEntries, GoodLinks, GoodPersons, IsAttached};
+ghost use Rattle.service_core.specs.Attaching.{IsFaultOver, IsGivenBack, LacksName};
+ghost use Rattle.service_core.specs.Attaching.{StaysUnlessDone, Tests, TestsOrBlames, knows_names};
 ghost use Rattle.service_core.specs.Renewing.{AreRenewed};
-ghost use Rattle.service_core.specs.Seen.{settings_of, tables_of};
 
 use crate::desk::Desk;
 use crate::fault::AttachFault;
 use crate::known::{knows_actors, knows_rows};
-use crate::renewal::renew;
+use crate::renewal::{Renewal, renew};
 use desk_core::{QueueRow, RequestRow};
 use hours_core::Minute;
 use settings_core::Settings;
@@ -31,42 +30,34 @@ impl<S: Backend> Desk<S> {
     /// The desk over these tables, with these settings. The due moments that the tables keep become
     /// those by these settings: the ones that differ are written, all or none.
     ///
-    /// Answers `Store` where a row is no value of its type, or the store or memory refuses it, and
-    /// otherwise `UnknownName` where the settings lack a name of the tables; the store is given
-    /// back with either, and the tables are as they were, whatever rows they have. Of an entry only
-    /// the one who made it is looked at, and of a stay all but its number.
+    /// Answers `Store` where a row is no value of its type, or the store refuses it or has no memory
+    /// for it; otherwise `UnknownName` where the settings lack a name of the tables, and otherwise
+    /// `NoMemory` where there is none for the due moments. The store is given back with each, and
+    /// the tables are as they were, whatever rows they have. All rows are tested before a name is
+    /// looked for, but for the two texts of an entry.
     pub fn attach(
         alloc: Global,
         mut store: Store<S>,
         settings: Settings,
     ) -> Result<Desk<S>, (AttachFault, Store<S>)>
-        ensures settings { IfOk result (λ desk. settings_of S.Store desk ≡ settings) }
-        ensures known { IfOk result (λ desk.
-            TellsKnown settings (state_of S.Store store) (tables_of S.Store desk) true) }
+        ensures attached { IfOk result (λ desk.
+            IsAttached S.Store settings (state_of S.Store store) desk) }
         ensures unknown { IfErr result (λ back. back.0 ≡ AttachFault.UnknownName
-            → TellsKnown settings (state_of S.Store store) (state_of S.Store back.1) false) }
-        ensures renewed { IfOk result (λ desk.
-            AreRenewed settings (state_of S.Store store) (tables_of S.Store desk)) }
-        ensures honest { IfOk result (λ desk.
-            WasClean (state_of S.Store store) (tables_of S.Store desk)) }
-        ensures lasts { IfOk result (λ desk.
-            Lasts (state_of S.Store store) (tables_of S.Store desk)) }
-        ensures given_back { IfErr result (λ back.
-            Spares (state_of S.Store store) (state_of S.Store back.1)) }
-        ensures stands { IfErr result (λ back. (desk : desks.Desk)
-            → StandsFor desk (state_of S.Store store) → StandsFor desk (state_of S.Store back.1)) }
+            → LacksName settings (state_of S.Store store) (state_of S.Store back.1)) }
         ensures fault { IfErr result (λ back.
-            FailsOver (state_of S.Store store) (state_of S.Store back.1) back.0) }
-        ensures blames { IfErr result (λ back.
-            BlamesBad (state_of S.Store store) (state_of S.Store back.1) back.0) }
-        ensures honest_fault { IfErr result (λ back.
-            WasClean (state_of S.Store store) (state_of S.Store back.1)) }
+            IsFaultOver (state_of S.Store store) (state_of S.Store back.1) back.0) }
+        ensures given_back { IfErr result (λ back.
+            IsGivenBack (state_of S.Store store) (state_of S.Store back.1)) }
     {
         match renew_known(alloc, &mut store, &settings) {
-            Ok(true) => Ok(Desk { store, settings }),
-            Ok(false) => {
+            Ok(Renewal::Done) => Ok(Desk { store, settings }),
+            Ok(Renewal::UnknownName) => {
                 drop(settings);
                 Err((AttachFault::UnknownName, store))
+            }
+            Ok(Renewal::NoMemory) => {
+                drop(settings);
+                Err((AttachFault::NoMemory, store))
             }
             Err(fault) => {
                 drop(settings);
@@ -76,34 +67,31 @@ impl<S: Backend> Desk<S> {
     }
 }
 
-/// Whether the settings know each name of the tables. Where they do, the due moments of the tables
-/// are renewed; else, and on a fault, the tables stay as they are, whatever rows they have.
+/// Renews the due moments of the tables where the settings know each name of them. Unless that is
+/// done the tables stay as they are, whatever rows they have.
 #[tactic(auto, using(store_tables::proofs::Spared::joined, store_tables::proofs::Spared::stands))]
 fn renew_known<S: Backend>(
     alloc: Global,
     store: &mut Store<S>,
     settings: &Settings,
-) -> Result<bool, StoreFault>
-    ensures told { Tells (λ desk found. known.is_known settings.now desk ≡ found)
+) -> Result<Renewal, StoreFault>
+    ensures tested { TestsOrBlames
         (state_of S.Store store.old) (state_of S.Store store.new) result }
-    ensures renewed { result ≡ Ok true
+    ensures told { Tells (λ desk came. known.is_known settings.now desk ≡ knows_names came)
+        (state_of S.Store store.old) (state_of S.Store store.new) result }
+    ensures renewed { result ≡ Ok Renewal.Done
         → AreRenewed settings.now (state_of S.Store store.old) (state_of S.Store store.new) }
-    ensures left { result ≢ Ok true
-        → Spares (state_of S.Store store.old) (state_of S.Store store.new) }
-    ensures honest { WasClean (state_of S.Store store.old) (state_of S.Store store.new) }
-    ensures lasts { Lasts (state_of S.Store store.old) (state_of S.Store store.new) }
-    ensures fault { Blames
-        (state_of S.Store store.old) (state_of S.Store store.new) result }
+    ensures left { StaysUnlessDone result
+        (state_of S.Store store.old) (state_of S.Store store.new) }
 {
     let dated = store.dated_requests(alloc)?;
     let queues = store.queues(alloc)?;
     let stays = store.stays(alloc)?;
     let (dated, queues) = (dated.as_slice(), queues.as_slice());
     if !is_known(alloc, store, settings, queues, dated)? {
-        return Ok(false);
+        return Ok(Renewal::UnknownName);
     }
-    renew(alloc, store, settings, queues, stays, dated)?;
-    Ok(true)
+    renew(alloc, store, settings, queues, stays, dated)
 }
 
 /// Whether the settings know each name of the tables, of which these are the queues and the
@@ -119,6 +107,8 @@ fn is_known<S: Backend>(
         ≡ (attaching.knows_rows settings.now queues.now (map row_of dated.now) (watchers desk)
         && attaching.knows_histories settings.now desk))
         (state_of S.Store store.old) (state_of S.Store store.new) result }
+    ensures tested { OnOk result
+        (Tests GoodPersons (state_of S.Store store.old) (state_of S.Store store.new)) }
     ensures kept { Spares (state_of S.Store store.old) (state_of S.Store store.new) }
     ensures fault { Blames
         (state_of S.Store store.old) (state_of S.Store store.new) result }
@@ -132,6 +122,8 @@ fn is_known<S: Backend>(
 
 /// Reads the links: they have no names, but each has to be one. The tables stay as they are.
 fn read_links<S: Backend>(alloc: Global, store: &mut Store<S>) -> Result<(), StoreFault>
+    ensures tested { OnOk result
+        (Tests GoodLinks (state_of S.Store store.old) (state_of S.Store store.new)) }
     ensures kept { Spares (state_of S.Store store.old) (state_of S.Store store.new) }
     ensures fault { Blames
         (state_of S.Store store.old) (state_of S.Store store.new) result }
@@ -150,6 +142,8 @@ fn knows_histories<S: Backend>(
 ) -> Result<bool, StoreFault>
     ensures told { Tells (λ desk found. found ≡ attaching.knows_histories settings.now desk)
         (state_of S.Store store.old) (state_of S.Store store.new) result }
+    ensures tested { OnOk result
+        (Tests GoodEntries (state_of S.Store store.old) (state_of S.Store store.new)) }
     ensures kept { Spares (state_of S.Store store.old) (state_of S.Store store.new) }
     ensures fault { Blames
         (state_of S.Store store.old) (state_of S.Store store.new) result }

@@ -7,7 +7,6 @@ ghost use Rattle.store_core.specs.Seen.{connection_of};
 ghost use Rattle.service_core.specs.Seen.{settings_of, tables_of};
 
 use desk_core::Refusal;
-use desk_reports::or_unavailable;
 use settings_core::Settings;
 use store_core::{Backend, Store};
 
@@ -57,6 +56,6 @@ impl<S: Backend> Desk<S> {
         ensures fault { IfErr result (λ refusal. refusal ≡ Refusal.Unavailable) }
         ensures same { settings_of S.Store self.new ≡ settings_of S.Store self.old }
     {
-        or_unavailable(self.store.is_open())
+        Ok(self.store.is_open()?)
     }
 }

@@ -15,7 +15,6 @@ use desk_core::{
     Answer, Call, Command, Dossier, Entry, Facts, QueueRow, Refusal, Shown, decide_on_facts,
     refused_beforehand,
 };
-use desk_reports::unavailable;
 use std::alloc::{AllocError, Global};
 use store_core::{Backend, Store};
 use text_core::Sequence;
@@ -93,7 +92,7 @@ fn look<S: Backend>(
             drop(facts);
             dossier
         }
-        Err(fault) => Err(unavailable(fault)),
+        Err(fault) => Err(fault.into()),
     }
 }
 

@@ -6,11 +6,11 @@ ghost use Rattle.std.specs.Prelude.{◌≡◌, true, None, IfErr, IfOk, OnErr};
 ghost use Rattle.desk_model.specs.Plan.{told_of};
 ghost use Rattle.desk_model.specs.Refusals.{names_its_right};
 ghost use Rattle.desk_model.specs.Step.{refusal_beforehand};
-ghost use Rattle.store_tables.specs.Calls.{Lasts, Spares, WasClean};
+ghost use Rattle.store_tables.specs.Calls.{Spares};
 ghost use Rattle.store_core.specs.Seen.{state_of};
 ghost use Rattle.service_core.specs.Asked.{asked};
 ghost use Rattle.service_core.specs.Decided.{StepsSeeing, Writes};
-ghost use Rattle.service_core.specs.Leaves.{KeepsStore, StepsSafely};
+ghost use Rattle.service_core.specs.Leaves.{KeepsStore, LeavesDesk, StepsSafely};
 ghost use Rattle.service_core.specs.TableSteps.{StepsOn, ask_by};
 ghost use Rattle.service_core.specs.Seen.{settings_of, tables_of};
 
@@ -19,7 +19,6 @@ use crate::reading;
 use desk_core::{
     Answer, Call, Change, Command, Facts, Refusal, decide_on_facts, refused_beforehand,
 };
-use desk_reports::unavailable;
 use std::alloc::Global;
 use store_core::{Backend, Store};
 
@@ -30,7 +29,6 @@ impl<S: Backend> Desk<S> {
     ///
     /// `Unavailable` may come in place of any answer, where memory or the store refused. After a
     /// refusal the tables are as they were, whatever rows they have.
-    #[tactic(auto, using(store_tables::proofs::Lasting::same))]
     pub fn execute(
         &mut self,
         alloc: Global,
@@ -44,9 +42,7 @@ impl<S: Backend> Desk<S> {
         ensures refused { OnErr result
             (Spares (tables_of S.Store self.old) (tables_of S.Store self.new)) }
         ensures named { IfErr result (λ refusal. names_its_right refusal ≡ true) }
-        ensures honest { WasClean (tables_of S.Store self.old) (tables_of S.Store self.new) }
-        ensures lasts { Lasts (tables_of S.Store self.old) (tables_of S.Store self.new) }
-        ensures same { settings_of S.Store self.new ≡ settings_of S.Store self.old }
+        ensures left { LeavesDesk S.Store self.old self.new }
     {
         let settings = &self.settings;
         match refused_beforehand(settings, at, caller, command) {
@@ -83,7 +79,7 @@ fn step<S: Backend>(
             drop(facts);
             outcome
         }
-        Err(fault) => Err(unavailable(fault)),
+        Err(fault) => Err(fault.into()),
     }
 }
 
@@ -131,7 +127,7 @@ fn write<S: Backend>(store: &mut Store<S>, change: Change) -> Result<Answer, Ref
         }
         Err(fault) => {
             drop(change);
-            Err(unavailable(fault))
+            Err(fault.into())
         }
     }
 }

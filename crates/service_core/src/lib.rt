@@ -2,8 +2,9 @@
 //! The texts of answers and refusals stand in `desk_texts`, and are passed on.
 //!
 //! - `Desk::attach` gives a desk over tables where the settings know each name in them, and
-//!   `UnknownName` only where they don't; the store is given back. Then the tables keep the due
-//!   moments that the settings give (`AreRenewed`). Those that differ are written, all or none.
+//!   `UnknownName` only where they don't; the store is given back. Each row is a value of its type
+//!   then (`TestsRows`). The tables of a desk keep the due moments that the settings give
+//!   (`AreRenewed`). Those that differ are written, all or none.
 //! - `Desk::execute` is one step (`StepsOn`), to a well-formed desk, with the laws beside it
 //!   (`IsStep`); or `Unavailable`. A refusal changes no table, whatever rows there are.
 //! - `Desk::execute_all` is a run of such steps, to a well-formed desk (`RunsOn`). Where there is no

@@ -9,7 +9,6 @@ ghost use Rattle.service_core.specs.Shown as shown;
 ghost use Rattle.service_core.specs.Shown.{AreAnswers};
 
 use desk_core::{LinkKind, LinkRow, Links, Refusal};
-use desk_reports::or_unavailable;
 use settings_core::Settings;
 use std::alloc::{AllocError, Global};
 use std::collections::BTreeMap;
@@ -55,7 +54,7 @@ pub(crate) fn links_of<S: Backend>(
     ensures fault { IfErr result (λ refusal. refusal ≡ Refusal.Unavailable) }
 {
     let mut asked = BTreeMap::new(alloc);
-    let from = or_unavailable(store.links_from(alloc, id))?;
+    let from = store.links_from(alloc, id)?;
     let leading = from.as_slice();
     let targets = shown_at(
         alloc,
@@ -66,7 +65,7 @@ pub(crate) fn links_of<S: Backend>(
         leading,
         &mut asked,
     )?;
-    let to = or_unavailable(store.links_to(alloc, id))?;
+    let to = store.links_to(alloc, id)?;
     let ending = to.as_slice();
     let sources = shown_at(
         alloc,
@@ -131,7 +130,7 @@ fn is_shown_once<S: Backend>(
     match asked.get(&number).copied() {
         Some(shown) => Ok(shown),
         None => {
-            let shown = or_unavailable(store.is_shown(alloc, settings, caller, number))?;
+            let shown = store.is_shown(alloc, settings, caller, number)?;
             asked.insert(number, shown)?;
             Ok(shown)
         }

@@ -12,7 +12,6 @@ ghost use Rattle.service_core.specs.TableSteps.{ask_by};
 
 use crate::sight::{Sight, sight_of};
 use desk_core::{Answer, QueueRow, Refusal, sees_queue};
-use desk_reports::or_unavailable;
 use settings_core::Settings;
 use std::alloc::{AllocError, Global};
 use store_core::{Backend, Store};
@@ -55,7 +54,7 @@ fn all_seen<S: Backend>(
     ensures kept { Spares (state_of S.Store store.old) (state_of S.Store store.new) }
     ensures fault { IfErr result (λ refusal. refusal ≡ Refusal.Unavailable) }
 {
-    let queues = or_unavailable(store.queues(alloc))?;
+    let queues = store.queues(alloc)?;
     Ok(Answer::Queues(queues_seen(settings, caller, queues)))
 }
 
@@ -80,7 +79,7 @@ fn one_queue<S: Backend>(
     ensures kept { Spares (state_of S.Store store.old) (state_of S.Store store.new) }
     ensures fault { IfErr result (λ refusal. refusal ≡ Refusal.Unavailable) }
 {
-    let queue = or_unavailable(store.queue_named(name))?;
+    let queue = store.queue_named(name)?;
     Ok(Answer::Queues(listed(alloc, queue)?))
 }
 

@@ -11,7 +11,6 @@ ghost use Rattle.service_core.specs.Shown as shown;
 use crate::links::links_of;
 use crate::queues::queues;
 use desk_core::{Answer, Call, Command, Entry, Facts, Links, Refusal, SeenRequest, Shown, due_of};
-use desk_reports::or_unavailable;
 use hours_core::Minute;
 use settings_core::Settings;
 use std::alloc::Global;
@@ -199,7 +198,7 @@ fn told_to<S: Backend>(
     ensures fault { IfErr result (λ refusal. refusal ≡ Refusal.Unavailable) }
 {
     let comments = request.shows_comments_to(call.settings, call.caller);
-    let entries = or_unavailable(store.entries_of(alloc, request.row.id))?;
+    let entries = store.entries_of(alloc, request.row.id)?;
     Ok(Answer::History(told(entries, comments)))
 }
 

@@ -1,10 +1,10 @@
 //! The due moments that tables keep are renewed by the settings that are attached.
-ghost use Rattle.std.specs.Prelude.{◌≡◌, ℕ, length, IfErr, IfOk, List, OnErr, OnOk};
+ghost use Rattle.std.specs.Prelude.{◌≡◌, ℕ, true, length, IfErr, IfOk, List, Ok};
 ghost use Rattle.hours_core.specs.declared.stay.Stay as stay;
-ghost use Rattle.store_tables.specs.Calls.{Lasts, Spares, WasClean};
 ghost use Rattle.store_tables.specs.declared.fault.StoreFault.{StoreFault};
 ghost use Rattle.store_core.specs.Seen.{state_of};
 ghost use Rattle.report_core.specs.Rows.{QueuesRise};
+ghost use Rattle.service_core.specs.Attaching.{StaysUnlessDone, knows_names};
 ghost use Rattle.service_core.specs.Renewing as renewing;
 ghost use Rattle.service_core.specs.Renewing.{AreApart, AreRenewedFrom, StaysRise};
 
@@ -16,11 +16,21 @@ use settings_core::Settings;
 use std::alloc::{AllocError, Global};
 use store_core::{Backend, Store, StoreFault};
 
+/// What came of settings that are attached to tables, where nothing of the store was refused.
+#[derive(Clone, Copy)]
+pub(crate) enum Renewal {
+    /// The due moments are those by the settings.
+    Done,
+    /// The settings lack a name of the tables, which stay as they are.
+    UnknownName,
+    /// There was no memory for the due moments. The tables stay as they are.
+    NoMemory,
+}
+
 /// Writes the due moment of each of these requests for which the tables keep another one: all of
 /// them, or none. They are those of the tables, and so are the queues and the stays, beside which
-/// the numbers of their requests stand. On a fault the tables stay as they are, whatever
+/// the numbers of their requests stand. Unless that is done the tables stay as they are, whatever
 /// rows they have.
-#[tactic(auto, using(store_tables::proofs::Lasting::same))]
 pub(crate) fn renew<S: Backend>(
     alloc: Global,
     store: &mut Store<S>,
@@ -28,18 +38,21 @@ pub(crate) fn renew<S: Backend>(
     queues: &[QueueRow],
     stays: Vec<(u32, Stay)>,
     dated: &[(RequestRow, Option<Minute>)],
-) -> Result<(), StoreFault>
-    ensures renewed { OnOk result (AreRenewedFrom settings.now queues.now stays.items dated.now
-        (state_of S.Store store.old) (state_of S.Store store.new)) }
-    ensures left { OnErr result
-        (Spares (state_of S.Store store.old) (state_of S.Store store.new)) }
-    ensures honest { WasClean (state_of S.Store store.old) (state_of S.Store store.new) }
-    ensures lasts { Lasts (state_of S.Store store.old) (state_of S.Store store.new) }
+) -> Result<Renewal, StoreFault>
+    ensures known { IfOk result (λ came. knows_names came ≡ true) }
+    ensures renewed { result ≡ Ok Renewal.Done
+        → AreRenewedFrom settings.now queues.now stays.items dated.now
+        (state_of S.Store store.old) (state_of S.Store store.new) }
+    ensures left { StaysUnlessDone result
+        (state_of S.Store store.old) (state_of S.Store store.new) }
     ensures fault { IfErr result (λ e. e ≡ StoreFault.Refused) }
 {
     match renewals(alloc, settings, queues, stays, dated) {
-        Ok(dues) => store.set_dues(dues.as_slice()),
-        Err(_) => Err(StoreFault::Refused),
+        Ok(dues) => {
+            store.set_dues(dues.as_slice())?;
+            Ok(Renewal::Done)
+        }
+        Err(_) => Ok(Renewal::NoMemory),
     }
 }
 

@@ -1,8 +1,8 @@
 //! A list of commands on the desk.
 ghost use Rattle.std.specs.Prelude.{◌≡◌, IfOk, OnErr};
-ghost use Rattle.store_tables.specs.Calls.{Lasts, WasClean};
 ghost use Rattle.desk_texts.specs.Short.{AreNamed};
 ghost use Rattle.service_core.specs.TableSteps.{RunsOn, asks_of};
+ghost use Rattle.service_core.specs.Leaves.{LeavesDesk};
 ghost use Rattle.service_core.specs.Seen.{settings_of, tables_of};
 
 use crate::desk::Desk;
@@ -26,9 +26,7 @@ impl<S: Backend> Desk<S> {
             (tables_of S.Store self.old) (tables_of S.Store self.new)) }
         ensures named { IfOk result (λ outcomes. AreNamed outcomes.items) }
         ensures err { OnErr result (self.new ≡ self.old) }
-        ensures honest { WasClean (tables_of S.Store self.old) (tables_of S.Store self.new) }
-        ensures lasts { Lasts (tables_of S.Store self.old) (tables_of S.Store self.new) }
-        ensures same { settings_of S.Store self.new ≡ settings_of S.Store self.old }
+        ensures left { LeavesDesk S.Store self.old self.new }
     {
         let mut outcomes = Vec::with_capacity(alloc, asks.len())?;
         for ask in asks {

@@ -10,6 +10,7 @@ ghost use Rattle.store_core.specs.Seen.{state_of};
 ghost use Rattle.stream_core.specs.Seen.{HaveOneWriter, has_write_failed};
 ghost use Rattle.stream_core.specs.Written.{IsWritten, Prints};
 ghost use Rattle.service_core.specs.Asked.{asked};
+ghost use Rattle.service_core.specs.Leaves.{LeavesWriter, SparesDesk};
 ghost use Rattle.service_core.specs.Seen.{settings_of, tables_of};
 ghost use Rattle.service_core.specs.Streaming.{Admits, IsAdmitted, StreamsAdmitted};
 ghost use Rattle.service_core.specs.Streaming.{StreamsOn, StreamsSafely, is_list, is_write};
@@ -17,7 +18,7 @@ ghost use Rattle.service_core.specs.TableSteps.{StandsOn, ask_by};
 
 use crate::desk::Desk;
 use desk_core::{Call, Command, Facts, Refusal, decide_on_facts, refused_beforehand};
-use desk_reports::{StreamFault, or_unavailable, stream_list, stream_overdue};
+use desk_reports::{StreamFault, stream_list, stream_overdue};
 use std::alloc::Global;
 use std::io::Write;
 use store_core::{Backend, Store};
@@ -26,7 +27,7 @@ use stream_core::CountedWriter;
 impl<S: Backend> Desk<S> {
     /// Writes the text of a queue's list or of what is overdue, row by row, for a caller at a
     /// moment, in minutes since 1970-01-01 00:00 UTC: the text that `execute` would answer. No
-    /// table changes, and of the rows one at a time is in memory. The writer isn't flushed.
+    /// table changes, and of the rows 64 at most are in memory. The writer isn't flushed.
     ///
     /// A command that is refused writes nothing. `Write` where a write fails or takes no byte: a
     /// part from the front of the text was written. `Unavailable` where memory or the store
@@ -46,8 +47,7 @@ impl<S: Backend> Desk<S> {
             (IsWritten (is_write result) (W.contents writer.old) (W.contents writer.new)) }
         ensures stands { StandsOn (settings_of S.Store self.old)
             (tables_of S.Store self.old) (tables_of S.Store self.new) }
-        ensures kept { Spares (tables_of S.Store self.old) (tables_of S.Store self.new) }
-        ensures same { settings_of S.Store self.new ≡ settings_of S.Store self.old }
+        ensures left { SparesDesk S.Store self.old self.new }
     {
         let mut output = CountedWriter::new(writer);
         self.stream_counted(alloc, at, caller, command, &mut output)
@@ -65,16 +65,14 @@ impl<S: Backend> Desk<S> {
     ) -> Result<(), StreamFault>
         requires list { is_list command.now ≡ true }
         requires unfailed { has_write_failed output.old ≡ false }
-        ensures same_writer { HaveOneWriter output.new output.old }
+        ensures writer { LeavesWriter (is_write result) output.old output.new }
         ensures streamed { StreamsOn (settings_of S.Store self.old)
             (ask_by at caller.now command.now)
             (tables_of S.Store self.old) (tables_of S.Store self.new) result
             (Prints W.contents output.old output.new) }
-        ensures failed { has_write_failed output.new ≡ is_write result }
         ensures stands { StandsOn (settings_of S.Store self.old)
             (tables_of S.Store self.old) (tables_of S.Store self.new) }
-        ensures kept { Spares (tables_of S.Store self.old) (tables_of S.Store self.new) }
-        ensures same { settings_of S.Store self.new ≡ settings_of S.Store self.old }
+        ensures left { SparesDesk S.Store self.old self.new }
     {
         let settings = &self.settings;
         match refused_beforehand(settings, at, caller, command) {
@@ -130,7 +128,7 @@ fn admit<S: Backend>(
         (state_of S.Store store.old) (state_of S.Store store.new) }
     ensures kept { Spares (state_of S.Store store.old) (state_of S.Store store.new) }
 {
-    let facts = or_unavailable(store.facts_for(alloc, command))?;
+    let facts = store.facts_for(alloc, command)?;
     let admitted = admit_seeing(alloc, call, command, &facts);
     drop(facts);
     admitted

@@ -4,7 +4,7 @@
 //! would be taken apart for each function's own proof.
 ghost use Rattle.std.specs.Prelude.{◌≡◌, Err, IfOk, OnErr};
 ghost use Rattle.desk_model.specs.declared.refusal.Refusal.TheVariants.{Unavailable};
-ghost use Rattle.service_core.specs.Leaves.{KeepsStore};
+ghost use Rattle.service_core.specs.Leaves.{LeavesDesk};
 ghost use Rattle.service_core.specs.Seen.{settings_of, tables_of};
 ghost use Rattle.service_core.specs.TableSteps.{StepsOn, ask_by};
 ghost use Rattle.service_core.specs.Telling.{TellsOn};
@@ -54,8 +54,7 @@ impl<S: Backend> Desk<S> {
         ensures err { OnErr result (StepsOn (settings_of S.Store self.old)
             (ask_by at caller.now command.now) (Err Unavailable)
             (tables_of S.Store self.old) (tables_of S.Store self.new)) }
-        ensures keeps { KeepsStore (tables_of S.Store self.old) (tables_of S.Store self.new) }
-        ensures same { settings_of S.Store self.new ≡ settings_of S.Store self.old }
+        ensures left { LeavesDesk S.Store self.old self.new }
     {
         let room = Vec::with_capacity(alloc, SHORT_TEXT)?;
         let outcome = self.execute(alloc, at, caller, command);

@@ -1,6 +1,5 @@
 -- the rows are judged by lists that are the desk's
 use Rattle.std.proofs.Common.{◌∙◌}
-use Rattle.std.proofs.lemmas.Result.{IfOk-at_ok}
 use Rattle.store_tables.specs.Contents.{contents_of}
 use Rattle.store_tables.proofs.Spared.{stands}
 use Rattle.store_core.specs.Due.{due_of_row}
@@ -20,13 +19,9 @@ returns-clause-told g c desk is stand clean =
     asked_from s c.args.call.at c.args.call.caller.now c.args.search.now desk is
     c.as_slice-own.result.now c.as_slice-theirs.result.now c.as_slice-queues.result.now
     c.in_ok-rows.rows.items c.asked_rows.result.items
-    (c.as_slice-own.ensures.value
-    ∙ IfOk-at_ok _ c.in_ok-own.ensures.ok
-    (c.watches_of.ensures.listed desk is (due, stand) clean-first))
+    (c.as_slice-own.ensures.value ∙ c.in_ok-own.ensures.listed desk is (due, stand) clean-first)
     (c.as_slice-theirs.ensures.value
     ∙ c.in_ok-theirs.ensures.told desk is (due, first) clean-second)
-    (c.as_slice-queues.ensures.value
-    ∙ IfOk-at_ok _ c.in_ok-queues.ensures.ok
-    (c.queues.ensures.listed desk is (due, second) clean-third))
+    (c.as_slice-queues.ensures.value ∙ c.in_ok-queues.ensures.listed desk is (due, second) clean-third)
     (c.in_ok-rows.ensures.told desk is due third clean)
     c.asked_rows.ensures

@@ -1,5 +1,4 @@
 use Rattle.std.proofs.Common.{◌∙◌, ap}
-use Rattle.std.proofs.lemmas.Result.{IfOk-at_ok}
 use Rattle.find_core.specs.Rows.{shows_comments, told_with}
 use Rattle.desk_finds.proofs.reading.told_of.Goals as goal
 
@@ -8,4 +7,4 @@ returns-clause-told g c desk is stand clean =
     c.told.ensures
     ∙ ap (told_with
     (shows_comments c.args.settings.now c.args.caller.now c.args.facts.now.request))
-    (IfOk-at_ok _ c.in_ok-entries.ensures.ok (c.entries_of.ensures.listed desk is stand clean))
+    (c.in_ok-entries.ensures.listed desk is stand clean)

@@ -1,6 +1,5 @@
 -- what is told of the rows that are due is what is told of the desk
 use Rattle.std.proofs.Common.{◌∙◌}
-use Rattle.std.proofs.lemmas.Result.{IfOk-at_ok}
 use Rattle.store_tables.specs.Contents.{contents_of}
 use Rattle.store_tables.proofs.Spared.{stands}
 use Rattle.store_core.specs.Due.{due_of_row}
@@ -14,9 +13,6 @@ returns-clause-told g c desk is stand clean =
     let clean-before = c.requests_due_before.ensures.kept.clean clean in
     late_of c.args.call.at c.args.call.settings.now c.args.call.caller.now desk is
     c.as_slice-own.result.now c.in_ok-rows.rows.items c.in_ok-lines.lines
-    (c.as_slice-own.ensures.value
-    ∙ IfOk-at_ok _ c.in_ok-watches.ensures.ok
-    (c.watches_of.ensures.listed desk is (due, stand) clean-before))
-    (IfOk-at_ok _ c.in_ok-rows.ensures.ok
-    (c.requests_due_before.ensures.listed desk is due after clean))
+    (c.as_slice-own.ensures.value ∙ c.in_ok-watches.ensures.listed desk is (due, stand) clean-before)
+    (c.in_ok-rows.ensures.listed desk is due after clean)
     c.in_ok-lines.ensures

@@ -1,6 +1,5 @@
 -- what is told of the rows is what is told of the desk
 use Rattle.std.proofs.Common.{◌∙◌}
-use Rattle.std.proofs.lemmas.Result.{IfOk-at_ok}
 use Rattle.store_tables.specs.Contents.{contents_of}
 use Rattle.store_tables.proofs.Spared.{stands}
 use Rattle.store_core.specs.Due.{due_of_row}
@@ -20,14 +19,10 @@ returns-clause-told g c desk is stand clean =
     (record {
       own =
           c.as_slice-watches.ensures.value
-          ∙ IfOk-at_ok _ c.in_ok-watches.ensures.ok
-          (c.watches_of.ensures.listed desk is (due, stand) clean-first);
+          ∙ c.in_ok-watches.ensures.listed desk is (due, stand) clean-first;
       all_queues =
           c.as_slice-queues.ensures.value
-          ∙ IfOk-at_ok _ c.in_ok-queues.ensures.ok
-          (c.queues.ensures.listed desk is (due, first) clean-second);
-      all_rows =
-          IfOk-at_ok _ c.in_ok-rows.ensures.ok
-          (c.dated_requests.ensures.listed desk is due second clean);
+          ∙ c.in_ok-queues.ensures.listed desk is (due, first) clean-second;
+      all_rows = c.in_ok-rows.ensures.listed desk is due second clean;
     })
     c.in_ok-loads.ensures

@@ -1,31 +1,18 @@
--- the header was printed, and then the rows
-use Rattle.std.proofs.Common.{◌≡◌, ◌++◌, Err, rules}
-use Rattle.stream_core.proofs.WriterLemmas.{prints_both}
-use Rattle.desk_reports.specs.Lines.{header_of, rows_in}
-use Rattle.desk_reports.proofs.PrintedLemmas.{printed_both, printed_first}
+-- what was gathered was printed in the end
+use Rattle.desk_reports.specs.Lines.{list_in}
+use Rattle.desk_reports.proofs.GatheredLemmas.{printed_at_end, printed_whole_of}
 use Rattle.desk_reports.proofs.rows.put_list.Goals as goal
-
-pub returns-in_err-put_header-clause-printed : goal.returns-in_err-put_header-clause-printed
-returns-in_err-put_header-clause-printed g c =
-    let it = c.in_err-put_header.ensures.printed in
-    let is : c.from_residual.result ≡ Err c.in_err-put_header.field-0.0 = search rules in (
-      it.0,
-      it.1,
-      λ rise desk ok due stand clean all given.
-          rw is (printed_first (header_of c.args.kind)
-          (rows_in c.args.kind c.args.settings.now c.args.person.now c.args.watches.now all)
-          it.0 c.in_err-put_header.field-0.0 it.2),
-    )
 
 pub returns-clause-printed : goal.returns-clause-printed
 returns-clause-printed g c =
-    let first = c.in_ok-put_header.ensures.printed in
-    let rest = c.put_rows.ensures.printed in (
-      first.0 ++ rest.0,
-      prints_both g.W.Write.contents _ _ _ first.0 rest.0 first.1 rest.1,
+    let it = c.put_texts-ended.ensures.gathered in (
+      it.0,
+      printed_whole_of g.W.Write.contents c.args.output.now c.put_texts-ended.new.output
+          c.finish.new.output c.new-gathered.result.items c.put_texts-ended.new.gathered.items
+          it.0 c.new-gathered.ensures.items it.1 c.finish.ensures.printed,
       λ rise desk ok due stand clean all given.
-          printed_both (header_of c.args.kind)
-          (rows_in c.args.kind c.args.settings.now c.args.person.now c.args.watches.now all)
-          first.0 rest.0 c.put_rows.result first.2
-          (rest.2 rise desk ok due stand clean all given),
+          printed_at_end
+          (list_in c.args.kind c.args.settings.now c.args.person.now c.args.watches.now all)
+          it.0 c.put_texts-ended.result c.finish.result c.finish.ensures.whole
+          (it.2 rise desk ok due stand clean all given),
     )

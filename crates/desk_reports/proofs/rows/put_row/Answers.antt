@@ -1,11 +1,12 @@
-use Rattle.std.proofs.Common.{◌∙◌}
-use Rattle.desk_reports.proofs.PrintedLemmas.{printed_whole}
+use Rattle.std.proofs.Common.{◌∙◌, subst}
+use Rattle.desk_reports.specs.Streams.{IsPrintedOf}
 use Rattle.desk_reports.proofs.rows.put_row.Goals as goal
 
-pub returns-clause-printed : goal.returns-clause-printed
-returns-clause-printed g c = (
-  _,
-  c.put_text.ensures.printed,
-  λ rise. printed_whole _ _ c.put_text.result
-      (c.as_str.ensures.value ∙ c.in_ok-text.ensures rise),
-)
+pub returns-clause-gathered : goal.returns-clause-gathered
+returns-clause-gathered g c =
+    let it = c.gather.ensures.gathered in (
+      it.0,
+      it.1,
+      λ rise. subst (λ text. IsPrintedOf text it.0 c.gather.result)
+          (c.as_str.ensures.value ∙ c.in_ok-text.ensures rise) it.2,
+    )

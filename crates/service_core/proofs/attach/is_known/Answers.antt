@@ -7,7 +7,8 @@ use Rattle.store_tables.specs.declared.fault.StoreFault.{StoreFault}
 use Rattle.store_tables.proofs.Contents.Watcher.{watcher_table}
 use Rattle.store_tables.proofs.RowLemmas.{blames_of}
 use Rattle.store_tables.proofs.ReadOn.{blames_after, blames_failed}
-use Rattle.service_core.specs.Attaching.{knows_rows}
+use Rattle.service_core.specs.Attaching.{GoodPersons, knows_rows}
+use Rattle.service_core.proofs.TestLemmas.{tests_as, tests_of, tests_then}
 use Rattle.service_core.proofs.attach.is_known.Goals as goal
 
 pub returns-clause-told : goal.returns-clause-told
@@ -29,7 +30,7 @@ returns-in_err-watchers-clause-fault g c =
     let result : Result ⊤ StoreFault = Err c.in_err-watchers.field-0.0 in
     blames_failed (blames_after (joined c.read_links.ensures.kept c.knows_histories.ensures.kept)
     c.watchers.ensures.kept.clean
-    (blames_of watcher_table before new result c.in_err-watchers.ensures.mismatch)) (search rules)
+    (blames_of watcher_table before new result c.in_err-watchers.ensures.tested.fails)) (search rules)
 
 pub returns-in_err-watchers-clause-kept : goal.returns-in_err-watchers-clause-kept
 returns-in_err-watchers-clause-kept g c =
@@ -49,3 +50,12 @@ pub returns-clause-kept : goal.returns-clause-kept
 returns-clause-kept g c =
     joined (joined c.read_links.ensures.kept c.knows_histories.ensures.kept)
     c.watchers.ensures.kept
+
+pub returns-clause-tested : goal.returns-clause-tested
+returns-clause-tested g c =
+    let those = tests_then (joined c.read_links.ensures.kept c.knows_histories.ensures.kept)
+    c.watchers.ensures.kept (tests_then c.read_links.ensures.kept c.knows_histories.ensures.kept
+    c.in_ok-read_links.ensures.tested c.in_ok-histories.ensures.tested)
+    (tests_of c.in_ok-watchers.ensures.tested) in
+    tests_as {Q = GoodPersons} those
+    (λ db it. record { links = it.0.0; entries = it.0.1; watchers = it.1 })

@@ -21,8 +21,8 @@ returns-in-Ok-clause-kept g c = joined c.facts_for.ensures.kept c.judged-dossier
 pub returns-in-Err-clause-told : goal.returns-in-Err-clause-told
 returns-in-Err-clause-told g c desk is stand clean = (
   refused_both c.args.call.settings.now c.args.call.at c.args.call.caller.now c.args.id desk
-      c.unavailable.result
-      is (λ other. absurd (other c.unavailable.ensures)),
+      c.into.result
+      is (λ other. absurd (other c.into.ensures)),
   stands c.facts_for.ensures.kept (contents_of (due_of_row c.args.call.settings.now desk) desk)
       stand,
 )

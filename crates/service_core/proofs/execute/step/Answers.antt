@@ -23,7 +23,7 @@ returns-in-Err g c =
     let ask = asked c.args.call c.args.command.now in
     let old = state_of g.S.Store c.args.store.now in
     let new = state_of g.S.Store c.facts_for.new.self in
-    spared_safely (StepsOn settings ask) old new (Err c.unavailable.result)
-    (unavailable_on settings ask c.unavailable.result old new c.unavailable.ensures
+    spared_safely (StepsOn settings ask) old new (Err c.into.result)
+    (unavailable_on settings ask c.into.result old new c.into.ensures
     c.facts_for.ensures.kept)
-    c.unavailable.ensures c.facts_for.ensures.kept
+    c.into.ensures c.facts_for.ensures.kept

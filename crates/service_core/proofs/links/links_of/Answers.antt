@@ -2,7 +2,6 @@ use Rattle.std.proofs.Common.{◌≡◌, ◌∙◌, ℕ, Bool, List, IfSome, ap,
 use Rattle.std.specs.BTreeMap.{is_at}
 use Rattle.std.specs.Map.{lookup}
 use Rattle.std.specs.Ordering.{nat_cmp}
-use Rattle.std.proofs.lemmas.Result.{IfOk-at_ok}
 use Rattle.store_tables.proofs.Spared.{joined, stands_for}
 use Rattle.desk_model.specs.Rights.{is_shown}
 use Rattle.service_core.specs.Shown.{AreAnswers, is_shown_at}
@@ -25,13 +24,12 @@ returns-clause-told g c desk is stand clean =
     let targets =
     first.0
     ∙ ap (filter (shows Target)) (c.as_slice-leading.ensures.value
-    ∙ IfOk-at_ok _ c.in_ok-from.ensures.ok
-    (c.links_from.ensures.listed desk is stand (c.shown_at.ensures.kept.clean first_clean))) in
+    ∙ c.in_ok-from.ensures.listed desk is stand (c.shown_at.ensures.kept.clean first_clean)) in
     let sources =
     (c.in_ok-sources.ensures.told desk is (stands_for c.links_to.ensures.kept desk third) clean
     first.1).0
     ∙ ap (filter (shows Source)) (c.as_slice-ending.ensures.value
-    ∙ IfOk-at_ok _ c.in_ok-to.ensures.ok (c.links_to.ensures.listed desk is third was_clean)) in
+    ∙ c.in_ok-to.ensures.listed desk is third was_clean) in
     c.in_ok-links.ensures
     ∙ links_are c.args.settings.now c.args.caller.now desk c.args.id _ _
     (c.as_slice.ensures.value ∙ targets) (c.as_slice-2.ensures.value ∙ sources)

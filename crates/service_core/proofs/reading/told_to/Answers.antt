@@ -1,5 +1,4 @@
 use Rattle.std.proofs.Common.{◌∙◌, ap, filter}
-use Rattle.std.proofs.lemmas.Result.{IfOk-at_ok}
 use Rattle.desk_model.specs.declared.answer.Answer.TheVariants.{History}
 use Rattle.desk_model.specs.Rights.{may_show_comments}
 use Rattle.service_core.specs.Shown.{is_told}
@@ -13,4 +12,4 @@ returns-clause-told g c desk is stand clean =
     ∙ ap (λ b. filter (is_told b) c.in_ok-entries.entries.items)
     c.shows_comments_to-comments.ensures
     ∙ ap (filter (is_told comments))
-    (IfOk-at_ok _ c.in_ok-entries.ensures.ok (c.entries_of.ensures.listed desk is stand clean)))
+    (c.in_ok-entries.ensures.listed desk is stand clean))

@@ -1,7 +1,10 @@
 -- what every desk refuses leaves the tables
+use Rattle.std.proofs.Common.{refl}
+use Rattle.store_tables.proofs.Spared.{unread}
 use Rattle.store_core.specs.Seen.{state_of}
 use Rattle.service_core.specs.Seen.{settings_of, tables_of}
 use Rattle.service_core.specs.TableSteps.{ask_by}
+use Rattle.service_core.proofs.LeftLemmas.{left_same}
 use Rattle.service_core.proofs.Stepping.{refused_on}
 use Rattle.service_core.proofs.desk.Desk.execute.Goals as goal
 
@@ -20,8 +23,12 @@ returns-in-None-clause-refused g c = c.step.ensures.refused
 pub returns-in-None-clause-named : goal.returns-in-None-clause-named
 returns-in-None-clause-named g c = c.step.ensures.named
 
-pub returns-in-None-clause-honest : goal.returns-in-None-clause-honest
-returns-in-None-clause-honest g c = c.step.ensures.keeps.clean
+pub returns-in-None-clause-left : goal.returns-in-None-clause-left
+returns-in-None-clause-left g c =
+    record { same = refl; clean = c.step.ensures.keeps.clean; lasts = c.step.ensures.keeps.lasts }
 
-pub returns-in-None-clause-lasts : goal.returns-in-None-clause-lasts
-returns-in-None-clause-lasts g c = c.step.ensures.keeps.lasts
+pub returns-in-Some-clause-refused : goal.returns-in-Some-clause-refused
+returns-in-Some-clause-refused g c = unread _
+
+pub returns-in-Some-clause-left : goal.returns-in-Some-clause-left
+returns-in-Some-clause-left g c = left_same g.S.Store c.args.self.now

@@ -1,8 +1,8 @@
 -- each step goes on with the run
-use Rattle.std.proofs.Common.{◌≡◌, ◌∙◌, ◌<◌, ◌++◌, ◌∷◌, [], length, refl, rules, subst, sym}
-use Rattle.store_tables.proofs.Lasting.{on, same as lasting}
+use Rattle.std.proofs.Common.{◌≡◌, ◌<◌, ◌++◌, ◌∷◌, [], length, rules, subst, sym}
 use Rattle.desk_texts.specs.Short.{AreNamed}
 use Rattle.service_core.specs.Seen.{settings_of, tables_of}
+use Rattle.service_core.proofs.LeftLemmas.{left_on, left_same}
 use Rattle.service_core.proofs.Running.{all_asked, named_more, run_begins, run_on}
 use Rattle.service_core.proofs.desk.Desk.execute_all.Goals as goal
 
@@ -15,9 +15,7 @@ loop-ask-init g c =
           (run_begins (settings_of g.S.Store c.args.self.now)
           (tables_of g.S.Store c.args.self.now));
       named = rw none tt;
-      honest = λ clean. clean;
-      lasts = lasting (tables_of g.S.Store c.args.self.now);
-      same = refl;
+      left = left_same g.S.Store c.args.self.now;
       room = search rules;
       count = search rules;
     }
@@ -38,14 +36,14 @@ loop-ask-preserved g c =
           c.push.new.self.items c.execute-outcome.result
           (tables_of g.S.Store c.args.self.now) (tables_of g.S.Store c.loop-ask.self)
           (tables_of g.S.Store c.execute-outcome.new.self)
-          low pushed so_far.same c.ask-item.is c.as_str.ensures.value so_far.run
-          step.honest step.step;
+          low pushed so_far.left.same c.ask-item.is c.as_str.ensures.value so_far.run
+          step.left.clean step.step;
       named =
           subst AreNamed (sym pushed)
           (named_more c.loop-ask.outcomes.items c.execute-outcome.result so_far.named step.named);
-      honest = λ clean. so_far.honest (step.honest clean);
-      lasts = on step.honest so_far.lasts step.lasts;
-      same = step.same ∙ so_far.same;
+      left =
+          left_on g.S.Store c.args.self.now c.loop-ask.self c.execute-outcome.new.self so_far.left
+          step.left;
       room = search rules;
       count = search rules;
     }
@@ -55,3 +53,9 @@ returns-clause-run g c =
     all_asked (settings_of g.S.Store c.args.self.now) c.args.asks.now c.loop-ask.ask-index
     c.loop-ask.outcomes.items (tables_of g.S.Store c.args.self.now)
     (tables_of g.S.Store c.loop-ask.self) c.loop-ask-test.false c.loop-ask.invariant.run
+
+pub returns-clause-left : goal.returns-clause-left
+returns-clause-left g c = c.loop-ask.invariant.left
+
+pub returns-in_err-outcomes-clause-left : goal.returns-in_err-outcomes-clause-left
+returns-in_err-outcomes-clause-left g c = left_same g.S.Store c.args.self.now

@@ -1,5 +1,5 @@
 -- what every desk refuses writes nothing, and leaves the tables
-use Rattle.std.proofs.Common.{[]}
+use Rattle.std.proofs.Common.{[], refl}
 use Rattle.desk_reports.proofs.PrintedLemmas.{prints_none}
 use Rattle.store_core.specs.Due.{due_of_row}
 use Rattle.store_tables.proofs.Spared.{stands, unread}
@@ -22,14 +22,8 @@ returns-in-Some-clause-streamed g c = (
 pub returns-in-Some-clause-stands : goal.returns-in-Some-clause-stands
 returns-in-Some-clause-stands g c = λ desk stand. stand
 
-pub returns-in-Some-clause-kept : goal.returns-in-Some-clause-kept
-returns-in-Some-clause-kept g c = unread _
-
 pub returns-in-None-clause-streamed : goal.returns-in-None-clause-streamed
 returns-in-None-clause-streamed g c = c.put_if_admitted.ensures.streamed.streamed
-
-pub returns-in-None-clause-failed : goal.returns-in-None-clause-failed
-returns-in-None-clause-failed g c = c.put_if_admitted.ensures.streamed.failed
 
 pub returns-in-None-clause-stands : goal.returns-in-None-clause-stands
 returns-in-None-clause-stands g c =
@@ -38,5 +32,18 @@ returns-in-None-clause-stands g c =
     stands c.put_if_admitted.ensures.streamed.kept (contents_of (due_of_row settings desk) desk)
     stand
 
-pub returns-in-None-clause-kept : goal.returns-in-None-clause-kept
-returns-in-None-clause-kept g c = c.put_if_admitted.ensures.streamed.kept
+pub returns-in-Some-clause-writer : goal.returns-in-Some-clause-writer
+returns-in-Some-clause-writer g c = record { same_writer = refl; failed = c.requires.unfailed }
+
+pub returns-in-None-clause-writer : goal.returns-in-None-clause-writer
+returns-in-None-clause-writer g c = record {
+  same_writer = c.put_if_admitted.ensures.same_writer;
+  failed = c.put_if_admitted.ensures.streamed.failed;
+}
+
+pub returns-in-Some-clause-left : goal.returns-in-Some-clause-left
+returns-in-Some-clause-left g c = record { same = refl; kept = unread _ }
+
+pub returns-in-None-clause-left : goal.returns-in-None-clause-left
+returns-in-None-clause-left g c =
+    record { same = refl; kept = c.put_if_admitted.ensures.streamed.kept }

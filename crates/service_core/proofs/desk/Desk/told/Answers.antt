@@ -1,9 +1,9 @@
 -- the step that was made and its text, or there was no memory for it
 use Rattle.std.proofs.Common.{Err}
 use Rattle.desk_model.specs.declared.refusal.Refusal.TheVariants.{Unavailable}
-use Rattle.store_tables.proofs.Lasting.{same}
 use Rattle.service_core.specs.Seen.{settings_of, tables_of}
 use Rattle.service_core.specs.TableSteps.{StepsOn, ask_by}
+use Rattle.service_core.proofs.LeftLemmas.{left_same}
 use Rattle.service_core.proofs.Telling.{at_err, left_out, left_out_if_long}
 use Rattle.service_core.proofs.desk.Desk.told.Goals as goal
 
@@ -19,9 +19,8 @@ returns-in-Ok-clause-ok g c = record {
       long c.execute-outcome.ensures.step;
 }
 
-pub returns-in-Ok-clause-keeps : goal.returns-in-Ok-clause-keeps
-returns-in-Ok-clause-keeps g c =
-    record { clean = c.execute-outcome.ensures.honest; lasts = c.execute-outcome.ensures.lasts }
+pub returns-in-Ok-clause-left : goal.returns-in-Ok-clause-left
+returns-in-Ok-clause-left g c = c.execute-outcome.ensures.left
 
 pub returns-in-Err-clause-err : goal.returns-in-Err-clause-err
 returns-in-Err-clause-err g c =
@@ -30,9 +29,8 @@ returns-in-Err-clause-err g c =
     (tables_of g.S.Store c.args.self.now) (tables_of g.S.Store c.execute-outcome.new.self)
     c.in-Err.ensures.err c.execute-outcome.ensures.step
 
-pub returns-in-Err-clause-keeps : goal.returns-in-Err-clause-keeps
-returns-in-Err-clause-keeps g c =
-    record { clean = c.execute-outcome.ensures.honest; lasts = c.execute-outcome.ensures.lasts }
+pub returns-in-Err-clause-left : goal.returns-in-Err-clause-left
+returns-in-Err-clause-left g c = c.execute-outcome.ensures.left
 
 pub returns-in_err-room-clause-err : goal.returns-in_err-room-clause-err
 returns-in_err-room-clause-err g c =
@@ -42,6 +40,5 @@ returns-in_err-room-clause-err g c =
     at_err c.from_residual.result (StepsOn settings ask (Err Unavailable) tables tables)
     (left_out settings ask tables)
 
-pub returns-in_err-room-clause-keeps : goal.returns-in_err-room-clause-keeps
-returns-in_err-room-clause-keeps g c =
-    record { clean = λ clean. clean; lasts = same (tables_of g.S.Store c.args.self.now) }
+pub returns-in_err-room-clause-left : goal.returns-in_err-room-clause-left
+returns-in_err-room-clause-left g c = left_same g.S.Store c.args.self.now

@@ -1,0 +1,32 @@
+-- What a call leaves of a store and of a desk, and one call after another.
+use Rattle.std.proofs.Common.{◌∙◌, refl}
+use Rattle.sqlite.specs.State.{State}
+use Rattle.sqlite.specs.Store.{Ghosts}
+use Rattle.store_tables.proofs.Lasting.{on, same}
+use Rattle.store_tables.specs.Calls.{Spares}
+use Rattle.service_core.specs.Leaves.{KeepsStore, LeavesDesk}
+use Rattle.service_core.specs.declared.desk.Desk.{Desk}
+
+-- what spares the tables keeps the store
+pub spared_keeps : {old new : State} → Spares old new → KeepsStore old new
+spared_keeps kept = record { clean = kept.clean; lasts = kept.lasts }
+
+-- what keeps the store, after what spares its tables
+pub keeps_after : {a b c : State} → Spares a b → KeepsStore b c → KeepsStore a c
+keeps_after first second = record {
+  clean = λ clean. first.clean (second.clean clean);
+  lasts = on second.clean first.lasts second.lasts;
+}
+
+-- a call that does nothing
+pub left_same : {S : Type 0} (g : Ghosts S) (desk : Desk S g) → LeavesDesk g desk desk
+left_same g desk = record { same = refl; clean = λ clean. clean; lasts = same _ }
+
+-- one call after the other
+pub left_on : {S : Type 0} (g : Ghosts S) (old mid new : Desk S g) → LeavesDesk g old mid
+    → LeavesDesk g mid new → LeavesDesk g old new
+left_on g old mid new one two = record {
+  same = two.same ∙ one.same;
+  clean = λ clean. one.clean (two.clean clean);
+  lasts = on two.clean one.lasts two.lasts;
+}
