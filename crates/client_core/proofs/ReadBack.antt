@@ -25,7 +25,7 @@ use Rattle.message_core.specs.declared.request.Request.{Request}
 use Rattle.message_core.proofs.MessageLemmas.{message_read, whole}
 use Rattle.message_core.proofs.OneReading.{leaves_one, reads_one}
 use Rattle.route_core.specs.Commands.{allow_of, asked_at, asked_at_place, asked_by, path_in}
-use Rattle.route_core.specs.Commands.{place_named, said}
+use Rattle.route_core.specs.Commands.{place_named, said, with_fault}
 use Rattle.route_core.specs.Places.{at}
 use Rattle.route_core.specs.Rows.{OneRowHasAPath}
 use Rattle.client_core.specs.Asked.{CanTell, has_queue}
@@ -152,7 +152,8 @@ asks_for_it one settings host token person command bytes host_is token_is known 
     ∙ ap (λ (c : Command). Some c) made_so.makes in (
       message,
       reads_back host token place v many bytes host_is token_is made_so.within made_so.id asks.asks,
-      ap (asked_at_place settings message (allow_of path)) there
+      ap with_fault
+          (ap (asked_at_place settings message (allow_of path)) there
           ∙ ap (λ (p : Option (List ℕ)). asked_by p (said (at row (named row.parts v)) content)) known
-          ∙ ap (asked_by (Some person)) command_is,
+          ∙ ap (asked_by (Some person)) command_is),
     )

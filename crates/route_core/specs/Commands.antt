@@ -13,12 +13,18 @@ use Rattle.desk_forms.specs.Table.{paths}
 use Rattle.desk_forms.specs.declared.paths.Method.{Method}
 use Rattle.desk_forms.specs.declared.paths.Method.TheVariants.{Get, Post}
 use Rattle.route_core.specs.Cuts.{cut}
+use Rattle.route_core.specs.Fault.{fault_of}
 use Rattle.route_core.specs.Members.{members_of}
 use Rattle.route_core.specs.Places.{Place, method_named, place_at}
 use Rattle.route_core.specs.Said.{said_by}
 use Rattle.route_core.specs.declared.fault.CommandFault.{CommandFault}
-use Rattle.route_core.specs.declared.fault.CommandFault.TheVariants.{NoRoute, BadMethod, NoToken}
-use Rattle.route_core.specs.declared.fault.CommandFault.TheVariants.{BadBody}
+use Rattle.route_core.specs.declared.fault.Unasked.{Unasked}
+use Rattle.route_core.specs.declared.fault.Unasked.TheVariants.{NoRoute, BadMethod, NoToken}
+use Rattle.route_core.specs.declared.fault.Unasked.TheVariants.{BadBody}
+
+-- a caller and a command
+abbrev pub Asked : Type 0
+Asked = Result (List ℕ × Command) Unasked
 
 -- the target up to the first question mark
 abbrev pub path_in : List ℕ → List ℕ
@@ -38,10 +44,6 @@ allow_by false false = None
 abbrev pub allow_of : List ℕ → Option Allow
 allow_of path = allow_by (is_some (asked_at Get path)) (is_some (asked_at Post path))
 
--- those of the path to which a target leads
-abbrev pub methods_of : List ℕ → Option Allow
-methods_of target = allow_of (path_in target)
-
 -- a GET's body isn't looked at
 abbrev pub members_for : Method → List ℕ → Option Members
 members_for Get body = Some no_members
@@ -57,19 +59,18 @@ abbrev pub caller_of : Settings → Option (List ℕ) → Option (List ℕ)
 caller_of settings token = option_and_then (person_of_token settings) token
 
 -- the caller comes before the command
-abbrev pub asked_by : Option (List ℕ) → Option Command → Result (List ℕ × Command) CommandFault
+abbrev pub asked_by : Option (List ℕ) → Option Command → Asked
 asked_by None asked = Err NoToken
 asked_by (Some caller) None = Err BadBody
 asked_by (Some caller) (Some asked) = Ok (caller, asked)
 
--- nothing is asked for at a path with these methods, if it has any
-abbrev pub fault_at : Option Allow → CommandFault
-fault_at None = NoRoute
-fault_at (Some methods) = BadMethod
+-- why nothing is asked for at a path with these methods, if it has any
+abbrev pub unasked_at : Option Allow → Unasked
+unasked_at None = NoRoute
+unasked_at (Some methods) = BadMethod methods
 
-abbrev pub asked_at_place : Settings → Message → Option Allow → Option Place
-    → Result (List ℕ × Command) CommandFault
-asked_at_place settings message methods None = Err (fault_at methods)
+abbrev pub asked_at_place : Settings → Message → Option Allow → Option Place → Asked
+asked_at_place settings message methods None = Err (unasked_at methods)
 asked_at_place settings message methods (Some place) =
     asked_by (caller_of settings message.token) (said place message.body)
 
@@ -77,8 +78,16 @@ asked_at_place settings message methods (Some place) =
 abbrev pub place_named : List ℕ → List ℕ → Option Place
 place_named name path = option_and_then (λ m. asked_at m path) (method_named name)
 
--- the caller and the command that a message asks for, or its fault
-abbrev pub command_of : Settings → Message → Result (List ℕ × Command) CommandFault
-command_of settings message =
+-- the caller and the command that a message asks for, or why it asks for none
+abbrev pub asked_of : Settings → Message → Asked
+asked_of settings message =
     let path = path_in message.target in
     asked_at_place settings message (allow_of path) (place_named message.method path)
+
+-- the same with the fault alone
+abbrev pub with_fault : Asked → Result (List ℕ × Command) CommandFault
+with_fault (Ok asked) = Ok asked
+with_fault (Err unasked) = Err (fault_of unasked)
+
+abbrev pub command_of : Settings → Message → Result (List ℕ × Command) CommandFault
+command_of settings message = with_fault (asked_of settings message)

@@ -1,8 +1,11 @@
--- The number and the name of each fault of a message that asks for no command.
+-- The number and the name of each fault of a message that asks for no command; and which fault each
+-- reason is.
 use Rattle.std.specs.Prelude.{ℕ, List, codes}
 use Rattle.route_core.specs.declared.fault.CommandFault.{CommandFault}
 use Rattle.route_core.specs.declared.fault.CommandFault.TheVariants.{NoRoute, BadMethod, NoToken}
 use Rattle.route_core.specs.declared.fault.CommandFault.TheVariants.{BadBody, NoMemory}
+use Rattle.route_core.specs.declared.fault.Unasked.{Unasked}
+use Rattle.route_core.specs.declared.fault.Unasked.TheVariants as unasked
 
 abbrev pub number_of : CommandFault → ℕ
 number_of NoRoute = 1
@@ -17,3 +20,9 @@ name_of BadMethod = codes "BadMethod"
 name_of NoToken = codes "NoToken"
 name_of BadBody = codes "BadBody"
 name_of NoMemory = codes "NoMemory"
+
+abbrev pub fault_of : Unasked → CommandFault
+fault_of unasked.NoRoute = NoRoute
+fault_of (unasked.BadMethod methods) = BadMethod
+fault_of unasked.NoToken = NoToken
+fault_of unasked.BadBody = BadBody

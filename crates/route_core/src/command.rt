@@ -7,7 +7,7 @@ ghost use Rattle.route_core.specs.Commands as commands;
 ghost use Rattle.route_core.specs.Places.{place_in};
 
 use crate::cuts::cut;
-use crate::fault::CommandFault;
+use crate::fault::{CommandFault, Unasked};
 use crate::members::{Members, members_of};
 use crate::places::{Place, method_named, place_at};
 use crate::routes::{Routes, place_routed};
@@ -37,45 +37,37 @@ pub fn command_of(
     ensures err { IfErr result (λ fault. fault ≢ CommandFault.NoMemory
         → commands.command_of settings.now message.now ≡ Err fault) }
 {
-    command_by(alloc, None, settings, message)
+    match command_by(alloc, None, settings, message)? {
+        Ok(asked) => Ok(asked),
+        Err(unasked) => Err(unasked.fault()),
+    }
 }
 
 /// The same by a router, if there is one: the answers are those of `command_of`, whatever it finds.
+/// `BadMethod` has the methods of the place with it. `AllocError` where memory was refused.
 pub fn command_by(
     alloc: Global,
     routes: Option<&Routes>,
     settings: &Settings,
     message: &Message,
-) -> Result<(Text, Command), CommandFault>
-    ensures ok { IfOk result (λ asked.
-        commands.command_of settings.now message.now ≡ Ok (asked.0, asked.1)) }
-    ensures err { IfErr result (λ fault. fault ≢ CommandFault.NoMemory
-        → commands.command_of settings.now message.now ≡ Err fault) }
+) -> Result<Result<(Text, Command), Unasked>, AllocError>
+    ensures { IfOk result (λ asked. asked ≡ commands.asked_of settings.now message.now) }
 {
     let path = path_in(message.target.as_slice());
     match place_named(routes, message.method.as_slice(), path) {
         Some(place) => asked_by(alloc, settings, message, place),
-        None => Err(fault_at(allow_of(path))),
+        None => Ok(Err(unasked_at(allow_of(path)))),
     }
 }
 
-/// The fault where nothing is asked for at a path with these methods, if it has any.
-fn fault_at(methods: Option<Allow>) -> CommandFault
-    ensures { result ≡ commands.fault_at methods }
+/// Why nothing is asked for at a path with these methods, if it has any.
+fn unasked_at(methods: Option<Allow>) -> Unasked
+    ensures { result ≡ commands.unasked_at methods }
 {
     match methods {
-        Some(_) => CommandFault::BadMethod,
-        None => CommandFault::NoRoute,
+        Some(methods) => Unasked::BadMethod(methods),
+        None => Unasked::NoRoute,
     }
-}
-
-/// The methods of the path to which a target leads, or none where it leads nowhere: the path, up
-/// to the first `?`, is that of no row. Nothing in it is decoded; a request's number is 1 to 10
-/// digits of at most 4,294,967,295, and a queue's name a text that isn't empty.
-pub fn methods_of(target: &[u8]) -> Option<Allow>
-    ensures { result ≡ commands.methods_of target.now }
-{
-    allow_of(path_in(target))
 }
 
 /// The target up to the first question mark.
@@ -128,20 +120,17 @@ fn asked_by(
     settings: &Settings,
     message: &Message,
     place: Place<'_>,
-) -> Result<(Text, Command), CommandFault>
-    ensures ok { IfOk result (λ asked.
-        commands.asked_by (commands.caller_of settings.now message.now.token)
-        (commands.said (place_in place.entry) message.now.body) ≡ Ok (asked.0, asked.1)) }
-    ensures err { IfErr result (λ fault. fault ≢ CommandFault.NoMemory
-        → commands.asked_by (commands.caller_of settings.now message.now.token)
-        (commands.said (place_in place.entry) message.now.body) ≡ Err fault) }
+) -> Result<Result<(Text, Command), Unasked>, AllocError>
+    ensures { IfOk result (λ asked. asked
+        ≡ commands.asked_by (commands.caller_of settings.now message.now.token)
+        (commands.said (place_in place.entry) message.now.body)) }
 {
     let Some(caller) = caller_of(alloc, settings, message)? else {
-        return Err(CommandFault::NoToken);
+        return Ok(Err(Unasked::NoToken));
     };
     match said(alloc, place, message.body.as_slice())? {
-        Some(command) => Ok((caller, command)),
-        None => Err(CommandFault::BadBody),
+        Some(command) => Ok(Ok((caller, command))),
+        None => Ok(Err(Unasked::BadBody)),
     }
 }
 

@@ -1,8 +1,9 @@
 //! Why a message asks for no command.
 
 ghost use Rattle.std.specs.Prelude.{◌≡◌};
-ghost use Rattle.route_core.specs.Fault.{name_of, number_of};
+ghost use Rattle.route_core.specs.Fault.{fault_of, name_of, number_of};
 
+use message_core::Allow;
 use std::alloc::AllocError;
 use thiserror::Error;
 
@@ -56,5 +57,33 @@ impl From<AllocError> for CommandFault {
 
     fn from(_refused: AllocError) -> CommandFault {
         CommandFault::NoMemory
+    }
+}
+
+/// Why a message asks for no command, where memory isn't the reason: the methods of its place are
+/// told where it has another one.
+#[derive(Clone, Copy)]
+pub enum Unasked {
+    /// The path leads nowhere.
+    NoRoute,
+    /// The place has these methods, and not that of the message.
+    BadMethod(Allow),
+    /// There is no token, or one that the settings don't have.
+    NoToken,
+    /// The body is no JSON object, or one whose members don't say what is asked for.
+    BadBody,
+}
+
+impl Unasked {
+    /// The fault alone, without the methods of the place.
+    pub fn fault(self) -> CommandFault
+        ensures { result ≡ fault_of self }
+    {
+        match self {
+            Unasked::NoRoute => CommandFault::NoRoute,
+            Unasked::BadMethod(_) => CommandFault::BadMethod,
+            Unasked::NoToken => CommandFault::NoToken,
+            Unasked::BadBody => CommandFault::BadBody,
+        }
     }
 }

@@ -5,10 +5,10 @@
 //!   `NoToken` and `BadBody`. `NoMemory` may come in place of any answer.
 //! - `command_by` has the same answers with a router to look by, which a server or a list of messages
 //!   makes once. The row that it finds is laid against the path. Where that doesn't fit, or none is
-//!   found, all rows are: so nothing rests on what the router answers.
+//!   found, all rows are: so nothing rests on what the router answers. Its reason for asking nothing
+//!   tells the methods of the place, where the message has another one; out of memory it has none.
 //! - A path is laid against the rows by its parts between slashes. Nothing in it is decoded, and no
 //!   memory is had for it. By `rows_law` no two rows have a method and a path in common.
-//! - `methods_of` are the methods of the path to which a target leads, or none.
 #![tactic(auto)]
 
 mod command;
@@ -20,6 +20,6 @@ mod places;
 mod routes;
 mod said;
 
-pub use command::{command_by, command_of, methods_of};
-pub use fault::CommandFault;
+pub use command::{command_by, command_of};
+pub use fault::{CommandFault, Unasked};
 pub use routes::Routes;

@@ -1,5 +1,5 @@
 -- The replies to outcomes and faults have the form of a reply.
-use Rattle.std.proofs.Common.{◌≡◌, Bool, true, Option, Ok, Err, refl, is_some}
+use Rattle.std.proofs.Common.{Bool, Ok, Err, refl}
 use Rattle.std.proofs.Common.{◌≤◌, length, arith, lit<}
 use Rattle.desk_model.specs.Step.{Outcome}
 use Rattle.desk_model.specs.declared.answer.Answer.TheVariants as answer
@@ -7,11 +7,10 @@ use Rattle.desk_model.specs.declared.refusal.Refusal.TheVariants as refusal
 use Rattle.message_core.specs.Reply.{IsReply, bytes_of, unavailable}
 use Rattle.message_core.proofs.ReplyLemmas.{short_reply}
 use Rattle.message_core.specs.declared.fault.WireFault.{WireFault}
-use Rattle.message_core.specs.declared.reply.Allow.{Allow}
-use Rattle.route_core.specs.declared.fault.CommandFault.{CommandFault}
-use Rattle.route_core.specs.declared.fault.CommandFault.TheVariants.{NoRoute, BadMethod, NoToken}
-use Rattle.route_core.specs.declared.fault.CommandFault.TheVariants.{BadBody, NoMemory}
-use Rattle.wire_core.specs.Replies.{fault_reply, outcome_reply, stream_reply}
+use Rattle.route_core.specs.declared.fault.Unasked.{Unasked}
+use Rattle.route_core.specs.declared.fault.Unasked.TheVariants.{NoRoute, BadMethod, NoToken}
+use Rattle.route_core.specs.declared.fault.Unasked.TheVariants.{BadBody}
+use Rattle.wire_core.specs.Replies.{outcome_reply, stream_reply, unasked_reply}
 
 pub outcome_form : (head_only : Bool) (outcome : Outcome)
     → IsReply (outcome_reply head_only outcome)
@@ -37,13 +36,12 @@ outcome_form h (Err refusal.Unavailable) = record { code = refl; allow = refl }
 pub stream_form : (fault : WireFault) → IsReply (stream_reply fault)
 stream_form fault = record { code = refl; allow = refl }
 
-pub fault_form : (head_only : Bool) (methods : Option Allow) (fault : CommandFault)
-    → (fault ≡ BadMethod → is_some methods ≡ true) → IsReply (fault_reply head_only methods fault)
-fault_form h methods NoRoute told = record { code = refl; allow = refl }
-fault_form h methods BadMethod told = record { code = refl; allow = told refl }
-fault_form h methods NoToken told = record { code = refl; allow = refl }
-fault_form h methods BadBody told = record { code = refl; allow = refl }
-fault_form h methods NoMemory told = record { code = refl; allow = refl }
+pub unasked_form : (head_only : Bool) (unasked : Unasked)
+    → IsReply (unasked_reply head_only unasked)
+unasked_form h NoRoute = record { code = refl; allow = refl }
+unasked_form h (BadMethod methods) = record { code = refl; allow = refl }
+unasked_form h NoToken = record { code = refl; allow = refl }
+unasked_form h BadBody = record { code = refl; allow = refl }
 
 -- the reply that nothing was done is a short one
 pub unavailable_short : (head_only : Bool) → length (bytes_of (unavailable head_only)) ≤ 512

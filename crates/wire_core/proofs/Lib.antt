@@ -1,3 +1,4 @@
+pub mod Apart
 pub mod Forms
 pub mod Refused
 pub mod Serving

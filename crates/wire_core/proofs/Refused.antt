@@ -6,12 +6,11 @@ use Rattle.settings_core.specs.declared.settings.Settings.{Settings}
 use Rattle.desk_model.specs.Desk.{Desk}
 use Rattle.desk_model.specs.Step.{Ask, Outcome, Steps}
 use Rattle.desk_model.specs.declared.answer.Answer.TheVariants as answer
-use Rattle.desk_model.specs.declared.command.Command.{Command}
 use Rattle.desk_texts.specs.Texts.{outcome_text}
 use Rattle.message_core.specs.Reply.{bytes_of, status_line}
 use Rattle.message_core.specs.declared.message.Message.{Message}
 use Rattle.message_core.specs.declared.fault.WireFault.{WireFault}
-use Rattle.route_core.specs.declared.fault.CommandFault.{CommandFault}
+use Rattle.route_core.specs.Commands.{Asked}
 use Rattle.service_core.specs.TableSteps.{ask_by}
 use Rattle.wire_core.specs.Replies.{is_head, outcome_reply, reply_with}
 use Rattle.wire_core.specs.Steps.{CommandSteps, IsUnavailable, ReadSteps, StreamSteps}
@@ -45,9 +44,9 @@ done_same s ask h (Ok other) old new told steps =
     absurd (omega (arith, no))
 
 command_same : (s : Settings) (at : ℕ) (message : Message)
-    (asked : Result (List ℕ × Command) CommandFault) (old : Desk) (bytes : List ℕ) (new : Desk)
+    (asked : Asked) (old : Desk) (bytes : List ℕ) (new : Desk)
     → digit bytes ≡ 53 → CommandSteps s at message asked old bytes new → new ≡ old
-command_same s at message (Err fault) old bytes new told did = did.1
+command_same s at message (Err unasked) old bytes new told did = did.1
 command_same s at message (Ok asked) old bytes new told did =
     done_same s (ask_by at asked.0 asked.1) (is_head message) did.0 old new (ap digit (sym did.2) ∙ told) did.1.step
 

@@ -8,22 +8,25 @@ use Rattle.sqlite.specs.State.{HasCleanDisk, State}
 use Rattle.settings_core.specs.declared.settings.Settings.{Settings}
 use Rattle.desk_model.specs.Desk.{Desk}
 use Rattle.desk_model.specs.IsDesk.{IsDesk}
-use Rattle.store_tables.specs.Calls.{WasClean}
+use Rattle.store_tables.proofs.Spared.{unread}
+use Rattle.store_tables.specs.Calls.{Spares, WasClean}
 use Rattle.stream_core.specs.Seen.{has_write_failed, held_in}
+use Rattle.stream_core.specs.Streams.{ConsumesAtMost}
 use Rattle.stream_core.specs.Written.{IsWritten, Prints, WritesOn}
 use Rattle.stream_core.specs.declared.writer.CountedWriter.{CountedWriter}
 use Rattle.message_core.specs.Fault.{is_read}
 use Rattle.message_core.specs.declared.fault.WireFault.{WireFault}
 use Rattle.wire_core.specs.Fault.{is_unread, tells_failed_read, tells_failed_write}
-use Rattle.wire_core.specs.Runs.{IsReplyOver, IsReplyTo, Replied, RunsMessagesOn, RunsOver, Sent}
+use Rattle.wire_core.specs.Runs.{IsReplyOver, Replied, RunsMessagesOn, RunsOver, Sent}
 use Rattle.wire_core.specs.Runs.{all_replied, all_sent, replied_of, sent_of}
-use Rattle.wire_core.specs.Served.{IsAnswer, IsSent, IsServed, IsServedBy, Replies, TellsRead}
+use Rattle.wire_core.specs.Served.{GivesRoom, IsAnswer, IsSent, IsServed, IsServedBy, Replies, TellsRead}
 use Rattle.wire_core.specs.Served.{reply_in}
 use Rattle.wire_core.specs.Steps.{CommandSteps, ReadSteps, StaysOn, StreamSteps, StreamStepsOn}
 use Rattle.wire_core.specs.declared.fault.ServeFault.{ServeFault}
 use Rattle.wire_core.specs.declared.fault.ServeFault.TheVariants.{NoMemory, Read, Write}
 use Rattle.wire_core.specs.declared.fault.Unanswered.{Unanswered}
 use Rattle.wire_core.specs.declared.fault.Unanswered.TheVariants.{NoRoom, Unread}
+use Rattle.wire_core.specs.declared.room.Room.{Room}
 use Rattle.wire_core.proofs.Stepping.{replied, stays}
 
 -- ---- one message
@@ -49,23 +52,32 @@ not_unread (Err Read) kinds = absurd cc
 not_unread (Err NoMemory) kinds = absurd cc
 
 -- what was answered went out, and so the message was served
-pub served_by : {W : Type 0} (contents : W → Option (List ℕ)) (s : Settings) (at : ℕ)
-    (had left : Option (List ℕ)) (before after : CountedWriter W) (reply : Option (List ℕ))
-    (r : Result ⊤ ServeFault) (old new : State)
-    → IsAnswer s at had left reply old new → IsSent contents before after reply r
-    → IsServedBy contents s at had left before after r old new
-served_by contents s at had left before after (Some bytes) (Ok done) old new steps sent =
+pub served_by : {W D : Type 0} (contents : W → Option (List ℕ)) (tables : D → State)
+    (s : Settings) (at : ℕ) (had left : Option (List ℕ)) (before after : CountedWriter W)
+    (reply : Option (List ℕ)) (r : Result ⊤ ServeFault) (old new : D)
+    → IsAnswer s at had left reply (tables old) (tables new) → (reply ≡ None → new ≡ old)
+    → IsSent contents before after reply r
+    → IsServedBy contents tables s at had left before after r old new
+served_by contents tables s at had left before after (Some bytes) (Ok done) old new steps same
+    sent =
     (bytes, steps, sent)
-served_by contents s at had left before after (Some bytes) (Err Write) old new steps sent =
+served_by contents tables s at had left before after (Some bytes) (Err Write) old new steps same
+    sent =
     (bytes, steps, sent)
-served_by contents s at had left before after (Some bytes) (Err Read) old new steps sent =
+served_by contents tables s at had left before after (Some bytes) (Err Read) old new steps same
+    sent =
     absurd sent
-served_by contents s at had left before after (Some bytes) (Err NoMemory) old new steps sent =
+served_by contents tables s at had left before after (Some bytes) (Err NoMemory) old new steps same
+    sent =
     absurd sent
-served_by contents s at had left before after None (Ok done) old new same sent = absurd sent
-served_by contents s at had left before after None (Err Write) old new same sent = absurd sent
-served_by contents s at had left before after None (Err Read) old new same sent = (sent, same)
-served_by contents s at had left before after None (Err NoMemory) old new same sent = absurd sent
+served_by contents tables s at had left before after None (Ok done) old new kept same sent =
+    absurd sent
+served_by contents tables s at had left before after None (Err Write) old new kept same sent =
+    absurd sent
+served_by contents tables s at had left before after None (Err Read) old new kept same sent =
+    (sent, same refl)
+served_by contents tables s at had left before after None (Err NoMemory) old new kept same sent =
+    absurd sent
 
 reads_not : (fault : WireFault) → fault ≢ WireFault.Read → is_read fault ≡ false
 reads_not WireFault.Read other = absurd (other refl)
@@ -76,17 +88,17 @@ reads_not WireFault.BadHead other = refl
 reads_not WireFault.BadLength other = refl
 
 -- whether a read failed is told by there being no reply
-pub unread_told : {A : Type 0} (fault : WireFault) (r : Result (Vec ℕ A) Unanswered)
+pub unread_told : (fault : WireFault) (r : Result Room Unanswered)
     → TellsRead fault (reply_in r) → is_unread r ≡ is_read fault
-unread_told fault (Ok bytes) told = sym (reads_not fault told.0)
+unread_told fault (Ok room) told = sym (reads_not fault told.0)
 unread_told fault (Err NoRoom) told = sym (reads_not fault told.0)
 unread_told fault (Err Unread) told = sym (ap is_read told)
 
--- what is so where there is no reply is so where a read failed
-pub untouched_by : {A : Type 0} (r : Result A Unanswered) (P : Type 0) → OnErr r P
-    → is_unread r ≡ true → P
-untouched_by (Ok reply) P err unread = absurd cc
-untouched_by (Err fault) P err unread = err
+-- where there is no reply the desk is as it was
+pub untouched_by : {D : Type 0} (whole : Bool) (r : Result Room Unanswered) (old new : D)
+    → GivesRoom whole r old new → reply_in r ≡ None → new ≡ old
+untouched_by whole (Ok room) old new given none = absurd cc
+untouched_by whole (Err fault) old new same none = same
 
 -- a text was written by a writer that hadn't failed, and whether it failed then
 is_written : {W : Type 0} (contents : W → Option (List ℕ)) (before after : CountedWriter W)
@@ -114,27 +126,48 @@ replies_of s at had left before after h l b a bytes failed old new had_is left_i
     )
 
 -- so it is of a message that was served
-pub served_counted : {W : Type 0} (contents : W → Option (List ℕ)) (s : Settings) (at : ℕ)
-    (had left before after h l : Option (List ℕ)) (from to : CountedWriter W)
-    (r : Result ⊤ ServeFault) (old new : State)
+pub served_counted : {W D : Type 0} (contents : W → Option (List ℕ)) (tables : D → State)
+    (s : Settings) (at : ℕ) (had left before after h l : Option (List ℕ))
+    (from to : CountedWriter W) (r : Result ⊤ ServeFault) (old new : D)
     → h ≡ had → l ≡ left → held_in contents from ≡ before → held_in contents to ≡ after
     → has_write_failed from ≡ false → has_write_failed to ≡ tells_failed_write r
-    → IsServedBy contents s at h l from to r old new → IsServed s at had left before after r old new
-served_counted contents s at had left before after h l from to (Ok done) old new had_is left_is
-    before_is after_is unfailed failed served =
+    → IsServedBy contents tables s at h l from to r old new
+    → IsServed s at had left before after r (tables old) (tables new)
+served_counted contents tables s at had left before after h l from to (Ok done) old new had_is
+    left_is before_is after_is unfailed failed served =
     replies_of s at had left before after h l (held_in contents from) (held_in contents to) served.0
-    false old new had_is left_is before_is after_is served.1
+    false (tables old) (tables new) had_is left_is before_is after_is served.1
     (is_written contents from to served.0 false unfailed failed served.2)
-served_counted contents s at had left before after h l from to (Err Write) old new had_is left_is
-    before_is after_is unfailed failed served =
+served_counted contents tables s at had left before after h l from to (Err Write) old new had_is
+    left_is before_is after_is unfailed failed served =
     replies_of s at had left before after h l (held_in contents from) (held_in contents to) served.0
-    true old new had_is left_is before_is after_is served.1
+    true (tables old) (tables new) had_is left_is before_is after_is served.1
     (is_written contents from to served.0 true unfailed failed served.2)
-served_counted contents s at had left before after h l from to (Err Read) old new had_is left_is
-    before_is after_is unfailed failed served =
-    (sym after_is ∙ ap (held_in contents) served.0 ∙ before_is, served.1)
-served_counted contents s at had left before after h l from to (Err NoMemory) old new had_is left_is
-    before_is after_is unfailed failed served = absurd served
+served_counted {W} {D} contents tables s at had left before after h l from to (Err Read) old new
+    had_is left_is before_is after_is unfailed failed served = (
+      sym after_is ∙ ap (held_in contents) served.0 ∙ before_is,
+      subst (λ (d : D). Spares (tables old) (tables d)) (sym served.1) (unread (tables old)),
+    )
+served_counted contents tables s at had left before after h l from to (Err NoMemory) old new had_is
+    left_is before_is after_is unfailed failed served = absurd served
+
+-- where a read failed the desk is as it was
+pub served_unread : {W D : Type 0} (contents : W → Option (List ℕ)) (tables : D → State)
+    (s : Settings) (at : ℕ) (had left : Option (List ℕ)) (before after : CountedWriter W)
+    (r : Result ⊤ ServeFault) (old new : D)
+    → IsServedBy contents tables s at had left before after r old new → r ≡ Err Read → new ≡ old
+served_unread contents tables s at had left before after (Ok done) old new served is = absurd cc
+served_unread contents tables s at had left before after (Err Write) old new served is = absurd cc
+served_unread contents tables s at had left before after (Err Read) old new served is = served.1
+served_unread contents tables s at had left before after (Err NoMemory) old new served is =
+    absurd served
+
+-- what a counted reader lost is what the reader lost for which it counts
+pub taken_of : (had left h l : Option (List ℕ)) (most : ℕ) → h ≡ had → l ≡ left
+    → ConsumesAtMost h l most → ConsumesAtMost had left most
+taken_of had left h l most had_is left_is taken =
+    subst (λ (x : Option (List ℕ)). ConsumesAtMost had x most) left_is
+    (subst (λ (x : Option (List ℕ)). ConsumesAtMost x l most) had_is taken)
 
 -- ---- a message step leaves a well-formed desk
 
@@ -156,13 +189,6 @@ pub formed_stream : (s : Settings) (at : ℕ) (had left : Option (List ℕ)) (ol
 formed_stream s at had left old bytes new is did =
     formed_read s at did.0 old bytes new is did.2
 
-formed : (s : Settings) (sent : Sent) (old : Desk) (reply : Replied) (new : Desk) → IsDesk old
-    → IsReplyTo s sent old reply new → IsDesk new
-formed s sent old (Ok bytes) new is did = formed_stream s sent.0 _ did.0 old bytes new is did.1
-formed s sent old (Err NoMemory) new is same = subst IsDesk (sym same) is
-formed s sent old (Err Read) new is did = absurd did
-formed s sent old (Err Write) new is did = absurd did
-
 -- ---- a run
 
 module _ {D : Type 0} (tables : D → State) (s : Settings) where
@@ -180,16 +206,13 @@ module _ {D : Type 0} (tables : D → State) (s : Settings) where
       → RunsOver tables s sent replies old new
       → RunsMessagesOn s sent replies (tables old) (tables new)
   run_leads [] [] old new same desk is stand clean =
-      let stayed = subst (λ (d : D). StaysOn s (tables old) (tables d)) (sym same)
-      (stays s (tables old)) desk is stand clean in
-      (stayed.0, (stayed.1, subst IsDesk (sym stayed.1) is), stayed.2)
+      subst (λ (d : D). StaysOn s (tables old) (tables d)) (sym same) (stays s (tables old)) desk is
+      stand clean
   run_leads (m ∷ sent) (r ∷ replies) old new run desk is stand clean =
       let between = clean_run sent replies run.0 new run.3 clean in
       let here = replied s m r (tables old) (tables run.0) run.1 desk is stand between in
-      let then =
-      run_leads sent replies run.0 new run.3 here.0 (formed s m desk r here.0 is here.1) here.2
-      clean in
-      (then.0, ((here.0, here.1, then.1.0), then.1.1), then.2)
+      let then = run_leads sent replies run.0 new run.3 here.0 here.1.1 here.2 clean in
+      (then.0, ((here.0, here.1.0, then.1.0), then.1.1), then.2)
   run_leads [] (r ∷ replies) old new run desk is stand clean = absurd run
   run_leads (m ∷ sent) [] old new run desk is stand clean = absurd run
 

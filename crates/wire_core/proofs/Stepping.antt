@@ -1,8 +1,8 @@
 -- A message step over tables, from the step of its command.
 use Rattle.std.proofs.Common.{◌≡◌, ◌≢◌, ◌∙◌, inl, inr, ℕ, Bool, false, List, Option, Some, None}
-use Rattle.std.proofs.Common.{true, Result, Ok, Err, refl, sym, subst, is_some}
-use Rattle.std.proofs.lemmas.Bool.{false≢true}
-use Rattle.std.specs.Prelude.{⊤, OnOk}
+use Rattle.std.proofs.Common.{Result, Ok, Err, refl, subst}
+use Rattle.std.proofs.lemmas.Result.{on_ok_weaker}
+use Rattle.std.specs.Prelude.{⊤, OnErr, OnOk}
 use Rattle.std.specs.declared.alloc.AllocError.{AllocError}
 use Rattle.sqlite.specs.State.{State}
 use Rattle.settings_core.specs.declared.settings.Settings.{Settings}
@@ -17,17 +17,14 @@ use Rattle.message_core.specs.Message.{Reads}
 use Rattle.message_core.specs.Reply.{bytes_of, unavailable}
 use Rattle.message_core.specs.declared.fault.WireFault.{WireFault}
 use Rattle.message_core.specs.declared.message.Message.{Message}
-use Rattle.message_core.specs.declared.reply.Allow.{Allow}
-use Rattle.route_core.specs.Commands.{asked_at_place, asked_by, command_of, methods_of}
-use Rattle.route_core.specs.Places.{Place}
-use Rattle.route_core.specs.declared.fault.CommandFault.{CommandFault}
-use Rattle.route_core.specs.declared.fault.CommandFault.TheVariants.{BadMethod, NoMemory}
+use Rattle.route_core.specs.Commands.{Asked, asked_of}
+use Rattle.route_core.specs.declared.fault.Unasked.{Unasked}
 use Rattle.service_core.specs.TableSteps.{LeadsOn, StepsOn}
 use Rattle.store_core.specs.Due.{StandsDue, due_of_row}
 use Rattle.store_tables.proofs.Spared.{stands, unread}
 use Rattle.store_tables.specs.Calls.{Spares}
 use Rattle.store_tables.specs.Contents.{contents_of}
-use Rattle.wire_core.specs.Replies.{fault_reply, is_head, outcome_reply}
+use Rattle.wire_core.specs.Replies.{is_head, outcome_reply, unasked_reply}
 use Rattle.wire_core.specs.Runs.{IsReplyOver, RepliesOn, Replied, Sent}
 use Rattle.wire_core.specs.Served.{IsAnswer, TellsRead}
 use Rattle.wire_core.specs.Steps.{CommandSteps, CommandStepsOn, IsDoneOn, LeavesOn, LeavesOut}
@@ -40,12 +37,13 @@ pub leads_wider : (s : Settings) (P Q : Desk → Desk → Type 0) (old new : Sta
     → ((desk after : Desk) → P desk after → Q desk after) → LeadsOn s P old new
     → LeadsOn s Q old new
 leads_wider s P Q old new wider leads desk is stands clean =
-    let led = leads desk is stands clean in (led.0, wider desk led.0 led.1, led.2)
+    let led = leads desk is stands clean in
+    (led.0, (wider desk led.0 led.1.0, led.1.1), led.2)
 
 -- a relation that holds of each desk and itself leads from tables to themselves
 pub leads_nowhere : (s : Settings) (P : Desk → Desk → Type 0) (tables : State)
     → ((desk : Desk) → P desk desk) → LeadsOn s P tables tables
-leads_nowhere s P tables holds desk is stands clean = (desk, holds desk, stands)
+leads_nowhere s P tables holds desk is stands clean = (desk, (holds desk, is), stands)
 
 pub stays : (s : Settings) (tables : State) → StaysOn s tables tables
 stays s tables = leads_nowhere s (λ desk after. after ≡ desk) tables (λ desk. refl)
@@ -57,7 +55,8 @@ pub done : (s : Settings) (ask : Ask) (h : Bool) (outcome : Outcome) (bytes : Li
     (old new : State) → bytes ≡ bytes_of (outcome_reply h outcome)
     → StepsOn s ask outcome old new → IsDoneOn s ask h bytes old new
 done s ask h outcome bytes old new told steps desk is stands clean =
-    let step = steps desk is stands clean in (step.0, (outcome, step.1, told), step.2)
+    let step = steps desk is stands clean in
+    (step.0, ((outcome, step.1.0, told), step.1.1), step.2)
 
 left_by : (o : Option Refusal) (answer : Answer) (refusal : Refusal) (old after : Desk)
     → Err refusal ≡ outcome_unless o answer → desk_unless o old after ≡ old
@@ -79,58 +78,35 @@ pub unavailable_stays : (s : Settings) (ask : Ask) (old new : State)
 unavailable_stays s ask old new steps desk is stands clean =
     let step = steps desk is stands clean in (
       step.0,
-      refused_same s ask.at ask.caller ask.command desk step.0 Unavailable step.1.step,
+      (
+        refused_same s ask.at ask.caller ask.command desk step.0 Unavailable step.1.0.step,
+        step.1.1,
+      ),
       step.2,
     )
 
 -- ---- a message
 
-not_by_caller : (caller : Option (List ℕ)) (asked : Option Command)
-    → asked_by caller asked ≡ Err BadMethod → false ≡ true
-not_by_caller None asked is = absurd cc
-not_by_caller (Some c) None is = absurd cc
-not_by_caller (Some c) (Some a) is = absurd cc
+-- what holds anyway holds where nothing could be put
+pub anyway : {P : Type 0} (put : Result ⊤ AllocError) → P → OnErr put P
+anyway (Ok done) p = tt
+anyway (Err refused) p = p
 
-has_methods : (s : Settings) (message : Message) (methods : Option Allow) (place : Option Place)
-    → asked_at_place s message methods place ≡ Err BadMethod → is_some methods ≡ true
-has_methods s message None None is = absurd cc
-has_methods s message None (Some p) is = absurd (false≢true (not_by_caller _ _ is))
-has_methods s message (Some methods) place is = refl
-
--- where the method is the fault, the path has others
-pub has_others : (s : Settings) (message : Message) → command_of s message ≡ Err BadMethod
-    → is_some (methods_of message.target) ≡ true
-has_others s message is = has_methods s message (methods_of message.target) _ is
-
--- a message that asks for no command
-pub faulty : (s : Settings) (at : ℕ) (message : Message) (fault : CommandFault) (bytes : List ℕ)
-    (tables : State)
-    → bytes ≡ bytes_of (fault_reply (is_head message) (methods_of message.target) fault)
-    → CommandStepsOn s at message (Err fault) bytes tables tables
-faulty s at message fault bytes tables told = (told, unread tables)
-
--- the same, once its reply is put: then the fault isn't that it was out of memory
-pub told_without_memory : (s : Settings) (at : ℕ) (message : Message) (fault : CommandFault)
-    (h : Bool) (methods : Option Allow) (put : Result ⊤ AllocError) (bytes : List ℕ)
-    (tables : State) → h ≡ is_head message → methods ≡ methods_of message.target
-    → (fault ≢ NoMemory → command_of s message ≡ Err fault) → OnOk put (fault ≢ NoMemory)
-    → OnOk put (bytes ≡ bytes_of (fault_reply h methods fault))
-    → OnOk put (CommandStepsOn s at message (command_of s message) bytes tables tables)
-told_without_memory s at message fault h methods (Err e) bytes tables head at_path is memory told =
-    tt
-told_without_memory s at message fault h methods (Ok done) bytes tables head at_path is memory told =
-    let by_head =
-    subst (λ (x : Bool). bytes ≡ bytes_of (fault_reply x methods fault)) head told in
-    let by_path =
-    subst (λ (m : Option Allow). bytes ≡ bytes_of (fault_reply (is_head message) m fault)) at_path
-    by_head in
-    subst (λ (a : Result (List ℕ × Command) CommandFault). CommandStepsOn s at message a bytes tables
-    tables) (sym (is memory)) (faulty s at message fault bytes tables by_path)
+-- a message that asks for no command, once its reply is put
+pub told_unasked : (s : Settings) (at : ℕ) (message : Message) (unasked : Unasked) (h : Bool)
+    (put : Result ⊤ AllocError) (bytes : List ℕ) (tables : State) → h ≡ is_head message
+    → Err unasked ≡ asked_of s message → OnOk put (bytes ≡ bytes_of (unasked_reply h unasked))
+    → OnOk put (CommandStepsOn s at message (asked_of s message) bytes tables tables)
+told_unasked s at message unasked h put bytes tables head is told =
+    on_ok_weaker put
+    (λ so. subst (λ (a : Asked). CommandStepsOn s at message a bytes tables tables) is
+    (subst (λ (x : Bool). bytes ≡ bytes_of (unasked_reply x unasked)) head so, unread tables))
+    told
 
 -- whatever a message asks for, it is left out where nothing is done
-pub leaves_same : (s : Settings) (asked : Result (List ℕ × Command) CommandFault) (tables : State)
+pub leaves_same : (s : Settings) (asked : Asked) (tables : State)
     → LeavesOn s asked tables tables
-leaves_same s (Err fault) tables = unread tables
+leaves_same s (Err unasked) tables = unread tables
 leaves_same s (Ok asked) tables = stays s tables
 
 -- ---- a stream
@@ -180,25 +156,25 @@ still s old new kept desk stand = stands kept (contents_of (due_of_row s desk) d
 leads_same : (s : Settings) (P : Desk → Desk → Type 0) (old new : State) → Spares old new
     → ((desk : Desk) → P desk desk) → LeadsOn s P old new
 leads_same s P old new kept holds desk is stand clean =
-    (desk, holds desk, still s old new kept desk stand)
+    (desk, (holds desk, is), still s old new kept desk stand)
 
 pub spared_stays : (s : Settings) (old new : State) → Spares old new → StaysOn s old new
 spared_stays s old new kept =
     leads_same s (λ desk after. after ≡ desk) old new kept (λ desk. refl)
 
 module _ (s : Settings) (at : ℕ) where
-  command_leads : (message : Message) (asked : Result (List ℕ × Command) CommandFault)
+  command_leads : (message : Message) (asked : Asked)
       (bytes : List ℕ) (old new : State) → CommandStepsOn s at message asked bytes old new
       → LeadsOn s (λ desk after. CommandSteps s at message asked desk bytes after) old new
-  command_leads message (Err fault) bytes old new did =
-      leads_same s (λ desk after. CommandSteps s at message (Err fault) desk bytes after) old new
+  command_leads message (Err unasked) bytes old new did =
+      leads_same s (λ desk after. CommandSteps s at message (Err unasked) desk bytes after) old new
       did.1 (λ desk. (did.0, refl))
   command_leads message (Ok asked) bytes old new did = did
 
-  left_leads : (h : Bool) (asked : Result (List ℕ × Command) CommandFault) (bytes : List ℕ)
+  left_leads : (h : Bool) (asked : Asked) (bytes : List ℕ)
       (old new : State) → bytes ≡ bytes_of (unavailable h) → LeavesOn s asked old new
       → LeadsOn s (λ desk after. LeavesOut h desk bytes after) old new
-  left_leads h (Err fault) bytes old new told same =
+  left_leads h (Err unasked) bytes old new told same =
       leads_same s (λ desk after. LeavesOut h desk bytes after) old new same (λ desk. (told, refl))
   left_leads h (Ok asked) bytes old new told stay =
       leads_wider s _ _ old new (λ desk after same. (told, same)) stay
@@ -211,10 +187,10 @@ module _ (s : Settings) (at : ℕ) where
       (λ desk. (did.0, refl))
   read_leads (Ok message) bytes old new (inl left) =
       leads_wider s _ _ old new (λ desk after out. inl out)
-      (left_leads (is_head message) (command_of s message) bytes old new left.0 left.1)
+      (left_leads (is_head message) (asked_of s message) bytes old new left.0 left.1)
   read_leads (Ok message) bytes old new (inr did) =
       leads_wider s _ _ old new (λ desk after done. inr done)
-      (command_leads message (command_of s message) bytes old new did)
+      (command_leads message (asked_of s message) bytes old new did)
 
   pub stream_leads : (had left : Option (List ℕ)) (bytes : List ℕ) (old new : State)
       → StreamStepsOn s at had left bytes old new

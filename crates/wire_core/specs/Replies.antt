@@ -1,5 +1,5 @@
 -- Which reply each outcome and each fault has.
-use Rattle.std.specs.Prelude.{◌≡◌, ◌≢◌, ◌⊎◌, ℕ, Bool, false, List, ◌++◌, Option, None, Ok, Err, codes, decimal}
+use Rattle.std.specs.Prelude.{◌≡◌, ◌≢◌, ◌⊎◌, ℕ, Bool, false, List, ◌++◌, Option, Some, None, Ok, Err, codes, decimal}
 use Rattle.std.specs.Str.{bytes_eq}
 use Rattle.desk_model.specs.Step.{Outcome}
 use Rattle.desk_model.specs.declared.answer.Answer.{Answer}
@@ -14,9 +14,9 @@ use Rattle.message_core.specs.declared.message.Message.{Message}
 use Rattle.message_core.specs.declared.reply.Allow.{Allow}
 use Rattle.message_core.specs.declared.reply.Reply.{Reply}
 use Rattle.route_core.specs.Fault as route
-use Rattle.route_core.specs.declared.fault.CommandFault.{CommandFault}
-use Rattle.route_core.specs.declared.fault.CommandFault.TheVariants.{NoRoute, BadMethod, NoToken}
-use Rattle.route_core.specs.declared.fault.CommandFault.TheVariants.{BadBody, NoMemory}
+use Rattle.route_core.specs.declared.fault.Unasked.{Unasked}
+use Rattle.route_core.specs.declared.fault.Unasked.TheVariants.{NoRoute, BadMethod, NoToken}
+use Rattle.route_core.specs.declared.fault.Unasked.TheVariants.{BadBody}
 
 abbrev pub reply_with : ℕ → Option Allow → List ℕ → Bool → Reply
 reply_with status allow body head_only =
@@ -73,37 +73,35 @@ stream_reply fault =
     reply_with 400 None
     (fault_text (codes "bad message") (message.number_of fault) (message.name_of fault)) false
 
-abbrev pub code_of_fault : CommandFault → ℕ
-code_of_fault NoRoute = 404
-code_of_fault BadMethod = 405
-code_of_fault NoToken = 403
-code_of_fault BadBody = 400
-code_of_fault NoMemory = 503
+abbrev pub code_of_unasked : Unasked → ℕ
+code_of_unasked NoRoute = 404
+code_of_unasked (BadMethod methods) = 405
+code_of_unasked NoToken = 403
+code_of_unasked BadBody = 400
 
 -- the methods of the place are told where the message has another one
-abbrev pub allow_with : Option Allow → CommandFault → Option Allow
-allow_with methods NoRoute = None
-allow_with methods BadMethod = methods
-allow_with methods NoToken = None
-allow_with methods BadBody = None
-allow_with methods NoMemory = None
+abbrev pub allow_of : Unasked → Option Allow
+allow_of NoRoute = None
+allow_of (BadMethod methods) = Some methods
+allow_of NoToken = None
+allow_of BadBody = None
 
-abbrev pub bad_request_text : CommandFault → List ℕ
-bad_request_text fault =
+abbrev pub bad_request_text : Unasked → List ℕ
+bad_request_text unasked =
+    let fault = route.fault_of unasked in
     fault_text (codes "bad request") (route.number_of fault) (route.name_of fault)
 
 -- one who has no token is told what an unknown caller is told
-abbrev pub text_of_fault : CommandFault → List ℕ
-text_of_fault NoRoute = bad_request_text NoRoute
-text_of_fault BadMethod = bad_request_text BadMethod
-text_of_fault NoToken = refusal_text refusal.UnknownCaller
-text_of_fault BadBody = bad_request_text BadBody
-text_of_fault NoMemory = refusal_text refusal.Unavailable
+abbrev pub text_of_unasked : Unasked → List ℕ
+text_of_unasked NoRoute = bad_request_text NoRoute
+text_of_unasked (BadMethod methods) = bad_request_text (BadMethod methods)
+text_of_unasked NoToken = refusal_text refusal.UnknownCaller
+text_of_unasked BadBody = bad_request_text BadBody
 
--- a message that asks for no command, at a place with these methods
-abbrev pub fault_reply : Bool → Option Allow → CommandFault → Reply
-fault_reply head_only methods fault =
-    reply_with (code_of_fault fault) (allow_with methods fault) (text_of_fault fault) head_only
+-- a message that asks for no command
+abbrev pub unasked_reply : Bool → Unasked → Reply
+unasked_reply head_only unasked =
+    reply_with (code_of_unasked unasked) (allow_of unasked) (text_of_unasked unasked) head_only
 
 -- the reply tells the fault of a stream, or that there was no memory
 abbrev pub TellsFault : WireFault → List ℕ → Type 0

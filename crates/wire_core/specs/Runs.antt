@@ -3,7 +3,6 @@ use Rattle.std.specs.Prelude.{◌≡◌, ℕ, List, [], ◌∷◌, Option, Some,
 use Rattle.sqlite.specs.State.{State}
 use Rattle.settings_core.specs.declared.settings.Settings.{Settings}
 use Rattle.desk_model.specs.Desk.{Desk}
-use Rattle.desk_model.specs.IsDesk.{IsDesk}
 use Rattle.desk_model.specs.Step.{RunsBy}
 use Rattle.service_core.specs.TableSteps.{LeadsOn}
 use Rattle.store_tables.specs.Calls.{Spares, WasClean}
@@ -52,11 +51,11 @@ abbrev pub RepliesOn : Settings → Sent → Replied → State → State → Typ
 RepliesOn settings sent reply =
     LeadsOn settings (λ desk after. IsReplyTo settings sent desk reply after)
 
--- a run of messages, and the desk that it leaves is well formed
+-- a run of messages
 abbrev pub RunsMessagesOn : Settings → List Sent → List Replied → State → State → Type 0
 RunsMessagesOn settings sent replies =
     LeadsOn settings
-    (λ desk after. RunsBy (IsReplyTo settings) desk sent replies after × IsDesk after)
+    (λ desk after. RunsBy (IsReplyTo settings) desk sent replies after)
 
 -- ---- as they are handed over
 

@@ -1,6 +1,6 @@
 -- What stands after a message was served over tables.
-use Rattle.std.specs.Prelude.{◌≡◌, ◌≢◌, ℕ, ⊤, Bool, true, false, List, Option, Some, None, Result}
-use Rattle.std.specs.Prelude.{Ok, Err, Vec}
+use Rattle.std.specs.Prelude.{◌≡◌, ◌≢◌, ℕ, ⊤, Bool, true, false, List, [], Option, Some, None, Result}
+use Rattle.std.specs.Prelude.{Ok, Err}
 use Rattle.sqlite.specs.State.{State}
 use Rattle.settings_core.specs.declared.settings.Settings.{Settings}
 use Rattle.message_core.specs.Reply.{bytes_of, unavailable}
@@ -9,11 +9,13 @@ use Rattle.store_tables.specs.Calls.{Spares}
 use Rattle.stream_core.specs.Written.{IsWritten, Prints}
 use Rattle.stream_core.specs.declared.writer.CountedWriter.{CountedWriter}
 use Rattle.wire_core.specs.Replies.{TellsFault}
+use Rattle.wire_core.specs.Rooms.{held_in}
 use Rattle.wire_core.specs.Steps.{StreamStepsOn}
 use Rattle.wire_core.specs.declared.fault.ServeFault.{ServeFault}
 use Rattle.wire_core.specs.declared.fault.ServeFault.TheVariants.{Read, Write, NoMemory}
 use Rattle.wire_core.specs.declared.fault.Unanswered.{Unanswered}
 use Rattle.wire_core.specs.declared.fault.Unanswered.TheVariants.{NoRoom, Unread}
+use Rattle.wire_core.specs.declared.room.Room.{Room}
 
 -- the message step, whose reply goes out whole, or where a write failed short of a byte or more
 abbrev pub Replies : Settings → ℕ → Option (List ℕ) → Option (List ℕ) → Option (List ℕ)
@@ -36,25 +38,32 @@ IsServed settings at had left before after (Err NoMemory) old new = ⊥
 
 -- ---- by a reader and a writer that count
 
--- the same, in at most as many writes as the reply has bytes
-abbrev pub IsServedBy : {W : Type 0} → (W → Option (List ℕ)) → Settings → ℕ → Option (List ℕ)
-    → Option (List ℕ) → CountedWriter W → CountedWriter W → Result ⊤ ServeFault → State → State
-    → Type 0
-IsServedBy contents settings at had left before after (Ok done) old new =
-    (bytes : List ℕ) × StreamStepsOn settings at had left bytes old new
+-- the same of a desk with these tables, in at most as many writes as the reply has bytes; where a
+-- read failed the desk is as it was
+abbrev pub IsServedBy : {W D : Type 0} → (W → Option (List ℕ)) → (D → State) → Settings → ℕ
+    → Option (List ℕ) → Option (List ℕ) → CountedWriter W → CountedWriter W → Result ⊤ ServeFault
+    → D → D → Type 0
+IsServedBy contents tables settings at had left before after (Ok done) old new =
+    (bytes : List ℕ) × StreamStepsOn settings at had left bytes (tables old) (tables new)
     × Prints contents before after bytes
-IsServedBy contents settings at had left before after (Err Write) old new =
-    (bytes : List ℕ) × StreamStepsOn settings at had left bytes old new
+IsServedBy contents tables settings at had left before after (Err Write) old new =
+    (bytes : List ℕ) × StreamStepsOn settings at had left bytes (tables old) (tables new)
     × Prints contents before after bytes
-IsServedBy contents settings at had left before after (Err Read) old new =
-    (after ≡ before) × Spares old new
-IsServedBy contents settings at had left before after (Err NoMemory) old new = ⊥
+IsServedBy contents tables settings at had left before after (Err Read) old new =
+    (after ≡ before) × (new ≡ old)
+IsServedBy contents tables settings at had left before after (Err NoMemory) old new = ⊥
 
 -- the reply that goes out, if there is one: where there was no room for any, that there was none
-abbrev pub reply_in : {A : Type 0} → Result (Vec ℕ A) Unanswered → Option (List ℕ)
-reply_in (Ok bytes) = Some bytes.items
+abbrev pub reply_in : Result Room Unanswered → Option (List ℕ)
+reply_in (Ok room) = Some (held_in room)
 reply_in (Err NoRoom) = Some (bytes_of (unavailable false))
 reply_in (Err Unread) = None
+
+-- a reply has no text by itself where it has to stand whole; where there is none, the desk is as it
+-- was
+abbrev pub GivesRoom : {D : Type 0} → Bool → Result Room Unanswered → D → D → Type 0
+GivesRoom whole (Ok room) old new = whole ≡ true → room.text ≡ []
+GivesRoom whole (Err fault) old new = new ≡ old
 
 -- the reply is that of the message step; there is none where nothing is done
 abbrev pub IsAnswer : Settings → ℕ → Option (List ℕ) → Option (List ℕ) → Option (List ℕ) → State

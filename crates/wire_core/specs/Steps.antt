@@ -4,17 +4,15 @@ use Rattle.sqlite.specs.State.{State}
 use Rattle.settings_core.specs.declared.settings.Settings.{Settings}
 use Rattle.desk_model.specs.Desk.{Desk}
 use Rattle.desk_model.specs.Step.{Ask, Outcome}
-use Rattle.desk_model.specs.declared.command.Command.{Command}
 use Rattle.message_core.specs.Message.{Reads}
 use Rattle.message_core.specs.Reply.{bytes_of, unavailable}
 use Rattle.message_core.specs.declared.fault.WireFault.{WireFault}
 use Rattle.message_core.specs.declared.fault.WireFault.TheVariants.{NoMemory}
 use Rattle.message_core.specs.declared.message.Message.{Message}
-use Rattle.route_core.specs.Commands.{command_of, methods_of}
-use Rattle.route_core.specs.declared.fault.CommandFault.{CommandFault}
+use Rattle.route_core.specs.Commands.{Asked, asked_of}
 use Rattle.service_core.specs.TableSteps.{IsStep, LeadsOn, ask_by}
 use Rattle.store_tables.specs.Calls.{Spares}
-use Rattle.wire_core.specs.Replies.{TellsFault, fault_reply, is_head, outcome_reply}
+use Rattle.wire_core.specs.Replies.{TellsFault, is_head, outcome_reply, unasked_reply}
 
 -- out of memory nothing is done, and the reply says so
 abbrev pub LeavesOut : Bool → Desk → List ℕ → Desk → Type 0
@@ -27,12 +25,10 @@ IsDone settings ask head_only old bytes new =
     (outcome : Outcome) × IsStep settings ask old outcome new
     × (bytes ≡ bytes_of (outcome_reply head_only outcome))
 
--- the step of the command that is asked for; or nothing is done, and the reply tells the fault
-abbrev pub CommandSteps : Settings → ℕ → Message → Result (List ℕ × Command) CommandFault → Desk
-    → List ℕ → Desk → Type 0
-CommandSteps settings at message (Err fault) old bytes new =
-    (bytes ≡ bytes_of (fault_reply (is_head message) (methods_of message.target) fault))
-    × (new ≡ old)
+-- the step of the command that is asked for; or nothing is done, and the reply tells why
+abbrev pub CommandSteps : Settings → ℕ → Message → Asked → Desk → List ℕ → Desk → Type 0
+CommandSteps settings at message (Err unasked) old bytes new =
+    (bytes ≡ bytes_of (unasked_reply (is_head message) unasked)) × (new ≡ old)
 CommandSteps settings at message (Ok asked) old bytes new =
     IsDone settings (ask_by at asked.0 asked.1) (is_head message) old bytes new
 
@@ -40,7 +36,7 @@ CommandSteps settings at message (Ok asked) old bytes new =
 abbrev pub MessageSteps : Settings → ℕ → Message → Desk → List ℕ → Desk → Type 0
 MessageSteps settings at message old bytes new =
     LeavesOut (is_head message) old bytes new
-    ⊎ CommandSteps settings at message (command_of settings message) old bytes new
+    ⊎ CommandSteps settings at message (asked_of settings message) old bytes new
 
 -- What reading a stream gave, of which this is left: a message or its fault; or it was out of
 -- memory, whatever is left.
@@ -76,17 +72,15 @@ IsDoneOn settings ask head_only bytes =
     LeadsOn settings (λ desk after. IsDone settings ask head_only desk bytes after)
 
 -- a message that was left out: where it asks for no command, all tables are as they were
-abbrev pub LeavesOn : Settings → Result (List ℕ × Command) CommandFault → State → State → Type 0
-LeavesOn settings (Err fault) old new = Spares old new
+abbrev pub LeavesOn : Settings → Asked → State → State → Type 0
+LeavesOn settings (Err unasked) old new = Spares old new
 LeavesOn settings (Ok asked) old new = StaysOn settings old new
 
--- what a message asks for was done; or it asks for no command, the reply tells the fault, and all
--- tables are as they were
-abbrev pub CommandStepsOn : Settings → ℕ → Message → Result (List ℕ × Command) CommandFault
-    → List ℕ → State → State → Type 0
-CommandStepsOn settings at message (Err fault) bytes old new =
-    (bytes ≡ bytes_of (fault_reply (is_head message) (methods_of message.target) fault))
-    × Spares old new
+-- what a message asks for was done; or it asks for no command, the reply tells why, and all tables
+-- are as they were
+abbrev pub CommandStepsOn : Settings → ℕ → Message → Asked → List ℕ → State → State → Type 0
+CommandStepsOn settings at message (Err unasked) bytes old new =
+    (bytes ≡ bytes_of (unasked_reply (is_head message) unasked)) × Spares old new
 CommandStepsOn settings at message (Ok asked) bytes old new =
     IsDoneOn settings (ask_by at asked.0 asked.1) (is_head message) bytes old new
 
@@ -94,8 +88,8 @@ CommandStepsOn settings at message (Ok asked) bytes old new =
 abbrev pub MessageStepsOn : Settings → ℕ → Message → List ℕ → State → State → Type 0
 MessageStepsOn settings at message bytes old new =
     ((bytes ≡ bytes_of (unavailable (is_head message)))
-    × LeavesOn settings (command_of settings message) old new)
-    ⊎ CommandStepsOn settings at message (command_of settings message) bytes old new
+    × LeavesOn settings (asked_of settings message) old new)
+    ⊎ CommandStepsOn settings at message (asked_of settings message) bytes old new
 
 -- the same of what was read: a fault leaves all tables as they were
 abbrev pub ReadStepsOn : Settings → ℕ → Result Message WireFault → List ℕ → State → State → Type 0

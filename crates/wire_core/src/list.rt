@@ -1,7 +1,7 @@
 //! A list of messages, served one after the other.
 ghost use Rattle.std.specs.Prelude.{◌≡◌, IfOk, OnErr};
+ghost use Rattle.service_core.specs.Leaves.{LeavesDesk};
 ghost use Rattle.service_core.specs.Seen.{settings_of, tables_of};
-ghost use Rattle.store_tables.specs.Calls.{Lasts, WasClean};
 ghost use Rattle.wire_core.specs.Runs.{IsReplyOver, RepliesOn, RunsMessagesOn, RunsOver};
 ghost use Rattle.wire_core.specs.Runs.{all_replied, all_sent, replied_of};
 
@@ -20,6 +20,7 @@ use stream_core::CountedReader;
 ///
 /// Room for the replies is had before the first message: `AllocError` where it is refused, and
 /// nothing is done.
+#[tactic(auto, using(service_core::proofs::LeftLemmas::left_same))]
 pub fn serve_list<S: Backend>(
     alloc: Global,
     messages: &[(u32, Vec<u8>)],
@@ -32,9 +33,7 @@ pub fn serve_list<S: Backend>(
         (settings_of S.Store desk.old) (all_sent messages.now) (all_replied replies.items)
         desk.old desk.new) }
     ensures err { OnErr result (desk.new ≡ desk.old) }
-    ensures honest { WasClean (tables_of S.Store desk.old) (tables_of S.Store desk.new) }
-    ensures lasts { Lasts (tables_of S.Store desk.old) (tables_of S.Store desk.new) }
-    ensures same { settings_of S.Store desk.new ≡ settings_of S.Store desk.old }
+    ensures left { LeavesDesk S.Store desk.old desk.new }
 {
     let mut replies = Vec::with_capacity(alloc, messages.len())?;
     let router = Routes::new(alloc).ok();
@@ -60,14 +59,12 @@ pub fn serve_bytes<S: Backend>(
     ensures over { IsReplyOver (settings_of S.Store desk.old) (moment, bytes.now)
         (replied_of result) (tables_of S.Store desk.old) (tables_of S.Store desk.new) }
     ensures err { OnErr result (desk.new ≡ desk.old) }
-    ensures honest { WasClean (tables_of S.Store desk.old) (tables_of S.Store desk.new) }
-    ensures lasts { Lasts (tables_of S.Store desk.old) (tables_of S.Store desk.new) }
-    ensures same { settings_of S.Store desk.new ≡ settings_of S.Store desk.old }
+    ensures left { LeavesDesk S.Store desk.old desk.new }
 {
     let mut stream = bytes;
     let mut reader = CountedReader::new(&mut stream);
-    match answer_counted(alloc, routes, &mut reader, moment, desk) {
-        Ok(reply) => Ok(reply),
+    match answer_counted(alloc, routes, true, &mut reader, moment, desk) {
+        Ok(room) => Ok(room.head),
         Err(_) => Err(ServeFault::NoMemory),
     }
 }

@@ -6,7 +6,7 @@ ghost use Rattle.wire_core.specs.Replies as replies;
 
 use desk_core::{Answer, Refusal};
 use message_core::{Allow, Message, Reply, WireFault};
-use route_core::CommandFault;
+use route_core::Unasked;
 use service_core::refusal_text;
 use std::alloc::{AllocError, Global};
 use text_core::Sequence;
@@ -87,58 +87,52 @@ pub(crate) fn stream_reply(alloc: Global, fault: WireFault) -> Result<Reply, All
     })
 }
 
-/// The reply that tells why a message asks for no command, at a place with these methods.
-pub(crate) fn fault_reply(
+/// The reply that tells why a message asks for no command.
+pub(crate) fn unasked_reply(
     alloc: Global,
     head_only: bool,
-    methods: Option<Allow>,
-    fault: CommandFault,
+    unasked: Unasked,
 ) -> Result<Reply, AllocError>
-    ensures { IfOk result (λ reply. reply ≡ replies.fault_reply head_only methods fault) }
+    ensures { IfOk result (λ reply. reply ≡ replies.unasked_reply head_only unasked) }
 {
-    let text = text_of_fault(alloc, fault)?;
+    let text = text_of_unasked(alloc, unasked)?;
     Ok(Reply {
-        status: code_of_fault(fault),
-        allow: allow_with(methods, fault),
+        status: code_of_unasked(unasked),
+        allow: allow_of(unasked),
         body: Sequence::from(text.into_bytes()),
         head_only,
     })
 }
 
-fn code_of_fault(fault: CommandFault) -> u16
-    ensures { result ≡ replies.code_of_fault fault }
+fn code_of_unasked(unasked: Unasked) -> u16
+    ensures { result ≡ replies.code_of_unasked unasked }
 {
-    match fault {
-        CommandFault::NoRoute => 404,
-        CommandFault::BadMethod => 405,
-        CommandFault::NoToken => 403,
-        CommandFault::BadBody => 400,
-        CommandFault::NoMemory => 503,
+    match unasked {
+        Unasked::NoRoute => 404,
+        Unasked::BadMethod(_) => 405,
+        Unasked::NoToken => 403,
+        Unasked::BadBody => 400,
     }
 }
 
 /// The methods of the place, where the message has another one.
-fn allow_with(methods: Option<Allow>, fault: CommandFault) -> Option<Allow>
-    ensures { result ≡ replies.allow_with methods fault }
+fn allow_of(unasked: Unasked) -> Option<Allow>
+    ensures { result ≡ replies.allow_of unasked }
 {
-    match fault {
-        CommandFault::BadMethod => methods,
-        CommandFault::NoRoute
-        | CommandFault::NoToken
-        | CommandFault::BadBody
-        | CommandFault::NoMemory => None,
+    match unasked {
+        Unasked::BadMethod(methods) => Some(methods),
+        Unasked::NoRoute | Unasked::NoToken | Unasked::BadBody => None,
     }
 }
 
-fn text_of_fault(alloc: Global, fault: CommandFault) -> Result<String, AllocError>
-    ensures { IfOk result (λ t. string_bytes t ≡ replies.text_of_fault fault) }
+fn text_of_unasked(alloc: Global, unasked: Unasked) -> Result<String, AllocError>
+    ensures { IfOk result (λ t. string_bytes t ≡ replies.text_of_unasked unasked) }
 {
-    match fault {
-        CommandFault::NoRoute | CommandFault::BadMethod | CommandFault::BadBody => {
-            bad_request_text(alloc, fault)
+    match unasked {
+        Unasked::NoRoute | Unasked::BadMethod(_) | Unasked::BadBody => {
+            bad_request_text(alloc, unasked)
         }
-        CommandFault::NoToken => refusal_text(alloc, &Refusal::UnknownCaller),
-        CommandFault::NoMemory => refusal_text(alloc, &Refusal::Unavailable),
+        Unasked::NoToken => refusal_text(alloc, &Refusal::UnknownCaller),
     }
 }
 
@@ -153,9 +147,10 @@ fn bad_message_text(alloc: Global, fault: WireFault) -> Result<String, AllocErro
 }
 
 #[tactic(auto, unfolding(crate::specs::Replies::fault_text))]
-fn bad_request_text(alloc: Global, fault: CommandFault) -> Result<String, AllocError>
-    ensures { IfOk result (λ t. string_bytes t ≡ replies.bad_request_text fault) }
+fn bad_request_text(alloc: Global, unasked: Unasked) -> Result<String, AllocError>
+    ensures { IfOk result (λ t. string_bytes t ≡ replies.bad_request_text unasked) }
 {
+    let fault = unasked.fault();
     let number = fault.number();
     let name = fault.name();
     format!(in alloc; "bad request {number} {name}\n")

@@ -1,100 +1,157 @@
 //! Replies are put into room that was had before.
-ghost use Rattle.std.specs.Prelude.{◌≡◌, ◌≢◌, ◌≤◌, [], true, false, IfErr, OnErr, OnOk};
-ghost use Rattle.std.specs.Prelude.{is_some, length};
-ghost use Rattle.std.specs.Vec.{vec_capacity};
+ghost use Rattle.std.specs.Prelude.{◌≡◌, ◌≤◌, ◌<◌, ◌^◌, [], true, false, IfOk, OnErr, OnOk, length};
 ghost use Rattle.desk_texts.specs.Short.{is_short};
 ghost use Rattle.desk_texts.specs.Texts.{outcome_text};
 ghost use Rattle.message_core.specs.Reply as form;
 ghost use Rattle.message_core.specs.Reply.{IsReply, bytes_of};
 ghost use Rattle.wire_core.specs.Replies as replies;
 ghost use Rattle.wire_core.specs.Replies.{TellsFault};
+ghost use Rattle.wire_core.specs.Rooms.{IsEmpty, IsWhole, held_in};
 
-use crate::replies::{fault_reply, outcome_reply, stream_reply};
-use message_core::{Allow, Reply, WireFault, answer_bytes, put_reply, unavailable_reply};
-use route_core::CommandFault;
+use crate::replies::{outcome_reply, stream_reply, unasked_reply};
+use message_core::{Reply, WireFault, answer_bytes, put_reply, unavailable_reply};
+use route_core::Unasked;
 use service_core::Told;
 use std::alloc::{AllocError, Global};
+use text_core::Sequence;
 
 /// Room for any short reply, in bytes.
-pub(crate) const SHORT_REPLY: usize = 512;
+const SHORT_REPLY: usize = 512;
 
 /// A body of fewer bytes makes a short reply.
 const SHORT_BODY: usize = 100;
 
-/// Puts the reply with what came of a command into the room. One that isn't short takes memory.
+/// Where a reply is put.
+#[derive(Drop)]
+pub(crate) struct Room {
+    /// The reply, but for a text that stands by itself.
+    pub(crate) head: Vec<u8>,
+    /// The text of a long reply, which isn't copied behind its head.
+    pub(crate) text: Sequence<u8>,
+    /// Whether a text has to stand with its head.
+    whole: bool,
+}
+
+impl Room {
+    /// Room for any short reply.
+    pub(crate) fn new(alloc: Global, whole: bool) -> Result<Room, AllocError>
+        ensures empty { IfOk result (λ room. IsEmpty room) }
+        ensures whole { IfOk result (λ room. room.whole ≡ whole) }
+    {
+        Ok(Room {
+            head: Vec::with_capacity(alloc, SHORT_REPLY)?,
+            text: Sequence::from(Vec::new(alloc)),
+            whole,
+        })
+    }
+}
+
+/// Puts the reply with what came of a command into the room. A long one takes memory where its text
+/// has to stand with its head.
 pub(crate) fn put_told(
     alloc: Global,
     head_only: bool,
     told: Told,
-    room: &mut Vec<u8>,
+    room: &mut Room,
 ) -> Result<(), AllocError>
     requires told { told.text.items ≡ outcome_text told.outcome }
     requires short { is_short told.outcome ≡ true → length told.text.items ≤ 64 }
-    requires empty { room.old.items ≡ [] }
-    requires room { 512 ≤ vec_capacity room.old }
+    requires empty { IsEmpty room.old }
     ensures ok { OnOk result
-        (room.new.items ≡ bytes_of (replies.outcome_reply head_only told.outcome)) }
+        (held_in room.new ≡ bytes_of (replies.outcome_reply head_only told.outcome)) }
     ensures err { OnErr result ((room.new ≡ room.old) × (is_short told.outcome ≡ false)) }
+    ensures whole { IsWhole room.old room.new }
 {
     let outcome = told.outcome;
     let reply = outcome_reply(head_only, &outcome, told.text);
     drop(outcome);
-    put(alloc, &reply, room)
+    put(alloc, reply, room)
 }
 
-/// Puts the reply to a message that asks for no command into the room; its path has these methods.
-pub(crate) fn put_fault(
+/// Puts the reply to a message that asks for no command into the room.
+pub(crate) fn put_unasked(
     alloc: Global,
     head_only: bool,
-    methods: Option<Allow>,
-    fault: CommandFault,
-    room: &mut Vec<u8>,
+    unasked: Unasked,
+    room: &mut Room,
 ) -> Result<(), AllocError>
-    requires told { fault ≡ CommandFault.BadMethod → is_some methods ≡ true }
-    requires empty { room.old.items ≡ [] }
-    requires room { 512 ≤ vec_capacity room.old }
-    ensures memory { OnOk result (fault ≢ CommandFault.NoMemory) }
-    ensures ok { OnOk result (room.new.items
-        ≡ bytes_of (replies.fault_reply head_only methods fault)) }
+    requires empty { IsEmpty room.old }
+    ensures ok { OnOk result
+        (held_in room.new ≡ bytes_of (replies.unasked_reply head_only unasked)) }
     ensures err { OnErr result (room.new ≡ room.old) }
+    ensures whole { IsWhole room.old room.new }
 {
-    if fault == CommandFault::NoMemory {
-        return Err(AllocError);
-    }
-    match fault_reply(alloc, head_only, methods, fault) {
-        Ok(reply) => put(alloc, &reply, room),
+    match unasked_reply(alloc, head_only, unasked) {
+        Ok(reply) => put(alloc, reply, room),
         Err(_) => Err(AllocError),
     }
 }
 
-/// Puts the bytes of a reply into the room. One with a body of 100 bytes or more takes memory.
+/// Puts a reply into the room. One with a body of 100 bytes or more takes memory where its text has
+/// to stand with its head.
 #[tactic(auto, using(message_core::proofs::ReplyLemmas::short_reply))]
-fn put(alloc: Global, reply: &Reply, room: &mut Vec<u8>) -> Result<(), AllocError>
-    requires reply { IsReply reply.now }
-    requires empty { room.old.items ≡ [] }
-    requires room { 512 ≤ vec_capacity room.old }
-    ensures ok { OnOk result (room.new.items ≡ bytes_of reply.now) }
-    ensures err { OnErr result ((room.new ≡ room.old) × (100 ≤ length reply.now.body)) }
+fn put(alloc: Global, reply: Reply, room: &mut Room) -> Result<(), AllocError>
+    requires reply { IsReply reply }
+    requires empty { IsEmpty room.old }
+    ensures ok { OnOk result (held_in room.new ≡ bytes_of reply) }
+    ensures err { OnErr result ((room.new ≡ room.old) × (100 ≤ length reply.body)) }
+    ensures whole { IsWhole room.old room.new }
 {
     if reply.body.len() < SHORT_BODY {
-        put_reply(reply, room);
+        put_reply(&reply, &mut room.head);
         return Ok(());
     }
+    if room.whole {
+        put_whole(alloc, &reply, room)
+    } else {
+        put_apart(reply, room);
+        Ok(())
+    }
+}
+
+/// Puts a reply into the room, whose text stands with its head.
+fn put_whole(alloc: Global, reply: &Reply, room: &mut Room) -> Result<(), AllocError>
+    requires reply { IsReply reply.now }
+    requires empty { IsEmpty room.old }
+    ensures ok { OnOk result (held_in room.new ≡ bytes_of reply.now) }
+    ensures err { OnErr result (room.new ≡ room.old) }
+    ensures whole { room.new.text ≡ [] }
+{
     match answer_bytes(alloc, reply) {
         Ok(bytes) => {
-            *room = bytes;
+            room.head = bytes;
             Ok(())
         }
         Err(_) => Err(AllocError),
     }
 }
 
+/// Puts the head of a reply into the room, and behind it the body as it is, if that goes out.
+fn put_apart(reply: Reply, room: &mut Room)
+    requires reply { IsReply reply }
+    requires empty { IsEmpty room.old }
+    requires length { length reply.body < 2 ^ 64 }
+    ensures { held_in room.new ≡ bytes_of reply }
+{
+    let head_only = reply.head_only;
+    let head = Reply {
+        status: reply.status,
+        allow: reply.allow,
+        body: reply.body,
+        head_only: true,
+    };
+    put_reply(&head, &mut room.head);
+    if !head_only {
+        room.text = head.body;
+    }
+}
+
 /// Puts the reply that tells why a stream has no message into the room; where that was out of
 /// memory, the one that nothing was done.
-pub(crate) fn put_stream_fault(alloc: Global, fault: WireFault, room: &mut Vec<u8>)
-    requires empty { room.old.items ≡ [] }
-    requires room { 512 ≤ vec_capacity room.old }
-    ensures { TellsFault fault room.new.items }
+pub(crate) fn put_stream_fault(alloc: Global, fault: WireFault, room: &mut Room)
+    requires empty { IsEmpty room.old }
+    ensures told { TellsFault fault (held_in room.new) }
+    ensures whole { IsWhole room.old room.new }
 {
     if fault == WireFault::NoMemory {
         put_unavailable(false, room);
@@ -106,24 +163,25 @@ pub(crate) fn put_stream_fault(alloc: Global, fault: WireFault, room: &mut Vec<u
     }
 }
 
-fn put_stream_reply(alloc: Global, fault: WireFault, room: &mut Vec<u8>) -> Result<(), AllocError>
-    requires empty { room.old.items ≡ [] }
-    requires room { 512 ≤ vec_capacity room.old }
-    ensures ok { OnOk result (room.new.items ≡ bytes_of (replies.stream_reply fault)) }
+fn put_stream_reply(alloc: Global, fault: WireFault, room: &mut Room) -> Result<(), AllocError>
+    requires empty { IsEmpty room.old }
+    ensures ok { OnOk result (held_in room.new ≡ bytes_of (replies.stream_reply fault)) }
     ensures err { OnErr result (room.new ≡ room.old) }
+    ensures whole { IsWhole room.old room.new }
 {
     match stream_reply(alloc, fault) {
-        Ok(reply) => put(alloc, &reply, room),
+        Ok(reply) => put(alloc, reply, room),
         Err(_) => Err(AllocError),
     }
 }
 
 /// Puts the reply into the room that nothing was done, since it was out of memory.
-pub(crate) fn put_unavailable(head_only: bool, room: &mut Vec<u8>)
-    requires empty { room.old.items ≡ [] }
-    requires room { 512 ≤ vec_capacity room.old }
-    ensures { room.new.items ≡ bytes_of (form.unavailable head_only) }
+pub(crate) fn put_unavailable(head_only: bool, room: &mut Room)
+    requires empty { IsEmpty room.old }
+    ensures put { held_in room.new ≡ bytes_of (form.unavailable head_only) }
+    ensures whole { room.new.text ≡ [] }
 {
-    room.extend_from_slice(unavailable_reply(head_only))
+    room.head
+        .extend_from_slice(unavailable_reply(head_only))
         .unwrap();
 }

@@ -1,18 +1,18 @@
 //! One message is read, what it asks for is done, and one reply is written.
-ghost use Rattle.std.specs.Prelude.{◌≡◌, ◌≤◌, ◌+◌, ◌||◌, [], false, Err, OnErr};
-ghost use Rattle.std.specs.Vec.{vec_capacity};
-ghost use Rattle.stream_core.specs.Seen.{HaveOneReader, HaveOneWriter, has_read_failed};
-ghost use Rattle.stream_core.specs.Seen.{has_write_failed, left_in, reads_of};
+ghost use Rattle.std.specs.Prelude.{◌≡◌, ◌++◌, false, Err, IfOk, OnErr};
+ghost use Rattle.stream_core.specs.Seen.{has_write_failed, left_in};
 ghost use Rattle.stream_core.specs.Streams.{ConsumesAtMost};
 ghost use Rattle.stream_core.specs.Written.{Prints};
+ghost use Rattle.service_core.specs.Leaves.{LeavesDesk, LeavesWriter};
 ghost use Rattle.service_core.specs.Seen.{settings_of, tables_of};
-ghost use Rattle.store_tables.specs.Calls.{Lasts, WasClean};
+ghost use Rattle.wire_core.specs.Counted.{TellsReads};
 ghost use Rattle.wire_core.specs.Fault.{is_unread, tells_failed_read, tells_failed_write};
-ghost use Rattle.wire_core.specs.Served.{IsAnswer, IsSent, IsServed, IsServedBy, TellsRead};
-ghost use Rattle.wire_core.specs.Served.{reply_in};
+ghost use Rattle.wire_core.specs.Rooms.{IsEmpty, IsWhole};
+ghost use Rattle.wire_core.specs.Served.{GivesRoom, IsAnswer, IsSent, IsServed, IsServedBy};
+ghost use Rattle.wire_core.specs.Served.{TellsRead, reply_in};
 
 use crate::fault::{ServeFault, Unanswered};
-use crate::room::{SHORT_REPLY, put_stream_fault};
+use crate::room::{Room, put_stream_fault};
 use crate::step::answer_message;
 use message_core::{WireFault, read_message_counted, unavailable_reply};
 use route_core::Routes;
@@ -45,9 +45,7 @@ pub fn serve_one<R: Read, W: Write, S: Backend>(
         (tables_of S.Store desk.old) (tables_of S.Store desk.new) }
     ensures untouched { result ≡ Err ServeFault.Read → desk.new ≡ desk.old }
     ensures taken { ConsumesAtMost (R.remaining reader.old) (R.remaining reader.new) 73728 }
-    ensures honest { WasClean (tables_of S.Store desk.old) (tables_of S.Store desk.new) }
-    ensures lasts { Lasts (tables_of S.Store desk.old) (tables_of S.Store desk.new) }
-    ensures same { settings_of S.Store desk.new ≡ settings_of S.Store desk.old }
+    ensures left { LeavesDesk S.Store desk.old desk.new }
 {
     serve_one_by(alloc, None, reader, writer, moment, desk)
 }
@@ -67,9 +65,7 @@ pub fn serve_one_by<R: Read, W: Write, S: Backend>(
         (tables_of S.Store desk.old) (tables_of S.Store desk.new) }
     ensures untouched { result ≡ Err ServeFault.Read → desk.new ≡ desk.old }
     ensures taken { ConsumesAtMost (R.remaining reader.old) (R.remaining reader.new) 73728 }
-    ensures honest { WasClean (tables_of S.Store desk.old) (tables_of S.Store desk.new) }
-    ensures lasts { Lasts (tables_of S.Store desk.old) (tables_of S.Store desk.new) }
-    ensures same { settings_of S.Store desk.new ≡ settings_of S.Store desk.old }
+    ensures left { LeavesDesk S.Store desk.old desk.new }
 {
     let mut reader = CountedReader::new(reader);
     let mut output = CountedWriter::new(writer);
@@ -88,53 +84,47 @@ pub fn serve_one_counted<R: Read, W: Write, S: Backend>(
     desk: &mut Desk<S>,
 ) -> Result<(), ServeFault>
     requires { has_write_failed output.old ≡ false }
-    ensures same_reader { HaveOneReader reader.new reader.old }
-    ensures same_writer { HaveOneWriter output.new output.old }
-    ensures served { IsServedBy W.contents (settings_of S.Store desk.old) moment
+    ensures reader { TellsReads R.remaining 73728 (tells_failed_read result) reader.old reader.new }
+    ensures writer { LeavesWriter (tells_failed_write result) output.old output.new }
+    ensures served { IsServedBy W.contents (tables_of S.Store) (settings_of S.Store desk.old) moment
         (left_in R.remaining reader.old) (left_in R.remaining reader.new) output.old output.new
-        result (tables_of S.Store desk.old) (tables_of S.Store desk.new) }
-    ensures unread { has_read_failed reader.new
-        ≡ (tells_failed_read result || has_read_failed reader.old) }
-    ensures unwritten { has_write_failed output.new ≡ tells_failed_write result }
-    ensures untouched { result ≡ Err ServeFault.Read → desk.new ≡ desk.old }
-    ensures taken { ConsumesAtMost (left_in R.remaining reader.old)
-        (left_in R.remaining reader.new) 73728 }
-    ensures reads { reads_of reader.new ≤ reads_of reader.old + 73728 }
-    ensures honest { WasClean (tables_of S.Store desk.old) (tables_of S.Store desk.new) }
-    ensures lasts { Lasts (tables_of S.Store desk.old) (tables_of S.Store desk.new) }
-    ensures same { settings_of S.Store desk.new ≡ settings_of S.Store desk.old }
+        result desk.old desk.new }
+    ensures left { LeavesDesk S.Store desk.old desk.new }
 {
-    let answer = answer_counted(alloc, routes, reader, moment, desk);
+    let answer = answer_counted(alloc, routes, false, reader, moment, desk);
     send_answer(output, answer)
 }
 
 /// Writes the reply, or the one that there was no memory for it; nothing where a read failed.
 fn send_answer<W: Write>(
     output: &mut CountedWriter<'_, W>,
-    answer: Result<Vec<u8>, Unanswered>,
+    answer: Result<Room, Unanswered>,
 ) -> Result<(), ServeFault>
     requires { has_write_failed output.old ≡ false }
-    ensures same_writer { HaveOneWriter output.new output.old }
+    ensures writer { LeavesWriter (tells_failed_write result) output.old output.new }
     ensures sent { IsSent W.contents output.old output.new (reply_in answer) result }
     ensures unread { tells_failed_read result ≡ is_unread answer }
-    ensures unwritten { has_write_failed output.new ≡ tells_failed_write result }
 {
     match answer {
-        Ok(bytes) => send(output, bytes.as_slice()),
-        Err(Unanswered::NoRoom) => send(output, unavailable_reply(false)),
+        Ok(room) => send(output, room.head.as_slice(), room.text.as_slice()),
+        Err(Unanswered::NoRoom) => send(output, unavailable_reply(false), &[]),
         Err(Unanswered::Unread) => Err(ServeFault::Read),
     }
 }
 
-/// Writes the bytes.
-fn send<W: Write>(output: &mut CountedWriter<'_, W>, bytes: &[u8]) -> Result<(), ServeFault>
+/// Writes the bytes of a head, and behind them those of a text.
+fn send<W: Write>(
+    output: &mut CountedWriter<'_, W>,
+    head: &[u8],
+    text: &[u8],
+) -> Result<(), ServeFault>
     requires { has_write_failed output.old ≡ false }
-    ensures same_writer { HaveOneWriter output.new output.old }
-    ensures printed { Prints W.contents output.old output.new bytes.now }
+    ensures writer { LeavesWriter (tells_failed_write result) output.old output.new }
+    ensures printed { Prints W.contents output.old output.new (head.now ++ text.now) }
     ensures kinds { OnErr result (result ≡ Err ServeFault.Write) }
-    ensures unwritten { has_write_failed output.new ≡ tells_failed_write result }
 {
-    output.put(bytes);
+    output.put(head);
+    output.put(text);
     if output.failed() {
         Err(ServeFault::Write)
     } else {
@@ -142,60 +132,48 @@ fn send<W: Write>(output: &mut CountedWriter<'_, W>, bytes: &[u8]) -> Result<(),
     }
 }
 
-/// The bytes of the reply to the message with which a reader's stream begins, after what it asks
-/// for is done. There is room for a short reply before a byte is read: `NoRoom` where there
-/// isn't, and `Unread` where a read failed; nothing is done then.
-#[tactic(auto, using(store_tables::proofs::Lasting::same))]
+/// The reply to the message with which a reader's stream begins, after what it asks for is done;
+/// whether its text has to stand with its head is told. There is room for a short reply before a
+/// byte is read: `NoRoom` where there isn't, and `Unread` where a read failed; nothing is done then.
+#[tactic(auto, using(service_core::proofs::LeftLemmas::left_same))]
 pub(crate) fn answer_counted<R: Read, S: Backend>(
     alloc: Global,
     routes: Option<&Routes>,
+    whole: bool,
     reader: &mut CountedReader<'_, R>,
     moment: u32,
     desk: &mut Desk<S>,
-) -> Result<Vec<u8>, Unanswered>
-    ensures same_reader { HaveOneReader reader.new reader.old }
+) -> Result<Room, Unanswered>
+    ensures reader { TellsReads R.remaining 73728 (is_unread result) reader.old reader.new }
     ensures answered { IsAnswer (settings_of S.Store desk.old) moment
         (left_in R.remaining reader.old) (left_in R.remaining reader.new) (reply_in result)
         (tables_of S.Store desk.old) (tables_of S.Store desk.new) }
-    ensures err { OnErr result (desk.new ≡ desk.old) }
-    ensures unread { has_read_failed reader.new ≡ (is_unread result || has_read_failed reader.old) }
-    ensures taken { ConsumesAtMost (left_in R.remaining reader.old)
-        (left_in R.remaining reader.new) 73728 }
-    ensures reads { reads_of reader.new ≤ reads_of reader.old + 73728 }
-    ensures honest { WasClean (tables_of S.Store desk.old) (tables_of S.Store desk.new) }
-    ensures lasts { Lasts (tables_of S.Store desk.old) (tables_of S.Store desk.new) }
-    ensures same { settings_of S.Store desk.new ≡ settings_of S.Store desk.old }
+    ensures given { GivesRoom whole result desk.old desk.new }
+    ensures left { LeavesDesk S.Store desk.old desk.new }
 {
-    match Vec::with_capacity(alloc, SHORT_REPLY) {
+    match Room::new(alloc, whole) {
         Ok(room) => answer_in_room(alloc, routes, reader, moment, desk, room),
         Err(_) => Err(Unanswered::NoRoom),
     }
 }
 
 /// The same, once there is room for a short reply.
-#[tactic(auto, using(store_tables::proofs::Lasting::same))]
+#[tactic(auto, using(service_core::proofs::LeftLemmas::left_same))]
 fn answer_in_room<R: Read, S: Backend>(
     alloc: Global,
     routes: Option<&Routes>,
     reader: &mut CountedReader<'_, R>,
     moment: u32,
     desk: &mut Desk<S>,
-    room: Vec<u8>,
-) -> Result<Vec<u8>, Unanswered>
-    requires empty { room.items ≡ [] }
-    requires room { 512 ≤ vec_capacity room }
-    ensures same_reader { HaveOneReader reader.new reader.old }
+    room: Room,
+) -> Result<Room, Unanswered>
+    requires empty { IsEmpty room }
+    ensures reader { TellsReads R.remaining 73728 (is_unread result) reader.old reader.new }
     ensures answered { IsAnswer (settings_of S.Store desk.old) moment
         (left_in R.remaining reader.old) (left_in R.remaining reader.new) (reply_in result)
         (tables_of S.Store desk.old) (tables_of S.Store desk.new) }
-    ensures err { OnErr result (desk.new ≡ desk.old) }
-    ensures unread { has_read_failed reader.new ≡ (is_unread result || has_read_failed reader.old) }
-    ensures taken { ConsumesAtMost (left_in R.remaining reader.old)
-        (left_in R.remaining reader.new) 73728 }
-    ensures reads { reads_of reader.new ≤ reads_of reader.old + 73728 }
-    ensures honest { WasClean (tables_of S.Store desk.old) (tables_of S.Store desk.new) }
-    ensures lasts { Lasts (tables_of S.Store desk.old) (tables_of S.Store desk.new) }
-    ensures same { settings_of S.Store desk.new ≡ settings_of S.Store desk.old }
+    ensures given { GivesRoom room.whole result desk.old desk.new }
+    ensures left { LeavesDesk S.Store desk.old desk.new }
 {
     let mut room = room;
     match read_message_counted(alloc, reader) {
@@ -208,10 +186,10 @@ fn answer_in_room<R: Read, S: Backend>(
 }
 
 /// The reply that tells why a stream has no message; there is none where a read failed.
-fn tell_fault(alloc: Global, fault: WireFault, room: Vec<u8>) -> Result<Vec<u8>, Unanswered>
-    requires empty { room.items ≡ [] }
-    requires room { 512 ≤ vec_capacity room }
-    ensures { TellsRead fault (reply_in result) }
+fn tell_fault(alloc: Global, fault: WireFault, room: Room) -> Result<Room, Unanswered>
+    requires empty { IsEmpty room }
+    ensures told { TellsRead fault (reply_in result) }
+    ensures whole { IfOk result (λ answer. IsWhole room answer) }
 {
     if fault == WireFault::Read {
         return Err(Unanswered::Unread);

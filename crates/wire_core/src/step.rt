@@ -2,25 +2,20 @@
 //!
 //! What owns much is given back by `drop`, whose proof stands once; at the end of its scope it
 //! would be taken apart for each function's own proof.
-ghost use Rattle.std.specs.Prelude.{◌≡◌, ◌≢◌, ◌≤◌, [], true, false, IfErr, OnErr, OnOk};
-ghost use Rattle.std.specs.Prelude.{length};
-ghost use Rattle.std.specs.Vec.{vec_capacity, vec_len};
-ghost use Rattle.desk_model.specs.Refusals.{names_its_right};
-ghost use Rattle.desk_texts.specs.Short.{is_short};
-ghost use Rattle.message_core.specs.Reply.{IsReply, bytes_of};
+ghost use Rattle.std.specs.Prelude.{◌≡◌, OnErr, OnOk};
 ghost use Rattle.route_core.specs.Commands as commands;
+ghost use Rattle.service_core.specs.Leaves.{LeavesDesk};
 ghost use Rattle.service_core.specs.Seen.{settings_of, tables_of};
 ghost use Rattle.service_core.specs.TableSteps.{ask_by};
-ghost use Rattle.store_tables.specs.Calls.{Lasts, WasClean};
-ghost use Rattle.wire_core.specs.Replies as replies;
+ghost use Rattle.wire_core.specs.Rooms.{IsEmpty, IsWhole, held_in};
 ghost use Rattle.wire_core.specs.Steps.{CommandStepsOn, IsDoneOn, LeavesOn, MessageStepsOn};
 ghost use Rattle.wire_core.specs.Steps.{StaysOn};
 
 use crate::replies::is_head;
-use crate::room::{put_fault, put_told, put_unavailable};
+use crate::room::{Room, put_told, put_unasked, put_unavailable};
 use desk_core::Command;
 use message_core::Message;
-use route_core::{Routes, command_by, methods_of};
+use route_core::{Routes, command_by};
 use service_core::Desk;
 use std::alloc::{AllocError, Global};
 use store_core::Backend;
@@ -33,15 +28,13 @@ pub(crate) fn answer_message<S: Backend>(
     message: &Message,
     moment: u32,
     desk: &mut Desk<S>,
-    room: &mut Vec<u8>,
+    room: &mut Room,
 )
-    requires empty { room.old.items ≡ [] }
-    requires room { 512 ≤ vec_capacity room.old }
-    ensures step { MessageStepsOn (settings_of S.Store desk.old) moment message.now room.new.items
+    requires empty { IsEmpty room.old }
+    ensures step { MessageStepsOn (settings_of S.Store desk.old) moment message.now (held_in room.new)
         (tables_of S.Store desk.old) (tables_of S.Store desk.new) }
-    ensures honest { WasClean (tables_of S.Store desk.old) (tables_of S.Store desk.new) }
-    ensures lasts { Lasts (tables_of S.Store desk.old) (tables_of S.Store desk.new) }
-    ensures same { settings_of S.Store desk.new ≡ settings_of S.Store desk.old }
+    ensures whole { IsWhole room.old room.new }
+    ensures left { LeavesDesk S.Store desk.old desk.new }
 {
     match reply_to(alloc, routes, message, moment, desk, room) {
         Ok(()) => (),
@@ -51,39 +44,34 @@ pub(crate) fn answer_message<S: Backend>(
 
 /// Does what a message asks for, and puts its reply into the room. Out of memory nothing is done,
 /// and nothing is put.
-#[tactic(auto, using(store_tables::proofs::Lasting::same))]
+#[tactic(auto, using(service_core::proofs::LeftLemmas::left_same))]
 fn reply_to<S: Backend>(
     alloc: Global,
     routes: Option<&Routes>,
     message: &Message,
     at: u32,
     desk: &mut Desk<S>,
-    room: &mut Vec<u8>,
+    room: &mut Room,
 ) -> Result<(), AllocError>
-    requires empty { room.old.items ≡ [] }
-    requires room { 512 ≤ vec_capacity room.old }
+    requires empty { IsEmpty room.old }
     ensures ok { OnOk result (CommandStepsOn (settings_of S.Store desk.old) at message.now
-        (commands.command_of (settings_of S.Store desk.old) message.now) room.new.items
+        (commands.asked_of (settings_of S.Store desk.old) message.now) (held_in room.new)
         (tables_of S.Store desk.old) (tables_of S.Store desk.new)) }
     ensures err { OnErr result ((room.new ≡ room.old)
         × LeavesOn (settings_of S.Store desk.old)
-        (commands.command_of (settings_of S.Store desk.old) message.now)
+        (commands.asked_of (settings_of S.Store desk.old) message.now)
         (tables_of S.Store desk.old) (tables_of S.Store desk.new)) }
-    ensures honest { WasClean (tables_of S.Store desk.old) (tables_of S.Store desk.new) }
-    ensures lasts { Lasts (tables_of S.Store desk.old) (tables_of S.Store desk.new) }
-    ensures same { settings_of S.Store desk.new ≡ settings_of S.Store desk.old }
+    ensures whole { IsWhole room.old room.new }
+    ensures left { LeavesDesk S.Store desk.old desk.new }
 {
     let head_only = is_head(message);
-    match command_by(alloc, routes, desk.settings(), message) {
+    match command_by(alloc, routes, desk.settings(), message)? {
         Ok((caller, command)) => {
             let replied = do_command(alloc, at, caller.as_str(), &command, head_only, desk, room);
             drop(command);
             replied
         }
-        Err(fault) => {
-            let methods = methods_of(message.target.as_slice());
-            put_fault(alloc, head_only, methods, fault, room)
-        }
+        Err(unasked) => put_unasked(alloc, head_only, unasked, room),
     }
 }
 
@@ -95,19 +83,17 @@ fn do_command<S: Backend>(
     command: &Command,
     head_only: bool,
     desk: &mut Desk<S>,
-    room: &mut Vec<u8>,
+    room: &mut Room,
 ) -> Result<(), AllocError>
-    requires empty { room.old.items ≡ [] }
-    requires room { 512 ≤ vec_capacity room.old }
+    requires empty { IsEmpty room.old }
     ensures ok { OnOk result (IsDoneOn (settings_of S.Store desk.old)
-        (ask_by at caller.now command.now) head_only room.new.items
+        (ask_by at caller.now command.now) head_only (held_in room.new)
         (tables_of S.Store desk.old) (tables_of S.Store desk.new)) }
     ensures err { OnErr result ((room.new ≡ room.old)
         × StaysOn (settings_of S.Store desk.old)
         (tables_of S.Store desk.old) (tables_of S.Store desk.new)) }
-    ensures honest { WasClean (tables_of S.Store desk.old) (tables_of S.Store desk.new) }
-    ensures lasts { Lasts (tables_of S.Store desk.old) (tables_of S.Store desk.new) }
-    ensures same { settings_of S.Store desk.new ≡ settings_of S.Store desk.old }
+    ensures whole { IsWhole room.old room.new }
+    ensures left { LeavesDesk S.Store desk.old desk.new }
 {
     match desk.told(alloc, at, caller, command) {
         Ok(told) => put_told(alloc, head_only, told, room),

@@ -1,6 +1,6 @@
 -- each message goes on with the run
-use Rattle.std.proofs.Common.{◌≡◌, ◌∙◌, ◌<◌, ◌++◌, ◌∷◌, [], length, refl, rules}
-use Rattle.store_tables.proofs.Lasting.{on, same as lasting}
+use Rattle.std.proofs.Common.{◌≡◌, ◌<◌, ◌++◌, ◌∷◌, [], length, refl, rules}
+use Rattle.service_core.proofs.LeftLemmas.{left_on, left_same}
 use Rattle.service_core.specs.Seen.{settings_of, tables_of}
 use Rattle.wire_core.specs.Runs.{all_replied, all_sent}
 use Rattle.wire_core.proofs.Serving.{all_run, run_leads, run_on}
@@ -11,9 +11,7 @@ loop-message-init g c =
     let none : c.in_ok-replies.replies.items ≡ [] = search rules in
     record {
       run = rw none refl;
-      honest = λ clean. clean;
-      lasts = lasting (tables_of g.S.Store c.args.desk.now);
-      same = refl;
+      left = left_same g.S.Store c.args.desk.now;
       room = search rules;
       count = search rules;
     }
@@ -33,11 +31,11 @@ loop-message-preserved g c =
           c.args.messages.now c.loop-message.message-index c.message-item.result
           c.as_slice.result.now c.loop-message.replies.items c.push.new.self.items
           c.serve_bytes-reply.result c.args.desk.now c.loop-message.desk c.serve_bytes-reply.new.desk
-          low pushed so_far.same c.message-item.is c.as_slice.ensures.value so_far.run
-          step.honest step.over;
-      honest = λ clean. so_far.honest (step.honest clean);
-      lasts = on step.honest so_far.lasts step.lasts;
-      same = step.same ∙ so_far.same;
+          low pushed so_far.left.same c.message-item.is c.as_slice.ensures.value so_far.run
+          step.left.clean step.over;
+      left =
+          left_on g.S.Store c.args.desk.now c.loop-message.desk c.serve_bytes-reply.new.desk
+          so_far.left step.left;
       room = search rules;
       count = search rules;
     }

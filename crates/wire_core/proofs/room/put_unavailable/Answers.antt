@@ -8,5 +8,5 @@ pub unwrap-requires : goal.unwrap-requires
 unwrap-requires c =
     let short : length c.unavailable_reply.result.now ≤ 512 =
     rw c.unavailable_reply.ensures (unavailable_short c.args.head_only) in
-    let none : vec_len c.args.room.now ≡ 0 = search rules in
-    c.extend_from_slice.ensures.succeeds (omega (arith, short, none, c.requires.room))
+    let none : vec_len c.args.room.now.head ≡ 0 = search rules in
+    c.extend_from_slice.ensures.succeeds (omega (arith, short, none, c.requires.empty.enough))

@@ -1,6 +1,8 @@
 -- a reply went out whole, or a write of it failed
-use Rattle.std.proofs.Common.{◌≡◌, Some, Err, false, rules}
+use Rattle.std.proofs.Common.{◌≡◌, ◌∙◌, ◌++◌, Some, Err, false, rules}
+use Rattle.std.proofs.lemmas.List.{append-nil}
 use Rattle.message_core.specs.Reply.{bytes_of, unavailable}
+use Rattle.wire_core.specs.Rooms.{held_in}
 use Rattle.wire_core.specs.Served.{IsSent}
 use Rattle.wire_core.specs.declared.fault.Unanswered.TheVariants.{NoRoom}
 use Rattle.wire_core.proofs.Serving.{not_unread, sent_reply}
@@ -8,10 +10,12 @@ use Rattle.wire_core.proofs.serve.send_answer.Goals as goal
 
 pub returns-in-Ok-clause-sent : goal.returns-in-Ok-clause-sent
 returns-in-Ok-clause-sent g c =
+    let same : c.as_slice.result.now ++ c.as_slice-in-Ok.result.now ≡ held_in c.in-Ok.room =
+    search rules in
     let sent : IsSent g.W.Write.contents c.args.output.now c.send.new.output
-    (Some c.in-Ok.bytes.items) c.send.result =
-    sent_reply g.W.Write.contents c.args.output.now c.send.new.output c.in-Ok.bytes.items _
-    c.send.result c.as_slice.ensures.value c.send.ensures.printed c.send.ensures.kinds in
+    (Some (held_in c.in-Ok.room)) c.send.result =
+    sent_reply g.W.Write.contents c.args.output.now c.send.new.output (held_in c.in-Ok.room) _
+    c.send.result same c.send.ensures.printed c.send.ensures.kinds in
     rw c.in-Ok.is sent
 
 pub returns-in-Ok-clause-unread : goal.returns-in-Ok-clause-unread
@@ -23,7 +27,8 @@ returns-in-Err-NoRoom-clause-sent g c =
     let sent : IsSent g.W.Write.contents c.args.output.now c.send-in-Err-NoRoom.new.output
     (Some (bytes_of (unavailable false))) c.send-in-Err-NoRoom.result =
     sent_reply g.W.Write.contents c.args.output.now c.send-in-Err-NoRoom.new.output _ _
-    c.send-in-Err-NoRoom.result c.unavailable_reply.ensures c.send-in-Err-NoRoom.ensures.printed
+    c.send-in-Err-NoRoom.result (append-nil _ ∙ c.unavailable_reply.ensures)
+    c.send-in-Err-NoRoom.ensures.printed
     c.send-in-Err-NoRoom.ensures.kinds in
     rw is sent
 

@@ -3,6 +3,7 @@ use Rattle.std.proofs.Common.{refl}
 use Rattle.std.proofs.lemmas.Result.{on_err_weaker, on_ok_weaker}
 use Rattle.service_core.specs.Seen.{settings_of, tables_of}
 use Rattle.service_core.specs.TableSteps.{ask_by}
+use Rattle.wire_core.specs.Rooms.{held_in}
 use Rattle.wire_core.proofs.Stepping.{done, unavailable_stays}
 use Rattle.wire_core.proofs.step.do_command.Goals as goal
 
@@ -11,7 +12,7 @@ returns-in-Ok-clause-ok g c =
     on_ok_weaker c.put_told.result
     (λ told. done (settings_of g.S.Store c.args.desk.now)
     (ask_by c.args.at c.args.caller.now c.args.command.now) c.args.head_only
-    c.in-Ok.told.outcome c.put_told.new.room.items
+    c.in-Ok.told.outcome (held_in c.put_told.new.room)
     (tables_of g.S.Store c.args.desk.now) (tables_of g.S.Store c.told.new.self)
     told c.in-Ok.ensures.ok.step)
     c.put_told.ensures.ok
@@ -28,12 +29,6 @@ returns-in-Ok-clause-err g c =
     ))
     c.put_told.ensures.err
 
-pub returns-in-Ok-clause-honest : goal.returns-in-Ok-clause-honest
-returns-in-Ok-clause-honest g c = c.told.ensures.keeps.clean
-
-pub returns-in-Ok-clause-lasts : goal.returns-in-Ok-clause-lasts
-returns-in-Ok-clause-lasts g c = c.told.ensures.keeps.lasts
-
 pub put_told-requires-clause-told : goal.put_told-requires-clause-told
 put_told-requires-clause-told g c = c.in-Ok.ensures.ok.told
 
@@ -48,9 +43,3 @@ returns-in-Err-clause-err g c = (
       (tables_of g.S.Store c.args.desk.now) (tables_of g.S.Store c.told.new.self)
       c.in-Err.ensures.err,
 )
-
-pub returns-in-Err-clause-honest : goal.returns-in-Err-clause-honest
-returns-in-Err-clause-honest g c = c.told.ensures.keeps.clean
-
-pub returns-in-Err-clause-lasts : goal.returns-in-Err-clause-lasts
-returns-in-Err-clause-lasts g c = c.told.ensures.keeps.lasts

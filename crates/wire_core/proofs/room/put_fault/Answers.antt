@@ -1,9 +1,0 @@
-use Rattle.std.proofs.Common.{subst, sym}
-use Rattle.message_core.specs.Reply.{IsReply}
-use Rattle.wire_core.proofs.Forms.{fault_form}
-use Rattle.wire_core.proofs.room.put_fault.Goals as goal
-
-pub put-requires-clause-reply : goal.put-requires-clause-reply
-put-requires-clause-reply c =
-    subst IsReply (sym c.in-Ok.ensures)
-    (fault_form c.args.head_only c.args.methods c.args.fault c.requires.told)
