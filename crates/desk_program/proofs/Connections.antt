@@ -5,10 +5,8 @@ use Rattle.std.specs.Prelude.{⊤}
 use Rattle.sqlite.specs.State.{State}
 use Rattle.settings_core.specs.declared.settings.Settings.{Settings}
 use Rattle.desk_model.specs.Desk.{Desk}
-use Rattle.desk_model.specs.IsDesk.{IsDesk}
 use Rattle.service_core.specs.TableSteps.{LeadsOn}
 use Rattle.store_tables.specs.Calls.{WasClean}
-use Rattle.wire_core.proofs.Serving.{formed_stream}
 use Rattle.wire_core.proofs.Stepping.{leads_nowhere, leads_wider, spared_stays, stream_leads}
 use Rattle.wire_core.specs.Served.{IsServed}
 use Rattle.wire_core.specs.declared.fault.ServeFault.{ServeFault}
@@ -38,18 +36,6 @@ served s at had left before after (Err Write) old new did = (had, left, did.0, d
 served s at had left before after (Err Read) old new did = spared_stays s old new did.1
 served s at had left before after (Err NoMemory) old new did = absurd did
 
--- it leaves a well-formed desk
-formed_connection : (s : Settings) (answered : Bool) (old new : Desk) → IsDesk old
-    → AnswersConnection s answered old new → IsDesk new
-formed_connection s true old new is did = formed_stream s did.0 did.1 did.2 old did.3 new is did.4
-formed_connection s false old new is same = subst IsDesk (sym same) is
-
-formed_connections : (s : Settings) (connections : List Bool) (old new : Desk) → IsDesk old
-    → AnswersConnections s connections old new → IsDesk new
-formed_connections s [] old new is same = subst IsDesk (sym same) is
-formed_connections s (answered ∷ earlier) old new is did =
-    formed_connection s answered did.0 new (formed_connections s earlier old did.0 is did.1) did.2
-
 -- ---- one more
 
 one_more : (s t : Settings) (at : ℕ) (earlier : List Bool) (answered : Bool)
@@ -60,10 +46,8 @@ one_more : (s t : Settings) (at : ℕ) (earlier : List Bool) (answered : Bool)
 one_more s t at earlier answered old mid new same led honest did desk is stand clean =
     let so_far = led desk is stand (honest clean) in
     let here = subst (λ (x : Settings). AnswersAt x at answered mid new) same did in
-    let then =
-    connection_leads s at answered mid new here so_far.0
-    (formed_connections s earlier desk so_far.0 is so_far.1) so_far.2 clean in
-    (then.0, (so_far.0, so_far.1, then.1), then.2)
+    let then = connection_leads s at answered mid new here so_far.0 so_far.1.1 so_far.2 clean in
+    (then.0, ((so_far.0, so_far.1.0, then.1.0), then.1.1), then.2)
 
 pub none_answered : {L : Type 0} (s : Settings) (listener : CountedListener L) (tables : State)
     → IsUncalled listener → AnswersAll s listener tables tables

@@ -1,5 +1,5 @@
 -- Lines over tables: where the desk is led by a line.
-use Rattle.std.proofs.Common.{◌≡◌, inl, inr, ℕ, true, false, List, Result, Ok, Err, IfOk}
+use Rattle.std.proofs.Common.{◌≡◌, ◌⊎◌, inl, inr, ℕ, true, false, List, Result, Ok, Err, IfOk}
 use Rattle.std.proofs.Common.{OnErr, ap, refl}
 use Rattle.sqlite.specs.State.{State, HasCleanDisk}
 use Rattle.settings_core.specs.declared.settings.Settings.{Settings}
@@ -15,7 +15,7 @@ use Rattle.service_core.specs.TableSteps.{StepsOn, ask_by}
 use Rattle.desk_model.specs.Step.{Outcome}
 use Rattle.desk_texts.specs.Texts.{outcome_text}
 use Rattle.service_core.specs.declared.fault.AttachFault.{AttachFault}
-use Rattle.service_core.specs.declared.fault.AttachFault.TheVariants.{Store, UnknownName}
+use Rattle.service_core.specs.declared.fault.AttachFault.TheVariants.{NoMemory, Store, UnknownName}
 use Rattle.desk_program.specs.FaultLines.{attach_fault_text, unavailable_text}
 use Rattle.desk_program.specs.Script.{IsCommandsOutput, LineLeads, LinePrints, is_passed_over}
 use Rattle.desk_program.specs.Script.{line_of}
@@ -52,7 +52,7 @@ pub led_by_step : (s : Settings) (at : ℕ) (caller : List ℕ) (command : Comma
     → LineLeads s (Asked at caller command) text old new
 led_by_step s at caller command outcome old new text told steps desk formed stands clean =
     let done = steps desk formed stands clean in
-    (done.0, ((outcome, done.1.step, told), done.1.formed), done.2)
+    (done.0, ((outcome, done.1.0.step, told), done.1.1), done.2)
 
 -- ---- the beginning
 
@@ -74,10 +74,10 @@ pub knows_empty : (s : Settings) → is_known s empty_desk ≡ true
 unfolding is_known
 knows_empty s = refl
 
--- where the settings aren't attached, it was refused
+-- where the settings aren't attached, memory or the store refused it
 refused_alone : (s : Settings) (fault : AttachFault) (old new : State)
     → (fault ≡ UnknownName → TellsKnown s old new false) → FailsOver old new fault
-    → StandsFor empty_desk old → HasCleanDisk new → fault ≡ Store Refused
+    → StandsFor empty_desk old → HasCleanDisk new → (fault ≡ NoMemory) ⊎ (fault ≡ Store Refused)
 refused_alone s fault old new unknown fails empty clean =
     elim (fails (contents_of empty.0 empty_desk) empty.1 clean) [
       | inl e ↦ absurd (let no = unknown e empty_desk empty_is_desk empty clean in
@@ -91,7 +91,7 @@ pub not_attached : (s : Settings) (commands : List ℕ) (fault : AttachFault) (o
     → StandsFor empty_desk old → HasCleanDisk new
     → IsCommandsOutput (Ok s) commands (attach_fault_text fault) 4
 not_attached s commands fault old new unknown fails empty clean =
-    inr (
-      inr (ap attach_fault_text (refused_alone s fault old new unknown fails empty clean)),
-      refl,
-    )
+    elim (refused_alone s fault old new unknown fails empty clean) [
+      | inl memory ↦ inr (inr (inl (ap attach_fault_text memory)), refl)
+      | inr store ↦ inr (inr (inr (ap attach_fault_text store)), refl)
+    ]

@@ -1,6 +1,7 @@
 -- What is opened, and what is left where it can't be, from what its parts are.
-use Rattle.std.proofs.Common.{◌≡◌, ◌≢◌, inl, inr, List, ℕ, true, Result, Ok, Err, IfOk}
+use Rattle.std.proofs.Common.{◌≡◌, ◌≢◌, inl, inr, List, ℕ, Result, IfOk}
 use Rattle.std.proofs.Common.{Option, arith, subst, sym}
+use Rattle.std.proofs.lemmas.Result.{IfOk-weaker}
 use Rattle.sqlite.specs.State.{State, HasCleanDisk}
 use Rattle.desk_model.specs.Desk.{Desk, empty_desk}
 use Rattle.desk_model.specs.IsDesk.{IsDesk}
@@ -8,32 +9,25 @@ use Rattle.desk_model.specs.declared.rows.RequestRow.{RequestRow}
 use Rattle.settings_core.specs.Reading.{IsSettingsOf}
 use Rattle.settings_core.specs.declared.settings.Settings.{Settings}
 use Rattle.service_core.specs.declared.fault.AttachFault.{AttachFault}
-use Rattle.store_core.specs.Due.{StandsDue}
 use Rattle.store_core.specs.Migrating.{HoldsPart, LeavesOthers}
 use Rattle.store_tables.proofs.Spared.{stands, stands_for}
 use Rattle.store_tables.specs.Calls.{WasClean}
 use Rattle.store_tables.specs.Contents.{Contents, contents_of, first_contents_of}
 use Rattle.store_tables.specs.Making.{IsBlank, IsKnown}
 use Rattle.store_tables.specs.Stands.{FirstStand, Stand, StandsFor}
-use Rattle.desk_program.specs.Opening.{ComesToStand, FailsToAttach, IsNotAttached, IsOpened}
-use Rattle.desk_program.specs.Opening.{StoodFor, ToldKnown}
+use Rattle.desk_program.specs.Opening.{AreOpened, FailsToAttach, IsNotAttached, IsOpened}
+use Rattle.desk_program.specs.Opening.{StoodFor}
 
 pub opened : {D E : Type 0} (r : Result D E) (text : List ℕ) (s : Settings) (old : State)
     (attached : D → Settings) (tables : D → State) → IsSettingsOf text s
-    → IfOk r (λ d. attached d ≡ s) → IfOk r (λ d. ComesToStand s old (tables d))
-    → IfOk r (λ d. IsBlank old → StandsDue s empty_desk (tables d))
-    → IfOk r (λ d. ToldKnown s old (tables d) true)
+    → IfOk r (λ d. AreOpened s old (attached d) (tables d))
     → IfOk r (λ d. IsOpened text old (attached d) (tables d))
-opened (Ok d) text s old attached tables stated same renewed made known =
-    record {
-      stated = subst (IsSettingsOf text) (sym same) stated;
-      renewed = subst (λ (t : Settings). ComesToStand t old (tables d)) (sym same) renewed;
-      made =
-          subst (λ (t : Settings). IsBlank old → StandsDue t empty_desk (tables d)) (sym same)
-          made;
-      known = subst (λ (t : Settings). ToldKnown t old (tables d) true) (sym same) known;
-    }
-opened (Err e) text s old attached tables stated same renewed made known = tt
+opened r text s old attached tables stated opens =
+    IfOk-weaker r _ _
+    (λ d is.
+    subst (λ (t : Settings). IsOpened text old t (tables d)) (sym is.same)
+    (record { stated = stated; renewed = is.renewed; made = is.made; known = is.known }))
+    opens
 
 -- the first version isn't the present one
 two : ◌≢◌ {A = ℕ} 2 1

@@ -39,7 +39,7 @@ pub stepped : (s : Settings) (at : ℕ) (caller : List ℕ) (command : Command) 
     → LeadsOn s (TakesStep s (ask_by at caller command) failed text status) old new
 stepped s at caller command outcome failed old new text status told ends steps desk formed stands clean =
     let done = steps desk formed stands clean in
-    (done.0, (inl (outcome, done.1.step, told, ends), done.1.formed), done.2)
+    (done.0, (inl (outcome, done.1.0.step, told, ends), done.1.1), done.2)
 
 -- settings that a text states know each name of the desk to which a step leads
 known_by_step : (s : Settings) (text : List ℕ) (ask : Ask) (old new : Desk) (outcome : Outcome)
@@ -56,7 +56,7 @@ known_after : (s : Settings) (text : List ℕ) (ask : Ask) (failed : Bool) (line
     (status : ℕ) (old new : Desk) → IsSettingsOf text s → IsDesk old → is_known s old ≡ true
     → TakesStep s ask failed line status old new → is_known s new ≡ true
 known_after s text ask failed line status old new stated formed known takes =
-    elim takes.0 [
+    elim takes [
       | inl told ↦ known_by_step s text ask old new told.0 stated formed known told.1
       | inr cut ↦ known_by_step s text ask old new (Ok cut.1) stated formed known cut.2
     ]
@@ -74,7 +74,7 @@ done_once_opened s text ask failed old mid new line status is honest leads desk 
       known,
       led.1,
       led.2,
-      known_after s text ask failed line status desk led.0 is.stated formed known led.1,
+      known_after s text ask failed line status desk led.0 is.stated formed known led.1.0,
     )
 done_once_opened s text ask failed old mid new line status is honest leads desk formed (inr none)
     clean =
@@ -87,7 +87,7 @@ done_once_opened s text ask failed old mid new line status is honest leads desk 
       known,
       led.1,
       led.2,
-      known_after s text ask failed line status desk led.0 is.stated formed known led.1,
+      known_after s text ask failed line status desk led.0 is.stated formed known led.1.0,
     )
 
 -- the tables weren't opened, and the fault is told

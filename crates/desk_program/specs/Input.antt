@@ -1,6 +1,8 @@
 -- A script's input: settings, a line `%%`, and commands, a line each.
-use Rattle.std.specs.Prelude.{◌≡◌, ◌≢◌, ◌≤◌, ◌<◌, ◌⊎◌, ℕ, List, [], ◌∷◌, ◌++◌, take, drop, length}
-use Rattle.std.specs.Prelude.{Option, Some, None, IfSome, Result, Ok, Err, codes, if◌then◌else◌}
+use Rattle.std.specs.Prelude.{◌≡◌, ◌≢◌, ◌≤◌, ◌<◌, ◌⊎◌, ◌+◌, ℕ, List, [], ◌∷◌, ◌++◌, take, drop}
+use Rattle.std.specs.Prelude.{length, Option, Some, None, IfSome, Result, Ok, Err, codes}
+use Rattle.std.specs.Prelude.{if◌then◌else◌}
+use Rattle.std.specs.Io.KnownBytes.{Consumes, IsAtEnd}
 use Rattle.std.specs.List.{All}
 use Rattle.std.specs.Str.{bytes_eq, is_utf8}
 use Rattle.std.specs.Str.Lines.{lines}
@@ -10,6 +12,7 @@ use Rattle.settings_core.specs.declared.fault.SettingsFault.TheVariants.{NoMemor
 use Rattle.settings_core.specs.declared.settings.Settings.{Settings}
 use Rattle.desk_program.specs.declared.fault.InputFault.{InputFault}
 use Rattle.desk_program.specs.declared.fault.InputFault.TheVariants.{NoMarker, TooLong, NotUtf8}
+use Rattle.desk_program.specs.declared.fault.InputFault.TheVariants.{Read}
 
 -- the most bytes of a script
 abbrev pub input_limit : ℕ
@@ -19,6 +22,16 @@ input_limit = 1048576
 abbrev pub IsLong : Option (List ℕ) → Type 0
 IsLong known =
     (input : List ℕ) × (input_limit < length input) × IfSome known (λ all. all ≡ input)
+
+-- One read: so many bytes went from the front of a stream to the end of those taken so far, none of
+-- them only where the stream has ended. Or it failed, or there was no memory for them.
+abbrev pub TakesMore : Option (List ℕ) → Option (List ℕ) → List ℕ → List ℕ → Result ℕ InputFault
+    → Type 0
+TakesMore had left old new (Ok n) =
+    (length new ≡ length old + n)
+    × ((bytes : List ℕ) × (new ≡ old ++ bytes) × Consumes had left bytes)
+    × (n ≡ 0 → IsAtEnd left)
+TakesMore had left old new (Err fault) = fault ≡ Read
 
 -- no line of a text is `%%`
 abbrev pub HasNoMarker : List ℕ → Type 0

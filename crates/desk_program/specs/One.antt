@@ -59,11 +59,10 @@ IsCutShort settings ask failed line status old new =
     × (((failed ≡ true) × (line ≡ part))
     ⊎ ((line ≡ part ++ unavailable_text) × (status ≡ 1))) × (new ≡ old)
 
--- one step to a well-formed desk, and what is printed of it, where a write failed or not
+-- one step, and what is printed of it, where a write failed or not
 abbrev pub TakesStep : Settings → Ask → Bool → List ℕ → ℕ → Desk → Desk → Type 0
 TakesStep settings ask failed line status old new =
-    (TellsStep settings ask line status old new ⊎ IsCutShort settings ask failed line status old new)
-    × IsDesk new
+    TellsStep settings ask line status old new ⊎ IsCutShort settings ask failed line status old new
 
 -- the desk with which the tables begin: the one that they stand for, in the present version or the
 -- first, or the empty one where there is no table at all
@@ -72,13 +71,13 @@ BeginsWith desk tables = StoodFor desk tables ⊎ (IsBlank tables × (desk ≡ e
 
 -- The command was done, and a write of its text failed or not: whatever desk the tables begin with,
 -- the settings know its names, and the tables stand afterwards for the desk to which one step leads,
--- with its due moments. The settings know the names of that desk too.
+-- with its due moments. That desk is well formed, and the settings know its names too.
 abbrev pub IsDone : Settings → Ask → Bool → State → State → List ℕ → ℕ → Type 0
 IsDone settings ask failed old new line status =
     (desk : Desk) → IsDesk desk → BeginsWith desk old → HasCleanDisk new
     → (after : Desk) × (is_known settings desk ≡ true)
-    × TakesStep settings ask failed line status desk after × StandsDue settings after new
-    × (is_known settings after ≡ true)
+    × (TakesStep settings ask failed line status desk after × IsDesk after)
+    × StandsDue settings after new × (is_known settings after ≡ true)
 
 -- ---- what is printed, and the status
 

@@ -12,7 +12,7 @@ use Rattle.settings_core.specs.declared.settings.Settings.{Settings}
 use Rattle.settings_core.specs.Reading.{IsSettingsOf}
 use Rattle.service_core.specs.Attaching.{BlamesBad, FailsOver, TellsKnown}
 use Rattle.service_core.specs.declared.fault.AttachFault.{AttachFault}
-use Rattle.service_core.specs.declared.fault.AttachFault.TheVariants.{Store, UnknownName}
+use Rattle.service_core.specs.declared.fault.AttachFault.TheVariants.{NoMemory, Store, UnknownName}
 use Rattle.store_core.specs.Due.{StandsDue}
 use Rattle.store_core.specs.Migrating.{HoldsPart, LeavesOthers}
 use Rattle.store_tables.specs.Calls.{AreLeft, Lasts, Spares, WasClean}
@@ -42,6 +42,17 @@ ToldKnown settings old new known =
     → is_known settings desk ≡ known
 
 -- ---- what is opened
+
+-- settings that were given are attached to tables, which were made or brought on first
+pub record AreOpened (given : Settings) (old : State) (settings : Settings) (new : State) : Type 0
+  where
+    pub same : settings ≡ given
+    -- whatever desk the tables stood for they stand for still, and keep its due moments
+    pub renewed : ComesToStand given old new
+    -- where there was no table at all, they stand for the empty desk
+    pub made : IsBlank old → StandsDue given empty_desk new
+    -- the settings know each name of the desk that the tables stood for
+    pub known : ToldKnown given old new true
 
 pub record IsOpened (text : List ℕ) (old : State) (settings : Settings) (new : State) : Type 0 where
   -- the settings are those of the text
@@ -76,6 +87,11 @@ pub record IsNotMade (old new : State) (fault : StoreFault) : Type 0 where
   -- no fault of the disk is forgotten, and only one shuts what was open
   pub lasts : Lasts old new
 
+-- over tables that hold values, a fault of attaching is an unknown name, or the store or memory
+-- refused it
+abbrev pub IsFaultOverValues : AttachFault → Type 0
+IsFaultOverValues fault = (fault ≡ UnknownName) ⊎ ((fault ≡ NoMemory) ⊎ (fault ≡ Store Refused))
+
 -- a fault of attaching settings to tables
 pub record FailsToAttach (settings : Settings) (old new : State) (fault : AttachFault) : Type 0
   where
@@ -104,10 +120,10 @@ pub record IsNotAttached (settings : Settings) (old new : State) (fault : Attach
     pub unknown : fault ≡ UnknownName → ToldKnown settings old new false
     -- over tables that hold values nothing else can be wrong, but that the store or memory refused
     pub fails : (c : Contents) → c.version ≢ 1 → Stand c old → HasCleanDisk new
-        → (fault ≡ UnknownName) ⊎ (fault ≡ Store Refused)
+        → IsFaultOverValues fault
     -- and so over those of version 1 that stood for a desk
     pub fails_first : (desk : Desk) → IsDesk desk → FirstStandsFor desk old → HasCleanDisk new
-        → (fault ≡ UnknownName) ⊎ (fault ≡ Store Refused)
+        → IsFaultOverValues fault
     -- where there was no table at all, they stand for the empty desk
     pub made : IsBlank old → StandsFor empty_desk new
     -- the tables were of a known version

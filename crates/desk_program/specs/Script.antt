@@ -11,11 +11,10 @@ use Rattle.settings_core.specs.declared.settings.Settings.{Settings}
 use Rattle.desk_model.specs.declared.command.Command.{Command}
 use Rattle.store_tables.specs.declared.fault.StoreFault.TheVariants.{Refused}
 use Rattle.desk_model.specs.Desk.{Desk, empty_desk}
-use Rattle.desk_model.specs.IsDesk.{IsDesk}
 use Rattle.service_core.specs.TableSteps.{LeadsOn}
 use Rattle.desk_model.specs.Step.{Ask, Outcome, Runs, Steps}
 use Rattle.desk_texts.specs.Texts.{outcome_text}
-use Rattle.service_core.specs.declared.fault.AttachFault.TheVariants.{Store}
+use Rattle.service_core.specs.declared.fault.AttachFault.TheVariants.{NoMemory, Store}
 use Rattle.desk_words.specs.Number.{number_of}
 use Rattle.desk_words.specs.Spelling.{command_of}
 use Rattle.desk_words.specs.Words.{words_of}
@@ -79,7 +78,7 @@ LinePrints settings (Asked at caller command) old text new =
 -- one, which the line leaves
 abbrev pub LineLeads : Settings → Line → List ℕ → State → State → Type 0
 LineLeads settings line text =
-    LeadsOn settings (λ desk after. LinePrints settings line desk text after × IsDesk after)
+    LeadsOn settings (λ desk after. LinePrints settings line desk text after)
 
 -- whatever a connection shows, its disk is clean
 abbrev pub HasCleanDisks : {S : Type 0} → Ghosts S → Type 0
@@ -126,7 +125,9 @@ AnswersCommands settings commands text =
 -- The line where there is no desk for commands: memory is refused for its store, for its tables, or
 -- for reading them when the settings are attached. Nothing else can be wrong with an empty desk.
 abbrev pub IsNoDesk : List ℕ → Type 0
-IsNoDesk text = (text ≡ store_fault_text Refused) ⊎ (text ≡ attach_fault_text (Store Refused))
+IsNoDesk text =
+    (text ≡ store_fault_text Refused)
+    ⊎ ((text ≡ attach_fault_text NoMemory) ⊎ (text ≡ attach_fault_text (Store Refused)))
 
 -- the text and the status of commands with settings, on an empty desk if there is one, or of the
 -- settings' fault

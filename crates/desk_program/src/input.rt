@@ -1,11 +1,11 @@
 //! A script, as it comes in: settings, and lines of commands.
 
-ghost use Rattle.std.specs.Prelude.{◌≡◌, ◌≢◌, ◌≤◌, ◌<◌, ◌+◌, ◌-◌, ◌++◌, List, ℕ};
+ghost use Rattle.std.specs.Prelude.{◌≡◌, ◌≢◌, ◌≤◌, ◌<◌, ◌+◌, ◌-◌, List, ℕ};
 ghost use Rattle.std.specs.Prelude.{Ok, Err, None, length, IfOk, IfErr, IfSome, if◌then◌else◌};
 ghost use Rattle.std.specs.Option.{option_map};
-ghost use Rattle.std.specs.Io.KnownBytes.{Consumes, IsAtEnd};
 ghost use Rattle.stream_core.specs.Seen.{HaveOneReader, left_in, reads_of};
 ghost use Rattle.stream_core.specs.Streams.{ConsumesAtMost};
+ghost use Rattle.wire_core.specs.Counted.{LeavesReader};
 ghost use Rattle.desk_program.specs.Input as form;
 
 use crate::fault::InputFault;
@@ -36,15 +36,12 @@ pub(crate) fn take_input<R: Read>(
     alloc: Global,
     reader: &mut CountedReader<'_, R>,
 ) -> Result<Vec<u8>, InputFault>
-    ensures same_reader { HaveOneReader reader.new reader.old }
     ensures whole { IfOk result (λ taken. (length taken.items ≤ form.input_limit)
         × IfSome (left_in R.remaining reader.old) (λ all. all ≡ taken.items)) }
     ensures long { result ≡ Err InputFault.TooLong
         → form.IsLong (left_in R.remaining reader.old) }
     ensures kinds { IfErr result (λ fault. fault ≢ InputFault.TooLong → fault ≡ InputFault.Read) }
-    ensures taken { ConsumesAtMost (left_in R.remaining reader.old)
-        (left_in R.remaining reader.new) (form.input_limit + 1) }
-    ensures reads { reads_of reader.new ≤ reads_of reader.old + 1048577 }
+    ensures left { LeavesReader R.remaining (form.input_limit + 1) reader.old reader.new }
 {
     let mut taken = Vec::new(alloc);
     for turn in 0..MAX_READS {
@@ -68,11 +65,8 @@ fn take_some<R: Read>(
 ) -> Result<usize, InputFault>
     requires { length taken.old.items ≤ form.input_limit }
     ensures same_reader { HaveOneReader reader.new reader.old }
-    ensures some { IfOk result (λ n. (length taken.new.items ≡ length taken.old.items + n)
-        × ((bytes : List ℕ) × (taken.new.items ≡ taken.old.items ++ bytes)
-        × Consumes (left_in R.remaining reader.old) (left_in R.remaining reader.new) bytes)
-        × (n ≡ 0 → IsAtEnd (left_in R.remaining reader.new))) }
-    ensures err { IfErr result (λ fault. fault ≡ InputFault.Read) }
+    ensures read { form.TakesMore (left_in R.remaining reader.old) (left_in R.remaining reader.new)
+        taken.old.items taken.new.items result }
     ensures taken { ConsumesAtMost (left_in R.remaining reader.old)
         (left_in R.remaining reader.new) (form.input_limit + 1 - length taken.old.items) }
     ensures reads { reads_of reader.new ≤ reads_of reader.old + 1 }

@@ -6,7 +6,7 @@
 ghost use Rattle.std.specs.Prelude.{◌≡◌, ◌≤◌, ◌+◌, [], map, true, false, is_ok, IfOk};
 ghost use Rattle.std.specs.Prelude.{IfErr, OnErr, string_bytes};
 ghost use Rattle.std.specs.Vec.{vec_capacity, vec_len};
-ghost use Rattle.store_tables.specs.Calls.{Lasts, WasClean};
+ghost use Rattle.service_core.specs.Leaves.{LeavesDesk};
 ghost use Rattle.service_core.specs.Seen.{settings_of, tables_of};
 ghost use Rattle.desk_model.specs.Refusals.{names_its_right};
 ghost use Rattle.desk_texts.specs.Short.{is_short};
@@ -42,7 +42,7 @@ pub enum Line {
 /// comment, `bad words` for one that spells no command, else the text of what came of it. The line
 /// has no line feed. `AllocError` stands for the text `refused 16 Unavailable`, and the desk stays as
 /// it was.
-#[tactic(auto, using(store_tables::proofs::Lasting::same))]
+#[tactic(auto, using(service_core::proofs::LeftLemmas::left_same))]
 pub fn answer_line<S: Backend>(
     alloc: Global,
     desk: &mut Desk<S>,
@@ -54,9 +54,7 @@ pub fn answer_line<S: Backend>(
     ensures err { OnErr result (LineLeads (settings_of S.Store desk.old)
         (line_of text.now) unavailable_text
         (tables_of S.Store desk.old) (tables_of S.Store desk.new)) }
-    ensures honest { WasClean (tables_of S.Store desk.old) (tables_of S.Store desk.new) }
-    ensures lasts { Lasts (tables_of S.Store desk.old) (tables_of S.Store desk.new) }
-    ensures same { settings_of S.Store desk.new ≡ settings_of S.Store desk.old }
+    ensures left { LeavesDesk S.Store desk.old desk.new }
 {
     match line_of(alloc, text) {
         Ok(Line::PassedOver) => Ok(Vec::new(alloc)),
@@ -90,9 +88,7 @@ fn answer_command<S: Backend>(
     ensures err { OnErr result (LineLeads (settings_of S.Store desk.old)
         (Line.Asked at caller.now command.now) unavailable_text
         (tables_of S.Store desk.old) (tables_of S.Store desk.new)) }
-    ensures honest { WasClean (tables_of S.Store desk.old) (tables_of S.Store desk.new) }
-    ensures lasts { Lasts (tables_of S.Store desk.old) (tables_of S.Store desk.new) }
-    ensures same { settings_of S.Store desk.new ≡ settings_of S.Store desk.old }
+    ensures left { LeavesDesk S.Store desk.old desk.new }
 {
     match desk.told(alloc, at, caller, command) {
         Ok(told) => Ok(told.into_text()),

@@ -3,8 +3,8 @@
 //! The fields of a listener and of a connection are private, so a body elsewhere accepts and serves
 //! by these calls alone, and a connection that was accepted can't be let go: it has to be served.
 ghost use Rattle.std.specs.Prelude.{◌≡◌};
+ghost use Rattle.service_core.specs.Leaves.{LeavesDesk};
 ghost use Rattle.service_core.specs.Seen.{settings_of, tables_of};
-ghost use Rattle.store_tables.specs.Calls.{Lasts, WasClean};
 ghost use Rattle.desk_program.specs.Listening.{AnswersAt, is_answered};
 
 use service_core::Desk;
@@ -36,7 +36,6 @@ pub struct Connection<T> {
 impl<'l, L: OpenListener> CountedListener<'l, L> {
     ghost use Rattle.std.specs.Prelude.{◌≡◌, ◌<◌, ◌+◌};
     ghost use Rattle.service_core.specs.Seen.{settings_of, tables_of};
-    ghost use Rattle.store_tables.specs.Calls.{Lasts, WasClean};
     ghost use Rattle.desk_program.specs.Listening.{Accepts, AnswersAt, IsUncalled, Serves};
     ghost use Rattle.desk_program.specs.Listening.{accepted_of, answered_of, has_accept_failed};
     ghost use Rattle.desk_program.specs.Listening.{is_answered, minute_of, unread_of};
@@ -117,9 +116,7 @@ impl<'l, L: OpenListener> CountedListener<'l, L> {
         ensures counted { Serves self.old self.new result }
         ensures one { AnswersAt (settings_of S.Store desk.old) (minute_of connection)
             (is_answered result) (tables_of S.Store desk.old) (tables_of S.Store desk.new) }
-        ensures honest { WasClean (tables_of S.Store desk.old) (tables_of S.Store desk.new) }
-        ensures lasts { Lasts (tables_of S.Store desk.old) (tables_of S.Store desk.new) }
-        ensures same { settings_of S.Store desk.new ≡ settings_of S.Store desk.old }
+        ensures left { LeavesDesk S.Store desk.old desk.new }
     {
         let Connection { stream, minute } = connection;
         let ended = serve_stream(alloc, routes, stream, minute, desk);
@@ -157,9 +154,7 @@ fn serve_stream<T: Read + Write + Drop, S: Backend>(
 ) -> Result<(), ServeFault>
     ensures one { AnswersAt (settings_of S.Store desk.old) moment (is_answered result)
         (tables_of S.Store desk.old) (tables_of S.Store desk.new) }
-    ensures honest { WasClean (tables_of S.Store desk.old) (tables_of S.Store desk.new) }
-    ensures lasts { Lasts (tables_of S.Store desk.old) (tables_of S.Store desk.new) }
-    ensures same { settings_of S.Store desk.new ≡ settings_of S.Store desk.old }
+    ensures left { LeavesDesk S.Store desk.old desk.new }
 {
     let stream = RefCell::new(stream);
     let mut output = Half { stream: &stream };
@@ -183,9 +178,7 @@ fn serve_by<R: Read, W: Write, S: Backend>(
 ) -> Result<(), ServeFault>
     ensures one { AnswersAt (settings_of S.Store desk.old) moment (is_answered result)
         (tables_of S.Store desk.old) (tables_of S.Store desk.new) }
-    ensures honest { WasClean (tables_of S.Store desk.old) (tables_of S.Store desk.new) }
-    ensures lasts { Lasts (tables_of S.Store desk.old) (tables_of S.Store desk.new) }
-    ensures same { settings_of S.Store desk.new ≡ settings_of S.Store desk.old }
+    ensures left { LeavesDesk S.Store desk.old desk.new }
 {
     serve_one_by(alloc, routes, reader, writer, moment, desk)
 }

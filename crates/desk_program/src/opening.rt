@@ -3,22 +3,18 @@
 //! What owns much is given back by `drop`, whose proof stands once; at the end of its scope it
 //! would be taken apart for each function's own proof.
 ghost use Rattle.std.specs.Prelude.{◌≡◌, ◌≢◌, ◌≤◌, ℕ, List, Ok, Err, length, IfErr, IfOk, IfSome};
-ghost use Rattle.std.specs.Prelude.{OnOk, Result, true};
+ghost use Rattle.std.specs.Prelude.{OnOk, Result};
 ghost use Rattle.store_core.specs.Seen.{connection_of, state_of};
-ghost use Rattle.service_core.specs.Attaching.{TellsKnown};
-ghost use Rattle.service_core.specs.Renewing.{AreRenewed};
+ghost use Rattle.service_core.specs.Attaching.{IsAttached};
 ghost use Rattle.service_core.specs.Seen.{settings_of, tables_of};
 ghost use Rattle.service_core.specs.declared.fault.AttachFault.{AttachFault};
-ghost use Rattle.store_core.specs.Due.{StandsDue};
-ghost use Rattle.store_tables.specs.Making.{IsBlank};
-ghost use Rattle.desk_model.specs.Desk.{empty_desk};
 ghost use Rattle.stream_core.specs.Seen.{HaveOneWriter};
 ghost use Rattle.stream_core.specs.Written.{Prints};
 ghost use Rattle.desk_program.specs.FaultLines.{attach_fault_text, input_fault_text};
 ghost use Rattle.desk_program.specs.FaultLines.{store_fault_text};
 ghost use Rattle.desk_program.specs.Input as form;
-ghost use Rattle.desk_program.specs.Opening.{ComesToStand, EndsWith, FailsToAttach, IsGivenBack};
-ghost use Rattle.desk_program.specs.Opening.{IsNotOpened, IsOpened, IsOpeningFault, ToldKnown};
+ghost use Rattle.desk_program.specs.Opening.{AreOpened, EndsWith, FailsToAttach, IsGivenBack};
+ghost use Rattle.desk_program.specs.Opening.{IsNotOpened, IsOpened, IsOpeningFault};
 ghost use Rattle.desk_program.specs.Script.{bad_words_text};
 ghost use Rattle.desk_program.specs.Status.{code_of};
 
@@ -164,13 +160,8 @@ fn open_tables<S: Backend, W: Write>(
     output: &mut CountedWriter<'_, W>,
 ) -> Result<Desk<S>, (Status, Store<S>)>
     ensures same_writer { HaveOneWriter output.new output.old }
-    ensures settings { IfOk result (λ desk. settings_of S.Store desk ≡ settings) }
-    ensures renewed { IfOk result (λ desk.
-        ComesToStand settings (state_of S.Store store) (tables_of S.Store desk)) }
-    ensures made { IfOk result (λ desk. IsBlank (state_of S.Store store)
-        → StandsDue settings empty_desk (tables_of S.Store desk)) }
-    ensures known { IfOk result (λ desk.
-        ToldKnown settings (state_of S.Store store) (tables_of S.Store desk) true) }
+    ensures opened { IfOk result (λ desk. AreOpened settings (state_of S.Store store)
+        (settings_of S.Store desk) (tables_of S.Store desk)) }
     ensures quiet { OnOk result (output.new ≡ output.old) }
     ensures told { IfErr result (λ back. (line : List ℕ)
         × IsOpeningFault S.Store (Ok settings) (connection_of S.Store store)
@@ -196,11 +187,7 @@ fn attach<S: Backend, W: Write>(
     output: &mut CountedWriter<'_, W>,
 ) -> Result<Desk<S>, (Status, Store<S>)>
     ensures same_writer { HaveOneWriter output.new output.old }
-    ensures settings { IfOk result (λ desk. settings_of S.Store desk ≡ settings) }
-    ensures renewed { IfOk result (λ desk.
-        AreRenewed settings (state_of S.Store store) (tables_of S.Store desk)) }
-    ensures known { IfOk result (λ desk.
-        TellsKnown settings (state_of S.Store store) (tables_of S.Store desk) true) }
+    ensures attached { IfOk result (IsAttached S.Store settings (state_of S.Store store)) }
     ensures quiet { OnOk result (output.new ≡ output.old) }
     ensures told { IfErr result (λ back. (fault : AttachFault)
         × FailsToAttach settings (state_of S.Store store) (state_of S.Store back.1) fault

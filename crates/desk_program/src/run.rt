@@ -8,6 +8,7 @@ ghost use Rattle.store_core.specs.Due.{StandsDue};
 ghost use Rattle.store_core.specs.Seen.{state_of};
 ghost use Rattle.store_tables.specs.Stands.{StandsFor};
 ghost use Rattle.desk_model.specs.Desk.{empty_desk};
+ghost use Rattle.service_core.specs.Leaves.{LeavesDesk};
 ghost use Rattle.service_core.specs.Seen.{settings_of, tables_of};
 ghost use Rattle.stream_core.specs.Seen.{HaveOneWriter};
 ghost use Rattle.stream_core.specs.Written.{Prints};
@@ -146,7 +147,7 @@ fn run_line<S: Backend, W: Write>(
     output: &mut CountedWriter<'_, W>,
 )
     ensures same_writer { HaveOneWriter output.new output.old }
-    ensures same { settings_of S.Store desk.new ≡ settings_of S.Store desk.old }
+    ensures left { LeavesDesk S.Store desk.old desk.new }
     ensures printed { (text : List ℕ)
         × LineLeads (settings_of S.Store desk.old) (line_of line.now) text
         (tables_of S.Store desk.old) (tables_of S.Store desk.new)

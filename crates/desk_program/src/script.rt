@@ -5,10 +5,11 @@ ghost use Rattle.desk_program.specs.Input as form;
 ghost use Rattle.desk_program.specs.Script as script;
 ghost use Rattle.desk_program.specs.Script.{RunsScript};
 ghost use Rattle.desk_program.specs.Status.{code_of};
-ghost use Rattle.stream_core.specs.Seen.{HaveOneReader, HaveOneWriter, has_write_failed, left_in};
+ghost use Rattle.stream_core.specs.Seen.{HaveOneWriter, has_write_failed, left_in};
 ghost use Rattle.stream_core.specs.Seen.{reads_of, writes_of};
 ghost use Rattle.stream_core.specs.Streams.{ConsumesAtMost};
 ghost use Rattle.stream_core.specs.Written.{Prints};
+ghost use Rattle.wire_core.specs.Counted.{LeavesReader};
 
 use crate::fault::InputFault;
 use crate::fault_lines::{put_input_fault, put_settings_fault};
@@ -109,14 +110,11 @@ fn print_script<R: Read, W: Write>(
     output: &mut CountedWriter<'_, W>,
     memory: Memory,
 ) -> Status
-    ensures same_reader { HaveOneReader reader.new reader.old }
     ensures same_writer { HaveOneWriter output.new output.old }
     ensures printed { (input : List ℕ) × (text : List ℕ)
         × IfSome (left_in R.remaining reader.old) (λ all. all ≡ input)
         × script.IsOutput input text (code_of result) × Prints W.contents output.old output.new text }
-    ensures taken { ConsumesAtMost (left_in R.remaining reader.old)
-        (left_in R.remaining reader.new) 1048577 }
-    ensures reads { reads_of reader.new ≤ reads_of reader.old + 1048577 }
+    ensures left { LeavesReader R.remaining 1048577 reader.old reader.new }
 {
     match take_input(alloc, reader) {
         Ok(input) => run_input(alloc, input.as_slice(), output, memory),

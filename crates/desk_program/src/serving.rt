@@ -1,7 +1,7 @@
 //! A server, which answers connections one after the other.
 ghost use Rattle.std.specs.Prelude.{◌≡◌};
+ghost use Rattle.service_core.specs.Leaves.{LeavesDesk};
 ghost use Rattle.service_core.specs.Seen.{settings_of, tables_of};
-ghost use Rattle.store_tables.specs.Calls.{Lasts, WasClean};
 ghost use Rattle.desk_program.specs.Listening.{IsUncalled};
 ghost use Rattle.desk_program.specs.Serving.{IsEnded};
 ghost use Rattle.desk_program.specs.declared.listening.CountedListener.{CountedListener};
@@ -30,9 +30,7 @@ where
     L::Stream: Read + Write,
     ensures ended { (counted : CountedListener L) × IsEnded (settings_of S.Store desk.old) count
         result counted (tables_of S.Store desk.old) (tables_of S.Store desk.new) }
-    ensures honest { WasClean (tables_of S.Store desk.old) (tables_of S.Store desk.new) }
-    ensures lasts { Lasts (tables_of S.Store desk.old) (tables_of S.Store desk.new) }
-    ensures same { settings_of S.Store desk.new ≡ settings_of S.Store desk.old }
+    ensures left { LeavesDesk S.Store desk.old desk.new }
 {
     let mut listener = CountedListener::new(listener);
     serve_on_counted(alloc, &mut listener, count, clock, desk)
@@ -53,9 +51,7 @@ where
     requires { IsUncalled listener.old }
     ensures ended { IsEnded (settings_of S.Store desk.old) count result listener.new
         (tables_of S.Store desk.old) (tables_of S.Store desk.new) }
-    ensures honest { WasClean (tables_of S.Store desk.old) (tables_of S.Store desk.new) }
-    ensures lasts { Lasts (tables_of S.Store desk.old) (tables_of S.Store desk.new) }
-    ensures same { settings_of S.Store desk.new ≡ settings_of S.Store desk.old }
+    ensures left { LeavesDesk S.Store desk.old desk.new }
 {
     let router = Routes::new(alloc).ok();
     let routes = router.as_ref();

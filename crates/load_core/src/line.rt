@@ -1,5 +1,6 @@
 //! A line that was taken, and its answer.
-ghost use Rattle.std.specs.Prelude.{◌≡◌, IfOk, OnErr};
+ghost use Rattle.std.specs.Prelude.{IfOk, OnErr};
+ghost use Rattle.service_core.specs.Leaves.{LeavesDesk};
 ghost use Rattle.service_core.specs.Seen.{settings_of, tables_of};
 ghost use Rattle.desk_program.specs.FaultLines.{unavailable_text};
 ghost use Rattle.desk_program.specs.Script.{LineLeads};
@@ -18,6 +19,7 @@ const BAD_WORDS: &[u8] = b"bad words\n";
 /// The answer to a line's text, after its command is done: `bad words` to one that isn't UTF-8, else
 /// that of a script's line. `AllocError` stands for the text `refused 16 Unavailable`, and the desk
 /// stays as it was.
+#[tactic(auto, using(service_core::proofs::LeftLemmas::left_same))]
 pub(crate) fn answer_bytes<S: Backend>(
     alloc: Global,
     desk: &mut Desk<S>,
@@ -29,7 +31,7 @@ pub(crate) fn answer_bytes<S: Backend>(
     ensures err { OnErr result (LineLeads (settings_of S.Store desk.old)
         (said_by bytes.now) unavailable_text
         (tables_of S.Store desk.old) (tables_of S.Store desk.new)) }
-    ensures same { settings_of S.Store desk.new ≡ settings_of S.Store desk.old }
+    ensures left { LeavesDesk S.Store desk.old desk.new }
 {
     match str::from_utf8(bytes) {
         Ok(text) => answer_line(alloc, desk, text),

@@ -1,5 +1,6 @@
 //! A load, from its stream to its end.
 ghost use Rattle.std.specs.Prelude.{◌≡◌, false, List, ℕ, IfOk, IfErr};
+ghost use Rattle.service_core.specs.Leaves.{LeavesDesk};
 ghost use Rattle.service_core.specs.Seen.{settings_of, tables_of};
 ghost use Rattle.stream_core.specs.Seen.{HaveOneWriter, has_write_failed, held_in};
 ghost use Rattle.desk_program.specs.Script.{LineLeads};
@@ -68,6 +69,7 @@ pub trait Progress {
 /// bytes, or that isn't UTF-8, says nothing that is understood.
 ///
 /// A command's step is made before its answer is written, and isn't undone where that fails.
+#[tactic(auto, using(service_core::proofs::LeftLemmas::left_same))]
 pub fn load<S: Backend, R: Read, W: Write, P: Progress>(
     alloc: Global,
     desk: &mut Desk<S>,
@@ -82,7 +84,7 @@ pub fn load<S: Backend, R: Read, W: Write, P: Progress>(
         (held_by S.Store desk.old) (held_by S.Store desk.new)
         (held_in W.contents output.old) (held_in W.contents output.new) result }
     ensures same_writer { HaveOneWriter output.new output.old }
-    ensures same { settings_of S.Store desk.new ≡ settings_of S.Store desk.old }
+    ensures left { LeavesDesk S.Store desk.old desk.new }
 {
     match Vec::with_capacity(alloc, LINE_LIMIT + 1) {
         Ok(mut line) => load_by(alloc, desk, plan, reader, &mut line, output, progress),
@@ -91,6 +93,7 @@ pub fn load<S: Backend, R: Read, W: Write, P: Progress>(
 }
 
 /// Passes lines over, and answers those that follow.
+#[tactic(auto, using(service_core::proofs::LeftLemmas::left_same))]
 fn load_by<S: Backend, R: Read, W: Write, P: Progress>(
     alloc: Global,
     desk: &mut Desk<S>,
@@ -106,7 +109,7 @@ fn load_by<S: Backend, R: Read, W: Write, P: Progress>(
         (held_by S.Store desk.old) (held_by S.Store desk.new)
         (held_in W.contents output.old) (held_in W.contents output.new) result }
     ensures same_writer { HaveOneWriter output.new output.old }
-    ensures same { settings_of S.Store desk.new ≡ settings_of S.Store desk.old }
+    ensures left { LeavesDesk S.Store desk.old desk.new }
 {
     match pass_lines(reader, line, plan.passed) {
         Some(ending) => none_answered(ending),
@@ -165,7 +168,7 @@ fn answer_lines<S: Backend, R: Read, W: Write, P: Progress>(
         (R.remaining reader.new) (held_by S.Store desk.new) (held_in W.contents output.new)
         result }
     ensures same_writer { HaveOneWriter output.new output.old }
-    ensures same { settings_of S.Store desk.new ≡ settings_of S.Store desk.old }
+    ensures left { LeavesDesk S.Store desk.old desk.new }
 {
     let mut refused = false;
     for count in 0..u64::MAX - plan.passed {
@@ -215,6 +218,7 @@ fn ending_after<W: Write>(
 }
 
 /// Takes the next line and answers it: whether one was refused so far. Else why there is none.
+#[tactic(auto, using(service_core::proofs::LeftLemmas::left_same))]
 fn answer_next<S: Backend, R: Read, W: Write>(
     alloc: Global,
     desk: &mut Desk<S>,
@@ -234,7 +238,7 @@ fn answer_next<S: Backend, R: Read, W: Write>(
         IsNone ending (R.remaining reader.old) (R.remaining reader.new)
         × (held_by S.Store desk.new ≡ held_by S.Store desk.old) × (output.new ≡ output.old)) }
     ensures same_writer { HaveOneWriter output.new output.old }
-    ensures same { settings_of S.Store desk.new ≡ settings_of S.Store desk.old }
+    ensures left { LeavesDesk S.Store desk.old desk.new }
 {
     match take_line(reader, line) {
         Taken::Line => Ok(answer_text(alloc, desk, output, all, number, line.as_slice(), refused)),
@@ -258,7 +262,7 @@ fn answer_text<S: Backend, W: Write>(
         (said_by bytes.now) text (tables_of S.Store desk.old) (tables_of S.Store desk.new)
         × Tells W.contents all number text output.old output.new refused result }
     ensures same_writer { HaveOneWriter output.new output.old }
-    ensures same { settings_of S.Store desk.new ≡ settings_of S.Store desk.old }
+    ensures left { LeavesDesk S.Store desk.old desk.new }
 {
     match answer_bytes(alloc, desk, bytes) {
         Ok(text) => tell(output, all, number, text.as_slice(), refused),

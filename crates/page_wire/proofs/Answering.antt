@@ -26,7 +26,7 @@ use Rattle.wire_core.specs.Replies.{is_head}
 use Rattle.wire_core.specs.Runs.{RepliesOn, Sent as Message, replied_of}
 use Rattle.wire_core.specs.Steps.{StaysOn}
 use Rattle.wire_core.specs.declared.fault.ServeFault.{ServeFault}
-use Rattle.wire_core.proofs.Stepping.{leads_wider}
+use Rattle.wire_core.proofs.Stepping.{leads_nowhere, leads_wider}
 use Rattle.page_wire.specs.Faults.{fault_reply}
 use Rattle.page_wire.specs.Steps.{AskedStepsOn, AsksAt, By, IsAnsweredOn, IsAnswerTo, IsReadOf}
 use Rattle.page_wire.specs.Steps.{PageSteps}
@@ -115,12 +115,9 @@ pub faulted : {X E : Type 0} (s : Settings) (at : ℕ) (request : Request) (faul
     → OnOk r (bytes ≡ fault_reply (is_head request.message) fault)
     → OnOk r (AskedStepsOn s at request bytes tables tables)
 faulted s at request fault (Ok x) bytes tables is told =
-    λ desk formed stands clean. (
-      desk,
-      λ head starts. subst (λ (asked : Result Visit PageFault). PageSteps s at (is_head request.message) asked desk bytes desk)
-          (sym (is head starts)) (told, refl),
-      stands,
-    )
+    leads_nowhere s _ tables
+    (λ desk head starts. subst (λ (asked : Result Visit PageFault). PageSteps s at
+    (is_head request.message) asked desk bytes desk) (sym (is head starts)) (told, refl))
 faulted s at request fault (Err e) bytes tables is told = tt
 
 -- ---- a visit

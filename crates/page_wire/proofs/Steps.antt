@@ -21,17 +21,19 @@ use Rattle.find_form.specs.Shown.{place_of}
 use Rattle.find_form.specs.declared.shown.Start.{Start}
 use Rattle.service_core.specs.Dossiers.{DossierOn}
 use Rattle.service_core.specs.Finding.{FindsOn}
+use Rattle.service_core.specs.Leaves.{LeavesDesk}
 use Rattle.service_core.specs.Loading.{LoadsOn}
 use Rattle.service_core.specs.Seen.{settings_of, tables_of}
 use Rattle.service_core.specs.TableSteps.{LeadsOn, StepsOn, ask_by}
 use Rattle.service_core.specs.declared.desk.Desk as service
+use Rattle.service_core.proofs.LeftLemmas.{left_same}
 use Rattle.service_core.proofs.Stepping.{unchanged}
 use Rattle.store_core.specs.Due.{due_of_row}
-use Rattle.store_tables.proofs.Lasting as lasting
 use Rattle.store_tables.proofs.Spared.{stands}
 use Rattle.store_tables.specs.Calls.{Spares, WasClean}
 use Rattle.store_tables.specs.Contents.{contents_of}
 use Rattle.wire_core.specs.Steps.{StaysOn}
+use Rattle.wire_core.proofs.Stepping.{leads_nowhere, leads_wider, stays}
 use Rattle.page_routes.specs.declared.visit.Sent.{Sent}
 use Rattle.page_wire.specs.Forms.{FormStepsOn, IsTold, SecondStepsOn}
 use Rattle.page_wire.specs.Next.{next_command}
@@ -57,11 +59,11 @@ pub reading_stays : (s : Settings) (ask : Ask) (outcome : Outcome) (old new : St
     → IsReading ask.command → StepsOn s ask outcome old new → StaysOn s old new
 reading_stays s ask outcome old new reads steps desk is stands clean =
     let step = steps desk is stands clean in
-    (step.0, step_stays s ask desk step.0 outcome reads step.1.step, step.2)
+    (step.0, (step_stays s ask desk step.0 outcome reads step.1.0.step, step.1.1), step.2)
 
 pub spared_stays : (s : Settings) (old new : State) → Spares old new → StaysOn s old new
 spared_stays s old new kept desk is stand clean =
-    (desk, refl, stands kept (contents_of (due_of_row s desk) desk) stand)
+    (desk, (refl, is), stands kept (contents_of (due_of_row s desk) desk) stand)
 
 pub spared_if : {X E : Type 0} (s : Settings) (r : Result X E) (old new : State)
     → Spares old new → OnErr r (StaysOn s old new)
@@ -82,7 +84,7 @@ pub does : {A E : Type 0} (s : Settings) (ask : Ask) (reply : Outcome → List �
     → IfOk r (λ out. out.items ≡ reply outcome)
     → IfOk r (λ out. DoesOn s ask reply out.items old new)
 does s ask reply outcome (Ok out) old new steps told =
-    λ desk is stand clean. let step = steps desk is stand clean in (step.0, (outcome, step.1, told), step.2)
+    leads_wider s _ _ old new (λ desk after step. (outcome, step, told)) steps
 does s ask reply outcome (Err e) old new steps told = tt
 
 pub stays_if : {X E : Type 0} (s : Settings) (ask : Ask) (outcome : Outcome) (r : Result X E)
@@ -108,8 +110,11 @@ homes s at caller own asked free loads (Ok out) old one two three new owns asks 
     let first = owns desk is stand (second.clean after_two) in
     let next = asks desk is first.1 after_two in
     let then = frees desk is next.1 after_three in
-    let last = tells desk is then.1 clean in
-    (desk, (own, asked, free, loads, first.0, next.0, then.0, last.0, (told, refl)), last.1)
+    let last = tells desk is then.1 clean in (
+      desk,
+      ((own, asked, free, loads, first.0, next.0, then.0, last.0, (told, refl)), is),
+      last.1,
+    )
 homes s at caller own asked free loads (Err e) old one two three new owns asks frees tells second third
     fourth told = tt
 
@@ -123,7 +128,7 @@ pub finds : {A E : Type 0} (s : Settings) (at : ℕ) (caller : List ℕ) (start 
     (λ desk after. Finds s at caller start search reply desk out.items after) old new)
 finds s at caller start search reply result (Ok out) old new tells told =
     λ desk is stand clean. let found = tells desk is stand clean in
-    (desk, (result, found.0, (told, refl)), found.1)
+    (desk, ((result, found.0, (told, refl)), is), found.1)
 finds s at caller start search reply result (Err e) old new tells told = tt
 
 -- a page that asks the desk for nothing
@@ -131,13 +136,13 @@ pub tells_fixed : {A E : Type 0} (s : Settings) (reply : List ℕ) (r : Result (
     (tables : State) → IfOk r (λ out. out.items ≡ reply)
     → IfOk r (λ out. LeadsOn s (λ desk after. Tells reply desk out.items after) tables tables)
 tells_fixed s reply (Ok out) tables told =
-    λ desk is stand clean. (desk, (told, refl), stand)
+    leads_nowhere s _ tables (λ desk. (told, refl))
 tells_fixed s reply (Err e) tables told = tt
 
 pub stays_fixed : {X E : Type 0} (s : Settings) (r : Result X E) (tables : State)
     → OnErr r (StaysOn s tables tables)
 stays_fixed s (Ok x) tables = tt
-stays_fixed s (Err e) tables = λ desk is stand clean. (desk, refl, stand)
+stays_fixed s (Err e) tables = stays s tables
 
 -- the page of a dossier
 pub looks : {A E : Type 0} (s : Settings) (at : ℕ) (caller : List ℕ) (id : ℕ)
@@ -147,7 +152,7 @@ pub looks : {A E : Type 0} (s : Settings) (at : ℕ) (caller : List ℕ) (id : �
     → IfOk r (λ out. LeadsOn s (λ desk after. LooksAt s at caller id desk out.items after) old new)
 looks s at caller id result (Ok out) old new tells told =
     λ desk is stand clean. let found = tells desk is stand clean in
-    (desk, (result, found.0, (told, refl)), found.1)
+    (desk, ((result, found.0, (told, refl)), is), found.1)
 looks s at caller id result (Err e) old new tells told = tt
 
 -- ---- a form
@@ -159,8 +164,7 @@ pub form_refused : {X E : Type 0} (s : Settings) (at : ℕ) (caller : List ℕ) 
     → OnOk r (bytes ≡ refused_reply caller at sent refusal)
     → OnOk r (FormStepsOn s at caller command sent bytes old new)
 form_refused s at caller command sent refusal (Ok x) bytes old new steps told =
-    λ desk is stand clean. let step = steps desk is stand clean in
-    (step.0, (Err refusal, step.0, step.1, (told, refl)), step.2)
+    leads_wider s _ _ old new (λ desk after step. (Err refusal, after, step, (told, refl))) steps
 form_refused s at caller command sent refusal (Err e) bytes old new steps told = tt
 
 -- its command was done, and the second one followed, by settings that the first leaves
@@ -176,15 +180,15 @@ form_done s t at caller command sent answer second bytes old mid new same honest
     subst (λ (c : Option Command). SecondStepsOn t at caller sent answer c bytes mid new) is two in
     let last =
     subst (λ (u : Settings). SecondStepsOn u at caller sent answer (next_command sent answer) bytes
-    mid new) same next step.0 step.1.formed step.2 clean in
-    (last.0, (Ok answer, step.0, step.1, last.1), last.2)
+    mid new) same next step.0 step.1.1 step.2 clean in
+    (last.0, ((Ok answer, step.0, step.1.0, last.1.0), last.1.1), last.2)
 
 -- there is no second command
 pub no_second : (s : Settings) (at : ℕ) (caller : List ℕ) (sent : Sent) (answer : Answer)
     (bytes : List ℕ) (tables : State) → bytes ≡ done_reply sent answer
     → SecondStepsOn s at caller sent answer None bytes tables tables
-no_second s at caller sent answer bytes tables told desk is stand clean =
-    (desk, (told, refl), stand)
+no_second s at caller sent answer bytes tables told =
+    leads_nowhere s _ tables (λ desk. (told, refl))
 
 -- this came of it
 pub second_told : (s : Settings) (at : ℕ) (caller : List ℕ) (sent : Sent) (answer : Answer)
@@ -192,8 +196,8 @@ pub second_told : (s : Settings) (at : ℕ) (caller : List ℕ) (sent : Sent) (a
     → StepsOn s (ask_by at caller command) outcome old new
     → IsTold caller at sent answer outcome bytes
     → SecondStepsOn s at caller sent answer (Some command) bytes old new
-second_told s at caller sent answer command outcome bytes old new steps told desk is stand clean =
-    let step = steps desk is stand clean in (step.0, (outcome, step.1, told), step.2)
+second_told s at caller sent answer command outcome bytes old new steps told =
+    leads_wider s _ _ old new (λ desk after step. (outcome, step, told)) steps
 
 pub stays_with : {X E : Type 0} (P : Type 0) (s : Settings) (r : Result X E) (old new : State)
     → OnErr r P → Spares old new → OnErr r (P × StaysOn s old new)
@@ -202,6 +206,13 @@ stays_with P s (Err e) old new holds kept = (holds, spared_stays s old new kept)
 
 -- ---- the readings for a page, as they end
 
+-- a reading leaves the desk
+pub left_spared : {S : Type 0} (g : Ghosts S) (old new : service.Desk S g)
+    → settings_of g new ≡ settings_of g old → Spares (tables_of g old) (tables_of g new)
+    → LeavesDesk g old new
+left_spared g old new same kept =
+    record { same = same; clean = kept.clean; lasts = kept.lasts }
+
 -- the desk is asked for nothing
 pub looked_fixed : {S A E : Type 0} (g : Ghosts S) (desk : service.Desk S g) (reply : List ℕ)
     (r : Result (Vec ℕ A) E) → IfOk r (λ out. out.items ≡ reply)
@@ -209,9 +220,7 @@ pub looked_fixed : {S A E : Type 0} (g : Ghosts S) (desk : service.Desk S g) (re
 looked_fixed g desk reply r told = record {
   ok = tells_fixed (settings_of g desk) reply r (tables_of g desk) told;
   err = stays_fixed (settings_of g desk) r (tables_of g desk);
-  honest = λ clean. clean;
-  lasts = lasting.same (tables_of g desk);
-  same = refl;
+  left = left_same g desk;
 }
 
 -- out of memory before the desk is asked for anything
@@ -222,8 +231,6 @@ looked_out {S} {A} {E} g desk LeadsTo r e is =
     subst (λ (x : Result (Vec ℕ A) E). LookedBy g desk desk LeadsTo x) (sym is)
     (record {
       ok = tt;
-      err = λ at formed stand clean. (at, refl, stand);
-      honest = λ clean. clean;
-      lasts = lasting.same (tables_of g desk);
-      same = refl;
+      err = stays (settings_of g desk) (tables_of g desk);
+      left = left_same g desk;
     })

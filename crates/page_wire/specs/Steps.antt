@@ -43,10 +43,11 @@ use Rattle.page_routes.specs.Places.{is_page_path, path_in}
 use Rattle.page_routes.specs.Visits.{visit_of}
 use Rattle.service_core.specs.Dossiers.{IsDossier}
 use Rattle.service_core.specs.Finding.{FindsOn}
+use Rattle.service_core.specs.Leaves.{LeavesDesk}
 use Rattle.service_core.specs.Seen.{settings_of, tables_of}
 use Rattle.service_core.specs.TableSteps.{IsStep, LeadsOn, ask_by}
 use Rattle.service_core.specs.declared.desk.Desk as service
-use Rattle.store_tables.specs.Calls.{Lasts, Spares, WasClean}
+use Rattle.store_tables.specs.Calls.{Spares}
 use Rattle.wire_core.specs.Replies.{is_head}
 use Rattle.wire_core.specs.Runs.{IsReplyTo, Sent}
 use Rattle.wire_core.specs.Steps.{LeavesOut, StaysOn}
@@ -206,15 +207,13 @@ LookStepsOn settings at caller page bytes =
     LeadsOn settings (λ desk after. LookSteps settings at caller page desk bytes after)
 
 -- how the reading for a page ends: with the reply of these steps, or out of memory with the desk as
--- it was; what was written lasts, and the settings stay
+-- it was
 pub record LookedBy {S A E : Type 0} (g : Ghosts S) (old new : service.Desk S g)
     (LeadsTo : Desk → List ℕ → Desk → Type 0) (result : Result (Vec ℕ A) E) : Type 0 where
   pub ok : IfOk result (λ out. LeadsOn (settings_of g old)
       (λ desk after. LeadsTo desk out.items after) (tables_of g old) (tables_of g new))
   pub err : OnErr result (StaysOn (settings_of g old) (tables_of g old) (tables_of g new))
-  pub honest : WasClean (tables_of g old) (tables_of g new)
-  pub lasts : Lasts (tables_of g old) (tables_of g new)
-  pub same : settings_of g new ≡ settings_of g old
+  pub left : LeavesDesk g old new
 
 abbrev pub Looked : {S A E : Type 0} → (g : Ghosts S) → service.Desk S g → service.Desk S g → ℕ
     → List ℕ → routes.Page → Result (Vec ℕ A) E → Type 0

@@ -3,8 +3,8 @@ ghost use Rattle.std.specs.Prelude.{◌≡◌, ◌≤◌, [], IfOk, OnErr, OnOk}
 ghost use Rattle.std.specs.Option.{option_map};
 ghost use Rattle.std.specs.Vec.{vec_capacity};
 ghost use Rattle.page_core.specs.Page.{page_bytes};
+ghost use Rattle.service_core.specs.Leaves.{LeavesDesk};
 ghost use Rattle.service_core.specs.Seen.{settings_of, tables_of};
-ghost use Rattle.store_tables.specs.Calls.{Lasts, WasClean};
 ghost use Rattle.page_wire.specs.Forms.{FormStepsOn};
 ghost use Rattle.page_wire.specs.Next.{next_text as text_after};
 ghost use Rattle.page_wire.specs.Replies as form;
@@ -28,7 +28,7 @@ use wire_core::code_of_refusal;
 
 /// Does what a form asks for, its second command only where the first isn't refused, and puts its
 /// reply into the room. Out of memory nothing is done, and nothing is put.
-#[tactic(auto, using(store_tables::proofs::Lasting::same))]
+#[tactic(auto, using(service_core::proofs::LeftLemmas::left_same))]
 pub(crate) fn act<S: Backend>(
     alloc: Global,
     caller: &str,
@@ -45,9 +45,7 @@ pub(crate) fn act<S: Backend>(
         (tables_of S.Store desk.new)) }
     ensures err { OnErr result ((room.new ≡ room.old) × StaysOn (settings_of S.Store desk.old)
         (tables_of S.Store desk.old) (tables_of S.Store desk.new)) }
-    ensures honest { WasClean (tables_of S.Store desk.old) (tables_of S.Store desk.new) }
-    ensures lasts { Lasts (tables_of S.Store desk.old) (tables_of S.Store desk.new) }
-    ensures same { settings_of S.Store desk.new ≡ settings_of S.Store desk.old }
+    ensures left { LeavesDesk S.Store desk.old desk.new }
 {
     match next_text(alloc, sent) {
         Ok(text) => act_with(alloc, caller, command, sent, text, moment, desk, room),
@@ -74,9 +72,7 @@ fn act_with<S: Backend>(
         (tables_of S.Store desk.new)) }
     ensures err { OnErr result ((room.new ≡ room.old) × StaysOn (settings_of S.Store desk.old)
         (tables_of S.Store desk.old) (tables_of S.Store desk.new)) }
-    ensures honest { WasClean (tables_of S.Store desk.old) (tables_of S.Store desk.new) }
-    ensures lasts { Lasts (tables_of S.Store desk.old) (tables_of S.Store desk.new) }
-    ensures same { settings_of S.Store desk.new ≡ settings_of S.Store desk.old }
+    ensures left { LeavesDesk S.Store desk.old desk.new }
 {
     match desk.execute(alloc, moment.get(), caller, command) {
         Ok(answer) => {

@@ -2,8 +2,8 @@
 ghost use Rattle.std.specs.Prelude.{◌≡◌, ◌≤◌, [], IfOk, Some, unwrap_or};
 ghost use Rattle.std.specs.Vec.{vec_capacity};
 ghost use Rattle.page_core.specs.Page.{page_bytes};
+ghost use Rattle.service_core.specs.Leaves.{LeavesDesk};
 ghost use Rattle.service_core.specs.Seen.{settings_of, tables_of};
-ghost use Rattle.store_tables.specs.Calls.{Lasts, WasClean};
 ghost use Rattle.page_wire.specs.Forms.{IsHalfTold, SecondStepsOn};
 ghost use Rattle.page_wire.specs.Replies as form;
 
@@ -21,7 +21,7 @@ use wire_core::code_of_refusal;
 
 /// Does the second command of a form, if there is one, after this answer to the first, and puts the
 /// reply into the room.
-#[tactic(auto, using(store_tables::proofs::Lasting::same))]
+#[tactic(auto, using(service_core::proofs::LeftLemmas::left_same))]
 pub(crate) fn act_on<S: Backend>(
     alloc: Global,
     caller: &str,
@@ -37,9 +37,7 @@ pub(crate) fn act_on<S: Backend>(
     ensures step { SecondStepsOn (settings_of S.Store desk.old) moment caller.now sent.now
         answer.now second room.new.items (tables_of S.Store desk.old)
         (tables_of S.Store desk.new) }
-    ensures honest { WasClean (tables_of S.Store desk.old) (tables_of S.Store desk.new) }
-    ensures lasts { Lasts (tables_of S.Store desk.old) (tables_of S.Store desk.new) }
-    ensures same { settings_of S.Store desk.new ≡ settings_of S.Store desk.old }
+    ensures left { LeavesDesk S.Store desk.old desk.new }
 {
     match second {
         Some(command) => {
@@ -65,9 +63,7 @@ fn act_second<S: Backend>(
     ensures step { SecondStepsOn (settings_of S.Store desk.old) moment caller.now sent.now
         answer.now (Some command.now) room.new.items (tables_of S.Store desk.old)
         (tables_of S.Store desk.new) }
-    ensures honest { WasClean (tables_of S.Store desk.old) (tables_of S.Store desk.new) }
-    ensures lasts { Lasts (tables_of S.Store desk.old) (tables_of S.Store desk.new) }
-    ensures same { settings_of S.Store desk.new ≡ settings_of S.Store desk.old }
+    ensures left { LeavesDesk S.Store desk.old desk.new }
 {
     match desk.execute(alloc, moment.get(), caller, command) {
         Ok(told) => {

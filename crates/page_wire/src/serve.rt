@@ -2,8 +2,8 @@
 ghost use Rattle.std.specs.Prelude.{◌≡◌, ◌≢◌, ◌≤◌, [], Err, IfOk, Ok, OnErr, OnOk};
 ghost use Rattle.std.specs.Vec.{vec_capacity};
 ghost use Rattle.message_core.specs.Reply.{bytes_of, unavailable};
+ghost use Rattle.service_core.specs.Leaves.{LeavesDesk};
 ghost use Rattle.service_core.specs.Seen.{settings_of, tables_of};
-ghost use Rattle.store_tables.specs.Calls.{Lasts, WasClean};
 ghost use Rattle.page_wire.specs.Faults as form;
 ghost use Rattle.page_wire.specs.Steps.{AskedStepsOn, IsAnsweredOn, IsReadOf, RequestStepsOn, SentStepsOn};
 ghost use Rattle.wire_core.specs.Steps.{StaysOn};
@@ -32,9 +32,7 @@ pub fn answer_bytes<S: Backend>(
     ensures reply { IfOk result (λ out. IsAnsweredOn (settings_of S.Store desk.old)
         (moment, bytes.now) out.items (tables_of S.Store desk.old) (tables_of S.Store desk.new)) }
     ensures err { OnErr result (desk.new ≡ desk.old) }
-    ensures honest { WasClean (tables_of S.Store desk.old) (tables_of S.Store desk.new) }
-    ensures lasts { Lasts (tables_of S.Store desk.old) (tables_of S.Store desk.new) }
-    ensures same { settings_of S.Store desk.new ≡ settings_of S.Store desk.old }
+    ensures left { LeavesDesk S.Store desk.old desk.new }
 {
     match read(alloc, bytes) {
         Ok(request) => {
@@ -47,7 +45,7 @@ pub fn answer_bytes<S: Backend>(
 }
 
 /// Answers bytes that are no message, by this fault: without memory for it not at all.
-#[tactic(auto, using(store_tables::proofs::Lasting::same))]
+#[tactic(auto, using(service_core::proofs::LeftLemmas::left_same))]
 fn answer_fault<S: Backend>(
     alloc: Global,
     routes: Option<&Routes>,
@@ -61,9 +59,7 @@ fn answer_fault<S: Backend>(
     ensures reply { IfOk result (λ out. IsAnsweredOn (settings_of S.Store desk.old)
         (moment, bytes.now) out.items (tables_of S.Store desk.old) (tables_of S.Store desk.new)) }
     ensures err { OnErr result (desk.new ≡ desk.old) }
-    ensures honest { WasClean (tables_of S.Store desk.old) (tables_of S.Store desk.new) }
-    ensures lasts { Lasts (tables_of S.Store desk.old) (tables_of S.Store desk.new) }
-    ensures same { settings_of S.Store desk.new ≡ settings_of S.Store desk.old }
+    ensures left { LeavesDesk S.Store desk.old desk.new }
 {
     if fault == WireFault::NoMemory {
         Err(ServeFault::NoMemory)
@@ -87,9 +83,7 @@ fn answer_unread<S: Backend>(
     ensures reply { IfOk result (λ out. IsAnsweredOn (settings_of S.Store desk.old)
         (moment, bytes.now) out.items (tables_of S.Store desk.old) (tables_of S.Store desk.new)) }
     ensures err { OnErr result (desk.new ≡ desk.old) }
-    ensures honest { WasClean (tables_of S.Store desk.old) (tables_of S.Store desk.new) }
-    ensures lasts { Lasts (tables_of S.Store desk.old) (tables_of S.Store desk.new) }
-    ensures same { settings_of S.Store desk.new ≡ settings_of S.Store desk.old }
+    ensures left { LeavesDesk S.Store desk.old desk.new }
 {
     serve_bytes(alloc, routes, moment, bytes, desk)
 }
@@ -117,9 +111,7 @@ fn answer_read<S: Backend>(
         (moment, bytes.now) (Ok request.now) out.items
         (tables_of S.Store desk.old) (tables_of S.Store desk.new)) }
     ensures err { OnErr result (desk.new ≡ desk.old) }
-    ensures honest { WasClean (tables_of S.Store desk.old) (tables_of S.Store desk.new) }
-    ensures lasts { Lasts (tables_of S.Store desk.old) (tables_of S.Store desk.new) }
-    ensures same { settings_of S.Store desk.new ≡ settings_of S.Store desk.old }
+    ensures left { LeavesDesk S.Store desk.old desk.new }
 {
     if is_page_place(request.message.target.as_slice()) {
         answer_in_room(alloc, request, moment, desk)
@@ -129,7 +121,7 @@ fn answer_read<S: Backend>(
 }
 
 /// Answers a message at a place of the pages, where there is room for a short reply.
-#[tactic(auto, using(store_tables::proofs::Lasting::same))]
+#[tactic(auto, using(service_core::proofs::LeftLemmas::left_same))]
 fn answer_in_room<S: Backend>(
     alloc: Global,
     request: &Request,
@@ -139,9 +131,7 @@ fn answer_in_room<S: Backend>(
     ensures reply { IfOk result (λ out. RequestStepsOn (settings_of S.Store desk.old) moment
         request.now out.items (tables_of S.Store desk.old) (tables_of S.Store desk.new)) }
     ensures err { OnErr result (desk.new ≡ desk.old) }
-    ensures honest { WasClean (tables_of S.Store desk.old) (tables_of S.Store desk.new) }
-    ensures lasts { Lasts (tables_of S.Store desk.old) (tables_of S.Store desk.new) }
-    ensures same { settings_of S.Store desk.new ≡ settings_of S.Store desk.old }
+    ensures left { LeavesDesk S.Store desk.old desk.new }
 {
     match Vec::with_capacity(alloc, ROOM) {
         Ok(mut room) => {
@@ -165,9 +155,7 @@ fn answer_request<S: Backend>(
     requires room { 512 ≤ vec_capacity room.old }
     ensures step { RequestStepsOn (settings_of S.Store desk.old) at request.now room.new.items
         (tables_of S.Store desk.old) (tables_of S.Store desk.new) }
-    ensures honest { WasClean (tables_of S.Store desk.old) (tables_of S.Store desk.new) }
-    ensures lasts { Lasts (tables_of S.Store desk.old) (tables_of S.Store desk.new) }
-    ensures same { settings_of S.Store desk.new ≡ settings_of S.Store desk.old }
+    ensures left { LeavesDesk S.Store desk.old desk.new }
 {
     match reply_to(alloc, request, at, desk, room) {
         Ok(()) => (),
@@ -186,7 +174,7 @@ fn put_unavailable(head_only: bool, room: &mut Vec<u8>)
 }
 
 /// The same, where there is memory for it.
-#[tactic(auto, using(store_tables::proofs::Lasting::same))]
+#[tactic(auto, using(service_core::proofs::LeftLemmas::left_same))]
 fn reply_to<S: Backend>(
     alloc: Global,
     request: &Request,
@@ -200,9 +188,7 @@ fn reply_to<S: Backend>(
         room.new.items (tables_of S.Store desk.old) (tables_of S.Store desk.new)) }
     ensures err { OnErr result ((room.new ≡ room.old) × StaysOn (settings_of S.Store desk.old)
         (tables_of S.Store desk.old) (tables_of S.Store desk.new)) }
-    ensures honest { WasClean (tables_of S.Store desk.old) (tables_of S.Store desk.new) }
-    ensures lasts { Lasts (tables_of S.Store desk.old) (tables_of S.Store desk.new) }
-    ensures same { settings_of S.Store desk.new ≡ settings_of S.Store desk.old }
+    ensures left { LeavesDesk S.Store desk.old desk.new }
 {
     match visit_of(alloc, desk.settings(), request) {
         Ok(visit) => {

@@ -1,8 +1,8 @@
 //! What a visit comes to.
 ghost use Rattle.std.specs.Prelude.{◌≡◌, ◌≤◌, [], Err, IfErr, IfOk, Ok, OnErr, OnOk};
 ghost use Rattle.std.specs.Vec.{vec_capacity};
+ghost use Rattle.service_core.specs.Leaves.{LeavesDesk};
 ghost use Rattle.service_core.specs.Seen.{settings_of, tables_of};
-ghost use Rattle.store_tables.specs.Calls.{Lasts, WasClean};
 ghost use Rattle.page_wire.specs.Steps.{VisitStepsOn};
 ghost use Rattle.page_wire.specs.Visits as form;
 ghost use Rattle.wire_core.specs.Steps.{StaysOn};
@@ -23,7 +23,7 @@ use text_core::Text;
 
 /// Makes a visit at a moment, in minutes since 1970-01-01 00:00 UTC, and puts its reply into the
 /// room. Out of memory nothing is done, and nothing is put.
-#[tactic(auto, using(store_tables::proofs::Lasting::same))]
+#[tactic(auto, using(service_core::proofs::LeftLemmas::left_same))]
 pub(crate) fn make_visit<S: Backend>(
     alloc: Global,
     visit: &Visit,
@@ -37,9 +37,7 @@ pub(crate) fn make_visit<S: Backend>(
         room.new.items (tables_of S.Store desk.old) (tables_of S.Store desk.new)) }
     ensures err { OnErr result ((room.new ≡ room.old) × StaysOn (settings_of S.Store desk.old)
         (tables_of S.Store desk.old) (tables_of S.Store desk.new)) }
-    ensures honest { WasClean (tables_of S.Store desk.old) (tables_of S.Store desk.new) }
-    ensures lasts { Lasts (tables_of S.Store desk.old) (tables_of S.Store desk.new) }
-    ensures same { settings_of S.Store desk.new ≡ settings_of S.Store desk.old }
+    ensures left { LeavesDesk S.Store desk.old desk.new }
 {
     match (visit, Minute::new(at)) {
         (Visit::Look { caller, page }, Some(moment)) => {

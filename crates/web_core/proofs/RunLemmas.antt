@@ -9,8 +9,7 @@ use Rattle.server_core.specs.Served.{Act, IsServed, Runs, Serves, answers}
 use Rattle.server_core.specs.declared.ending.Ending.{Ending}
 use Rattle.server_core.specs.Turns.{Answered}
 use Rattle.store_tables.specs.Calls.{WasClean}
-use Rattle.page_wire.proofs.Formed.{answer_formed}
-use Rattle.web_core.specs.Messages.{RunsAnswersOn, RunsSome, StepsAt, sent_of}
+use Rattle.web_core.specs.Messages.{RunsAnswersOn, RunsSome, StepsAt}
 
 abbrev IsRun : {D : Type 0} → (D → Settings) → (D → State) → List Answered → D → D → Type 0
 IsRun {D} settings_in tables_in answers old new =
@@ -24,7 +23,7 @@ runs_both : {D : Type 0} (settings_in : D → Settings) (tables_in : D → State
     → IsRun settings_in tables_in answers old new
 runs_both {D} settings_in tables_in [] old new same =
     let stays : IsRun settings_in tables_in [] old old =
-    ((λ desk is stands clean. (desk, refl, stands)), λ clean. clean) in
+    ((λ desk is stands clean. (desk, (refl, is), stands)), λ clean. clean) in
     subst (λ (d : D). IsRun settings_in tables_in [] old d) (sym same) stays
 runs_both {D} settings_in tables_in (a ∷ rest) old new (mid, (step, same), runs) =
     let others = runs_both settings_in tables_in rest mid new runs in
@@ -33,10 +32,8 @@ runs_both {D} settings_in tables_in (a ∷ rest) old new (mid, (step, same), run
     others.0 in (
       λ desk is stands clean.
           let first = step.0 desk is stands (others.1 clean) in
-          let formed =
-          answer_formed (settings_in old) (sent_of a) desk first.0 a.reply is first.1 in
-          let last = run first.0 formed first.2 clean in
-          (last.0, (first.0, first.1, last.1), last.2),
+          let last = run first.0 first.1.1 first.2 clean in
+          (last.0, ((first.0, first.1.0, last.1.0), last.1.1), last.2),
       λ clean. step.1 (others.1 clean),
     )
 

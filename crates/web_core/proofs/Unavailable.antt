@@ -16,7 +16,7 @@ unfolding IsAnswerTo
 told_step {S} g old new at message reply is same clean lasts = (
   subst (λ (d : Desk S g). IsAnsweredOn (settings_of g old) (at, message) reply (tables_of g old)
       (tables_of g d)) (sym same)
-      (λ desk formed stands still. (desk, inl (is, refl), stands)),
+      (λ desk formed stands still. (desk, (inl (is, refl), formed), stands)),
   clean,
   lasts,
 )

@@ -18,15 +18,3 @@ returns-in-Err-clause-err g c =
     led_by_step (settings_of g.S.Store c.args.desk.now) c.args.at c.args.caller.now
     c.args.command.now (Err Unavailable) (tables_of g.S.Store c.args.desk.now)
     (tables_of g.S.Store c.told.new.self) unavailable_text refl c.in-Err.ensures.err
-
-pub returns-in-Ok-clause-honest : goal.returns-in-Ok-clause-honest
-returns-in-Ok-clause-honest g c = c.told.ensures.keeps.clean
-
-pub returns-in-Ok-clause-lasts : goal.returns-in-Ok-clause-lasts
-returns-in-Ok-clause-lasts g c = c.told.ensures.keeps.lasts
-
-pub returns-in-Err-clause-honest : goal.returns-in-Err-clause-honest
-returns-in-Err-clause-honest g c = c.told.ensures.keeps.clean
-
-pub returns-in-Err-clause-lasts : goal.returns-in-Err-clause-lasts
-returns-in-Err-clause-lasts g c = c.told.ensures.keeps.lasts

@@ -31,7 +31,7 @@ returns-in-Err-clause-printed g c = (
 )
 
 pub returns-in-Ok-clause-honest : goal.returns-in-Ok-clause-honest
-returns-in-Ok-clause-honest g c = c.told.ensures.keeps.clean
+returns-in-Ok-clause-honest g c = c.told.ensures.left.clean
 
 pub returns-in-Err-clause-honest : goal.returns-in-Err-clause-honest
-returns-in-Err-clause-honest g c = c.told.ensures.keeps.clean
+returns-in-Err-clause-honest g c = c.told.ensures.left.clean

@@ -6,11 +6,11 @@ pub returns-in-Err-clause-told : goal.returns-in-Err-clause-told
 returns-in-Err-clause-told g c = (
   c.in-Err.fault,
   record {
-    kept = c.in-Err.ensures.given_back;
-    honest = c.in-Err.ensures.honest_fault;
-    unknown = c.in-Err.ensures.unknown;
-    fails = c.in-Err.ensures.fault;
-    blames = c.in-Err.ensures.blames;
+    kept = c.in-Err.ensures.given_back.spared;
+    honest = c.in-Err.ensures.given_back.spared.clean;
+    unknown = λ e. (c.in-Err.ensures.unknown e).unknown;
+    fails = c.in-Err.ensures.fault.fault;
+    blames = c.in-Err.ensures.fault.blames;
   },
   refl,
   c.put_attach_fault.ensures.printed,

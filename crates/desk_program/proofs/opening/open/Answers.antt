@@ -11,8 +11,7 @@ pub returns-in-Ok-clause-opened : goal.returns-in-Ok-clause-opened
 returns-in-Ok-clause-opened g c =
     opened c.open_tables.result c.args.settings.now c.in-Ok.settings
     (state_of g.S.Store c.args.store) (settings_of g.S.Store) (tables_of g.S.Store)
-    c.in-Ok.ensures c.open_tables.ensures.settings c.open_tables.ensures.renewed
-    c.open_tables.ensures.made c.open_tables.ensures.known
+    c.in-Ok.ensures c.open_tables.ensures.opened
 
 pub returns-in-Ok-clause-told : goal.returns-in-Ok-clause-told
 returns-in-Ok-clause-told g c =

@@ -8,29 +8,19 @@ use Rattle.desk_program.proofs.LedLines.{empty_is_desk}
 use Rattle.desk_program.proofs.Opened.{brought, made_not_attached}
 use Rattle.desk_program.proofs.opening.open_tables.Goals as goal
 
-pub returns-in-Ok-clause-renewed : goal.returns-in-Ok-clause-renewed
-returns-in-Ok-clause-renewed g c =
+pub returns-in-Ok-clause-opened : goal.returns-in-Ok-clause-opened
+returns-in-Ok-clause-opened g c =
+    let on =
+    brought (state_of g.S.Store c.args.store) (state_of g.S.Store c.create_schema.new.self)
+    c.in-Ok.ensures.kept (λ d f due first. (c.in-Ok.ensures.migrated d f due first).0) in
     IfOk-weaker c.attach.result _ _
-    (λ attached renews desk formed stand.
-    renews desk formed (brought (state_of g.S.Store c.args.store)
-    (state_of g.S.Store c.create_schema.new.self) c.in-Ok.ensures.kept
-    (λ d f due first. (c.in-Ok.ensures.migrated d f due first).0) desk formed stand))
-    c.attach.ensures.renewed
-
-pub returns-in-Ok-clause-made : goal.returns-in-Ok-clause-made
-returns-in-Ok-clause-made g c =
-    IfOk-weaker c.attach.result _ _
-    (λ attached renews blank. renews empty_desk empty_is_desk (c.in-Ok.ensures.made blank).0)
-    c.attach.ensures.renewed
-
-pub returns-in-Ok-clause-known : goal.returns-in-Ok-clause-known
-returns-in-Ok-clause-known g c =
-    IfOk-weaker c.attach.result _ _
-    (λ attached knows desk formed stand clean.
-    knows desk formed (brought (state_of g.S.Store c.args.store)
-    (state_of g.S.Store c.create_schema.new.self) c.in-Ok.ensures.kept
-    (λ d f due first. (c.in-Ok.ensures.migrated d f due first).0) desk formed stand) clean)
-    c.attach.ensures.known
+    (λ attached is. record {
+      same = is.same;
+      renewed = λ desk formed stand. is.renewed desk formed (on desk formed stand);
+      made = λ blank. is.renewed empty_desk empty_is_desk (c.in-Ok.ensures.made blank).0;
+      known = λ desk formed stand clean. is.known desk formed (on desk formed stand) clean;
+    })
+    c.attach.ensures.attached
 
 pub returns-in-Ok-clause-told : goal.returns-in-Ok-clause-told
 returns-in-Ok-clause-told g c =

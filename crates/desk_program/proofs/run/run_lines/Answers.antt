@@ -36,7 +36,7 @@ loop-line-preserved g c =
     so_far.0 here.0 so_far.4 after.1.0 in
     record {
       same = c.run_line.ensures.same_writer ∙ c.loop-line.invariant.same;
-      settings = c.run_line.ensures.same ∙ c.loop-line.invariant.settings;
+      settings = c.run_line.ensures.left.same ∙ c.loop-line.invariant.settings;
       printed = (
         text,
         after.0,

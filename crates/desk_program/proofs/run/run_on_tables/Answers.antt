@@ -12,8 +12,8 @@ use Rattle.desk_program.proofs.run.run_on_tables.Goals as goal
 pub run_lines-requires-clause-empty : goal.run_lines-requires-clause-empty
 run_lines-requires-clause-empty g c =
     subst (λ (s : Settings). StandsDue s empty_desk (tables_of g.S.Store c.in-Ok.desk))
-    (sym c.in-Ok.ensures.settings)
-    (c.in-Ok.ensures.renewed empty_desk empty_is_desk c.requires.empty)
+    (sym c.in-Ok.ensures.attached.same)
+    (c.in-Ok.ensures.attached.renewed empty_desk empty_is_desk c.requires.empty)
 
 pub returns-in-Ok-clause-printed : goal.returns-in-Ok-clause-printed
 returns-in-Ok-clause-printed g c =
@@ -21,7 +21,7 @@ returns-in-Ok-clause-printed g c =
       run.0,
       inl (
         subst (λ (s : Settings). AnswersCommands s c.args.commands.now run.0)
-            c.in-Ok.ensures.settings run.1,
+            c.in-Ok.ensures.attached.same run.1,
         refl,
       ),
       run.2,
@@ -32,7 +32,7 @@ returns-in-Err-clause-printed g c = (
   _,
   not_attached c.args.settings c.args.commands.now c.in-Err.fault
       (state_of g.S.Store c.args.store) (state_of g.S.Store c.in-Err.store)
-      c.in-Err.ensures.unknown c.in-Err.ensures.fault c.requires.empty
+      (λ e. (c.in-Err.ensures.unknown e).unknown) c.in-Err.ensures.fault.fault c.requires.empty
       (c.requires.clean c.in-Err.store.tables.conn),
   c.put_attach_fault.ensures.printed,
 )

@@ -17,3 +17,9 @@ returns-in-Ok-clause-printed g c =
     let whole = c.in-Ok.ensures.whole in
     let found = subst (λ (l : List ℕ). IsScriptWithin l run.0) c.as_slice.ensures.value run.2 in
     (c.in-Ok.input.items, run.1, whole.1, inr (run.0, inr (whole.0, found), run.3), run.4)
+
+pub returns-in-Ok-clause-left : goal.returns-in-Ok-clause-left
+returns-in-Ok-clause-left g c = c.in-Ok.ensures.left
+
+pub returns-in-Err-clause-left : goal.returns-in-Err-clause-left
+returns-in-Err-clause-left g c = c.in-Err.ensures.left

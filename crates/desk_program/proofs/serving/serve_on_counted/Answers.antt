@@ -1,6 +1,6 @@
 -- each connection is one more
-use Rattle.std.proofs.Common.{◌≡◌, ◌∙◌, ◌<◌, ◌+◌, refl, arith, rules}
-use Rattle.store_tables.proofs.Lasting.{on, same as lasting}
+use Rattle.std.proofs.Common.{◌≡◌, ◌∙◌, ◌<◌, ◌+◌, arith, rules}
+use Rattle.service_core.proofs.LeftLemmas.{left_on, left_same}
 use Rattle.service_core.specs.Seen.{settings_of, tables_of}
 use Rattle.desk_program.specs.Listening.{accepted_of, has_accept_failed, minute_of}
 use Rattle.desk_program.proofs.Connections.{all_and_one, all_but_one, all_ended, none_answered}
@@ -14,9 +14,7 @@ loop-connection-init g c =
           (tables_of g.S.Store c.args.desk.now) c.requires;
       accepted = c.requires.accepted;
       unfailed = c.requires.failed;
-      honest = λ clean. clean;
-      lasts = lasting (tables_of g.S.Store c.args.desk.now);
-      same = refl;
+      left = left_same g.S.Store c.args.desk.now;
     }
 
 pub accept-requires : goal.accept-requires
@@ -47,13 +45,13 @@ loop-connection-preserved g c =
           c.loop-connection.listener c.accept.new.self c.serve-passed_over.new.self
           c.in-Some.connection c.serve-passed_over.result
           (tables_of g.S.Store c.args.desk.now) (tables_of g.S.Store c.loop-connection.desk)
-          (tables_of g.S.Store c.serve-passed_over.new.desk) so_far.same so_far.all accepts
-          step.counted step.honest step.one;
+          (tables_of g.S.Store c.serve-passed_over.new.desk) so_far.left.same so_far.all accepts
+          step.counted step.left.clean step.one;
       accepted = omega (arith, so_far.accepted, one, step.counted.accepted);
       unfailed = step.counted.failed ∙ accepts.failed ∙ so_far.unfailed;
-      honest = λ clean. so_far.honest (step.honest clean);
-      lasts = on step.honest so_far.lasts step.lasts;
-      same = step.same ∙ so_far.same;
+      left =
+          left_on g.S.Store c.args.desk.now c.loop-connection.desk c.serve-passed_over.new.desk
+          so_far.left step.left;
     }
 
 pub returns-in-None-clause-ended : goal.returns-in-None-clause-ended

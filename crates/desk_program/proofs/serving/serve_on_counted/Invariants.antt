@@ -1,6 +1,6 @@
 -- the connections so far were accepted, and each was answered, or a read failed in it
 use Rattle.std.proofs.Common.{◌≡◌, false}
-use Rattle.store_tables.specs.Calls.{Lasts, WasClean}
+use Rattle.service_core.specs.Leaves.{LeavesDesk}
 use Rattle.service_core.specs.Seen.{settings_of, tables_of}
 use Rattle.desk_program.specs.Listening.{accepted_of, has_accept_failed}
 use Rattle.desk_program.specs.Serving.{AnswersAll}
@@ -13,7 +13,5 @@ invariant-loop-connection g l =
           (tables_of g.S.Store l.fn.desk) (tables_of g.S.Store l.desk);
       accepted : accepted_of l.listener ≡ l._connection;
       unfailed : has_accept_failed l.listener ≡ false;
-      honest : WasClean (tables_of g.S.Store l.fn.desk) (tables_of g.S.Store l.desk);
-      lasts : Lasts (tables_of g.S.Store l.fn.desk) (tables_of g.S.Store l.desk);
-      same : settings_of g.S.Store l.desk ≡ settings_of g.S.Store l.fn.desk;
+      left : LeavesDesk g.S.Store l.fn.desk l.desk;
     }

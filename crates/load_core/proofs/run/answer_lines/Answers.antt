@@ -1,6 +1,7 @@
 -- a line more, and why none follows it
 use Rattle.std.proofs.Common.{◌∙◌, ◌+◌, false, ap, refl, rules, subst, sym}
 use Rattle.settings_core.specs.declared.settings.Settings.{Settings}
+use Rattle.service_core.proofs.LeftLemmas.{left_on, left_same}
 use Rattle.service_core.specs.Seen.{settings_of}
 use Rattle.stream_core.specs.Seen.{has_write_failed, held_in}
 use Rattle.load_core.specs.Load.{AnswersLine, held_by, place_at}
@@ -12,7 +13,7 @@ loop-count-init g c = record {
   lines = refl;
   goes = (c.requires, goes_first c.args.plan.stop);
   same_writer = refl;
-  same = refl;
+  left = left_same g.S.Store c.args.desk.now;
 }
 
 pub loop-count-preserved : goal.loop-count-preserved
@@ -31,7 +32,7 @@ loop-count-preserved g c =
     (held_by g.S.Store c.answer_next.new.desk) contents c.answer_next.new.output c.in-Ok.now in
     let line =
     subst (λ (s : Settings). AnswersLine g.S.Store s plan.all (plan.passed + c.loop-count.count + 1)
-    here next) so_far.same c.in-Ok.ensures.answered in
+    here next) so_far.left.same c.in-Ok.ensures.answered in
     record {
       lines =
           one_more g.S.Store (settings_of g.S.Store c.args.desk.now) plan c.loop-count.count start
@@ -40,7 +41,9 @@ loop-count-preserved g c =
           goes_on (has_write_failed c.answer_next.new.output) plan.stop c.in-Ok.now
           (sym c.ending_after.ensures ∙ c.in_default.is);
       same_writer = c.answer_next.ensures.same_writer ∙ so_far.same_writer;
-      same = c.answer_next.ensures.same ∙ so_far.same;
+      left =
+          left_on g.S.Store c.args.desk.now c.loop-count.desk c.answer_next.new.desk so_far.left
+          c.answer_next.ensures.left;
     }
 
 pub returns-in-Err-clause-run : goal.returns-in-Err-clause-run
@@ -62,6 +65,16 @@ returns-in-Err-clause-run g c =
       refused_is = refl;
     }
 
+pub returns-in-Err-clause-left : goal.returns-in-Err-clause-left
+returns-in-Err-clause-left g c =
+    left_on g.S.Store c.args.desk.now c.loop-count.desk c.answer_next.new.desk
+    c.loop-count.invariant.left c.answer_next.ensures.left
+
+pub returns-in-Some-clause-left : goal.returns-in-Some-clause-left
+returns-in-Some-clause-left g c =
+    left_on g.S.Store c.args.desk.now c.loop-count.desk c.answer_next.new.desk
+    c.loop-count.invariant.left c.answer_next.ensures.left
+
 pub returns-in-Some-clause-run : goal.returns-in-Some-clause-run
 returns-in-Some-clause-run g c =
     let contents = g.W.Write.contents in
@@ -78,7 +91,7 @@ returns-in-Some-clause-run g c =
     (held_by g.S.Store c.answer_next.new.desk) contents c.answer_next.new.output c.in-Ok.now in
     let line =
     subst (λ (s : Settings). AnswersLine g.S.Store s plan.all (plan.passed + c.loop-count.count + 1)
-    here next) so_far.same c.in-Ok.ensures.answered in
+    here next) so_far.left.same c.in-Ok.ensures.answered in
     record {
       place = next;
       lines =

@@ -1,5 +1,6 @@
 -- so many lines were answered, and the load goes on
-use Rattle.std.proofs.Common.{◌≡◌, false}
+use Rattle.std.proofs.Common.{false}
+use Rattle.service_core.specs.Leaves.{LeavesDesk}
 use Rattle.service_core.specs.Seen.{settings_of}
 use Rattle.stream_core.specs.Seen.{HaveOneWriter}
 use Rattle.load_core.specs.Load.{AnswersLines, GoesOn, held_by, place_at}
@@ -15,5 +16,5 @@ invariant-loop-count g l = record {
   goes : GoesOn l.plan.stop (place_at (g.R.Read.remaining l.reader) (held_by g.S.Store l.desk)
       g.W.Write.contents l.output l.refused);
   same_writer : HaveOneWriter l.output l.initial.output;
-  same : settings_of g.S.Store l.desk ≡ settings_of g.S.Store l.initial.desk;
+  left : LeavesDesk g.S.Store l.initial.desk l.desk;
 }

@@ -1,8 +1,8 @@
 -- what came of the command, and of the second one where there is one
 use Rattle.std.proofs.Common.{◌≡◌, ◌∙◌, Err, Ok, ap}
 use Rattle.std.specs.Option.{option_and_then}
+use Rattle.service_core.proofs.LeftLemmas.{left_on}
 use Rattle.service_core.specs.Seen.{settings_of, tables_of}
-use Rattle.store_tables.proofs.Lasting.{on}
 use Rattle.page_wire.specs.Next.{with_text}
 use Rattle.page_wire.proofs.Steps.{at_moment, form_done, form_refused, stays_with}
 use Rattle.page_wire.proofs.act.act_with.Goals as goal
@@ -17,22 +17,17 @@ returns-in-Ok-clause-ok g c =
     let mid = tables_of g.S.Store c.execute.new.self in
     let new = tables_of g.S.Store c.act_on.new.desk in
     form_done settings later at caller c.args.command.now c.args.sent.now c.in-Ok.answer
-    c.next_command-second.result c.act_on.new.room.items old mid new c.execute.ensures.same
-    c.act_on.ensures.honest
+    c.next_command-second.result c.act_on.new.room.items old mid new c.execute.ensures.left.same
+    c.act_on.ensures.left.clean
     (c.next_command-second.ensures
     ∙ ap (option_and_then (with_text c.args.sent.now c.in-Ok.answer)) c.requires.text)
     (at_moment settings c.get.result at caller c.args.command.now (Ok c.in-Ok.answer) old mid
     c.get.ensures.number c.in-Ok.ensures.step) c.act_on.ensures.step
 
-pub returns-in-Ok-clause-honest : goal.returns-in-Ok-clause-honest
-returns-in-Ok-clause-honest g c = λ clean. c.execute.ensures.honest (c.act_on.ensures.honest clean)
-
-pub returns-in-Ok-clause-same : goal.returns-in-Ok-clause-same
-returns-in-Ok-clause-same g c = c.act_on.ensures.same ∙ c.execute.ensures.same
-
-pub returns-in-Ok-clause-lasts : goal.returns-in-Ok-clause-lasts
-returns-in-Ok-clause-lasts g c =
-    on c.act_on.ensures.honest c.execute.ensures.lasts c.act_on.ensures.lasts
+pub returns-in-Ok-clause-left : goal.returns-in-Ok-clause-left
+returns-in-Ok-clause-left g c =
+    left_on g.S.Store c.args.desk.now c.execute.new.self c.act_on.new.desk c.execute.ensures.left
+    c.act_on.ensures.left
 
 pub returns-in-Err-clause-ok : goal.returns-in-Err-clause-ok
 returns-in-Err-clause-ok g c =

@@ -4,7 +4,7 @@ use Rattle.find_form.specs.Shown.{place_of}
 use Rattle.service_core.specs.Finding.{FindsOn}
 use Rattle.service_core.specs.Seen.{settings_of, tables_of}
 use Rattle.page_wire.specs.Replies.{find_reply}
-use Rattle.page_wire.proofs.Steps.{finds, spared_if}
+use Rattle.page_wire.proofs.Steps.{finds, left_spared, spared_if}
 use Rattle.page_wire.proofs.look.found.Goals as goal
 
 pub returns : goal.returns
@@ -25,7 +25,6 @@ returns g c =
           (find_reply caller at c.args.query.now c.args.start c.args.form.now search.order)
           c.find-result.result c.find_reply.result old new told c.find_reply.ensures;
       err = spared_if s c.find_reply.result old new c.find-result.ensures.kept;
-      honest = c.find-result.ensures.kept.clean;
-      lasts = c.find-result.ensures.kept.lasts;
-      same = c.find-result.ensures.same;
+      left = left_spared g.S.Store c.args.desk.now c.find-result.new.self
+          c.find-result.ensures.same c.find-result.ensures.kept;
     }

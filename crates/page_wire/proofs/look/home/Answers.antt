@@ -7,7 +7,7 @@ use Rattle.service_core.specs.Loading.{LoadsOn}
 use Rattle.service_core.specs.Seen.{settings_of, tables_of}
 use Rattle.store_tables.proofs.Spared.{joined}
 use Rattle.page_wire.specs.Replies.{home_reply}
-use Rattle.page_wire.proofs.Steps.{homes, spared_if}
+use Rattle.page_wire.proofs.Steps.{homes, left_spared, spared_if}
 use Rattle.page_wire.proofs.look.home.Goals as goal
 
 pub returns : goal.returns
@@ -42,7 +42,5 @@ returns g c =
           c.queue_loads-loads.result c.home_reply-reply.result old one two three new own.found asks frees
           loads asked.kept free.kept c.queue_loads-loads.ensures.kept told;
       err = spared_if s c.home_reply-reply.result old new kept;
-      honest = kept.clean;
-      lasts = kept.lasts;
-      same = same_new;
+      left = left_spared g.S.Store c.args.desk.now c.queue_loads-loads.new.self same_new kept;
     }

@@ -15,7 +15,7 @@ returns g c =
     let told =
     subst (λ (s : Settings). IfOk c.new_reply-reply.result (λ out. out.items
     ≡ new_reply s c.args.name.now c.args.caller.now c.args.moment c.execute-outcome.result))
-    (c.settings.ensures ∙ c.execute-outcome.ensures.same) c.new_reply-reply.ensures in
+    (c.settings.ensures ∙ c.execute-outcome.ensures.left.same) c.new_reply-reply.ensures in
     let ok =
     does settings (ask_by c.args.moment c.args.caller.now Queues) (new_reply (settings_of g.S.Store c.args.desk.now) c.args.name.now c.args.caller.now c.args.moment)
     c.execute-outcome.result c.new_reply-reply.result old new
@@ -29,7 +29,5 @@ returns g c =
     record {
       ok = ok;
       err = err;
-      honest = c.execute-outcome.ensures.honest;
-      lasts = c.execute-outcome.ensures.lasts;
-      same = c.execute-outcome.ensures.same;
+      left = c.execute-outcome.ensures.left;
     }

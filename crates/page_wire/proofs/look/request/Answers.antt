@@ -4,7 +4,7 @@ use Rattle.settings_core.specs.declared.settings.Settings.{Settings}
 use Rattle.service_core.specs.Dossiers.{DossierOn}
 use Rattle.service_core.specs.Seen.{settings_of, tables_of}
 use Rattle.page_wire.specs.Replies.{request_reply}
-use Rattle.page_wire.proofs.Steps.{looks, spared_if}
+use Rattle.page_wire.proofs.Steps.{left_spared, looks, spared_if}
 use Rattle.page_wire.proofs.look.request.Goals as goal
 
 pub returns : goal.returns
@@ -29,7 +29,6 @@ returns g c =
     record {
       ok = ok;
       err = err;
-      honest = c.dossier-dossier.ensures.kept.clean;
-      lasts = c.dossier-dossier.ensures.kept.lasts;
-      same = c.dossier-dossier.ensures.same;
+      left = left_spared g.S.Store c.args.desk.now c.dossier-dossier.new.self
+          c.dossier-dossier.ensures.same c.dossier-dossier.ensures.kept;
     }

@@ -24,7 +24,5 @@ returns g c =
     record {
       ok = ok;
       err = err;
-      honest = c.execute-outcome.ensures.honest;
-      lasts = c.execute-outcome.ensures.lasts;
-      same = c.execute-outcome.ensures.same;
+      left = c.execute-outcome.ensures.left;
     }

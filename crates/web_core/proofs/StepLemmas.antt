@@ -1,0 +1,20 @@
+-- The step of a message, after which the tables are only looked at.
+use Rattle.std.proofs.Common.{ℕ, List}
+use Rattle.sqlite.specs.State.{State}
+use Rattle.settings_core.specs.declared.settings.Settings.{Settings}
+use Rattle.store_tables.specs.Calls.{Spares}
+use Rattle.store_tables.specs.Contents.{contents_of}
+use Rattle.store_tables.proofs.Lasting.{on}
+use Rattle.store_tables.proofs.Spared.{stands}
+use Rattle.store_core.specs.Due.{due_of_row}
+use Rattle.web_core.specs.Messages.{StepsAt}
+
+pub step_spared : (s : Settings) (old mid new : State) (at : ℕ) (message reply : List ℕ)
+    → StepsAt s old at message reply mid → Spares mid new → StepsAt s old at message reply new
+step_spared s old mid new at message reply did kept = (
+  λ desk is stand clean.
+      let it = did.0 desk is stand (kept.clean clean) in
+      (it.0, it.1, stands kept (contents_of (due_of_row s it.0) it.0) it.2),
+  λ clean. did.1 (kept.clean clean),
+  on kept.clean did.2 kept.lasts,
+)
