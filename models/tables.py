@@ -66,9 +66,14 @@ def put_parts(connection, desk):
     columns = "request, number, moment, actor, kind, head, body"
     for request, number, moment, actor, kind, head, body in rows_of(
             connection, "entry", columns, "request, number"):
-        is_value(kind in range(1, 11) and actor is not None and number <= GREATEST)
+        is_value(kind in range(1, 11) and request <= GREATEST and number <= GREATEST)
+        is_value(START <= moment <= END)
+        is_value(all(isinstance(text, str) for text in (actor, head, body)))
         entry = Entry(number, moment, actor, ENTRIES[kind], head, body)
         desk.request_of(request).entries.append(entry)
+    if connection.execute("SELECT 1 FROM sqlite_master WHERE name = 'stay'").fetchall():
+        for request, number in rows_of(connection, "stay", "request, number"):
+            is_value(request <= GREATEST and number <= GREATEST)
 
 
 COLUMNS = {

@@ -3,9 +3,8 @@
 //! What owns much is given back by `drop`, whose proof stands once; at the end of its scope it
 //! would be taken apart for each function's own proof.
 ghost use Rattle.std.specs.Prelude.{◌≡◌, true};
-ghost use Rattle.service_core.specs.Seen.{settings_of, tables_of};
+ghost use Rattle.service_core.specs.Leaves.{LeavesDesk};
 ghost use Rattle.service_core.specs.Streaming.{is_list};
-ghost use Rattle.store_tables.specs.Calls.{Lasts, WasClean};
 
 use crate::asks::{Ask, asks_of};
 use crate::calls::{Outcome, Reply};
@@ -80,9 +79,7 @@ fn follow<S: Backend, W: Write>(
     sent: &[Sent],
 ) -> Chain
     requires { is_list command.now ≡ true }
-    ensures honest { WasClean (tables_of S.Store desk.old) (tables_of S.Store desk.new) }
-    ensures lasts { Lasts (tables_of S.Store desk.old) (tables_of S.Store desk.new) }
-    ensures same { settings_of S.Store desk.new ≡ settings_of S.Store desk.old }
+    ensures left { LeavesDesk S.Store desk.old desk.new }
 {
     let outcomes = desk.execute_all(alloc, asks);
     let outcome = desk.execute(alloc, at, caller, command);

@@ -6,7 +6,7 @@ use service_core::Desk;
 use settings_core::Settings;
 use sqlite::MemStore;
 use std::alloc::Global;
-use store_core::Store;
+use store_core::{Backend, Store};
 use text_core::{Text, Texts};
 
 /// The moment from which all others are told.
@@ -100,40 +100,33 @@ enum Act {
     Resolve(u32),
 }
 
-/// The desk of the cases, in memory.
-pub(crate) fn filled(alloc: Global) -> Result<Desk<MemStore>> {
-    let mut desk = empty(alloc)?;
-    act_on(alloc, &mut desk, ACTS)?;
-    Ok(desk)
+/// Fills the desk of the cases.
+pub(crate) fn fill<S: Backend>(alloc: Global, desk: &mut Desk<S>) -> Result<()> {
+    act_on(alloc, desk, ACTS)
 }
 
 /// Files a request more, of a requestor who sees no queue.
-pub(crate) fn file_more(alloc: Global, desk: &mut Desk<MemStore>) -> Result<()> {
+pub(crate) fn file_more<S: Backend>(alloc: Global, desk: &mut Desk<S>) -> Result<()> {
     act_on(alloc, desk, MORE)
 }
 
 /// The requests of a crowded desk.
 const CROWD: usize = 10_001;
 
-/// A desk with a queue of so many requests, all filed at one moment.
-pub(crate) fn crowded(alloc: Global) -> Result<Desk<MemStore>> {
-    let mut desk = empty(alloc)?;
-    act_on(
-        alloc,
-        &mut desk,
-        &[(0, "root", Act::Open("helpdesk", "usual"))],
-    )?;
+/// Opens a queue, and files so many requests in it, all at one moment.
+pub(crate) fn crowd<S: Backend>(alloc: Global, desk: &mut Desk<S>) -> Result<()> {
+    act_on(alloc, desk, &[(0, "root", Act::Open("helpdesk", "usual"))])?;
     for _ in 0..CROWD {
         act_on(
             alloc,
-            &mut desk,
+            desk,
             &[(100, "bob", Act::File("helpdesk", "Room", "bob"))],
         )?;
     }
-    Ok(desk)
+    Ok(())
 }
 
-fn act_on(alloc: Global, desk: &mut Desk<MemStore>, acts: &[(u32, &str, Act)]) -> Result<()> {
+fn act_on<S: Backend>(alloc: Global, desk: &mut Desk<S>, acts: &[(u32, &str, Act)]) -> Result<()> {
     for (minutes, caller, act) in acts {
         let command = command_of(alloc, *act)?;
         let Ok(_) = desk.execute(alloc, FIRST.saturating_add(*minutes), caller, &command) else {
@@ -143,7 +136,7 @@ fn act_on(alloc: Global, desk: &mut Desk<MemStore>, acts: &[(u32, &str, Act)]) -
     Ok(())
 }
 
-/// A desk without a queue.
+/// A desk without a queue, in memory.
 pub(crate) fn empty(alloc: Global) -> Result<Desk<MemStore>> {
     let Ok(settings) = Settings::read(alloc, SETTINGS.as_bytes()) else {
         return Err(anyhow!("settings"));

@@ -5,7 +5,7 @@ use anyhow::Result;
 use desk_core::Refusal;
 use find_core::QueueLoad;
 use service_core::Desk;
-use sqlite::MemStore;
+use store_core::Backend;
 use text_core::Sequence;
 
 pub(crate) type Case = (&'static str, &'static str, u32);
@@ -39,7 +39,11 @@ pub(crate) const CROWDED: &[Case] = &[
 ];
 
 /// Asks for what the queues have open, and tells it; or why it was refused.
-pub(crate) fn run_case(rt: &HostRuntime, desk: &mut Desk<MemStore>, case: &Case) -> Result<()> {
+pub(crate) fn run_case<S: Backend>(
+    rt: &HostRuntime,
+    desk: &mut Desk<S>,
+    case: &Case,
+) -> Result<()> {
     let (name, caller, at) = *case;
     println!(rt; "== {name}")?;
     let told = desk.queue_loads(rt.alloc(), at, caller);

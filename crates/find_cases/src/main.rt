@@ -11,12 +11,23 @@ mod telling;
 
 use anyhow::Result;
 use cases::{CASES, CROWDED, Case};
-use desk::{crowded, empty, file_more, filled};
+use desk::{crowd, empty, file_more, fill};
 use fields::{after_of, search_of};
 use service_core::Desk;
-use sqlite::MemStore;
 use std::process::ExitCode;
+use store_core::Backend;
 use telling::tell;
+
+/// The desks on which cases are made.
+#[derive(Clone, Copy)]
+enum Stand {
+    /// That of `desk::ACTS`.
+    Filled,
+    /// One without a queue.
+    Empty,
+    /// One of 10,001 requests.
+    Crowded,
+}
 
 fn main(rt: HostRuntime) -> ExitCode {
     match run(&rt) {
@@ -26,21 +37,49 @@ fn main(rt: HostRuntime) -> ExitCode {
 }
 
 fn run(rt: &HostRuntime) -> Result<()> {
-    let mut desk = filled(rt.alloc())?;
-    for case in CASES {
-        run_case(rt, &mut desk, case)?;
+    for stand in [Stand::Filled, Stand::Empty, Stand::Crowded] {
+        run_desk(rt, empty(rt.alloc())?, stand)?;
     }
-    file_more(rt.alloc(), &mut desk)?;
-    run_loads(rt, &mut desk, loads::CASES)?;
-    run_loads(rt, &mut empty(rt.alloc())?, loads::EMPTY)?;
-    let mut desk = crowded(rt.alloc())?;
-    for case in CROWDED {
-        run_case(rt, &mut desk, case)?;
-    }
-    run_loads(rt, &mut desk, loads::CROWDED)
+    Ok(())
 }
 
-fn run_loads(rt: &HostRuntime, desk: &mut Desk<MemStore>, cases: &[loads::Case]) -> Result<()> {
+/// Makes the cases of a desk. It is given back by `drop`, whose proof stands once.
+fn run_desk<S: Backend + Drop>(rt: &HostRuntime, desk: Desk<S>, stand: Stand) -> Result<()> {
+    let mut desk = desk;
+    let made = run_stand(rt, &mut desk, stand);
+    drop(desk);
+    made
+}
+
+fn run_stand<S: Backend>(rt: &HostRuntime, desk: &mut Desk<S>, stand: Stand) -> Result<()> {
+    match stand {
+        Stand::Filled => {
+            fill(rt.alloc(), desk)?;
+            run_cases(rt, desk, CASES)?;
+            file_more(rt.alloc(), desk)?;
+            run_loads(rt, desk, loads::CASES)
+        }
+        Stand::Empty => run_loads(rt, desk, loads::EMPTY),
+        Stand::Crowded => {
+            crowd(rt.alloc(), desk)?;
+            run_cases(rt, desk, CROWDED)?;
+            run_loads(rt, desk, loads::CROWDED)
+        }
+    }
+}
+
+fn run_cases<S: Backend>(rt: &HostRuntime, desk: &mut Desk<S>, cases: &[Case]) -> Result<()> {
+    for case in cases {
+        run_case(rt, desk, case)?;
+    }
+    Ok(())
+}
+
+fn run_loads<S: Backend>(
+    rt: &HostRuntime,
+    desk: &mut Desk<S>,
+    cases: &[loads::Case],
+) -> Result<()> {
     for case in cases {
         loads::run_case(rt, desk, case)?;
     }
@@ -48,7 +87,7 @@ fn run_loads(rt: &HostRuntime, desk: &mut Desk<MemStore>, cases: &[loads::Case])
 }
 
 /// Makes the search of a case, and tells what it finds.
-fn run_case(rt: &HostRuntime, desk: &mut Desk<MemStore>, case: &Case) -> Result<()> {
+fn run_case<S: Backend>(rt: &HostRuntime, desk: &mut Desk<S>, case: &Case) -> Result<()> {
     let (name, caller, at, limit, after, fields) = *case;
     println!(rt; "== {name}")?;
     let search = search_of(rt.alloc(), fields)?;
