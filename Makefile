@@ -1,6 +1,10 @@
 # Nothing has to be set up beforehand: `rt` is the toolchain's one command.
 PREFIX ?= /usr/local
 
+# Four checks side by side, where four processors and memory for them are free: the cases take 7 GB,
+# each other check up to 4. Left alone, rt reckons with up to 12 and leaves processors idle.
+JOBS ?= $(shell [ $$(nproc) -ge 4 ] && awk '/^MemAvailable/ && $$2 > 21000000 { print 4 }' /proc/meminfo)
+
 .PHONY: demo test desk install trials models wrong sweep
 
 # The first look: the printer script, run in two to three minutes where little else runs, before any
@@ -10,11 +14,11 @@ demo:
 	cd crates/desk && rt try < ../../examples/printer.desk
 
 # The gate: every proof, every must-fail edit, every test and every stored run. From nothing it takes
-# more than 95 minutes on four cores; what passed on this machine and hasn't changed isn't proved again.
+# about two hours on four cores; what passed on this machine and hasn't changed isn't proved again.
 # The office that users copy is the one that the cases read.
 test:
 	cmp examples/office.toml crates/desk_cases/data/texts/office.toml
-	rt ci
+	RT_JOBS=$(JOBS) rt ci
 
 # The proved programs, as bin/desk, bin/desk_web, bin/desk_ask and bin/desk_load. From nothing it
 # takes half an hour to an hour on four cores. Without options desk_web has nothing to serve, desk_ask
