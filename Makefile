@@ -1,7 +1,7 @@
 # Nothing has to be set up beforehand: `rt` is the toolchain's one command.
 PREFIX ?= /usr/local
 
-# Four checks side by side, where four processors and memory for them are free: the cases take 7 GB,
+# Four checks side by side, where four processors and memory for them are free: the cases take 10 GB,
 # each other check up to 4. Left alone, rt reckons with up to 12 and leaves processors idle.
 JOBS ?= $(shell [ $$(nproc) -ge 4 ] && awk '/^MemAvailable/ && $$2 > 21000000 { print 4 }' /proc/meminfo)
 
