@@ -1,5 +1,5 @@
-"""Runs cases of leaves on made input: crates/desk_cases/out/desk_cases, which
-"cd crates/desk_cases && rt run -- data/script/no-input" makes. Another program is named as the one argument."""
+"""Runs cases of leaves on made input: crates/leaf_cases/out/leaf_cases, which
+"cd crates/leaf_cases && rt run -- data/calls/names" makes. Another program is named as the one argument."""
 import os
 import resource
 import subprocess
@@ -7,7 +7,7 @@ import sys
 import tempfile
 
 TOP = os.path.dirname(os.path.dirname(os.path.abspath(__file__)))
-PROGRAM = os.path.join(TOP, "crates", "desk_cases", "out", "desk_cases")
+PROGRAM = os.path.join(TOP, "crates", "leaf_cases", "out", "leaf_cases")
 
 
 def run(text, words=("-",)):

@@ -1,4 +1,4 @@
-"""Runs the cases of the kinds `script`, `list` and `one` on the model of the rules."""
+"""Runs the cases of the kinds `script`, `list`, `one` and `limits` on the model of the rules."""
 import os
 
 import answers
@@ -6,9 +6,9 @@ import rules
 import settings
 import tables
 import words
-from stored import DATA, asked, expanded, lines_of
+from stored import asked, expanded, lines_of, path_of
 
-KINDS = ["script", "list", "one"]
+KINDS = ["script", "list", "one", "limits"]
 MOST_INPUT = 1048576
 
 
@@ -31,7 +31,7 @@ class Case:
 
 def all_cases():
     return [Case(f"{kind}/{name}") for kind in KINDS
-            for name in sorted(os.listdir(os.path.join(DATA, kind)))]
+            for name in sorted(os.listdir(path_of(kind)))]
 
 
 def told_of(case):

@@ -1,16 +1,23 @@
-"""The cases of crates/desk_cases: what a case asks, and what is stored as its answer."""
+"""The cases of crates/suite, and of crates/edge_cases those of limits: what a case asks, and what is stored as its answer."""
 import difflib
 import os
 import re
 import sys
 
 TOP = os.path.dirname(os.path.dirname(os.path.abspath(__file__)))
-DATA = os.path.join(TOP, "crates", "desk_cases", "data")
+# the kinds of cases that another program than suite has
+ELSEWHERE = {"limits": "edge_cases"}
+
+
+def path_of(file):
+    """Where a file of the cases stands, or a kind of them."""
+    crate = ELSEWHERE.get(file.split("/")[0], "suite")
+    return os.path.join(TOP, "crates", crate, "data", file)
 
 
 def text_of(file):
     """A file of the cases."""
-    with open(os.path.join(DATA, file), encoding="utf-8", newline="\n") as it:
+    with open(path_of(file), encoding="utf-8", newline="\n") as it:
         return it.read()
 
 

@@ -1,4 +1,4 @@
-"""The lists by lot of crates/desk_cases, made as crates/desk_cases/src/lots.rt does, and what they
+"""The lists by lot of crates/suite, made as crates/suite/src/lots.rt does, and what they
 come to by the rules."""
 import rules
 import settings

@@ -1,4 +1,4 @@
-"""The messages of crates/desk_cases, so that they can be sent over a socket too, and the replies that
+"""The messages of crates/suite, so that they can be sent over a socket too, and the replies that
 are stored there."""
 import os
 import re
@@ -11,7 +11,7 @@ FIRST, AFTER, USUAL = 15_778_080, 68_374_080, 29_546_970
 OF_A_MINUTE = re.compile(r" late$|^owner +open overdue$", flags=re.M)
 
 
-DATA = f"{TOP}/crates/desk_cases/data"
+DATA = f"{TOP}/crates/suite/data"
 
 
 def text_of(file):

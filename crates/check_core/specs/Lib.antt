@@ -1,11 +1,9 @@
-pub mod Keys
 pub mod Limits
 pub mod Lines
 pub mod Names
 pub mod Parts
 pub mod People
 pub mod Rows
-pub mod Seats
 pub mod Tokens
 pub mod Values
 pub mod Wrong

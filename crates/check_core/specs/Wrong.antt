@@ -1,5 +1,5 @@
 -- What of a settings text has its fault first.
-use Rattle.std.specs.Prelude.{ℕ, List, Option, Some, None, option_and_then}
+use Rattle.std.specs.Prelude.{ℕ, List, Option, Some, None}
 use Rattle.std.specs.Option.{option_map, option_or}
 use Rattle.toml.specs.Data.{Members}
 use Rattle.lifecycle_core.specs.declared.parts.Parts as lifecycles
@@ -16,12 +16,11 @@ use Rattle.settings_core.specs.declared.fault.SettingsFault.TheVariants.{Lifecyc
 use Rattle.settings_core.specs.declared.fault.SettingsFault.TheVariants.{UnknownName, BadToken}
 use Rattle.settings_core.specs.declared.fault.SettingsFault.TheVariants.{BadLimit, NoMemory}
 use Rattle.settings_core.specs.declared.named.Named.{Named}
-use Rattle.check_core.specs.Keys.{key_of}
 use Rattle.check_core.specs.Limits.{bad_count, bad_level}
 use Rattle.check_core.specs.Names.{stray_calendar, stray_person, stray_right, stray_status}
 use Rattle.check_core.specs.Parts.{bad_calendar, bad_lifecycle}
 use Rattle.check_core.specs.People.{stray_member, stray_subject}
-use Rattle.check_core.specs.Seats.{Seat, seat_of, seen_seat}
+use Rattle.settings_form.specs.Places.{KeyAt, fault_key, seen_key}
 use Rattle.check_core.specs.Tokens.{bad_token}
 use Rattle.check_core.specs.declared.wrong.Wrong.{Wrong as WrongInCode}
 use Rattle.check_core.specs.declared.wrong.Wrong.TheVariants as code
@@ -29,7 +28,7 @@ use Rattle.check_core.specs.declared.wrong.Wrong.TheVariants as code
 -- what has a fault: a table by a key; a part by its name; a group by a member; a grant by whom it is
 -- for or by a right; a level by a calendar or a status; a token by its person or by its own form
 pub data Wrong : Type 0 where
-  key : Seat → List ℕ → Wrong
+  key : KeyAt → Wrong
   calendar : List ℕ → Wrong
   lifecycle : List ℕ → Wrong
   group_member : List ℕ → List ℕ → Wrong
@@ -45,8 +44,7 @@ pub data Wrong : Type 0 where
 
 -- the first table that has a fault of form, and the key by which it does
 abbrev pub wrong_key : FormFault → Members → Option Wrong
-wrong_key f ms =
-    option_and_then (λ s. option_map (λ k. key s k) (key_of f s.place s.members)) (seat_of f ms)
+wrong_key f ms = option_map key (fault_key f ms)
 
 abbrev pub wrong_people : Members → RightsFault → Option Wrong
 wrong_people ms rights.UnknownMember =
@@ -88,7 +86,7 @@ wrong_in ms NoMemory = None
 -- ---- as the code holds it
 
 abbrev pub seen : WrongInCode → Wrong
-seen (code.Key s k) = key (seen_seat s) k.now
+seen (code.Key found) = key (seen_key found)
 seen (code.Calendar name) = calendar name.now
 seen (code.Lifecycle name) = lifecycle name.now
 seen (code.Member group name) = group_member group.now name.now

@@ -5,15 +5,12 @@
 //! the order of keys, and of the rows of a list.
 #![tactic(auto)]
 
-pub mod keys;
-mod kinds;
 pub mod limits;
 pub mod lines;
 pub mod names;
 pub mod parts;
 pub mod people;
 pub mod rows;
-pub mod seats;
 pub mod tables;
 pub mod tokens;
 mod told;

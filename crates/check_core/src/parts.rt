@@ -7,8 +7,8 @@ ghost use Rattle.settings_parts.specs.Values.{members_of, table_at as members_at
 ghost use Rattle.settings_core.specs.Lifecycles as lifecycles;
 ghost use Rattle.check_core.specs.Parts as spec;
 
-use hours_core::Calendar;
 use lifecycle_core::Lifecycle;
+use settings_core::calendars::Opening;
 use settings_core::stated::{Stated, stated_at, value_of};
 use settings_core::{Named, SettingsFault};
 use settings_parts::values::table_at;
@@ -37,7 +37,7 @@ pub fn bad_calendar(alloc: Global, table: &Table) -> Result<Option<&str>, AllocE
     ensures { IfOk result (λ name.
         option_copied name ≡ spec.bad_calendar (table_view table.now)) }
 {
-    bad_at::<Calendar>(alloc, table, "calendar")
+    bad_at::<Opening>(alloc, table, "calendar")
 }
 
 /// The name of the first of the tables under a key that has a fault.

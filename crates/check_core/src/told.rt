@@ -1,18 +1,25 @@
 //! What is wrong, in words for people.
 
 use crate::rows::{Row, Stray, What};
-use crate::seats::{Seat, Trail};
 use crate::wrong::Wrong;
 use settings_form::form::Place;
+use settings_form::walk::{KeyAt, TablePath};
 use std::fmt;
 
-impl fmt::Display for Seat<'_> {
+/// A table of a settings text, to be named as the text does.
+#[derive(Clone, Copy)]
+struct TableNamed<'t> {
+    place: Place,
+    path: TablePath<'t>,
+}
+
+impl fmt::Display for TableNamed<'_> {
     fn fmt<W: fmt::Write>(&self, f: &mut fmt::Formatter<W>) -> fmt::Result {
-        let Trail {
+        let TablePath {
             around,
             key,
             number,
-        } = self.trail;
+        } = self.path;
         match self.place {
             Place::Top => write!(f, "the text"),
             Place::Grant => write!(f, "[[grant]] {number}"),
@@ -30,7 +37,11 @@ impl fmt::Display for Seat<'_> {
 impl fmt::Display for Wrong<'_> {
     fn fmt<W: fmt::Write>(&self, f: &mut fmt::Formatter<W>) -> fmt::Result {
         match *self {
-            Wrong::Key(seat, key) => write!(f, "the key `{key}` of {seat}"),
+            Wrong::Key(KeyAt { place, path, key }) => write!(
+                f,
+                "the key `{key}` of {}",
+                TableNamed { place, path }
+            ),
             Wrong::Calendar(name) => write!(f, "[calendar.{name}]"),
             Wrong::Lifecycle(name) => write!(f, "[lifecycle.{name}]"),
             Wrong::Member(group, name) => write!(f, "`{name}`, a member of the group `{group}`"),

@@ -5,17 +5,16 @@ ghost use Rattle.std.specs.Option.{option_map};
 ghost use Rattle.toml.specs.View.{table_view};
 ghost use Rattle.check_core.specs.Wrong as spec;
 
-use crate::keys::key_of;
 use crate::limits::{bad_count, bad_level};
 use crate::names::{stray_calendar, stray_person, stray_right, stray_status};
 use crate::parts::{bad_calendar, bad_lifecycle, lifecycles_of};
 use crate::people::{stray_member, stray_subject};
-use crate::seats::{Seat, seat_of};
 use crate::tokens::bad_token;
 use lifecycle_core::Lifecycle;
 use rights_core::RightsFault;
 use settings_core::{Named, SettingsFault};
 use settings_form::fault::FormFault;
+use settings_form::walk::{KeyAt, fault_key};
 use settings_parts::people::people_in;
 use std::alloc::{AllocError, Global};
 use text_core::Texts;
@@ -24,8 +23,8 @@ use toml::Table;
 /// What of a settings text has its fault. Grants are counted from 1.
 #[derive(Clone, Copy)]
 pub enum Wrong<'t> {
-    /// A table, by this key.
-    Key(Seat<'t>, &'t str),
+    /// A table, by a key.
+    Key(KeyAt<'t>),
     /// A calendar.
     Calendar(&'t str),
     /// A lifecycle.
@@ -90,11 +89,8 @@ pub fn wrong_in(
 fn wrong_key(fault: FormFault, table: &Table) -> Option<Wrong<'_>>
     ensures { option_map spec.seen result ≡ spec.wrong_key fault (table_view table.now) }
 {
-    match seat_of(fault, table) {
-        Some(seat) => match key_of(fault, seat.place, seat.table) {
-            Some(key) => Some(Wrong::Key(seat, key)),
-            None => None,
-        },
+    match fault_key(fault, table) {
+        Some(found) => Some(Wrong::Key(found)),
         None => None,
     }
 }

@@ -3,11 +3,11 @@ use Rattle.std.proofs.Common.{◌≡◌, ◌∙◌, ◌≤◌, ◌<◌, ◌+◌,
 use Rattle.std.proofs.Common.{◌++◌, Option, Some, None, refl, ap, sym, subst, length, length-append}
 use Rattle.std.proofs.Common.{append_assoc, append-nil, cond, arith, length-drop, take, drop, nat_lt, nat_le}
 use Rattle.std.proofs.lemmas.List.{take-append-drop, take_all}
-use Rattle.std.specs.Prelude.{⊤}
-use Rattle.connection_core.specs.Machine.{Conn, Event, Came, Ended, Wrote, Broke, Passed, after, afters}
-use Rattle.connection_core.specs.Machine.{takes, takes_byte, answered, lingering, closed, awaiting, wrote}
+use Rattle.std.specs.Prelude.{IfSome, is_none, ⊤}
+use Rattle.connection_core.specs.Machine.{Conn, Event, Came, Ended, Wrote, Broke, Passed, Settled, after, afters}
+use Rattle.connection_core.specs.Machine.{takes, takes_byte, answered, lingering, closed, awaiting, awaits, byte_in, leaves, settled, settled_in, wrote}
 use Rattle.connection_core.specs.Machine.{head_goes_on, phase_after, passed, later}
-use Rattle.connection_core.specs.Machine.{is_empty, is_line_end}
+use Rattle.connection_core.specs.Machine.{AreTold, IsSaid, IsTold, ends_head, is_empty, is_line_end}
 use Rattle.connection_core.specs.Laws.{HoldsAtMost, IsBounded, IsUnwritten, StatesAtMost, TakesFront}
 use Rattle.connection_core.specs.Laws.{WritesFront, is_over, written}
 use Rattle.connection_core.specs.declared.phase.Part.{Part}
@@ -18,56 +18,74 @@ use Rattle.connection_core.specs.declared.phase.Phase.TheVariants.{Lingering, Cl
 
 -- ---- pieces
 
-pub takes_both : (stated : List ℕ → ℕ) (c : Conn) (xs ys : List ℕ)
-    → takes stated (takes stated c xs) ys ≡ takes stated c (xs ++ ys)
-takes_both stated c [] ys = refl
-takes_both stated c (x ∷ xs) ys = takes_both stated (takes_byte stated c x) xs ys
+pub takes_both : (said : Option ℕ) (c : Conn) (xs ys : List ℕ)
+    → takes said (takes said c xs) ys ≡ takes said c (xs ++ ys)
+takes_both said c [] ys = refl
+takes_both said c (x ∷ xs) ys = takes_both said (takes_byte said c x) xs ys
 
 -- ---- one that is over
 
-pub over_takes : (stated : List ℕ → ℕ) (p : Phase) (came left : List ℕ) (d : ℕ) (bytes : List ℕ)
-    → is_over p ≡ true
-    → takes stated (record { phase = p; came = came; left = left; deadline = d }) bytes
-    ≡ record { phase = p; came = came; left = left; deadline = d }
-over_takes stated p came left d [] over = refl
-over_takes stated Writing came left d (b ∷ bs) over = over_takes stated Writing came left d bs over
-over_takes stated Lingering came left d (b ∷ bs) over =
-    over_takes stated Lingering came left d bs over
-over_takes stated Closed came left d (b ∷ bs) over = over_takes stated Closed came left d bs over
-over_takes stated (Reading part) came left d (b ∷ bs) over = let no : false ≡ true = over in cc
-over_takes stated Ready came left d (b ∷ bs) over = let no : false ≡ true = over in cc
+-- what bytes do that are passed over
+abbrev pub passed_over : Phase → Bool → Bool
+passed_over (Reading part) m = m
+passed_over Ready m = true
+passed_over Writing m = true
+passed_over Lingering m = true
+passed_over Closed m = m
+
+abbrev pub passes : Phase → Bool → List ℕ → Bool
+passes p m [] = m
+passes p m (b ∷ bs) = passes p (passed_over p m) bs
+
+pub over_takes : (said : Option ℕ) (p : Phase) (came left : List ℕ) (d : ℕ) (m : Bool)
+    (bytes : List ℕ) → is_over p ≡ true
+    → takes said (record { phase = p; came = came; left = left; deadline = d; more = m }) bytes
+    ≡ record { phase = p; came = came; left = left; deadline = d; more = passes p m bytes }
+over_takes said p came left d m [] over = refl
+over_takes said Writing came left d m (b ∷ bs) over =
+    over_takes said Writing came left d true bs over
+over_takes said Lingering came left d m (b ∷ bs) over =
+    over_takes said Lingering came left d true bs over
+over_takes said Closed came left d m (b ∷ bs) over = over_takes said Closed came left d m bs over
+over_takes said (Reading part) came left d m (b ∷ bs) over = let no : false ≡ true = over in cc
+over_takes said Ready came left d m (b ∷ bs) over = let no : false ≡ true = over in cc
 
 over_cond : (b : Bool) (x y : Conn) → is_over x.phase ≡ true → is_over y.phase ≡ true
     → is_over (cond b x y).phase ≡ true
 over_cond true x y one other = one
 over_cond false x y one other = other
 
-pub over_after : (stated : List ℕ → ℕ) (p : Phase) (came left : List ℕ) (d : ℕ) (e : Event)
+pub over_after : (p : Phase) (came left : List ℕ) (d : ℕ) (m : Bool) (e : Event)
     → is_over p ≡ true
-    → is_over (after stated (record { phase = p; came = came; left = left; deadline = d }) e).phase
+    → is_over (after (record { phase = p; came = came; left = left; deadline = d; more = m }) e).phase
     ≡ true
-over_after stated p came left d (Came bytes) over =
-    ap (λ (c : Conn). is_over c.phase) (over_takes stated p came left d bytes over) ∙ over
-over_after stated p came left d Broke over = refl
-over_after stated p came left d (Passed now) over = over_cond (nat_le d now) _ _ refl over
-over_after stated Writing came left d Ended over = refl
-over_after stated Lingering came left d Ended over = refl
-over_after stated Closed came left d Ended over = refl
-over_after stated (Reading part) came left d Ended over = let no : false ≡ true = over in cc
-over_after stated Ready came left d Ended over = let no : false ≡ true = over in cc
-over_after stated Writing came left d (Wrote n now) over =
+over_after p came left d m (Came said bytes) over =
+    ap (λ (c : Conn). is_over c.phase) (over_takes said p came left d m bytes over) ∙ over
+over_after p came left d m Broke over = refl
+over_after p came left d m (Passed now) over = over_cond (nat_le d now) _ _ refl over
+over_after Writing came left d m Ended over = refl
+over_after Lingering came left d m Ended over = refl
+over_after Closed came left d m Ended over = refl
+over_after (Reading part) came left d m Ended over = let no : false ≡ true = over in cc
+over_after Ready came left d m Ended over = let no : false ≡ true = over in cc
+over_after Writing came left d m (Wrote n now) over =
     over_cond (nat_le (length left) n) _ _ refl refl
-over_after stated Lingering came left d (Wrote n now) over = refl
-over_after stated Closed came left d (Wrote n now) over = refl
-over_after stated (Reading part) came left d (Wrote n now) over = let no : false ≡ true = over in cc
-over_after stated Ready came left d (Wrote n now) over = let no : false ≡ true = over in cc
+over_after Lingering came left d m (Wrote n now) over = refl
+over_after Closed came left d m (Wrote n now) over = refl
+over_after (Reading part) came left d m (Wrote n now) over = let no : false ≡ true = over in cc
+over_after Ready came left d m (Wrote n now) over = let no : false ≡ true = over in cc
+over_after Writing came left d m Settled over = refl
+over_after Lingering came left d m Settled over = over_cond m _ _ refl refl
+over_after Closed came left d m Settled over = refl
+over_after (Reading part) came left d m Settled over = let no : false ≡ true = over in cc
+over_after Ready came left d m Settled over = let no : false ≡ true = over in cc
 
-pub over_stays : (stated : List ℕ → ℕ) (c : Conn) (es : List Event) → is_over c.phase ≡ true
-    → is_over (afters stated c es).phase ≡ true
-over_stays stated c [] over = over
-over_stays stated c (e ∷ es) over =
-    over_stays stated (after stated c e) es
-    (over_after stated c.phase c.came c.left c.deadline e over)
+pub over_stays : (c : Conn) (es : List Event) → is_over c.phase ≡ true
+    → is_over (afters c es).phase ≡ true
+over_stays c [] over = over
+over_stays c (e ∷ es) over =
+    over_stays (after c e) es
+    (over_after c.phase c.came c.left c.deadline c.more e over)
 
 -- ---- memory
 
@@ -104,48 +122,57 @@ going_by_test : (limit : ℕ) (b : Bool) (part : Part) (k : ℕ) → nat_lt k 81
 going_by_test limit true part k test only few = reading_bounded limit part k only (grind arith)
 going_by_test limit false part k test only few = omega (arith, few)
 
-going_bounded : (limit : ℕ) (stated : List ℕ → ℕ) (came : List ℕ) (o : Option Part) → StatesAtMost limit stated
-    → HeadOnly o → length came ≤ 8192 → HoldsAtMost limit (head_goes_on stated came o) (length came)
-going_bounded limit stated came None little only few =
-    let small = little came in awaiting_bounded limit (stated came) (length came) (omega arith)
-going_bounded limit stated came (Some part) little only few =
+awaits_bounded : (limit : ℕ) (o : Option ℕ) (k : ℕ) → IfSome o (λ n. n ≤ limit) → k ≤ 8192
+    → HoldsAtMost limit (awaits o) k
+awaits_bounded limit None k small few = omega (arith, few)
+awaits_bounded limit (Some n) k small few =
+    awaiting_bounded limit n k (let low = small in omega (arith, few, low))
+
+going_bounded : (limit : ℕ) (said : Option ℕ) (came : List ℕ) (o : Option Part)
+    → (is_none o ≡ true → IfSome said (λ n. n ≤ limit)) → HeadOnly o → length came ≤ 8192
+    → HoldsAtMost limit (head_goes_on said came o) (length came)
+going_bounded limit said came None little only few =
+    awaits_bounded limit said (length came) (little refl) few
+going_bounded limit said came (Some part) little only few =
     going_by_test limit (nat_lt (length came) 8192) part (length came) refl only few
 
 one_more : (came : List ℕ) (b : ℕ) → length (came ++ b ∷ []) ≡ length came + 1
 one_more came b = length-append came (b ∷ [])
 
-bounded_byte : (limit : ℕ) (stated : List ℕ → ℕ) → StatesAtMost limit stated → (p : Phase) (came left : List ℕ)
-    (d b : ℕ) → HoldsAtMost limit p (length came)
-    → IsBounded limit (takes_byte stated (record { phase = p; came = came; left = left; deadline = d }) b)
-bounded_byte limit stated little (Reading (Body n)) came left d b few =
+bounded_byte : (limit : ℕ) (said : Option ℕ) (p : Phase) (came left : List ℕ) (d b : ℕ) (m : Bool)
+    → (ends_head p b ≡ true → IfSome said (λ n. n ≤ limit)) → HoldsAtMost limit p (length came)
+    → IsBounded limit (takes_byte said (record { phase = p; came = came; left = left; deadline = d; more = m }) b)
+bounded_byte limit said (Reading (Body n)) came left d b m little few =
     let more = one_more came b in
     awaiting_bounded limit (n - 1) (length (came ++ b ∷ [])) (omega (arith, few.0, few.1))
-bounded_byte limit stated little (Reading Blank) came left d b few =
+bounded_byte limit said (Reading Blank) came left d b m little few =
     let more = one_more came b in
-    going_bounded limit stated _ _ little
+    going_bounded limit said _ _ little
     (only_cond (is_line_end b) (Some Blank) (Some Line) tt tt) (omega arith)
-bounded_byte limit stated little (Reading Line) came left d b few =
+bounded_byte limit said (Reading Line) came left d b m little few =
     let more = one_more came b in
-    going_bounded limit stated _ _ little (only_cond (b == 10) (Some Start) (Some Line) tt tt) (omega arith)
-bounded_byte limit stated little (Reading Start) came left d b few =
+    going_bounded limit said _ _ little (only_cond (b == 10) (Some Start) (Some Line) tt tt) (omega arith)
+bounded_byte limit said (Reading Start) came left d b m little few =
     let more = one_more came b in
-    going_bounded limit stated _ _ little
+    going_bounded limit said _ _ little
     (only_cond (b == 10) None (cond (b == 13) (Some Return) (Some Line)) tt
     (only_cond (b == 13) (Some Return) (Some Line) tt tt)) (omega arith)
-bounded_byte limit stated little (Reading Return) came left d b few =
+bounded_byte limit said (Reading Return) came left d b m little few =
     let more = one_more came b in
-    going_bounded limit stated _ _ little (only_cond (b == 10) None (Some Line) tt tt) (omega arith)
-bounded_byte limit stated little Ready came left d b few = few
-bounded_byte limit stated little Writing came left d b few = few
-bounded_byte limit stated little Lingering came left d b few = few
-bounded_byte limit stated little Closed came left d b few = few
+    going_bounded limit said _ _ little (only_cond (b == 10) None (Some Line) tt tt) (omega arith)
+bounded_byte limit said Ready came left d b m little few = few
+bounded_byte limit said Writing came left d b m little few = few
+bounded_byte limit said Lingering came left d b m little few = few
+bounded_byte limit said Closed came left d b m little few = few
 
-bounded_takes : (limit : ℕ) (stated : List ℕ → ℕ) → StatesAtMost limit stated → (c : Conn) (bytes : List ℕ)
-    → IsBounded limit c → IsBounded limit (takes stated c bytes)
-bounded_takes limit stated little c [] few = few
-bounded_takes limit stated little c (b ∷ bs) few =
-    bounded_takes limit stated little (takes_byte stated c b) bs
-    (bounded_byte limit stated little c.phase c.came c.left c.deadline b few)
+bounded_takes : (limit : ℕ) (States : List ℕ → Option ℕ → Type 0) (said : Option ℕ)
+    → StatesAtMost limit States → (c : Conn) (bytes : List ℕ) → IsSaid States said c bytes
+    → IsBounded limit c → IsBounded limit (takes said c bytes)
+bounded_takes limit States said little c [] told few = few
+bounded_takes limit States said little c (b ∷ bs) told few =
+    bounded_takes limit States said little (takes_byte said c b) bs told.1
+    (bounded_byte limit said c.phase c.came c.left c.deadline b c.more
+    (λ ends. little (c.came ++ b ∷ []) said (told.0 ends)) few)
 
 bounded_cond : (limit : ℕ) (b : Bool) (x y : Conn) → IsBounded limit x → IsBounded limit y → IsBounded limit (cond b x y)
 bounded_cond limit true x y one other = one
@@ -159,37 +186,48 @@ reading_few limit Start k few = omega (arith, few)
 reading_few limit Return k few = omega (arith, few)
 reading_few limit (Body n) k few = omega (arith, few.1)
 
-bounded_after : (limit : ℕ) (stated : List ℕ → ℕ) → StatesAtMost limit stated → (p : Phase) (came left : List ℕ)
-    (d : ℕ) (e : Event) → HoldsAtMost limit p (length came)
-    → IsBounded limit (after stated (record { phase = p; came = came; left = left; deadline = d }) e)
-bounded_after limit stated little p came left d (Came bytes) few =
-    bounded_takes limit stated little (record { phase = p; came = came; left = left; deadline = d }) bytes few
-bounded_after limit stated little p came left d Broke few = refl
-bounded_after limit stated little p came left d (Passed now) few =
+bounded_after : (limit : ℕ) (States : List ℕ → Option ℕ → Type 0) → StatesAtMost limit States
+    → (p : Phase) (came left : List ℕ) (d : ℕ) (m : Bool) (e : Event)
+    → IsTold States (record { phase = p; came = came; left = left; deadline = d; more = m }) e
+    → HoldsAtMost limit p (length came)
+    → IsBounded limit (after (record { phase = p; came = came; left = left; deadline = d; more = m }) e)
+bounded_after limit States little p came left d m (Came said bytes) told few =
+    bounded_takes limit States said little
+    (record { phase = p; came = came; left = left; deadline = d; more = m }) bytes told few
+bounded_after limit States little p came left d m Broke told few = refl
+bounded_after limit States little p came left d m (Passed now) told few =
     bounded_cond limit (nat_le d now) closed
-    (record { phase = p; came = came; left = left; deadline = d }) refl few
-bounded_after limit stated little (Reading part) came left d Ended few =
+    (record { phase = p; came = came; left = left; deadline = d; more = m }) refl few
+bounded_after limit States little (Reading part) came left d m Ended told few =
     bounded_cond limit (is_empty came) closed
-    (record { phase = Ready; came = came; left = left; deadline = d }) refl
+    (record { phase = Ready; came = came; left = left; deadline = d; more = m }) refl
     (reading_few limit part (length came) few)
-bounded_after limit stated little Ready came left d Ended few = few
-bounded_after limit stated little Writing came left d Ended few = few
-bounded_after limit stated little Lingering came left d Ended few = refl
-bounded_after limit stated little Closed came left d Ended few = few
-bounded_after limit stated little Writing came left d (Wrote n now) few =
-    bounded_cond limit (nat_le (length left) n) (lingering now)
-    (record { phase = Writing; came = came; left = drop n left; deadline = d }) refl few
-bounded_after limit stated little Lingering came left d (Wrote n now) few = few
-bounded_after limit stated little Closed came left d (Wrote n now) few = few
-bounded_after limit stated little (Reading part) came left d (Wrote n now) few = few
-bounded_after limit stated little Ready came left d (Wrote n now) few = few
+bounded_after limit States little Ready came left d m Ended told few = few
+bounded_after limit States little Writing came left d m Ended told few = few
+bounded_after limit States little Lingering came left d m Ended told few = refl
+bounded_after limit States little Closed came left d m Ended told few = few
+bounded_after limit States little Writing came left d m (Wrote n now) told few =
+    bounded_cond limit (nat_le (length left) n) (lingering m now)
+    (record { phase = Writing; came = came; left = drop n left; deadline = d; more = m }) refl few
+bounded_after limit States little Lingering came left d m (Wrote n now) told few = few
+bounded_after limit States little Closed came left d m (Wrote n now) told few = few
+bounded_after limit States little (Reading part) came left d m (Wrote n now) told few = few
+bounded_after limit States little Ready came left d m (Wrote n now) told few = few
+bounded_after limit States little Lingering came left d m Settled told few =
+    bounded_cond limit m (record { phase = Lingering; came = came; left = left; deadline = d; more = m })
+    closed few refl
+bounded_after limit States little Closed came left d m Settled told few = few
+bounded_after limit States little (Reading part) came left d m Settled told few = few
+bounded_after limit States little Ready came left d m Settled told few = few
+bounded_after limit States little Writing came left d m Settled told few = few
 
-pub bounded_always : (limit : ℕ) (stated : List ℕ → ℕ) (c : Conn) (es : List Event) → StatesAtMost limit stated
-    → IsBounded limit c → IsBounded limit (afters stated c es)
-bounded_always limit stated c [] little few = few
-bounded_always limit stated c (e ∷ es) little few =
-    bounded_always limit stated (after stated c e) es little
-    (bounded_after limit stated little c.phase c.came c.left c.deadline e few)
+pub bounded_always : (limit : ℕ) (States : List ℕ → Option ℕ → Type 0) (c : Conn)
+    (es : List Event) → StatesAtMost limit States → AreTold States c es → IsBounded limit c
+    → IsBounded limit (afters c es)
+bounded_always limit States c [] little told few = few
+bounded_always limit States c (e ∷ es) little told few =
+    bounded_always limit States (after c e) es little told.1
+    (bounded_after limit States little c.phase c.came c.left c.deadline c.more e told.0 few)
 
 few_in : (limit : ℕ) (p : Phase) (k : ℕ) → HoldsAtMost limit p k → k ≤ 8192 + limit
 few_in limit (Reading part) k few = reading_few limit part k few
@@ -202,114 +240,123 @@ pub bounded_few : (limit : ℕ) (c : Conn) → IsBounded limit c → length c.ca
 bounded_few limit c few = few_in limit c.phase (length c.came) few
 
 -- no event makes more of what is left of a reply
-byte_left : (stated : List ℕ → ℕ) (p : Phase) (came left : List ℕ) (d b : ℕ)
-    → (takes_byte stated (record { phase = p; came = came; left = left; deadline = d }) b).left ≡ left
-byte_left stated (Reading part) came left d b = refl
-byte_left stated Ready came left d b = refl
-byte_left stated Writing came left d b = refl
-byte_left stated Lingering came left d b = refl
-byte_left stated Closed came left d b = refl
+byte_left : (said : Option ℕ) (p : Phase) (came left : List ℕ) (d b : ℕ) (m : Bool)
+    → (takes_byte said (record { phase = p; came = came; left = left; deadline = d; more = m }) b).left ≡ left
+byte_left said (Reading part) came left d b m = refl
+byte_left said Ready came left d b m = refl
+byte_left said Writing came left d b m = refl
+byte_left said Lingering came left d b m = refl
+byte_left said Closed came left d b m = refl
 
-takes_left : (stated : List ℕ → ℕ) (c : Conn) (bytes : List ℕ) → (takes stated c bytes).left ≡ c.left
-takes_left stated c [] = refl
-takes_left stated c (b ∷ bs) =
-    takes_left stated (takes_byte stated c b) bs
-    ∙ byte_left stated c.phase c.came c.left c.deadline b
+takes_left : (said : Option ℕ) (c : Conn) (bytes : List ℕ) → (takes said c bytes).left ≡ c.left
+takes_left said c [] = refl
+takes_left said c (b ∷ bs) =
+    takes_left said (takes_byte said c b) bs
+    ∙ byte_left said c.phase c.came c.left c.deadline b c.more
 
 left_cond : (b : Bool) (x y : Conn) (n : ℕ) → length x.left ≤ n → length y.left ≤ n
     → length (cond b x y).left ≤ n
 left_cond true x y n one other = one
 left_cond false x y n one other = other
 
-left_wrote : (p : Phase) (came left : List ℕ) (d n now : ℕ)
-    → length (wrote (record { phase = p; came = came; left = left; deadline = d }) n now).left
+left_wrote : (p : Phase) (came left : List ℕ) (d n now : ℕ) (m : Bool)
+    → length (wrote (record { phase = p; came = came; left = left; deadline = d; more = m }) n now).left
     ≤ length left
-left_wrote p came left d n now =
+left_wrote p came left d n now m =
     let rest = length-drop n left in
-    left_cond (nat_le (length left) n) (lingering now)
-    (record { phase = p; came = came; left = drop n left; deadline = d }) (length left)
+    left_cond (nat_le (length left) n) (lingering m now)
+    (record { phase = p; came = came; left = drop n left; deadline = d; more = m }) (length left)
     (omega arith) (omega (arith, rest))
 
-left_after : (stated : List ℕ → ℕ) (p : Phase) (came left : List ℕ) (d : ℕ) (e : Event)
-    → length (after stated (record { phase = p; came = came; left = left; deadline = d }) e).left
+left_after : (p : Phase) (came left : List ℕ) (d : ℕ) (m : Bool) (e : Event)
+    → length (after (record { phase = p; came = came; left = left; deadline = d; more = m }) e).left
     ≤ length left
-left_after stated p came left d (Came bytes) =
-    let same = takes_left stated (record { phase = p; came = came; left = left; deadline = d }) bytes in
+left_after p came left d m (Came said bytes) =
+    let same = takes_left said (record { phase = p; came = came; left = left; deadline = d; more = m }) bytes in
     subst (λ (l : List ℕ). length l ≤ length left) (sym same) (omega arith)
-left_after stated p came left d Broke = omega arith
-left_after stated p came left d (Passed now) =
+left_after p came left d m Broke = omega arith
+left_after p came left d m (Passed now) =
     left_cond (nat_le d now) closed
-    (record { phase = p; came = came; left = left; deadline = d }) (length left) (omega arith)
+    (record { phase = p; came = came; left = left; deadline = d; more = m }) (length left) (omega arith)
     (omega arith)
-left_after stated (Reading part) came left d Ended =
+left_after (Reading part) came left d m Ended =
     left_cond (is_empty came) closed
-    (record { phase = Ready; came = came; left = left; deadline = d }) (length left) (omega arith)
+    (record { phase = Ready; came = came; left = left; deadline = d; more = m }) (length left) (omega arith)
     (omega arith)
-left_after stated Ready came left d Ended = omega arith
-left_after stated Writing came left d Ended = omega arith
-left_after stated Lingering came left d Ended = omega arith
-left_after stated Closed came left d Ended = omega arith
-left_after stated Writing came left d (Wrote n now) = left_wrote Writing came left d n now
-left_after stated Lingering came left d (Wrote n now) = omega arith
-left_after stated Closed came left d (Wrote n now) = omega arith
-left_after stated (Reading part) came left d (Wrote n now) = omega arith
-left_after stated Ready came left d (Wrote n now) = omega arith
+left_after Ready came left d m Ended = omega arith
+left_after Writing came left d m Ended = omega arith
+left_after Lingering came left d m Ended = omega arith
+left_after Closed came left d m Ended = omega arith
+left_after Writing came left d m (Wrote n now) = left_wrote Writing came left d n now m
+left_after Lingering came left d m (Wrote n now) = omega arith
+left_after Closed came left d m (Wrote n now) = omega arith
+left_after (Reading part) came left d m (Wrote n now) = omega arith
+left_after Ready came left d m (Wrote n now) = omega arith
+left_after Lingering came left d m Settled =
+    left_cond m (record { phase = Lingering; came = came; left = left; deadline = d; more = m }) closed
+    (length left) (omega arith) (omega arith)
+left_after Closed came left d m Settled = omega arith
+left_after (Reading part) came left d m Settled = omega arith
+left_after Ready came left d m Settled = omega arith
+left_after Writing came left d m Settled = omega arith
 
-pub left_always : (stated : List ℕ → ℕ) (c : Conn) (es : List Event)
-    → length (afters stated c es).left ≤ length c.left
-left_always stated c [] = omega arith
-left_always stated c (e ∷ es) =
-    let rest = left_always stated (after stated c e) es in
-    let first = left_after stated c.phase c.came c.left c.deadline e in
+pub left_always : (c : Conn) (es : List Event)
+    → length (afters c es).left ≤ length c.left
+left_always c [] = omega arith
+left_always c (e ∷ es) =
+    let rest = left_always (after c e) es in
+    let first = left_after c.phase c.came c.left c.deadline c.more e in
     omega (arith, rest, first)
 
 -- ---- what is taken is a front of what comes
 
 -- one that isn't reading takes nothing
-idle_takes : (stated : List ℕ → ℕ) (c : Conn) (bytes : List ℕ)
-    → takes stated c bytes ≡ c → TakesFront stated c bytes
-idle_takes stated c bytes same =
-    ([], bytes, refl, ap (λ (x : Conn). x.came) same ∙ sym (append-nil c.came))
+idle_takes : (said : Option ℕ) (c : Conn) (bytes : List ℕ)
+    → (takes said c bytes).came ≡ c.came → TakesFront said c bytes
+idle_takes said c bytes same = ([], bytes, refl, same ∙ sym (append-nil c.came))
 
-pub ready_takes : (stated : List ℕ → ℕ) (came left : List ℕ) (d : ℕ) (bytes : List ℕ)
-    → takes stated (record { phase = Ready; came = came; left = left; deadline = d }) bytes
-    ≡ record { phase = Ready; came = came; left = left; deadline = d }
-ready_takes stated came left d [] = refl
-ready_takes stated came left d (b ∷ bs) = ready_takes stated came left d bs
+pub ready_takes : (said : Option ℕ) (came left : List ℕ) (d : ℕ) (m : Bool)
+    (bytes : List ℕ)
+    → takes said (record { phase = Ready; came = came; left = left; deadline = d; more = m }) bytes
+    ≡ record { phase = Ready; came = came; left = left; deadline = d; more = passes Ready m bytes }
+ready_takes said came left d m [] = refl
+ready_takes said came left d m (b ∷ bs) = ready_takes said came left d true bs
 
-front_more : (stated : List ℕ → ℕ) (p : Phase) (came left : List ℕ) (d b : ℕ) (bs : List ℕ)
-    → TakesFront stated (record { phase = p; came = came ++ b ∷ []; left = left; deadline = d }) bs
+front_more : (said : Option ℕ) (p : Phase) (came left : List ℕ) (d b : ℕ) (m : Bool) (bs : List ℕ)
+    → TakesFront said (record { phase = p; came = came ++ b ∷ []; left = left; deadline = d; more = m }) bs
     → (result : Conn)
-    → result ≡ takes stated (record { phase = p; came = came ++ b ∷ []; left = left; deadline = d }) bs
+    → result ≡ takes said (record { phase = p; came = came ++ b ∷ []; left = left; deadline = d; more = m }) bs
     → (front : List ℕ) × (rest : List ℕ) × (b ∷ bs ≡ front ++ rest) × (result.came ≡ came ++ front)
-front_more stated p came left d b bs (front, rest, cut, took) result is = (
+front_more said p came left d b m bs (front, rest, cut, took) result is = (
   b ∷ front,
   rest,
   ap (λ (l : List ℕ). b ∷ l) cut,
   ap (λ (x : Conn). x.came) is ∙ took ∙ append_assoc came (b ∷ []) front,
 )
 
-front_by : (stated : List ℕ → ℕ) (p : Phase) (came left : List ℕ) (d : ℕ) (bytes : List ℕ)
-    → TakesFront stated (record { phase = p; came = came; left = left; deadline = d }) bytes
-front_by stated p came left d [] = ([], [], refl, sym (append-nil came))
-front_by stated (Reading part) came left d (b ∷ bs) =
-    front_more stated (phase_after stated part b (came ++ b ∷ [])) came left d b bs
-    (front_by stated (phase_after stated part b (came ++ b ∷ [])) (came ++ b ∷ []) left d bs) _ refl
-front_by stated Ready came left d (b ∷ bs) =
-    idle_takes stated (record { phase = Ready; came = came; left = left; deadline = d }) (b ∷ bs)
-    (ready_takes stated came left d bs)
-front_by stated Writing came left d (b ∷ bs) =
-    idle_takes stated (record { phase = Writing; came = came; left = left; deadline = d }) (b ∷ bs)
-    (over_takes stated Writing came left d bs refl)
-front_by stated Lingering came left d (b ∷ bs) =
-    idle_takes stated (record { phase = Lingering; came = came; left = left; deadline = d }) (b ∷ bs)
-    (over_takes stated Lingering came left d bs refl)
-front_by stated Closed came left d (b ∷ bs) =
-    idle_takes stated (record { phase = Closed; came = came; left = left; deadline = d }) (b ∷ bs)
-    (over_takes stated Closed came left d bs refl)
+front_by : (said : Option ℕ) (p : Phase) (came left : List ℕ) (d : ℕ) (m : Bool)
+    (bytes : List ℕ)
+    → TakesFront said (record { phase = p; came = came; left = left; deadline = d; more = m }) bytes
+front_by said p came left d m [] = ([], [], refl, sym (append-nil came))
+front_by said (Reading part) came left d m (b ∷ bs) =
+    let n = leaves said part b (came ++ b ∷ []) in
+    front_more said (phase_after said part b (came ++ b ∷ [])) came left d b n bs
+    (front_by said (phase_after said part b (came ++ b ∷ [])) (came ++ b ∷ []) left d n bs) _ refl
+front_by said Ready came left d m (b ∷ bs) =
+    idle_takes said (record { phase = Ready; came = came; left = left; deadline = d; more = m })
+    (b ∷ bs) (ap (λ (x : Conn). x.came) (ready_takes said came left d true bs))
+front_by said Writing came left d m (b ∷ bs) =
+    idle_takes said (record { phase = Writing; came = came; left = left; deadline = d; more = m })
+    (b ∷ bs) (ap (λ (x : Conn). x.came) (over_takes said Writing came left d true bs refl))
+front_by said Lingering came left d m (b ∷ bs) =
+    idle_takes said (record { phase = Lingering; came = came; left = left; deadline = d; more = m })
+    (b ∷ bs) (ap (λ (x : Conn). x.came) (over_takes said Lingering came left d true bs refl))
+front_by said Closed came left d m (b ∷ bs) =
+    idle_takes said (record { phase = Closed; came = came; left = left; deadline = d; more = m })
+    (b ∷ bs) (ap (λ (x : Conn). x.came) (over_takes said Closed came left d m bs refl))
 
-pub takes_front : (stated : List ℕ → ℕ) (c : Conn) (bytes : List ℕ) → TakesFront stated c bytes
-takes_front stated c bytes = front_by stated c.phase c.came c.left c.deadline bytes
+pub takes_front : (said : Option ℕ) (c : Conn) (bytes : List ℕ) → TakesFront said c bytes
+takes_front said c bytes = front_by said c.phase c.came c.left c.deadline c.more bytes
 
 -- ---- what is written is a front of the reply
 
@@ -317,106 +364,124 @@ same_cond : (b : Bool) (c : Conn) → cond b c c ≡ c
 same_cond true c = refl
 same_cond false c = refl
 
-closed_after : (stated : List ℕ → ℕ) (e : Event) → after stated closed e ≡ closed
-closed_after stated (Came bytes) = over_takes stated Closed [] [] 0 bytes refl
-closed_after stated Ended = refl
-closed_after stated (Wrote n now) = refl
-closed_after stated Broke = refl
-closed_after stated (Passed now) = same_cond (nat_le 0 now) closed
+closed_takes : (said : Option ℕ) (bytes : List ℕ) → takes said closed bytes ≡ closed
+closed_takes said [] = refl
+closed_takes said (b ∷ bs) = closed_takes said bs
+
+closed_after : (e : Event) → after closed e ≡ closed
+closed_after (Came said bytes) = closed_takes said bytes
+closed_after Ended = refl
+closed_after (Wrote n now) = refl
+closed_after Broke = refl
+closed_after (Passed now) = same_cond (nat_le 0 now) closed
+closed_after Settled = refl
 
 -- nothing more is written, whatever was left
-abbrev IsQuiet : (List ℕ → ℕ) → List ℕ → Conn → List Event → Type 0
-IsQuiet stated rest c es =
-    (written stated c es ≡ [])
-    × IsUnwritten (afters stated c es).phase (afters stated c es).left rest
+abbrev IsQuiet : List ℕ → Conn → List Event → Type 0
+IsQuiet rest c es =
+    (written c es ≡ [])
+    × IsUnwritten (afters c es).phase (afters c es).left rest
 
-closed_quiet : (stated : List ℕ → ℕ) (rest : List ℕ) (es : List Event)
-    → IsQuiet stated rest closed es
-closed_quiet stated rest [] = (refl, tt)
-closed_quiet stated rest (e ∷ es) =
-    subst (λ (c : Conn). IsQuiet stated rest c es) (sym (closed_after stated e))
-    (closed_quiet stated rest es)
+closed_quiet : (rest : List ℕ) (es : List Event)
+    → IsQuiet rest closed es
+closed_quiet rest [] = (refl, tt)
+closed_quiet rest (e ∷ es) =
+    subst (λ (c : Conn). IsQuiet rest c es) (sym (closed_after e))
+    (closed_quiet rest es)
 
-quiet_cond : (stated : List ℕ → ℕ) (b : Bool) (c : Conn) (es : List Event)
-    → IsQuiet stated [] c es → IsQuiet stated [] (cond b closed c) es
-quiet_cond stated true c es quiet = closed_quiet stated [] es
-quiet_cond stated false c es quiet = quiet
+quiet_cond : (b : Bool) (c : Conn) (es : List Event)
+    → IsQuiet [] c es → IsQuiet [] (cond b closed c) es
+quiet_cond true c es quiet = closed_quiet [] es
+quiet_cond false c es quiet = quiet
 
-lingering_quiet : (stated : List ℕ → ℕ) (d : ℕ) (es : List Event)
-    → IsQuiet stated [] (record { phase = Lingering; came = []; left = []; deadline = d }) es
-lingering_quiet stated d [] = (refl, refl)
-lingering_quiet stated d (Came bytes ∷ es) =
-    subst (λ (c : Conn). IsQuiet stated [] c es) (sym (over_takes stated Lingering [] [] d bytes refl))
-    (lingering_quiet stated d es)
-lingering_quiet stated d (Ended ∷ es) = closed_quiet stated [] es
-lingering_quiet stated d (Wrote n now ∷ es) = lingering_quiet stated d es
-lingering_quiet stated d (Broke ∷ es) = closed_quiet stated [] es
-lingering_quiet stated d (Passed now ∷ es) =
-    quiet_cond stated (nat_le d now) _ es (lingering_quiet stated d es)
+quiet_either : (b : Bool) (c : Conn) (es : List Event)
+    → IsQuiet [] c es → IsQuiet [] (cond b c closed) es
+quiet_either true c es quiet = quiet
+quiet_either false c es quiet = closed_quiet [] es
+
+lingering_quiet : (d : ℕ) (m : Bool) (es : List Event)
+    → IsQuiet []
+    (record { phase = Lingering; came = []; left = []; deadline = d; more = m }) es
+lingering_quiet d m [] = (refl, refl)
+lingering_quiet d m (Came said bytes ∷ es) =
+    subst (λ (c : Conn). IsQuiet [] c es)
+    (sym (over_takes said Lingering [] [] d m bytes refl))
+    (lingering_quiet d (passes Lingering m bytes) es)
+lingering_quiet d m (Ended ∷ es) = closed_quiet [] es
+lingering_quiet d m (Wrote n now ∷ es) = lingering_quiet d m es
+lingering_quiet d m (Broke ∷ es) = closed_quiet [] es
+lingering_quiet d m (Passed now ∷ es) =
+    quiet_cond (nat_le d now) _ es (lingering_quiet d m es)
+lingering_quiet d m (Settled ∷ es) =
+    quiet_either m _ es (lingering_quiet d m es)
 
 -- one that is dropped leaves all that wasn't written
-dropped_front : (stated : List ℕ → ℕ) (left : List ℕ) (es : List Event)
-    → WritesFront stated left closed es
-dropped_front stated left es =
-    let quiet = closed_quiet stated left es in
+dropped_front : (left : List ℕ) (es : List Event)
+    → WritesFront left closed es
+dropped_front left es =
+    let quiet = closed_quiet left es in
     (left, sym (ap (λ (l : List ℕ). l ++ left) quiet.0), quiet.1)
 
-front_cond : (stated : List ℕ → ℕ) (b : Bool) (left : List ℕ) (c : Conn) (es : List Event)
-    → WritesFront stated left c es → WritesFront stated left (cond b closed c) es
-front_cond stated true left c es front = dropped_front stated left es
-front_cond stated false left c es front = front
+front_cond : (b : Bool) (left : List ℕ) (c : Conn) (es : List Event)
+    → WritesFront left c es → WritesFront left (cond b closed c) es
+front_cond true left c es front = dropped_front left es
+front_cond false left c es front = front
 
 -- what follows some bytes that were written
-abbrev FrontAfter : (List ℕ → ℕ) → List ℕ → List ℕ → Conn → List Event → Type 0
-FrontAfter stated reply front c es =
-    (rest : List ℕ) × (reply ≡ front ++ written stated c es ++ rest)
-    × IsUnwritten (afters stated c es).phase (afters stated c es).left rest
+abbrev FrontAfter : List ℕ → List ℕ → Conn → List Event → Type 0
+FrontAfter reply front c es =
+    (rest : List ℕ) × (reply ≡ front ++ written c es ++ rest)
+    × IsUnwritten (afters c es).phase (afters c es).left rest
 
-front_then : (stated : List ℕ → ℕ) (n : ℕ) (left : List ℕ) (c : Conn) (es : List Event)
-    → WritesFront stated (drop n left) c es → FrontAfter stated left (take n left) c es
-front_then stated n left c es (rest, cut, unwritten) = (
+front_then : (n : ℕ) (left : List ℕ) (c : Conn) (es : List Event)
+    → WritesFront (drop n left) c es → FrontAfter left (take n left) c es
+front_then n left c es (rest, cut, unwritten) = (
   rest,
   sym (take-append-drop n left) ∙ ap (λ (l : List ℕ). take n left ++ l) cut
-      ∙ sym (append_assoc (take n left) (written stated c es) rest),
+      ∙ sym (append_assoc (take n left) (written c es) rest),
   unwritten,
 )
 
-front_whole : (stated : List ℕ → ℕ) (n : ℕ) (left : List ℕ) (now : ℕ) (es : List Event)
-    → length left ≤ n → FrontAfter stated left (take n left) (lingering now) es
-front_whole stated n left now es whole =
-    let quiet = lingering_quiet stated (later now 2000) es in (
+front_whole : (n : ℕ) (left : List ℕ) (m : Bool) (now : ℕ)
+    (es : List Event) → length left ≤ n
+    → FrontAfter left (take n left) (lingering m now) es
+front_whole n left m now es whole =
+    let quiet = lingering_quiet (later now 2000) m es in (
       [],
       sym (append-nil _ ∙ ap (λ (l : List ℕ). take n left ++ l) quiet.0
           ∙ append-nil (take n left) ∙ take_all n left whole),
       quiet.1,
     )
 
-front_wrote : (stated : List ℕ → ℕ) (b : Bool) (n : ℕ) (left : List ℕ) (now : ℕ) (c : Conn)
-    (es : List Event) → nat_le (length left) n ≡ b → WritesFront stated (drop n left) c es
-    → FrontAfter stated left (take n left) (cond b (lingering now) c) es
-front_wrote stated true n left now c es test front =
-    front_whole stated n left now es (grind arith)
-front_wrote stated false n left now c es test front = front_then stated n left c es front
+front_wrote : (b : Bool) (n : ℕ) (left : List ℕ) (m : Bool) (now : ℕ)
+    (c : Conn) (es : List Event) → nat_le (length left) n ≡ b
+    → WritesFront (drop n left) c es
+    → FrontAfter left (take n left) (cond b (lingering m now) c) es
+front_wrote true n left m now c es test front =
+    front_whole n left m now es (grind arith)
+front_wrote false n left m now c es test front = front_then n left c es front
 
-front_of : (stated : List ℕ → ℕ) (came left : List ℕ) (d : ℕ) (es : List Event)
-    → WritesFront stated left
-    (record { phase = Writing; came = came; left = left; deadline = d }) es
-front_of stated came left d [] = (left, refl, refl)
-front_of stated came left d (Came bytes ∷ es) =
-    subst (λ (c : Conn). WritesFront stated left c es)
-    (sym (over_takes stated Writing came left d bytes refl)) (front_of stated came left d es)
-front_of stated came left d (Ended ∷ es) = front_of stated came left d es
-front_of stated came left d (Broke ∷ es) = dropped_front stated left es
-front_of stated came left d (Passed now ∷ es) =
-    front_cond stated (nat_le d now) left _ es (front_of stated came left d es)
-front_of stated came left d (Wrote n now ∷ es) =
-    front_wrote stated (nat_le (length left) n) n left now
-    (record { phase = Writing; came = came; left = drop n left; deadline = d }) es refl
-    (front_of stated came (drop n left) d es)
+front_of : (came left : List ℕ) (d : ℕ) (m : Bool) (es : List Event)
+    → WritesFront left
+    (record { phase = Writing; came = came; left = left; deadline = d; more = m }) es
+front_of came left d m [] = (left, refl, refl)
+front_of came left d m (Came said bytes ∷ es) =
+    subst (λ (c : Conn). WritesFront left c es)
+    (sym (over_takes said Writing came left d m bytes refl))
+    (front_of came left d (passes Writing m bytes) es)
+front_of came left d m (Ended ∷ es) = front_of came left d m es
+front_of came left d m (Broke ∷ es) = dropped_front left es
+front_of came left d m (Passed now ∷ es) =
+    front_cond (nat_le d now) left _ es (front_of came left d m es)
+front_of came left d m (Settled ∷ es) = front_of came left d m es
+front_of came left d m (Wrote n now ∷ es) =
+    front_wrote (nat_le (length left) n) n left m now
+    (record { phase = Writing; came = came; left = drop n left; deadline = d; more = m }) es refl
+    (front_of came (drop n left) d m es)
 
-pub reply_front : (stated : List ℕ → ℕ) (reply : List ℕ) (now : ℕ) (es : List Event)
-    → WritesFront stated reply (answered reply now) es
-reply_front stated reply now es = front_of stated [] reply (later now 30000) es
+pub reply_front : (more : Bool) (reply : List ℕ) (now : ℕ)
+    (es : List Event) → WritesFront reply (answered more reply now) es
+reply_front more reply now es = front_of [] reply (later now 30000) more es
 
 -- ---- the deadline
 
@@ -429,21 +494,21 @@ pub late_closes : (c : Conn) (now : ℕ) → c.deadline ≤ now → passed c now
 late_closes c now late = late_by_test (nat_le c.deadline now) c now refl late
 
 -- no byte puts it off
-byte_deadline : (stated : List ℕ → ℕ) (p : Phase) (came left : List ℕ) (d b : ℕ)
-    → (takes_byte stated (record { phase = p; came = came; left = left; deadline = d }) b).deadline
+byte_deadline : (said : Option ℕ) (p : Phase) (came left : List ℕ) (d b : ℕ) (m : Bool)
+    → (takes_byte said (record { phase = p; came = came; left = left; deadline = d; more = m }) b).deadline
     ≡ d
-byte_deadline stated (Reading part) came left d b = refl
-byte_deadline stated Ready came left d b = refl
-byte_deadline stated Writing came left d b = refl
-byte_deadline stated Lingering came left d b = refl
-byte_deadline stated Closed came left d b = refl
+byte_deadline said (Reading part) came left d b m = refl
+byte_deadline said Ready came left d b m = refl
+byte_deadline said Writing came left d b m = refl
+byte_deadline said Lingering came left d b m = refl
+byte_deadline said Closed came left d b m = refl
 
-pub takes_deadline : (stated : List ℕ → ℕ) (c : Conn) (bytes : List ℕ)
-    → (takes stated c bytes).deadline ≡ c.deadline
-takes_deadline stated c [] = refl
-takes_deadline stated c (b ∷ bs) =
-    takes_deadline stated (takes_byte stated c b) bs
-    ∙ byte_deadline stated c.phase c.came c.left c.deadline b
+pub takes_deadline : (said : Option ℕ) (c : Conn) (bytes : List ℕ)
+    → (takes said c bytes).deadline ≡ c.deadline
+takes_deadline said c [] = refl
+takes_deadline said c (b ∷ bs) =
+    takes_deadline said (takes_byte said c b) bs
+    ∙ byte_deadline said c.phase c.came c.left c.deadline b c.more
 
 part_by_test : (b : Bool) (c x y : Conn) (n : ℕ) → nat_le (length c.left) n ≡ b
     → n < length c.left → y.deadline ≡ c.deadline → (cond b x y).deadline ≡ c.deadline
@@ -453,6 +518,17 @@ part_by_test false c x y n test part same = same
 pub part_deadline : (c : Conn) (n now : ℕ) → n < length c.left
     → (wrote c n now).deadline ≡ c.deadline
 part_deadline c n now part =
-    part_by_test (nat_le (length c.left) n) c (lingering now)
-    (record { phase = c.phase; came = c.came; left = drop n c.left; deadline = c.deadline }) n refl
+    part_by_test (nat_le (length c.left) n) c (lingering c.more now)
+    (record { phase = c.phase; came = c.came; left = drop n c.left; deadline = c.deadline; more = c.more }) n refl
     part refl
+
+-- ---- settled
+
+pub settles : (c : Conn) → c.phase ≡ Lingering → c.more ≡ false → settled c ≡ closed
+settles c phase more =
+    ap (λ (p : Phase). settled_in p c) phase ∙ ap (λ (b : Bool). cond b c closed) more
+
+pub body_leaves_none : (said : Option ℕ) (c : Conn) (missing b : ℕ)
+    → c.phase ≡ Reading (Body missing) → (takes_byte said c b).more ≡ false
+body_leaves_none said c missing b phase =
+    ap (λ (p : Phase). (byte_in said p c b).more) phase

@@ -1,2 +1,4 @@
 pub mod ConnectionLemmas
+mod Examples
 pub mod HeardLemmas
+pub mod HearsLemmas

@@ -10,4 +10,5 @@ seen c = record {
   came = c.came.items;
   left = drop c.sent (bytes_of c.reply);
   deadline = c.deadline;
+  more = c.more;
 }

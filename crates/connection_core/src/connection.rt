@@ -1,5 +1,5 @@
 //! One connection.
-ghost use Rattle.std.specs.Prelude.{◌≡◌, ◌≤◌, ◌<◌, ◌+◌, ◌-◌, ◌^◌, [], OnOk, OnErr, length, drop};
+ghost use Rattle.std.specs.Prelude.{◌≡◌, ◌≤◌, ◌<◌, ◌+◌, ◌-◌, ◌^◌, [], ◌∷◌, OnOk, OnErr, length, drop};
 ghost use Rattle.std.specs.Vec.{vec_capacity, vec_len};
 ghost use Rattle.connection_core.specs.Machine as machine;
 ghost use Rattle.connection_core.specs.Reply.{bytes_of};
@@ -13,10 +13,10 @@ use std::alloc::{AllocError, Global};
 pub const READING: u64 = 30_000;
 
 /// How many milliseconds it has to take its reply.
-pub(crate) const WRITING: u64 = 30_000;
+pub const WRITING: u64 = 30_000;
 
 /// For how many milliseconds after it what still comes is dropped.
-pub(crate) const LINGERING: u64 = 2_000;
+pub const LINGERING: u64 = 2_000;
 
 /// A connection: the bytes that came of its message, those that are left of its reply, and when it
 /// is dropped.
@@ -27,6 +27,7 @@ pub struct Connection {
     reply: Reply,
     sent: usize,
     deadline: u64,
+    more: bool,
     ghost within: { sent ≤ length (bytes_of reply) },
 }
 
@@ -49,6 +50,7 @@ impl Connection {
             reply: Reply::Fixed(b""),
             sent: 0,
             deadline: 0,
+            more: false,
         }
     }
 
@@ -62,6 +64,7 @@ impl Connection {
             reply: Reply::Fixed(b""),
             sent: 0,
             deadline: later(now, READING),
+            more: false,
         }
     }
 
@@ -92,16 +95,9 @@ impl Connection {
         &self.reply.bytes()[self.sent..]
     }
 
-    /// Room for so many more bytes of its message. `AllocError` where memory is refused.
-    pub fn reserve(&mut self, count: usize) -> Result<(), AllocError>
-        ensures { seen self.new ≡ seen self.old }
-    {
-        self.came.reserve(count)
-    }
-
     /// The peer has sent these. `AllocError` where there is no room for them and memory is refused.
     pub fn take<F: Framing>(&mut self, bytes: &[u8]) -> Result<(), AllocError>
-        ensures ok { OnOk result (seen self.new ≡ machine.takes F.stated (seen self.old) bytes.now) }
+        ensures ok { OnOk result (machine.Hears F.States (seen self.old) bytes.now (seen self.new)) }
         ensures err { OnErr result (seen self.new ≡ seen self.old) }
     {
         self.came.reserve(bytes.len())?;
@@ -111,15 +107,22 @@ impl Connection {
         Ok(())
     }
 
+    /// One more byte has come.
     fn take_byte<F: Framing>(&mut self, byte: u8)
         requires room { vec_len self.old.came < vec_capacity self.old.came }
-        ensures took { seen self.new ≡ machine.takes_byte F.stated (seen self.old) byte }
+        ensures took { machine.Hears F.States (seen self.old) (byte ∷ []) (seen self.new) }
         ensures len { vec_len self.new.came ≤ vec_len self.old.came + 1 }
         ensures capacity { vec_capacity self.new.came ≡ vec_capacity self.old.came }
     {
-        if let Phase::Reading(part) = self.phase {
-            self.came.push_reserved(byte);
-            self.phase = phase_after::<F>(part, byte, self.came.as_slice());
+        match self.phase {
+            Phase::Reading(part) => {
+                self.came.push_reserved(byte);
+                let (phase, more) = phase_after::<F>(part, byte, self.came.as_slice());
+                self.phase = phase;
+                self.more = more;
+            }
+            Phase::Ready | Phase::Writing | Phase::Lingering => self.more = true,
+            Phase::Closed => {}
         }
     }
 
@@ -143,7 +146,7 @@ impl Connection {
     /// Its message is answered at this moment.
     pub fn answer(&mut self, alloc: Global, reply: Reply, now: u64)
         requires { (seen self.old).phase ≡ Phase.Ready }
-        ensures { seen self.new ≡ machine.answered (bytes_of reply) now }
+        ensures { seen self.new ≡ machine.answered (seen self.old).more (bytes_of reply) now }
     {
         *self = Connection {
             phase: Phase::Writing,
@@ -151,6 +154,7 @@ impl Connection {
             reply,
             sent: 0,
             deadline: later(now, WRITING),
+            more: self.more,
         };
     }
 
@@ -170,7 +174,23 @@ impl Connection {
                 reply: Reply::Fixed(b""),
                 sent: 0,
                 deadline: later(now, LINGERING),
+                more: self.more,
             };
+        }
+    }
+
+    /// Nothing waits to be read: it is over, if its reply has gone out and no more than its message
+    /// came or may come.
+    pub fn settle(&mut self, alloc: Global)
+        ensures { seen self.new ≡ machine.settled (seen self.old) }
+    {
+        match self.phase {
+            Phase::Lingering => {
+                if !self.more {
+                    self.close(alloc);
+                }
+            }
+            Phase::Reading(_) | Phase::Ready | Phase::Writing | Phase::Closed => {}
         }
     }
 

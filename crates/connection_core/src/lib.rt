@@ -3,12 +3,13 @@
 //!
 //! What comes is taken byte by byte, so how it is cut into pieces makes no difference. A message is
 //! whole where its head has ended and as many bytes of a body have come as the head states. It is
-//! handed over then, and once. The framing, which tells the length of a body by its head, decides
-//! only that. What the message means the desk says: so a wrong length makes a refusal or a wait, and
-//! no false reply.
+//! handed over then, and once. The framing, which tells the length of a body by its head, and which
+//! heads are refused, decides only that. What the message means the desk says: so a wrong length
+//! makes a refusal or a wait, and no false reply.
 //!
-//! There are 30 seconds from accept to the whole message, 30 from the answer to the last byte of the
-//! reply, and two in which what still comes is dropped. No byte puts a deadline off.
+//! There are 30 seconds from accept to the whole message, and 30 from the answer to the last byte of
+//! the reply. Then it is over as soon as nothing waits to be read; where more than its message came
+//! or may come, that is dropped for two seconds. No byte puts a deadline off.
 #![tactic(auto)]
 
 mod connection;

@@ -1,5 +1,6 @@
 //! How far a connection has come.
 ghost use Rattle.std.specs.Prelude.{◌≡◌};
+ghost use Rattle.connection_core.specs.Machine.{Moves, MovesOn};
 ghost use Rattle.connection_core.specs.Machine as machine;
 
 use crate::framing::Framing;
@@ -93,21 +94,33 @@ fn awaiting(missing: u32) -> Phase
     }
 }
 
-/// The phase after one more byte of the message, which is the last of those that came.
-pub(crate) fn phase_after<F: Framing>(part: Part, byte: u8, came: &[u8]) -> Phase
-    ensures { result ≡ machine.phase_after F.stated part byte came.now }
+/// The phase after one more byte of the message, which is the last of those that came, and whether
+/// more than the message may follow. Where that byte ends the head, the framing tells what the head
+/// states.
+pub(crate) fn phase_after<F: Framing>(part: Part, byte: u8, came: &[u8]) -> (Phase, bool)
+    ensures { Moves F.States part byte came.now result.0 result.1 }
 {
     match part {
-        Part::Body(missing) => awaiting(missing.saturating_sub(1)),
-        _ => match head_after(part, byte) {
-            None => awaiting(F::stated(came)),
-            Some(next) => {
-                if came.len() < MAX_HEAD {
-                    Phase::Reading(next)
-                } else {
-                    Phase::Ready
-                }
-            }
+        Part::Body(missing) => (awaiting(missing.saturating_sub(1)), false),
+        _ => head_phase::<F>(head_after(part, byte), came),
+    }
+}
+
+/// The same of a head, by the part after that byte.
+fn head_phase<F: Framing>(part: Option<Part>, came: &[u8]) -> (Phase, bool)
+    ensures { MovesOn F.States part came.now result.0 result.1 }
+{
+    match part {
+        None => match F::stated(came) {
+            Some(missing) => (awaiting(missing), false),
+            None => (Phase::Ready, true),
         },
+        Some(next) => {
+            if came.len() < MAX_HEAD {
+                (Phase::Reading(next), false)
+            } else {
+                (Phase::Ready, true)
+            }
+        }
     }
 }

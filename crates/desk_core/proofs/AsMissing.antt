@@ -1,6 +1,6 @@
 -- A command that names a hidden request is refused as one that names a request that isn't there.
 use Rattle.std.proofs.Common.{◌≡◌, ◌⊎◌, ◌∙◌, ℕ, ◌≤◌, ◌==◌, ◌||◌, Bool, true, false, not, cond}
-use Rattle.std.proofs.Common.{List, [], ◌∷◌, Option, Some, None, inl, inr, refl, ap, sym, arith}
+use Rattle.std.proofs.Common.{List, [], ◌∷◌, Option, Some, None, Err, inl, inr, refl, ap, sym, arith}
 use Rattle.std.specs.List.{list_any}
 use Rattle.std.specs.Option.{option_map, option_map_or}
 use Rattle.std.proofs.Math.Bool.{or-false}
@@ -18,14 +18,13 @@ use Rattle.desk_model.specs.Plan.{OneQueue, OneRequest, WholeDesk, is_missing}
 use Rattle.desk_model.specs.Plan.{named_by, on_shown, seen_by}
 use Rattle.desk_model.specs.Step.{answer_of}
 use Rattle.desk_model.specs.Refusals.{number_of}
-use Rattle.desk_model.specs.Rights.{may_show}
-use Rattle.desk_model.specs.Step.{call, outcome_unless}
+use Rattle.desk_model.specs.Rights.{is_shown, may_show}
+use Rattle.desk_model.specs.Step.{call, outcome_of, outcome_unless}
 use Rattle.desk_model.specs.declared.command.Command.{Command}
 use Rattle.desk_model.specs.declared.facts.SeenRequest.{SeenRequest}
 use Rattle.desk_model.specs.declared.refusal.Refusal.{Refusal}
 use Rattle.desk_model.specs.declared.refusal.Refusal.TheVariants.{UnknownCaller, BadMoment}
 use Rattle.desk_model.specs.declared.refusal.Refusal.TheVariants.{BadText, NotFound}
-use Rattle.desk_core.specs.Laws.{RefusesAsMissing}
 
 -- the refusal of a command on a request that isn't there, by whether the caller is unknown, the
 -- moment none and the text none
@@ -155,7 +154,7 @@ hidden_second c asked end bad conditions desk id same hidden =
     (conditions other request) (gone_at c other end id same none)))
 
 -- the plan names the request of that number
-abbrev names_at : Plan → ℕ → Bool
+abbrev pub names_at : Plan → ℕ → Bool
 names_at plan id = list_any (λ n. n == id) (named_by plan)
 
 hidden_by_plan : (c : Call) (plan : Plan) (desk : Desk) (id : ℕ) → names_at plan id ≡ true
@@ -188,7 +187,11 @@ hidden_by_plan c (OnRequest asked (Another kind end) bad conditions change) desk
     ]
 
 pub hidden_law : (s : Settings) (at : ℕ) (caller : List ℕ) (command : Command) (desk : Desk)
-    → RefusesAsMissing s at caller command desk
+    → (id : ℕ) → names_at (plan_of command) id ≡ true → is_shown s caller desk id ≡ false
+    → (refusal : Refusal) × (number_of refusal ≤ 4)
+    × (outcome_of s at caller command desk ≡ Err refusal)
+    × ((other : Desk) → request_at other id ≡ None
+    → outcome_of s at caller command other ≡ Err refusal)
 hidden_law s at caller command desk id named hidden =
     let by = hidden_by_plan (call s at caller) (plan_of command) desk id named
     (missing_unless_shown s at caller (seen_request_at desk id) hidden) in (

@@ -1,5 +1,5 @@
 -- Which rights an accepted command has asked for.
-use Rattle.std.proofs.Common.{◌≡◌, ◌∙◌, ℕ, Bool, true, false, ◌&&◌, ◌||◌}
+use Rattle.std.proofs.Common.{◌≡◌, ◌⊎◌, ◌∙◌, ℕ, Bool, true, false, ◌&&◌, ◌||◌}
 use Rattle.std.proofs.Common.{List, [], ◌∷◌, find, Option, Some, None, codes}
 use Rattle.std.proofs.Common.{unwrap_or, inl, inr, refl, ap}
 use Rattle.std.specs.List.{list_any}
@@ -12,27 +12,22 @@ use Rattle.std.proofs.lemmas.Slice.Eq.{bytes_eq-Decides}
 use Rattle.lifecycle_core.specs.Lifecycle.{any_status, right_of_entry, right_of_move, usual_right}
 use Rattle.lifecycle_core.specs.declared.parts.MoveRight.{MoveRight}
 use Rattle.lifecycle_core.specs.declared.parts.Parts.{Parts}
+use Rattle.rights_core.specs.Right as rights
 use Rattle.rights_core.specs.Right.{delete_ticket, modify_ticket}
 use Rattle.settings_core.specs.declared.settings.Settings.{Settings}
-use Rattle.desk_model.specs.Commands.{plan_of}
-use Rattle.desk_model.specs.Commands.Unwatch as unwatch
 use Rattle.desk_model.specs.Commands.Watch as watch
 use Rattle.desk_model.specs.Condition.{Condition, first_holding}
 use Rattle.desk_model.specs.Desk.{Desk, Request, request_at}
 use Rattle.desk_model.specs.Facts.{seen_request}
-use Rattle.desk_model.specs.Plan.{Call, Nothing, besides_on, is_missing, on_shown}
+use Rattle.desk_model.specs.Plan.{Call, is_missing, on_shown}
 use Rattle.desk_model.specs.Rights.{holds_on, may_show}
 use Rattle.desk_model.specs.Step.{call}
-use Rattle.desk_model.specs.declared.command.Command.{Command}
-use Rattle.desk_model.specs.declared.command.Command.TheVariants.{Watch}
-use Rattle.desk_model.specs.declared.command.Command.TheVariants.{Unwatch}
 use Rattle.desk_model.specs.declared.facts.SeenRequest.{SeenRequest}
 use Rattle.desk_model.specs.declared.refusal.Refusal.TheVariants.{NotFound}
 use Rattle.desk_model.specs.declared.rows.WatchRole.{WatchRole}
 use Rattle.desk_model.specs.declared.rows.WatchRole.TheVariants.{Requestor, Cc, AdminCc}
-use Rattle.desk_core.proofs.Goes.{NoneHolds, holding, none_holds, passed, plan_passes}
-use Rattle.desk_core.specs.Asked.{AsksToWatch, AsksUsualRight, MaySetPerson}
-use Rattle.desk_core.specs.Asked.{MaySetRole, names_move, stands_for}
+use Rattle.desk_core.proofs.Goes.{NoneHolds, holding, none_holds, passed}
+use Rattle.desk_core.specs.Usual.{AsksUsualRight, names_move, stands_for}
 
 -- the request of a command that isn't refused is there, the caller may show it, and none of the
 -- command's own conditions holds
@@ -54,6 +49,21 @@ shown_by call desk id (Some r) asks there free =
     )
 
 -- watching
+
+-- the caller may modify the request, or names himself and holds this right on it
+abbrev pub MaySetPerson : Settings → List ℕ → List ℕ → List ℕ → SeenRequest → Type 0
+MaySetPerson settings caller person right request =
+    (holds_on settings caller modify_ticket request ≡ true)
+    ⊎ ((person ≡ caller) × (holds_on settings caller right request ≡ true))
+
+-- the caller may put the person into a role, and take him out of it
+abbrev pub MaySetRole : Settings → List ℕ → WatchRole → List ℕ → SeenRequest → Type 0
+MaySetRole settings caller Requestor person request =
+    MaySetPerson settings caller person rights.watch request
+MaySetRole settings caller Cc person request =
+    MaySetPerson settings caller person rights.watch request
+MaySetRole settings caller AdminCc person request =
+    MaySetPerson settings caller person rights.watch_as_admin_cc request
 
 may_set : (call : Call) (person right : List ℕ) (request : SeenRequest)
     → (holds_on call.settings call.caller modify_ticket request
@@ -77,30 +87,6 @@ may_set_role call Requestor person request may =
 may_set_role call Cc person request may = may_set call person (watch.right_to_watch Cc) request may
 may_set_role call AdminCc person request may =
     may_set call person (watch.right_to_watch AdminCc) request may
-
-pub watch_law : (s : Settings) (at : ℕ) (caller : List ℕ) (command : Command) (desk : Desk)
-    → AsksToWatch s at caller command desk
-watch_law s at caller (Watch id role person) desk free =
-    let asks = call s at caller in
-    let facts = besides_on Nothing id desk in
-    let got = shown_by asks desk id (request_at desk id) (watch.conditions role person asks facts)
-    refl (plan_passes asks facts (plan_of (Watch id role person)) free).1 in (
-      got.0,
-      got.1,
-      may_set_role asks role person (seen_request got.0)
-          (holding (watch.may_set_role role person asks (seen_request got.0)) got.3.1.0),
-    )
-watch_law s at caller (Unwatch id role person) desk free =
-    let asks = call s at caller in
-    let facts = besides_on Nothing id desk in
-    let got = shown_by asks desk id (request_at desk id) (unwatch.conditions role person asks facts)
-    refl (plan_passes asks facts (plan_of (Unwatch id role person)) free).1 in (
-      got.0,
-      got.1,
-      may_set_role asks role person (seen_request got.0)
-          (holding (watch.may_set_role role person asks (seen_request got.0)) got.3.1.0),
-    )
-watch_law s at caller other desk free = tt
 
 -- moves
 

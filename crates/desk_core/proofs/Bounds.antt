@@ -2,6 +2,7 @@
 use Rattle.std.proofs.Common.{◌≡◌, ◌∙◌, ℕ, ◌+◌, ◌<◌, ◌≤◌, ◌==◌, Bool, true, false, cond}
 use Rattle.std.proofs.Common.{List, [], ◌∷◌, ◌++◌, length, length-append, Option, Some, None}
 use Rattle.std.proofs.Common.{refl, ap, sym, subst, arith}
+use Rattle.std.specs.List.{All}
 use Rattle.std.proofs.lemmas.Bool.{leb-false, ltb-false}
 use Rattle.std.proofs.lemmas.List.{length-map}
 use Rattle.settings_core.specs.Settings.{entry_limit, request_limit}
@@ -11,13 +12,14 @@ use Rattle.desk_model.specs.Commands.{plan_of}
 use Rattle.desk_model.specs.Commands.OpenQueue.{queue_limit}
 use Rattle.desk_model.specs.Commands.Reply as reply
 use Rattle.desk_model.specs.Condition.{Condition}
-use Rattle.desk_model.specs.Desk.{Desk, Request, has_lower_name, placed}
+use Rattle.desk_model.specs.Desk.{Desk, Request, has_lower_name, placed, queue_count}
+use Rattle.desk_model.specs.Desk.{request_count}
 use Rattle.desk_model.specs.Entries.{lacks_room}
 use Rattle.desk_model.specs.Facts.{facts_on_queue, seen_request}
 use Rattle.desk_model.specs.IsDesk.{IsDesk}
 use Rattle.desk_model.specs.Plan.{Besides, Call, Plan, Reads, OnQueue, OnRequest, Nothing, Stays}
 use Rattle.desk_model.specs.Plan.{Dependencies, Another, another_shown, besides_on, change_by}
-use Rattle.desk_model.specs.Step.{call, desk_unless, effect, facts_of, guard}
+use Rattle.desk_model.specs.Step.{call, desk_after, desk_unless, effect, facts_of, guard}
 use Rattle.desk_model.specs.declared.change.Change.{Change}
 use Rattle.desk_model.specs.declared.command.Command.{Command}
 use Rattle.desk_model.specs.declared.command.Command.TheVariants.{OpenQueue, Create, Reply}
@@ -34,8 +36,18 @@ use Rattle.desk_core.proofs.DeskLaw.Stages.{queues_after}
 use Rattle.desk_core.proofs.EachRequest.{HoldsFiled, each_on_queue, each_on_request}
 use Rattle.desk_core.proofs.Goes.{NoneHolds}
 use Rattle.desk_core.proofs.Touches.{AtMostOne, Touches, touches}
-use Rattle.desk_core.specs.Bounds.{HasFewQueues, HasFewRequests, HasShortHistories}
-use Rattle.desk_core.specs.Bounds.{KeepsEntryLimit, KeepsQueueLimit, KeepsRequestLimit}
+
+-- no more queues than a desk holds
+abbrev pub HasFewQueues : Desk → Type 0
+HasFewQueues desk = queue_count desk ≤ queue_limit
+
+-- no more requests than the settings allow
+abbrev pub HasFewRequests : Settings → Desk → Type 0
+HasFewRequests settings desk = request_count desk ≤ request_limit settings
+
+-- no request has more entries than the settings allow
+abbrev pub HasShortHistories : Settings → Desk → Type 0
+HasShortHistories settings desk = All (λ r. length r.entries ≤ entry_limit settings) desk.requests
 
 -- the queues
 
@@ -85,7 +97,7 @@ queues_unless s at caller command desk None free few =
     desk tt (queues_fit desk command) free) few
 
 pub queue_limit_kept : (s : Settings) (at : ℕ) (caller : List ℕ) (command : Command) (desk : Desk)
-    → KeepsQueueLimit s at caller command desk
+    → HasFewQueues desk → HasFewQueues (desk_after s at caller command desk)
 queue_limit_kept s at caller command desk few =
     queues_unless s at caller command desk (guard s at caller command desk) refl few
 
@@ -133,7 +145,7 @@ requests_unless s at caller command desk None free few =
     free) few
 
 pub request_limit_kept : (s : Settings) (at : ℕ) (caller : List ℕ) (command : Command) (desk : Desk)
-    → KeepsRequestLimit s at caller command desk
+    → HasFewRequests s desk → HasFewRequests s (desk_after s at caller command desk)
 request_limit_kept s at caller command desk few =
     requests_unless s at caller command desk (guard s at caller command desk) refl few
 
@@ -263,6 +275,7 @@ entries_unless s at caller command desk None free is least short =
     (short_by_plan plan asks desk is least (asks_room command) (touches desk command)) free short
 
 pub entry_limit_kept : (s : Settings) (at : ℕ) (caller : List ℕ) (command : Command) (desk : Desk)
-    → KeepsEntryLimit s at caller command desk
+    → IsDesk desk → 1 ≤ entry_limit s → HasShortHistories s desk
+    → HasShortHistories s (desk_after s at caller command desk)
 entry_limit_kept s at caller command desk is least short =
     entries_unless s at caller command desk (guard s at caller command desk) refl is least short

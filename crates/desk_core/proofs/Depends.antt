@@ -14,6 +14,7 @@ use Rattle.lifecycle_core.specs.Lifecycle.{may_move}
 use Rattle.text_core.specs.Texts.{is_among}
 use Rattle.lifecycle_core.specs.declared.lifecycle.Class.TheVariants.{Initial, Active, Inactive}
 use Rattle.lifecycle_core.specs.declared.parts.Parts.{Parts}
+use Rattle.settings_core.specs.Settings.{lifecycle_named}
 use Rattle.settings_core.specs.declared.settings.Settings.{Settings}
 use Rattle.desk_model.specs.Commands.{plan_of}
 use Rattle.desk_model.specs.Commands.Reply as reply
@@ -23,7 +24,7 @@ use Rattle.desk_model.specs.Desk.{Desk, Request, queue_at, request_at}
 use Rattle.desk_model.specs.Facts.{as_dependency, dependencies_of}
 use Rattle.desk_model.specs.Lifecycles.{is_inactive, is_inactive_class}
 use Rattle.desk_model.specs.Lifecycles.{lifecycle_of, reopening_of}
-use Rattle.desk_model.specs.Links.{is_kind, is_link, link}
+use Rattle.desk_model.specs.Links.{has_link, is_kind, is_link, link}
 use Rattle.desk_model.specs.Plan.{Call}
 use Rattle.desk_model.specs.Step.{call, desk_after, facts_of}
 use Rattle.desk_model.specs.declared.command.Command.{Command}
@@ -37,8 +38,7 @@ use Rattle.desk_model.specs.declared.rows.LinkRow.{LinkRow}
 use Rattle.desk_model.specs.declared.rows.QueueRow.{QueueRow}
 use Rattle.desk_model.specs.declared.rows.RequestRow.{RequestRow}
 use Rattle.desk_core.proofs.Goes.{Goes, NoneHolds, none_holds, row_goes, set_by}
-use Rattle.desk_core.proofs.Kept.{history_law, ids_kept, replied_to, status_in}
-use Rattle.desk_core.specs.Laws.{IsOpenDependency, KeepsDependencyLaw}
+use Rattle.desk_core.proofs.Kept.{EachStays, history_law, ids_kept, replied_to, status_in}
 
 -- what passes a test is among what is found by another
 pub found_among : {A : Type 0} (test other : A → Bool) (xs : List A) (x : A) → find test xs ≡ Some x
@@ -175,6 +175,15 @@ open_counts s desk id n dependency (l ∷ ls) linked looked counts =
           ]
     ] refl linked
 
+-- a dependency of the request that isn't inactive by the lifecycle of its own queue
+pub record IsOpenDependency (settings : Settings) (desk : Desk) (id : ℕ)
+    (other : Request) : Type 0 where
+  pub linked : has_link desk (link id DependsOn other.row.id) ≡ true
+  pub there : request_at desk other.row.id ≡ Some other
+  pub queue : QueueRow
+  pub filed_in : queue_at desk other.row.queue ≡ Some queue
+  pub is_open : is_inactive (lifecycle_named settings queue.lifecycle) other.row.status ≡ false
+
 none_open : (s : Settings) (desk : Desk) (id : ℕ)
     → has_open_dependency s (dependencies_of desk id) ≡ false → (other : Request)
     → IsOpenDependency s desk id other → ⊥
@@ -215,7 +224,10 @@ nothing_open s at caller command desk id before after was is differs inactive =
     ]
 
 pub dependency_law : (s : Settings) (at : ℕ) (caller : List ℕ) (command : Command) (desk : Desk)
-    → KeepsDependencyLaw s at caller command desk
+    → EachStays desk (desk_after s at caller command desk) (λ before after.
+    after.row.status ≢ before.row.status
+    → is_inactive (lifecycle_of s (queue_at desk before.row.queue)) after.row.status ≡ true
+    → (other : Request) → IsOpenDependency s desk before.row.id other → ⊥)
 dependency_law s at caller command desk id before was =
     let kept = history_law s at caller command desk id before was in (
       kept.0,

@@ -6,11 +6,10 @@ use Rattle.desk_model.specs.Commands.{plan_of}
 use Rattle.desk_model.specs.Desk.{Desk, empty_desk}
 use Rattle.desk_model.specs.IsDesk.{IsDesk}
 use Rattle.desk_model.specs.Plan.{change_by}
-use Rattle.desk_model.specs.Step.{call, desk_unless, effect, facts_of, guard}
+use Rattle.desk_model.specs.Step.{call, desk_after, desk_unless, effect, facts_of, guard}
 use Rattle.desk_model.specs.declared.change.Change.{Change}
 use Rattle.desk_model.specs.declared.command.Command.{Command}
 use Rattle.desk_model.specs.declared.refusal.Refusal.{Refusal}
-use Rattle.desk_core.specs.Stays.{KeepsDesk}
 use Rattle.desk_core.proofs.DeskLaw.ByKind.{change_fits}
 use Rattle.desk_core.proofs.DeskLaw.Entries.{entries_follow}
 use Rattle.desk_core.proofs.DeskLaw.Fitting.{Fits}
@@ -65,6 +64,6 @@ desk_unless_refused s at caller command desk None free is =
     (change_fits s at caller command desk is free) is
 
 pub desk_law : (s : Settings) (at : ℕ) (caller : List ℕ) (command : Command) (desk : Desk)
-    → KeepsDesk s at caller command desk
+    → IsDesk desk → IsDesk (desk_after s at caller command desk)
 desk_law s at caller command desk is =
     desk_unless_refused s at caller command desk (guard s at caller command desk) refl is

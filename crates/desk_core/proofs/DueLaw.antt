@@ -8,12 +8,12 @@ use Rattle.desk_model.specs.Desk.{Desk}
 use Rattle.desk_model.specs.IsDesk.{IsDesk}
 use Rattle.desk_model.specs.Plan.{Call, Plan, Reads, answer_by, change_by, filed_or_done}
 use Rattle.desk_model.specs.Plan.{seen_by}
-use Rattle.desk_model.specs.Step.{call}
+use Rattle.desk_model.specs.Step.{answer_of, call}
 use Rattle.desk_model.specs.declared.command.Command.{Command}
 use Rattle.desk_model.specs.declared.rows.RequestRow.{RequestRow}
 use Rattle.desk_core.proofs.Readings.{OwesRight, each_right}
 use Rattle.desk_model.specs.Readings.{dues_told}
-use Rattle.desk_core.specs.Laws.{IsDue, TellsDueMoments}
+use Rattle.desk_core.proofs.Readings.Owed.{IsDue}
 
 no_due : (s : Settings) (desk : Desk) (filed : Option RequestRow)
     → All (IsDue s desk) (dues_told (filed_or_done filed))
@@ -27,6 +27,6 @@ due_by_plan c plan desk is right =
     no_due c.settings desk (change_by c (seen_by plan desk) plan).filed
 
 pub due_law : (s : Settings) (at : ℕ) (caller : List ℕ) (command : Command) (desk : Desk)
-    → TellsDueMoments s at caller command desk
+    → IsDesk desk → All (IsDue s desk) (dues_told (answer_of s at caller command desk))
 due_law s at caller command desk is =
     due_by_plan (call s at caller) (plan_of command) desk is (each_right command)

@@ -1,39 +1,34 @@
 -- A request that wasn't there is filed by the command.
 use Rattle.std.proofs.Common.{◌≡◌, ◌∙◌, ℕ, ◌+◌, ◌==◌, Bool, true, false, cond, List, [], ◌∷◌, map}
-use Rattle.std.proofs.Common.{fold, find, Option, Some, None, refl, ap, sym, subst}
+use Rattle.std.proofs.Common.{fold, find, Option, Some, None, refl, ap, sym}
 use Rattle.std.specs.Option.{option_map, option_or}
 use Rattle.std.proofs.lemmas.Bool.{cond-true, eq-eqb}
 use Rattle.std.proofs.lemmas.List.Folds.{find-append}
 use Rattle.rights_core.specs.Right.{create_ticket}
 use Rattle.settings_core.specs.declared.settings.Settings.{Settings}
 use Rattle.text_core.specs.Texts.{is_among}
-use Rattle.desk_model.specs.Change.{applied, filed, no_change, request_filed, with_entry}
-use Rattle.desk_model.specs.Commands.{plan_of}
+use Rattle.desk_model.specs.Change.{applied, filed, request_filed, with_entry}
 use Rattle.desk_model.specs.Commands.Create as create
 use Rattle.desk_model.specs.Desk.{Desk, Request, queue_at, request_at, request_count}
 use Rattle.desk_model.specs.Facts.{facts_on_queue}
 use Rattle.desk_model.specs.Lifecycles.{first_status, is_creatable, lifecycle_of}
 use Rattle.desk_model.specs.Names.{in_order, with_name}
-use Rattle.desk_model.specs.Plan.{Call, change_by}
+use Rattle.desk_model.specs.Plan.{Call}
 use Rattle.desk_model.specs.Rights.{holds_on_queue}
-use Rattle.desk_model.specs.Step.{call, desk_unless, effect, facts_of, guard}
+use Rattle.desk_model.specs.Step.{call}
 use Rattle.desk_model.specs.declared.change.Change.{Change}
-use Rattle.desk_model.specs.declared.command.Command.{Command}
-use Rattle.desk_model.specs.declared.command.Command.TheVariants.{OpenQueue, Create}
-use Rattle.desk_model.specs.declared.refusal.Refusal.{Refusal}
 use Rattle.desk_model.specs.declared.rows.Entry.{Entry}
 use Rattle.desk_model.specs.declared.rows.RequestRow.{RequestRow}
-use Rattle.desk_core.proofs.Changed.{changed, entries_changed, found_mapped, id_changed}
+use Rattle.desk_model.specs.declared.rows.Turn.TheVariants as turns
+use Rattle.desk_core.proofs.Changed.{changed, found_mapped, id_changed}
 use Rattle.desk_core.proofs.Changed.{left_at, left_by_all, noted_on, put_on, requests_after}
 use Rattle.desk_core.proofs.Changed.{row_changed}
-use Rattle.desk_core.proofs.DeskLaw.ByKind.{MeetsAt, by_plan_at, some_is}
 use Rattle.desk_core.proofs.Goes.{NoneHolds, holding}
 use Rattle.desk_core.proofs.NamesLaw.{names_in_order_stay}
-use Rattle.desk_core.specs.Filing.{Files, IsFiled, KeepsFilingLaw}
 
 -- what is found after a change and wasn't there is what the change makes of the request that it
 -- files
-filed_by : (change : Change) (desk : Desk) (id : ℕ) (o : Option RequestRow) (request : Request)
+pub filed_by : (change : Change) (desk : Desk) (id : ℕ) (o : Option RequestRow) (request : Request)
     → change.filed ≡ o → request_at desk id ≡ None
     → request_at (applied change desk) id ≡ Some request
     → (row : RequestRow) × (o ≡ Some row) × (request ≡ changed change (filed row))
@@ -66,19 +61,9 @@ filed_by change desk id (Some row) request files none there =
       | false ↦ λ e. cc
     ] (sym found ∙ there)
 
--- the command files what its change files
-record Filing (call : Call) (command : Command) (desk : Desk) (change : Change) : Type 0 where
-  files : (row : RequestRow) → change.filed ≡ Some row
-      → Files call.settings call.at call.caller command desk (changed change (filed row))
-
-not_both : (o : Option RequestRow) (row : RequestRow) → o ≡ None → o ≡ Some row → ⊥
+pub not_both : (o : Option RequestRow) (row : RequestRow) → o ≡ None → o ≡ Some row → ⊥
 not_both None row none files = cc
 not_both (Some other) row none files = cc
-
-none_filed : (call : Call) (command : Command) (desk : Desk) (change : Change)
-    → change.filed ≡ None → Filing call command desk change
-none_filed call command desk change none =
-    record { files = λ row files. absurd (not_both change.filed row none files) }
 
 -- persons who are put into the role of requestors
 requestors_put : (id : ℕ) (names : List (List ℕ)) (r : Request) → r.row.id ≡ id
@@ -122,8 +107,26 @@ noted_alike : {Y : Type 0} (part : Request → Y) → ((e : Entry) (r : Request)
 noted_alike part leaves entries r =
     left_by_all part noted_on (λ x e. left_at part e.id (with_entry e) (leaves e) x) entries r
 
+-- what is true of a request that a command files
+pub record IsFiled (settings : Settings) (at : ℕ) (caller queue about : List ℕ)
+    (given : List (List ℕ)) (desk : Desk) (request : Request) : Type 0 where
+  pub number : request.row.id ≡ request_count desk + 1
+  pub subject : request.row.subject ≡ about
+  pub status : is_creatable (lifecycle_of settings (queue_at desk queue)) request.row.status ≡ true
+  pub owner : request.row.owner ≡ None
+  pub level : request.row.level ≡ create.first_level (queue_at desk queue)
+  pub created : request.row.created ≡ at
+  pub opened : request.row.opened ≡ at
+  pub turn : request.row.turn ≡ turns.Desk
+  pub since : request.row.since ≡ at
+  pub requestors : (name : List ℕ)
+      → is_among request.requestors name ≡ is_among (create.given_or_caller caller given) name
+  pub cc : request.cc ≡ []
+  pub admin_cc : request.admin_cc ≡ []
+  pub may_create : holds_on_queue settings caller create_ticket queue ≡ true
+
 -- a request that a command files with the next number
-filed_so : (call : Call) (desk : Desk) (queue subject : List ℕ) (status : Option (List ℕ))
+pub filed_so : (call : Call) (desk : Desk) (queue subject : List ℕ) (status : Option (List ℕ))
     (requestors : List (List ℕ))
     → NoneHolds (create.conditions queue status requestors call (facts_on_queue desk queue))
     → IsFiled call.settings call.at call.caller queue subject requestors desk
@@ -142,8 +145,6 @@ filed_so call desk queue subject status requestors none =
     let row : (changed change (filed new)).row ≡ new = row_changed change (filed new) in
     record {
       number = ap (λ (r : RequestRow). r.id) row;
-      in_queue = ap (λ (r : RequestRow). r.queue) row;
-      there = some_is (queue_at desk queue) none.0;
       subject = ap (λ (r : RequestRow). r.subject) row;
       status = ap (λ (r : RequestRow). is_creatable lifecycle r.status) row
           ∙ holding (is_creatable lifecycle (first_status lifecycle status)) none.1.1.1.0;
@@ -163,53 +164,6 @@ filed_so call desk queue subject status requestors none =
           ∙ cc_put id names (filed new) refl;
       admin_cc = noted_alike (λ r. r.admin_cc) (λ e r. refl) change.entries put
           ∙ admin_cc_put id names (filed new) refl;
-      entry = create.first_entry id call (first_status lifecycle status);
-      history = entries_changed change (filed new)
-          ∙ cond-true (id == id) (create.first_entry id call (first_status lifecycle status) ∷ [])
-          [] (eq-eqb id id refl);
-      by = (refl, refl);
       may_create =
           holding (holds_on_queue call.settings call.caller create_ticket queue) none.1.1.0;
     }
-
-filing_met : (call : Call) (desk : Desk) (command : Command)
-    → MeetsAt call (Filing call command) desk (plan_of command)
-filing_met call desk (OpenQueue name lifecycle level) = λ none.
-    none_filed call (OpenQueue name lifecycle level) desk _ refl
-filing_met call desk (Create queue subject status requestors) = λ none.
-    let new = create.new_row (request_count desk + 1) call.at queue subject
-    (first_status (lifecycle_of call.settings (queue_at desk queue)) status)
-    (queue_at desk queue) in
-    let change = create.change queue subject status requestors call (facts_on_queue desk queue) in
-    record {
-      files = λ row files.
-          let same : new ≡ row = cc in
-          subst (λ (r : RequestRow). IsFiled call.settings call.at call.caller queue subject
-          requestors desk (changed change (filed r))) same
-          (filed_so call desk queue subject status requestors none.1);
-    }
-filing_met call desk other = λ r there same none. none_filed call other desk _ refl
-
-filing_unless : (s : Settings) (at : ℕ) (caller : List ℕ) (command : Command) (desk : Desk)
-    (o : Option Refusal) (id : ℕ) (request : Request)
-    → guard s at caller command desk ≡ o → request_at desk id ≡ None
-    → request_at (desk_unless o desk (effect s at caller command desk)) id ≡ Some request
-    → Files s at caller command desk request
-filing_unless s at caller command desk (Some refusal) id request refused none there =
-    let never : None ≡ Some request = sym none ∙ there in
-    cc
-filing_unless s at caller command desk None id request free none there =
-    let asks = call s at caller in
-    let change = change_by asks (facts_of command desk) (plan_of command) in
-    let met : Filing asks command desk change =
-    by_plan_at (Filing asks command) asks (plan_of command) desk
-    (λ reads. none_filed asks command desk no_change refl) (filing_met asks desk command) free in
-    let made = filed_by change desk id change.filed request refl none there in
-    subst (λ (r : Request). Files s at caller command desk r) (sym made.2)
-    (met.files made.0 made.1)
-
-pub filing_law : (s : Settings) (at : ℕ) (caller : List ℕ) (command : Command) (desk : Desk)
-    → KeepsFilingLaw s at caller command desk
-filing_law s at caller command desk id request none there =
-    filing_unless s at caller command desk (guard s at caller command desk) id request refl none
-    there

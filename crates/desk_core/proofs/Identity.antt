@@ -11,8 +11,14 @@ use Rattle.desk_model.specs.declared.facts.Facts.{Facts}
 use Rattle.desk_model.specs.declared.facts.SeenRequest.{SeenRequest}
 use Rattle.desk_model.specs.declared.rows.RequestRow.{RequestRow}
 use Rattle.desk_core.proofs.Goes.{Goes, row_goes, set_by}
-use Rattle.desk_core.proofs.Kept.{history_law, ids_kept}
-use Rattle.desk_core.specs.Stays.{IsSameRequest, KeepsIdentity}
+use Rattle.desk_core.proofs.Kept.{EachStays, history_law, ids_kept}
+
+-- what a request has from when it was filed is the same
+pub record IsSameRequest (before after : RequestRow) : Type 0 where
+  pub number : after.id ≡ before.id
+  pub queue : after.queue ≡ before.queue
+  pub subject : after.subject ≡ before.subject
+  pub created : after.created ≡ before.created
 
 abbrev pub row_in : Option RequestRow → RequestRow → RequestRow
 row_in None row = row
@@ -50,7 +56,8 @@ identity_stays s at caller command desk id before after was is =
     ]
 
 pub identity_law : (s : Settings) (at : ℕ) (caller : List ℕ) (command : Command) (desk : Desk)
-    → KeepsIdentity s at caller command desk
+    → EachStays desk (desk_after s at caller command desk)
+    (λ before after. IsSameRequest before.row after.row)
 identity_law s at caller command desk id before was =
     let kept = history_law s at caller command desk id before was in
     (kept.0, kept.1, identity_stays s at caller command desk id before kept.0 was kept.1)

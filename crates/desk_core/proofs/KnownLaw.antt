@@ -21,7 +21,7 @@ use Rattle.desk_model.specs.Known.{is_known, knows_actors, knows_persons, knows_
 use Rattle.desk_model.specs.Lifecycles.{has_status, lifecycle_of}
 use Rattle.desk_model.specs.Names.{with_name}
 use Rattle.desk_model.specs.Plan.{change_by}
-use Rattle.desk_model.specs.Step.{call, desk_unless, effect, facts_of, guard}
+use Rattle.desk_model.specs.Step.{call, desk_after, desk_unless, effect, facts_of, guard}
 use Rattle.desk_model.specs.declared.change.Change.{Change}
 use Rattle.desk_model.specs.declared.command.Command.{Command}
 use Rattle.desk_model.specs.declared.refusal.Refusal.{Refusal}
@@ -39,7 +39,6 @@ use Rattle.desk_core.proofs.DeskLaw.Stages.{HoldsOfFiled, all_filed, queues_afte
 use Rattle.desk_core.proofs.Every.{every_filtered, every_mapped, every_placed, every_so}
 use Rattle.desk_core.proofs.KnownLaw.ByKind.{Brings, KnowsQueue, KnowsRow, all_with}
 use Rattle.desk_core.proofs.KnownLaw.ByKind.{change_brings, parts_known, row_known}
-use Rattle.desk_core.specs.Known.{KeepsKnown, KnownLaw}
 pub mod ByKind
 
 -- ---- queues
@@ -261,9 +260,13 @@ known_applied s change desk new brings parts =
       actors_known s change desk brings.entries parts.3,
     )
 
+-- where sound settings know the names of the one desk, they know those of the other
+abbrev pub KnowsOn : Settings → Desk → Desk → Type 0
+KnowsOn s old new = AreSound s → is_known s old ≡ true → is_known s new ≡ true
+
 known_unless : (s : Settings) (at : ℕ) (caller : List ℕ) (command : Command) (desk : Desk)
     (o : Option Refusal) → guard s at caller command desk ≡ o → IsDesk desk
-    → KnownLaw s desk (desk_unless o desk (effect s at caller command desk))
+    → KnowsOn s desk (desk_unless o desk (effect s at caller command desk))
 known_unless s at caller command desk (Some refusal) refused is sound known = known
 known_unless s at caller command desk None free is sound known =
     let parts = parts_of s desk known in
@@ -272,6 +275,6 @@ known_unless s at caller command desk None free is sound known =
     (change_brings s at caller command desk sound parts.0 parts.1 free) parts
 
 pub known_law : (s : Settings) (at : ℕ) (caller : List ℕ) (command : Command) (desk : Desk)
-    → KeepsKnown s at caller command desk
+    → IsDesk desk → KnowsOn s desk (desk_after s at caller command desk)
 known_law s at caller command desk is =
     known_unless s at caller command desk (guard s at caller command desk) refl is

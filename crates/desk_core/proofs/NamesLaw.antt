@@ -8,7 +8,7 @@ use Rattle.std.specs.Str.{bytes_eq}
 use Rattle.std.specs.declared.cmp.Ordering.TheVariants.{Less, Equal, Greater}
 use Rattle.desk_model.specs.Names.{names_rise}
 use Rattle.desk_model.specs.Names.{in_order, text_order, with_name}
-use Rattle.desk_core.proofs.Rising.{all_named_rise}
+use Rattle.sorted_lists.proofs.Rising.{all_named_rise}
 use Rattle.text_core.specs.Texts.{is_among}
 
 pub names_in_order_rise : (names : List (List ℕ)) → names_rise (in_order names) ≡ true

@@ -7,11 +7,10 @@ use Rattle.desk_model.specs.IsDesk.{IsDesk}
 use Rattle.desk_model.specs.Plan.{Call, Plan, Reads, answer_by, change_by, filed_or_done}
 use Rattle.desk_model.specs.Plan.{seen_by}
 use Rattle.desk_model.specs.Readings.{IsInOrder}
-use Rattle.desk_model.specs.Step.{call}
+use Rattle.desk_model.specs.Step.{answer_of, call}
 use Rattle.desk_model.specs.declared.command.Command.{Command}
 use Rattle.desk_model.specs.declared.rows.RequestRow.{RequestRow}
 use Rattle.desk_core.proofs.Readings.{OwesRight, each_right}
-use Rattle.desk_core.specs.Laws.{TellsInOrder}
 
 -- but a reading, no command lists anything
 nothing_listed : (filed : Option RequestRow) → IsInOrder (filed_or_done filed)
@@ -25,6 +24,6 @@ in_order_by_plan plan call desk is right =
     nothing_listed (change_by call (seen_by plan desk) plan).filed
 
 pub orders_law : (s : Settings) (at : ℕ) (caller : List ℕ) (command : Command) (desk : Desk)
-    → TellsInOrder s at caller command desk
+    → IsDesk desk → IsInOrder (answer_of s at caller command desk)
 orders_law s at caller command desk is =
     in_order_by_plan (plan_of command) (call s at caller) desk is (each_right command)

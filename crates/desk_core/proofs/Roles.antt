@@ -18,8 +18,7 @@ use Rattle.desk_model.specs.Rights.{roles_on}
 use Rattle.desk_model.specs.declared.rows.Watcher.{Watcher}
 use Rattle.desk_model.specs.declared.rows.WatchRole.{WatchRole}
 use Rattle.desk_model.specs.declared.rows.WatchRole.TheVariants.{Requestor, Cc, AdminCc}
-use Rattle.desk_core.specs.Laws.{ShowsByWatchers}
-use Rattle.desk_core.specs.Shown.{ShowsByList, TellsRoles}
+use Rattle.desk_core.specs.Shown.{ShowsByList, ShowsByWatchers, TellsRoles}
 
 pub same_number : (n : ℕ) → (n == n) ≡ true
 same_number n = eq-eqb n n refl

@@ -1,6 +1,7 @@
 -- The history of each request tells its status.
 use Rattle.std.proofs.Common.{◌≡◌, ◌∙◌, ℕ, ◌==◌, List, [], ◌∷◌}
 use Rattle.std.proofs.Common.{◌++◌, Option, Some, None, unwrap_or, refl, ap, sym, subst}
+use Rattle.std.specs.List.{All}
 use Rattle.std.specs.Option.{option_or}
 use Rattle.std.proofs.lemmas.Bool.{cond-true, eq-eqb}
 use Rattle.std.proofs.lemmas.List.Elements.{All-nil}
@@ -12,7 +13,7 @@ use Rattle.desk_model.specs.Desk.{Desk, Request, empty_desk}
 use Rattle.desk_model.specs.Facts.{facts_on_queue, seen_request}
 use Rattle.desk_model.specs.IsDesk.{IsDesk}
 use Rattle.desk_model.specs.Plan.{Call, Plan, Reads, OnQueue, OnRequest, besides_on}
-use Rattle.desk_model.specs.Step.{call, desk_unless, effect, guard}
+use Rattle.desk_model.specs.Step.{call, desk_after, desk_unless, effect, guard}
 use Rattle.desk_model.specs.declared.change.Change.{Change}
 use Rattle.desk_model.specs.declared.command.Command.{Command}
 use Rattle.desk_model.specs.declared.command.Command.TheVariants.{OpenQueue, Create, Reply}
@@ -28,8 +29,11 @@ use Rattle.desk_core.proofs.DeskLaw.ByKind.{Meets, by_plan}
 use Rattle.desk_core.proofs.EachRequest.{HoldsFiled, each_on_queue, each_on_request}
 use Rattle.desk_core.proofs.Kept.{status_in}
 use Rattle.desk_core.proofs.Touches.{Touches, touches}
-use Rattle.desk_core.specs.Histories.{IsTold, KeepsStatusesTold, TellsStatuses}
-use Rattle.desk_core.specs.Histories.{status_in_entry, status_told}
+use Rattle.desk_core.specs.Laws.{IsTold, status_in as status_in_entry, status_told}
+
+-- the history of each request tells its status
+abbrev pub TellsStatuses : Desk → Type 0
+TellsStatuses desk = All IsTold desk.requests
 
 or_none : (o : Option (List ℕ)) → o ≡ option_or o None
 or_none None = refl
@@ -157,6 +161,6 @@ pub empty_told : TellsStatuses empty_desk
 empty_told = All-nil IsTold
 
 pub status_told_law : (s : Settings) (at : ℕ) (caller : List ℕ) (command : Command) (desk : Desk)
-    → KeepsStatusesTold s at caller command desk
+    → IsDesk desk → TellsStatuses desk → TellsStatuses (desk_after s at caller command desk)
 status_told_law s at caller command desk is told =
     told_unless s at caller command desk (guard s at caller command desk) refl is told

@@ -1,5 +1,5 @@
 -- Which request a command changes, by the kind of the command; the others are the same afterwards.
-use Rattle.std.proofs.Common.{◌≡◌, ◌∙◌, ℕ, ◌+◌, ◌<◌, ◌==◌, true, false, cond}
+use Rattle.std.proofs.Common.{◌≡◌, ◌∙◌, ℕ, ◌+◌, ◌<◌, ◌==◌, Bool, true, false, cond}
 use Rattle.std.proofs.Common.{List, [], ◌∷◌, map, find, length, Option, Some, None, refl, ap}
 use Rattle.std.proofs.Common.{sym, arith}
 use Rattle.std.proofs.lemmas.Bool.{and_parts, eqb-false, eqb-true}
@@ -14,7 +14,7 @@ use Rattle.desk_model.specs.IsDesk.{IsDesk, are_numbered}
 use Rattle.desk_model.specs.Names.{in_order}
 use Rattle.desk_model.specs.Plan.{Call, Plan, Reads, OnQueue, OnRequest}
 use Rattle.desk_model.specs.Plan.{change_by, seen_by}
-use Rattle.desk_model.specs.Step.{call, desk_unless, effect, facts_of, guard}
+use Rattle.desk_model.specs.Step.{call, desk_after, desk_unless, effect, facts_of, guard}
 use Rattle.desk_model.specs.declared.change.Change.{Change}
 use Rattle.desk_model.specs.declared.command.Command.{Command}
 use Rattle.desk_model.specs.declared.command.Command.TheVariants.{OpenQueue, Create, Reply}
@@ -23,8 +23,6 @@ use Rattle.desk_model.specs.declared.refusal.Refusal.{Refusal}
 use Rattle.desk_core.proofs.Changed.{AllOf, OnlyOf, changed, found_changed, row_id, spared}
 use Rattle.desk_core.proofs.DeskLaw.ByKind.{Meets, by_plan}
 use Rattle.desk_core.proofs.Goes.{number_found}
-use Rattle.desk_core.specs.Laws.{changes, is_on}
-use Rattle.desk_core.specs.Stays.{KeepsOthers}
 
 -- a part of the first, or what is given where there is none
 abbrev pub first_of : {X Y : Type 0} → (X → Y) → Y → List X → Y
@@ -56,6 +54,15 @@ only_of_few change n row put taken entries =
       taken = all_of_few (λ w. w.id) n change.taken taken;
       entries = all_of_few (λ e. e.id) n change.entries entries;
     }
+
+-- the plan is on the request with that number
+abbrev pub is_on : Plan → ℕ → Bool
+is_on (OnRequest asked besides text conditions change) id = asked == id
+is_on other id = false
+
+-- the command changes the request with that number, where it isn't refused
+abbrev pub changes : Command → ℕ → Bool
+changes command id = is_on (plan_of command) id
 
 -- the plan is on the request of that number, or that is the next number
 abbrev pub IsOn : Plan → Desk → ℕ → Type 0
@@ -171,7 +178,8 @@ stays_unless s at caller command desk None id r free is there unnamed =
     (touched s at caller command desk free))
 
 pub others_law : (s : Settings) (at : ℕ) (caller : List ℕ) (command : Command) (desk : Desk)
-    → KeepsOthers s at caller command desk
+    → IsDesk desk → (id : ℕ) (request : Request) → request_at desk id ≡ Some request
+    → changes command id ≡ false → request_at (desk_after s at caller command desk) id ≡ Some request
 others_law s at caller command desk is id r there unnamed =
     stays_unless s at caller command desk (guard s at caller command desk) id r refl is there
     unnamed

@@ -1,7 +1,7 @@
 -- The turn of a request passes by a reply on it alone.
 use Rattle.std.proofs.Common.{◌≡◌, ◌≢◌, ◌∙◌, ℕ, ◌==◌, Bool, true, false, not, ◌&&◌, cond, List}
 use Rattle.std.proofs.Common.{Option, Some, None, unwrap_or, is_none, refl, ap, sym}
-use Rattle.std.proofs.Common.{subst}
+use Rattle.std.proofs.Common.{if◌then◌else◌, subst}
 use Rattle.std.proofs.lemmas.Bool.{cond-false, eq-eqb, eqb-false, eqb-true, ne_eqb}
 use Rattle.lifecycle_core.specs.declared.parts.Parts.{Parts}
 use Rattle.settings_core.specs.declared.settings.Settings.{Settings}
@@ -14,7 +14,7 @@ use Rattle.desk_model.specs.Desk.{Desk, Request, queue_at, request_at}
 use Rattle.desk_model.specs.Facts.{queue_of, seen_request}
 use Rattle.desk_model.specs.Lifecycles.{lifecycle_of, opens_anew, is_inactive}
 use Rattle.desk_model.specs.Plan.{Call, Stays, Dependencies, besides_on, change_by, is_reading}
-use Rattle.desk_model.specs.Step.{call, desk_unless, effect, facts_of, guard}
+use Rattle.desk_model.specs.Step.{call, desk_after, desk_unless, effect, facts_of, guard}
 use Rattle.desk_model.specs.declared.change.Change.{Change}
 use Rattle.desk_model.specs.declared.command.Command.{Command}
 use Rattle.desk_model.specs.declared.command.Command.TheVariants.{OpenQueue, Create}
@@ -22,12 +22,46 @@ use Rattle.desk_model.specs.declared.command.Command.TheVariants.{SetStatus, Rep
 use Rattle.desk_model.specs.declared.refusal.Refusal.{Refusal}
 use Rattle.desk_model.specs.declared.rows.QueueRow.{QueueRow}
 use Rattle.desk_model.specs.declared.rows.RequestRow.{RequestRow}
+use Rattle.desk_model.specs.declared.rows.Turn.{Turn}
+use Rattle.desk_model.specs.declared.rows.Turn.TheVariants.{Desk as Desks, Requestor}
 use Rattle.desk_core.proofs.Applied.{row_after}
 use Rattle.desk_core.proofs.Changed.{changed, found_changed, row_changed, row_id}
 use Rattle.desk_core.proofs.DeskLaw.ByKind.{MeetsAt, by_plan_at}
 use Rattle.desk_core.proofs.Goes.{number_found}
 use Rattle.desk_core.proofs.Identity.{row_in}
-use Rattle.desk_core.specs.Turns.{IsTurned, KeepsTurnLaw, if_anew, replies_on}
+use Rattle.desk_core.proofs.Kept.{EachStays}
+
+-- the command is a reply on the request
+abbrev pub replies_on : Command → ℕ → Bool
+replies_on (Reply id text) asked = id == asked
+replies_on other asked = false
+
+-- the command is a reply on the request that isn't refused
+abbrev pub is_replied : Settings → ℕ → List ℕ → Command → Desk → ℕ → Bool
+is_replied settings at caller command desk id =
+    is_none (guard settings at caller command desk) && replies_on command id
+
+-- this moment where a request is opened anew, and else that of before
+abbrev pub if_anew : Bool → ℕ → ℕ → ℕ
+if_anew anew at before = if anew then at else before
+
+-- after a reply of a requestor it is the desk's turn, and after another one the requestor's
+abbrev pub turn_replied : Bool → Turn
+turn_replied is_requestor = if is_requestor then Desks else Requestor
+
+-- the turn begins with the reply, unless it was the desk's and stays the desk's
+abbrev pub since_replied : Bool → Turn → ℕ → ℕ → ℕ
+since_replied is_requestor turn at before =
+    if is_requestor && reply.is_desks turn then before else at
+
+-- the turn passes by a reply alone, and each limit counts anew where the request is opened anew
+pub record IsTurned (at : ℕ) (replied is_requestor anew : Bool) (before after : RequestRow)
+    : Type 0 where
+  pub turn : after.turn ≡ (if replied then turn_replied is_requestor else before.turn)
+  pub since : after.since
+      ≡ (if replied then since_replied is_requestor before.turn at (if_anew anew at before.since)
+      else if_anew anew at before.since)
+  pub opened : after.opened ≡ if_anew anew at before.opened
 
 neither : (b : Bool) → (b && not b) ≡ false
 neither true = refl
@@ -39,7 +73,7 @@ pub same_status : (lifecycle : Option Parts) (status : List ℕ)
 same_status lifecycle status = neither (is_inactive lifecycle status)
 
 -- what the status leaves alone stays from when it was
-stays_from : (lifecycle : Option Parts) (status : List ℕ) (at before : ℕ)
+pub stays_from : (lifecycle : Option Parts) (status : List ℕ) (at before : ℕ)
     → before ≡ if_anew (opens_anew lifecycle status status) at before
 stays_from lifecycle status at before =
     sym (cond-false (opens_anew lifecycle status status) at before (same_status lifecycle status))
@@ -229,6 +263,11 @@ turned_unless s at caller command desk None id before free was =
     )
 
 pub turn_law : (s : Settings) (at : ℕ) (caller : List ℕ) (command : Command) (desk : Desk)
-    → KeepsTurnLaw s at caller command desk
+    → EachStays desk (desk_after s at caller command desk) (λ before after.
+    IsTurned at (is_replied s at caller command desk before.row.id)
+    (is_among before.requestors caller)
+    (opens_anew (lifecycle_of s (queue_at desk before.row.queue)) before.row.status
+    after.row.status)
+    before.row after.row)
 turn_law s at caller command desk id before was =
     turned_unless s at caller command desk (guard s at caller command desk) id before refl was

@@ -7,7 +7,7 @@ use Rattle.desk_model.specs.Commands.{IsReading, plan_of}
 use Rattle.desk_model.specs.Condition.{Condition, Decides}
 use Rattle.desk_model.specs.Desk.{Desk}
 use Rattle.desk_model.specs.Plan.{Call, Plan, Reads, change_by, is_reading}
-use Rattle.desk_model.specs.Step.{call, desk_unless, facts_of, guard}
+use Rattle.desk_model.specs.Step.{call, desk_after, desk_unless, facts_of, guard}
 use Rattle.desk_model.specs.declared.change.Change.{Change}
 use Rattle.desk_model.specs.declared.command.Command.{Command}
 use Rattle.desk_model.specs.declared.facts.Facts.{Facts}
@@ -15,7 +15,6 @@ use Rattle.desk_model.specs.declared.refusal.Refusal.{Refusal}
 use Rattle.desk_model.specs.declared.rows.QueueRow.{QueueRow}
 use Rattle.desk_model.specs.Dated.{dated, due_in_queue}
 use Rattle.desk_core.specs.Decision.{change_of}
-use Rattle.desk_core.specs.Laws.{LeavesTheDesk}
 
 unchanged_by_plan : (plan : Plan) (call : Call) (facts : Facts) → is_reading plan ≡ true
     → change_by call facts plan ≡ no_change
@@ -49,7 +48,7 @@ same_desk None desk = refl
 same_desk (Some refusal) desk = refl
 
 pub reading_law : (s : Settings) (at : ℕ) (caller : List ℕ) (command : Command) (desk : Desk)
-    → LeavesTheDesk s at caller command desk
+    → IsReading command → desk_after s at caller command desk ≡ desk
 reading_law s at caller command desk reads =
     ap (λ (change : Change). desk_unless (guard s at caller command desk) desk
     (applied change desk))

@@ -5,15 +5,15 @@ use Rattle.std.specs.Option.{option_map}
 use Rattle.hours_core.specs.Moment.{is_moment}
 use Rattle.settings_core.specs.Settings.{knows}
 use Rattle.settings_core.specs.declared.settings.Settings.{Settings}
-use Rattle.desk_model.specs.Commands.{plan_of}
+use Rattle.desk_model.specs.Commands.{IsReading, plan_of}
 use Rattle.desk_model.specs.Condition.{Condition, first_holding}
 use Rattle.desk_model.specs.Desk.{Desk, Request, queue_at, request_at}
 use Rattle.desk_model.specs.Facts.{seen_request}
 use Rattle.desk_model.specs.IsDesk.{IsDesk}
 use Rattle.desk_model.specs.Plan.{Call, Plan, Reads, OneQueue, OneRequest, WholeDesk, answer_by}
 use Rattle.desk_model.specs.Plan.{conditions_of, is_reading, is_unseen, on_shown, seen_by}
-use Rattle.desk_model.specs.Rights.{may_show}
-use Rattle.desk_model.specs.Step.{Outcome, call, outcome_unless}
+use Rattle.desk_model.specs.Rights.{is_shown, may_show}
+use Rattle.desk_model.specs.Step.{Outcome, call, outcome_of, outcome_unless}
 use Rattle.desk_model.specs.View.{as_seen, view}
 use Rattle.desk_model.specs.declared.answer.Answer.{Answer}
 use Rattle.desk_model.specs.declared.command.Command.{Command}
@@ -21,7 +21,6 @@ use Rattle.desk_model.specs.declared.refusal.Refusal.TheVariants.{UnknownCaller,
 use Rattle.desk_model.specs.declared.refusal.Refusal.TheVariants.{NotFound}
 use Rattle.desk_core.proofs.InView.{if_shown, in_view, is_shown_in, unseen_in_view}
 use Rattle.desk_core.proofs.Readings.{OwesRight, each_right}
-use Rattle.desk_core.specs.Laws.{HidesTheRest, TellsOfTheView}
 
 -- these conditions after those on the call
 abbrev after_call : Call → List Condition → List Condition
@@ -83,7 +82,9 @@ alike_by_plan c (Reads (OneRequest id) told) desk is reads right =
 alike_by_plan c other desk is reads right = cc
 
 pub view_law : (s : Settings) (at : ℕ) (caller : List ℕ) (command : Command) (desk : Desk)
-    → TellsOfTheView s at caller command desk
+    → IsDesk desk → IsReading command
+    → outcome_of s at caller command desk
+    ≡ outcome_of s at caller command (view s caller desk)
 view_law s at caller command desk is reads =
     alike_by_plan (call s at caller) (plan_of command) desk is reads (each_right command)
 
@@ -97,6 +98,7 @@ not_kept s caller (Some r) e =
       | false ↦ λ h. refl
     ] e
 
-pub hides_the_rest : (s : Settings) (caller : List ℕ) (desk : Desk) → HidesTheRest s caller desk
+pub hides_the_rest : (s : Settings) (caller : List ℕ) (desk : Desk) → IsDesk desk → (id : ℕ)
+    → request_at (view s caller desk) id ≡ None → is_shown s caller desk id ≡ false
 hides_the_rest s caller desk is id none =
     not_kept s caller (request_at desk id) (sym (in_view s caller desk id is) ∙ none)

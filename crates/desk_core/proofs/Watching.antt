@@ -13,7 +13,7 @@ use Rattle.desk_model.specs.Facts.{seen_request}
 use Rattle.desk_model.specs.IsDesk.{IsDesk}
 use Rattle.desk_model.specs.Names.{with_name}
 use Rattle.desk_model.specs.Plan.{Call, Nothing, besides_on, change_by}
-use Rattle.desk_model.specs.Step.{call, desk_unless, effect, facts_of, guard}
+use Rattle.desk_model.specs.Step.{call, desk_after, desk_unless, effect, facts_of, guard}
 use Rattle.desk_model.specs.declared.change.Change.{Change}
 use Rattle.desk_model.specs.declared.command.Command.{Command}
 use Rattle.desk_model.specs.declared.command.Command.TheVariants.{OpenQueue, Create}
@@ -23,14 +23,27 @@ use Rattle.desk_model.specs.declared.rows.Entry.{Entry}
 use Rattle.desk_model.specs.declared.rows.RequestRow.{RequestRow}
 use Rattle.desk_model.specs.declared.rows.WatchRole.{WatchRole}
 use Rattle.desk_model.specs.declared.rows.WatchRole.TheVariants.{Requestor, Cc, AdminCc}
-use Rattle.desk_core.proofs.Asked.{may_set_role}
+use Rattle.desk_core.proofs.Asked.{MaySetRole, may_set_role}
 use Rattle.desk_core.proofs.Changed.{changed, found_changed, left_at, left_by_all, noted_on, put_on}
 use Rattle.desk_core.proofs.Changed.{row_given, spared, staffed, taken_from}
 use Rattle.desk_core.proofs.DeskLaw.ByKind.{MeetsAt, by_plan_at}
 use Rattle.desk_core.proofs.Goes.{holding, number_found}
+use Rattle.desk_core.proofs.Kept.{EachStays}
 use Rattle.desk_core.proofs.Touches.{number_within, touches}
-use Rattle.desk_core.specs.Asked.{MaySetRole}
-use Rattle.desk_core.specs.Watching.{KeepsWatchLaw, SetsPersons, persons_of}
+use Rattle.desk_core.specs.Laws.{persons_of}
+
+-- the command puts a person into this role on the request, or takes one out of it, which leaves
+-- these there, and the caller may do it
+abbrev pub SetsPersons : Settings → List ℕ → Command → Request → WatchRole → List (List ℕ) → Type 0
+SetsPersons settings caller (Watch id asked person) before role persons =
+    (id ≡ before.row.id) × (asked ≡ role)
+    × (persons ≡ with_name (persons_of role before) person)
+    × MaySetRole settings caller role person (seen_request before)
+SetsPersons settings caller (Unwatch id asked person) before role persons =
+    (id ≡ before.row.id) × (asked ≡ role)
+    × (persons ≡ without_name (persons_of role before) person)
+    × MaySetRole settings caller role person (seen_request before)
+SetsPersons settings caller other before role persons = ⊥
 
 with_entry_alike : (role : WatchRole) (e : Entry) (r : Request)
     → persons_of role (with_entry e r) ≡ persons_of role r
@@ -212,6 +225,8 @@ watched_unless s at caller command desk None id before free is was =
     (changed change before, found_changed change desk id before was, met.sets id before was)
 
 pub watch_law : (s : Settings) (at : ℕ) (caller : List ℕ) (command : Command) (desk : Desk)
-    → KeepsWatchLaw s at caller command desk
+    → IsDesk desk → EachStays desk (desk_after s at caller command desk) (λ before after.
+    (role : WatchRole) → persons_of role after ≢ persons_of role before
+    → SetsPersons s caller command before role (persons_of role after))
 watch_law s at caller command desk is id before was =
     watched_unless s at caller command desk (guard s at caller command desk) id before refl is was

@@ -1,18 +1,19 @@
 -- What a decision, made of facts alone, says of each desk that has these facts.
-use Rattle.std.specs.Prelude.{◌≡◌, ◌≢◌, ℕ, List, Some, None, Result, IfOk, IfErr}
+use Rattle.std.specs.Prelude.{◌≡◌, ◌≢◌, ℕ, List, Option, Some, None, Result, IfOk, IfErr}
 use Rattle.settings_core.specs.declared.settings.Settings.{Settings}
 use Rattle.desk_model.specs.Change.{applied}
 use Rattle.desk_model.specs.Commands.{plan_of}
 use Rattle.desk_model.specs.Condition.{Decides}
 use Rattle.desk_model.specs.Desk.{Desk}
 use Rattle.desk_model.specs.Dated.{dated}
-use Rattle.desk_model.specs.Plan.{Call, change_by, conditions_of}
+use Rattle.desk_model.specs.Plan.{Call, OnRequest, Plan, change_by, conditions_of}
 use Rattle.desk_model.specs.Step.{call, effect, facts_of, guard}
 use Rattle.desk_model.specs.declared.change.Change.{Change}
 use Rattle.desk_model.specs.declared.command.Command.{Command}
 use Rattle.desk_model.specs.declared.facts.Facts.{Facts}
 use Rattle.desk_model.specs.declared.refusal.Refusal.{Refusal}
 use Rattle.desk_model.specs.declared.refusal.Refusal.TheVariants.{Unavailable}
+use Rattle.desk_core.specs.Laws.{request_of}
 
 -- a change is given only where the desk refuses nothing, and it leads to the desk after the command
 abbrev pub Accepts : Settings → ℕ → List ℕ → Facts → Command → Result Change Refusal → Type 0
@@ -39,3 +40,12 @@ abbrev pub FollowsPlan : Settings → ℕ → List ℕ → Facts → Command →
 FollowsPlan settings at caller facts command result =
     Decides result (conditions_of (call settings at caller) facts (plan_of command))
     (change_of (call settings at caller) facts command)
+
+-- the request that a plan is on
+abbrev pub request_on : Plan → Option ℕ
+request_on (OnRequest id besides bad conditions change) = Some id
+request_on other = None
+
+-- The plan of a command is on the request which the laws say that the command changes.
+abbrev pub IsOnItsRequest : Command → Type 0
+IsOnItsRequest command = request_on (plan_of command) ≡ request_of command

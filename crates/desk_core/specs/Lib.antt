@@ -1,15 +1,7 @@
-pub mod Asked
-pub mod Bounds
 pub mod Carried
 pub mod Context
 pub mod Decision
-pub mod Filing
-pub mod Histories
-pub mod Known
+pub mod Lawful
 pub mod Laws
-pub mod Opened
 pub mod Shown
-pub mod Small
-pub mod Stays
-pub mod Turns
-pub mod Watching
+pub mod Usual

@@ -6,7 +6,7 @@ use Rattle.desk_model.specs.Commands.Watch.{persons_in}
 use Rattle.desk_model.specs.Desk.{Request}
 use Rattle.desk_model.specs.Facts.{seen_request}
 use Rattle.desk_model.specs.Rights.{may_show}
-use Rattle.desk_model.specs.Watchers.{is_watching, may_show_by}
+use Rattle.desk_model.specs.Watchers.{is_watching, may_show_by, watchers_of}
 use Rattle.desk_model.specs.declared.rows.Watcher.{Watcher}
 use Rattle.desk_model.specs.declared.rows.WatchRole.{WatchRole}
 
@@ -23,4 +23,10 @@ abbrev pub ShowsByList : Settings → List ℕ → Request → List Watcher → 
 ShowsByList settings person request watchers =
     TellsRoles person request watchers
     → may_show_by settings person request.row watchers
+    ≡ may_show settings person (seen_request request)
+
+-- The rows of a request's people tell who may show it.
+abbrev pub ShowsByWatchers : Settings → List ℕ → Request → Type 0
+ShowsByWatchers settings person request =
+    may_show_by settings person request.row (watchers_of request)
     ≡ may_show settings person (seen_request request)

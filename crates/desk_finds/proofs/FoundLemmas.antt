@@ -1,5 +1,5 @@
 -- What is found of the rows that were read is what is found on the desk.
-use Rattle.std.proofs.Common.{◌≡◌, ◌∙◌, ◌<◌, ◌+◌, ◌++◌, get_or, take, ℕ, Bool, true, false, cond, ◌&&◌, ◌||◌, List, [], ◌∷◌, filter}
+use Rattle.std.proofs.Common.{◌≡◌, ◌∙◌, ◌<◌, ◌+◌, ◌++◌, arith, get_or, take, ℕ, Bool, true, false, cond, ◌&&◌, ◌||◌, List, [], ◌∷◌, filter}
 use Rattle.std.proofs.Common.{find, length, map, Option, Some, None, refl, ap, ap₂, sym, subst}
 use Rattle.std.specs.Prelude.{filter_map}
 use Rattle.std.specs.Cmp.Lexicographic.{texts_ties}
@@ -50,8 +50,8 @@ use Rattle.store_tables.specs.Contents.Request.{dated_by, is_filed_in}
 use Rattle.store_core.specs.Due.{due_of_row}
 use Rattle.store_core.specs.Rows.{dated_rows}
 use Rattle.desk_reports.proofs.Reported.{Alike, HaveDues, have_dues, requestors_alike, shows_alike}
-use Rattle.desk_reports.proofs.Reported.{watches_on}
-use Rattle.report_core.specs.Rows.{QueuesRise}
+use Rattle.desk_reports.proofs.Reported.{watches_in_order, watches_on}
+use Rattle.report_core.specs.Rows.{QueuesRise, WatchesRise}
 use Rattle.desk_finds.specs.Found.{ArePart, asked_on, dated_on, found_of, met_on, placed_by, theirs_on}
 use Rattle.desk_finds.specs.Found.{is_by_last, looks_inside, told_at}
 
@@ -64,6 +64,18 @@ as_findings rows count = record { rows = rows; count = count }
 kept_in_queue : (queue : List ℕ) (row : RequestRow) → bytes_eq row.queue queue ≡ true
     → is_filed_in queue row ≡ true
 kept_in_queue queue row same = sym (texts_ties row.queue queue) ∙ same
+
+-- it doesn't matter when the requestor is asked for
+asked_between : (queue status owner rest requested shown : Bool)
+    → ((queue && (status && (owner && rest))) && (requested && shown))
+    ≡ ((queue && (status && (owner && (requested && rest)))) && shown)
+asked_between false status owner rest requested shown = refl
+asked_between true false owner rest requested shown = refl
+asked_between true true false rest requested shown = refl
+asked_between true true true false true shown = refl
+asked_between true true true false false shown = refl
+asked_between true true true true true shown = refl
+asked_between true true true true false shown = refl
 
 module _ (s : Settings) (at : ℕ) (caller : List ℕ) (search : Search) (desk : Desk) where
   abbrev due : RequestRow → Option ℕ
@@ -91,10 +103,10 @@ module _ (s : Settings) (at : ℕ) (caller : List ℕ) (search : Search) (desk :
       let requested = is_requested search.requestor theirs row.id in
       let rest = has_status search.status class row.status
       && (has_owner search.owner row.owner
-      && (requested && (is_due at search.late (due row)
-      && is_filed search.filed_from search.filed_to row.created))) in
-      let whole = and_parts (row_meets at search class requested (dated_by due row))
-      (may_show_by s caller row own) e in
+      && (is_due at search.late (due row)
+      && is_filed search.filed_from search.filed_to row.created)) in
+      let whole = and_parts (row_meets at search class (dated_by due row))
+      (requested && may_show_by s caller row own) e in
       ap (λ a. is_in a row.queue) (sym same)
       ∙ (and_parts (is_in search.queue row.queue) rest whole.0).0
 
@@ -120,10 +132,14 @@ module _ (s : Settings) (at : ℕ) (caller : List ℕ) (search : Search) (desk :
       → left (dated_by due r.row) ≡ (met r && shows r)
   left_alike r may dues requested =
       let class = class_in s (find (λ q. bytes_eq q.name r.row.queue) desk.queues) r.row.status in
-      ap (λ b. row_meets at search class (is_requested search.requestor theirs r.row.id)
-      (r.row, due r.row) && b) may
-      ∙ ap₂ (λ (b : Bool) (o : Option ℕ). row_meets at search class b (r.row, o) && shows r)
-      requested dues
+      ap₂ (λ a b. row_meets at search class (r.row, due r.row) && (a && b)) requested may
+      ∙ ap (λ (o : Option ℕ). row_meets at search class (r.row, o)
+      && (has_requestor search.requestor r.requestors && shows r)) dues
+      ∙ asked_between (is_in search.queue r.row.queue) (has_status search.status class r.row.status)
+      (has_owner search.owner r.row.owner)
+      (is_due at search.late (due_on s desk r)
+      && is_filed search.filed_from search.filed_to r.row.created)
+      (has_requestor search.requestor r.requestors) (shows r)
 
   left_are : (rs : List Request) → Alike s caller own rs → HaveDues s desk rs → Requestors rs
       → filter left (map (dated_by due) (map (λ r. r.row) rs))
@@ -160,6 +176,10 @@ module _ (s : Settings) (at : ℕ) (caller : List ℕ) (search : Search) (desk :
       by (r ∷ rs) = (refl, by rs)
   requestors_are is (Some person) = requestors_alike person desk is
 
+  theirs_in_order : (asked : Option (List ℕ)) → IsDesk desk → WatchesRise (theirs_on desk asked)
+  theirs_in_order None is = λ i j d le lt. absurd (omega arith)
+  theirs_in_order (Some person) is = watches_in_order person desk is
+
   left_on : IsDesk desk → (rows : List Dated) → ArePart search.queue due desk rows
       → filter left rows ≡ asked_on s at caller search desk
   left_on is rows part =
@@ -171,12 +191,14 @@ module _ (s : Settings) (at : ℕ) (caller : List ℕ) (search : Search) (desk :
   pub asked_from : IsDesk desk → (mine others : List Watcher) (queues : List QueueRow)
       (rows result : List Dated)
       → mine ≡ own → others ≡ theirs → queues ≡ desk.queues → ArePart search.queue due desk rows
-      → (QueuesRise queues → result ≡ filter (is_left s at caller search mine others queues) rows)
+      → (WatchesRise mine → WatchesRise others → QueuesRise queues
+      → result ≡ filter (is_left s at caller search mine others queues) rows)
       → result ≡ asked_on s at caller search desk
   asked_from is mine others queues rows result mine_is others_is queues_is part made =
-      let here = subst (λ (qs : List QueueRow). QueuesRise qs
-      → result ≡ filter (is_left s at caller search mine others qs) rows) queues_is made in
-      here is.queues
+      made (subst WatchesRise (sym mine_is) (watches_in_order caller desk is))
+      (subst WatchesRise (sym others_is) (theirs_in_order search.requestor is))
+      (subst QueuesRise (sym queues_is) is.queues)
+      ∙ ap (λ qs. filter (is_left s at caller search mine others qs) rows) queues_is
       ∙ ap₂ (λ (ws vs : List Watcher). filter (is_left s at caller search ws vs desk.queues) rows)
       mine_is others_is
       ∙ left_on is rows part

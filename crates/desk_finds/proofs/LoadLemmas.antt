@@ -1,18 +1,25 @@
 -- What is counted of the rows of open requests is what searches for them find.
-use Rattle.std.proofs.Common.{◌≡◌, ◌∙◌, ℕ, Bool, true, false, ◌&&◌, ◌==◌, arith, List, [], ◌∷◌, filter}
-use Rattle.std.proofs.Common.{length, map, None, Some, Result, Ok, Err, IfOk, refl, ap, ap₂, sym}
+use Rattle.std.proofs.Common.{◌≡◌, ◌∙◌, ℕ, ◌+◌, Bool, true, false, ◌&&◌, ◌==◌, arith, cond, List, []}
+use Rattle.std.proofs.Common.{◌∷◌, filter, length, map, None, Some, Result, Ok, Err, IfOk, refl, ap}
+use Rattle.std.proofs.Common.{ap₂, subst, sym}
+use Rattle.std.specs.Prelude.{nat_lt}
+use Rattle.std.specs.Cmp.Lexicographic.{nat_list_cmp_total}
 use Rattle.std.specs.List.{count_by}
-use Rattle.std.proofs.lemmas.Bool.{eqb-true}
+use Rattle.std.proofs.lemmas.Bool.{and_from, and_parts, eqb-true, lt-ltb, ltb-true}
 use Rattle.std.proofs.lemmas.List.{length-map}
 use Rattle.std.proofs.lemmas.List.Sums.{length-filter}
 use Rattle.sqlite_trees.proofs.ListLemmas.{all_of, filter-map, filter_same}
 use Rattle.settings_core.specs.declared.settings.Settings.{Settings}
-use Rattle.desk_model.specs.Desk.{Desk, Request}
+use Rattle.desk_model.specs.Desk.{Desk, Request, has_lower_name}
 use Rattle.desk_model.specs.Due.{due_on, is_live_class}
 use Rattle.desk_model.specs.Facts.{seen_request}
+use Rattle.desk_model.specs.IsDesk.{IsDesk, are_numbered}
 use Rattle.desk_model.specs.Rights.{may_show, sees_queue}
 use Rattle.desk_model.specs.declared.refusal.Refusal.{Refusal}
 use Rattle.desk_model.specs.declared.rows.QueueRow.{QueueRow}
+use Rattle.sorted_lists.proofs.Rising.{filtered_rises, orders_go_on}
+use Rattle.report_core.specs.Rows.{QueuesRise, RowsRise, numbers_rise}
+use Rattle.report_core.proofs.LoadLemmas.{rise_from}
 use Rattle.find_core.specs.Conditions.{is_asked, is_due, is_in, meets}
 use Rattle.find_core.specs.Find.{Sight, found_among, sight_on, sights}
 use Rattle.find_core.specs.Loads.{is_counted, load_among, load_of, open_in, queue_loads}
@@ -82,11 +89,48 @@ module _ (s : Settings) (at : ℕ) (caller : List ℕ) (desk : Desk) where
       ap₂ (as_load queue)
       (counted false queue.name) (counted true queue.name)
 
-  -- what was made of rows that are the desk's
-  pub loads_are : (queues : List QueueRow) (read : List Dated) → read ≡ rows
-      → map (load_of at read) queues ≡ map (load_among at (sights s caller desk)) queues
-  loads_are queues read read_is =
-      ap (λ ds. map (load_of at ds) queues) read_is
+  numbered_rise : (n : ℕ) (rs : List Request) → are_numbered (n + 1) (map (λ r. r.row.id) rs) ≡ true
+      → numbers_rise n (map (dated_on s desk) rs) ≡ true
+  numbered_rise n [] numbered = refl
+  numbered_rise n (r ∷ rs) numbered =
+      let parts = and_parts (r.row.id == n + 1)
+      (are_numbered (n + 1 + 1) (map (λ x. x.row.id) rs)) numbered in
+      let rows : List Dated = map (dated_on s desk) rs in
+      let next : r.row.id ≡ n + 1 = eqb-true r.row.id (n + 1) parts.0 in
+      and_from (nat_lt n r.row.id) (numbers_rise r.row.id rows)
+      (lt-ltb n r.row.id (omega (arith, next)))
+      (ap (λ m. numbers_rise m rows) next ∙ numbered_rise (n + 1) rs parts.1)
+
+  some_rise : (test : Request → Bool) (n : ℕ) (rs : List Request)
+      → numbers_rise n (map (dated_on s desk) rs) ≡ true
+      → numbers_rise n (map (dated_on s desk) (filter test rs)) ≡ true
+  some_rise test n [] rise = refl
+  some_rise test n (r ∷ rs) rise =
+      let parts = and_parts (nat_lt n r.row.id) (numbers_rise r.row.id (map (dated_on s desk) rs))
+      rise in
+      let above = ltb-true n r.row.id parts.0 in
+      let kept = map (dated_on s desk) (filter test rs) in
+      let rises = some_rise test r.row.id rs parts.1 in
+      elim (test r) as (λ b. numbers_rise n
+      (map (dated_on s desk) (cond b (r ∷ filter test rs) (filter test rs))) ≡ true) [
+        | true ↦ and_from (nat_lt n r.row.id) (numbers_rise r.row.id kept) parts.0 rises
+        | false ↦ rise_from n r.row.id kept (omega (arith, above)) rises
+      ]
+
+  rows_in_order : IsDesk desk → RowsRise rows
+  rows_in_order is =
+      some_rise met 0 shown
+      (some_rise (λ r. may_show s caller (seen_request r)) 0 desk.requests
+      (numbered_rise 0 desk.requests is.requests))
+
+  -- what was made of rows that are the desk's, for queues in the order of their names
+  pub loads_are : IsDesk desk → (queues : List QueueRow) (read : List Dated)
+      (told : List QueueLoad) → read ≡ rows
+      → (RowsRise read → told ≡ map (load_of at read) queues)
+      → told ≡ map (load_among at (sights s caller desk)) queues
+  loads_are is queues read told read_is made =
+      made (subst RowsRise (sym read_is) (rows_in_order is))
+      ∙ ap (λ ds. map (load_of at ds) queues) read_is
       ∙ map_same (load_of at rows) (load_among at (sights s caller desk)) queues
       (all_of (λ q. load_of at rows q ≡ load_among at (sights s caller desk) q) load_is queues)
 
@@ -96,6 +140,13 @@ module _ (s : Settings) (at : ℕ) (caller : List ℕ) (desk : Desk) where
   none_seen [] seen none = ap (map (load_among at (sights s caller desk))) seen
   none_seen (q ∷ qs) seen none =
       let no : length (q ∷ qs) ≡ 0 = eqb-true (length (q ∷ qs)) 0 none in absurd (omega arith)
+
+  -- the queues that are seen stand in the order of their names
+  pub seen_rise : IsDesk desk → (queues : List QueueRow)
+      → queues ≡ filter (sees_queue s caller) desk.queues → QueuesRise queues
+  seen_rise is queues seen =
+      subst QueuesRise (sym seen) (filtered_rises has_lower_name (sees_queue s caller) desk.queues
+      (λ x y z one two. orders_go_on nat_list_cmp_total x.name y.name z.name one two) is.queues)
 
   pub some_seen : (queues : List QueueRow) (result : Result (List QueueLoad) Refusal)
       → queues ≡ filter (sees_queue s caller) desk.queues

@@ -1,6 +1,7 @@
 //! What each queue has open: the queues and the rows are read here, and counted by `find_core`.
 ghost use Rattle.std.specs.Prelude.{◌≡◌, IfErr, filter, map};
 ghost use Rattle.desk_model.specs.Rights.{sees_queue};
+ghost use Rattle.report_core.specs.Rows.{QueuesRise};
 ghost use Rattle.find_core.specs.Find.{sights};
 ghost use Rattle.find_core.specs.Loads as loads;
 ghost use Rattle.store_tables.specs.Calls.{Spares, Tells};
@@ -57,7 +58,7 @@ fn seen<S: Backend>(
     Ok(queues_seen(settings, caller, queues))
 }
 
-/// What each of these queues has open.
+/// What each of these queues has open, which stand in the order of their names.
 #[tactic(auto, using(store_tables::proofs::Spared::joined, store_tables::proofs::Spared::stands))]
 fn loads<S: Backend>(
     alloc: Global,
@@ -65,7 +66,7 @@ fn loads<S: Backend>(
     call: Call<'_>,
     queues: Vec<QueueRow>,
 ) -> Result<Sequence<QueueLoad>, Refusal>
-    ensures told { TellsDue call.entry.settings.now (λ desk told. told
+    ensures told { QueuesRise queues.items → TellsDue call.entry.settings.now (λ desk told. told
         ≡ map (loads.load_among call.entry.at
         (sights call.entry.settings.now call.entry.caller.now desk)) queues.items)
         (state_of S.Store store.old) (state_of S.Store store.new) result }

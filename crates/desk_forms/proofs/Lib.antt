@@ -1,2 +1,3 @@
 pub mod Blank
+mod Examples
 pub mod Texts

@@ -1,6 +1,5 @@
 pub use Rattle.text_core.specs.Form
 pub mod Asked
-pub mod Fields
 pub mod Keys
 pub mod Kinds
 pub mod Laws

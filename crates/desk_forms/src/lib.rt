@@ -1,10 +1,8 @@
 //! The table of commands: what each is given, the words and the paths that ask for it, and the
-//! command that it makes. Words, bodies and the fields of web forms are read over it: a reader shows
+//! command that it makes. Words, bodies and the fields of forms are read over it: a reader shows
 //! what it was given as a sheet, and `asked` is the one way from a sheet to a command, or to none.
 //!
 //! - `args_of`, `words` and `paths` are the table, exactly.
-//! - `filled_in` is the command for which the fields of a web form ask at a path. An empty value of
-//!   what may be left out is none; of a name that stands twice the first value counts.
 //! - By `given_law` what was given makes the same command whatever the values were before, so no
 //!   blank is seen. By `many_law` texts make no difference where no argument is many.
 //! - `role_named`, `kind_named` and `linking` are roles and kinds of links by their names, where an
@@ -12,7 +10,6 @@
 #![tactic(auto)]
 
 pub mod asked;
-pub mod fields;
 pub mod keys;
 pub mod kinds;
 pub mod laws;

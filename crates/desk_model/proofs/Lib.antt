@@ -1,2 +1,3 @@
 pub mod DueLemmas
+mod Examples
 pub mod StayLemmas

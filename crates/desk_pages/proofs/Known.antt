@@ -1,13 +1,13 @@
 -- The markup of what is told of a request before its history.
 use Rattle.std.proofs.Common.{ℕ, Bool, true, false, List, [], Option, Some, None, unwrap_or, refl}
-use Rattle.hours_core.specs.declared.calendar.Calendar.{Calendar}
+use Rattle.hours_core.specs.Zone.{Offsets}
 use Rattle.settings_core.specs.declared.settings.Settings.{Settings}
 use Rattle.desk_model.specs.declared.answer.Dossier.{Dossier}
 use Rattle.desk_model.specs.declared.rows.RequestRow.{RequestRow}
 use Rattle.desk_texts.specs.Words.{or_nobody}
 use Rattle.page_core.specs.Markup.{markup_of}
 use Rattle.page_core.proofs.Shows.{Shows, both, shows}
-use Rattle.desk_pages.specs.Facts.{calendar_of, due_close, due_fact, due_markup, due_open, facts}
+use Rattle.desk_pages.specs.Facts.{zone_of, due_close, due_fact, due_markup, due_open, facts}
 use Rattle.desk_pages.specs.Facts.{facts_close, facts_markup, filed_close, level_fact, level_facts}
 use Rattle.desk_pages.specs.Facts.{level_markup, state_facts, state_of}
 use Rattle.desk_pages.specs.Local.{clock, local, local_at, local_markup}
@@ -37,12 +37,12 @@ unfolding due_close word
 due_close_shows true = shows _ _ refl refl
 due_close_shows false = shows _ _ refl refl
 
-due_fact_shows : (moment : ℕ) (calendar : Option Calendar) (due : Option ℕ)
-    → Shows (due_fact moment calendar due) (due_markup moment calendar due)
-due_fact_shows moment calendar due =
+due_fact_shows : (moment : ℕ) (zone : Option Offsets) (due : Option ℕ)
+    → Shows (due_fact moment zone due) (due_markup moment zone due)
+due_fact_shows moment zone due =
     both _ _ _ _ (due_open_shows (is_late moment due))
     (both _ _ _ _ (due_shows due)
-    (both _ _ _ _ (local_shows (local_at calendar due)) (due_close_shows (is_late moment due))))
+    (both _ _ _ _ (local_shows (local_at zone due)) (due_close_shows (is_late moment due))))
 
 level_shows : (level : List ℕ) → Shows (level_fact level) (markup_of (level_fact []))
 unfolding level_fact
@@ -52,12 +52,12 @@ filed_shows : Shows filed_close (markup_of filed_close)
 unfolding filed_close
 filed_shows = shows _ _ refl refl
 
-level_facts_show : (calendar : Option Calendar) (row : RequestRow)
-    → Shows (level_facts calendar row) (level_markup calendar row.created)
-level_facts_show calendar row =
+level_facts_show : (zone : Option Offsets) (row : RequestRow)
+    → Shows (level_facts zone row) (level_markup zone row.created)
+level_facts_show zone row =
     both _ _ _ _ (level_shows (unwrap_or row.level dash))
     (both _ _ _ _ (time_shows _ _)
-    (both _ _ _ _ (local_shows (local_at calendar (Some row.created))) filed_shows))
+    (both _ _ _ _ (local_shows (local_at zone (Some row.created))) filed_shows))
 
 facts_close_shows : Shows facts_close (markup_of facts_close)
 unfolding facts_close
@@ -68,11 +68,11 @@ pub facts_show : (buttons : Bool) (id : List ℕ) (moment : ℕ) (settings : Set
     → Shows (facts buttons id moment settings dossier) (facts_markup buttons moment settings dossier)
 facts_show buttons id moment settings dossier =
     let shown = dossier.shown in
-    let calendar = calendar_of settings shown.row in
+    let zone = zone_of settings shown.row in
     both _ _ _ _
     (both _ _ _ _
     (state_shows (state_of settings dossier) shown.row.status (or_nobody shown.row.owner))
-    (both _ _ _ _ (due_fact_shows moment calendar shown.due)
-    (level_facts_show calendar shown.row)))
+    (both _ _ _ _ (due_fact_shows moment zone shown.due)
+    (level_facts_show zone shown.row)))
     (both _ _ _ _ (roles_show buttons id shown)
     (both _ _ _ _ (links_show buttons id shown.links) facts_close_shows))

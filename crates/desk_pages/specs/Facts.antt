@@ -1,11 +1,11 @@
 -- What is told of a request before its history.
 use Rattle.std.specs.Prelude.{ℕ, Bool, List, [], ◌∷◌, ◌++◌, Option, Some, None, unwrap_or, codes}
 use Rattle.std.specs.Prelude.{is_some, option_and_then}
-use Rattle.hours_core.specs.declared.calendar.Calendar.{Calendar}
+use Rattle.hours_core.specs.Zone.{Offsets}
 use Rattle.lifecycle_core.specs.Lifecycle.{class_of}
 use Rattle.lifecycle_core.specs.declared.lifecycle.Class.{Class}
 use Rattle.lifecycle_core.specs.declared.parts.Parts.{Parts}
-use Rattle.settings_core.specs.Settings.{calendar_named, level_named, lifecycle_named}
+use Rattle.settings_core.specs.Settings.{zone_named, level_named, lifecycle_named}
 use Rattle.settings_core.specs.declared.settings.Settings.{Settings}
 use Rattle.desk_model.specs.declared.answer.Dossier.{Dossier}
 use Rattle.desk_model.specs.declared.rows.RequestRow.{RequestRow}
@@ -28,14 +28,14 @@ state_of settings dossier =
     word_of_class
     (class_in (lifecycle_named settings dossier.queue.lifecycle) dossier.shown.row.status)
 
--- the calendar of a level of that name, if there is one
-abbrev pub calendar_of_level : Settings → List ℕ → Option Calendar
-calendar_of_level settings name =
-    option_and_then (λ level. calendar_named settings level.calendar) (level_named settings name)
+-- the zone of the calendar of a level of that name, if there is one
+abbrev pub zone_of_level : Settings → List ℕ → Option Offsets
+zone_of_level settings name =
+    option_and_then (λ level. zone_named settings level.calendar) (level_named settings name)
 
--- the calendar of a request's level, if it has one
-abbrev pub calendar_of : Settings → RequestRow → Option Calendar
-calendar_of settings row = option_and_then (calendar_of_level settings) row.level
+-- the zone of the calendar of a request's level, if it has one
+abbrev pub zone_of : Settings → RequestRow → Option Offsets
+zone_of settings row = option_and_then (zone_of_level settings) row.level
 
 -- the status with the word for its class, and the owner
 unfoldable pub state_facts : List ℕ → List ℕ → List ℕ → List Part
@@ -85,24 +85,24 @@ facts_close =
     ∷ []
 
 -- when it is due, with local time, and whether it is late at a moment
-abbrev pub due_fact : ℕ → Option Calendar → Option ℕ → List Part
-due_fact moment calendar due =
+abbrev pub due_fact : ℕ → Option Offsets → Option ℕ → List Part
+due_fact moment zone due =
     due_open (is_late moment due)
-    ++ (time_or_dash due ++ (local (local_at calendar due) ++ due_close (is_late moment due)))
+    ++ (time_or_dash due ++ (local (local_at zone due) ++ due_close (is_late moment due)))
 
 -- its level, and when it was filed, with local time
-abbrev pub level_facts : Option Calendar → RequestRow → List Part
-level_facts calendar row =
+abbrev pub level_facts : Option Offsets → RequestRow → List Part
+level_facts zone row =
     level_fact (unwrap_or row.level dash)
-    ++ (time_of row.created ++ (local (local_at calendar (Some row.created)) ++ filed_close))
+    ++ (time_of row.created ++ (local (local_at zone (Some row.created)) ++ filed_close))
 
 -- what its row tells at a moment, and when it is due
 abbrev pub own_facts : ℕ → Settings → Dossier → List Part
 own_facts moment settings dossier =
     state_facts (state_of settings dossier) dossier.shown.row.status
     (or_nobody dossier.shown.row.owner)
-    ++ (due_fact moment (calendar_of settings dossier.shown.row) dossier.shown.due
-    ++ level_facts (calendar_of settings dossier.shown.row) dossier.shown.row)
+    ++ (due_fact moment (zone_of settings dossier.shown.row) dossier.shown.due
+    ++ level_facts (zone_of settings dossier.shown.row) dossier.shown.row)
 
 -- all of them, of the request of a number, with buttons or without
 abbrev pub facts : Bool → List ℕ → ℕ → Settings → Dossier → List Part
@@ -113,23 +113,23 @@ facts buttons id moment settings dossier =
 
 -- the markup of the due moment: whether there is one, whether local time stands beside it, and
 -- whether it is late
-abbrev pub due_markup : ℕ → Option Calendar → Option ℕ → List ℕ
-due_markup moment calendar due =
+abbrev pub due_markup : ℕ → Option Offsets → Option ℕ → List ℕ
+due_markup moment zone due =
     markup_of (due_open (is_late moment due))
     ++ (word (is_some due) (codes "<time datetime=\"\"></time>")
-    ++ (local_markup (local_at calendar due) ++ markup_of (due_close (is_late moment due))))
+    ++ (local_markup (local_at zone due) ++ markup_of (due_close (is_late moment due))))
 
-abbrev pub level_markup : Option Calendar → ℕ → List ℕ
-level_markup calendar created =
+abbrev pub level_markup : Option Offsets → ℕ → List ℕ
+level_markup zone created =
     markup_of (level_fact [])
     ++ (markup_of (time [] [])
-    ++ (local_markup (local_at calendar (Some created)) ++ markup_of filed_close))
+    ++ (local_markup (local_at zone (Some created)) ++ markup_of filed_close))
 
 -- the markup of all of them
 abbrev pub facts_markup : Bool → ℕ → Settings → Dossier → List ℕ
 facts_markup buttons moment settings dossier =
     (markup_of (state_facts [] [] [])
-    ++ (due_markup moment (calendar_of settings dossier.shown.row) dossier.shown.due
-    ++ level_markup (calendar_of settings dossier.shown.row) dossier.shown.row.created))
+    ++ (due_markup moment (zone_of settings dossier.shown.row) dossier.shown.due
+    ++ level_markup (zone_of settings dossier.shown.row) dossier.shown.row.created))
     ++ (roles_markup buttons dossier.shown
     ++ (links_markup buttons dossier.shown.links ++ markup_of facts_close))

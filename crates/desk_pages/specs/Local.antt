@@ -1,15 +1,13 @@
 -- Local time, which stands beside a moment.
 use Rattle.std.specs.Prelude.{ℕ, List, [], ◌∷◌, Option, Some, None, is_some, codes}
-use Rattle.hours_core.specs.Calendar.{zone_of}
 use Rattle.hours_core.specs.Date.{text_of_minute}
-use Rattle.hours_core.specs.Zone.{local_time}
-use Rattle.hours_core.specs.declared.calendar.Calendar.{Calendar}
+use Rattle.hours_core.specs.Zone.{Offsets, local_time}
 use Rattle.page_core.specs.Page.{Part, Markup, Text}
 use Rattle.desk_pages.specs.Pieces.{word}
 
--- what clocks show at a moment by a calendar, where there are both
-abbrev pub local_at : Option Calendar → Option ℕ → Option ℕ
-local_at (Some calendar) (Some moment) = local_time (zone_of calendar) moment
+-- what clocks show at a moment in a zone, where there are both
+abbrev pub local_at : Option Offsets → Option ℕ → Option ℕ
+local_at (Some zone) (Some moment) = local_time zone moment
 local_at _ _ = None
 
 -- what clocks show

@@ -9,7 +9,7 @@ use crate::local::{local_at, put_local};
 use crate::pieces::{name_or, put_minute, put_minute_or_dash, word};
 use crate::rows::{class_word, is_late};
 use desk_model::{Dossier, RequestRow, Shown};
-use hours_core::{Calendar, Minute};
+use hours_core::{Minute, Zone};
 use page_core::{Part, put_parts};
 use settings_core::Settings;
 use std::alloc::AllocError;
@@ -46,10 +46,10 @@ fn put_own_facts(
 {
     let row = &dossier.shown.row;
     let owner = name_or(&row.owner, "Nobody");
-    let calendar = calendar_of(settings, row);
+    let zone = zone_of(settings, row);
     put_state_facts(out, state_of(settings, dossier), row.status.as_str(), owner)?;
-    put_due_fact(out, moment, calendar, &dossier.shown)?;
-    put_level_facts(out, calendar, row)
+    put_due_fact(out, moment, zone, &dossier.shown)?;
+    put_level_facts(out, zone, row)
 }
 
 /// The word for the class of its status in the lifecycle of its queue.
@@ -62,22 +62,22 @@ fn state_of(settings: &Settings, dossier: &Dossier) -> &'static str
     }
 }
 
-/// The calendar of its level, if it has one.
-fn calendar_of<'s>(settings: &'s Settings, row: &RequestRow) -> Option<&'s Calendar>
-    ensures { option_map (λ c. c.now) result ≡ form.calendar_of settings.now row.now }
+/// The zone of its level's calendar, if it has one.
+fn zone_of<'s>(settings: &'s Settings, row: &RequestRow) -> Option<&'s Zone>
+    ensures { option_map (λ z. z.now) result ≡ form.zone_of settings.now row.now }
 {
     match &row.level {
-        Some(name) => calendar_of_level(settings, name.as_str()),
+        Some(name) => zone_of_level(settings, name.as_str()),
         None => None,
     }
 }
 
-/// The calendar of the level of this name, if there is one.
-fn calendar_of_level<'s>(settings: &'s Settings, name: &str) -> Option<&'s Calendar>
-    ensures { option_map (λ c. c.now) result ≡ form.calendar_of_level settings.now name.now }
+/// The zone of the calendar of the level of this name, if there is one.
+fn zone_of_level<'s>(settings: &'s Settings, name: &str) -> Option<&'s Zone>
+    ensures { option_map (λ z. z.now) result ≡ form.zone_of_level settings.now name.now }
 {
     match settings.level(name) {
-        Some(level) => settings.calendar(level.calendar.as_str()),
+        Some(level) => settings.zone(level.calendar.as_str()),
         None => None,
     }
 }
@@ -85,30 +85,30 @@ fn calendar_of_level<'s>(settings: &'s Settings, name: &str) -> Option<&'s Calen
 fn put_due_fact(
     out: &mut Vec<u8>,
     moment: Minute,
-    calendar: Option<&Calendar>,
+    zone: Option<&Zone>,
     shown: &Shown,
 ) -> Result<(), AllocError>
     ensures { OnOk result (out.new.items ≡ out.old.items
-        ++ page_bytes (form.due_fact moment (option_map (λ c. c.now) calendar.entry) shown.now.due)) }
+        ++ page_bytes (form.due_fact moment (option_map (λ z. z.now) zone.entry) shown.now.due)) }
 {
     let late = is_late(moment, shown.due);
     put_due_open(out, late)?;
     put_minute_or_dash(out, shown.due)?;
-    put_local(out, local_at(calendar, shown.due))?;
+    put_local(out, local_at(zone, shown.due))?;
     put_due_close(out, late)
 }
 
 fn put_level_facts(
     out: &mut Vec<u8>,
-    calendar: Option<&Calendar>,
+    zone: Option<&Zone>,
     row: &RequestRow,
 ) -> Result<(), AllocError>
     ensures { OnOk result (out.new.items ≡ out.old.items
-        ++ page_bytes (form.level_facts (option_map (λ c. c.now) calendar.entry) row.now)) }
+        ++ page_bytes (form.level_facts (option_map (λ z. z.now) zone.entry) row.now)) }
 {
     put_level_fact(out, name_or(&row.level, "–"))?;
     put_minute(out, row.created)?;
-    put_local(out, local_at(calendar, Some(row.created)))?;
+    put_local(out, local_at(zone, Some(row.created)))?;
     put_filed_close(out)
 }
 

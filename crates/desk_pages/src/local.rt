@@ -5,16 +5,16 @@ ghost use Rattle.page_core.specs.Page.{page_bytes};
 ghost use Rattle.desk_pages.specs.Local as form;
 
 use crate::pieces::as_text;
-use hours_core::{Calendar, Minute, minute_text};
+use hours_core::{Minute, Zone, minute_text};
 use page_core::{Part, put_parts};
 use std::alloc::AllocError;
 
-/// What clocks show at a moment by a calendar, where there are both.
-pub(crate) fn local_at(calendar: Option<&Calendar>, moment: Option<Minute>) -> Option<Minute>
-    ensures { result ≡ form.local_at (option_map (λ c. c.now) calendar.entry) moment }
+/// What clocks show at a moment in a zone, where there are both.
+pub(crate) fn local_at(zone: Option<&Zone>, moment: Option<Minute>) -> Option<Minute>
+    ensures { result ≡ form.local_at (option_map (λ z. z.now) zone.entry) moment }
 {
-    match (calendar, moment) {
-        (Some(calendar), Some(moment)) => calendar.local_time(moment),
+    match (zone, moment) {
+        (Some(zone), Some(moment)) => zone.local_time(moment),
         _ => None,
     }
 }

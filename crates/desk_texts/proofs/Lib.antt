@@ -1,3 +1,4 @@
 pub mod Columns
 pub mod DeskUnchanged
+mod Examples
 pub mod Puts

@@ -21,10 +21,12 @@ pub struct Asked<'w> {
     pub count: Option<u32>,
     /// Whether it prints a line for each message.
     pub log: bool,
+    /// Whether it stands behind a proxy, which tells where messages come from.
+    pub proxied: bool,
 }
 
-/// What words ask of the server: `--db FILE --settings FILE --port N` and maybe `--count K` and
-/// `--log`, in any order. None where they are other words, an option stands there twice, a number
+/// What words ask of the server: `--db FILE --settings FILE --port N` and maybe `--count K`,
+/// `--log` and `--proxy`, in any order. None where they are other words, an option stands there twice, a number
 /// isn't 1 to 10 digits, or is 0 or too great.
 pub fn asked_of<'w>(alloc: Global, words: &'w [String]) -> Option<Asked<'w>> {
     let Ok(command) = command_line(alloc) else {
@@ -45,6 +47,7 @@ fn asked_by<'w>(matches: &ArgMatches<'w>) -> Option<Asked<'w>> {
         port: port as u16,
         count: count_of(matches.get_str("count"))?,
         log: matches.get_flag("log"),
+        proxied: matches.get_flag("proxy"),
     })
 }
 
@@ -75,11 +78,13 @@ fn command_line<'w>(alloc: Global) -> Result<App<'w>, AllocError> {
     let command = command.arg(wanted(alloc, "settings"))?;
     let command = command.arg(wanted(alloc, "port"))?;
     let command = command.arg(option(alloc, "count"))?;
-    command.arg(
-        Arg::new(alloc, "log")
-            .long("log")
-            .action(ArgAction::SetTrue),
-    )
+    let command = command.arg(flag(alloc, "log"))?;
+    command.arg(flag(alloc, "proxy"))
+}
+
+/// An option without a value.
+fn flag<'w>(alloc: Global, id: &'w str) -> Arg<'w> {
+    Arg::new(alloc, id).long(id).action(ArgAction::SetTrue)
 }
 
 /// An option that has to be there, with its value.

@@ -33,7 +33,7 @@ pub fn serve_over<S: Backend + Drop, W: Write>(
 {
     match open_desk(rt.alloc(), Store::adopt(tables), settings, output) {
         Ok(desk) => {
-            let mut web = WebDesk::new(rt.alloc(), desk);
+            let mut web = WebDesk::new(rt.alloc(), desk, asked.proxied);
             let status = listen(rt, asked, &mut web);
             let (store, _) = web.into_desk().detach();
             (status, Some(store.release()))

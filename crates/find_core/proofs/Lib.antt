@@ -1,3 +1,4 @@
+mod CountLemmas
 mod PageLemmas
 pub mod PlaceLemmas
 pub mod RisingLemmas

@@ -14,8 +14,8 @@ use Rattle.sqlite_trees.proofs.ListLemmas.{ascending_weaker, filter-map}
 use Rattle.desk_model.specs.Desk.{placed}
 use Rattle.desk_model.specs.Rising.{is_rising}
 use Rattle.desk_core.proofs.Readings.Placed.{all_at_place}
-use Rattle.desk_core.proofs.Rising.{Climbs, climbs, is_apart, orders_go_on, orders_part}
-use Rattle.desk_core.proofs.Rising.{placed_rises}
+use Rattle.sorted_lists.proofs.Rising.{Climbs, climbs, is_apart, orders_go_on, orders_part}
+use Rattle.sorted_lists.proofs.Rising.{not_tied, placed_rises}
 use Rattle.find_core.specs.Places.{in_direction, in_order, is_after, is_before, limit_of, page}
 use Rattle.find_core.specs.Places.{place_order}
 use Rattle.find_core.specs.declared.search.Place.{Place}
@@ -45,11 +45,6 @@ pub before_on : (descending : Bool) (a b c : Place) → is_before descending a b
     → is_before descending b c ≡ true → is_before descending a c ≡ true
 before_on true a b c one two = orders_go_on place_total c b a two one
 before_on false a b c one two = orders_go_on place_total a b c one two
-
-not_tied : (o : Ordering) → is_eq (ordering_then o Less) ≡ false
-not_tied Less = refl
-not_tied Equal = refl
-not_tied Greater = refl
 
 tied_not : (o : Ordering) → o ≡ Equal → is_eq o ≡ false → ⊥
 tied_not o same differ = let no : true ≡ false = sym (ap is_eq same) ∙ differ in cc

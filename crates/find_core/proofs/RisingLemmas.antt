@@ -5,7 +5,7 @@ use Rattle.sqlite_trees.specs.Tree.{IsAscending}
 use Rattle.sqlite_trees.proofs.ListLemmas.{ascending_weaker}
 use Rattle.desk_model.specs.Desk.{Desk, Request}
 use Rattle.desk_model.specs.IsDesk.{IsDesk}
-use Rattle.desk_core.proofs.Rising.{by, climbs, numbered_rise, numbers_go_on}
+use Rattle.sorted_lists.proofs.Rising.{by, climbs, numbered_rise, numbers_go_on}
 use Rattle.find_core.proofs.PlaceLemmas.{ascending_of}
 
 pub requests_rise : (desk : Desk) → IsDesk desk

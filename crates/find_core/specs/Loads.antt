@@ -1,10 +1,12 @@
 -- What each queue has open, and how much of that is late.
-use Rattle.std.specs.Prelude.{ℕ, Bool, true, false, ◌&&◌, List, [], filter, length, map}
-use Rattle.std.specs.Prelude.{Option, Some, None, Result}
+use Rattle.std.specs.Prelude.{◌≡◌, ℕ, ◌+◌, ◌-◌, ◌^◌, min, Bool, true, false, ◌&&◌, List, [], filter}
+use Rattle.std.specs.Prelude.{length, map, Option, Some, None, Result, if◌then◌else◌}
 use Rattle.std.specs.List.{count_by}
+use Rattle.std.specs.Str.{bytes_eq}
 use Rattle.settings_core.specs.declared.settings.Settings.{Settings}
-use Rattle.desk_model.specs.Desk.{Desk}
+use Rattle.desk_model.specs.Desk.{Desk, has_lower_name}
 use Rattle.desk_model.specs.Rights.{sees_queue}
+use Rattle.desk_model.specs.Rising.{is_rising}
 use Rattle.desk_model.specs.declared.refusal.Refusal.{Refusal}
 use Rattle.desk_model.specs.declared.rows.QueueRow.{QueueRow}
 use Rattle.find_core.specs.Conditions.{is_due, is_in}
@@ -66,3 +68,24 @@ load_of at rows queue =
       «open» = count_by (is_counted at false queue.name) rows;
       late = count_by (is_counted at true queue.name) rows;
     }
+
+abbrev pub no_load : QueueRow → QueueLoad
+no_load queue = record { queue = queue; «open» = 0; late = 0 }
+
+-- one row more, late or not; a count stays at the greatest number that it can hold
+abbrev pub counted : Bool → QueueLoad → QueueLoad
+counted is_late load =
+    record {
+      queue = load.queue;
+      «open» = min (load.«open» + 1) (2 ^ 32 - 1);
+      late = if is_late then min (load.late + 1) (2 ^ 32 - 1) else load.late;
+    }
+
+-- one row more of a queue counts for that queue alone
+abbrev pub counted_in : List ℕ → Bool → QueueLoad → QueueLoad
+counted_in queue is_late load =
+    if bytes_eq queue load.queue.name then counted is_late load else load
+
+-- the queues stand in the order of their names
+abbrev pub LoadsRise : List QueueLoad → Type 0
+LoadsRise loads = is_rising (λ a b. has_lower_name a.queue b.queue) loads ≡ true

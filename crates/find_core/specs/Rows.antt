@@ -1,5 +1,5 @@
 -- What is told of rows that were read.
-use Rattle.std.specs.Prelude.{ℕ, Bool, true, not, ◌&&◌, ◌||◌, List, [], filter, Option, Some, None}
+use Rattle.std.specs.Prelude.{ℕ, Bool, true, not, ◌&&◌, ◌||◌, List, filter, Option, Some, None}
 use Rattle.std.specs.Prelude.{if◌then◌else◌}
 use Rattle.std.specs.Option.{option_map, option_map_or}
 use Rattle.settings_core.specs.declared.settings.Settings.{Settings}
@@ -32,24 +32,21 @@ abbrev pub is_requested : Option (List ℕ) → List Watcher → ℕ → Bool
 is_requested asked theirs id =
     option_map_or (λ person. is_watching person id Requestor theirs) asked true
 
--- all that is asked of a row but the words, where its status has this class, and where that person
--- is one of its requestors or not
-abbrev pub row_meets : ℕ → Search → Option Class → Bool → Dated → Bool
-row_meets at search class requested dated =
+-- all that is asked of a row but the words and the requestor, where its status has this class
+abbrev pub row_meets : ℕ → Search → Option Class → Dated → Bool
+row_meets at search class dated =
     is_in search.queue dated.0.queue
     && (has_status search.status class dated.0.status
     && (has_owner search.owner dated.0.owner
-    && (requested
     && (is_due at search.late dated.1
-    && is_filed search.filed_from search.filed_to dated.0.created))))
+    && is_filed search.filed_from search.filed_to dated.0.created)))
 
 -- the person may show the row, and it meets the search but for the words
 abbrev pub is_left : Settings → ℕ → List ℕ → Search → List Watcher → List Watcher → List QueueRow
     → Dated → Bool
 is_left settings at person search own theirs queues dated =
-    row_meets at search (class_in settings (queue_among queues dated.0.queue) dated.0.status)
-    (is_requested search.requestor theirs dated.0.id) dated
-    && may_show_by settings person dated.0 own
+    row_meets at search (class_in settings (queue_among queues dated.0.queue) dated.0.status) dated
+    && (is_requested search.requestor theirs dated.0.id && may_show_by settings person dated.0 own)
 
 -- whether the request may show its comments to the person, if it is there
 abbrev pub shows_comments : Settings → List ℕ → Option SeenRequest → Bool

@@ -3,22 +3,22 @@ ghost use Rattle.std.specs.Prelude.{◌≡◌, true, Some, filter, nat_le, nat_l
 ghost use Rattle.std.specs.Option.{option_map, option_map_or};
 ghost use Rattle.desk_model.specs.Due.{is_live_class};
 ghost use Rattle.desk_model.specs.Lifecycles.{is_inactive_class};
-ghost use Rattle.report_core.specs.Rows.{QueuesRise};
+ghost use Rattle.report_core.specs.Rows.{QueuesRise, WatchesRise};
 ghost use Rattle.find_core.specs.Conditions as conditions;
 ghost use Rattle.find_core.specs.Find.{class_in};
 ghost use Rattle.find_core.specs.Rows as judged;
 
 use crate::search::{OwnerAsked, Search, StatusAsked};
-use desk_core::{QueueRow, RequestRow, WatchRole, Watcher, is_role, may_show};
+use desk_core::{QueueRow, RequestRow, WatchRole, Watcher, is_role};
 use hours_core::Minute;
 use lifecycle_core::Class;
-use report_core::queue_named;
+use report_core::{is_shown, queue_named, watches_of};
 use settings_core::Settings;
 use text_core::Text;
 
 /// Those of the rows that the person may show and that meet the search but for its words, in their
-/// order: by the person's own watches, and those of the requestor who is asked for. The queues stand
-/// in the order of their names.
+/// order: by the person's own watches, and those of the requestor who is asked for, each in the order
+/// of their requests. The queues stand in the order of their names.
 pub fn asked_rows(
     settings: &Settings,
     at: u32,
@@ -29,7 +29,8 @@ pub fn asked_rows(
     queues: &[QueueRow],
     mut rows: Vec<(RequestRow, Option<Minute>)>,
 ) -> Vec<(RequestRow, Option<Minute>)>
-    ensures { QueuesRise queues.now → result.items ≡ filter (judged.is_left settings.now at person.now search.now own.now
+    ensures { WatchesRise own.now → WatchesRise theirs.now → QueuesRise queues.now
+        → result.items ≡ filter (judged.is_left settings.now at person.now search.now own.now
         theirs.now queues.now) rows.items }
 {
     rows.retain(|dated| is_left(settings, at, person, search, own, theirs, queues, dated));
@@ -46,7 +47,8 @@ fn is_left(
     queues: &[QueueRow],
     dated: &(RequestRow, Option<Minute>),
 ) -> bool
-    ensures { QueuesRise queues.now → result ≡ judged.is_left settings.now at person.now search.now own.now
+    ensures { WatchesRise own.now → WatchesRise theirs.now → QueuesRise queues.now
+        → result ≡ judged.is_left settings.now at person.now search.now own.now
         theirs.now queues.now dated.now }
 {
     let class = class_of(
@@ -54,26 +56,25 @@ fn is_left(
         queue_named(queues, &dated.0.queue),
         &dated.0.status,
     );
-    let requested = is_requested(&search.requestor, theirs, dated.0.id);
-    meets(at, search, class, requested, dated) && may_show(settings, person, &dated.0, own)
+    meets(at, search, class, dated)
+        && is_requested(&search.requestor, theirs, dated.0.id)
+        && is_shown(settings, person, own, &dated.0)
 }
 
-/// Whether a row meets the search but for its words, where its status has this class, and where
-/// the requestor who is asked for is one of its own or not.
+/// Whether a row meets the search but for its words and its requestors, where its status has this
+/// class.
 fn meets(
     at: u32,
     search: &Search,
     class: Option<Class>,
-    requested: bool,
     dated: &(RequestRow, Option<Minute>),
 ) -> bool
-    ensures { result ≡ judged.row_meets at search.now class requested dated.now }
+    ensures { result ≡ judged.row_meets at search.now class dated.now }
 {
     let (row, due) = dated;
     is_in(&search.queue, &row.queue)
         && has_status(&search.status, class, &row.status)
         && has_owner(&search.owner, &row.owner)
-        && requested
         && is_due(at, search.late, *due)
         && is_filed(search.filed_from, search.filed_to, row.created)
 }
@@ -97,10 +98,10 @@ pub(crate) fn class_of(
 
 /// Whether the person who is asked for is a requestor, by that person's watches.
 fn is_requested(asked: &Option<Text>, theirs: &[Watcher], id: u32) -> bool
-    ensures { result ≡ judged.is_requested asked.now theirs.now id }
+    ensures { WatchesRise theirs.now → result ≡ judged.is_requested asked.now theirs.now id }
 {
     match asked {
-        Some(person) => requests(person, theirs, id),
+        Some(person) => requests(person, watches_of(theirs, id), id),
         None => true,
     }
 }

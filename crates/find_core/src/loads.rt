@@ -1,8 +1,9 @@
 //! What each queue has open, and how much of that is late.
-ghost use Rattle.std.specs.Prelude.{◌≡◌, ◌<◌, ◌^◌, None, IfOk, false, filter, length, map};
-ghost use Rattle.std.specs.List.{count_by};
+ghost use Rattle.std.specs.Prelude.{◌≡◌, ◌<◌, ◌^◌, None, IfOk, false, filter, map};
 ghost use Rattle.desk_model.specs.Rights as rights;
+ghost use Rattle.report_core.specs.Rows.{QueuesRise, RowsRise};
 ghost use Rattle.find_core.specs.Loads as loads;
+ghost use Rattle.find_core.specs.Loads.{LoadsRise, counted_in};
 
 use crate::conditions::is_due;
 use crate::search::{Order, OwnerAsked, Search, StatusAsked};
@@ -49,61 +50,73 @@ pub fn queues_seen(settings: &Settings, person: &str, mut queues: Vec<QueueRow>)
     queues
 }
 
-/// What each of the queues has of these rows of open requests, and how much of it was due before
-/// the moment. `AllocError` where memory is refused, or where the rows are more than there are
-/// numbers for requests.
+/// What each of the queues, in the order of their names, has of these rows of open requests, in the
+/// order of their numbers, and how much of it was due before the moment. `AllocError` where memory
+/// is refused.
 pub fn queue_loads(
     alloc: Global,
     at: u32,
     queues: Vec<QueueRow>,
     rows: &[(RequestRow, Option<Minute>)],
 ) -> Result<Sequence<QueueLoad>, AllocError>
-    ensures { IfOk result (λ told. told ≡ map (loads.load_of at rows.now) queues.items) }
+    ensures { QueuesRise queues.items → RowsRise rows.now
+        → IfOk result (λ told. told ≡ map (loads.load_of at rows.now) queues.items) }
 {
-    if rows.len() > MOST_REQUESTS {
-        return Err(AllocError);
+    let mut loads = no_loads(alloc, queues)?;
+    for (row, due) in rows {
+        // rows whose numbers rise are no more than there are numbers, so no count is too great
+        let _number = number_of(row);
+        count_in(&mut loads, &row.queue, is_due(at, true, *due));
     }
-    Ok(Sequence::from(loads(alloc, at, queues, rows)?))
+    Ok(Sequence::from(loads))
 }
 
-/// The greatest number that a request can have.
-const MOST_REQUESTS: usize = 4_294_967_295;
+/// The number of a request, which has 32 bits.
+fn number_of(row: &RequestRow) -> u32
+    ensures is { result ≡ row.now.id }
+    ensures fits { result < 2 ^ 32 }
+{
+    row.id
+}
 
-/// What each of the queues has of these rows.
-fn loads(
-    alloc: Global,
-    at: u32,
-    queues: Vec<QueueRow>,
-    rows: &[(RequestRow, Option<Minute>)],
-) -> Result<Vec<QueueLoad>, AllocError>
-    ensures { length rows.now < 2 ^ 32
-        → IfOk result (λ told. told.items ≡ map (loads.load_of at rows.now) queues.items) }
+/// The queues, with nothing open yet.
+fn no_loads(alloc: Global, queues: Vec<QueueRow>) -> Result<Vec<QueueLoad>, AllocError>
+    ensures { IfOk result (λ told. told.items ≡ map loads.no_load queues.items) }
 {
     queues
         .into_iter()
-        .map(|queue| load(at, queue, rows))
+        .map(|queue| no_load(queue))
         .collect(alloc)
 }
 
-/// What the queue has of these rows.
-fn load(at: u32, queue: QueueRow, rows: &[(RequestRow, Option<Minute>)]) -> QueueLoad
-    ensures { length rows.now < 2 ^ 32 → result ≡ loads.load_of at rows.now queue }
+fn no_load(queue: QueueRow) -> QueueLoad
+    ensures { result ≡ loads.no_load queue }
 {
     QueueLoad {
-        open: count(at, false, &queue.name, rows),
-        late: count(at, true, &queue.name, rows),
         queue,
+        open: 0,
+        late: 0,
     }
 }
 
-/// How many of the rows are in the queue, or how many of those were due before the moment.
-fn count(at: u32, late: bool, queue: &Text, rows: &[(RequestRow, Option<Minute>)]) -> u32
-    ensures { length rows.now < 2 ^ 32
-        → result ≡ count_by (loads.is_counted at late queue.now) rows.now }
+/// Counts one request more for the queue of that name, if it is among these, which stand in the
+/// order of their names.
+fn count_in(loads: &mut Vec<QueueLoad>, queue: &Text, is_late: bool)
+    ensures { LoadsRise loads.old.items
+        → loads.new.items ≡ map (counted_in queue.now is_late) loads.old.items }
 {
-    let count = rows
-        .iter()
-        .filter(|dated| is_due(at, late, dated.1) && dated.0.queue == *queue)
-        .count();
-    u32::try_from(count).unwrap_or(u32::MAX)
+    let index = loads.partition_point(|load| load.queue.name.as_str() < queue.as_str());
+    if index < loads.len() && *queue == loads[index].queue.name {
+        count(&mut loads[index], is_late);
+    }
+}
+
+/// Counts one request more.
+fn count(load: &mut QueueLoad, is_late: bool)
+    ensures { load.new ≡ loads.counted is_late load.old }
+{
+    load.open = load.open.saturating_add(1);
+    if is_late {
+        load.late = load.late.saturating_add(1);
+    }
 }

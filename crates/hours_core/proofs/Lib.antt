@@ -1,4 +1,5 @@
 pub mod CountLemmas
+mod Examples
 pub mod HolidayLemmas
 pub mod LeastLemmas
 pub mod LimitLemmas

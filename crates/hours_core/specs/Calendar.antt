@@ -3,7 +3,6 @@ use Rattle.std.specs.Prelude.{◌≡◌, ℕ, Bool, List}
 use Rattle.hours_core.specs.Hours.{Hours, is_open}
 use Rattle.hours_core.specs.Runs.{AreRuns}
 use Rattle.hours_core.specs.Spans.{is_held}
-use Rattle.hours_core.specs.Zone.{Offsets}
 use Rattle.hours_core.specs.declared.calendar.Calendar.{Calendar}
 use Rattle.hours_core.specs.declared.spans.Span.{Span}
 
@@ -15,13 +14,9 @@ spans_of c = c.spans
 unfoldable pub opens : Calendar → ℕ → Bool
 opens c m = is_held c.spans m
 
--- the offsets of its local time
-unfoldable pub zone_of : Calendar → Offsets
-zone_of c = c.zone
-
--- the calendar has these opening hours, and their zone
+-- the calendar has these opening hours
 abbrev pub HasHours : Calendar → Hours → Type 0
-HasHours c hours = ((m : ℕ) → opens c m ≡ is_open hours m) × (zone_of c ≡ hours.zone)
+HasHours c hours = (m : ℕ) → opens c m ≡ is_open hours m
 
 -- the calendar has these opening hours, and its spans are the runs of their open minutes
 abbrev pub KeepsHours : Hours → Calendar → Type 0

@@ -1,24 +1,21 @@
 //! Calendars: opening hours, kept as runs of open minutes.
 
 ghost use Rattle.std.specs.Prelude.{◌≡◌, ◌≢◌, None, Some, IfOk, OnOk, IfErr};
-ghost use Rattle.hours_core.specs.Calendar.{KeepsHours, zone_of};
+ghost use Rattle.hours_core.specs.Calendar.{KeepsHours};
 ghost use Rattle.hours_core.specs.Hours as spec;
-ghost use Rattle.hours_core.specs.Zone as zones;
 
 use crate::fault::HoursFault;
-use crate::moment::Minute;
-use crate::schedule::{Schedule, shifted};
+use crate::schedule::Schedule;
 use crate::spans::Spans;
 use crate::week::{Intervals, is_week};
 use crate::years::are_years;
 use crate::zone::Zone;
 use std::alloc::Global;
 
-/// Opening hours: the spans of open minutes, and the zone that they were given in.
+/// Opening hours: the spans of open minutes.
 #[derive(Drop)]
 pub struct Calendar {
     pub(crate) spans: Spans,
-    zone: Zone,
 }
 
 impl Calendar {
@@ -53,19 +50,6 @@ impl Calendar {
         }
         let schedule = Schedule::new(alloc, zone, week, holidays, years)?;
         let spans = schedule.spans(alloc)?;
-        Ok(Calendar {
-            spans,
-            zone: schedule.into_zone(),
-        })
-    }
-
-    /// The minute that clocks in the calendar's zone show at this one, or `None` where that isn't
-    /// from `START` to `END`. Takes no memory.
-    pub fn local_time(&self, m: Minute) -> Option<Minute>
-        ensures { result ≡ zones.local_time (zone_of self.now) m }
-    {
-        let minute = m.get();
-        let offset = self.zone.ahead_at(minute);
-        Minute::new(shifted(minute, offset))
+        Ok(Calendar { spans })
     }
 }

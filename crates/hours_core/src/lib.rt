@@ -8,7 +8,8 @@
 //! - `Zone::by_rule` gives a rule's zone: at each minute that is asked for, the offset is that of
 //!   `jiff`'s zone, and so are the faults. It asks `jiff` twice for each stretch of one offset.
 //! - `Zone::build` and `Calendar::build` give the fault with the least number. A calendar keeps runs
-//!   of open minutes, each with how many come before it; what it answers is said of minutes.
+//!   of open minutes, each with how many come before it, and nothing else; what it answers is said
+//!   of minutes. `Zone::local_time` is what clocks show.
 //! - `is_open`, `first_open`, `add_open`: whether a minute is open, the least open one from there
 //!   on, the least end with so many open ones. `first_open_counted` and `add_open_counted` also
 //!   count the runs that they read, within bounds.

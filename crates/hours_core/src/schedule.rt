@@ -54,9 +54,8 @@ impl<'a> Schedule<'a> {
     ) -> Result<Schedule<'a>, AllocError>
         requires week { list_all spec.is_day week.now ≡ true }
         requires years { spec.are_years years ≡ true }
-        ensures hours { IfOk result (λ s. (m : ℕ) → spec.is_open s m ≡ spec.is_open
+        ensures { IfOk result (λ s. (m : ℕ) → spec.is_open s m ≡ spec.is_open
             (record { zone = zone; week = week.now; holidays = holidays.now; years = years }) m) }
-        ensures zone { IfOk result (λ s. s.zone ≡ zone) }
     {
         let holidays = Holidays::new(alloc, holidays)?;
         Ok(Schedule {
@@ -65,13 +64,6 @@ impl<'a> Schedule<'a> {
             holidays,
             years,
         })
-    }
-
-    /// The zone that it was given in.
-    pub fn into_zone(self) -> Zone
-        ensures { result ≡ self.entry.zone }
-    {
-        self.zone
     }
 
     /// The runs of open minutes, found by changes of the zone, days of the years and intervals.

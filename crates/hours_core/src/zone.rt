@@ -10,8 +10,9 @@ ghost use Rattle.hours_core.specs.Zone as spec;
 
 use crate::fault::HoursFault;
 use crate::moment::{END, Minute};
+use crate::schedule::shifted;
 use crate::years::{end_asked, first_asked};
-use std::alloc::Global;
+use std::alloc::{AllocError, Global};
 use std::marker::Model;
 
 /// The most changes of a zone.
@@ -84,6 +85,27 @@ impl Zone {
         ensures last { spec.IsOffsetAt self.now.first self.now.changes minute result }
     {
         self.ahead_at(minute.get()) as i32
+    }
+
+    /// The minute that clocks in the zone show at this one, or `None` where that isn't from `START`
+    /// to `END`. It takes no memory.
+    pub fn local_time(&self, m: Minute) -> Option<Minute>
+        ensures { result ≡ spec.local_time self.now m }
+    {
+        let minute = m.get();
+        let offset = self.ahead_at(minute);
+        Minute::new(shifted(minute, offset))
+    }
+
+    /// A zone of the same offsets.
+    pub fn copied(&self, alloc: Global) -> Result<Zone, AllocError>
+        ensures { IfOk result (λ z. z ≡ self.now) }
+    {
+        let changes = Vec::from_slice(alloc, self.changes.as_slice())?;
+        Ok(Zone {
+            first: self.first,
+            changes,
+        })
     }
 
     /// The minutes by which local time is ahead of UTC at the minute.

@@ -1,2 +1,3 @@
+mod Examples
 pub mod Repeated
 pub mod Rights

@@ -1,2 +1,3 @@
 pub mod AllLines
+mod Examples
 pub mod LineLemmas

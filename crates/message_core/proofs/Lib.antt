@@ -1,4 +1,5 @@
 pub mod Elsewhere
+mod Examples
 pub mod Fronts
 pub mod HeadEnds
 pub mod HeadLemmas
@@ -6,4 +7,5 @@ pub mod Heads
 pub mod MessageLemmas
 pub mod OneReading
 pub mod ReplyLemmas
+pub mod StatedLemmas
 pub mod Turns

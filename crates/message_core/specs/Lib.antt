@@ -6,3 +6,4 @@ pub mod Limits
 pub mod Message
 pub mod Reply
 pub mod Request
+pub mod Stated

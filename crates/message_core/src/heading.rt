@@ -68,7 +68,11 @@ fn length_of_value(value: Option<&[u8]>, limit: u32) -> Result<u32, WireFault>
 }
 
 /// The length of the body that follows, as the lines state it.
-fn stated_length(bytes: &[u8], lines: &[HeaderSpan], limit: u32) -> Result<u32, WireFault>
+pub(crate) fn stated_length(
+    bytes: &[u8],
+    lines: &[HeaderSpan],
+    limit: u32,
+) -> Result<u32, WireFault>
     requires lines { All (IsHeaderWithin (length bytes.now)) lines.now }
     requires limit { limit ≤ 262144 }
     ensures small { IfOk result (λ n. n ≤ limit) }

@@ -1,10 +1,11 @@
 //! What holds of every stream.
-ghost use Rattle.std.specs.Prelude.{◌≡◌, ◌≢◌, [], ℕ, List, Option, Some, Result, Err, Ok, false};
+ghost use Rattle.std.specs.Prelude.{◌≡◌, ◌≢◌, ◌≤◌, [], ℕ, List, Option, Some, Result, Err, Ok, false};
 ghost use Rattle.httparse.specs.Grammar.{RequestHead};
 ghost use Rattle.message_core.specs.Head.{StartsWith};
-ghost use Rattle.message_core.specs.Limits.{takes_long_bodies};
+ghost use Rattle.message_core.specs.Limits.{most_of, takes_long_bodies};
 ghost use Rattle.message_core.specs.Message.{Reads};
 ghost use Rattle.message_core.specs.Request.{ReadsRequested, message_in};
+ghost use Rattle.message_core.specs.Stated.{States};
 ghost use Rattle.message_core.specs.declared.fault.WireFault.{WireFault};
 ghost use Rattle.message_core.specs.declared.limits.BodyLimit.{BodyLimit as Limit};
 ghost use Rattle.message_core.specs.declared.message.Message.{Message};
@@ -43,4 +44,11 @@ pub fn request_law()
     ensures head { (limit : Limit) (stream : List ℕ) (left : Option (List ℕ)) (request : Request)
         → ReadsRequested limit (Some stream) left (Ok request) → (h : RequestHead) (rest : List ℕ)
         → StartsWith stream h rest → StartsWith request.head h [] }
+{}
+
+/// No length that a head states is over the limit.
+#[tactic(auto, using(crate::proofs::StatedLemmas::stated_small))]
+pub fn stated_law()
+    ensures { (limit : Limit) (head : List ℕ) (n : ℕ) → States limit head (Some n)
+        → n ≤ most_of limit }
 {}

@@ -11,11 +11,13 @@ mod lines;
 mod message;
 mod reply;
 mod request;
+mod stated;
 mod values;
 
 pub use fault::WireFault;
 pub use limits::BodyLimit;
 pub use message::{Message, read_message, read_message_counted};
-pub use reply::{Allow, Reply, answer_bytes, put_reply, unavailable_reply};
+pub use reply::{Allow, Reply, add_status_line, answer_bytes, put_reply, unavailable_reply};
 pub use request::{Request, read_request, read_request_counted};
+pub use stated::stated_body;
 pub use values::{header_value, header_values};

@@ -1,6 +1,6 @@
 //! The bytes of a reply.
 ghost use Rattle.std.specs.Prelude.{◌≡◌, ◌++◌, ◌+◌, ◌≤◌, [], true, false, length, decimal};
-ghost use Rattle.std.specs.Prelude.{IfOk, unwrap_or};
+ghost use Rattle.std.specs.Prelude.{IfOk, OnOk, unwrap_or};
 ghost use Rattle.std.specs.Vec.{vec_capacity, vec_len};
 ghost use Rattle.http.specs.StatusCode.{IsStatusCode, reason_phrase};
 ghost use Rattle.message_core.specs.Reply as form;
@@ -100,10 +100,11 @@ fn body_of(reply: &Reply) -> &[u8]
     }
 }
 
+/// Puts the status line of a code at the end, without its line end.
 #[tactic(auto, unfolding(crate::specs::Reply::status_line))]
-fn add_status_line(out: &mut Vec<u8>, code: u16) -> Result<(), AllocError>
+pub fn add_status_line(out: &mut Vec<u8>, code: u16) -> Result<(), AllocError>
     requires { IsStatusCode code }
-    ensures { IfOk result (λ _. out.new.items ≡ out.old.items ++ form.status_line code) }
+    ensures { OnOk result (out.new.items ≡ out.old.items ++ form.status_line code) }
 {
     out.extend_from_slice(b"HTTP/1.1 ")?;
     add_number(out, code as u64)?;

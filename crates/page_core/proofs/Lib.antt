@@ -1,3 +1,4 @@
+mod Examples
 pub mod Harmless
 pub mod Injection
 pub mod Lossless

@@ -1,1 +1,1 @@
--- nothing
+mod Examples

@@ -1,16 +1,12 @@
 -- The bytes of a reply with a page, and of the style sheet.
 use Rattle.std.specs.Prelude.{ℕ, if◌then◌else◌, List, [], ◌++◌, length, codes, decimal}
-use Rattle.std.specs.Prelude.{Option, Some, None, unwrap_or}
-use Rattle.http.specs.StatusCode.{reason_phrase}
+use Rattle.std.specs.Prelude.{Option, Some, None}
+use Rattle.message_core.specs.Reply.{status_line}
 use Rattle.page_reply.specs.declared.reply.CookieChange.{CookieChange}
 use Rattle.page_reply.specs.declared.reply.CookieChange.TheVariants.{Keep, Session, Stay, Forget}
 use Rattle.page_reply.specs.declared.reply.Methods.{Methods}
 use Rattle.page_reply.specs.declared.reply.Methods.TheVariants.{Get, GetAndPost}
 use Rattle.page_reply.specs.declared.reply.PageReply.{PageReply as Given}
-
-unfoldable pub status_line : ℕ → List ℕ
-status_line status =
-    codes "HTTP/1.1 " ++ (decimal status ++ (codes " " ++ unwrap_or (reason_phrase status) []))
 
 unfoldable pub length_lines : ℕ → List ℕ
 length_lines length_told =

@@ -1,10 +1,10 @@
 //! The bytes of a reply with a page, or of one that leads to another place.
-ghost use Rattle.std.specs.Prelude.{◌≡◌, ◌++◌, [], decimal, length, unwrap_or, IfOk, OnOk};
-ghost use Rattle.http.specs.StatusCode.{IsStatusCode, reason_phrase};
+ghost use Rattle.std.specs.Prelude.{◌≡◌, ◌++◌, decimal, length, IfOk, OnOk};
+ghost use Rattle.http.specs.StatusCode.{IsStatusCode};
 ghost use Rattle.page_reply.specs.PageReply as form;
 
-use http::StatusCode;
 use itoa::Buffer;
+use message_core::add_status_line;
 use std::alloc::{AllocError, Global};
 use text_core::{Sequence, Text};
 
@@ -67,36 +67,6 @@ fn body_of(reply: &PageReply) -> &[u8]
     } else {
         reply.page.as_slice()
     }
-}
-
-#[tactic(auto, unfolding(crate::specs::PageReply::status_line))]
-fn add_status_line(out: &mut Vec<u8>, code: u16) -> Result<(), AllocError>
-    requires { IsStatusCode code }
-    ensures { OnOk result (out.new.items ≡ out.old.items ++ form.status_line code) }
-{
-    out.extend_from_slice(b"HTTP/1.1 ")?;
-    add_number(out, code as u64)?;
-    out.extend_from_slice(b" ")?;
-    out.extend_from_slice(phrase(code).as_bytes())?;
-    Ok(())
-}
-
-fn phrase(code: u16) -> &'static str
-    requires { IsStatusCode code }
-    ensures { result.now ≡ unwrap_or (reason_phrase code) [] }
-{
-    match StatusCode::from_u16(code) {
-        Ok(status) => status.canonical_reason().unwrap_or(""),
-        Err(_) => unreachable!(),
-    }
-}
-
-fn add_number(out: &mut Vec<u8>, number: u64) -> Result<(), AllocError>
-    ensures { OnOk result (out.new.items ≡ out.old.items ++ decimal number) }
-{
-    let mut buffer = Buffer::new();
-    out.extend_from_slice(buffer.format(number).as_bytes())?;
-    Ok(())
 }
 
 #[tactic(auto, unfolding(crate::specs::PageReply::length_lines))]

@@ -7,7 +7,6 @@ use Rattle.desk_model.specs.declared.command.Command.{Command}
 use Rattle.browser_core.specs.Form.{has_fields, value_of}
 use Rattle.browser_core.specs.declared.form.Field.{Field}
 use Rattle.desk_forms.specs.Asked.{asked}
-use Rattle.desk_forms.specs.Fields.{filled}
 use Rattle.desk_forms.specs.Keys.{queue_or, request_in}
 use Rattle.desk_forms.specs.Number.{number_of}
 use Rattle.desk_forms.specs.Paths.{Bound}
@@ -42,6 +41,11 @@ others _ = []
 
 abbrev pub is_filled : List ℕ → Bool
 is_filled text = not (length text == 0)
+
+-- an empty value is none
+abbrev pub filled : Option (List ℕ) → Option (List ℕ)
+filled None = None
+filled (Some value) = if length value == 0 then None else Some value
 
 -- the names that stand between spaces
 abbrev pub names_in : List ℕ → List (List ℕ)

@@ -12,14 +12,13 @@ use Rattle.browser_core.specs.Site.{is_own_post}
 use Rattle.browser_core.specs.Texts.{text_in}
 use Rattle.browser_core.specs.Trim.{trimmed}
 use Rattle.browser_core.specs.declared.form.Field.{Field}
-use Rattle.desk_forms.specs.Fields.{filled}
 use Rattle.desk_forms.specs.Number.{number_of}
 use Rattle.desk_forms.specs.Paths.{InQueue, Nothing, OnRequest}
 use Rattle.desk_forms.specs.declared.paths.Method.{Method}
 use Rattle.desk_forms.specs.declared.paths.Method.TheVariants.{Get, Post}
 use Rattle.desk_forms.specs.declared.table.Form.{Form}
 use Rattle.desk_forms.specs.declared.table.Form.TheVariants as forms
-use Rattle.page_routes.specs.Filled.{command_in}
+use Rattle.page_routes.specs.Filled.{command_in, filled}
 use Rattle.page_routes.specs.Places.{method_named, place_at, takes_post}
 use Rattle.page_routes.specs.declared.fault.PageFault.{PageFault}
 use Rattle.page_routes.specs.declared.fault.PageFault.TheVariants.{NoRoute, BadMethod, OtherSite}

@@ -3,7 +3,6 @@
 ghost use Rattle.std.specs.Prelude.{◌≡◌, map, IfOk, unwrap_or, []};
 ghost use Rattle.std.specs.Option.{option_and_then, option_map};
 ghost use Rattle.browser_core.specs.Form.{value_of as value_in};
-ghost use Rattle.desk_forms.specs.Fields as given;
 ghost use Rattle.desk_forms.specs.Number as number;
 ghost use Rattle.desk_forms.specs.Paths.{bound_of};
 ghost use Rattle.page_routes.specs.Filled as filled;
@@ -50,7 +49,7 @@ fn others(of: Form) -> &'static [&'static str]
 
 /// The value of a field, where an empty one is none.
 pub(crate) fn filled_value<'f>(fields: &'f [Field], name: &str) -> Option<&'f str>
-    ensures { option_map (λ t. t.now) result ≡ given.filled (value_in name.now fields.now) }
+    ensures { option_map (λ t. t.now) result ≡ filled.filled (value_in name.now fields.now) }
 {
     match value_of(fields, name) {
         Some(value) => { if value.is_empty() { None } else { Some(value) } }

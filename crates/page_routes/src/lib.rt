@@ -16,6 +16,7 @@ mod sign;
 mod visit;
 
 pub use fault::PageFault;
+pub use lines::caller_of;
 pub use page::{Page, page_path};
 pub use place::is_page_place;
 pub use visit::{Sent, Visit, visit_of};

@@ -15,7 +15,7 @@ use std::alloc::{AllocError, Global};
 use text_core::Text;
 
 /// The person of the cookie, if it holds a token of the settings.
-pub(crate) fn caller_of(
+pub fn caller_of(
     alloc: Global,
     settings: &Settings,
     request: &Request,

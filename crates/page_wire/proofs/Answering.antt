@@ -1,6 +1,6 @@
 -- From what a message asks for to its answer.
-use Rattle.std.proofs.Common.{◌≡◌, ◌≢◌, ℕ, Bool, true, false, List, [], Result, Ok, Err, IfErr}
-use Rattle.std.proofs.Common.{IfOk, OnOk, Some, None, ap, cond, inl, inr, refl, sym, subst}
+use Rattle.std.proofs.Common.{◌≡◌, ◌≢◌, ℕ, Bool, true, false, List, [], Result, Ok, Err}
+use Rattle.std.proofs.Common.{IfOk, OnErr, OnOk, ◌∙◌, Some, None, ap, cond, inl, inr, refl, sym, subst}
 use Rattle.std.specs.Prelude.{if◌then◌else◌}
 use Rattle.std.specs.Prelude.{Vec}
 use Rattle.sqlite.specs.State.{State}
@@ -12,7 +12,8 @@ use Rattle.message_core.specs.Head.{StartsWith}
 use Rattle.message_core.specs.Reply.{bytes_of, unavailable}
 use Rattle.message_core.specs.Request.{values_in}
 use Rattle.message_core.specs.declared.fault.WireFault.{WireFault}
-use Rattle.message_core.specs.declared.fault.WireFault.TheVariants.{Read, NoMemory}
+use Rattle.message_core.specs.declared.fault.WireFault.TheVariants.{BadHead, BadLength, NoMemory, Read}
+use Rattle.message_core.specs.declared.fault.WireFault.TheVariants.{TooLong, Truncated}
 use Rattle.message_core.specs.declared.request.Request.{Request}
 use Rattle.page_routes.specs.declared.fault.PageFault.{PageFault}
 use Rattle.page_routes.specs.declared.page.Page.{Page}
@@ -21,35 +22,94 @@ use Rattle.page_routes.specs.declared.visit.Visit.{Visit}
 use Rattle.page_routes.specs.declared.visit.Visit.TheVariants.{Look, Act}
 use Rattle.page_routes.specs.Places.{is_page_path, path_in}
 use Rattle.page_routes.specs.Visits.{visit_of}
+use Rattle.service_core.specs.Leaves.{LeavesDesk}
+use Rattle.service_core.specs.Seen.{settings_of, tables_of}
 use Rattle.service_core.specs.TableSteps.{LeadsOn}
-use Rattle.wire_core.specs.Replies.{is_head}
-use Rattle.wire_core.specs.Runs.{RepliesOn, Sent as Message, replied_of}
-use Rattle.wire_core.specs.Steps.{StaysOn}
-use Rattle.wire_core.specs.declared.fault.ServeFault.{ServeFault}
-use Rattle.wire_core.proofs.Stepping.{leads_nowhere, leads_wider}
+use Rattle.service_core.specs.declared.desk.Desk.{Desk as Service}
+use Rattle.sqlite.specs.Store.{Ghosts}
+use Rattle.store_tables.specs.Calls.{Spares}
+use Rattle.store_tables.proofs.Spared.{unread}
+use Rattle.wire_core.specs.Replies.{TellsFault, is_head}
+use Rattle.wire_core.specs.Runs.{Sent as Message}
+use Rattle.wire_core.specs.Steps.{ReadStepsOn, StaysOn}
+use Rattle.wire_core.proofs.Stepping.{leads_nowhere, leads_same, leads_wider, read_leads}
 use Rattle.page_wire.specs.Faults.{fault_reply}
 use Rattle.page_wire.specs.Steps.{AskedStepsOn, AsksAt, By, IsAnsweredOn, IsAnswerTo, IsReadOf}
-use Rattle.page_wire.specs.Steps.{PageSteps}
+use Rattle.page_wire.specs.Health.{TellsHealth, asks_health}
+use Rattle.page_wire.specs.Steps.{PageSteps, SentSteps}
 use Rattle.page_wire.specs.Forms.{FormStepsOn}
 use Rattle.page_wire.specs.Steps.{LookStepsOn, RequestStepsOn, SentStepsOn, VisitStepsOn}
 
 -- ---- what was read
 
-pub answered : {A E : Type 0} (s : Settings) (sent : Message) (read : Result Request WireFault)
-    (r : Result (Vec ℕ A) E) (old new : State) → IsReadOf sent.1 read
-    → IfOk r (λ out. SentStepsOn s sent read out.items old new)
-    → IfOk r (λ out. IsAnsweredOn s sent out.items old new)
-unfolding IsAnswerTo
-answered s sent read (Ok out) old new reads steps =
-    leads_wider s _ _ old new (λ desk after step. inr (read, reads, step)) steps
-answered s sent read (Err e) old new reads steps = tt
+no_memory : (bytes : List ℕ) → TellsFault NoMemory bytes → bytes ≡ bytes_of (unavailable false)
+no_memory bytes (inl is) = is
+no_memory bytes (inr (other, told)) = absurd (other refl)
 
--- no message: the interface tells why
-pub by_interface : {A : Type 0} (s : Settings) (sent : Message) (fault : WireFault)
-    (r : Result (Vec ℕ A) ServeFault) (old new : State) → RepliesOn s sent (replied_of r) old new
-    → IfOk r (λ out. SentStepsOn s sent (Err fault) out.items old new)
-by_interface s sent fault (Ok out) old new replies = replies
-by_interface s sent fault (Err e) old new replies = tt
+abbrev Reads : List ℕ → Result Request WireFault → Type 0
+Reads bytes read = read ≢ Err NoMemory → IsReadOf bytes read
+
+answered_so : (s : Settings) (sent : Message) (read : Result Request WireFault) (bytes : List ℕ)
+    (old new : State) → IsReadOf sent.1 read → SentStepsOn s sent.0 read bytes old new
+    → IsAnsweredOn s sent bytes old new
+unfolding IsAnswerTo
+answered_so s sent read bytes old new reads steps =
+    leads_wider s _ _ old new (λ desk after step. inr (read, reads, step)) steps
+
+left_so : (s : Settings) (sent : Message) (bytes : List ℕ) (old new : State)
+    → SentStepsOn s sent.0 (Err NoMemory) bytes old new → IsAnsweredOn s sent bytes old new
+unfolding IsAnswerTo
+left_so s sent bytes old new steps =
+    leads_wider s _ _ old new (λ desk after step. inl (no_memory bytes step.0, step.1)) steps
+
+-- what was read and answered is the answer to the bytes
+pub answered : (s : Settings) (sent : Message) (read : Result Request WireFault) (bytes : List ℕ)
+    (old new : State) → Reads sent.1 read → SentStepsOn s sent.0 read bytes old new
+    → IsAnsweredOn s sent bytes old new
+answered s sent (Ok request) bytes old new reads steps =
+    answered_so s sent (Ok request) bytes old new (reads (λ e. cc)) steps
+answered s sent (Err NoMemory) bytes old new reads steps = left_so s sent bytes old new steps
+answered s sent (Err Read) bytes old new reads steps =
+    answered_so s sent (Err Read) bytes old new (reads (λ e. cc)) steps
+answered s sent (Err TooLong) bytes old new reads steps =
+    answered_so s sent (Err TooLong) bytes old new (reads (λ e. cc)) steps
+answered s sent (Err Truncated) bytes old new reads steps =
+    answered_so s sent (Err Truncated) bytes old new (reads (λ e. cc)) steps
+answered s sent (Err BadHead) bytes old new reads steps =
+    answered_so s sent (Err BadHead) bytes old new (reads (λ e. cc)) steps
+answered s sent (Err BadLength) bytes old new reads steps =
+    answered_so s sent (Err BadLength) bytes old new (reads (λ e. cc)) steps
+
+-- ---- reading
+
+pub ok_read : (bytes : List ℕ) (request : Request)
+    → (Ok request ≢ Err Read → Ok request ≢ Err NoMemory → IsReadOf bytes (Ok request))
+    → IsReadOf bytes (Ok request)
+ok_read bytes request reads = reads (λ e. cc) (λ e. cc)
+
+abbrev fault_in : WireFault → Result Request WireFault → WireFault
+fault_in other (Ok request) = other
+fault_in other (Err fault) = fault
+
+pub told_read : (bytes : List ℕ) (fault told : WireFault)
+    → (◌≢◌ {A = Result Request WireFault} (Err fault) (Err Read)
+    → ◌≢◌ {A = Result Request WireFault} (Err fault) (Err NoMemory) → IsReadOf bytes (Err fault))
+    → (told ≢ NoMemory → (fault ≢ Read) × (told ≡ fault))
+    → ◌≢◌ {A = Result Request WireFault} (Err told) (Err NoMemory) → IsReadOf bytes (Err told)
+told_read bytes fault told reads is other =
+    let same = is (λ e. other (ap (λ (f : WireFault). Err f) e)) in
+    subst (λ (f : WireFault). IsReadOf bytes (Err f)) (sym same.1)
+    (reads (λ e. same.0 (ap (fault_in fault) e))
+    (λ e. other (ap (λ (f : WireFault). Err f) (same.1 ∙ ap (fault_in fault) e))))
+
+-- ---- answering
+
+-- no message: it is told why
+pub fault_told : {A E : Type 0} (s : Settings) (at : ℕ) (fault : WireFault) (r : Result (Vec ℕ A) E)
+    (tables : State) → IfOk r (λ out. TellsFault fault out.items)
+    → IfOk r (λ out. SentStepsOn s at (Err fault) out.items tables tables)
+fault_told s at fault (Ok out) tables told = leads_nowhere s _ tables (λ desk. (told, refl))
+fault_told s at fault (Err e) tables told = tt
 
 by_no : (b : Bool) (Yes No : Type 0) → b ≡ false → No → By b Yes No
 by_no b Yes No is holds = subst (λ (c : Bool). By c Yes No) (sym is) holds
@@ -57,28 +117,56 @@ by_no b Yes No is holds = subst (λ (c : Bool). By c Yes No) (sym is) holds
 by_yes : (b : Bool) (Yes No : Type 0) → b ≡ true → Yes → By b Yes No
 by_yes b Yes No is holds = subst (λ (c : Bool). By c Yes No) (sym is) holds
 
+-- whoever asks whether the desk is there is told
+pub health_told : {A E : Type 0} (s : Settings) (at : ℕ) (request : Request) (h : Bool)
+    (r : Result (Vec ℕ A) E) (old new : State) → asks_health request.message ≡ true
+    → h ≡ is_head request.message → Spares old new → IfOk r (λ out. TellsHealth h out.items)
+    → IfOk r (λ out. SentStepsOn s at (Ok request) out.items old new)
+health_told s at request h (Ok out) old new is head kept told =
+    let so = subst (λ (b : Bool). TellsHealth b out.items) head told in
+    leads_same s (λ desk after. SentSteps s at (Ok request) desk out.items after) old new kept
+    (λ desk. by_yes (asks_health request.message) _ _ is (so, refl))
+health_told s at request h (Err e) old new is head kept told = tt
+
 -- a place of the interface
-pub elsewhere : {A : Type 0} (s : Settings) (sent : Message) (request : Request)
-    (r : Result (Vec ℕ A) ServeFault) (old new : State)
+pub elsewhere : {A E : Type 0} (s : Settings) (at : ℕ) (request : Request)
+    (r : Result (Vec ℕ A) E) (old new : State) → asks_health request.message ≡ false
     → is_page_path (path_in request.message.target) ≡ false
-    → RepliesOn s sent (replied_of r) old new
-    → IfOk r (λ out. SentStepsOn s sent (Ok request) out.items old new)
-elsewhere s sent request (Ok out) old new other replies =
+    → IfOk r (λ out. ReadStepsOn s at (Ok request.message) out.items old new)
+    → IfOk r (λ out. SentStepsOn s at (Ok request) out.items old new)
+elsewhere s at request (Ok out) old new health other steps =
     leads_wider s _ _ old new
-    (λ desk after reply. by_no (is_page_path (path_in request.message.target)) _ _ other reply)
-    replies
-elsewhere s sent request (Err e) old new other replies = tt
+    (λ desk after step. by_no (asks_health request.message) _ _ health
+    (by_no (is_page_path (path_in request.message.target)) _ _ other step))
+    (read_leads s at (Ok request.message) out.items old new steps)
+elsewhere s at request (Err e) old new health other steps = tt
 
 -- a place of the pages
-pub on_pages : {A E : Type 0} (s : Settings) (sent : Message) (request : Request)
-    (r : Result (Vec ℕ A) E) (old new : State)
+pub on_pages : {A E : Type 0} (s : Settings) (at : ℕ) (request : Request)
+    (r : Result (Vec ℕ A) E) (old new : State) → asks_health request.message ≡ false
     → is_page_path (path_in request.message.target) ≡ true
-    → IfOk r (λ out. RequestStepsOn s sent.0 request out.items old new)
-    → IfOk r (λ out. SentStepsOn s sent (Ok request) out.items old new)
-on_pages s sent request (Ok out) old new is steps =
+    → IfOk r (λ out. RequestStepsOn s at request out.items old new)
+    → IfOk r (λ out. SentStepsOn s at (Ok request) out.items old new)
+on_pages s at request (Ok out) old new health is steps =
     leads_wider s _ _ old new
-    (λ desk after step. by_yes (is_page_path (path_in request.message.target)) _ _ is step) steps
-on_pages s sent request (Err e) old new is steps = tt
+    (λ desk after step. by_no (asks_health request.message) _ _ health
+    (by_yes (is_page_path (path_in request.message.target)) _ _ is step)) steps
+on_pages s at request (Err e) old new health is steps = tt
+
+-- a call that failed and left the desk as it was spares the tables
+pub spared_err : {S X E : Type 0} (g : Ghosts S) (old new : Service S g) (r : Result X E)
+    → OnErr r (new ≡ old) → OnErr r (Spares (tables_of g old) (tables_of g new))
+spared_err g old new (Ok x) same = tt
+spared_err {S} g old new (Err e) same =
+    subst (λ (d : Service S g). Spares (tables_of g old) (tables_of g d)) (sym same)
+    (unread (tables_of g old))
+
+-- a call that spares the tables leaves the desk
+pub left_spared : {S : Type 0} (g : Ghosts S) (old new : Service S g)
+    → settings_of g new ≡ settings_of g old → Spares (tables_of g old) (tables_of g new)
+    → LeavesDesk g old new
+left_spared g old new same kept =
+    record { same = same; clean = kept.clean; lasts = kept.lasts }
 
 -- ---- what a request asks for
 
@@ -161,27 +249,3 @@ act_visit s at visit caller command sent moment (Ok x) bytes old new asked is st
     subst (λ (v : Visit). VisitStepsOn s at v bytes old new) (sym asked)
     (at_its_moment s at (Act caller command sent) bytes old new when.0 now)
 act_visit s at visit caller command sent moment (Err e) bytes old new asked is steps = tt
-
--- ---- reading
-
-abbrev Reads : List ℕ → Result Request WireFault → Type 0
-Reads bytes read =
-    read ≢ Err Read → read ≢ Err NoMemory → IsReadOf bytes read
-
-abbrev fault_in : WireFault → Result Request WireFault → WireFault
-fault_in other (Ok request) = other
-fault_in other (Err fault) = fault
-
-pub read_err : (bytes : List ℕ) (read : Result Request WireFault) → Reads bytes read
-    → IfErr read (λ fault. fault ≢ Read → fault ≢ NoMemory
-    → IsReadOf bytes (Err fault))
-read_err bytes (Ok request) reads = tt
-read_err bytes (Err fault) reads =
-    λ one other. reads (λ e. one (ap (fault_in fault) e)) (λ e. other (ap (fault_in fault) e))
-
-pub unread : {A : Type 0} (s : Settings) (sent : Message) (fault : WireFault)
-    (r : Result (Vec ℕ A) ServeFault) (old new : State) → IsReadOf sent.1 (Err fault)
-    → RepliesOn s sent (replied_of r) old new
-    → IfOk r (λ out. IsAnsweredOn s sent out.items old new)
-unread s sent fault r old new reads replies =
-    answered s sent (Err fault) r old new reads (by_interface s sent fault r old new replies)

@@ -48,11 +48,12 @@ use Rattle.service_core.specs.Seen.{settings_of, tables_of}
 use Rattle.service_core.specs.TableSteps.{IsStep, LeadsOn, ask_by}
 use Rattle.service_core.specs.declared.desk.Desk as service
 use Rattle.store_tables.specs.Calls.{Spares}
-use Rattle.wire_core.specs.Replies.{is_head}
-use Rattle.wire_core.specs.Runs.{IsReplyTo, Sent}
-use Rattle.wire_core.specs.Steps.{LeavesOut, StaysOn}
+use Rattle.wire_core.specs.Replies.{TellsFault, is_head}
+use Rattle.wire_core.specs.Runs.{Sent}
+use Rattle.wire_core.specs.Steps.{LeavesOut, MessageSteps, StaysOn}
 use Rattle.page_wire.specs.Faults.{fault_reply}
 use Rattle.page_wire.specs.Forms.{FormSteps}
+use Rattle.page_wire.specs.Health.{TellsHealth, asks_health}
 use Rattle.page_wire.specs.Replies as replies
 use Rattle.page_wire.specs.Visits.{IsFixed}
 
@@ -178,12 +179,14 @@ RequestSteps settings at request old bytes new =
     LeavesOut (is_head request.message) old bytes new
     ⊎ AskedSteps settings at request old bytes new
 
--- the step of what was read at a place of the pages, and else that of the interface
-abbrev pub SentSteps : Settings → Sent → Result Request WireFault → Desk → List ℕ → Desk → Type 0
-SentSteps settings sent (Err fault) old bytes new = IsReplyTo settings sent old (Ok bytes) new
-SentSteps settings sent (Ok request) old bytes new =
-    By (is_page_path (path_in request.message.target)) (RequestSteps settings sent.0 request old bytes new)
-    (IsReplyTo settings sent old (Ok bytes) new)
+-- The step of what was read: a fault is told; whoever asks whether the desk is there is told; and else
+-- a message is answered at a place of the pages by its visit, and by the interface at any other.
+abbrev pub SentSteps : Settings → ℕ → Result Request WireFault → Desk → List ℕ → Desk → Type 0
+SentSteps settings at (Err fault) old bytes new = TellsFault fault bytes × (new ≡ old)
+SentSteps settings at (Ok request) old bytes new =
+    By (asks_health request.message) (TellsHealth (is_head request.message) bytes × (new ≡ old))
+    (By (is_page_path (path_in request.message.target)) (RequestSteps settings at request old bytes new)
+    (MessageSteps settings at request.message old bytes new))
 
 -- it is read so of these bytes, with a body as long as its place takes
 abbrev pub IsReadOf : List ℕ → Result Request WireFault → Type 0
@@ -194,7 +197,7 @@ unfoldable pub IsAnswerTo : Settings → Sent → Desk → List ℕ → Desk →
 IsAnswerTo settings sent old bytes new =
     LeavesOut false old bytes new
     ⊎ ((read : Result Request WireFault) × IsReadOf sent.1 read
-    × SentSteps settings sent read old bytes new)
+    × SentSteps settings sent.0 read old bytes new)
 
 -- ---- over tables
 
@@ -241,10 +244,9 @@ abbrev pub VisitStepsOn : Settings → ℕ → Visit → List ℕ → State → 
 VisitStepsOn settings at visit bytes =
     LeadsOn settings (λ desk after. VisitSteps settings at visit desk bytes after)
 
-abbrev pub SentStepsOn : Settings → Sent → Result Request WireFault → List ℕ → State → State
-    → Type 0
-SentStepsOn settings sent read bytes =
-    LeadsOn settings (λ desk after. SentSteps settings sent read desk bytes after)
+abbrev pub SentStepsOn : Settings → ℕ → Result Request WireFault → List ℕ → State → State → Type 0
+SentStepsOn settings at read bytes =
+    LeadsOn settings (λ desk after. SentSteps settings at read desk bytes after)
 
 abbrev pub IsAnsweredOn : Settings → Sent → List ℕ → State → State → Type 0
 IsAnsweredOn settings sent bytes =

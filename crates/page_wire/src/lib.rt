@@ -1,7 +1,8 @@
 //! A message that asks for a page: what it asks for is done, and the page is made of the answer.
 //!
-//! `answer_bytes` serves whatever comes: a message at a place of the pages by the step of its
-//! visit, and any other by the interface's step, byte for byte.
+//! `read_sent` reads whatever comes, once, and `answer_sent` answers what was read: a message at a
+//! place of the pages by the step of its visit, `/health` whether the desk is there, and any other by
+//! the interface's step, byte for byte.
 //!
 //! A form may ask for two commands. The second is done only after the first, and where it is refused
 //! the reply says what was done and what wasn't.
@@ -9,6 +10,7 @@
 
 mod act;
 mod faults;
+mod health;
 mod led;
 mod look;
 mod next;
@@ -18,4 +20,4 @@ mod second;
 mod serve;
 mod visits;
 
-pub use serve::answer_bytes;
+pub use serve::{answer_sent, read_sent};

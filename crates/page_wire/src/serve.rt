@@ -4,11 +4,13 @@ ghost use Rattle.std.specs.Vec.{vec_capacity};
 ghost use Rattle.message_core.specs.Reply.{bytes_of, unavailable};
 ghost use Rattle.service_core.specs.Leaves.{LeavesDesk};
 ghost use Rattle.service_core.specs.Seen.{settings_of, tables_of};
+ghost use Rattle.store_tables.specs.Calls.{Spares};
 ghost use Rattle.page_wire.specs.Faults as form;
-ghost use Rattle.page_wire.specs.Steps.{AskedStepsOn, IsAnsweredOn, IsReadOf, RequestStepsOn, SentStepsOn};
+ghost use Rattle.page_wire.specs.Steps.{AskedStepsOn, IsReadOf, RequestStepsOn, SentStepsOn};
 ghost use Rattle.wire_core.specs.Steps.{StaysOn};
 
 use crate::faults::fault_reply;
+use crate::health::{answer_health, asks_health};
 use crate::led::ROOM;
 use crate::visits::make_visit;
 use message_core::{BodyLimit, Request, WireFault, read_request_counted, unavailable_reply};
@@ -17,78 +19,34 @@ use service_core::Desk;
 use std::alloc::{AllocError, Global};
 use store_core::Backend;
 use stream_core::CountedReader;
-use wire_core::{Routes, ServeFault, is_head, serve_bytes};
+use wire_core::{Routes, answer_fault, answer_request, is_head};
 
-/// Answers the message with which these bytes begin, at a moment in minutes since 1970-01-01 00:00
-/// UTC: at a place of the pages by the step of its visit, and else by that of the interface. The
-/// bytes of its reply, or `NoMemory` where there was no memory for it and nothing was done.
-pub fn answer_bytes<S: Backend>(
-    alloc: Global,
-    routes: Option<&Routes>,
-    moment: u32,
-    bytes: &[u8],
-    desk: &mut Desk<S>,
-) -> Result<Vec<u8>, ServeFault>
-    ensures reply { IfOk result (λ out. IsAnsweredOn (settings_of S.Store desk.old)
-        (moment, bytes.now) out.items (tables_of S.Store desk.old) (tables_of S.Store desk.new)) }
-    ensures err { OnErr result (desk.new ≡ desk.old) }
-    ensures left { LeavesDesk S.Store desk.old desk.new }
+/// The message with which these bytes begin, with its head; its body may be as long as its place
+/// takes. `NoMemory` may stand in place of any answer.
+#[tactic(auto, using(crate::proofs::Answering::told_read, crate::proofs::Answering::ok_read))]
+pub fn read_sent(alloc: Global, bytes: &[u8]) -> Result<Request, WireFault>
+    ensures { result ≢ Err WireFault.NoMemory → IsReadOf bytes.now result }
 {
     match read(alloc, bytes) {
-        Ok(request) => {
-            let answer = answer_read(alloc, routes, &request, moment, bytes, desk);
-            drop(request);
-            answer
-        }
-        Err(fault) => answer_fault(alloc, routes, fault, moment, bytes, desk),
+        Ok(request) => Ok(request),
+        Err(fault) => Err(told_of(fault)),
     }
 }
 
-/// Answers bytes that are no message, by this fault: without memory for it not at all.
-#[tactic(auto, using(service_core::proofs::LeftLemmas::left_same))]
-fn answer_fault<S: Backend>(
-    alloc: Global,
-    routes: Option<&Routes>,
-    fault: WireFault,
-    moment: u32,
-    bytes: &[u8],
-    desk: &mut Desk<S>,
-) -> Result<Vec<u8>, ServeFault>
-    requires { fault ≢ WireFault.Read → fault ≢ WireFault.NoMemory
-        → IsReadOf bytes.now (Err fault) }
-    ensures reply { IfOk result (λ out. IsAnsweredOn (settings_of S.Store desk.old)
-        (moment, bytes.now) out.items (tables_of S.Store desk.old) (tables_of S.Store desk.new)) }
-    ensures err { OnErr result (desk.new ≡ desk.old) }
-    ensures left { LeavesDesk S.Store desk.old desk.new }
+/// The fault that is told of one: bytes in memory are read without a fault of their own.
+fn told_of(fault: WireFault) -> WireFault
+    ensures { result ≢ WireFault.NoMemory → (fault ≢ WireFault.Read) × (result ≡ fault) }
 {
-    if fault == WireFault::NoMemory {
-        Err(ServeFault::NoMemory)
-    } else if fault == WireFault::Read {
-        Err(ServeFault::NoMemory)
-    } else {
-        answer_unread(alloc, routes, fault, moment, bytes, desk)
+    match fault {
+        WireFault::Read | WireFault::NoMemory => WireFault::NoMemory,
+        WireFault::TooLong => WireFault::TooLong,
+        WireFault::Truncated => WireFault::Truncated,
+        WireFault::BadHead => WireFault::BadHead,
+        WireFault::BadLength => WireFault::BadLength,
     }
 }
 
-/// Answers bytes that are no message: the interface tells why.
-fn answer_unread<S: Backend>(
-    alloc: Global,
-    routes: Option<&Routes>,
-    _fault: WireFault,
-    moment: u32,
-    bytes: &[u8],
-    desk: &mut Desk<S>,
-) -> Result<Vec<u8>, ServeFault>
-    requires { IsReadOf bytes.now (Err _fault) }
-    ensures reply { IfOk result (λ out. IsAnsweredOn (settings_of S.Store desk.old)
-        (moment, bytes.now) out.items (tables_of S.Store desk.old) (tables_of S.Store desk.new)) }
-    ensures err { OnErr result (desk.new ≡ desk.old) }
-    ensures left { LeavesDesk S.Store desk.old desk.new }
-{
-    serve_bytes(alloc, routes, moment, bytes, desk)
-}
-
-/// The message with its head, whose body may be as long as its place takes.
+/// What the bytes begin with, as `read_sent` tells it.
 fn read(alloc: Global, bytes: &[u8]) -> Result<Request, WireFault>
     ensures { result ≢ Err WireFault.Read → result ≢ Err WireFault.NoMemory
         → IsReadOf bytes.now result }
@@ -98,25 +56,49 @@ fn read(alloc: Global, bytes: &[u8]) -> Result<Request, WireFault>
     read_request_counted(alloc, &mut reader, BodyLimit::ByPlace)
 }
 
-/// Answers a message that was read of these bytes.
+/// Answers what was read, at a moment in minutes since 1970-01-01 00:00 UTC: a fault is told, whoever
+/// asks whether the desk is there is told, and else a message is answered at a place of the pages by
+/// its visit, and by the interface at any other. The bytes of its reply, or `AllocError` where there
+/// was no memory for it and nothing was done.
+#[tactic(auto, using(service_core::proofs::LeftLemmas::left_same, store_tables::proofs::Spared::unread))]
+pub fn answer_sent<S: Backend>(
+    alloc: Global,
+    routes: Option<&Routes>,
+    read: &Result<Request, WireFault>,
+    moment: u32,
+    desk: &mut Desk<S>,
+) -> Result<Vec<u8>, AllocError>
+    ensures reply { IfOk result (λ out. SentStepsOn (settings_of S.Store desk.old) moment read.now
+        out.items (tables_of S.Store desk.old) (tables_of S.Store desk.new)) }
+    ensures err { OnErr result (Spares (tables_of S.Store desk.old) (tables_of S.Store desk.new)) }
+    ensures left { LeavesDesk S.Store desk.old desk.new }
+{
+    match read {
+        Ok(request) => answer_read(alloc, routes, request, moment, desk),
+        Err(fault) => answer_fault(alloc, *fault),
+    }
+}
+
+/// Answers a message that was read.
+#[tactic(auto, using(crate::proofs::Answering::spared_err, crate::proofs::Answering::left_spared))]
 fn answer_read<S: Backend>(
     alloc: Global,
     routes: Option<&Routes>,
     request: &Request,
     moment: u32,
-    bytes: &[u8],
     desk: &mut Desk<S>,
-) -> Result<Vec<u8>, ServeFault>
-    ensures reply { IfOk result (λ out. SentStepsOn (settings_of S.Store desk.old)
-        (moment, bytes.now) (Ok request.now) out.items
-        (tables_of S.Store desk.old) (tables_of S.Store desk.new)) }
-    ensures err { OnErr result (desk.new ≡ desk.old) }
+) -> Result<Vec<u8>, AllocError>
+    ensures reply { IfOk result (λ out. SentStepsOn (settings_of S.Store desk.old) moment
+        (Ok request.now) out.items (tables_of S.Store desk.old) (tables_of S.Store desk.new)) }
+    ensures err { OnErr result (Spares (tables_of S.Store desk.old) (tables_of S.Store desk.new)) }
     ensures left { LeavesDesk S.Store desk.old desk.new }
 {
-    if is_page_place(request.message.target.as_slice()) {
+    if asks_health(&request.message) {
+        answer_health(alloc, is_head(&request.message), desk)
+    } else if is_page_place(request.message.target.as_slice()) {
         answer_in_room(alloc, request, moment, desk)
     } else {
-        serve_bytes(alloc, routes, moment, bytes, desk)
+        answer_request(alloc, routes, &request.message, moment, desk)
     }
 }
 
@@ -127,7 +109,7 @@ fn answer_in_room<S: Backend>(
     request: &Request,
     moment: u32,
     desk: &mut Desk<S>,
-) -> Result<Vec<u8>, ServeFault>
+) -> Result<Vec<u8>, AllocError>
     ensures reply { IfOk result (λ out. RequestStepsOn (settings_of S.Store desk.old) moment
         request.now out.items (tables_of S.Store desk.old) (tables_of S.Store desk.new)) }
     ensures err { OnErr result (desk.new ≡ desk.old) }
@@ -135,16 +117,16 @@ fn answer_in_room<S: Backend>(
 {
     match Vec::with_capacity(alloc, ROOM) {
         Ok(mut room) => {
-            answer_request(alloc, request, moment, desk, &mut room);
+            answer_page(alloc, request, moment, desk, &mut room);
             Ok(room)
         }
-        Err(_) => Err(ServeFault::NoMemory),
+        Err(_) => Err(AllocError),
     }
 }
 
 /// Makes the visit of a message at a place of the pages, and puts its reply into the room. Where
 /// that is out of memory, nothing is done and the reply says so.
-fn answer_request<S: Backend>(
+fn answer_page<S: Backend>(
     alloc: Global,
     request: &Request,
     at: u32,

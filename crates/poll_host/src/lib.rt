@@ -1,9 +1,10 @@
 //! A server's network by epoll, and its clock.
 #![tactic(auto)]
 
-mod line;
+ghost use Rattle.std.specs.Prelude.{◌≡◌, ◌⊎◌, ℕ, IfOk, List, codes};
+ghost use Rattle.log_core.specs.Log.{line_text, stamp_text};
 
-use line::put_line;
+use log_core::{put_line, stamp_of};
 use mio::event::Event;
 use mio::net::{TcpListener, TcpStream};
 use mio::{Events, Interest, Poll, Token};
@@ -31,7 +32,9 @@ pub struct PollHost<'r, R> {
     events: Events,
     listener: TcpListener,
     log: bool,
-    failed: bool,
+    line: Vec<u8>,
+    failed: u64,
+    wait_failed: bool,
 }
 
 impl<'r, R: Net + Clock + Print> PollHost<'r, R> {
@@ -53,7 +56,9 @@ impl<'r, R: Net + Clock + Print> PollHost<'r, R> {
             events,
             listener,
             log,
-            failed: false,
+            line: Vec::new(alloc),
+            failed: 0,
+            wait_failed: false,
         })
     }
 
@@ -128,13 +133,23 @@ fn mark_one(event: &Event, mark: &mut Mark) {
 impl<R: Net + Clock + Print> Host for PollHost<'_, R> {
     type Stream = TcpStream;
 
-    ghost has_failed = { λ host. host.failed };
+    ghost use Rattle.std.specs.Prelude.{None};
+
+    ghost told = { λ host. record {
+      failed = host.failed;
+      wait_failed = host.wait_failed;
+      moments = None;
+      minutes = None;
+      lines = None;
+    } };
 
     fn accept(&mut self, place: usize) -> Result<Option<TcpStream>, NetFault> {
         let accepted = next_of(&self.listener, &self.poll, place);
-        if accepted.is_err() {
-            self.failed = true;
-        }
+        self.failed = if accepted.is_err() {
+            self.failed.saturating_add(1)
+        } else {
+            0
+        };
         accepted
     }
 
@@ -149,7 +164,7 @@ impl<R: Net + Clock + Print> Host for PollHost<'_, R> {
             Err(fault) => match fault.kind() {
                 ErrorKind::Interrupted => Ok(false),
                 _ => {
-                    self.failed = true;
+                    self.wait_failed = true;
                     Err(NetFault)
                 }
             },
@@ -163,6 +178,10 @@ impl<R: Net + Clock + Print> Host for PollHost<'_, R> {
         }
     }
 
+    fn moment(&mut self) -> u64 {
+        self.micros() / 1000
+    }
+
     fn minute(&mut self) -> u32 {
         match self.rt.since_1970() {
             Ok(since) => u32::try_from(since.as_secs() / 60).unwrap_or(0),
@@ -170,11 +189,35 @@ impl<R: Net + Clock + Print> Host for PollHost<'_, R> {
         }
     }
 
-    fn told(&mut self, minute: u32, message: &[u8], reply: &[u8], micros: u64) {
+    fn log(&mut self, _minute: u32, note: &[u8], bytes: u64, micros: u64) {
         if self.log {
-            let mut line = [0u8; line::LONGEST];
-            let length = put_line(&mut line, minute, message, reply, micros);
-            let _printed = io::writer(self.rt).write_all(&line[..length]);
+            let seconds = match self.rt.since_1970() {
+                Ok(since) => since.as_secs(),
+                Err(_) => 0,
+            };
+            if fill_line(&mut self.line, seconds, note, bytes, micros).is_ok() {
+                let _printed = io::writer(self.rt).write_all(self.line.as_slice());
+            }
         }
+    }
+}
+
+/// The line of a message that was answered at this second since 1970-01-01 00:00 UTC, in place of
+/// what was there. A dash stands for a time that is none of the desk's.
+fn fill_line(
+    line: &mut Vec<u8>,
+    seconds: u64,
+    note: &[u8],
+    bytes: u64,
+    micros: u64,
+) -> Result<(), AllocError>
+    ensures { IfOk result (λ _. (stamp : List ℕ)
+        × (line.new.items ≡ line_text stamp note.now bytes micros)
+        × ((stamp ≡ stamp_text seconds) ⊎ (stamp ≡ codes "-"))) }
+{
+    line.clear();
+    match stamp_of(seconds) {
+        Some(stamp) => put_line(line, &stamp, note, bytes, micros),
+        None => put_line(line, b"-", note, bytes, micros),
     }
 }

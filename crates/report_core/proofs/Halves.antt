@@ -11,7 +11,7 @@ use Rattle.std.proofs.lemmas.List.Elements.{All-from_recursion}
 use Rattle.desk_model.specs.Desk.{has_lower_name}
 use Rattle.desk_model.specs.Names.{text_order}
 use Rattle.desk_model.specs.declared.rows.QueueRow.{QueueRow}
-use Rattle.desk_core.proofs.Rising.{Climbs, orders_go_on}
+use Rattle.sorted_lists.proofs.Rising.{Climbs, lesser, orders_go_on}
 use Rattle.report_core.specs.Rows.{named_only, queue_among}
 
 -- where none in front passes a test, one passes it exactly where one does after them
@@ -54,20 +54,15 @@ parted test lower back (x ∷ xs) climbs (suc i) (suc j) d le lt passes =
 abbrev pub is_before : List ℕ → QueueRow → Bool
 is_before name queue = is_lt (text_order queue.name name)
 
-names_less : (o : Ordering) → is_lt o ≡ true → o ≡ Less
-names_less Less e = refl
-names_less Equal e = cc
-names_less Greater e = cc
-
-not_named_below : (a b : List ℕ) → is_lt (text_order a b) ≡ true → bytes_eq a b ≡ false
+pub not_named_below : (a b : List ℕ) → is_lt (text_order a b) ≡ true → bytes_eq a b ≡ false
 not_named_below a b less =
-    texts_ties a b ∙ ap is_eq (names_less (text_order a b) less)
+    texts_ties a b ∙ ap is_eq (lesser (text_order a b) less)
 
-not_named_above : (a b : List ℕ) → is_lt (text_order b a) ≡ true → bytes_eq a b ≡ false
+pub not_named_above : (a b : List ℕ) → is_lt (text_order b a) ≡ true → bytes_eq a b ≡ false
 not_named_above a b less =
     texts_ties a b
     ∙ ap is_eq (nat_list_cmp_total.antisymm a b ∙ ap ordering_reverse
-    (names_less (text_order b a) less))
+    (lesser (text_order b a) less))
 
 pub goes_before : (name : List ℕ) (x y : QueueRow) → has_lower_name x y ≡ true
     → is_before name y ≡ true → is_before name x ≡ true

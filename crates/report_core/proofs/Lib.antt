@@ -1,2 +1,2 @@
-mod Halves
-mod LoadLemmas
+pub mod Halves
+pub mod LoadLemmas

@@ -20,7 +20,7 @@ use Rattle.desk_model.specs.Readings.Workload.{is_owned_by, owner_order, owners}
 use Rattle.desk_model.specs.Told.{Told, is_late}
 use Rattle.desk_model.specs.declared.rows.QueueRow.{QueueRow}
 use Rattle.desk_model.specs.declared.rows.RequestRow.{RequestRow}
-use Rattle.desk_core.proofs.Rising.{Climbs, all_keyed_rise, climbs, orders_go_on}
+use Rattle.sorted_lists.proofs.Rising.{Climbs, all_keyed_rise, climbs, orders_go_on}
 use Rattle.report_core.specs.Rows.{counted, counts_of, entries_of, live_among, no_counts}
 use Rattle.report_core.specs.Rows.{numbers_rise, told_among, with_counts}
 use Rattle.report_core.specs.declared.load.Counts.{Counts}
@@ -38,7 +38,7 @@ owners_total = record {
 -- ---- rows whose numbers rise
 
 -- from above a lower number too
-rise_from : (low n : ℕ) (rows : List (RequestRow × Option ℕ)) → low ≤ n
+pub rise_from : (low n : ℕ) (rows : List (RequestRow × Option ℕ)) → low ≤ n
     → numbers_rise n rows ≡ true → numbers_rise low rows ≡ true
 rise_from low n [] below rise = refl
 rise_from low n (dated ∷ rest) below rise =

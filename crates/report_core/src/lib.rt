@@ -18,3 +18,4 @@ pub use late::late_line_shown;
 pub use lines::line_shown;
 pub use queues::queue_named;
 pub use reports::{list, overdue, workload};
+pub use showing::{is_shown, watches_of};

@@ -25,12 +25,7 @@ pub(crate) fn shown(
 }
 
 /// Whether a person may show a request, by watches in the order of their requests.
-pub(crate) fn is_shown(
-    settings: &Settings,
-    person: &str,
-    watches: &[Watcher],
-    row: &RequestRow,
-) -> bool
+pub fn is_shown(settings: &Settings, person: &str, watches: &[Watcher], row: &RequestRow) -> bool
     ensures { WatchesRise watches.now
         → result ≡ watchers.may_show_by settings.now person.now row.now watches.now }
 {
@@ -38,7 +33,7 @@ pub(crate) fn is_shown(
 }
 
 /// The watches of that request, of watches in the order of their requests.
-fn watches_of(watches: &[Watcher], id: u32) -> &[Watcher]
+pub fn watches_of(watches: &[Watcher], id: u32) -> &[Watcher]
     ensures { WatchesRise watches.now
         → (person : List ℕ) (role : WatchRole)
         → watchers.is_watching person id role result.now

@@ -1,5 +1,5 @@
 -- What grants under names give to a person's groups, found by the names or by the groups.
-use Rattle.std.proofs.Common.{◌≡◌, Bool, true, false, ◌||◌, ◌&&◌, List, [], ◌∷◌, ℕ, refl, sym, ap}
+use Rattle.std.proofs.Common.{◌≡◌, Bool, true, false, ◌&&◌, List, [], ◌∷◌, ℕ, refl, sym, ap}
 use Rattle.std.proofs.Common.{Option, Some, None, cond, length, get_or, ◌<◌, ◌∙◌}
 use Rattle.std.specs.Prelude.{String, Vec, string_bytes}
 use Rattle.std.specs.Cmp.Lexicographic.{nat_list_eq_equiv}

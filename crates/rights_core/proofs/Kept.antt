@@ -1,14 +1,15 @@
 -- What people keep, and the words that it answers.
 use Rattle.std.proofs.Common.{◌≡◌, ℕ, ◌+◌, ◌<◌, Bool, true, false, cond, ◌&&◌, ◌||◌, List, [], ◌∷◌}
-use Rattle.std.proofs.Common.{length, get_or, take, filter, Option, Some, None, refl, sym, ap}
+use Rattle.std.proofs.Common.{length, get_or, take, filter, Option, Some, None, refl, sym, ap, subst}
 use Rattle.std.proofs.Common.{append-nil, ◌∙◌, ⊎_elim}
-use Rattle.std.specs.Prelude.{String, Vec, is_some, unwrap_or, ◌↔◌, IsTrue, if◌then◌else◌, ◌++◌}
+use Rattle.std.specs.Prelude.{String, Vec, is_some, ◌↔◌, IsTrue, if◌then◌else◌, ◌++◌}
 use Rattle.std.specs.BTreeMap.{BTreeMap, get_by_text}
 use Rattle.std.specs.Cmp.Lexicographic.{nat_list_eq_equiv}
 use Rattle.std.specs.HashMap as hash
 use Rattle.std.specs.HashMap.{HashMap}
 use Rattle.std.specs.Option.{option_map_or}
 use Rattle.std.specs.List.{list_any}
+use Rattle.std.specs.List.Sorted.{IsNonDecreasing}
 use Rattle.std.specs.Map.{update}
 use Rattle.std.specs.Str.{bytes_eq}
 use Rattle.std.proofs.lemmas.Bool.{and_from, and_parts, cases_Bool, or_left, or_right}
@@ -22,7 +23,8 @@ use Rattle.rights_core.specs.declared.parts.Group.{Group}
 use Rattle.rights_core.specs.declared.parts.Parts.{Parts}
 use Rattle.rights_core.specs.declared.role.Roles.{Roles}
 use Rattle.rights_core.specs.Index.{IsMemberships, IsGrantsByRight, grants_to, grants_under}
-use Rattle.rights_core.specs.Index.{is_meant_in}
+use Rattle.rights_core.specs.Closure.{AreWithin, names_at}
+use Rattle.rights_core.specs.Index.{is_meant_in, places_in}
 use Rattle.rights_core.specs.Index.{is_of, meets, meets_under, subject_name}
 use Rattle.rights_core.specs.People.{is_among, knows, leads, is_member, IsChain, holds, gives}
 use Rattle.rights_core.specs.People.{covers, is_meant}
@@ -31,45 +33,51 @@ use Rattle.rights_core.proofs.Chains.{leads_along, chain_within}
 use Rattle.rights_core.proofs.Lists.{any_by_name, any_filtered, any_never, any_same}
 
 -- one more person, with the groups that lead there
-pub one_more_person : {Y : Type 0} (persons : List (List ℕ)) (groups : List Group) (i : ℕ)
-    → (person : List ℕ) (names : List (List ℕ))
-    → (old new : BTreeMap (String Y) (List (List ℕ)))
+pub one_more_person : {Y Z : Type 0} (persons : List (List ℕ)) (groups : List Group) (i : ℕ)
+    → (person : List ℕ) (places : Vec ℕ Z)
+    → (old new : BTreeMap (String Y) (Vec ℕ Z))
     → i < length persons
     → person ≡ get_or persons i []
-    → ((group : List ℕ) → is_among names group ≡ leads groups person group)
-    → ((q : List ℕ) → get_by_text new q ≡ update bytes_eq (get_by_text old) person (Some names) q)
+    → ((group : List ℕ) → is_among (names_at groups places.items) group ≡ leads groups person group)
+    → AreWithin groups places.items
+    → IsNonDecreasing places.items
+    → ((q : List ℕ) → get_by_text new q ≡ update bytes_eq (get_by_text old) person (Some places) q)
     → IsMemberships (take i persons) groups old
     → IsMemberships (take (i + 1) persons) groups new
-one_more_person persons groups i person names old new inside here leading updates before q =
+one_more_person {Y} {Z} persons groups i person places old new inside here leading within rising updates before q =
     let more : is_among (take (i + 1) persons) q
     ≡ (is_among (take i persons) q || bytes_eq person q) =
     list_any_more (λ t. bytes_eq t q) persons i [] inside
     ∙ ap (λ p. is_among (take i persons) q || bytes_eq p q) (sym here) in
     ⊎_elim
     (λ same.
-    let now : get_by_text new q ≡ Some names =
-    updates q ∙ ap (λ b. cond b (Some names) (get_by_text old q)) same in
+    let now : get_by_text new q ≡ Some places =
+    updates q ∙ ap (λ b. cond b (Some places) (get_by_text old q)) same in
     let known : is_among (take (i + 1) persons) q ≡ true =
     more ∙ ap (λ b. is_among (take i persons) q || b) same
     ∙ or_true (is_among (take i persons) q) in (
       ap is_some now ∙ sym known,
       λ group.
-          ap (λ o. is_among (unwrap_or o []) group) now
+          ap (λ o. is_among (names_at groups (places_in o)) group) now
           ∙ leading group
           ∙ ap (λ p. leads groups p group) ((bytes_eq-Decides person q).0 same)
           ∙ sym (ap (λ b. b && leads groups q group) known),
+      subst (λ (o : Option (Vec ℕ Z)). AreWithin groups (places_in o)) (sym now) within,
+      subst (λ (o : Option (Vec ℕ Z)). IsNonDecreasing (places_in o)) (sym now) rising,
     ))
     (λ other.
     let now : get_by_text new q ≡ get_by_text old q =
-    updates q ∙ ap (λ b. cond b (Some names) (get_by_text old q)) other in
+    updates q ∙ ap (λ b. cond b (Some places) (get_by_text old q)) other in
     let known : is_among (take (i + 1) persons) q ≡ is_among (take i persons) q =
     more ∙ ap (λ b. is_among (take i persons) q || b) other
     ∙ or_false (is_among (take i persons) q) in (
       ap is_some now ∙ (before q).0 ∙ sym known,
       λ group.
-          ap (λ o. is_among (unwrap_or o []) group) now
+          ap (λ o. is_among (names_at groups (places_in o)) group) now
           ∙ (before q).1 group
           ∙ sym (ap (λ b. b && leads groups q group) known),
+      subst (λ (o : Option (Vec ℕ Z)). AreWithin groups (places_in o)) (sym now) (before q).2,
+      subst (λ (o : Option (Vec ℕ Z)). IsNonDecreasing (places_in o)) (sym now) (before q).3,
     ))
     (cases_Bool (bytes_eq person q))
   where
@@ -81,20 +89,31 @@ one_more_person persons groups i person names old new inside here leading update
     or_false true = refl
     or_false false = refl
 
--- the names that are kept for a person are those of the groups that it is a member of
-pub member_kept : {Y : Type 0} (people : Parts) (kept : BTreeMap (String Y) (List (List ℕ)))
+-- the places that are kept for a person are those of the groups that it is a member of
+pub member_kept : {Y Z : Type 0} (people : Parts) (kept : BTreeMap (String Y) (Vec ℕ Z))
     → IsMemberships people.persons people.groups kept
-    → (person : List ℕ) (names : List (List ℕ))
-    → get_by_text kept person ≡ Some names
+    → (person : List ℕ) (places : Vec ℕ Z)
+    → get_by_text kept person ≡ Some places
     → (group : List ℕ)
-    → is_among names group ≡ is_member people person group
+    → is_among (names_at people.groups places.items) group ≡ is_member people person group
 unfolding is_member
-member_kept people kept sound person names found group =
-    sym (ap (λ o. is_among (unwrap_or o []) group) found) ∙ (sound person).1 group
+member_kept people kept sound person places found group =
+    sym (ap (λ o. is_among (names_at people.groups (places_in o)) group) found)
+    ∙ (sound person).1 group
 
-pub known_kept : {Y : Type 0} (people : Parts) (kept : BTreeMap (String Y) (List (List ℕ)))
+pub within_kept : {Y Z : Type 0} (people : Parts) (kept : BTreeMap (String Y) (Vec ℕ Z))
     → IsMemberships people.persons people.groups kept
-    → (person : List ℕ) (o : Option (List (List ℕ)))
+    → (person : List ℕ) (places : Vec ℕ Z)
+    → get_by_text kept person ≡ Some places
+    → AreWithin people.groups places.items × IsNonDecreasing places.items
+within_kept {Y} {Z} people kept sound person places found = (
+  subst (λ (o : Option (Vec ℕ Z)). AreWithin people.groups (places_in o)) found (sound person).2,
+  subst (λ (o : Option (Vec ℕ Z)). IsNonDecreasing (places_in o)) found (sound person).3,
+)
+
+pub known_kept : {Y Z : Type 0} (people : Parts) (kept : BTreeMap (String Y) (Vec ℕ Z))
+    → IsMemberships people.persons people.groups kept
+    → (person : List ℕ) (o : Option (Vec ℕ Z))
     → get_by_text kept person ≡ o
     → is_some o ≡ knows people person
 known_kept people kept sound person o found = sym (ap is_some found) ∙ (sound person).0
@@ -123,7 +142,7 @@ member_chain people person group = (
 )
 
 -- the people of those parts, in the words of a look-up that found nobody
-pub nobody_kept : {Y : Type 0} (people : Parts) (kept : BTreeMap (String Y) (List (List ℕ)))
+pub nobody_kept : {Y Z : Type 0} (people : Parts) (kept : BTreeMap (String Y) (Vec ℕ Z))
     → IsMemberships people.persons people.groups kept
     → (person : List ℕ)
     → get_by_text kept person ≡ None

@@ -1,9 +1,7 @@
 -- Where a text stands twice.
-use Rattle.std.proofs.Common.{◌≡◌, ℕ, ◌+◌, ◌<◌, Bool, true, false, ◌||◌, List, [], ◌∷◌, ◌++◌}
-use Rattle.std.proofs.Common.{cond, length, get_or, take, drop, refl, sym, ap, arith, ◌∙◌}
+use Rattle.std.proofs.Common.{◌≡◌, ℕ, ◌+◌, ◌<◌, ◌||◌, List, ◌∷◌}
+use Rattle.std.proofs.Common.{length, get_or, drop, refl, sym, ap, arith, ◌∙◌}
 use Rattle.std.proofs.lemmas.Grind.{common_steps}
-use Rattle.std.proofs.lemmas.List.Folds.{list_any-append, list_any_more}
-use Rattle.std.specs.Cmp.Lexicographic.{nat_list_eq_equiv}
 use Rattle.std.specs.HashSet.{HashSet, contains_text}
 use Rattle.std.specs.List.{list_any}
 use Rattle.std.specs.Prelude.{String}
@@ -12,7 +10,7 @@ use Rattle.rights_core.specs.declared.parts.Group.{Group}
 use Rattle.rights_core.proofs.Lists.{any_mapped, any_same}
 use Rattle.text_core.specs.Lookup.{IsSetOf}
 use Rattle.rights_core.specs.RightsFaults.{repeats_name, group_names, has_group}
-use Rattle.text_core.specs.Texts.{is_among, repeats_text, shares_text}
+use Rattle.text_core.specs.Texts.{is_among, repeats_text}
 use Rattle.text_core.proofs.Repeats.{repeats_text-append}
 
 -- a group has a name that stands among the names of groups

@@ -14,6 +14,10 @@ no_group = record { name = []; members = [] }
 abbrev pub name_at : List Group → ℕ → List ℕ
 name_at groups place = (slice_index_or groups place no_group).name
 
+-- the names of the groups at the places
+abbrev pub names_at : List Group → List ℕ → List (List ℕ)
+names_at groups places = map (name_at groups) places
+
 -- the group at the place lists the name
 abbrev pub lists_at : List Group → ℕ → List ℕ → Bool
 lists_at groups place name = is_among (slice_index_or groups place no_group).members name
@@ -21,6 +25,10 @@ lists_at groups place name = is_among (slice_index_or groups place no_group).mem
 -- the place is one of these
 abbrev pub has_place : List ℕ → ℕ → Bool
 has_place places place = list_any (nat_eq place) places
+
+-- there is a group at each of the places
+abbrev pub AreWithin : List Group → List ℕ → Type 0
+AreWithin groups places = (k : ℕ) → IsTrue (has_place places k) → k < length groups
 
 -- what is kept under the name
 abbrev pub places_under : {Y Z S : Type 0} → HashMap (String Y) (Vec ℕ Z) S → List ℕ → List ℕ

@@ -1,12 +1,14 @@
 -- What people keep beside their parts, so that they answer by look-up.
-use Rattle.std.specs.Prelude.{◌≡◌, ℕ, Bool, true, false, ◌&&◌, List, [], ◌∷◌, filter}
-use Rattle.std.specs.Prelude.{is_some, unwrap_or, String, Vec}
+use Rattle.std.specs.Prelude.{◌≡◌, ℕ, ◌<◌, Bool, true, false, ◌&&◌, List, [], ◌∷◌, filter}
+use Rattle.std.specs.Prelude.{Option, Some, is_some, length, String, Vec}
 use Rattle.std.specs.HashMap as hash
 use Rattle.std.specs.HashMap.{HashMap}
 use Rattle.std.specs.List.{list_any}
+use Rattle.std.specs.List.Sorted.{IsNonDecreasing}
 use Rattle.std.specs.Option.{option_map_or}
 use Rattle.std.specs.Str.{bytes_eq}
 use Rattle.std.specs.BTreeMap.{BTreeMap, get_by_text}
+use Rattle.rights_core.specs.Closure.{AreWithin, name_at, names_at}
 use Rattle.rights_core.specs.declared.grant.Grant.{Grant}
 use Rattle.rights_core.specs.declared.grant.Subject.{Subject}
 use Rattle.rights_core.specs.declared.grant.Subject.TheVariants as subject
@@ -14,18 +16,37 @@ use Rattle.rights_core.specs.declared.parts.Group.{Group}
 use Rattle.rights_core.specs.declared.role.Roles.{Roles}
 use Rattle.rights_core.specs.People.{covers, has_role, is_among, leads}
 
--- each person, and no other text, has the list of the groups from which a chain leads to the person
-abbrev pub IsMemberships : {Y : Type 0}
+-- each group is found under its name, and no other text is
+abbrev pub IsIndex : {Y S : Type 0} → List Group → HashMap (String Y) ℕ S → Type 0
+IsIndex groups index =
+    ((place : ℕ) → place < length groups
+    → hash.get_by_text index (name_at groups place) ≡ Some place)
+    × ((name : List ℕ) (place : ℕ) → hash.get_by_text index name ≡ Some place
+    → name_at groups place ≡ name)
+
+-- the places that were found, if any were
+abbrev pub places_in : {Z : Type 0} → Option (Vec ℕ Z) → List ℕ
+places_in found = option_map_or (λ v. v.items) found []
+
+-- what was found for the text are the places, in order, of the groups from which a chain leads to
+-- it, where it is a person, and nothing else
+abbrev pub IsFoundFor : {Z : Type 0} → List (List ℕ) → List Group → List ℕ → Option (Vec ℕ Z) → Type 0
+IsFoundFor persons groups person found =
+    (is_some found ≡ is_among persons person)
+    × ((group : List ℕ)
+    → is_among (names_at groups (places_in found)) group
+    ≡ (is_among persons person && leads groups person group))
+    × AreWithin groups (places_in found)
+    × IsNonDecreasing (places_in found)
+
+-- each person, and no other text, has the groups from which a chain leads to the person
+abbrev pub IsMemberships : {Y Z : Type 0}
     → List (List ℕ)
     → List Group
-    → BTreeMap (String Y) (List (List ℕ))
+    → BTreeMap (String Y) (Vec ℕ Z)
     → Type 0
 IsMemberships persons groups kept =
-    (person : List ℕ)
-    → (is_some (get_by_text kept person) ≡ is_among persons person)
-    × ((group : List ℕ)
-    → is_among (unwrap_or (get_by_text kept person) []) group
-    ≡ (is_among persons person && leads groups person group))
+    (person : List ℕ) → IsFoundFor persons groups person (get_by_text kept person)
 
 -- the name of the person or of the group that the subject is, and else no bytes
 abbrev pub subject_name : Subject → List ℕ

@@ -11,11 +11,11 @@ ghost use Rattle.rights_core.specs.Right.{super_user};
 ghost use Rattle.text_core.specs.Texts.{is_among};
 
 use crate::grant::{Grant, Subject};
+use crate::places::Around;
 use crate::right::SUPER_USER;
 use crate::role::Roles;
 use std::alloc::{AllocError, Global};
 use std::collections::HashMap;
-use text_core::IndexedTexts;
 
 /// The grants of each right, each under the name of its person or group, and else under no name.
 pub(crate) type GrantsByRight = HashMap<String, GrantsByName>;
@@ -86,7 +86,7 @@ pub(crate) fn give(
     right: &str,
     queue: &str,
     person: &str,
-    groups: &IndexedTexts,
+    groups: &Around<'_>,
     roles: Roles,
 ) -> bool
     ensures { result
@@ -103,7 +103,7 @@ fn gives(
     right: &str,
     queue: &str,
     person: &str,
-    groups: &IndexedTexts,
+    groups: &Around<'_>,
     roles: Roles,
 ) -> bool
     ensures { result ≡ words.meets_under kept.now right.now queue.now person.now groups.now roles }
@@ -120,7 +120,7 @@ fn gives_to(
     given: &GrantsByName,
     queue: &str,
     person: &str,
-    groups: &IndexedTexts,
+    groups: &Around<'_>,
     roles: Roles,
 ) -> bool
     ensures { result ≡ words.meets_to given.now queue.now person.now groups.now roles }
@@ -136,14 +136,14 @@ fn gives_to_groups(
     given: &GrantsByName,
     queue: &str,
     person: &str,
-    groups: &IndexedTexts,
+    groups: &Around<'_>,
     roles: Roles,
 ) -> bool
     ensures { result ≡ list_any (λ name.
         list_any (meets queue.now person.now groups.now roles) (words.grants_to given.now name))
         groups.now }
 {
-    if given.len() < groups.as_slice().len() {
+    if given.len() < groups.len() {
         gives_to_names(given, queue, person, groups, roles)
     } else {
         gives_to_each(given, queue, person, groups, roles)
@@ -155,7 +155,7 @@ fn gives_to_names(
     given: &GrantsByName,
     queue: &str,
     person: &str,
-    groups: &IndexedTexts,
+    groups: &Around<'_>,
     roles: Roles,
 ) -> bool
     ensures { result ≡ list_any (λ e. is_among groups.now (string_bytes e.0)
@@ -171,14 +171,25 @@ fn gives_to_each(
     given: &GrantsByName,
     queue: &str,
     person: &str,
-    groups: &IndexedTexts,
+    groups: &Around<'_>,
     roles: Roles,
 ) -> bool
     ensures { result ≡ list_any (λ name.
         list_any (meets queue.now person.now groups.now roles) (words.grants_to given.now name))
         groups.now }
 {
-    groups.as_slice().iter().any(|g| meet(granted(given, g.as_str()), queue, person, groups, roles))
+    for number in 0..groups.len() {
+        if meet(
+            granted(given, groups.name(number)),
+            queue,
+            person,
+            groups,
+            roles,
+        ) {
+            return true;
+        }
+    }
+    false
 }
 
 /// The grants that are kept under the name.
@@ -189,7 +200,7 @@ fn granted<'a>(given: &'a GrantsByName, name: &str) -> &'a [Grant]
 }
 
 /// Whether one of the grants covers the queue and means the person.
-fn meet(grants: &[Grant], queue: &str, person: &str, groups: &IndexedTexts, roles: Roles) -> bool
+fn meet(grants: &[Grant], queue: &str, person: &str, groups: &Around<'_>, roles: Roles) -> bool
     ensures { result ≡ list_any (meets queue.now person.now groups.now roles) grants.now }
 {
     grants.iter().any(|g| covers(g, queue) && is_meant(&g.subject, person, groups, roles))
@@ -205,7 +216,7 @@ fn covers(grant: &Grant, queue: &str) -> bool
     }
 }
 
-fn is_meant(subject: &Subject, person: &str, groups: &IndexedTexts, roles: Roles) -> bool
+fn is_meant(subject: &Subject, person: &str, groups: &Around<'_>, roles: Roles) -> bool
     ensures { result ≡ is_meant_in groups.now person.now roles subject.now }
 {
     match subject {

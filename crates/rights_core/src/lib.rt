@@ -2,8 +2,9 @@
 //!
 //! `People::build` gives the fault with the least number, or the people of these persons, groups and
 //! grants. `member` is true exactly where the person is known and a chain of groups leads there,
-//! circles included. Only `build` takes memory: it keeps for each person the groups around it, so
-//! that `holds` asks no more groups than there are names with a grant of the right.
+//! circles included. Only `build` takes memory: it keeps for each person the places of the groups
+//! around it, and each group's place under its name, so that `holds` asks no more groups than there
+//! are names with a grant of the right.
 #![tactic(auto)]
 
 mod checks;
@@ -16,6 +17,7 @@ mod memberships;
 mod outer;
 mod parts;
 mod people;
+mod places;
 pub mod right;
 mod role;
 

@@ -8,10 +8,10 @@ use crate::outer::outer_of;
 use crate::parts::Group;
 use std::alloc::{AllocError, Global};
 use std::collections::BTreeMap;
-use text_core::{IndexedTexts, Text};
+use text_core::Text;
 
-/// The names of the groups that each person is a member of.
-pub(crate) type Memberships = BTreeMap<String, IndexedTexts>;
+/// The places, in order, of the groups that each person is a member of.
+pub(crate) type Memberships = BTreeMap<String, Vec<usize>>;
 
 /// The memberships of the persons in the groups.
 pub(crate) fn memberships(
@@ -28,8 +28,7 @@ pub(crate) fn memberships(
     for (earlier, person) in persons.iter().enumerate() {
         let person = person.as_str();
         let around = outer_of(alloc, groups, &listers, marks, earlier + 1, person)?;
-        let names = IndexedTexts::new(alloc, around)?;
-        kept.insert(String::from_str(alloc, person)?, names)?;
+        kept.insert(String::from_str(alloc, person)?, around)?;
     }
     Ok(kept)
 }

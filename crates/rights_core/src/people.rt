@@ -1,6 +1,8 @@
 //! People: who is known, who is a member of what, and who holds a right.
 
 ghost use Rattle.std.specs.Prelude.{◌≡◌, ◌≢◌, ◌↔◌, ℕ, List, None, Some, IsTrue, IfOk, IfErr};
+ghost use Rattle.rights_core.specs.Closure.{AreWithin, names_at};
+ghost use Rattle.std.specs.List.Sorted.{IsNonDecreasing};
 ghost use Rattle.rights_core.specs.People as words;
 ghost use Rattle.rights_core.specs.People.{parts_of};
 ghost use Rattle.rights_core.specs.RightsFaults.{fault_of};
@@ -11,6 +13,7 @@ use crate::grant::Grant;
 use crate::grants::{self, GrantsByRight};
 use crate::memberships::{self, Memberships};
 use crate::parts::{Group, Parts};
+use crate::places::{self, Around, GroupPlaces};
 use crate::role::Roles;
 use std::alloc::Global;
 use std::marker::Model;
@@ -23,6 +26,7 @@ use text_core::Text;
 #[derive(Drop)]
 pub struct People {
     parts: Parts,
+    places: GroupPlaces,
     memberships: Memberships,
     grants: GrantsByRight,
 }
@@ -30,7 +34,7 @@ pub struct People {
 impl Model for People {
     ghost use Rattle.std.specs.Prelude.{◌≡◌, None};
     ghost use Rattle.rights_core.specs.declared.parts.Parts.{Parts};
-    ghost use Rattle.rights_core.specs.Index.{IsMemberships, IsGrantsByRight};
+    ghost use Rattle.rights_core.specs.Index.{IsIndex, IsMemberships, IsGrantsByRight};
     ghost use Rattle.rights_core.specs.RightsFaults.{fault_of};
 
     ghost Value = { Parts };
@@ -38,7 +42,8 @@ impl Model for People {
     ghost view = { λ p. p.parts };
 
     ghost invariant = { λ p. IsMemberships p.parts.persons p.parts.groups p.memberships
-        × IsGrantsByRight p.parts.grants p.grants × (fault_of p.parts ≡ None) };
+        × IsGrantsByRight p.parts.grants p.grants × IsIndex p.parts.groups p.places
+        × (fault_of p.parts ≡ None) };
 }
 
 impl People {
@@ -65,6 +70,7 @@ impl People {
             Some(fault) => Err(fault),
             None => Ok(People {
                 parts: Parts::copied(alloc, persons, groups, grants)?,
+                places: places::group_places(alloc, groups)?,
                 memberships: memberships::memberships(alloc, persons, groups)?,
                 grants: grants::by_right(alloc, grants)?,
             }),
@@ -94,7 +100,7 @@ impl People {
             × words.IsChain self.now.groups group.now others person.now)) }
     {
         match self.memberships.get(person) {
-            Some(groups) => groups.contains(group),
+            Some(places) => self.around(places.as_slice()).contains(group),
             None => false,
         }
     }
@@ -105,8 +111,20 @@ impl People {
         ensures { result ≡ words.holds self.now person.now right.now queue.now roles }
     {
         match self.memberships.get(person) {
-            Some(groups) => grants::give(&self.grants, right, queue, person, groups, roles),
+            Some(places) => {
+                let groups = self.around(places.as_slice());
+                grants::give(&self.grants, right, queue, person, &groups, roles)
+            }
             None => false, // nor what everyone holds
         }
+    }
+
+    /// The groups at these places.
+    fn around<'a>(&'a self, places: &'a [usize]) -> Around<'a>
+        requires within { AreWithin self.now.groups places.now }
+        requires rising { IsNonDecreasing places.now }
+        ensures { result ≡ names_at self.now.groups places.now }
+    {
+        Around::of(self.parts.groups.as_slice(), &self.places, places)
     }
 }

@@ -1,14 +1,20 @@
 -- What a server has done, one thing after the other.
-use Rattle.std.proofs.Common.{◌≡◌, ◌∙◌, ◌≤◌, ◌+◌, ℕ, Bool, true, List, [], ◌∷◌, ◌++◌}
+use Rattle.std.proofs.Common.{◌≡◌, ◌≢◌, ◌∙◌, inl, inr, ◌≤◌, ◌<◌, ◌+◌, ◌-◌, ◌^◌, ℕ, Bool, true, false}
+use Rattle.std.proofs.Common.{List, [], ◌∷◌, ◌++◌}
 use Rattle.std.proofs.Common.{Option, Some, None, refl, ap, sym, subst, length, length-append}
-use Rattle.std.proofs.Common.{set, replicate, arith, append_assoc, append-nil}
+use Rattle.std.proofs.Common.{set, replicate, arith, append-nil, append_assoc, map}
+use Rattle.std.proofs.KnownBytes.{Appends-nil, Appends-trans}
+use Rattle.std.specs.Io.KnownBytes.{Appends}
 use Rattle.std.proofs.lemmas.List.{map-set, length-map, length-replicate}
 use Rattle.connection_core.specs.Machine.{Conn, closed, opened}
 use Rattle.connection_core.specs.Seen.{seen}
+use Rattle.connection_core.specs.declared.phase.Phase.TheVariants.{Ready}
 use Rattle.server_core.specs.Places.{Each, TurnsOf, conns}
-use Rattle.server_core.specs.Turns.{Answered, IsInTime, TakeTurns, at_minute, somes}
-use Rattle.server_core.specs.Served.{Act, Admit, Admits, EndsAt, GoesOn, IsServed, Runs, Serves}
-use Rattle.server_core.specs.Served.{ServesFrom, Turn, answers}
+use Rattle.server_core.specs.Ends.{IsDue}
+use Rattle.server_core.specs.Host.{AppendsLines, KeepsClock, Line, Told, TellsMinute, TellsMoment, wait_fails}
+use Rattle.server_core.specs.Turns.{Answered, IsDone, TakeTurns, TellsLines, at_minute, line_of, logged, somes}
+use Rattle.server_core.specs.Served.{Admits, DoesTurn, EndsAt, GoesOn, IsServed, Runs, Serves}
+use Rattle.server_core.specs.Served.{ServesFrom, TellsAll, Turn, answers, minutes, nows}
 use Rattle.server_core.specs.Wait.{IsToGiveWay}
 use Rattle.server_core.specs.declared.ending.Ending.{Ending}
 use Rattle.server_core.specs.declared.ending.Ending.TheVariants.{Counted, Network, Shut, Spent}
@@ -29,159 +35,353 @@ places_free slots places is =
 
 -- ---- accepting
 
-pub admits_none : (olds : List Conn) → (places : List (ℕ × ℕ)) × Admits places olds olds
-admits_none olds = ([], refl)
+pub admits_none : (now : ℕ) (olds : List Conn) → (places : List ℕ) × Admits now places olds olds
+admits_none now olds = ([], refl)
 
-admits_all : (ps qs : List (ℕ × ℕ)) (a b c : List Conn) → Admits ps a b → Admits qs b c
-    → Admits (ps ++ qs) a c
-admits_all [] qs a b c same then = subst (λ (l : List Conn). Admits qs l c) same then
-admits_all (p ∷ ps) qs a b c (gives, rest) then =
-    (gives, admits_all ps qs (set a p.0 (opened p.1)) b c rest then)
+admits_all : (now : ℕ) (ps qs : List ℕ) (a b c : List Conn) → Admits now ps a b → Admits now qs b c
+    → Admits now (ps ++ qs) a c
+admits_all now [] qs a b c same then = subst (λ (l : List Conn). Admits now qs l c) same then
+admits_all now (p ∷ ps) qs a b c (gives, rest) then =
+    (gives, admits_all now ps qs (set a p (opened now)) b c rest then)
 
-pub admits_both : (a b c : List Conn) → (ps : List (ℕ × ℕ)) × Admits ps a b
-    → (qs : List (ℕ × ℕ)) × Admits qs b c → (rs : List (ℕ × ℕ)) × Admits rs a c
-admits_both a b c (ps, first) (qs, second) = (ps ++ qs, admits_all ps qs a b c first second)
+pub admits_both : (now : ℕ) (a b c : List Conn) → (ps : List ℕ) × Admits now ps a b
+    → (qs : List ℕ) × Admits now qs b c → (rs : List ℕ) × Admits now rs a c
+admits_both now a b c (ps, first) (qs, second) =
+    (ps ++ qs, admits_all now ps qs a b c first second)
 
 pub admits_at : {S : Type 0} (slots : List (Slot S)) (place now : ℕ) (slot : Slot S)
-    → IsToGiveWay place (conns slots) → seen slot.connection ≡ opened now
-    → (ps : List (ℕ × ℕ)) × Admits ps (conns slots) (conns (set slots place slot))
+    → IsToGiveWay now place (conns slots) → seen slot.connection ≡ opened now
+    → (ps : List ℕ) × Admits now ps (conns slots) (conns (set slots place slot))
 admits_at {S} slots place now slot gives fresh =
     let view : Slot S → Conn = λ s. seen s.connection in (
-      (place, now) ∷ [],
+      place ∷ [],
       (gives, map-set view slots place slot ∙ ap (λ (c : Conn). set (conns slots) place c) fresh),
     )
 
--- ---- one thing after the other
+pub clock_both : (t u v : Told) → KeepsClock t u → KeepsClock u v → KeepsClock t v
+clock_both t u v (clock, lines) (after, then) =
+    ((after.0 ∙ clock.0, after.1 ∙ clock.1), then ∙ lines)
 
-serves_all : {D : Type 0} (stated : List ℕ → ℕ) (Steps : D → ℕ → List ℕ → List ℕ → D → Type 0)
-    (shuts : D → Bool) (xs ys : List Act) (a b c : List Conn) (d e f : D)
-    → Serves stated Steps shuts xs a d b e → Serves stated Steps shuts ys b e c f
-    → Serves stated Steps shuts (xs ++ ys) a d c f
-serves_all {D} stated Steps shuts [] ys a b c d e f (one, other) then =
-    let by_conns = subst (λ (l : List Conn). Serves stated Steps shuts ys l e c f) one then in
-    subst (λ (k : D). Serves stated Steps shuts ys a k c f) other by_conns
-serves_all stated Steps shuts (x ∷ xs) ys a b c d e f (mids, mid, first, rest) then =
-    (mids, mid, first, serves_all stated Steps shuts xs ys mids b c mid e f rest then)
+-- ---- one turn after the other
 
-answers_all : (xs ys : List Act) → answers (xs ++ ys) ≡ answers xs ++ answers ys
-answers_all [] ys = refl
-answers_all (Admit places ∷ xs) ys = answers_all xs ys
-answers_all (Turn now minute ms ∷ xs) ys =
-    ap (λ (l : List Answered). somes ms ++ l) (answers_all xs ys)
-    ∙ sym (append_assoc (somes ms) (answers xs) (answers ys))
+left_by : (most few more : ℕ) → most - (few + more) ≡ (most - few) - more
+left_by most few more = omega arith
 
-pub serves_begin : {D : Type 0} (stated : List ℕ → ℕ)
-    (Steps : D → ℕ → List ℕ → List ℕ → D → Type 0) (shuts : D → Bool) (places : ℕ) (desk : D)
-    (conns : List Conn) → conns ≡ replicate places closed
-    → ServesFrom stated Steps shuts places desk conns desk 0
-serves_begin stated Steps shuts places desk conns is = ([], (is, refl), refl)
-
-counted_both : (acts : List Act) (ps : List (ℕ × ℕ)) (now minute : ℕ)
-    (ms : List (Option Answered)) (count more : ℕ)
-    → length (answers acts) ≡ count → length (somes ms) ≡ more
-    → length (answers (acts ++ (Admit ps ∷ Turn now minute ms ∷ []))) ≡ count + more
-counted_both acts ps now minute ms count more one other =
-    let whole =
-    ap (λ (l : List Answered). length l) (answers_all acts (Admit ps ∷ Turn now minute ms ∷ [])) in
-    let parts = length-append (answers acts) (somes ms ++ []) in
-    let none = ap (λ (l : List Answered). length l) (append-nil (somes ms)) in
-    omega (arith, whole, parts, none, one, other)
-
--- it accepted connections, and each had its turn
-pub serves_on : {D : Type 0} (stated : List ℕ → ℕ)
-    (Steps : D → ℕ → List ℕ → List ℕ → D → Type 0) (shuts : D → Bool) (places : ℕ)
-    (first desk next : D) (a c : List Conn) (count more : ℕ)
-    → ServesFrom stated Steps shuts places first a desk count
-    → GoesOn stated Steps shuts a desk c next more
-    → ServesFrom stated Steps shuts places first c next (count + more)
-serves_on stated Steps shuts places first desk next a c count more (acts, serves, told)
-    (b, now, minute, (ps, admits), (ms, answered, turns), in_time, none) = (
-      acts ++ (Admit ps ∷ Turn now minute ms ∷ []),
-      serves_all stated Steps shuts acts (Admit ps ∷ Turn now minute ms ∷ []) _ a c first desk next
-          serves (
-            b,
-            desk,
-            (admits, refl),
-            (c, next, (turns, in_time, λ shut. answered ∙ none shut), (refl, refl)),
-          ),
-      counted_both acts ps now minute ms count more told answered,
+serves_more : {D : Type 0} (States : List ℕ → Option ℕ → Type 0)
+    (Steps : D → Answered → D → Type 0) (shuts : D → Bool) (most : ℕ) (ts : List Turn)
+    (t : Turn) (a b c : List Conn) (d e f : D) → Serves States Steps shuts most ts a d b e
+    → DoesTurn States Steps shuts (most - length (answers ts)) t b e c f
+    → Serves States Steps shuts most (ts ++ t ∷ []) a d c f
+serves_more {D} States Steps shuts most [] t a b c d e f (one, other) does =
+    let all : most - 0 ≡ most = omega arith in
+    let by_most = subst (λ (n : ℕ). DoesTurn States Steps shuts n t b e c f) all does in
+    let by_conns =
+    subst (λ (l : List Conn). DoesTurn States Steps shuts most t l e c f) one by_most in
+    let by_desk = subst (λ (k : D). DoesTurn States Steps shuts most t a k c f) other by_conns in
+    (c, f, by_desk, (refl, refl))
+serves_more States Steps shuts most (s ∷ ts) t a b c d e f (mids, mid, first, rest) does =
+    let count = length-append (somes s.answered) (answers ts) in
+    let left : most - length (somes s.answered ++ answers ts)
+    ≡ (most - length (somes s.answered)) - length (answers ts) =
+    ap (λ (n : ℕ). most - n) count
+    ∙ left_by most (length (somes s.answered)) (length (answers ts)) in (
+      mids,
+      mid,
+      first,
+      serves_more States Steps shuts (most - length (somes s.answered)) ts t mids b c mid e f rest
+          (subst (λ (n : ℕ). DoesTurn States Steps shuts n t b e c f) left does),
     )
 
--- accepted connections, and a turn of each
-pub goes_on : {D : Type 0} (stated : List ℕ → ℕ)
-    (Steps : D → ℕ → List ℕ → List ℕ → D → Type 0) (shuts : D → Bool) (a b c : List Conn)
-    (desk next : D) (now minute left count : ℕ)
-    → ((places : List (ℕ × ℕ)) × Admits places a b)
-    → TurnsOf stated (at_minute minute Steps) b desk c next count → Each (IsInTime now) c
-    → count ≤ left → (shuts desk ≡ true → left ≡ 0)
-    → GoesOn stated Steps shuts a desk c next count
-goes_on stated Steps shuts a b c desk next now minute left count admits turns in_time few none = (
-  b,
-  now,
-  minute,
-  admits,
-  turns,
-  in_time,
-  λ shut. let no = none shut in omega (arith, few, no),
+answers_more : (ts : List Turn) (t : Turn)
+    → length (answers (ts ++ t ∷ [])) ≡ length (answers ts) + length (somes t.answered)
+answers_more [] t =
+    let none = ap (λ (l : List Answered). length l) (append-nil (somes t.answered)) in
+    omega (arith, none)
+answers_more (s ∷ ts) t =
+    let whole = length-append (somes s.answered) (answers (ts ++ t ∷ [])) in
+    let parts = length-append (somes s.answered) (answers ts) in
+    let rest = answers_more ts t in
+    omega (arith, whole, parts, rest)
+
+nows_more : (ts : List Turn) (t : Turn) → nows (ts ++ t ∷ []) ≡ nows ts ++ t.now ∷ []
+nows_more [] t = refl
+nows_more (s ∷ ts) t = ap (λ (l : List ℕ). s.now ∷ l) (nows_more ts t)
+
+minutes_more : (ts : List Turn) (t : Turn) → minutes (ts ++ t ∷ []) ≡ minutes ts ++ t.minute ∷ []
+minutes_more [] t = refl
+minutes_more (s ∷ ts) t = ap (λ (l : List ℕ). s.minute ∷ l) (minutes_more ts t)
+
+lines_nil : (a : Option (List Line)) → AppendsLines a a []
+lines_nil None = tt
+lines_nil (Some x) = sym (append-nil x)
+
+lines_trans : (a b c : Option (List Line)) (bs cs : List Line) → AppendsLines a b bs
+    → AppendsLines b c cs → AppendsLines a c (bs ++ cs)
+lines_trans None b c bs cs p q = tt
+lines_trans (Some x) None c bs cs p q = absurd p
+lines_trans (Some x) (Some y) None bs cs p q = absurd q
+lines_trans (Some x) (Some y) (Some z) bs cs p q =
+    q ∙ ap (λ (l : List Line). l ++ cs) p ∙ append_assoc x bs cs
+
+lines_both : (xs ys : List Answered) → map line_of (xs ++ ys) ≡ map line_of xs ++ map line_of ys
+lines_both [] ys = refl
+lines_both (x ∷ xs) ys = ap (λ (l : List Line). line_of x ∷ l) (lines_both xs ys)
+
+answers_both : (ts : List Turn) (t : Turn) → answers (ts ++ t ∷ []) ≡ answers ts ++ somes t.answered
+answers_both [] t = append-nil (somes t.answered)
+answers_both (s ∷ ts) t =
+    ap (λ (l : List Answered). somes s.answered ++ l) (answers_both ts t)
+    ∙ sym (append_assoc (somes s.answered) (answers ts) (somes t.answered))
+
+lines_more : (ts : List Turn) (t : Turn)
+    → map line_of (answers (ts ++ t ∷ [])) ≡ map line_of (answers ts) ++ map line_of (somes t.answered)
+lines_more ts t =
+    ap (λ (l : List Answered). map line_of l) (answers_both ts t)
+    ∙ lines_both (answers ts) (somes t.answered)
+
+pub serves_begin : {D : Type 0} (States : List ℕ → Option ℕ → Type 0)
+    (Steps : D → Answered → D → Type 0) (shuts : D → Bool) (told : Told)
+    (places most : ℕ) (desk : D) (cs : List Conn) → cs ≡ replicate places closed
+    → ServesFrom States Steps shuts told told places most desk cs desk 0 0
+serves_begin States Steps shuts told places most desk cs is = (
+  [],
+  (is, refl),
+  refl,
+  refl,
+  (Appends-nil told.moments, Appends-nil told.minutes, lines_nil told.lines),
 )
 
--- why it ended, by what is known of the network
-ends_so : (ending : Ending) (most count : ℕ) (shut : Bool) (P Q : Type 0) → (P → Q)
-    → EndsAt ending most count shut P → EndsAt ending most count shut Q
-ends_so Counted most count shut P Q gives ends = ends
-ends_so Network most count shut P Q gives ends = (ends.0, gives ends.1)
-ends_so Shut most count shut P Q gives ends = ends
-ends_so Spent most count shut P Q gives ends = ends
+-- connections were accepted, and each had its turn
+pub serves_on : {D : Type 0} (States : List ℕ → Option ℕ → Type 0)
+    (Steps : D → Answered → D → Type 0) (shuts : D → Bool) (told mid tells : Told)
+    (places most left : ℕ) (first desk next : D) (a c : List Conn) (count turns more : ℕ)
+    → ServesFrom States Steps shuts told mid places most first a desk count turns
+    → left ≡ most - count → GoesOn States Steps shuts mid tells left a desk c next more
+    → ServesFrom States Steps shuts told tells places most first c next (count + more) (turns + 1)
+serves_on States Steps shuts told mid tells places most left first desk next a c count turns more
+    (ts, serves, answered, many, (moments, minute, lines)) is (t, does, few, (moment, at, line)) =
+    let left_is : left ≡ most - length (answers ts) = is ∙ ap (λ (n : ℕ). most - n) (sym answered) in
+    let all = answers_more ts t in
+    let length_more = length-append ts (t ∷ []) in (
+      ts ++ t ∷ [],
+      serves_more States Steps shuts most ts t _ a c first desk next serves
+          (subst (λ (n : ℕ). DoesTurn States Steps shuts n t a desk c next) left_is does),
+      omega (arith, all, answered, few),
+      omega (arith, length_more, many),
+      (
+        subst (λ (l : List ℕ). Appends told.moments tells.moments l) (sym (nows_more ts t))
+            (Appends-trans told.moments mid.moments tells.moments _ _ moments moment),
+        subst (λ (l : List ℕ). Appends told.minutes tells.minutes l) (sym (minutes_more ts t))
+            (Appends-trans told.minutes mid.minutes tells.minutes _ _ minute at),
+        subst (λ (l : List Line). AppendsLines told.lines tells.lines l) (sym (lines_more ts t))
+            (lines_trans told.lines mid.lines tells.lines _ _ lines line),
+      ),
+    )
 
-pub served_at : {D : Type 0} (stated : List ℕ → ℕ)
-    (Steps : D → ℕ → List ℕ → List ℕ → D → Type 0) (shuts : D → Bool) (Unknown Failed : Type 0)
-    (places most : ℕ) (first next : D) (news : List Conn) (count : ℕ) (ending : Ending)
-    (shut : Bool) → ServesFrom stated Steps shuts places first news next count
-    → shut ≡ shuts next → (Unknown → Failed) → EndsAt ending most count shut Unknown
-    → IsServed stated Steps shuts Failed places most first ending next
-served_at stated Steps shuts Unknown Failed places most first next news count ending shut serves
-    told known ends = (
+-- the host told nothing more of its clock
+pub serves_same : {D : Type 0} (States : List ℕ → Option ℕ → Type 0)
+    (Steps : D → Answered → D → Type 0) (shuts : D → Bool) (told mid tells : Told)
+    (places most : ℕ) (first next : D) (c : List Conn) (count turns : ℕ)
+    → ServesFrom States Steps shuts told mid places most first c next count turns
+    → KeepsClock mid tells
+    → ServesFrom States Steps shuts told tells places most first c next count turns
+serves_same States Steps shuts told mid tells places most first next c count turns
+    (ts, serves, answered, many, (moments, minute, lines)) keeps = (
+      ts,
+      serves,
+      answered,
+      many,
+      (
+        subst (λ (m : Option (List ℕ)). Appends told.moments m (nows ts)) (sym keeps.0.0) moments,
+        subst (λ (m : Option (List ℕ)). Appends told.minutes m (minutes ts)) (sym keeps.0.1) minute,
+        subst (λ (m : Option (List Line)). AppendsLines told.lines m (map line_of (answers ts)))
+            (sym keeps.1) lines,
+      ),
+    )
+
+-- ---- what the log tells
+
+lines_none : (t u : Told) → u ≡ t → TellsLines t u []
+lines_none t u same =
+    subst (λ (x : Told). TellsLines t x []) (sym same) (lines_nil t.lines, (refl, refl), refl)
+
+lines_then : (t u v : Told) (xs ys : List Answered) → TellsLines t u xs → TellsLines u v ys
+    → TellsLines t v (xs ++ ys)
+lines_then t u v xs ys (first, clock, failed) (then, clock_then, failed_then) = (
+  subst (λ (l : List Line). AppendsLines t.lines v.lines l) (sym (lines_both xs ys))
+      (lines_trans t.lines u.lines v.lines _ _ first then),
+  (clock_then.0 ∙ clock.0, clock_then.1 ∙ clock.1),
+  failed_then ∙ failed,
+)
+
+abbrev Plain : {D : Type 0} → (List ℕ → Option ℕ → Type 0) → (D → Answered → D → Type 0) → ℕ
+    → List (Option Answered) → List Conn → D × Told → List Conn → D × Told → Type 0
+Plain States Steps now ms olds old news new =
+    TakeTurns States Steps now ms olds old.0 news new.0 × TellsLines old.1 new.1 (somes ms)
+
+-- the desk's own turns, and a line for each message
+plain_turns : {D : Type 0} (States : List ℕ → Option ℕ → Type 0) (Steps : D → Answered → D → Type 0)
+    (now : ℕ) (ms : List (Option Answered)) (olds news : List Conn) (d e : D × Told)
+    → TakeTurns States (logged Steps) now ms olds d news e
+    → Plain States Steps now ms olds d news e
+plain_turns {D} States Steps now [] [] [] d e same =
+    (ap (λ (x : D × Told). x.0) same, lines_none d.1 e.1 (ap (λ (x : D × Told). x.1) same))
+plain_turns {D} States Steps now (None ∷ ms) (o ∷ olds) (w ∷ news) d e (mid, (moves, same), rest) =
+    let then = plain_turns States Steps now ms olds news mid e rest in (
+      (mid.0, (moves, ap (λ (x : D × Told). x.0) same), then.0),
+      subst (λ (x : D × Told). TellsLines x.1 e.1 (somes ms)) same then.1,
+    )
+plain_turns States Steps now (Some a ∷ ms) (o ∷ olds) (w ∷ news) d e
+    (mid, (whole, comes, ready, came, (step, line), goes), rest) =
+    let then = plain_turns States Steps now ms olds news mid e rest in (
+      (mid.0, (whole, comes, ready, came, step, goes), then.0),
+      lines_then d.1 mid.1 e.1 (a ∷ []) (somes ms) line then.1,
+    )
+plain_turns States Steps now [] [] (w ∷ news) d e never = absurd never
+plain_turns States Steps now [] (o ∷ olds) [] d e never = absurd never
+plain_turns States Steps now [] (o ∷ olds) (w ∷ news) d e never = absurd never
+plain_turns States Steps now (n ∷ ms) [] [] d e never = absurd never
+plain_turns States Steps now (n ∷ ms) [] (w ∷ news) d e never = absurd never
+plain_turns States Steps now (n ∷ ms) (o ∷ olds) [] d e never = absurd never
+
+pub turns_failed : {D : Type 0} (States : List ℕ → Option ℕ → Type 0)
+    (Steps : D → Answered → D → Type 0) (now : ℕ) (olds news : List Conn) (d e : D) (t u : Told)
+    (count : ℕ) → TurnsOf States (logged Steps) now olds (d, t) news (e, u) count
+    → u.failed ≡ t.failed
+turns_failed States Steps now olds news d e t u count (ms, answered, turns) =
+    (plain_turns States Steps now ms olds news (d, t) (e, u) turns).1.2
+
+-- accepted connections, and a turn of each
+pub goes_on : {D : Type 0} (States : List ℕ → Option ℕ → Type 0)
+    (Steps : D → Answered → D → Type 0) (shuts : D → Bool)
+    (told tick tock accepts tells : Told) (a b c : List Conn) (desk next : D)
+    (now minute most left count : ℕ) → TellsMoment told tick now → TellsMinute tick tock minute
+    → KeepsClock tock accepts
+    → ((places : List ℕ) × Admits now places a b)
+    → TurnsOf States (logged (at_minute minute Steps)) now b (desk, accepts) c (next, tells) count
+    → Each (IsDone now) c
+    → count ≤ left → (shuts desk ≡ true → left ≡ 0) → (shuts desk ≡ false → left ≡ most)
+    → (count < left → Each (λ c. c.phase ≢ Ready) c)
+    → GoesOn States Steps shuts told tells most a desk c next count
+goes_on States Steps shuts told tick tock accepts tells a b c desk next now minute most left count
+    moment at keeps (places, admits) (ms, answered, turns) done few none all unready =
+    let plain =
+    plain_turns States (at_minute minute Steps) now ms b c (desk, accepts) (next, tells) turns in
+    let clock : (tells.moments ≡ tick.moments) × (tells.minutes ≡ tock.minutes) = (
+      plain.1.1.0 ∙ keeps.0.0 ∙ at.1,
+      plain.1.1.1 ∙ keeps.0.1,
+    ) in
+    let before : accepts.lines ≡ told.lines = keeps.1 ∙ at.2 ∙ moment.2 in (
+      record { now = now; minute = minute; places = places; answered = ms },
+      (
+        b,
+        admits,
+        plain.0,
+        done,
+        λ shut. let no = none shut in omega (arith, few, no, answered),
+        λ live less. unready (let is = all live in omega (arith, is, less, answered)),
+      ),
+      answered,
+      (
+        subst (λ (m : Option (List ℕ)). Appends told.moments m (now ∷ [])) (sym clock.0) moment.0,
+        subst (λ (m : Option (List ℕ)). Appends m tells.minutes (minute ∷ [])) moment.1
+            (subst (λ (m : Option (List ℕ)). Appends tick.minutes m (minute ∷ [])) (sym clock.1)
+            at.0),
+        subst (λ (m : Option (List Line)). AppendsLines m tells.lines (map line_of (somes ms))) before
+            plain.1.0,
+      ),
+    )
+
+-- why it ended, by what is known of the network
+due_ends : (ending : Ending) (most count turns : ℕ) (shut : Bool) (faults : ℕ) (tells : Told)
+    (news : List Conn) → faults ≤ tells.failed → count ≤ most
+    → IsDue ending count most shut faults news → EndsAt ending most count turns shut tells news
+due_ends Counted most count turns shut faults tells news known few due = due
+due_ends Network most count turns shut faults tells news known few (unknown, free) =
+    (few, inr (omega (arith, known, unknown), free))
+due_ends Shut most count turns shut faults tells news known few (less, is, still) =
+    (omega (arith, few, less), is, still)
+due_ends Spent most count turns shut faults tells news known few due = absurd due
+
+pub served_at : {D : Type 0} (States : List ℕ → Option ℕ → Type 0)
+    (Steps : D → Answered → D → Type 0) (shuts : D → Bool) (faults : ℕ)
+    (told tells : Told) (places most : ℕ) (first next : D) (news : List Conn) (count turns : ℕ)
+    (ending : Ending) (shut : Bool)
+    → ServesFrom States Steps shuts told tells places most first news next count turns
+    → shut ≡ shuts next → faults ≤ tells.failed → count ≤ most
+    → IsDue ending count most shut faults news
+    → IsServed States Steps shuts told tells places most first ending next
+served_at States Steps shuts faults told tells places most first next news count turns ending shut
+    serves same known few due = (
       news,
       count,
+      turns,
       serves,
-      ends_so ending most count (shuts next) Unknown Failed known
-          (subst (λ (b : Bool). EndsAt ending most count b Unknown) told ends),
+      subst (λ (b : Bool). EndsAt ending most count turns b tells news) same
+          (due_ends ending most count turns shut faults tells news known few due),
     )
+
+-- a wait has failed
+pub served_waits : {D : Type 0} (States : List ℕ → Option ℕ → Type 0)
+    (Steps : D → Answered → D → Type 0) (shuts : D → Bool) (told mid tells : Told)
+    (places most : ℕ) (first next : D) (news : List Conn) (count turns : ℕ)
+    → ServesFrom States Steps shuts told mid places most first news next count turns
+    → tells ≡ wait_fails mid → count ≤ most
+    → IsServed States Steps shuts told tells places most first Network next
+served_waits States Steps shuts told mid tells places most first next news count turns serves is few = (
+  news,
+  count,
+  turns,
+  serves_same States Steps shuts told mid tells places most first next news count turns serves (
+    (ap (λ (t : Told). t.moments) is, ap (λ (t : Told). t.minutes) is),
+    ap (λ (t : Told). t.lines) is,
+  ),
+  (few, inl (ap (λ (t : Told). t.wait_failed) is)),
+)
+
+-- it had as many turns as there can be
+pub served_spent : {D : Type 0} (States : List ℕ → Option ℕ → Type 0)
+    (Steps : D → Answered → D → Type 0) (shuts : D → Bool) (told tells : Told)
+    (places most : ℕ) (first next : D) (news : List Conn) (count turns : ℕ)
+    → ServesFrom States Steps shuts told tells places most first news next count turns
+    → turns ≡ 2 ^ 64 - 1 → count ≤ most
+    → IsServed States Steps shuts told tells places most first Spent next
+served_spent States Steps shuts told tells places most first next news count turns serves all few =
+    (news, count, turns, serves, (few, all))
 
 -- ---- the desk alone
 
-runs_all : {D : Type 0} (Steps : D → ℕ → List ℕ → List ℕ → D → Type 0) (xs ys : List Answered)
+runs_all : {D : Type 0} (Steps : D → Answered → D → Type 0) (xs ys : List Answered)
     (a b c : D) → Runs Steps xs a b → Runs Steps ys b c → Runs Steps (xs ++ ys) a c
 runs_all {D} Steps [] ys a b c same then = subst (λ (k : D). Runs Steps ys k c) same then
 runs_all Steps (x ∷ xs) ys a b c (mid, step, rest) then =
     (mid, step, runs_all Steps xs ys mid b c rest then)
 
-turns_run : {D : Type 0} (stated : List ℕ → ℕ) (Steps : D → ℕ → List ℕ → List ℕ → D → Type 0)
-    (minute : ℕ) (ms : List (Option Answered)) (olds news : List Conn) (d e : D)
-    → TakeTurns stated (at_minute minute Steps) ms olds d news e → Runs Steps (somes ms) d e
-turns_run stated Steps minute [] [] [] d e same = same
-turns_run {D} stated Steps minute (None ∷ ms) (o ∷ olds) (w ∷ news) d e (mid, first, rest) =
+turns_run : {D : Type 0} (States : List ℕ → Option ℕ → Type 0)
+    (Steps : D → Answered → D → Type 0) (now minute : ℕ) (ms : List (Option Answered))
+    (olds news : List Conn) (d e : D)
+    → TakeTurns States (at_minute minute Steps) now ms olds d news e → Runs Steps (somes ms) d e
+turns_run States Steps now minute [] [] [] d e same = same
+turns_run {D} States Steps now minute (None ∷ ms) (o ∷ olds) (w ∷ news) d e (mid, first, rest) =
     subst (λ (k : D). Runs Steps (somes ms) k e) first.1
-    (turns_run stated Steps minute ms olds news mid e rest)
-turns_run stated Steps minute (Some a ∷ ms) (o ∷ olds) (w ∷ news) d e
-    (mid, (whole, now, comes, ready, came, step, goes), rest) =
-    (mid, step.1, turns_run stated Steps minute ms olds news mid e rest)
-turns_run stated Steps minute [] [] (w ∷ news) d e never = absurd never
-turns_run stated Steps minute [] (o ∷ olds) [] d e never = absurd never
-turns_run stated Steps minute [] (o ∷ olds) (w ∷ news) d e never = absurd never
-turns_run stated Steps minute (n ∷ ms) [] [] d e never = absurd never
-turns_run stated Steps minute (n ∷ ms) [] (w ∷ news) d e never = absurd never
-turns_run stated Steps minute (n ∷ ms) (o ∷ olds) [] d e never = absurd never
+    (turns_run States Steps now minute ms olds news mid e rest)
+turns_run States Steps now minute (Some a ∷ ms) (o ∷ olds) (w ∷ news) d e
+    (mid, (whole, comes, ready, came, step, goes), rest) =
+    (mid, step.1, turns_run States Steps now minute ms olds news mid e rest)
+turns_run States Steps now minute [] [] (w ∷ news) d e never = absurd never
+turns_run States Steps now minute [] (o ∷ olds) [] d e never = absurd never
+turns_run States Steps now minute [] (o ∷ olds) (w ∷ news) d e never = absurd never
+turns_run States Steps now minute (n ∷ ms) [] [] d e never = absurd never
+turns_run States Steps now minute (n ∷ ms) [] (w ∷ news) d e never = absurd never
+turns_run States Steps now minute (n ∷ ms) (o ∷ olds) [] d e never = absurd never
 
-pub serves_runs : {D : Type 0} (stated : List ℕ → ℕ)
-    (Steps : D → ℕ → List ℕ → List ℕ → D → Type 0) (shuts : D → Bool) (acts : List Act)
-    (olds news : List Conn) (d e : D) → Serves stated Steps shuts acts olds d news e
-    → Runs Steps (answers acts) d e
-serves_runs stated Steps shuts [] olds news d e (one, other) = other
-serves_runs {D} stated Steps shuts (Admit places ∷ acts) olds news d e (mids, mid, first, rest) =
-    subst (λ (k : D). Runs Steps (answers acts) k e) first.1
-    (serves_runs stated Steps shuts acts mids news mid e rest)
-serves_runs stated Steps shuts (Turn now minute ms ∷ acts) olds news d e (mids, mid, first, rest) =
-    runs_all Steps (somes ms) (answers acts) d mid e
-    (turns_run stated Steps minute ms olds mids d mid first.0)
-    (serves_runs stated Steps shuts acts mids news mid e rest)
+pub serves_runs : {D : Type 0} (States : List ℕ → Option ℕ → Type 0)
+    (Steps : D → Answered → D → Type 0) (shuts : D → Bool) (most : ℕ) (ts : List Turn)
+    (olds news : List Conn) (d e : D) → Serves States Steps shuts most ts olds d news e
+    → Runs Steps (answers ts) d e
+serves_runs States Steps shuts most [] olds news d e (one, other) = other
+serves_runs States Steps shuts most (t ∷ ts) olds news d e
+    (mids, mid, (begun, admits, turns, done, none, all), rest) =
+    runs_all Steps (somes t.answered) (answers ts) d mid e
+    (turns_run States Steps t.now t.minute t.answered begun mids d mid turns)
+    (serves_runs States Steps shuts (most - length (somes t.answered)) ts mids news mid e rest)

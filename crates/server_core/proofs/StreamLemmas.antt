@@ -1,75 +1,99 @@
 -- What one read and one write do to a connection.
-use Rattle.std.proofs.Common.{◌≡◌, ◌∙◌, ℕ, List, [], ◌∷◌, Option, Some, None, refl, ap, sym, subst}
-use Rattle.std.proofs.Common.{append-nil, take}
-use Rattle.std.specs.Io.KnownBytes.{Appends, Consumes, Keeps}
-use Rattle.connection_core.specs.Machine.{Conn, Came, Ended, Wrote, Broke, closed}
-use Rattle.connection_core.specs.Machine.{ended, takes, wrote, wrote_in}
-use Rattle.connection_core.specs.Laws.{written_in}
+use Rattle.std.proofs.Common.{◌≡◌, ◌∙◌, ◌⊎◌, inl, inr, ◌≤◌, ◌<◌, ℕ, List, [], ◌∷◌, Option, refl, ap}
+use Rattle.std.proofs.Common.{sym, subst, take, length, arith}
+use Rattle.std.specs.Io.KnownBytes.{Appends, Consumes, IsAtEnd, Keeps}
+use Rattle.connection_core.specs.Machine.{Conn, Came, Ended, Hears, Wrote, Broke, closed}
+use Rattle.connection_core.specs.Machine.{ended, wrote, wrote_in}
 use Rattle.connection_core.specs.declared.phase.Phase.{Phase}
 use Rattle.connection_core.specs.declared.phase.Phase.TheVariants.{Writing}
-use Rattle.server_core.specs.Turns.{Reads, Writes}
+use Rattle.server_core.specs.Reads.{HasRead, HasWritten}
+use Rattle.server_core.specs.Host.{more}
+use Rattle.server_core.specs.Turns.{Moves}
 
-consumes_none : (had left : Option (List ℕ)) → Keeps had left → Consumes had left []
-consumes_none None left keeps = tt
-consumes_none (Some xs) None keeps = absurd keeps
-consumes_none (Some xs) (Some ys) keeps = sym keeps
+pub read_end : (States : List ℕ → Option ℕ → Type 0) (had left : Option (List ℕ))
+    (failures failed : ℕ) (old new : Conn) → new ≡ ended old → Consumes had left [] → IsAtEnd left
+    → HasRead States had left failures failed old new
+read_end States had left failures failed old new is lost end = inr (inl (lost, end, is))
 
-appends_none : (had left : Option (List ℕ)) → Keeps had left → Appends had left []
-appends_none None left keeps = tt
-appends_none (Some xs) None keeps = absurd keeps
-appends_none (Some xs) (Some ys) keeps = keeps ∙ sym (append-nil xs)
+pub read_came : (States : List ℕ → Option ℕ → Type 0)
+    (had left : Option (List ℕ)) (failures failed : ℕ) (old new : Conn) (bytes : List ℕ)
+    → 0 < length bytes → Hears States old bytes new
+    → Consumes had left bytes → HasRead States had left failures failed old new
+read_came States had left failures failed old new [] some took lost =
+    let no : 0 < 0 = some in absurd (omega (arith, no))
+read_came States had left failures failed old new (b ∷ bs) some took lost =
+    inl (b, bs, lost, inl took)
 
-pub reads_end : (stated : List ℕ → ℕ) (had left : Option (List ℕ)) (old new : Conn)
-    → new ≡ ended old → Consumes had left [] → Reads stated had left old new
-reads_end stated had left old new is lost = (Ended ∷ [], is, lost)
+pub read_broke : (States : List ℕ → Option ℕ → Type 0)
+    (had left : Option (List ℕ)) (failures failed : ℕ) (old new : Conn) (bytes : List ℕ)
+    → 0 < length bytes → new ≡ closed → Consumes had left bytes
+    → HasRead States had left failures failed old new
+read_broke States had left failures failed old new [] some is lost =
+    let no : 0 < 0 = some in absurd (omega (arith, no))
+read_broke States had left failures failed old new (b ∷ bs) some is lost =
+    inl (b, bs, lost, inr is)
 
-pub reads_came : (stated : List ℕ → ℕ) (had left : Option (List ℕ)) (old new : Conn)
-    (bytes : List ℕ) → new ≡ takes stated old bytes → Consumes had left bytes
-    → Reads stated had left old new
-reads_came stated had left old new bytes is lost =
-    (Came bytes ∷ [], is, subst (λ (l : List ℕ). Consumes had left l) (sym (append-nil bytes)) lost)
+pub read_fault : (States : List ℕ → Option ℕ → Type 0)
+    (had left : Option (List ℕ)) (failures failed : ℕ) (old new : Conn) → new ≡ closed
+    → Keeps had left → failed ≡ more failures
+    → HasRead States had left failures failed old new
+read_fault States had left failures failed old new is keeps told =
+    inr (inr (keeps, told, inr is))
 
-pub reads_broke : (stated : List ℕ → ℕ) (had left : Option (List ℕ)) (old new : Conn)
-    (bytes : List ℕ) → new ≡ closed → Consumes had left bytes → Reads stated had left old new
-reads_broke stated had left old new bytes is lost = (
-  Came bytes ∷ Broke ∷ [],
-  is,
-  subst (λ (l : List ℕ). Consumes had left l) (sym (append-nil bytes)) lost,
-)
+pub read_nothing : (States : List ℕ → Option ℕ → Type 0)
+    (had left : Option (List ℕ)) (failures failed : ℕ) (old new : Conn) → new ≡ old
+    → Keeps had left → failed ≡ more failures
+    → HasRead States had left failures failed old new
+read_nothing States had left failures failed old new is keeps told =
+    inr (inr (keeps, told, inl is))
 
-pub reads_fault : (stated : List ℕ → ℕ) (had left : Option (List ℕ)) (old new : Conn)
-    → new ≡ closed → Keeps had left → Reads stated had left old new
-reads_fault stated had left old new is keeps = (Broke ∷ [], is, consumes_none had left keeps)
+pub write_some_of : (now : ℕ) (before held : Option (List ℕ)) (failures failed : ℕ) (old new : Conn)
+    (n : ℕ) → Appends before held (take n old.left) → n ≤ length old.left → new ≡ wrote old n now
+    → HasWritten now before held failures failed old new
+write_some_of now before held failures failed old new n gained few is = inl (n, gained, few, is)
 
-pub reads_nothing : (stated : List ℕ → ℕ) (had left : Option (List ℕ)) (old : Conn)
-    → Keeps had left → Reads stated had left old old
-reads_nothing stated had left old keeps = ([], refl, consumes_none had left keeps)
+pub write_fault : (now : ℕ) (before held : Option (List ℕ)) (failures failed : ℕ) (old new : Conn)
+    → new ≡ closed → Keeps before held → failed ≡ more failures
+    → HasWritten now before held failures failed old new
+write_fault now before held failures failed old new is keeps told = inr (keeps, told, inr is)
 
-pub writes_some : (stated : List ℕ → ℕ) (before held : Option (List ℕ)) (old new : Conn)
-    (n now : ℕ) → old.phase ≡ Writing → new ≡ wrote old n now
-    → Appends before held (take n old.left) → Writes stated before held old new
-writes_some stated before held old new n now writing is gained = (
+pub write_nothing : (now : ℕ) (before held : Option (List ℕ)) (failures failed : ℕ) (old new : Conn)
+    → new ≡ old → Keeps before held → failed ≡ more failures
+    → HasWritten now before held failures failed old new
+write_nothing now before held failures failed old new is keeps told = inr (keeps, told, inl is)
+
+-- ---- the same as events
+
+heard_moves : (States : List ℕ → Option ℕ → Type 0) (now : ℕ) (old new : Conn) (bytes : List ℕ)
+    → Hears States old bytes new → Moves States now old new
+heard_moves States now old new bytes (said, told, is) =
+    (Came said bytes ∷ [], (tt, tt), (told, tt), is)
+
+kept_moves : (States : List ℕ → Option ℕ → Type 0) (now : ℕ) (old new : Conn)
+    → (new ≡ old) ⊎ (new ≡ closed) → Moves States now old new
+kept_moves States now old new (inl same) = ([], tt, tt, same)
+kept_moves States now old new (inr is) = (Broke ∷ [], (tt, tt), (tt, tt), is)
+
+pub moves_read : (States : List ℕ → Option ℕ → Type 0) (now : ℕ)
+    (had left : Option (List ℕ)) (failures failed : ℕ) (old new : Conn)
+    → HasRead States had left failures failed old new → Moves States now old new
+moves_read States now had left failures failed old new (inl (b, bs, lost, inl looked)) =
+    heard_moves States now old new (b ∷ bs) looked
+moves_read States now had left failures failed old new (inl (b, bs, lost, inr is)) =
+    (Broke ∷ [], (tt, tt), (tt, tt), is)
+moves_read States now had left failures failed old new (inr (inl (lost, end, is))) =
+    (Ended ∷ [], (tt, tt), (tt, tt), is)
+moves_read States now had left failures failed old new (inr (inr (keeps, told, is))) =
+    kept_moves States now old new is
+
+pub moves_written : (States : List ℕ → Option ℕ → Type 0) (now : ℕ) (before held : Option (List ℕ))
+    (failures failed : ℕ) (old new : Conn) → old.phase ≡ Writing
+    → HasWritten now before held failures failed old new → Moves States now old new
+moves_written States now before held failures failed old new writing (inl (n, gained, few, is)) = (
   Wrote n now ∷ [],
+  (refl, tt),
+  (tt, tt),
   is ∙ sym (ap (λ (p : Phase). wrote_in p old n now) writing),
-  subst (λ (l : List ℕ). Appends before held l)
-      (sym (append-nil _ ∙ ap (λ (p : Phase). written_in p old.left (Wrote n now)) writing)) gained,
 )
-
-pub writes_broke : (stated : List ℕ → ℕ) (before held : Option (List ℕ)) (old new : Conn)
-    → old.phase ≡ Writing → new ≡ closed → Appends before held []
-    → Writes stated before held old new
-writes_broke stated before held old new writing is gained = (
-  Broke ∷ [],
-  is,
-  subst (λ (l : List ℕ). Appends before held l)
-      (sym (append-nil _ ∙ ap (λ (p : Phase). written_in p old.left Broke) writing)) gained,
-)
-
-pub writes_fault : (stated : List ℕ → ℕ) (before held : Option (List ℕ)) (old new : Conn)
-    → old.phase ≡ Writing → new ≡ closed → Keeps before held → Writes stated before held old new
-writes_fault stated before held old new writing is keeps =
-    writes_broke stated before held old new writing is (appends_none before held keeps)
-
-pub writes_nothing : (stated : List ℕ → ℕ) (before held : Option (List ℕ)) (old : Conn)
-    → Keeps before held → Writes stated before held old old
-writes_nothing stated before held old keeps = ([], refl, appends_none before held keeps)
+moves_written States now before held failures failed old new writing (inr (keeps, told, is)) =
+    kept_moves States now old new is

@@ -10,7 +10,9 @@ use Rattle.connection_core.specs.declared.phase.Phase.{Phase}
 use Rattle.connection_core.specs.declared.phase.Phase.TheVariants.{Reading, Ready, Writing}
 use Rattle.connection_core.specs.declared.phase.Phase.TheVariants.{Lingering, Closed}
 use Rattle.server_core.specs.Places.{Each, conns}
-use Rattle.server_core.specs.Wait.{IsLongest, IsToGiveWay, longer_in, reads, sooner_of}
+use Rattle.server_core.specs.Wait.{IsLongest, IsSoonest, IsToGiveWay, is_of, longer_in, sooner_of}
+use Rattle.server_core.specs.declared.admit.Kind.{Kind}
+use Rattle.server_core.specs.declared.admit.Kind.TheVariants.{Lingers, Reads}
 use Rattle.server_core.specs.declared.admit.Waiting.{Waiting}
 use Rattle.server_core.specs.declared.slot.Slot.{Slot}
 
@@ -29,76 +31,76 @@ never_reads b idle does = let both : false ≡ true = sym idle ∙ does in cc
 
 -- ---- one more of those that were looked at
 
-best_stays : (best : Option Waiting) (cs : List Conn) (c : Conn) → reads c.phase ≡ false
-    → IsLongest best cs → IsLongest best (cs ++ c ∷ [])
-best_stays None cs c idle is = each_more (λ x. reads x.phase ≡ false) cs c is idle
-best_stays (Some w) cs c idle (low, reading, same, each) =
+best_stays : (k : Kind) (best : Option Waiting) (cs : List Conn) (c : Conn)
+    → is_of k c.phase ≡ false → IsLongest k best cs → IsLongest k best (cs ++ c ∷ [])
+best_stays k None cs c idle is = each_more (λ x. is_of k x.phase ≡ false) cs c is idle
+best_stays k (Some w) cs c idle (low, this, same, each) =
     let at = get_or_append_left cs (c ∷ []) closed w.place low in
     let more = length-append cs (c ∷ []) in (
       omega (arith, more, low),
-      ap (λ (x : Conn). reads x.phase) at ∙ reading,
+      ap (λ (x : Conn). is_of k x.phase) at ∙ this,
       ap (λ (x : Conn). x.deadline) at ∙ same,
-      each_more (λ x. reads x.phase ≡ true → w.deadline ≤ x.deadline) cs c each
-          (λ does. absurd (never_reads (reads c.phase) idle does)),
+      each_more (λ x. is_of k x.phase ≡ true → w.deadline ≤ x.deadline) cs c each
+          (λ does. absurd (never_reads (is_of k c.phase) idle does)),
     )
 
 abbrev this_one : List Conn → Conn → Waiting
 this_one cs c = record { place = length cs; deadline = c.deadline }
 
-this_longest : (cs : List Conn) (c : Conn) → reads c.phase ≡ true
-    → Each (λ x. reads x.phase ≡ true → c.deadline ≤ x.deadline) cs
-    → IsLongest (Some (this_one cs c)) (cs ++ c ∷ [])
-this_longest cs c reading each =
+this_longest : (k : Kind) (cs : List Conn) (c : Conn) → is_of k c.phase ≡ true
+    → Each (λ x. is_of k x.phase ≡ true → c.deadline ≤ x.deadline) cs
+    → IsLongest k (Some (this_one cs c)) (cs ++ c ∷ [])
+this_longest k cs c this each =
     let at = get_or-append_seam cs c [] closed in
     let more = length-append cs (c ∷ []) in (
       omega (arith, more),
-      ap (λ (x : Conn). reads x.phase) at ∙ reading,
+      ap (λ (x : Conn). is_of k x.phase) at ∙ this,
       ap (λ (x : Conn). x.deadline) at,
-      each_more (λ x. reads x.phase ≡ true → c.deadline ≤ x.deadline) cs c each
+      each_more (λ x. is_of k x.phase ≡ true → c.deadline ≤ x.deadline) cs c each
           (λ does. omega arith),
     )
 
-sooner_by : (t : Bool) (w : Waiting) (cs : List Conn) (c : Conn)
-    → nat_le w.deadline c.deadline ≡ t → reads c.phase ≡ true → IsLongest (Some w) cs
-    → IsLongest (cond t (Some w) (Some (this_one cs c))) (cs ++ c ∷ [])
-sooner_by true w cs c test reading (low, was, same, each) =
+sooner_by : (t : Bool) (k : Kind) (w : Waiting) (cs : List Conn) (c : Conn)
+    → nat_le w.deadline c.deadline ≡ t → is_of k c.phase ≡ true → IsLongest k (Some w) cs
+    → IsLongest k (cond t (Some w) (Some (this_one cs c))) (cs ++ c ∷ [])
+sooner_by true k w cs c test this (low, was, same, each) =
     let at = get_or_append_left cs (c ∷ []) closed w.place low in
     let more = length-append cs (c ∷ []) in (
       omega (arith, more, low),
-      ap (λ (x : Conn). reads x.phase) at ∙ was,
+      ap (λ (x : Conn). is_of k x.phase) at ∙ was,
       ap (λ (x : Conn). x.deadline) at ∙ same,
-      each_more (λ x. reads x.phase ≡ true → w.deadline ≤ x.deadline) cs c each
+      each_more (λ x. is_of k x.phase ≡ true → w.deadline ≤ x.deadline) cs c each
           (λ does. grind (arith, test)),
     )
-sooner_by false w cs c test reading (low, was, same, each) =
+sooner_by false k w cs c test this (low, was, same, each) =
     let later : c.deadline < w.deadline = grind (arith, test) in
-    this_longest cs c reading
-    (each_wider (λ x. reads x.phase ≡ true → w.deadline ≤ x.deadline)
-    (λ x. reads x.phase ≡ true → c.deadline ≤ x.deadline)
+    this_longest k cs c this
+    (each_wider (λ x. is_of k x.phase ≡ true → w.deadline ≤ x.deadline)
+    (λ x. is_of k x.phase ≡ true → c.deadline ≤ x.deadline)
     (λ x less does. let n = less does in omega (arith, n, later)) cs each)
 
-best_or_this : (best : Option Waiting) (cs : List Conn) (c : Conn) → reads c.phase ≡ true
-    → IsLongest best cs → IsLongest (sooner_of best (this_one cs c)) (cs ++ c ∷ [])
-best_or_this None cs c reading is =
-    this_longest cs c reading
-    (each_wider (λ x. reads x.phase ≡ false) (λ x. reads x.phase ≡ true → c.deadline ≤ x.deadline)
-    (λ x idle does. absurd (never_reads (reads x.phase) idle does)) cs is)
-best_or_this (Some w) cs c reading is =
-    sooner_by (nat_le w.deadline c.deadline) w cs c refl reading is
+best_or_this : (k : Kind) (best : Option Waiting) (cs : List Conn) (c : Conn)
+    → is_of k c.phase ≡ true → IsLongest k best cs
+    → IsLongest k (sooner_of best (this_one cs c)) (cs ++ c ∷ [])
+best_or_this k None cs c this is =
+    this_longest k cs c this
+    (each_wider (λ x. is_of k x.phase ≡ false)
+    (λ x. is_of k x.phase ≡ true → c.deadline ≤ x.deadline)
+    (λ x idle does. absurd (never_reads (is_of k x.phase) idle does)) cs is)
+best_or_this k (Some w) cs c this is =
+    sooner_by (nat_le w.deadline c.deadline) k w cs c refl this is
 
-longest_by : (p : Phase) (best : Option Waiting) (cs : List Conn) (c : Conn) → c.phase ≡ p
-    → IsLongest best cs → IsLongest (longer_in p best c.deadline (length cs)) (cs ++ c ∷ [])
-longest_by (Reading part) best cs c same is = best_or_this best cs c (ap reads same) is
-longest_by Ready best cs c same is = best_stays best cs c (ap reads same) is
-longest_by Writing best cs c same is = best_stays best cs c (ap reads same) is
-longest_by Lingering best cs c same is = best_stays best cs c (ap reads same) is
-longest_by Closed best cs c same is = best_stays best cs c (ap reads same) is
+longest_by : (b : Bool) (k : Kind) (best : Option Waiting) (cs : List Conn) (c : Conn)
+    → is_of k c.phase ≡ b → IsLongest k best cs
+    → IsLongest k (cond b (sooner_of best (this_one cs c)) best) (cs ++ c ∷ [])
+longest_by true k best cs c test is = best_or_this k best cs c test is
+longest_by false k best cs c test is = best_stays k best cs c test is
 
-pub longest_on : {S : Type 0} (slots : List (Slot S)) (best : Option Waiting) (i : ℕ) (d : Slot S)
-    → i < length slots → IsLongest best (take i (conns slots))
-    → IsLongest (longer_in (seen (get_or slots i d).connection).phase best
+pub longest_on : {S : Type 0} (k : Kind) (slots : List (Slot S)) (best : Option Waiting) (i : ℕ)
+    (d : Slot S) → i < length slots → IsLongest k best (take i (conns slots))
+    → IsLongest k (longer_in k (seen (get_or slots i d).connection).phase best
     (seen (get_or slots i d).connection).deadline i) (take (i + 1) (conns slots))
-longest_on {S} slots best i d low is =
+longest_on {S} k slots best i d low is =
     let view : Slot S → Conn = λ s. seen s.connection in
     let c = view (get_or slots i d) in
     let low_conns : i < length (conns slots) = simp length-map low in
@@ -106,26 +108,28 @@ longest_on {S} slots best i d low is =
     length-take-le i (conns slots) (omega (arith, low_conns)) in
     let at : get_or (conns slots) i c ≡ c = get_or-map view slots i d c low in
     let cut = take_more (conns slots) i c low_conns in
-    let grown : IsLongest (longer_in c.phase best c.deadline i) (take i (conns slots) ++ c ∷ []) =
-    subst (λ (n : ℕ). IsLongest (longer_in c.phase best c.deadline n) (take i (conns slots) ++ c ∷ []))
-    count (longest_by c.phase best (take i (conns slots)) c refl is) in
-    subst (λ (l : List Conn). IsLongest (longer_in c.phase best c.deadline i) l)
+    let grown
+    : IsLongest k (longer_in k c.phase best c.deadline i) (take i (conns slots) ++ c ∷ []) =
+    subst (λ (n : ℕ). IsLongest k (longer_in k c.phase best c.deadline n)
+    (take i (conns slots) ++ c ∷ [])) count
+    (longest_by (is_of k c.phase) k best (take i (conns slots)) c refl is) in
+    subst (λ (l : List Conn). IsLongest k (longer_in k c.phase best c.deadline i) l)
     (sym (cut ∙ ap (λ (x : Conn). take i (conns slots) ++ x ∷ []) at)) grown
 
-pub longest_then : {S : Type 0} (slots : List (Slot S)) (best r : Option Waiting) (i : ℕ)
+pub longest_then : {S : Type 0} (k : Kind) (slots : List (Slot S)) (best r : Option Waiting) (i : ℕ)
     (d : Slot S) → i < length slots
-    → r ≡ longer_in (seen (get_or slots i d).connection).phase best
+    → r ≡ longer_in k (seen (get_or slots i d).connection).phase best
     (seen (get_or slots i d).connection).deadline i
-    → IsLongest best (take i (conns slots)) → IsLongest r (take (i + 1) (conns slots))
-longest_then slots best r i d low is far =
-    subst (λ (b : Option Waiting). IsLongest b (take (i + 1) (conns slots))) (sym is)
-    (longest_on slots best i d low far)
+    → IsLongest k best (take i (conns slots)) → IsLongest k r (take (i + 1) (conns slots))
+longest_then k slots best r i d low is far =
+    subst (λ (b : Option Waiting). IsLongest k b (take (i + 1) (conns slots))) (sym is)
+    (longest_on k slots best i d low far)
 
-pub longest_all : {S : Type 0} (slots : List (Slot S)) (best : Option Waiting) (i : ℕ)
-    → length slots ≤ i → IsLongest best (take i (conns slots)) → IsLongest best (conns slots)
-longest_all slots best i whole is =
+pub longest_all : {S : Type 0} (k : Kind) (slots : List (Slot S)) (best : Option Waiting) (i : ℕ)
+    → length slots ≤ i → IsLongest k best (take i (conns slots)) → IsLongest k best (conns slots)
+longest_all k slots best i whole is =
     let all : length (conns slots) ≤ i = simp length-map whole in
-    subst (λ (l : List Conn). IsLongest best l) (take_all i (conns slots) all) is
+    subst (λ (l : List Conn). IsLongest k best l) (take_all i (conns slots) all) is
 
 -- ---- one that is free
 
@@ -161,21 +165,36 @@ not_closed_all slots i whole each =
 
 -- ---- what gives way
 
-pub free_gives : {S : Type 0} (slots : List (Slot S)) (place : ℕ)
+pub free_gives : {S : Type 0} (slots : List (Slot S)) (now place : ℕ)
     → (place < length slots) × ((get_or (conns slots) place closed).phase ≡ Closed)
-    → IsToGiveWay place (conns slots)
-free_gives slots place (low, free) = (simp length-map low, inl free)
+    → IsToGiveWay now place (conns slots)
+free_gives slots now place (low, free) = (simp length-map low, inl free)
 
-pub longest_gives : {S : Type 0} (slots : List (Slot S)) (w : Waiting) (place : ℕ)
-    → place ≡ w.place → Each (λ c. c.phase ≢ Closed) (conns slots)
-    → IsLongest (Some w) (conns slots) → IsToGiveWay place (conns slots)
-longest_gives slots w place is none (low, reading, same, each) =
-    subst (λ (n : ℕ). IsToGiveWay n (conns slots)) (sym is) (
+soonest : (k : Kind) (w : Waiting) (cs : List Conn) → IsLongest k (Some w) cs
+    → IsSoonest k (get_or cs w.place closed) cs
+soonest k w cs (low, this, same, each) = (
+  this,
+  subst (λ (n : ℕ). Each (λ c. is_of k c.phase ≡ true → n ≤ c.deadline) cs) (sym same) each,
+)
+
+pub lingered_gives : {S : Type 0} (slots : List (Slot S)) (w : Waiting) (now : ℕ)
+    → Each (λ c. c.phase ≢ Closed) (conns slots) → IsLongest Lingers (Some w) (conns slots)
+    → IsToGiveWay now w.place (conns slots)
+lingered_gives slots w now none is =
+    (is.0, inr (inl (none, soonest Lingers w (conns slots) is)))
+
+pub longest_gives : {S : Type 0} (slots : List (Slot S)) (w : Waiting) (now place moment : ℕ)
+    → (place ≡ w.place) × (w.deadline ≤ moment) → moment ≤ now + 29750
+    → Each (λ c. c.phase ≢ Closed) (conns slots) → IsLongest Lingers None (conns slots)
+    → IsLongest Reads (Some w) (conns slots) → IsToGiveWay now place (conns slots)
+longest_gives slots w now place moment (is, then) few none idle (low, this, same, each) =
+    subst (λ (n : ℕ). IsToGiveWay now n (conns slots)) (sym is) (
       low,
-      inr (
-        reading,
-        none,
-        subst (λ (n : ℕ). Each (λ c. reads c.phase ≡ true → n ≤ c.deadline) (conns slots)) (sym same)
-            each,
-      ),
+      inr
+          (inr (
+            none,
+            idle,
+            soonest Reads w (conns slots) (low, this, same, each),
+            omega (arith, same, then, few),
+          )),
     )

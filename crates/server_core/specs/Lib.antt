@@ -1,6 +1,10 @@
+pub mod Answers
 pub mod AtPlace
+pub mod Ends
 pub mod Held
+pub mod Host
 pub mod Places
+pub mod Reads
 pub mod Served
 pub mod Turns
 pub mod Wait

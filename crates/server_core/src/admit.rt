@@ -3,14 +3,20 @@ ghost use Rattle.std.specs.Prelude.{◌≡◌, ◌≢◌, ◌≤◌, ◌<◌, �
 ghost use Rattle.std.specs.Prelude.{IsTrue, get_or};
 ghost use Rattle.connection_core.specs.Machine.{closed};
 ghost use Rattle.connection_core.specs.Seen.{seen};
+ghost use Rattle.server_core.specs.Host.{KeepsClock};
 ghost use Rattle.server_core.specs.Places.{Each, conns};
 ghost use Rattle.server_core.specs.Served.{Admits};
+ghost use Rattle.server_core.specs.Wait as wait;
 ghost use Rattle.server_core.specs.Wait.{IsLongest, IsToGiveWay, longer_in, sooner_of};
 
 use crate::host::{Host, Mark};
 use crate::slot::Slot;
+use crate::watched::Watched;
 use connection_core::{Connection, Phase, READING};
 use std::alloc::Global;
+
+/// For how many milliseconds a connection keeps its place, although another one waits.
+pub(crate) const GRACE: u64 = 250;
 
 /// The most connections that are accepted before the others have their turn.
 const AT_ONCE: u32 = 32;
@@ -24,6 +30,8 @@ pub(crate) enum Queue {
     More,
     /// One may, but no place can be given to it.
     Full,
+    /// Some may, and none is accepted any more.
+    Held,
     /// The network didn't say.
     Unknown,
 }
@@ -35,26 +43,39 @@ struct Waiting {
     deadline: u64,
 }
 
-/// A place for one more connection: a free one, or else that of the one that has waited longest for
-/// its message to come, if that was accepted before this moment.
-#[tactic(auto, using(crate::proofs::WaitLemmas::free_gives, crate::proofs::WaitLemmas::longest_gives))]
+/// Which connections are looked at.
+#[derive(Clone, Copy)]
+enum Kind {
+    /// Those whose reply has gone out.
+    Lingers,
+    /// Those whose message isn't whole.
+    Reads,
+}
+
+/// A place for one more connection at this moment: a free one; else that of the one that has lingered
+/// longest; else, where none lingers, that of the one that has waited longest for its message to
+/// come, if it was accepted a quarter of a second ago or more.
+#[tactic(auto, using(crate::proofs::WaitLemmas::free_gives, crate::proofs::WaitLemmas::lingered_gives, crate::proofs::WaitLemmas::longest_gives))]
 fn place_for<S>(slots: &[Slot<S>], now: u64) -> Option<usize>
-    ensures { IfSome result (λ place. IsToGiveWay place (conns slots.now)) }
+    ensures { IfSome result (λ place. IsToGiveWay now place (conns slots.now)) }
 {
     match free_place(slots) {
         Some(place) => Some(place),
-        None => match longest(slots) {
-            Some(waiting) => before(waiting, now.saturating_add(READING)),
-            None => None,
+        None => match longest(slots, Kind::Lingers) {
+            Some(lingering) => Some(lingering.place),
+            None => match longest(slots, Kind::Reads) {
+                Some(waiting) => by_then(waiting, now.saturating_add(READING - GRACE)),
+                None => None,
+            },
         },
     }
 }
 
-/// Its place, if it is dropped before this moment.
-fn before(waiting: Waiting, moment: u64) -> Option<usize>
-    ensures { IfSome result (λ place. place ≡ waiting.place) }
+/// Its place, if it is dropped at this moment or before.
+fn by_then(waiting: Waiting, moment: u64) -> Option<usize>
+    ensures { IfSome result (λ place. (place ≡ waiting.place) × (waiting.deadline ≤ moment)) }
 {
-    if waiting.deadline < moment {
+    if waiting.deadline <= moment {
         Some(waiting.place)
     } else {
         None
@@ -76,7 +97,7 @@ fn free_place<S>(slots: &[Slot<S>]) -> Option<usize>
     None
 }
 
-fn is_closed(connection: &Connection) -> bool
+pub(crate) fn is_closed(connection: &Connection) -> bool
     ensures { IsTrue result ↔ ((seen connection.now).phase ≡ Phase.Closed) }
 {
     match connection.phase() {
@@ -85,31 +106,52 @@ fn is_closed(connection: &Connection) -> bool
     }
 }
 
-/// Of those that wait for their message to come, the one that has waited longest.
+/// Of those of this kind, the one that is dropped soonest.
 #[tactic(auto, using(crate::proofs::WaitLemmas::longest_all))]
-fn longest<S>(slots: &[Slot<S>]) -> Option<Waiting>
-    ensures { IsLongest result (conns slots.now) }
+fn longest<S>(slots: &[Slot<S>], kind: Kind) -> Option<Waiting>
+    ensures { IsLongest kind result (conns slots.now) }
 {
     let mut best = None;
     for place in 0..slots.len() {
-        best = longer(best, &slots[place].connection, place);
+        best = longer(kind, best, &slots[place].connection, place);
     }
     best
 }
 
-/// Which has waited longer: the one so far, or the one at this place, if that waits.
-fn longer(best: Option<Waiting>, connection: &Connection, place: usize) -> Option<Waiting>
-    ensures { result ≡ longer_in (seen connection.now).phase best (seen connection.now).deadline place }
+/// Whether a connection in this phase is of the kind.
+fn is_of(kind: Kind, phase: Phase) -> bool
+    ensures { result ≡ wait.is_of kind phase }
 {
-    match connection.phase() {
-        Phase::Reading(_) => {
-            let waiting = Waiting {
-                place,
-                deadline: connection.deadline(),
-            };
-            sooner(best, waiting)
-        }
-        Phase::Ready | Phase::Writing | Phase::Lingering | Phase::Closed => best,
+    match kind {
+        Kind::Lingers => match phase {
+            Phase::Lingering => true,
+            Phase::Reading(_) | Phase::Ready | Phase::Writing | Phase::Closed => false,
+        },
+        Kind::Reads => match phase {
+            Phase::Reading(_) => true,
+            Phase::Ready | Phase::Writing | Phase::Lingering | Phase::Closed => false,
+        },
+    }
+}
+
+/// Which is dropped sooner: the one so far, or the one at this place, if that is of the kind.
+fn longer(
+    kind: Kind,
+    best: Option<Waiting>,
+    connection: &Connection,
+    place: usize,
+) -> Option<Waiting>
+    ensures { result ≡ longer_in kind (seen connection.now).phase best (seen connection.now).deadline
+        place }
+{
+    if is_of(kind, connection.phase()) {
+        let waiting = Waiting {
+            place,
+            deadline: connection.deadline(),
+        };
+        sooner(best, waiting)
+    } else {
+        best
     }
 }
 
@@ -123,7 +165,8 @@ fn sooner(best: Option<Waiting>, other: Waiting) -> Option<Waiting>
     }
 }
 
-/// Accepts the next connection, if one waits and there is a place for it.
+/// Accepts the next connection, if one waits and there is a place for it. How many accepts have
+/// failed in a row is counted.
 #[tactic(auto, using(crate::proofs::ServedLemmas::admits_none, crate::proofs::ServedLemmas::admits_at))]
 fn admit_one<H: Host>(
     alloc: Global,
@@ -131,10 +174,12 @@ fn admit_one<H: Host>(
     now: u64,
     slots: &mut [Slot<H::Stream>],
     marks: &mut [Mark],
+    faults: &mut u64,
 ) -> Queue
     requires { length slots.old ≤ length marks.old }
-    ensures admits { (places : List (ℕ × ℕ)) × Admits places (conns slots.old) (conns slots.new) }
-    ensures known { result ≡ Queue.Unknown → H.has_failed host.new ≡ true }
+    ensures admits { (places : List ℕ) × Admits now places (conns slots.old) (conns slots.new) }
+    ensures known { faults.old ≤ (H.told host.old).failed → faults.new ≤ (H.told host.new).failed }
+    ensures clock { KeepsClock (H.told host.old) (H.told host.new) }
 {
     let Some(place) = place_for(slots, now) else {
         return Queue::Full;
@@ -142,17 +187,24 @@ fn admit_one<H: Host>(
     match host.accept(place) {
         Ok(Some(stream)) => {
             slots[place] = Slot {
-                stream: Some(stream),
+                stream: Some(Watched::new(stream)),
                 connection: Connection::open(alloc, now),
             };
             marks[place] = Mark {
                 readable: true,
                 writable: true,
             };
+            *faults = 0;
             Queue::More
         }
-        Ok(None) => Queue::Empty,
-        Err(_) => Queue::Unknown,
+        Ok(None) => {
+            *faults = 0;
+            Queue::Empty
+        }
+        Err(_) => {
+            *faults = faults.saturating_add(1);
+            Queue::Unknown
+        }
     }
 }
 
@@ -164,13 +216,15 @@ pub(crate) fn admit<H: Host>(
     now: u64,
     slots: &mut [Slot<H::Stream>],
     marks: &mut [Mark],
+    faults: &mut u64,
 ) -> Queue
     requires { length slots.old ≤ length marks.old }
-    ensures admits { (places : List (ℕ × ℕ)) × Admits places (conns slots.old) (conns slots.new) }
-    ensures known { result ≡ Queue.Unknown → H.has_failed host.new ≡ true }
+    ensures admits { (places : List ℕ) × Admits now places (conns slots.old) (conns slots.new) }
+    ensures known { faults.old ≤ (H.told host.old).failed → faults.new ≤ (H.told host.new).failed }
+    ensures clock { KeepsClock (H.told host.old) (H.told host.new) }
 {
     for _connection in 0..AT_ONCE {
-        match admit_one(alloc, host, now, slots, marks) {
+        match admit_one(alloc, host, now, slots, marks, faults) {
             Queue::More => {}
             queue => return queue,
         }

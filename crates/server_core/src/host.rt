@@ -1,5 +1,7 @@
 //! What a server needs of the system.
-ghost use Rattle.std.specs.Prelude.{◌≡◌, Bool, true, OnOk, OnErr};
+ghost use Rattle.std.specs.Prelude.{◌≡◌, OnOk, OnErr};
+ghost use Rattle.server_core.specs.Host.{Told, TellsLine, TellsMinute, TellsMoment};
+ghost use Rattle.server_core.specs.Host.{accept_fails, accept_works, wait_fails};
 
 use std::io::{Read, Write};
 
@@ -19,33 +21,39 @@ pub trait Host {
     /// A connection, whose reads and writes answer `WouldBlock` where they would wait.
     type Stream: Read + Write + Drop;
 
-    /// An accept or a wait has failed.
-    ghost has_failed: { Self → Bool };
+    /// What it has told: which calls have failed, the moments and minutes of turns, and its log.
+    ghost told: { Self → Told };
 
     /// The next connection that waits, if one does. From then on it is watched under this place.
     fn accept(&mut self, place: usize) -> Result<Option<Self::Stream>, NetFault>
-        ensures ok { OnOk result (has_failed self.new ≡ has_failed self.old) }
-        ensures err { OnErr result (has_failed self.new ≡ true) };
+        ensures ok { OnOk result (told self.new ≡ accept_works (told self.old)) }
+        ensures err { OnErr result (told self.new ≡ accept_fails (told self.old)) };
 
     /// No more is written to the stream.
     fn shut(&mut self, stream: &Self::Stream)
-        ensures { has_failed self.new ≡ has_failed self.old };
+        ensures { told self.new ≡ told self.old };
 
     /// Waits for so many milliseconds at most, and marks what streams became ready for since the
     /// last call, each at its place. Whether a connection may wait.
     fn wait(&mut self, milliseconds: u64, marks: &mut [Mark]) -> Result<bool, NetFault>
-        ensures ok { OnOk result (has_failed self.new ≡ has_failed self.old) }
-        ensures err { OnErr result (has_failed self.new ≡ true) };
+        ensures ok { OnOk result (told self.new ≡ told self.old) }
+        ensures err { OnErr result (told self.new ≡ wait_fails (told self.old)) };
 
     /// Microseconds from some moment on.
     fn micros(&mut self) -> u64
-        ensures { has_failed self.new ≡ has_failed self.old };
+        ensures { told self.new ≡ told self.old };
 
-    /// The minute since 1970-01-01 00:00 UTC, or 0 where the clock gives none.
+    /// The moment of a turn: milliseconds from the same moment on.
+    fn moment(&mut self) -> u64
+        ensures { TellsMoment (told self.old) (told self.new) result };
+
+    /// The minute of a turn since 1970-01-01 00:00 UTC, or 0 where the clock gives none.
     fn minute(&mut self) -> u32
-        ensures { has_failed self.new ≡ has_failed self.old };
+        ensures { TellsMinute (told self.old) (told self.new) result };
 
-    /// A message was answered so at this minute, in so many microseconds.
-    fn told(&mut self, minute: u32, message: &[u8], reply: &[u8], micros: u64)
-        ensures { has_failed self.new ≡ has_failed self.old };
+    /// A message was answered at this minute, of which this is noted, by so many bytes and in so many
+    /// microseconds.
+    fn log(&mut self, minute: u32, note: &[u8], bytes: u64, micros: u64)
+        ensures { TellsLine (told self.old) (told self.new)
+            (record { minute = minute; note = note.now; bytes = bytes }) };
 }

@@ -1,18 +1,22 @@
 //! A server, over all its turns.
-ghost use Rattle.std.specs.Prelude.{◌≡◌, ◌≤◌, ◌<◌, true, ℕ, List, IfOk, IfSome, OnErr, length};
-ghost use Rattle.std.specs.Prelude.{replicate};
+ghost use Rattle.std.specs.Prelude.{◌≡◌, ◌≤◌, ◌<◌, ◌-◌, false, true, ℕ, List, IfOk, IfSome, IsTrue, OnErr};
+ghost use Rattle.std.specs.Prelude.{OnOk, length, replicate};
 ghost use Rattle.connection_core.specs.Machine.{closed};
-ghost use Rattle.server_core.specs.Places.{conns};
-ghost use Rattle.server_core.specs.Served.{Admits, EndsAt, GoesOn, IsServed};
+ghost use Rattle.server_core.specs.Host.{KeepsClock, wait_fails};
+ghost use Rattle.server_core.specs.Places.{Each, HasFree, conns};
+ghost use Rattle.server_core.specs.Served.{Admits, GoesOn, IsServed, IsStill};
+ghost use Rattle.server_core.specs.Ends.{IsDue};
+ghost use Rattle.connection_core.specs.Seen.{seen};
+ghost use Rattle.server_core.specs.Wait as wait;
 
-use crate::admit::{Queue, admit};
+use crate::admit::{GRACE, Queue, admit, is_closed};
 use crate::desk::Desk;
 use crate::ending::Ending;
 use crate::host::{Host, Mark, NetFault};
 use crate::slot::Slot;
 use crate::turn::turn;
 use crate::work::Moment;
-use connection_core::{Connection, Phase};
+use connection_core::{Connection, Phase, READING};
 use std::alloc::{AllocError, Global};
 
 /// How many bytes are read at once.
@@ -24,14 +28,19 @@ const PAUSE: u64 = 60_000;
 /// The longest where the network didn't say whether a connection waits.
 const RETRY: u64 = 100;
 
+/// After how many failed accepts in a row the network can't be used.
+const FAULTS: u64 = 16;
+
 /// Serves connections, at most so many at once, until so many messages were answered.
 ///
 /// Each message is answered by a step of the desk, one after the other, at the minute of the turn in
 /// which it became whole. A connection has thirty seconds for its message and thirty for its reply;
-/// where there is no place for another one, that which has waited longest for its message is
-/// dropped. Once the count is reached, or the desk is shut, no further message is answered, and it
-/// ends when the replies have gone out. It ends by `Network` only where an accept or a wait has
-/// failed, and by `Shut` only where the desk is shut.
+/// where there is no place for another one, one whose reply has gone out is dropped, or else that
+/// which has waited longest for its message, for a quarter of a second at least. Once the count is reached, or
+/// the desk is shut, no further message is answered, and it ends when the replies have gone out. It
+/// ends by `Network` only where a wait has failed, or sixteen accepts in a row with no connection left,
+/// and by
+/// `Shut` only where the desk is shut.
 ///
 /// `AllocError` where there is no memory for the places: then nothing is done.
 pub fn serve<H: Host, D: Desk>(
@@ -41,8 +50,8 @@ pub fn serve<H: Host, D: Desk>(
     places: usize,
     most: u64,
 ) -> Result<Ending, AllocError>
-    ensures ok { IfOk result (λ ending. IsServed D.stated D.Steps D.shuts
-        (H.has_failed host.new ≡ true) places most desk.old ending desk.new) }
+    ensures ok { IfOk result (λ ending. IsServed D.States D.Steps D.shuts
+        (H.told host.old) (H.told host.new) places most desk.old ending desk.new) }
     ensures err { OnErr result (desk.new ≡ desk.old) }
 {
     let mut slots = free_slots(alloc, places)?;
@@ -70,7 +79,7 @@ fn free_slots<S: Drop>(alloc: Global, places: usize) -> Result<Vec<Slot<S>>, All
 }
 
 /// Serves connections at these places, which are free.
-#[tactic(auto, using(crate::proofs::ServedLemmas::serves_on, crate::proofs::ServedLemmas::serves_begin))]
+#[tactic(auto, using(crate::proofs::ServedLemmas::serves_begin, crate::proofs::ServedLemmas::served_waits, crate::proofs::ServedLemmas::served_spent))]
 fn serve_at<H: Host, D: Desk>(
     alloc: Global,
     host: &mut H,
@@ -82,11 +91,13 @@ fn serve_at<H: Host, D: Desk>(
 ) -> Ending
     requires free { conns slots.old ≡ replicate (length slots.old) closed }
     requires marks { length slots.old ≤ length marks.old }
-    ensures { IsServed D.stated D.Steps D.shuts (H.has_failed host.new ≡ true) (length slots.old)
-        most desk.old result desk.new }
+    requires buffer { 0 < length buffer.old }
+    ensures { IsServed D.States D.Steps D.shuts (H.told host.old) (H.told host.new)
+        (length slots.old) most desk.old result desk.new }
 {
     let mut answered = 0u64;
     let mut queue = Queue::More;
+    let mut faults = 0u64;
     for _turn in 0..u64::MAX {
         let Ok(waiting) = wait(host, slots, marks, queue) else {
             return Ending::Network;
@@ -100,9 +111,10 @@ fn serve_at<H: Host, D: Desk>(
             marks,
             buffer,
             &mut queue,
+            &mut faults,
             most - answered,
         );
-        if let Some(ending) = ending_of(answered, most, desk.is_shut(), slots, queue) {
+        if let Some(ending) = ending_of(answered, most, desk.is_shut(), slots, faults) {
             return ending;
         }
     }
@@ -116,7 +128,9 @@ fn wait<H: Host>(
     marks: &mut [Mark],
     queue: Queue,
 ) -> Result<Queue, NetFault>
-    ensures { OnErr result (H.has_failed host.new ≡ true) }
+    requires { length slots.now ≤ length marks.old }
+    ensures ok { OnOk result (H.told host.new ≡ H.told host.old) }
+    ensures err { OnErr result (H.told host.new ≡ wait_fails (H.told host.old)) }
 {
     let now = host.micros() / 1000;
     let pause = pause_of(slots, marks, queue, now);
@@ -131,6 +145,7 @@ fn wait<H: Host>(
 fn left_for<D: Desk>(desk: &D, left: u64) -> u64
     ensures most { result ≤ left }
     ensures shut { D.shuts desk.now ≡ true → result ≡ 0 }
+    ensures open { D.shuts desk.now ≡ false → result ≡ left }
 {
     if desk.is_shut() { 0 } else { left }
 }
@@ -145,20 +160,30 @@ fn go_on<H: Host, D: Desk>(
     marks: &mut [Mark],
     buffer: &mut [u8],
     queue: &mut Queue,
+    faults: &mut u64,
     left: u64,
 ) -> u64
-    requires { length slots.old ≤ length marks.old }
-    ensures served { GoesOn D.stated D.Steps D.shuts (conns slots.old) desk.old (conns slots.new)
-        desk.new result }
+    requires marks { length slots.old ≤ length marks.old }
+    requires buffer { 0 < length buffer.old }
+    ensures served { GoesOn D.States D.Steps D.shuts (H.told host.old) (H.told host.new) left
+        (conns slots.old) desk.old (conns slots.new) desk.new result }
     ensures most { result ≤ left }
-    ensures known { queue.new ≡ Queue.Unknown → H.has_failed host.new ≡ true }
+    ensures known { faults.old ≤ (H.told host.old).failed → faults.new ≤ (H.told host.new).failed }
 {
     let left = left_for(desk, left);
-    let moment = Moment {
-        now: host.micros() / 1000,
-        minute: host.minute(),
-    };
-    admit_if(alloc, host, moment.now, slots, marks, queue, left > 0);
+    let now = host.moment();
+    let minute = host.minute();
+    let moment = Moment { now, minute };
+    admit_if(
+        alloc,
+        host,
+        moment.now,
+        slots,
+        marks,
+        queue,
+        faults,
+        left > 0,
+    );
     turn(alloc, host, moment, buffer, slots, marks, desk, left)
 }
 
@@ -171,32 +196,34 @@ fn admit_if<H: Host>(
     slots: &mut [Slot<H::Stream>],
     marks: &mut [Mark],
     queue: &mut Queue,
+    faults: &mut u64,
     may: bool,
 )
     requires { length slots.old ≤ length marks.old }
-    ensures admits { (places : List (ℕ × ℕ)) × Admits places (conns slots.old) (conns slots.new) }
-    ensures known { queue.new ≡ Queue.Unknown → H.has_failed host.new ≡ true }
+    ensures admits { (places : List ℕ) × Admits now places (conns slots.old) (conns slots.new) }
+    ensures known { faults.old ≤ (H.told host.old).failed → faults.new ≤ (H.told host.new).failed }
+    ensures clock { KeepsClock (H.told host.old) (H.told host.new) }
 {
     if let Queue::Empty = *queue {
         return;
     }
     *queue = if may {
-        admit(alloc, host, now, slots, marks)
+        admit(alloc, host, now, slots, marks, faults)
     } else {
-        Queue::Full
+        Queue::Held
     };
 }
 
-/// Why it ends here, if it does.
+/// Why it ends here, if it does: by its count, or where the desk is shut, once the replies have gone
+/// out, and after sixteen failed accepts in a row where no connection is left.
 fn ending_of<S>(
     answered: u64,
     most: u64,
     shut: bool,
     slots: &[Slot<S>],
-    queue: Queue,
+    faults: u64,
 ) -> Option<Ending>
-    ensures { IfSome result (λ ending. answered ≤ most
-        → EndsAt ending most answered shut (queue ≡ Queue.Unknown)) }
+    ensures { IfSome result (λ ending. IsDue ending answered most shut faults (conns slots.now)) }
 {
     if answered == most {
         return if is_still(slots) {
@@ -212,61 +239,123 @@ fn ending_of<S>(
             None
         };
     }
-    match queue {
-        Queue::Unknown => {
-            if is_free(slots) {
-                Some(Ending::Network)
-            } else {
-                None
-            }
-        }
-        Queue::Empty | Queue::More | Queue::Full => None,
+    if faults >= FAULTS && is_free(slots) {
+        Some(Ending::Network)
+    } else {
+        None
     }
 }
 
 /// Whether no reply is on its way.
-fn is_still<S>(slots: &[Slot<S>]) -> bool {
-    for slot in slots {
-        match slot.connection.phase() {
-            Phase::Writing | Phase::Lingering => return false,
-            Phase::Reading(_) | Phase::Ready | Phase::Closed => {}
+#[tactic(auto, using(crate::proofs::PlaceLemmas::still_on, crate::proofs::PlaceLemmas::still_all))]
+fn is_still<S>(slots: &[Slot<S>]) -> bool
+    ensures { IsTrue result → Each IsStill (conns slots.now) }
+{
+    for place in 0..slots.len() {
+        if !has_gone(&slots[place].connection) {
+            return false;
         }
     }
     true
+}
+
+/// Whether its reply isn't on its way.
+fn has_gone(connection: &Connection) -> bool
+    ensures { IsTrue result → IsStill (seen connection.now) }
+{
+    match connection.phase() {
+        Phase::Writing | Phase::Lingering => false,
+        Phase::Reading(_) | Phase::Ready | Phase::Closed => true,
+    }
 }
 
 /// Whether there is no connection.
-fn is_free<S>(slots: &[Slot<S>]) -> bool {
-    for slot in slots {
-        match slot.connection.phase() {
-            Phase::Closed => {}
-            _ => return false,
+#[tactic(auto, using(crate::proofs::PlaceLemmas::closed_on, crate::proofs::PlaceLemmas::closed_all))]
+fn is_free<S>(slots: &[Slot<S>]) -> bool
+    ensures { IsTrue result → Each (λ c. c.phase ≡ Phase.Closed) (conns slots.now) }
+{
+    for place in 0..slots.len() {
+        if !is_closed(&slots[place].connection) {
+            return false;
         }
     }
     true
 }
 
-/// For how many milliseconds there is nothing to do, if nothing happens.
-fn pause_of<S>(slots: &[Slot<S>], marks: &[Mark], queue: Queue, now: u64) -> u64 {
-    let mut pause = match queue {
-        Queue::More => 0,
-        Queue::Unknown => RETRY,
-        Queue::Empty | Queue::Full => PAUSE,
-    };
-    for (slot, mark) in slots.iter().zip(marks.iter()) {
-        pause = pause.min(pause_at(&slot.connection, *mark, now));
+/// For how many milliseconds there is nothing to do, if nothing happens. Where a client may wait, no
+/// longer than until a place can be given to it: not at all, where one is free.
+#[tactic(auto, using(crate::proofs::PauseLemmas::free_none, crate::proofs::PauseLemmas::none_left))]
+fn pause_of<S>(slots: &[Slot<S>], marks: &[Mark], queue: Queue, now: u64) -> u64
+    requires { length slots.now ≤ length marks.now }
+    ensures is { result ≡ wait.pauses (wait.is_full queue) now (wait.begins queue) (conns slots.now)
+        marks.now }
+    ensures free { queue ≡ Queue.Full → HasFree (conns slots.now) → result ≡ 0 }
+{
+    let full = is_full(queue);
+    let mut pause = begin_of(queue);
+    for place in 0..slots.len() {
+        let slot = &slots[place];
+        let mark = &marks[place];
+        pause = pause.min(pause_at(full, &slot.connection, *mark, now));
     }
     pause
 }
 
-/// The same of one connection. One whose message is whole after a turn waits until others are gone:
-/// the count was reached.
-fn pause_at(connection: &Connection, mark: Mark, now: u64) -> u64 {
+/// Whether a client may wait to which no place could be given.
+fn is_full(queue: Queue) -> bool
+    ensures { result ≡ wait.is_full queue }
+{
+    match queue {
+        Queue::Full => true,
+        Queue::Empty | Queue::More | Queue::Held | Queue::Unknown => false,
+    }
+}
+
+/// The longest pause, whatever the connections do.
+fn begin_of(queue: Queue) -> u64
+    ensures { result ≡ wait.begins queue }
+{
+    match queue {
+        Queue::More => 0,
+        Queue::Unknown => RETRY,
+        Queue::Empty | Queue::Full | Queue::Held => PAUSE,
+    }
+}
+
+/// The same of one connection.
+fn pause_at(full: bool, connection: &Connection, mark: Mark, now: u64) -> u64
+    ensures { result ≡ wait.pause_at full now (seen connection.now) mark }
+{
+    let idle = idle_at(connection, mark, now);
+    if full {
+        giving_at(connection, now).min(idle)
+    } else {
+        idle
+    }
+}
+
+/// Until it gives way to a client that waits.
+fn giving_at(connection: &Connection, now: u64) -> u64
+    ensures { result ≡ wait.gives_in now (seen connection.now) (seen connection.now).phase }
+{
+    let deadline = connection.deadline();
+    match connection.phase() {
+        Phase::Reading(_) => deadline.saturating_sub(READING - GRACE).saturating_sub(now),
+        Phase::Ready | Phase::Writing => deadline.saturating_sub(now),
+        Phase::Lingering | Phase::Closed => 0,
+    }
+}
+
+/// Until there is something to do with it. One whose message is whole after a turn waits until
+/// others are gone: the count was reached.
+fn idle_at(connection: &Connection, mark: Mark, now: u64) -> u64
+    ensures { result ≡ wait.idles now (seen connection.now) mark (seen connection.now).phase }
+{
     let until = connection.deadline().saturating_sub(now);
     match connection.phase() {
-        Phase::Reading(_) | Phase::Lingering if mark.readable => 0,
-        Phase::Writing if mark.writable => 0,
+        Phase::Reading(_) | Phase::Lingering => { if mark.readable { 0 } else { until } }
+        Phase::Writing => { if mark.writable { 0 } else { until } }
+        Phase::Ready => until,
         Phase::Closed => PAUSE,
-        _ => until,
     }
 }

@@ -1,9 +1,11 @@
 //! A connection with its stream.
-ghost use Rattle.std.specs.Prelude.{◌≡◌, ◌<◌, length};
+ghost use Rattle.std.specs.Prelude.{◌≡◌, ◌<◌, ℕ, length};
 ghost use Rattle.connection_core.specs.Seen.{seen};
-ghost use Rattle.server_core.specs.Turns.{Reads, Writes};
+ghost use Rattle.server_core.specs.Host.{more};
+ghost use Rattle.server_core.specs.Reads.{HasRead, HasWritten, KeepsMark};
 
 use crate::host::Mark;
+use crate::watched::Watched;
 use connection_core::{Connection, Framing, Phase};
 use std::alloc::Global;
 use std::io::{ErrorKind, Read, Write};
@@ -11,40 +13,27 @@ use std::io::{ErrorKind, Read, Write};
 /// A place for a connection. Where the connection is closed the place is free.
 #[derive(Drop)]
 pub struct Slot<S> {
-    pub stream: Option<S>,
+    pub stream: Option<Watched<S>>,
     pub connection: Connection,
 }
 
-/// One read: what came is taken. Where there is no memory for it nothing is read, and it is tried
-/// again at the next turn.
-#[tactic(auto, using(crate::proofs::StreamLemmas::reads_nothing))]
+/// One read: what came is taken. Where there is no memory for it, the connection is dropped.
+#[tactic(auto, using(crate::proofs::StreamLemmas::read_end, crate::proofs::StreamLemmas::read_fault, crate::proofs::StreamLemmas::read_nothing))]
 pub fn read_some<F: Framing, S: Read>(
     alloc: Global,
-    stream: &mut S,
+    stream: &mut Watched<S>,
     connection: &mut Connection,
     mark: &mut Mark,
     buffer: &mut [u8],
 )
-    ensures { Reads F.stated (S.remaining stream.old) (S.remaining stream.new)
+    requires { 0 < length buffer.old }
+    ensures read { HasRead F.States (S.remaining stream.old.stream)
+        (S.remaining stream.new.stream) stream.old.failures stream.new.failures
         (seen connection.old) (seen connection.new) }
-{
-    match connection.reserve(buffer.len()) {
-        Ok(()) => read_into::<F, S>(alloc, stream, connection, mark, buffer),
-        Err(_) => {}
-    }
-}
-
-/// One read, for which there is room.
-#[tactic(auto, using(crate::proofs::StreamLemmas::reads_end, crate::proofs::StreamLemmas::reads_came, crate::proofs::StreamLemmas::reads_broke, crate::proofs::StreamLemmas::reads_fault, crate::proofs::StreamLemmas::reads_nothing))]
-fn read_into<F: Framing, S: Read>(
-    alloc: Global,
-    stream: &mut S,
-    connection: &mut Connection,
-    mark: &mut Mark,
-    buffer: &mut [u8],
-)
-    ensures { Reads F.stated (S.remaining stream.old) (S.remaining stream.new)
-        (seen connection.old) (seen connection.new) }
+    ensures reads { stream.new.reads ≡ more stream.old.reads }
+    ensures readable { KeepsMark mark.old.readable mark.new.readable stream.old.failures
+        stream.new.failures }
+    ensures writable { mark.new.writable ≡ mark.old.writable }
 {
     match stream.read(buffer) {
         Ok(0) => connection.end(alloc),
@@ -61,17 +50,19 @@ fn read_into<F: Framing, S: Read>(
 }
 
 /// One write: what is left of the reply, as far as it is taken.
-#[tactic(auto, using(crate::proofs::StreamLemmas::writes_some, crate::proofs::StreamLemmas::writes_broke, crate::proofs::StreamLemmas::writes_fault, crate::proofs::StreamLemmas::writes_nothing))]
-pub fn write_some<F: Framing, S: Write>(
+#[tactic(auto, using(crate::proofs::StreamLemmas::write_fault, crate::proofs::StreamLemmas::write_nothing))]
+pub fn write_some<S: Write>(
     alloc: Global,
-    stream: &mut S,
+    stream: &mut Watched<S>,
     connection: &mut Connection,
     mark: &mut Mark,
     now: u64,
 )
     requires { (seen connection.old).phase ≡ Phase.Writing }
-    ensures { Writes F.stated (S.contents stream.old) (S.contents stream.new)
-        (seen connection.old) (seen connection.new) }
+    ensures written { HasWritten now (S.contents stream.old.stream) (S.contents stream.new.stream)
+        stream.old.failures stream.new.failures (seen connection.old) (seen connection.new) }
+    ensures writes { stream.new.writes ≡ more stream.old.writes }
+    ensures reads { stream.new.reads ≡ stream.old.reads }
 {
     match stream.write(connection.left()) {
         Ok(count) => {

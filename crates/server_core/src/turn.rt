@@ -1,7 +1,7 @@
 //! One turn of the server: each connection has its own.
 ghost use Rattle.std.specs.Prelude.{◌≡◌, ◌≢◌, ◌≤◌, ◌<◌, length};
 ghost use Rattle.server_core.specs.Places.{Each, TurnsOf, conns};
-ghost use Rattle.server_core.specs.Turns.{IsInTime, at_minute};
+ghost use Rattle.server_core.specs.Turns.{IsDone, at_minute, logged};
 
 use crate::desk::Desk;
 use crate::host::{Host, Mark};
@@ -22,13 +22,14 @@ pub(crate) fn turn<H: Host, D: Desk>(
     desk: &mut D,
     most: u64,
 ) -> u64
-    requires { length slots.old ≤ length marks.old }
-    ensures turns { TurnsOf D.stated (at_minute moment.minute D.Steps) (conns slots.old) desk.old
-        (conns slots.new) desk.new result }
+    requires marks { length slots.old ≤ length marks.old }
+    requires buffer { 0 < length buffer.old }
+    ensures turns { TurnsOf D.States (logged (at_minute moment.minute D.Steps)) moment.now
+        (conns slots.old) (desk.old, H.told host.old)
+        (conns slots.new) (desk.new, H.told host.new) result }
     ensures most { result ≤ most }
     ensures unready { result < most → Each (λ c. c.phase ≢ Phase.Ready) (conns slots.new) }
-    ensures in_time { Each (IsInTime moment.now) (conns slots.new) }
-    ensures kept { H.has_failed host.new ≡ H.has_failed host.old }
+    ensures done { Each (IsDone moment.now) (conns slots.new) }
 {
     let mut answered = 0u64;
     for place in 0..slots.len() {

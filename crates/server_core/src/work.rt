@@ -1,15 +1,16 @@
 //! The turn of one connection.
-ghost use Rattle.std.specs.Prelude.{◌≡◌, ◌≢◌, true, Option, is_some};
+ghost use Rattle.std.specs.Prelude.{◌≡◌, ◌≢◌, ◌<◌, ℕ, true, Option, is_some, length};
 ghost use Rattle.connection_core.specs.Machine.{passed};
 ghost use Rattle.connection_core.specs.Seen.{seen};
-ghost use Rattle.server_core.specs.Turns.{Answered, IsInTime, Moves, TakesTurn, at_minute};
+ghost use Rattle.server_core.specs.Reads.{ReadsOn, ReadsOnce, listens};
+ghost use Rattle.server_core.specs.Turns.{Answered, IsDone, IsSettled, Moves, TakesTurn, at_minute, logged};
 
 use crate::desk::Desk;
 use crate::host::{Host, Mark};
 use crate::slot::{Slot, read_some, write_some};
 use connection_core::{Connection, Framing, Phase};
 use std::alloc::Global;
-use std::io::Read;
+use std::io::{Read, Write};
 
 /// When a turn is: milliseconds from some moment on, and the minute since 1970-01-01 00:00 UTC.
 #[derive(Clone, Copy)]
@@ -19,14 +20,19 @@ pub struct Moment {
 }
 
 /// Reads once, if something may have come that is still looked at.
-#[tactic(auto, using(crate::proofs::TurnLemmas::moves_none, crate::proofs::TurnLemmas::moves_read))]
+#[tactic(auto, using(crate::proofs::TurnLemmas::moves_none, crate::proofs::StreamLemmas::moves_read, crate::proofs::ReadLemmas::is_read, crate::proofs::ReadLemmas::stays_read, crate::proofs::ReadLemmas::reads_on))]
 fn receive<F: Framing, S: Read>(
     alloc: Global,
     slot: &mut Slot<S>,
     mark: &mut Mark,
     buffer: &mut [u8],
 )
-    ensures { Moves F.stated (seen slot.old.connection) (seen slot.new.connection) }
+    requires { 0 < length buffer.old }
+    ensures moves { (now : ℕ) → Moves F.States now (seen slot.old.connection)
+        (seen slot.new.connection) }
+    ensures read { mark.old.readable ≡ true → listens (seen slot.old.connection).phase ≡ true
+        → ReadsOnce slot.old.stream slot.new.stream }
+    ensures on { ReadsOn slot.old.stream slot.new.stream }
 {
     match slot.connection.phase() {
         Phase::Reading(_) | Phase::Lingering => {
@@ -51,11 +57,10 @@ fn answer<H: Host, D: Desk>(
     may: bool,
 ) -> bool
     ensures turn { (a : Option Answered) × (is_some a ≡ result)
-        × TakesTurn D.stated (at_minute moment.minute D.Steps) a (seen connection.old) desk.old
-        (seen connection.new) desk.new }
+        × TakesTurn D.States (logged (at_minute moment.minute D.Steps)) moment.now a
+        (seen connection.old) (desk.old, H.told host.old) (seen connection.new) (desk.new, H.told host.new) }
     ensures asked { result ≡ true → may ≡ true }
     ensures unready { may ≡ true → (seen connection.new).phase ≢ Phase.Ready }
-    ensures kept { H.has_failed host.new ≡ H.has_failed host.old }
 {
     if !may {
         return false;
@@ -65,25 +70,30 @@ fn answer<H: Host, D: Desk>(
         _ => return false,
     }
     let began = host.micros();
-    let reply = desk.step(alloc, moment.minute, connection.message());
+    let answer = desk.step(alloc, moment.minute, connection.message());
     let micros = host.micros().saturating_sub(began);
-    host.told(moment.minute, connection.message(), reply.bytes(), micros);
-    connection.answer(alloc, reply, moment.now);
+    let bytes = answer.reply.bytes().len() as u64;
+    host.log(moment.minute, answer.note.as_slice(), bytes, micros);
+    connection.answer(alloc, answer.reply, moment.now);
     true
 }
 
 /// Tells the peer that no more comes, where the reply has gone out.
-fn shut_if_written<H: Host>(host: &mut H, stream: &H::Stream, connection: &Connection)
-    ensures { H.has_failed host.new ≡ H.has_failed host.old }
+fn shut_if_written<H: Host>(host: &mut H, slot: &Slot<H::Stream>)
+    ensures { H.told host.new ≡ H.told host.old }
 {
-    if let Phase::Lingering = connection.phase() {
-        host.shut(stream);
+    if let Phase::Lingering = slot.connection.phase() {
+        if let Some(stream) = &slot.stream {
+            host.shut(stream.stream());
+        }
     }
 }
 
 /// Drops the connection if its deadline has come, and its stream where it is over.
+#[tactic(auto, using(crate::proofs::ReadLemmas::none_on, crate::proofs::ReadLemmas::stays_read))]
 fn finish<S: Drop>(alloc: Global, slot: &mut Slot<S>, now: u64)
-    ensures { seen slot.new.connection ≡ passed (seen slot.old.connection) now }
+    ensures passed { seen slot.new.connection ≡ passed (seen slot.old.connection) now }
+    ensures on { ReadsOn slot.old.stream slot.new.stream }
 {
     slot.connection.pass(alloc, now);
     if let Phase::Closed = slot.connection.phase() {
@@ -91,8 +101,20 @@ fn finish<S: Drop>(alloc: Global, slot: &mut Slot<S>, now: u64)
     }
 }
 
+/// One write to its stream.
+#[tactic(auto, using(crate::proofs::TurnLemmas::moves_none, crate::proofs::ReadLemmas::stays_read))]
+fn write_at<F: Framing, S: Write>(alloc: Global, slot: &mut Slot<S>, mark: &mut Mark, now: u64)
+    requires { (seen slot.old.connection).phase ≡ Phase.Writing }
+    ensures moves { Moves F.States now (seen slot.old.connection) (seen slot.new.connection) }
+    ensures on { ReadsOn slot.old.stream slot.new.stream }
+{
+    if let Some(stream) = &mut slot.stream {
+        write_some::<S>(alloc, stream, &mut slot.connection, mark, now);
+    }
+}
+
 /// Writes once, if something is left to write and may be taken.
-#[tactic(auto, using(crate::proofs::TurnLemmas::moves_none, crate::proofs::TurnLemmas::moves_written, crate::proofs::TurnLemmas::writing_unready))]
+#[tactic(auto, using(crate::proofs::TurnLemmas::moves_none, crate::proofs::TurnLemmas::writing_unready, crate::proofs::ReadLemmas::stays_read, crate::proofs::ReadLemmas::same_on))]
 fn send<F: Framing, H: Host>(
     alloc: Global,
     host: &mut H,
@@ -100,27 +122,53 @@ fn send<F: Framing, H: Host>(
     mark: &mut Mark,
     now: u64,
 )
-    ensures moves { Moves F.stated (seen slot.old.connection) (seen slot.new.connection) }
+    ensures moves { Moves F.States now (seen slot.old.connection) (seen slot.new.connection) }
     ensures unready { (seen slot.old.connection).phase ≢ Phase.Ready
         → (seen slot.new.connection).phase ≢ Phase.Ready }
-    ensures kept { H.has_failed host.new ≡ H.has_failed host.old }
+    ensures kept { H.told host.new ≡ H.told host.old }
+    ensures on { ReadsOn slot.old.stream slot.new.stream }
 {
     match slot.connection.phase() {
         Phase::Writing => {
             if mark.writable {
-                if let Some(stream) = &mut slot.stream {
-                    write_some::<F, H::Stream>(alloc, stream, &mut slot.connection, mark, now);
-                    shut_if_written(host, stream, &slot.connection);
-                }
+                write_at::<F, H::Stream>(alloc, slot, mark, now);
+                shut_if_written(host, slot);
             }
         }
         Phase::Reading(_) | Phase::Ready | Phase::Lingering | Phase::Closed => {}
     }
 }
 
+/// Where the reply has gone out, what still waits is read and dropped, once. Where nothing does, and
+/// the message was whole, the connection is over.
+#[tactic(auto, using(crate::proofs::TurnLemmas::moves_none, crate::proofs::TurnLemmas::moves_settled, crate::proofs::TurnLemmas::settled_settled, crate::proofs::TurnLemmas::settled_unready, crate::proofs::ReadLemmas::stays_read))]
+fn settle<F: Framing, S: Read>(
+    alloc: Global,
+    slot: &mut Slot<S>,
+    mark: &mut Mark,
+    buffer: &mut [u8],
+)
+    requires { 0 < length buffer.old }
+    ensures on { ReadsOn slot.old.stream slot.new.stream }
+    ensures moves { (now : ℕ) → Moves F.States now (seen slot.old.connection)
+        (seen slot.new.connection) }
+    ensures settled { IsSettled (seen slot.new.connection) }
+    ensures unready { (seen slot.old.connection).phase ≢ Phase.Ready
+        → (seen slot.new.connection).phase ≢ Phase.Ready }
+{
+    match slot.connection.phase() {
+        Phase::Lingering => {
+            receive::<F, S>(alloc, slot, mark, buffer);
+            slot.connection.settle(alloc);
+        }
+        Phase::Reading(_) | Phase::Ready | Phase::Writing | Phase::Closed => {}
+    }
+}
+
 /// One connection's turn: it reads, its message is answered if it may be, and it writes; then it is
-/// dropped if its deadline has come. Whether its message was answered.
-#[tactic(auto, using(crate::proofs::TurnLemmas::moves_both, crate::proofs::TurnLemmas::moves_passed, crate::proofs::TurnLemmas::turn_within, crate::proofs::TurnLemmas::passed_unready, crate::proofs::TurnLemmas::passed_in_time))]
+/// over, if its reply has gone out and nothing waits, or dropped if its deadline has come. Whether its
+/// message was answered.
+#[tactic(auto, using(crate::proofs::TurnLemmas::moves_both, crate::proofs::TurnLemmas::moves_passed, crate::proofs::TurnLemmas::turn_within, crate::proofs::TurnLemmas::passed_unready, crate::proofs::TurnLemmas::passed_done))]
 pub(crate) fn work<H: Host, D: Desk>(
     alloc: Global,
     host: &mut H,
@@ -131,17 +179,20 @@ pub(crate) fn work<H: Host, D: Desk>(
     desk: &mut D,
     may: bool,
 ) -> bool
+    requires { 0 < length buffer.old }
+    ensures read { mark.old.readable ≡ true → listens (seen slot.old.connection).phase ≡ true
+        → ReadsOnce slot.old.stream slot.new.stream }
     ensures turn { (a : Option Answered) × (is_some a ≡ result)
-        × TakesTurn D.stated (at_minute moment.minute D.Steps) a (seen slot.old.connection) desk.old
-        (seen slot.new.connection) desk.new }
+        × TakesTurn D.States (logged (at_minute moment.minute D.Steps)) moment.now a
+        (seen slot.old.connection) (desk.old, H.told host.old) (seen slot.new.connection) (desk.new, H.told host.new) }
     ensures asked { result ≡ true → may ≡ true }
     ensures unready { may ≡ true → (seen slot.new.connection).phase ≢ Phase.Ready }
-    ensures in_time { IsInTime moment.now (seen slot.new.connection) }
-    ensures kept { H.has_failed host.new ≡ H.has_failed host.old }
+    ensures done { IsDone moment.now (seen slot.new.connection) }
 {
     receive::<D, H::Stream>(alloc, slot, mark, buffer);
     let answered = answer(alloc, host, moment, &mut slot.connection, desk, may);
     send::<D, H>(alloc, host, slot, mark, moment.now);
+    settle::<D, H::Stream>(alloc, slot, mark, buffer);
     finish(alloc, slot, moment.now);
     answered
 }

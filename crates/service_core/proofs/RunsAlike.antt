@@ -10,6 +10,7 @@ use Rattle.desk_model.specs.Desk.{Desk}
 use Rattle.desk_model.specs.Step.{Ask, Outcome, RunsBy, outcome_of}
 use Rattle.desk_model.specs.View.{view}
 use Rattle.desk_model.specs.declared.refusal.Refusal.TheVariants.{Unavailable}
+use Rattle.desk_core.proofs.Taken.{reads_of}
 use Rattle.desk_core.proofs.Unchanged.{reading_law}
 use Rattle.service_core.specs.Alike.{AnswersAlike}
 use Rattle.service_core.specs.TableSteps.{IsStep}
@@ -29,7 +30,7 @@ pub tells : (s : Settings) (caller : List ℕ) (ask : Ask) (old new : Desk) (out
     → Reads caller ask → outcome ≢ Err Unavailable → IsStep s ask old outcome new
     → outcome ≡ outcome_of s ask.at ask.caller ask.command (view s caller old)
 tells s caller ask old new outcome reads told step =
-    step.view told reads.0
+    step.laws.inside told (reads_of ask.command reads.0)
     ∙ ap (λ who. outcome_of s ask.at ask.caller ask.command (view s who old)) reads.1
 
 runs_alike : (s : Settings) (caller : List ℕ) (asks : List Ask) (outcomes others : List Outcome)

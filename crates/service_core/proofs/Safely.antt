@@ -55,7 +55,7 @@ seen_safely facts s ask old mid new outcome seen kept done = record {
       let stepped =
       done.step desk is (seen desk is stand (done.keeps.clean clean))
       (stands kept (contents_of (due_of_row s desk) desk) stand) clean in
-      (stepped.0, (stepped.1, stepped.1.formed), stepped.2);
+      (stepped.0, (stepped.1, stepped.1.laws.desk), stepped.2);
   refused = spared_after outcome old mid new kept done.refused;
   named = done.named;
   keeps = keeps_after kept done.keeps;

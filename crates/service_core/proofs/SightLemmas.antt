@@ -7,8 +7,6 @@ use Rattle.std.specs.List.{list_any}
 use Rattle.std.specs.Option.{option_to_list}
 use Rattle.std.specs.Ordering.{is_eq, is_lt}
 use Rattle.std.specs.Str.{bytes_eq}
-use Rattle.std.specs.declared.cmp.Ordering.{Ordering}
-use Rattle.std.specs.declared.cmp.Ordering.TheVariants.{Less, Equal, Greater}
 use Rattle.desk_model.specs.Desk.{has_lower_name}
 use Rattle.desk_model.specs.Rising.{comes_first, is_rising}
 use Rattle.desk_model.specs.Names.{text_order}
@@ -16,6 +14,7 @@ use Rattle.desk_model.specs.declared.rows.QueueRow.{QueueRow}
 use Rattle.rights_core.specs.People.{holds, knows, no_roles}
 use Rattle.rights_core.specs.Right.{see_queue}
 use Rattle.rights_core.specs.declared.parts.Parts.{Parts}
+use Rattle.sorted_lists.proofs.Rising.{lesser}
 use Rattle.service_core.specs.Sight.{IsSight, lets_see}
 use Rattle.service_core.specs.declared.sight.Sight.{Sight}
 use Rattle.service_core.specs.declared.sight.Sight.TheVariants.{Nothing, One, Several}
@@ -42,11 +41,6 @@ seen_alike (One one) f g same h = λ name. sym (same name) ∙ h name
 seen_alike Several f g same h = h
 
 -- ---- the one queue that is seen
-
-lesser : (o : Ordering) → is_lt o ≡ true → o ≡ Less
-lesser Less e = refl
-lesser Equal e = cc
-lesser Greater e = cc
 
 -- a queue that comes after one of this name has another name
 unlike : (one : List ℕ) (a b : QueueRow) → bytes_eq a.name one ≡ true → has_lower_name a b ≡ true

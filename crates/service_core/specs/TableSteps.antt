@@ -1,44 +1,35 @@
 -- Steps of a desk over its tables: from the desk that the tables stand for to the desk that they
 -- stand for afterwards.
-use Rattle.std.specs.Prelude.{◌≢◌, ℕ, List, Err, IfOk, String, map, string_bytes}
+use Rattle.std.specs.Prelude.{ℕ, List, String, map, string_bytes}
 use Rattle.sqlite.specs.State.{State, HasCleanDisk}
 use Rattle.settings_core.specs.declared.settings.Settings.{Settings}
 use Rattle.desk_model.specs.declared.command.Command.{Command}
-use Rattle.desk_model.specs.declared.refusal.Refusal.TheVariants.{Unavailable}
 use Rattle.desk_model.specs.Desk.{Desk}
 use Rattle.desk_model.specs.IsDesk.{IsDesk}
-use Rattle.desk_core.specs.Filing.{FilingLaw}
-use Rattle.desk_core.specs.Known.{KnownLaw}
-use Rattle.desk_core.specs.Laws.{DependencyLaw, DueLaw, HiddenLaw, HistoryLaw, OwnerLaw}
-use Rattle.desk_core.specs.Laws.{StatusLaw, ViewLaw}
-use Rattle.desk_core.specs.Small.{IsSmall}
-use Rattle.desk_core.specs.Turns.{TurnLaw}
-use Rattle.desk_core.specs.Watching.{WatchLaw}
+use Rattle.desk_core.specs.Lawful.{IsLawful}
+use Rattle.desk_core.specs.Laws.{Step}
 use Rattle.desk_model.specs.Step.{Ask, Outcome, RunsBy, Steps}
-use Rattle.desk_model.specs.View.{view}
 use Rattle.store_core.specs.Due.{StandsDue}
 
--- One command: what comes of it, and the desk after it. All laws of a step hold; those of reading,
--- of hidden requests and of turns where the answer isn't `Unavailable`.
+-- a command as a step of the desk
+abbrev pub as_step : Settings → Ask → Desk → Outcome → Desk → Step
+as_step settings ask old outcome new =
+    record {
+      settings = settings;
+      at = ask.at;
+      caller = ask.caller;
+      command = ask.command;
+      outcome = outcome;
+      old = old;
+      new = new;
+    }
+
+-- One command: what comes of it, and the desk after it. All laws of a step hold, those of reading
+-- and of hidden requests where the answer isn't `Unavailable`.
 pub record IsStep (settings : Settings) (ask : Ask) (old : Desk) (outcome : Outcome) (new : Desk) :
     Type 0 where
   pub step : Steps settings ask.at ask.caller ask.command old outcome new
-  pub formed : IsDesk new
-  pub known : KnownLaw settings old new
-  pub status : StatusLaw settings ask.caller ask.command old new
-  pub dependency : DependencyLaw settings old new
-  pub due : IfOk outcome (DueLaw settings old)
-  pub owner : OwnerLaw settings ask.caller ask.command old new
-  pub persons : WatchLaw settings ask.caller ask.command old new
-  pub filing : FilingLaw settings ask.at ask.caller ask.command old new
-  pub turn : outcome ≢ Err Unavailable
-      → TurnLaw settings ask.at ask.caller ask.command old new
-  pub history : HistoryLaw old new
-  pub small : IsSmall settings ask.caller old (view settings ask.caller old)
-  pub view : outcome ≢ Err Unavailable
-      → ViewLaw settings ask.at ask.caller ask.command old outcome
-  pub hidden : outcome ≢ Err Unavailable
-      → HiddenLaw settings ask.at ask.caller ask.command old outcome
+  pub laws : IsLawful (as_step settings ask old outcome new)
 
 -- whatever desk the tables stand for before a call, with its due moments, afterwards they stand for
 -- one to which `Leads` leads from it, with its own, and which is well formed as well

@@ -1,14 +1,14 @@
 -- Values under their names.
 use Rattle.std.proofs.Common.{◌≡◌, ℕ, Bool, true, false, cond, List, [], ◌∷◌, ◌++◌}
-use Rattle.std.proofs.Common.{Option, Some, find, refl, sym, subst, append-nil, if◌then◌else◌}
+use Rattle.std.proofs.Common.{Option, Some, None, find, refl, sym, subst, ap, append-nil}
+use Rattle.std.proofs.Common.{if◌then◌else◌}
 use Rattle.std.specs.Option.{option_map}
 use Rattle.std.specs.Str.{bytes_eq}
-use Rattle.hours_core.specs.Calendar.{HasHours}
 use Rattle.hours_core.specs.Hours.{Hours}
-use Rattle.hours_core.specs.declared.calendar.Calendar.{Calendar}
-use Rattle.settings_core.specs.Calendars.{HaveHours, HasHoursIfAny}
+use Rattle.settings_core.specs.Calendars.{HasHoursIfAny, HasOpening, HaveHours}
 use Rattle.settings_core.specs.Named.{under}
 use Rattle.settings_core.specs.Stated.{Have}
+use Rattle.settings_core.specs.declared.calendars.Opening.{Opening}
 use Rattle.settings_core.specs.declared.named.Named.{Named}
 
 -- one more at the end
@@ -52,27 +52,57 @@ alike (v ∷ vs) (p ∷ ps) all =
     let here : v ≡ p = named v.name p.name v.value p.value all.0 all.1 in
     let rest = alike vs ps all.2 in cc
 
-either : (b : Bool) (c : Named Calendar) (h : Named Hours) (found : Option (Named Calendar))
-    (stated : Option (Named Hours))
-    → HasHours c.value h.value
-    → HasHoursIfAny (option_map (λ x. x.value) found) (option_map (λ x. x.value) stated)
-    → HasHoursIfAny (option_map (λ x. x.value) (cond b (Some c) found))
-    (option_map (λ x. x.value) (cond b (Some h) stated))
-either true c h found stated here rest = here
-either false c h found stated here rest = rest
+-- there are both or neither, and the value has the parts
+abbrev pub HasIfAny : {V P : Type 0} → (V → P → Type 0) → Option V → Option P → Type 0
+HasIfAny has None None = Unit {0}
+HasIfAny has (Some v) (Some p) = has v p
+HasIfAny _ _ _ = ⊥
+
+either : {V P : Type 0} (has : V → P → Type 0) (b : Bool) (v : Named V) (p : Named P)
+    (found : Option (Named V)) (stated : Option (Named P))
+    → has v.value p.value
+    → HasIfAny has (option_map (λ x. x.value) found) (option_map (λ x. x.value) stated)
+    → HasIfAny has (option_map (λ x. x.value) (cond b (Some v) found))
+    (option_map (λ x. x.value) (cond b (Some p) stated))
+either has true v p found stated here rest = here
+either has false v p found stated here rest = rest
 
 -- so the look-ups by a name agree
-pub found_under : (name : List ℕ) (cs : List (Named Calendar)) (hs : List (Named Hours))
-    → HaveHours cs hs
-    → HasHoursIfAny (under name cs) (under name hs)
-found_under name [] [] all = tt
-found_under name [] (h ∷ hs) all = absurd all
-found_under name (c ∷ cs) [] all = absurd all
-found_under name (c ∷ cs) (h ∷ hs) all =
+found_under : {V P : Type 0} (has : V → P → Type 0) (name : List ℕ) (vs : List (Named V))
+    (ps : List (Named P))
+    → Have has vs ps → HasIfAny has (under name vs) (under name ps)
+found_under has name [] [] all = tt
+found_under has name [] (p ∷ ps) all = absurd all
+found_under has name (v ∷ vs) [] all = absurd all
+found_under has name (v ∷ vs) (p ∷ ps) all =
     let P : List ℕ → Type 0 =
-    λ n. HasHoursIfAny
+    λ n. HasIfAny has
     (option_map (λ x. x.value)
-    (cond (bytes_eq c.name name) (Some c) (find (λ x. bytes_eq x.name name) cs)))
+    (cond (bytes_eq v.name name) (Some v) (find (λ x. bytes_eq x.name name) vs)))
     (option_map (λ x. x.value)
-    (cond (bytes_eq n name) (Some h) (find (λ x. bytes_eq x.name name) hs))) in
-    subst P all.0 (either (bytes_eq c.name name) c h _ _ all.1 (found_under name cs hs all.2))
+    (cond (bytes_eq n name) (Some p) (find (λ x. bytes_eq x.name name) ps))) in
+    subst P all.0 (either has (bytes_eq v.name name) v p _ _ all.1 (found_under has name vs ps all.2))
+
+hours_found : (found : Option Opening) (stated : Option Hours) → HasIfAny HasOpening found stated
+    → HasHoursIfAny (option_map (λ o. o.calendar) found) stated
+hours_found None None both = tt
+hours_found (Some o) (Some h) both = both.0
+hours_found None (Some h) both = absurd both
+hours_found (Some o) None both = absurd both
+
+zone_found : (found : Option Opening) (stated : Option Hours) → HasIfAny HasOpening found stated
+    → option_map (λ o. o.zone) found ≡ option_map (λ h. h.zone) stated
+zone_found None None both = refl
+zone_found (Some o) (Some h) both = ap Some both.1
+zone_found None (Some h) both = absurd both
+zone_found (Some o) None both = absurd both
+
+pub hours_under : (name : List ℕ) (os : List (Named Opening)) (hs : List (Named Hours))
+    → HaveHours os hs
+    → HasHoursIfAny (option_map (λ o. o.calendar) (under name os)) (under name hs)
+hours_under name os hs all = hours_found _ _ (found_under HasOpening name os hs all)
+
+pub zones_under : (name : List ℕ) (os : List (Named Opening)) (hs : List (Named Hours))
+    → HaveHours os hs
+    → option_map (λ o. o.zone) (under name os) ≡ option_map (λ h. h.zone) (under name hs)
+zones_under name os hs all = zone_found _ _ (found_under HasOpening name os hs all)

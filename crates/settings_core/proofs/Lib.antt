@@ -1,6 +1,8 @@
+mod Examples
 pub mod Built
 pub mod Empty
 pub mod Faults
 pub mod Found
+pub mod Gathered
 pub mod Sound
 pub mod Zones

@@ -12,6 +12,7 @@ use Rattle.hours_core.specs.declared.fault.HoursFault.{HoursFault}
 use Rattle.settings_parts.specs.CalendarParts.{StatedHours, hours_of}
 use Rattle.settings_parts.specs.Values.{table_at}
 use Rattle.settings_core.specs.Stated.{Have, fault_in, with_standard}
+use Rattle.settings_core.specs.declared.calendars.Opening.{Opening}
 use Rattle.settings_core.specs.declared.fault.SettingsFault.{SettingsFault}
 use Rattle.settings_core.specs.declared.fault.SettingsFault.TheVariants.{Hours as InHours}
 use Rattle.settings_core.specs.declared.named.Named.{Named}
@@ -66,16 +67,20 @@ calendars_of ms = with_standard table_hours standard_hours (calendar_tables ms)
 abbrev pub calendars_fault : Members → Option SettingsFault
 calendars_fault ms = fault_in table_fault (calendar_tables ms)
 
+-- the calendar has these opening hours, and the zone is theirs
+abbrev pub HasOpening : Opening → Hours → Type 0
+HasOpening opening hours = HasHours opening.calendar hours × (opening.zone ≡ hours.zone)
+
 -- there are both or neither, and the calendar has these opening hours
 abbrev pub HasHoursIfAny : Option Calendar → Option Hours → Type 0
 HasHoursIfAny None None = Unit {0}
 HasHoursIfAny (Some calendar) (Some hours) = HasHours calendar hours
 HasHoursIfAny _ _ = ⊥
 
--- one by one the calendars have these names and opening hours
-abbrev pub HaveHours : List (Named Calendar) → List (Named Hours) → Type 0
-HaveHours = Have HasHours
+-- one by one the calendars have these names, opening hours and zones
+abbrev pub HaveHours : List (Named Opening) → List (Named Hours) → Type 0
+HaveHours = Have HasOpening
 
--- a calendar of the opening hours that were stated, which have no fault
-abbrev pub IsCalendarOf : StatedHours → Calendar → Type 0
-IsCalendarOf stated calendar = (hours_fault stated ≡ None) × HasHours calendar (hours_by stated)
+-- a calendar of the opening hours that were stated, which have no fault, with its zone
+abbrev pub IsOpeningOf : StatedHours → Opening → Type 0
+IsOpeningOf stated opening = (hours_fault stated ≡ None) × HasOpening opening (hours_by stated)

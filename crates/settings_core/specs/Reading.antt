@@ -16,8 +16,9 @@ use Rattle.settings_core.specs.Levels.{have_limits, levels_of}
 use Rattle.settings_core.specs.Lifecycles.{lifecycles_fault, lifecycles_of}
 use Rattle.settings_core.specs.Named.{under}
 use Rattle.settings_core.specs.Names.{knows_names}
-use Rattle.settings_core.specs.Settings.{people_of, lifecycle_named, calendar_named, level_named}
-use Rattle.settings_core.specs.Settings.{person_of_token, request_limit, entry_limit}
+use Rattle.settings_core.specs.Settings.{people_of, lifecycle_named, calendar_named, zone_named}
+use Rattle.settings_core.specs.Settings.{level_named, person_of_token, request_limit}
+use Rattle.settings_core.specs.Settings.{entry_limit}
 use Rattle.settings_core.specs.Tokens.{is_token, person_under}
 use Rattle.settings_core.specs.declared.fault.SettingsFault.{SettingsFault}
 use Rattle.settings_core.specs.declared.fault.SettingsFault.TheVariants.{NotToml, Rights}
@@ -73,6 +74,8 @@ pub record IsStated (ms : Members) (settings : Settings) : Type 0 where
       → lifecycle_named settings name ≡ under name (lifecycles_of ms)
   pub calendars : (name : List ℕ)
       → HasHoursIfAny (calendar_named settings name) (under name (calendars_of ms))
+  pub zones : (name : List ℕ)
+      → zone_named settings name ≡ option_map (λ h. h.zone) (under name (calendars_of ms))
   pub levels : (name : List ℕ) → level_named settings name ≡ under name (levels_of ms)
   pub tokens : (token : List ℕ) → person_of_token settings token ≡ person_under token (tokens_of ms)
   pub requests : request_limit settings ≡ count_at (codes "max_requests") 1000000 ms

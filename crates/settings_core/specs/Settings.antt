@@ -1,5 +1,7 @@
 -- What settings say. Contracts above speak of settings by these words alone.
 use Rattle.std.specs.Prelude.{ℕ, Bool, List, Option}
+use Rattle.std.specs.Option.{option_map}
+use Rattle.hours_core.specs.Zone.{Offsets}
 use Rattle.hours_core.specs.declared.calendar.Calendar.{Calendar}
 use Rattle.hours_core.specs.declared.level.Level.{Level}
 use Rattle.lifecycle_core.specs.declared.parts.Parts.{Parts}
@@ -32,7 +34,11 @@ levels_of settings = settings.levels
 
 -- the calendar of that name, if there is one
 abbrev pub calendar_named : Settings → List ℕ → Option Calendar
-calendar_named settings name = under name settings.calendars
+calendar_named settings name = option_map (λ o. o.calendar) (under name settings.calendars)
+
+-- the zone of the calendar of that name, if there is one
+abbrev pub zone_named : Settings → List ℕ → Option Offsets
+zone_named settings name = option_map (λ o. o.zone) (under name settings.calendars)
 
 -- the level of that name, if there is one
 abbrev pub level_named : Settings → List ℕ → Option Level

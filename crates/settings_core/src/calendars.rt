@@ -1,7 +1,6 @@
-//! The calendars of a settings text.
+//! The calendars of a settings text, and their zones.
 
 ghost use Rattle.std.specs.Prelude.{◌≡◌, ◌≢◌, Some, IfOk, IfErr, Ok, Err};
-ghost use Rattle.hours_core.specs.Calendar.{HasHours};
 ghost use Rattle.hours_core.specs.Hours.{Hours};
 ghost use Rattle.hours_core.specs.declared.fault.HoursFault.TheVariants.{NoMemory};
 ghost use Rattle.settings_parts.specs.CalendarParts.{hours_stated};
@@ -14,38 +13,47 @@ use settings_parts::calendar::{CalendarParts, YEARS, calendar_of};
 use std::alloc::{AllocError, Global};
 use toml::Table;
 
-impl Stated for Calendar {
+/// A calendar, and the zone that its hours were given in.
+#[derive(Drop)]
+pub struct Opening {
+    pub calendar: Calendar,
+    pub zone: Zone,
+}
+
+impl Stated for Opening {
     ghost Parts = { Hours };
 
     ghost parts_of = { spec.table_hours };
 
     ghost fault_of = { spec.table_fault };
 
-    ghost has = { HasHours };
+    ghost has = { spec.HasOpening };
 
     ghost standard_parts = { spec.standard_hours };
 
-    fn read(alloc: Global, table: &Table) -> Result<Calendar, SettingsFault> {
-        let calendar = calendar_from(alloc, &calendar_of(alloc, table)?)?;
-        Ok(calendar)
+    fn read(alloc: Global, table: &Table) -> Result<Opening, SettingsFault> {
+        let opening = opening_from(alloc, &calendar_of(alloc, table)?)?;
+        Ok(opening)
     }
 
     /// Monday to Friday from 09:00 to 18:00 UTC, from 2000 to 2099.
-    fn standard(alloc: Global) -> Result<Calendar, SettingsFault> {
-        let calendar = calendar_from(alloc, &standard_parts(alloc)?)?;
-        Ok(calendar)
+    fn standard(alloc: Global) -> Result<Opening, SettingsFault> {
+        let opening = opening_from(alloc, &standard_parts(alloc)?)?;
+        Ok(opening)
     }
 }
 
-/// The calendar of its parts, or their least fault, that of the zone first.
-fn calendar_from(alloc: Global, parts: &CalendarParts) -> Result<Calendar, HoursFault>
-    ensures ok { IfOk result (spec.IsCalendarOf (hours_stated parts.now)) }
+/// The calendar of its parts with its zone, or their least fault, that of the zone first.
+fn opening_from(alloc: Global, parts: &CalendarParts) -> Result<Opening, HoursFault>
+    ensures ok { IfOk result (spec.IsOpeningOf (hours_stated parts.now)) }
     ensures err { IfErr result (λ e. e ≢ NoMemory
         → spec.hours_fault (hours_stated parts.now) ≡ Some e) }
 {
     let zone = zone_of(alloc, parts)?;
+    let given = zone.copied(alloc)?;
     let holidays = parts.holidays.as_slice();
-    Calendar::build(alloc, zone, &parts.week, holidays, parts.years)
+    let calendar = Calendar::build(alloc, given, &parts.week, holidays, parts.years)?;
+    Ok(Opening { calendar, zone })
 }
 
 /// The zone of the rule, or of the offset and the changes where there is no rule.

@@ -9,8 +9,9 @@
 //! their like give the named part, and `SettingsFault::inner` the fault inside another.
 #![tactic(auto)]
 
-mod calendars;
+pub mod calendars;
 mod fault;
+mod known;
 pub mod laws;
 mod levels;
 mod lifecycles;

@@ -1,39 +1,48 @@
 //! Whether the names of a settings text are known.
 
-ghost use Rattle.std.specs.Prelude.{◌≡◌};
-ghost use Rattle.std.specs.List.{list_all, list_any};
+ghost use Rattle.std.specs.Prelude.{◌≡◌, ◌||◌, IfOk};
+ghost use Rattle.std.specs.HashSet.{contains_text};
+ghost use Rattle.std.specs.List.{list_all};
 ghost use Rattle.toml.specs.View.{table_view};
-ghost use Rattle.lifecycle_core.specs.Lifecycle.{names_right};
+ghost use Rattle.rights_core.specs.Right.{standard_rights};
+ghost use Rattle.text_core.specs.Texts.{is_among};
 ghost use Rattle.settings_core.specs.Names as spec;
 
+use crate::known::{Names, rights_of, statuses_of};
 use crate::named::{Named, STANDARD};
 use hours_core::Level;
 use lifecycle_core::Lifecycle;
 use rights_core::{Grant, People, right};
 use settings_parts::people::Token;
 use settings_parts::values::{has_key, table_at};
-use text_core::Texts;
+use std::alloc::{AllocError, Global};
+use text_core::Text;
 use toml::Table;
 
 /// Whether each granted right is standard or named in the rights of a lifecycle.
-pub fn knows_rights(lifecycles: &[Named<Lifecycle>], grants: &[Grant]) -> bool
-    ensures { result ≡ spec.knows_rights lifecycles.now grants.now }
+pub fn knows_rights(
+    alloc: Global,
+    lifecycles: &[Named<Lifecycle>],
+    grants: &[Grant],
+) -> Result<bool, AllocError>
+    ensures { IfOk result (λ knows. knows ≡ spec.knows_rights lifecycles.now grants.now) }
 {
-    grants
-        .iter()
-        .all(|g| knows_right(lifecycles, g.right.as_str()))
+    let named = rights_of(alloc, lifecycles)?;
+    Ok(are_known(&named, grants))
 }
 
-fn knows_right(lifecycles: &[Named<Lifecycle>], right: &str) -> bool
-    ensures { result ≡ spec.knows_right lifecycles.now right.now }
+/// Whether each granted right is standard or one of these.
+fn are_known(named: &Names, grants: &[Grant]) -> bool
+    ensures { result ≡ list_all (λ g. is_among standard_rights g.right
+        || contains_text named.now g.right) grants.now }
 {
-    right::is_standard(right) || name_right(lifecycles, right)
+    grants.iter().all(|g| is_known(named, g.right.as_str()))
 }
 
-fn name_right(lifecycles: &[Named<Lifecycle>], right: &str) -> bool
-    ensures { result ≡ list_any (λ l. names_right l.value right.now) lifecycles.now }
+fn is_known(named: &Names, right: &str) -> bool
+    ensures { result ≡ (is_among standard_rights right.now || contains_text named.now right.now) }
 {
-    lifecycles.iter().any(|l| l.value.names_right(right))
+    right::is_standard(right) || named.contains(right)
 }
 
 /// Whether the calendar of each level is one of the text's, or the calendar `default`.
@@ -61,27 +70,31 @@ fn has_calendar(table: &Table, name: &str) -> bool
 }
 
 /// Whether each status that a level ignores is one of some lifecycle.
-pub fn knows_ignored(lifecycles: &[Named<Lifecycle>], levels: &[Named<Level>]) -> bool
-    ensures { result ≡ spec.knows_ignored lifecycles.now levels.now }
+pub fn knows_ignored(
+    alloc: Global,
+    lifecycles: &[Named<Lifecycle>],
+    levels: &[Named<Level>],
+) -> Result<bool, AllocError>
+    ensures { IfOk result (λ knows. knows ≡ spec.knows_ignored lifecycles.now levels.now) }
+{
+    let statuses = statuses_of(alloc, lifecycles)?;
+    Ok(ignore_these(&statuses, levels))
+}
+
+/// Whether levels ignore no other statuses than these.
+fn ignore_these(statuses: &Names, levels: &[Named<Level>]) -> bool
+    ensures { result
+        ≡ list_all (λ l. list_all (contains_text statuses.now) l.value.ignore) levels.now }
 {
     levels
         .iter()
-        .all(|l| knows_statuses(lifecycles, &l.value.ignore))
+        .all(|l| has_all(statuses, l.value.ignore.as_slice()))
 }
 
-fn knows_statuses(lifecycles: &[Named<Lifecycle>], statuses: &Texts) -> bool
-    ensures { result ≡ list_all (spec.knows_status lifecycles.now) statuses.now }
+fn has_all(names: &Names, texts: &[Text]) -> bool
+    ensures { result ≡ list_all (contains_text names.now) texts.now }
 {
-    statuses
-        .as_slice()
-        .iter()
-        .all(|s| knows_status(lifecycles, s.as_str()))
-}
-
-fn knows_status(lifecycles: &[Named<Lifecycle>], status: &str) -> bool
-    ensures { result ≡ spec.knows_status lifecycles.now status.now }
-{
-    lifecycles.iter().any(|l| l.value.class(status).is_some())
+    texts.iter().all(|t| names.contains(t.as_str()))
 }
 
 /// Whether the person of each token is known.

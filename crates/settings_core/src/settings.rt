@@ -10,6 +10,7 @@ ghost use Rattle.settings_core.specs.Reading.{IsSettingsOf, IsFaultOf, IsStated}
 ghost use Rattle.settings_core.specs.Settings as words;
 ghost use Rattle.settings_core.specs.declared.fault.SettingsFault.TheVariants.{NoMemory};
 
+use crate::calendars::Opening;
 use crate::fault::SettingsFault;
 use crate::levels::levels_of;
 use crate::limits::{MAX_ENTRIES, MAX_REQUESTS, count_at, has_limits};
@@ -18,21 +19,22 @@ use crate::names::{knows_calendars, knows_ignored, knows_persons, knows_rights};
 use crate::people::people_of;
 use crate::stated::stated_at;
 use crate::tokens::are_tokens;
-use hours_core::{Calendar, Level};
+use hours_core::{Calendar, Level, Zone};
 use lifecycle_core::Lifecycle;
 use rights_core::People;
 use settings_form::text::table_of;
 use settings_parts::people::{Token, tokens_of};
-use std::alloc::Global;
+use std::alloc::{AllocError, Global};
 use text_core::Sequence;
 use toml::Table;
 
-/// The people, the lifecycles, the calendars, the levels, the tokens and the limits of a desk.
+/// The people, the lifecycles, the calendars with their zones, the levels, the tokens and the limits
+/// of a desk.
 #[derive(Drop)]
 pub struct Settings {
     people: People,
     lifecycles: Sequence<Named<Lifecycle>>,
-    calendars: Sequence<Named<Calendar>>,
+    calendars: Sequence<Named<Opening>>,
     levels: Sequence<Named<Level>>,
     tokens: Sequence<Token>,
     max_requests: u32,
@@ -87,7 +89,15 @@ impl Settings {
     pub fn calendar(&self, name: &str) -> Option<&Calendar>
         ensures { option_map (λ c. c.now) result ≡ words.calendar_named self.now name.now }
     {
-        Named::find(self.calendars.as_slice(), name)
+        Named::find(self.calendars.as_slice(), name).map(|opening| &opening.calendar)
+    }
+
+    /// The zone that the hours of the calendar of this name were given in, if there is one. Takes
+    /// no memory.
+    pub fn zone(&self, name: &str) -> Option<&Zone>
+        ensures { option_map (λ z. z.now) result ≡ words.zone_named self.now name.now }
+    {
+        Named::find(self.calendars.as_slice(), name).map(|opening| &opening.zone)
     }
 
     /// The level of this name, if there is one.
@@ -138,7 +148,8 @@ fn stated(alloc: Global, table: &Table) -> Result<Settings, SettingsFault>
         → spec.table_fault (table_view table.now) ≡ Some e) }
 {
     let settings = built(alloc, table)?;
-    match late_fault(table, &settings) {
+    let fault = late_fault(alloc, table, &settings)?;
+    match fault {
         Some(fault) => Err(fault),
         None => Ok(settings),
     }
@@ -169,11 +180,15 @@ fn built(alloc: Global, table: &Table) -> Result<Settings, SettingsFault>
 }
 
 /// The least fault of names, tokens and limits.
-fn late_fault(table: &Table, settings: &Settings) -> Option<SettingsFault>
+fn late_fault(
+    alloc: Global,
+    table: &Table,
+    settings: &Settings,
+) -> Result<Option<SettingsFault>, AllocError>
     requires { IsBuilt (table_view table.now) settings.now }
-    ensures { result ≡ spec.late_fault (table_view table.now) }
+    ensures { IfOk result (λ fault. fault ≡ spec.late_fault (table_view table.now)) }
 {
-    if !knows_names(table, settings) {
+    let fault = if !knows_names(alloc, table, settings)? {
         Some(SettingsFault::UnknownName)
     } else if !are_tokens(settings.tokens.as_slice()) {
         Some(SettingsFault::BadToken)
@@ -181,17 +196,23 @@ fn late_fault(table: &Table, settings: &Settings) -> Option<SettingsFault>
         Some(SettingsFault::BadLimit)
     } else {
         None
-    }
+    };
+    Ok(fault)
 }
 
 /// Whether granted rights, the levels' calendars and statuses, and the tokens' persons are known.
-fn knows_names(table: &Table, settings: &Settings) -> bool
+fn knows_names(alloc: Global, table: &Table, settings: &Settings) -> Result<bool, AllocError>
     requires { IsBuilt (table_view table.now) settings.now }
-    ensures { result ≡ knows_names_in (table_view table.now) }
+    ensures { IfOk result (λ knows. knows ≡ knows_names_in (table_view table.now)) }
 {
-    let grants = settings.people.parts().grants.as_slice();
-    knows_rights(settings.lifecycles.as_slice(), grants)
-        && knows_calendars(table, settings.levels.as_slice())
-        && knows_ignored(settings.lifecycles.as_slice(), settings.levels.as_slice())
-        && knows_persons(&settings.people, settings.tokens.as_slice())
+    let lifecycles = settings.lifecycles.as_slice();
+    let levels = settings.levels.as_slice();
+    let rights = knows_rights(alloc, lifecycles, settings.people.parts().grants.as_slice())?;
+    let ignored = knows_ignored(alloc, lifecycles, levels)?;
+    Ok(
+        rights
+            && knows_calendars(table, levels)
+            && ignored
+            && knows_persons(&settings.people, settings.tokens.as_slice()),
+    )
 }

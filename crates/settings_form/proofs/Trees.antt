@@ -8,12 +8,6 @@ use Rattle.toml.specs.View.{items_view, members_view}
 use Rattle.settings_form.specs.declared.form.Place.{Place}
 use Rattle.settings_form.specs.Kinds.{has_unknown_key, is_unknown, two_of}
 
-pub unknown_keys : (p : Place) (es : List (String Global × Value))
-    → list_any (λ k. is_unknown p (string_bytes k)) (keys_of es)
-    ≡ has_unknown_key p (members_view es)
-unknown_keys p [] = refl
-unknown_keys p (e ∷ es) = rw (unknown_keys p es)
-
 pub not_two : (vs : List Value) → length vs ≢ 2 → None ≡ two_of (items_view vs)
 not_two [] h = refl
 not_two (v ∷ []) h = refl

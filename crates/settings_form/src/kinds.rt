@@ -1,8 +1,6 @@
 //! Whether a value is of the kind that its key asks for.
 
-ghost use Rattle.std.specs.Prelude.{◌≡◌, string_bytes, option_map, map};
-ghost use Rattle.std.specs.List.{list_any};
-ghost use Rattle.std.specs.BTreeMap.{keys as map_keys};
+ghost use Rattle.std.specs.Prelude.{◌≡◌, option_map, map};
 ghost use Rattle.toml.specs.Data.{get_member};
 ghost use Rattle.toml.specs.View.{view, array_view, table_view};
 ghost use Rattle.settings_form.specs.Form as form;
@@ -117,7 +115,8 @@ fn is_key(keys: Keys, key: &str) -> bool
     }
 }
 
-fn is_right_at(place: Place, key: &str, value: &Value) -> bool
+/// Whether a key of the place is of its form, and its value of its kind.
+pub(crate) fn is_right_at(place: Place, key: &str, value: &Value) -> bool
     ensures { result ≡ kinds.is_right_at place key.now (view value.now) }
 {
     is_key(keys_at(place), key)
@@ -127,22 +126,6 @@ fn is_right_at(place: Place, key: &str, value: &Value) -> bool
         }
 }
 
-fn has_any_unknown(place: Place, table: &Table) -> bool
-    ensures { result
-        ≡ list_any (λ k. kinds.is_unknown place (string_bytes k)) (map_keys table.now) }
-{
-    table
-        .keys()
-        .any(|key| kind_of(place, key.as_str()).is_none())
-}
-
-/// Whether a table of the place has a key that its form does not have.
-pub fn has_unknown_key(place: Place, table: &Table) -> bool
-    ensures { result ≡ kinds.has_unknown_key place (table_view table.now) }
-{
-    has_any_unknown(place, table)
-}
-
 /// The value at a key.
 pub fn value_at<'a>(table: &'a Table, key: &str) -> Option<&'a Value>
     ensures { option_map (λ v. view v.now) result ≡ get_member key.now (table_view table.now) }
@@ -150,24 +133,15 @@ pub fn value_at<'a>(table: &'a Table, key: &str) -> Option<&'a Value>
     table.get(key)
 }
 
-fn lacks(table: &Table, key: &str) -> bool
+/// Whether a table lacks the key.
+pub(crate) fn lacks(table: &Table, key: &str) -> bool
     ensures { result ≡ kinds.lacks_at key.now (table_view table.now) }
 {
     value_at(table, key).is_none()
 }
 
-fn lacks_one(rows: &[Row], table: &Table) -> bool
-    ensures { result ≡ kinds.lacks_one (map form.field_of rows.now) (table_view table.now) }
-{
-    for row in rows {
-        if row.is_required && lacks(table, row.key) {
-            return true;
-        }
-    }
-    false
-}
-
-fn lacks_all(rows: &[Row], table: &Table) -> bool
+/// Whether a table lacks each of the keys.
+pub(crate) fn lacks_all(rows: &[Row], table: &Table) -> bool
     ensures { result ≡ kinds.lacks_all (map form.field_of rows.now) (table_view table.now) }
 {
     for row in rows {
@@ -176,29 +150,6 @@ fn lacks_all(rows: &[Row], table: &Table) -> bool
         }
     }
     true
-}
-
-/// Whether a table of the place lacks a key that it must have.
-pub fn lacks_key(place: Place, table: &Table) -> bool
-    ensures { result ≡ kinds.lacks_key place (table_view table.now) }
-{
-    match keys_at(place) {
-        Keys::Listed(rows) => lacks_one(rows, table),
-        Keys::OneOf(rows) => lacks_all(rows, table),
-        Keys::Free(_, _) => false,
-    }
-}
-
-/// Whether a table of the place has a value of another kind, or a key of another form.
-pub fn has_wrong_kind(place: Place, table: &Table) -> bool
-    ensures { result ≡ kinds.has_wrong_kind place (table_view table.now) }
-{
-    for (key, value) in table.iter() {
-        if !is_right_at(place, key.as_str(), value) {
-            return true;
-        }
-    }
-    false
 }
 
 fn has_at_key(table: &Table, key: &str) -> bool

@@ -8,6 +8,7 @@
 pub mod fault;
 pub mod form;
 pub mod grantee;
+pub mod keys;
 pub mod kinds;
 pub mod text;
 pub mod text_forms;

@@ -1,2 +1,3 @@
+mod Examples
 pub mod Restored
 pub mod Right

@@ -1,2 +1,3 @@
 pub mod PlacedLemmas
+pub mod Rising
 pub mod SortedLemmas

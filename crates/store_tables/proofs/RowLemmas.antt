@@ -183,6 +183,13 @@ Asked Same ReadsRow IsValue values text params old new r = record {
   leaves : Leaves old new r;
 }
 
+-- of rows that are asked for by a function of their own
+pub told_of : {X Y : Type 0} {ReadsRow : Row → Y → Type 0} {IsValue : Row → Type 0}
+    {values : X → List Y} {text : List ℕ} {params : Row} {old new : State} {r : Result X StoreFault}
+    → ReadsRows ReadsRow IsValue values text params old new r → Leaves old new r
+    → Asked (Unit {0}) ReadsRow IsValue values text params old new r
+told_of read leaves = record { same = tt; read = read; leaves = leaves }
+
 -- What is answered is so of whatever the tables hold, a mismatch comes of a row of the table whose
 -- columns are no value, and all tables are left.
 pub record Found {X : Type 0} (P : Contents → X → Type 0) (tree : ℕ) (terms : List Term)

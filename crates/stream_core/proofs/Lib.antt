@@ -1,2 +1,3 @@
+mod Examples
 pub mod ReaderLemmas
 pub mod WriterLemmas

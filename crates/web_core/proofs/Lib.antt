@@ -1,5 +1,4 @@
-pub mod Found
-pub mod FramingLemmas
+pub mod NoteLemmas
 pub mod RunLemmas
 pub mod StepLemmas
 pub mod Unavailable

@@ -1,11 +1,12 @@
 -- A run of message steps is a run of messages.
-use Rattle.std.proofs.Common.{◌≡◌, ℕ, Bool, List, [], ◌∷◌, Result, Ok, Err, refl, sym, subst}
+use Rattle.std.proofs.Common.{◌≡◌, ℕ, Bool, List, [], ◌∷◌, Option, Result, Ok, Err, refl, sym, subst}
 use Rattle.sqlite.specs.State.{State}
 use Rattle.settings_core.specs.declared.settings.Settings.{Settings}
 use Rattle.std.specs.Prelude.{IfOk}
 use Rattle.std.specs.declared.alloc.AllocError.{AllocError}
 use Rattle.connection_core.specs.Machine.{Conn}
-use Rattle.server_core.specs.Served.{Act, IsServed, Runs, Serves, answers}
+use Rattle.server_core.specs.Host.{Told}
+use Rattle.server_core.specs.Served.{IsServed, Runs, Serves, Turn, answers}
 use Rattle.server_core.specs.declared.ending.Ending.{Ending}
 use Rattle.server_core.specs.Turns.{Answered}
 use Rattle.store_tables.specs.Calls.{WasClean}
@@ -17,16 +18,16 @@ IsRun {D} settings_in tables_in answers old new =
     × WasClean (tables_in old) (tables_in new)
 
 runs_both : {D : Type 0} (settings_in : D → Settings) (tables_in : D → State)
-    (answers : List Answered) (old new : D)
-    → Runs (λ a at message reply b. StepsAt (settings_in a) (tables_in a) at message reply (tables_in b)
-    × (settings_in b ≡ settings_in a)) answers old new
+    (Notes : D → Answered → D → Type 0) (answers : List Answered) (old new : D)
+    → Runs (λ a m b. StepsAt (settings_in a) (tables_in a) m (tables_in b)
+    × (settings_in b ≡ settings_in a) × Notes a m b) answers old new
     → IsRun settings_in tables_in answers old new
-runs_both {D} settings_in tables_in [] old new same =
+runs_both {D} settings_in tables_in Notes [] old new same =
     let stays : IsRun settings_in tables_in [] old old =
     ((λ desk is stands clean. (desk, (refl, is), stands)), λ clean. clean) in
     subst (λ (d : D). IsRun settings_in tables_in [] old d) (sym same) stays
-runs_both {D} settings_in tables_in (a ∷ rest) old new (mid, (step, same), runs) =
-    let others = runs_both settings_in tables_in rest mid new runs in
+runs_both {D} settings_in tables_in Notes (a ∷ rest) old new (mid, (step, same, noted), runs) =
+    let others = runs_both settings_in tables_in Notes rest mid new runs in
     let run =
     subst (λ (s : Settings). RunsAnswersOn s rest (tables_in mid) (tables_in new)) same
     others.0 in (
@@ -39,19 +40,21 @@ runs_both {D} settings_in tables_in (a ∷ rest) old new (mid, (step, same), run
 
 -- what a server has done is a run of messages
 pub served_messages : {D : Type 0} (settings_in : D → Settings) (tables_in : D → State)
-    (stated : List ℕ → ℕ) (shuts : D → Bool) (Failed : Type 0)
-    → ((acts : List Act) (olds news : List Conn) (desk next : D)
-    → Serves stated (λ a at message reply b. StepsAt (settings_in a) (tables_in a) at message reply (tables_in b)
-    × (settings_in b ≡ settings_in a)) shuts acts olds desk news next
-    → Runs (λ a at message reply b. StepsAt (settings_in a) (tables_in a) at message reply (tables_in b)
-    × (settings_in b ≡ settings_in a)) (answers acts) desk next)
+    (States : List ℕ → Option ℕ → Type 0) (Notes : D → Answered → D → Type 0) (shuts : D → Bool)
+    (told tells : Told)
+    → ((most : ℕ) (turns : List Turn) (olds news : List Conn) (desk next : D)
+    → Serves States (λ a m b. StepsAt (settings_in a) (tables_in a) m (tables_in b)
+    × (settings_in b ≡ settings_in a) × Notes a m b) shuts most turns olds desk news next
+    → Runs (λ a m b. StepsAt (settings_in a) (tables_in a) m (tables_in b)
+    × (settings_in b ≡ settings_in a) × Notes a m b) (answers turns) desk next)
     → (places most : ℕ) (old new : D) (r : Result Ending AllocError)
-    → IfOk r (λ ending. IsServed stated (λ a at message reply b. StepsAt (settings_in a) (tables_in a) at message reply (tables_in b)
-    × (settings_in b ≡ settings_in a)) shuts Failed places most old ending new)
+    → IfOk r (λ ending. IsServed States (λ a m b. StepsAt (settings_in a) (tables_in a) m (tables_in b)
+    × (settings_in b ≡ settings_in a) × Notes a m b) shuts told tells places most old ending new)
     → IfOk r (λ ending. RunsSome (settings_in old) (tables_in old) (tables_in new))
-served_messages settings_in tables_in stated shuts Failed law places most old new (Err e) served = tt
-served_messages settings_in tables_in stated shuts Failed law places most old new (Ok ending)
-    (news, count, (acts, serves, told), ends) =
+served_messages settings_in tables_in States Notes shuts told tells law places most old new (Err e) served =
+    tt
+served_messages settings_in tables_in States Notes shuts told tells law places most old new (Ok ending)
+    (news, count, turns, (ts, serves, answered, many, clock), ends) =
     let run =
-    runs_both settings_in tables_in (answers acts) old new (law acts _ news old new serves) in
-    (answers acts, run.0, run.1)
+    runs_both settings_in tables_in Notes (answers ts) old new (law most ts _ news old new serves) in
+    (answers ts, run.0, run.1)

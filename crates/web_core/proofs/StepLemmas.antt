@@ -1,5 +1,4 @@
 -- The step of a message, after which the tables are only looked at.
-use Rattle.std.proofs.Common.{ℕ, List}
 use Rattle.sqlite.specs.State.{State}
 use Rattle.settings_core.specs.declared.settings.Settings.{Settings}
 use Rattle.store_tables.specs.Calls.{Spares}
@@ -7,11 +6,12 @@ use Rattle.store_tables.specs.Contents.{contents_of}
 use Rattle.store_tables.proofs.Lasting.{on}
 use Rattle.store_tables.proofs.Spared.{stands}
 use Rattle.store_core.specs.Due.{due_of_row}
+use Rattle.server_core.specs.Turns.{Answered}
 use Rattle.web_core.specs.Messages.{StepsAt}
 
-pub step_spared : (s : Settings) (old mid new : State) (at : ℕ) (message reply : List ℕ)
-    → StepsAt s old at message reply mid → Spares mid new → StepsAt s old at message reply new
-step_spared s old mid new at message reply did kept = (
+pub step_spared : (s : Settings) (old mid new : State) (a : Answered)
+    → StepsAt s old a mid → Spares mid new → StepsAt s old a new
+step_spared s old mid new a did kept = (
   λ desk is stand clean.
       let it = did.0 desk is stand (kept.clean clean) in
       (it.0, it.1, stands kept (contents_of (due_of_row s it.0) it.0) it.2),

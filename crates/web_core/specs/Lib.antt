@@ -1,4 +1,4 @@
-pub mod Framing
 pub mod Messages
+pub mod Notes
 pub mod Shut
 pub mod Web

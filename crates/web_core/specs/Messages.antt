@@ -9,13 +9,13 @@ use Rattle.wire_core.specs.Runs.{Sent}
 use Rattle.page_wire.specs.Steps.{IsAnsweredOn, IsAnswerTo}
 use Rattle.server_core.specs.Turns.{Answered}
 
--- its step, in tables whose disk told of no fault that it now hides, under the same settings
-abbrev pub StepsAt : Settings → State → ℕ → List ℕ → List ℕ → State → Type 0
-StepsAt settings old minute message reply new =
-    IsAnsweredOn settings (minute, message) reply old new × WasClean old new × Lasts old new
-
 abbrev pub sent_of : Answered → Sent
 sent_of a = (a.at, a.message)
+
+-- its step, in tables whose disk told of no fault that it now hides, under the same settings
+abbrev pub StepsAt : Settings → State → Answered → State → Type 0
+StepsAt settings old a new =
+    IsAnsweredOn settings (sent_of a) a.reply old new × WasClean old new × Lasts old new
 
 -- one after the other, each from the desk that the message before left, and with its reply
 abbrev pub RunsAnswers : Settings → Desk → List Answered → Desk → Type 0

@@ -2,8 +2,9 @@
 ghost use Rattle.std.specs.Prelude.{◌≡◌, ◌≤◌, ◌+◌, ◌*◌, ℕ, List, replicate};
 ghost use Rattle.connection_core.specs.Machine.{Conn, closed};
 ghost use Rattle.server_core.specs.Held.{AllOf, IsAtMost, IsHeard, held};
-ghost use Rattle.server_core.specs.Served.{Act, Serves, answers};
-ghost use Rattle.web_core.specs.Framing as form;
+ghost use Rattle.server_core.specs.Served.{Serves, Turn, answers};
+ghost use Rattle.message_core.specs.Stated.{States};
+ghost use Rattle.message_core.specs.declared.limits.BodyLimit.TheVariants.{ByPlace};
 ghost use Rattle.web_core.specs.Web as web;
 
 use crate::desk::WebDesk;
@@ -12,10 +13,10 @@ use store_core::Backend;
 
 /// No more is held than 270,336 bytes of a message and those of the longest reply for each place.
 pub fn memory_law<S: Backend>()
-    ensures { (places most : ℕ) (acts : List Act) (news : List Conn) (desk next : _)
-        → Serves form.stated (web.Steps S.Store) (web.shuts S.Store) acts
+    ensures { (places most bytes : ℕ) (turns : List Turn) (news : List Conn) (desk next : _)
+        → Serves (States ByPlace) (web.Steps S.Store) (web.shuts S.Store) most turns
         (replicate places closed) desk news next
-        → AllOf (IsAtMost most) (answers acts) → held news ≤ places * (270336 + most) }
+        → AllOf (IsAtMost bytes) (answers turns) → held news ≤ places * (270336 + bytes) }
 {
     laws::memory_law::<WebDesk<S>>();
 }

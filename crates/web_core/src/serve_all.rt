@@ -2,7 +2,8 @@
 ghost use Rattle.std.specs.Prelude.{◌≡◌, true, IfOk, OnErr};
 ghost use Rattle.service_core.specs.Seen.{settings_of, tables_of};
 ghost use Rattle.server_core.specs.Served.{IsServed};
-ghost use Rattle.web_core.specs.Framing as form;
+ghost use Rattle.message_core.specs.Stated.{States};
+ghost use Rattle.message_core.specs.declared.limits.BodyLimit.TheVariants.{ByPlace};
 ghost use Rattle.web_core.specs.Messages.{RunsSome};
 ghost use Rattle.web_core.specs.Web as web;
 ghost use Rattle.web_core.specs.Shut.{IsShut};
@@ -17,9 +18,9 @@ use store_core::Backend;
 /// are then those after these messages, one after the other, each answered with the bytes that the
 /// abstract desk's step gives: a page's, or the interface's.
 ///
-/// It ends by `Counted` where it has answered as many as it was to, by `Network` only where an
-/// accept or a wait has failed, and by `Shut` only where the store is shut. `AllocError` where there
-/// is no memory for the places: then nothing is done.
+/// It ends by `Counted` where it has answered as many as it was to, by `Network` only where a wait
+/// has failed, or sixteen accepts in a row with no connection left, and by `Shut` only where the store
+/// is shut. `AllocError` where there is no memory for the places: then nothing is done.
 pub fn serve_web<H: Host, S: Backend>(
     alloc: Global,
     host: &mut H,
@@ -29,8 +30,8 @@ pub fn serve_web<H: Host, S: Backend>(
 ) -> Result<Ending, AllocError>
     ensures ran { IfOk result (λ ending. RunsSome (settings_of S.Store desk.old.desk)
         (tables_of S.Store desk.old.desk) (tables_of S.Store desk.new.desk)) }
-    ensures served { IfOk result (λ ending. IsServed form.stated (web.Steps S.Store)
-        (web.shuts S.Store) (H.has_failed host.new ≡ true) places most desk.old ending desk.new) }
+    ensures served { IfOk result (λ ending. IsServed (States ByPlace) (web.Steps S.Store)
+        (web.shuts S.Store) (H.told host.old) (H.told host.new) places most desk.old ending desk.new) }
     ensures shut { IfOk result (λ ending. ending ≡ Ending.Shut
         → IsShut (tables_of S.Store desk.new.desk)) }
     ensures err { OnErr result (desk.new ≡ desk.old) }

@@ -1,48 +1,54 @@
 //! A desk that answers messages over HTTP.
-ghost use Rattle.std.specs.Prelude.{◌≡◌};
+ghost use Rattle.std.specs.Prelude.{◌≡◌, ◌≢◌, Err};
 ghost use Rattle.connection_core.specs.Reply.{bytes_of};
+ghost use Rattle.page_wire.specs.Steps.{IsAnsweredOn, IsReadOf};
+ghost use Rattle.service_core.specs.Leaves.{LeavesDesk};
 ghost use Rattle.service_core.specs.Seen.{settings_of, tables_of};
-ghost use Rattle.web_core.specs.Messages.{StepsAt};
 
 use crate::desk::WebDesk;
-use crate::framing::stated;
+use crate::note::note_on;
 use crate::shut::is_shut_after;
 use connection_core::{Framing, Reply};
-use message_core::unavailable_reply;
-use page_wire::answer_bytes;
+use message_core::{BodyLimit, Request, WireFault, stated_body, unavailable_reply};
+use page_wire::{answer_sent, read_sent};
 use server_core;
+use server_core::Answer;
 use service_core::Desk;
 use std::alloc::Global;
 use store_core::Backend;
 use wire_core::Routes;
 
-/// The reply to a message, after its step. Where memory is refused nothing is done, and it says so.
+/// The reply to what was read of this message, after its step. Where memory is refused nothing is
+/// done, and the reply says so.
 fn answer_to<S: Backend>(
     alloc: Global,
     routes: Option<&Routes>,
     minute: u32,
-    message: &[u8],
+    _message: &[u8],
+    read: &Result<Request, WireFault>,
     desk: &mut Desk<S>,
 ) -> Reply
-    ensures step { StepsAt (settings_of S.Store desk.old) (tables_of S.Store desk.old) minute
-        message.now (bytes_of result) (tables_of S.Store desk.new) }
-    ensures same { settings_of S.Store desk.new ≡ settings_of S.Store desk.old }
+    requires { read.now ≢ Err WireFault.NoMemory → IsReadOf _message.now read.now }
+    ensures step { IsAnsweredOn (settings_of S.Store desk.old) (minute, _message.now)
+        (bytes_of result) (tables_of S.Store desk.old) (tables_of S.Store desk.new) }
+    ensures left { LeavesDesk S.Store desk.old desk.new }
 {
-    match answer_bytes(alloc, routes, minute, message, desk) {
+    match answer_sent(alloc, routes, read, minute, desk) {
         Ok(reply) => Reply::Made(reply),
         Err(_) => Reply::Fixed(unavailable_reply(false)),
     }
 }
 
 impl<S: Backend> Framing for WebDesk<S> {
-    ghost use Rattle.web_core.specs.Framing as form;
+    ghost use Rattle.message_core.specs.Stated.{States as StatesWithin};
+    ghost use Rattle.message_core.specs.declared.limits.BodyLimit.TheVariants.{ByPlace};
 
-    ghost stated = { form.stated };
+    ghost States = { StatesWithin ByPlace };
 
     ghost limit = { 262144 };
 
-    fn stated(head: &[u8]) -> u32 {
-        stated(head)
+    fn stated(head: &[u8]) -> Option<u32> {
+        stated_body(head, BodyLimit::ByPlace)
     }
 }
 
@@ -53,10 +59,20 @@ impl<S: Backend> server_core::Desk for WebDesk<S> {
 
     ghost shuts = { web.shuts S.Store };
 
-    fn step(&mut self, alloc: Global, minute: u32, message: &[u8]) -> Reply {
-        let reply = answer_to(alloc, self.routes.as_ref(), minute, message, &mut self.desk);
+    fn step(&mut self, alloc: Global, minute: u32, message: &[u8]) -> Answer {
+        let read = read_sent(alloc, message);
+        let routes = self.routes.as_ref();
+        let reply = answer_to(alloc, routes, minute, message, &read, &mut self.desk);
+        let note = note_on(
+            alloc,
+            self.proxied,
+            self.desk.settings(),
+            &read,
+            reply.bytes(),
+        );
+        drop(read);
         self.is_shut = is_shut_after(&reply, &mut self.desk);
-        reply
+        Answer { reply, note }
     }
 
     fn is_shut(&self) -> bool {

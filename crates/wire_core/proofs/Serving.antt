@@ -174,7 +174,7 @@ taken_of had left h l most had_is left_is taken =
 formed_command : (s : Settings) (at : ℕ) (message : _) (asked : _) (old : Desk) (bytes : List ℕ)
     (new : Desk) → IsDesk old → CommandSteps s at message asked old bytes new → IsDesk new
 formed_command s at message (Err fault) old bytes new is did = subst IsDesk (sym did.1) is
-formed_command s at message (Ok asked) old bytes new is did = did.1.formed
+formed_command s at message (Ok asked) old bytes new is did = did.1.laws.desk
 
 formed_read : (s : Settings) (at : ℕ) (read : _) (old : Desk) (bytes : List ℕ) (new : Desk)
     → IsDesk old → ReadSteps s at read old bytes new → IsDesk new

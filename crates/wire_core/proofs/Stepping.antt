@@ -153,7 +153,7 @@ still : (s : Settings) (old new : State) → Spares old new → (desk : Desk)
     → StandsDue s desk old → StandsDue s desk new
 still s old new kept desk stand = stands kept (contents_of (due_of_row s desk) desk) stand
 
-leads_same : (s : Settings) (P : Desk → Desk → Type 0) (old new : State) → Spares old new
+pub leads_same : (s : Settings) (P : Desk → Desk → Type 0) (old new : State) → Spares old new
     → ((desk : Desk) → P desk desk) → LeadsOn s P old new
 leads_same s P old new kept holds desk is stand clean =
     (desk, (holds desk, is), still s old new kept desk stand)
@@ -179,7 +179,7 @@ module _ (s : Settings) (at : ℕ) where
   left_leads h (Ok asked) bytes old new told stay =
       leads_wider s _ _ old new (λ desk after same. (told, same)) stay
 
-  read_leads : (read : Result Message WireFault) (bytes : List ℕ) (old new : State)
+  pub read_leads : (read : Result Message WireFault) (bytes : List ℕ) (old new : State)
       → ReadStepsOn s at read bytes old new
       → LeadsOn s (λ desk after. ReadSteps s at read desk bytes after) old new
   read_leads (Err fault) bytes old new did =

@@ -7,9 +7,11 @@
 //! tables are as before. `NoMemory` is never its answer. It is `serve_one_counted` by new counters,
 //! whose contract says that `Read` and `Write` come of a failed call alone. `serve_list` is a run of
 //! such steps over bytes in memory, where an element that is `NoMemory` changes nothing. A message
-//! that asks for no command has its reply and leaves the tables, whatever they are.
+//! that asks for no command has its reply and leaves the tables, whatever they are. `answer_request`
+//! answers a message that was read elsewhere.
 #![tactic(auto)]
 
+mod answer;
 mod fault;
 pub mod laws;
 mod list;
@@ -18,6 +20,7 @@ mod room;
 mod serve;
 mod step;
 
+pub use answer::{answer_fault, answer_request};
 pub use desk_words::{WordsFault, command_of_words, number_of_word, words_of};
 pub use fault::ServeFault;
 pub use list::{serve_bytes, serve_list};

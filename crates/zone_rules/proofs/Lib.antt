@@ -1,3 +1,4 @@
+mod Examples
 pub mod RuleLemmas
 pub mod TextLemmas
 pub mod YearLemmas

@@ -22,8 +22,8 @@ use Rattle.desk_core.proofs.Applied.{left_by}
 use Rattle.desk_core.proofs.DeskLaw.Fitting.{LinksAnew, has_ends}
 use Rattle.desk_core.proofs.DeskLaw.Stages.{links_after}
 use Rattle.desk_core.proofs.Every.{every_filtered, every_placed, every_so}
-use Rattle.desk_core.proofs.Rising.{IsTransitive, filtered_rises, is_apart}
-use Rattle.desk_core.proofs.Rising.{orders_go_on, orders_part, placed_rises}
+use Rattle.sorted_lists.proofs.Rising.{IsTransitive, filtered_rises, is_apart}
+use Rattle.sorted_lists.proofs.Rising.{orders_go_on, orders_part, placed_rises}
 
 abbrev link_order : LinkRow → LinkRow → Ordering
 link_order =

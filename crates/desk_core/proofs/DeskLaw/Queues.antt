@@ -19,7 +19,7 @@ use Rattle.desk_core.proofs.DeskLaw.Stages.{HoldsAtPersons, HoldsAtRow, HoldsOfF
 use Rattle.desk_core.proofs.DeskLaw.Stages.{all_revised, all_with_links, by_all, queues_after}
 use Rattle.desk_core.proofs.DeskLaw.Stages.{with_links}
 use Rattle.desk_core.proofs.Every.{every_placed, every_so}
-use Rattle.desk_core.proofs.Rising.{is_apart, names_part, placed_rises}
+use Rattle.sorted_lists.proofs.Rising.{is_apart, names_part, placed_rises}
 
 -- there is a queue of that name among these
 abbrev has_queue : List QueueRow → List ℕ → Bool

@@ -15,7 +15,7 @@ use Rattle.desk_model.specs.declared.rows.LinkRow.{LinkRow}
 use Rattle.desk_model.specs.declared.rows.RequestRow.{RequestRow}
 use Rattle.desk_model.specs.declared.rows.WatchRole.{WatchRole}
 use Rattle.desk_core.proofs.Every.{every_mapped}
-use Rattle.desk_core.proofs.Rising.{named_rises, unnamed_rises}
+use Rattle.sorted_lists.proofs.Rising.{named_rises, unnamed_rises}
 
 -- what each step keeps all of them keep
 pub by_all : {X : Type 0} (P : Desk → Type 0) (step : Desk → X → Desk)

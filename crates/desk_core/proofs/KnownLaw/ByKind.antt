@@ -1,12 +1,12 @@
 -- What the change of a command that isn't refused brings is known, by the kind of the command.
 use Rattle.std.proofs.Common.{◌≡◌, ◌∙◌, ℕ, ◌+◌, ◌==◌, Bool, true, false, not, ◌&&◌, ◌||◌, List, []}
-use Rattle.std.proofs.Common.{◌∷◌, ◌++◌}
+use Rattle.std.proofs.Common.{◌∷◌, ◌++◌, inl, inr, sym}
 use Rattle.std.proofs.Common.{find, fold, length, Option, Some, None, unwrap_or, refl, ap, subst}
 use Rattle.std.proofs.Common.{if◌then◌else◌}
-use Rattle.std.proofs.lemmas.Bool.{and_from, and_parts, or_left, or_right}
+use Rattle.std.proofs.lemmas.Bool.{and_from, and_parts, or_cases, or_left, or_right}
 use Rattle.std.proofs.lemmas.List.Folds.{list_all-map, list_any-append}
 use Rattle.std.proofs.lemmas.Slice.Eq.{bytes_eq-Decides}
-use Rattle.std.specs.List.{list_all}
+use Rattle.std.specs.List.{list_all, list_any}
 use Rattle.std.specs.Option.{is_none, is_some, option_or}
 use Rattle.std.specs.Ordering.{match_ordering}
 use Rattle.std.specs.Str.{bytes_eq}
@@ -14,12 +14,13 @@ use Rattle.std.specs.declared.cmp.Ordering.TheVariants.{Less, Equal, Greater}
 use Rattle.hours_core.specs.Moment.{is_moment}
 use Rattle.text_core.specs.Texts.{is_among}
 use Rattle.lifecycle_core.specs.Fault.{fault_of, has_names, has_repeats, knows_entry, knows_move}
-use Rattle.lifecycle_core.specs.Fault.{knows_statuses, when}
+use Rattle.lifecycle_core.specs.Fault.{is_self_move, knows_statuses, when}
 use Rattle.lifecycle_core.specs.Lifecycle.{is_status, may_create, may_move}
 use Rattle.lifecycle_core.specs.declared.fault.LifecycleFault.{LifecycleFault}
 use Rattle.lifecycle_core.specs.declared.fault.LifecycleFault.TheVariants.{BadName, Repeated}
 use Rattle.lifecycle_core.specs.declared.fault.LifecycleFault.TheVariants.{NoInitial, NoActive}
-use Rattle.lifecycle_core.specs.declared.fault.LifecycleFault.TheVariants.{UnknownStatus}
+use Rattle.lifecycle_core.specs.declared.fault.LifecycleFault.TheVariants.{UnknownStatus, SelfMove}
+use Rattle.lifecycle_core.specs.declared.parts.Move.{Move}
 use Rattle.lifecycle_core.specs.declared.parts.Parts.{Parts}
 use Rattle.settings_core.specs.Settings.{knows, lifecycle_named}
 use Rattle.settings_core.specs.Sound.{AreSound}
@@ -31,7 +32,7 @@ use Rattle.desk_model.specs.Commands.Reply as reply
 use Rattle.desk_model.specs.Desk.{Desk, Request, queue_at, request_at}
 use Rattle.desk_model.specs.Facts.{queue_of, seen_request}
 use Rattle.desk_model.specs.Known.{knows_level, knows_owner, knows_queue, knows_row, knows_status}
-use Rattle.desk_model.specs.Lifecycles.{has_given, has_status, is_creatable, lifecycle_of}
+use Rattle.desk_model.specs.Lifecycles.{has_given, has_status, is_allowed, is_creatable, lifecycle_of}
 use Rattle.desk_model.specs.Lifecycles.{first_status, reopening_of}
 use Rattle.desk_model.specs.Names.{in_order, text_order, with_name}
 use Rattle.desk_model.specs.Plan.{Call, Stays, besides_on, change_by}
@@ -48,12 +49,11 @@ use Rattle.desk_model.specs.declared.refusal.Refusal.TheVariants.{UnknownCaller,
 use Rattle.desk_model.specs.declared.rows.Entry.{Entry}
 use Rattle.desk_model.specs.declared.rows.QueueRow.{QueueRow}
 use Rattle.desk_model.specs.declared.rows.RequestRow.{RequestRow}
-use Rattle.desk_core.proofs.Added.{appended}
+use Rattle.desk_core.proofs.Added.{AreAdded, appended}
 use Rattle.desk_core.proofs.DeskLaw.ByKind.{MeetsAt, by_plan_at, some_is}
 use Rattle.desk_core.proofs.Every.{every_found}
 use Rattle.desk_core.proofs.Goes.{holding, passed}
 use Rattle.desk_core.proofs.Kept.{replied_to}
-use Rattle.desk_core.specs.Histories.{AreAdded}
 
 abbrev pub KnowsQueue : Settings → Option QueueRow → Type 0
 KnowsQueue s None = Unit {0}
@@ -153,6 +153,52 @@ created l status none creatable =
     let second = and_parts creates moves first.0 in
     all_among (is_status l) l.create status
     (and_parts (is_status l l.on_create) (list_all (is_status l) l.create) second.0).1 creatable
+
+-- a lifecycle without fault has no move from a status to itself
+one_itself : (status : List ℕ) (moves : List Move)
+    → list_any (λ m. bytes_eq m.from status && bytes_eq m.to status) moves ≡ true
+    → list_any is_self_move moves ≡ true
+one_itself status [] some = cc
+one_itself status (m ∷ ms) some =
+    elim (or_cases (bytes_eq m.from status && bytes_eq m.to status)
+    (list_any (λ x. bytes_eq x.from status && bytes_eq x.to status) ms) some) [
+      | inl here ↦
+          let ends = and_parts (bytes_eq m.from status) (bytes_eq m.to status) here in
+          let same : m.from ≡ m.to =
+          (bytes_eq-Decides m.from status).0 ends.0 ∙ sym ((bytes_eq-Decides m.to status).0 ends.1)
+          in
+          or_left (is_self_move m) (list_any is_self_move ms) ((bytes_eq-Decides m.from m.to).1 same)
+      | inr further ↦
+          or_right (is_self_move m) (list_any is_self_move ms) (one_itself status ms further)
+    ]
+
+applies_not : (fault : LifecycleFault) (applies : Bool) (others : Option LifecycleFault)
+    → option_or (when fault applies) others ≡ None → applies ≡ false
+applies_not fault true others e = cc
+applies_not fault false others e = refl
+
+returns_not : (l : Parts) (status : List ℕ) → fault_of l ≡ None → may_move l status status ≡ true → ⊥
+unfolding fault_of
+returns_not l status none may =
+    let unrepeated = rest_none (when BadName (not (has_names l))) _ none in
+    let initial = rest_none (when Repeated (has_repeats l)) _ unrepeated in
+    let active = rest_none (when NoInitial (length l.initial == 0)) _ initial in
+    let unknown = rest_none (when NoActive (length l.active == 0)) _ active in
+    let selves = rest_none (when UnknownStatus (not (knows_statuses l))) _ unknown in
+    let never : list_any is_self_move l.moves ≡ false =
+    applies_not SelfMove (list_any is_self_move l.moves) _ selves in
+    let no : true ≡ false = sym (one_itself status l.moves may) ∙ never in
+    cc
+
+pub no_return : (s : Settings) (queue : Option QueueRow) (status : List ℕ) → AreSound s
+    → is_allowed (lifecycle_of s queue) status status ≡ true → ⊥
+no_return s None status sound allowed = cc
+no_return s (Some q) status sound allowed =
+    elim (lifecycle_named s q.lifecycle)
+    as (λ l. lifecycle_named s q.lifecycle ≡ l → is_allowed l status status ≡ true → ⊥) [
+      | None ↦ λ e h. cc
+      | Some l ↦ λ e h. returns_not l status (sound q.lifecycle l e) h
+    ] refl allowed
 
 created_in : (s : Settings) (queue : Option QueueRow) (status : List ℕ) → AreSound s
     → is_creatable (lifecycle_of s queue) status ≡ true
@@ -321,17 +367,16 @@ puts call desk caller (Watch id role person) = λ r there same none.
 puts call desk caller other = λ r there same none. refl
 
 -- who makes an entry is the caller
-entries_known : (s : Settings) (at : ℕ) (caller : List ℕ) (command : Command)
-    (entries : List Entry)
-    → AreAdded at caller command entries → knows s caller ≡ true
+entries_known : (s : Settings) (at : ℕ) (caller : List ℕ) (entries : List Entry)
+    → AreAdded at caller entries → knows s caller ≡ true
     → list_all (λ e. knows s e.actor) entries ≡ true
-entries_known s at caller command [] added known = refl
-entries_known s at caller command (e ∷ []) added known =
+entries_known s at caller [] added known = refl
+entries_known s at caller (e ∷ []) added known =
     and_from (knows s e.actor) true (ap (knows s) added.1 ∙ known) refl
-entries_known s at caller command (e ∷ f ∷ []) added known =
-    and_from (knows s e.actor) (knows s f.actor && true) (ap (knows s) added.1.1 ∙ known)
-    (and_from (knows s f.actor) true (ap (knows s) added.3.1 ∙ known) refl)
-entries_known s at caller command (e ∷ f ∷ g ∷ rest) added known = absurd added
+entries_known s at caller (e ∷ f ∷ []) added known =
+    and_from (knows s e.actor) (knows s f.actor && true) (ap (knows s) added.0.1 ∙ known)
+    (and_from (knows s f.actor) true (ap (knows s) added.1.1 ∙ known) refl)
+entries_known s at caller (e ∷ f ∷ g ∷ rest) added known = absurd added
 
 -- the change of a command that isn't refused brings known names alone
 pub change_brings : (s : Settings) (at : ℕ) (caller : List ℕ) (command : Command) (desk : Desk)
@@ -356,5 +401,5 @@ change_brings s at caller command desk sound queues all free =
           (rows asks desk known all command) free;
       put = by_plan_at (λ d change. list_all (λ w. knows s w.person) change.put ≡ true) asks plan
           desk (λ reads. refl) (puts asks desk known command) free;
-      entries = entries_known s at caller command _ (appended s at caller command desk) known;
+      entries = entries_known s at caller _ (appended s at caller command desk) known;
     }

@@ -17,8 +17,8 @@ use Rattle.desk_model.specs.Readings.{IsInOrder, dues_told}
 use Rattle.desk_core.proofs.Every.{every_found}
 use Rattle.desk_core.proofs.InView.{filter_within, found_in_view}
 use Rattle.desk_core.proofs.Readings.Owed.{IsRight}
-use Rattle.desk_core.proofs.Rising.{filtered_rises, numbered_rise, numbers_go_on}
-use Rattle.desk_core.specs.Laws.{IsDue}
+use Rattle.sorted_lists.proofs.Rising.{filtered_rises, numbered_rise, numbers_go_on}
+use Rattle.desk_core.proofs.Readings.Owed.{IsDue}
 
 -- in the view the same entries are told
 entries_alike : (s : Settings) (caller : List ℕ) (r : Request)

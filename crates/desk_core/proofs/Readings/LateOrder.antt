@@ -1,7 +1,7 @@
 -- Late requests are told in the order of their due moments, and of their numbers where those are the
 -- same.
 use Rattle.std.proofs.Common.{◌≡◌, ◌∙◌, ℕ, ◌==◌, true, false, ◌||◌, cond, List, [], ◌∷◌, fold, Option}
-use Rattle.std.proofs.Common.{Some, None, refl, ap, sym, subst, ◌-◌, Ordering, Less, Equal, Greater}
+use Rattle.std.proofs.Common.{Some, None, refl, ap, sym, subst, ◌-◌, Less, Equal, Greater}
 use Rattle.std.specs.Bool.{nat_lt}
 use Rattle.std.specs.Cmp.{IsTotalOrder, nat_cmp_total, on_total, then_total}
 use Rattle.std.specs.List.{AllByRecursion, cons_option}
@@ -19,8 +19,8 @@ use Rattle.desk_model.specs.Told.{Told, told}
 use Rattle.desk_model.specs.declared.answer.LateLine.{LateLine}
 use Rattle.desk_core.proofs.Readings.Placed.{all_at_place}
 use Rattle.desk_core.proofs.Readings.Told.{told_rise}
-use Rattle.desk_core.proofs.Rising.{Climbs, by, climbs, is_apart, numbers_go_on, orders_part}
-use Rattle.desk_core.proofs.Rising.{placed_rises}
+use Rattle.sorted_lists.proofs.Rising.{Climbs, by, climbs, is_apart, numbers_go_on, orders_part}
+use Rattle.sorted_lists.proofs.Rising.{not_tied, placed_rises}
 
 -- of two lines with different numbers one comes first
 abbrev Part : LateLine → LateLine → Type 0
@@ -30,11 +30,6 @@ late_total : IsTotalOrder late_order
 late_total =
     then_total (on_total (λ (l : LateLine). l.due) nat_cmp_total)
     (on_total (λ (l : LateLine). l.id) nat_cmp_total)
-
-not_tied : (o : Ordering) → is_eq (ordering_then o Less) ≡ false
-not_tied Less = refl
-not_tied Equal = refl
-not_tied Greater = refl
 
 lines_part : (a b : LateLine) → nat_lt a.id b.id ≡ true → Part a b
 lines_part a b lower =

@@ -17,7 +17,7 @@ use Rattle.desk_model.specs.declared.rows.LinkKind.{LinkKind}
 use Rattle.desk_model.specs.declared.rows.LinkKind.TheVariants.{DependsOn, MemberOf, RefersTo}
 use Rattle.desk_model.specs.declared.rows.LinkRow.{LinkRow}
 use Rattle.desk_core.proofs.DeskLaw.Links.{links_go_on, same_kind}
-use Rattle.desk_core.proofs.Rising.{filtered_rises}
+use Rattle.sorted_lists.proofs.Rising.{filtered_rises}
 
 -- what passes a test, all that is filtered passes
 all_kept : {X : Type 0} (test : X → Bool) (xs : List X) → list_all test (filter test xs) ≡ true

@@ -12,8 +12,8 @@ use Rattle.desk_model.specs.Told as reports
 use Rattle.desk_model.specs.declared.answer.Answer.TheVariants as answer
 use Rattle.desk_core.proofs.Readings.Owed.{IsRight}
 use Rattle.desk_core.proofs.Readings.Told.{told_due, told_in_view, told_rise}
-use Rattle.desk_core.proofs.Rising.{by, filtered_rises, mapped_rises, numbers_go_on}
-use Rattle.desk_core.specs.Laws.{IsDue}
+use Rattle.sorted_lists.proofs.Rising.{by, filtered_rises, mapped_rises, numbers_go_on}
+use Rattle.desk_core.proofs.Readings.Owed.{IsDue}
 
 list_in_order : (queue : List ℕ) (call : Call) (desk : Desk) → IsDesk desk
     → IsInOrder (listing.told queue call desk)

@@ -19,7 +19,7 @@ use Rattle.desk_core.proofs.Readings.LateOrder.{overdue_in_order}
 use Rattle.desk_core.proofs.Readings.Owed.{IsRight}
 use Rattle.desk_core.proofs.Readings.Placed.{all_at_place}
 use Rattle.desk_core.proofs.Readings.Told.{told_due, told_in_view}
-use Rattle.desk_core.specs.Laws.{IsDue}
+use Rattle.desk_core.proofs.Readings.Owed.{IsDue}
 
 -- what holds of each line that is made holds of all that are
 all_made : {X Y : Type 0} (P : Y → Type 0) (made : X → Option Y) (xs : List X)

@@ -1,8 +1,10 @@
 -- What a reading owes: it tells of the caller's view what it tells of the desk, each due moment in
 -- it is right, and it lists what it tells in order.
-use Rattle.std.proofs.Common.{◌≡◌, true, Some}
+use Rattle.std.proofs.Common.{◌≡◌, ℕ, true, Option, Some}
 use Rattle.std.specs.List.{All}
 use Rattle.desk_model.specs.Desk.{Desk, Request, request_at}
+use Rattle.settings_core.specs.declared.settings.Settings.{Settings}
+use Rattle.desk_model.specs.Due.{due_on}
 use Rattle.desk_model.specs.Facts.{seen_request}
 use Rattle.desk_model.specs.IsDesk.{IsDesk}
 use Rattle.desk_model.specs.Plan.{Call, Topic, OneQueue, OneRequest, WholeDesk}
@@ -10,7 +12,12 @@ use Rattle.desk_model.specs.Rights.{may_show}
 use Rattle.desk_model.specs.View.{view}
 use Rattle.desk_model.specs.declared.answer.Answer.{Answer}
 use Rattle.desk_model.specs.Readings.{IsInOrder, dues_told}
-use Rattle.desk_core.specs.Laws.{IsDue}
+
+-- the request is there, and this is when it is due
+abbrev pub IsDue : Settings → Desk → ℕ × Option ℕ → Type 0
+IsDue settings desk told =
+    (request : Request) × (request_at desk told.0 ≡ Some request)
+    × (told.1 ≡ due_on settings desk request)
 
 -- where it isn't refused, it tells of the view what it tells of the desk
 abbrev pub TellsAlike : Topic → (Call → Desk → Answer) → Type 0

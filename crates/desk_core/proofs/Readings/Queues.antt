@@ -14,8 +14,8 @@ use Rattle.desk_model.specs.declared.answer.Answer.TheVariants as answer
 use Rattle.desk_model.specs.declared.rows.QueueRow.{QueueRow}
 use Rattle.desk_core.proofs.InView.{filter_within}
 use Rattle.desk_core.proofs.Readings.Owed.{IsRight}
-use Rattle.desk_core.proofs.Rising.{IsTransitive, filtered_rises, orders_go_on}
-use Rattle.desk_core.specs.Laws.{IsDue}
+use Rattle.sorted_lists.proofs.Rising.{IsTransitive, filtered_rises, orders_go_on}
+use Rattle.desk_core.proofs.Readings.Owed.{IsDue}
 
 queues_go_on : IsTransitive has_lower_name
 queues_go_on x y z one two = orders_go_on nat_list_cmp_total x.name y.name z.name one two

@@ -33,7 +33,7 @@ use Rattle.desk_core.proofs.InView.{shown_there}
 use Rattle.desk_core.proofs.Readings.LinkOrder.{links_in_order}
 use Rattle.desk_core.proofs.Readings.Owed.{IsRight}
 use Rattle.desk_model.specs.Readings.{IsInOrder, dues_told}
-use Rattle.desk_core.specs.Laws.{IsDue}
+use Rattle.desk_core.proofs.Readings.Owed.{IsDue}
 
 -- a filter of the view's links is one of the desk's links, where it tests alike and keeps only
 -- links that are seen

@@ -23,9 +23,9 @@ use Rattle.desk_model.specs.declared.rows.QueueRow.{QueueRow}
 use Rattle.desk_model.proofs.StayLemmas.{stays_told}
 use Rattle.desk_core.proofs.EachRequest.{found_each}
 use Rattle.desk_core.proofs.InView.{queue_kept}
-use Rattle.desk_core.proofs.Rising.{by, filtered_rises, mapped_rises, numbered_rise}
-use Rattle.desk_core.proofs.Rising.{numbers_go_on}
-use Rattle.desk_core.specs.Laws.{IsDue}
+use Rattle.sorted_lists.proofs.Rising.{by, filtered_rises, mapped_rises, numbered_rise}
+use Rattle.sorted_lists.proofs.Rising.{numbers_go_on}
+use Rattle.desk_core.proofs.Readings.Owed.{IsDue}
 
 abbrev shows : Settings → List ℕ → Request → Bool
 shows s caller r = may_show s caller (seen_request r)

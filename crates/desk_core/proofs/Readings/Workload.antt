@@ -12,8 +12,8 @@ use Rattle.desk_model.specs.Told.{Told, told}
 use Rattle.desk_model.specs.declared.answer.Answer.TheVariants as answer
 use Rattle.desk_core.proofs.Readings.Owed.{IsRight}
 use Rattle.desk_core.proofs.Readings.Told.{told_in_view}
-use Rattle.desk_core.proofs.Rising.{all_keyed_rise, mapped_rises}
-use Rattle.desk_core.specs.Laws.{IsDue}
+use Rattle.sorted_lists.proofs.Rising.{all_keyed_rise, mapped_rises}
+use Rattle.desk_core.proofs.Readings.Owed.{IsDue}
 
 owners_total : IsTotalOrder owner_order
 owners_total = record {

@@ -1,6 +1,7 @@
 //! The links between requests.
 ghost use Rattle.std.specs.Prelude.{◌≢◌, IfErr};
-ghost use Rattle.sqlite.specs.Values.{bound_value};
+ghost use Rattle.sqlite.specs.Values.{bound, bound_value};
+ghost use Rattle.store_tables.specs.Calls.{Leaves, ReadsAlone, ReadsRows};
 ghost use Rattle.sqlite_value.specs.Value.{owned};
 ghost use Rattle.store_tables.specs.Values.{MismatchesAt, NeedsAt, ReadsAt, count_value};
 ghost use Rattle.desk_model.specs.Links.{kind_number};
@@ -47,6 +48,22 @@ impl Stored for LinkRow {
     }
 }
 
+/// The links that a query shows. `Mismatch` where one of its rows shows
+/// none, `Refused` where the store or memory refuses it.
+fn link_rows<S: Alter>(
+    alloc: Global,
+    tables: &mut Tables<S>,
+    sql: &str,
+    params: &[ValueRef<'_>],
+) -> Result<Vec<LinkRow>, StoreFault>
+    requires { ReadsAlone sql.now }
+    ensures read { ReadsRows ReadsLink IsLinkRow (λ xs. xs.items)
+        sql.now (bound params.now) (seen S.Store tables.old) (seen S.Store tables.new) result }
+    ensures leaves { Leaves (seen S.Store tables.old) (seen S.Store tables.new) result }
+{
+    select_all(alloc, tables, sql, params)
+}
+
 /// The links, by source, kind and target. `Mismatch` where a row is no link, `Refused` where the
 /// store refuses it.
 pub fn links<S: Alter>(alloc: Global, tables: &mut Tables<S>) -> Result<Vec<LinkRow>, StoreFault>
@@ -56,7 +73,7 @@ pub fn links<S: Alter>(alloc: Global, tables: &mut Tables<S>) -> Result<Vec<Link
     ensures tested { TestsLinks
         (seen S.Store tables.old) (seen S.Store tables.new) result }
 {
-    select_all(
+    link_rows(
         alloc,
         tables,
         "SELECT source, kind, target FROM link ORDER BY source, kind, target",
@@ -77,7 +94,7 @@ pub fn links_from<S: Alter>(
     ensures mismatch { MismatchesInLinks
         (seen S.Store tables.old) (seen S.Store tables.new) result }
 {
-    select_all(
+    link_rows(
         alloc,
         tables,
         "SELECT source, kind, target FROM link WHERE source = ?1 ORDER BY source, kind, target",
@@ -115,7 +132,7 @@ fn links_ending<S: Alter>(
     ensures mismatch { MismatchesInLinks
         (seen S.Store tables.old) (seen S.Store tables.new) result }
 {
-    select_all(
+    link_rows(
         alloc,
         tables,
         "SELECT source, kind, target FROM link WHERE target = ?1 ORDER BY rowid",
@@ -135,7 +152,7 @@ pub fn links_of_kind<S: Alter>(
         AreOrdered by_target (filter (chosen.links_from id kind) c.links) xs.items)
         (seen S.Store tables.old) (seen S.Store tables.new) result }
 {
-    select_all(
+    link_rows(
         alloc,
         tables,
         "SELECT source, kind, target FROM link WHERE source = ?1 AND kind = ?2 ORDER BY target",

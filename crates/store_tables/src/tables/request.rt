@@ -16,7 +16,7 @@ ghost use Rattle.store_tables.specs.Picked.{AreOrdered, IsGreatest};
 ghost use Rattle.store_tables.specs.Seen.{seen};
 ghost use Rattle.sqlite.specs.Held.{state};
 ghost use Rattle.sqlite.specs.Values.{bound};
-ghost use Rattle.store_tables.specs.Calls.{Does};
+ghost use Rattle.store_tables.specs.Calls.{Does, Leaves, ReadsAlone, ReadsRows};
 
 pub mod dated;
 pub mod numbers;
@@ -65,6 +65,22 @@ impl Stored for RequestRow {
     }
 }
 
+/// The requests that a query shows. `Mismatch` where one of its rows shows
+/// none, `Refused` where the store or memory refuses it.
+fn request_rows<S: Alter>(
+    alloc: Global,
+    tables: &mut Tables<S>,
+    sql: &str,
+    params: &[ValueRef<'_>],
+) -> Result<Vec<RequestRow>, StoreFault>
+    requires { ReadsAlone sql.now }
+    ensures read { ReadsRows ReadsRequest IsRequestRow (λ xs. xs.items)
+        sql.now (bound params.now) (seen S.Store tables.old) (seen S.Store tables.new) result }
+    ensures leaves { Leaves (seen S.Store tables.old) (seen S.Store tables.new) result }
+{
+    select_all(alloc, tables, sql, params)
+}
+
 /// The requests, by number. `Mismatch` where a row is no request, `Refused` where the
 /// store refuses it.
 pub fn requests<S: Alter>(
@@ -77,7 +93,7 @@ pub fn requests<S: Alter>(
     ensures tested { TestsRequests
         (seen S.Store tables.old) (seen S.Store tables.new) result }
 {
-    select_all(
+    request_rows(
         alloc,
         tables,
         "SELECT id, queue, subject, status, owner, level, created, opened, turn, since FROM \
@@ -99,7 +115,7 @@ pub fn requests_of<S: Alter>(
     ensures mismatch { MismatchesInRequests
         (seen S.Store tables.old) (seen S.Store tables.new) result }
 {
-    select_all(
+    request_rows(
         alloc,
         tables,
         "SELECT id, queue, subject, status, owner, level, created, opened, turn, since FROM \

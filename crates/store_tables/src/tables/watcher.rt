@@ -1,6 +1,7 @@
 //! The watchers: persons in roles on requests.
 ghost use Rattle.std.specs.Prelude.{◌≢◌, IfErr};
-ghost use Rattle.sqlite.specs.Values.{bound_value};
+ghost use Rattle.sqlite.specs.Values.{bound, bound_value};
+ghost use Rattle.store_tables.specs.Calls.{Leaves, ReadsAlone, ReadsRows};
 ghost use Rattle.sqlite_value.specs.Value.{owned};
 ghost use Rattle.store_tables.specs.Values.{MismatchesAt, NeedsAt, ReadsAt, count_value};
 ghost use Rattle.store_tables.specs.Contents.Watcher.{IsRole, role_number};
@@ -44,6 +45,22 @@ impl Stored for Watcher {
     }
 }
 
+/// The watchers that a query shows. `Mismatch` where one of its rows shows
+/// none, `Refused` where the store or memory refuses it.
+fn watcher_rows<S: Alter>(
+    alloc: Global,
+    tables: &mut Tables<S>,
+    sql: &str,
+    params: &[ValueRef<'_>],
+) -> Result<Vec<Watcher>, StoreFault>
+    requires { ReadsAlone sql.now }
+    ensures read { ReadsRows ReadsWatcher IsWatcherRow (λ xs. xs.items)
+        sql.now (bound params.now) (seen S.Store tables.old) (seen S.Store tables.new) result }
+    ensures leaves { Leaves (seen S.Store tables.old) (seen S.Store tables.new) result }
+{
+    select_all(alloc, tables, sql, params)
+}
+
 /// The watchers, by request, role and person. `Mismatch` where a row is no watcher,
 /// `Refused` where the store refuses it.
 pub fn watchers<S: Alter>(alloc: Global, tables: &mut Tables<S>) -> Result<Vec<Watcher>, StoreFault>
@@ -53,7 +70,7 @@ pub fn watchers<S: Alter>(alloc: Global, tables: &mut Tables<S>) -> Result<Vec<W
     ensures tested { TestsWatchers
         (seen S.Store tables.old) (seen S.Store tables.new) result }
 {
-    select_all(
+    watcher_rows(
         alloc,
         tables,
         "SELECT request, role, person FROM watcher ORDER BY request, role, person",
@@ -71,7 +88,7 @@ pub fn watchers_of<S: Alter>(
     ensures { Reads (λ c xs. AreOrdered by_role (filter (watches id) c.watchers) xs.items)
         (seen S.Store tables.old) (seen S.Store tables.new) result }
 {
-    select_all(
+    watcher_rows(
         alloc,
         tables,
         "SELECT request, role, person FROM watcher WHERE request = ?1 ORDER BY role, person",
@@ -92,7 +109,7 @@ pub fn watches_of<S: Alter>(
     ensures mismatch { MismatchesInWatchers
         (seen S.Store tables.old) (seen S.Store tables.new) result }
 {
-    select_all(
+    watcher_rows(
         alloc,
         tables,
         "SELECT request, role, person FROM watcher WHERE person = ?1 ORDER BY request, role",

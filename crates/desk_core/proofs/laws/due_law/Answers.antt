@@ -1,6 +1,8 @@
 -- the law of the definitions
-use Rattle.desk_core.proofs.DueLaw as due
+use Rattle.desk_core.proofs.Moved.{every}
+use Rattle.desk_core.proofs.Taken as taken
 use Rattle.desk_core.proofs.laws.due_law.Goals as goal
+use Rattle.desk_core.specs.Laws.{DueLaw}
 
 pub returns : goal.returns
-returns c = due.due_law
+returns c = every DueLaw taken.due_law

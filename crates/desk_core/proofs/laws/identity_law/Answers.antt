@@ -1,6 +1,8 @@
 -- the law of the definitions
-use Rattle.desk_core.proofs.Identity as identity
+use Rattle.desk_core.proofs.Moved.{every}
+use Rattle.desk_core.proofs.Taken as taken
 use Rattle.desk_core.proofs.laws.identity_law.Goals as goal
+use Rattle.desk_core.specs.Laws.{IdentityLaw}
 
 pub returns : goal.returns
-returns c = identity.identity_law
+returns c = every IdentityLaw taken.identity_law

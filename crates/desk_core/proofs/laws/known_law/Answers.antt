@@ -1,6 +1,8 @@
--- the laws of the definitions
-use Rattle.desk_core.proofs.KnownLaw as known
+-- the law of the definitions
+use Rattle.desk_core.proofs.Moved.{every}
+use Rattle.desk_core.proofs.Taken as taken
 use Rattle.desk_core.proofs.laws.known_law.Goals as goal
+use Rattle.desk_core.specs.Laws.{NamesLaw}
 
 pub returns : goal.returns
-returns c = known.known_law
+returns c = every NamesLaw taken.names_law

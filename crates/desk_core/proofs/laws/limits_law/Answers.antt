@@ -1,12 +1,8 @@
--- the laws of the definitions
-use Rattle.desk_core.proofs.Bounds as bounds
+-- the law of the definitions
+use Rattle.desk_core.proofs.Moved.{every}
+use Rattle.desk_core.proofs.Taken as taken
 use Rattle.desk_core.proofs.laws.limits_law.Goals as goal
+use Rattle.desk_core.specs.Laws.{LimitsLaw}
 
-pub returns-clause-queues : goal.returns-clause-queues
-returns-clause-queues c = bounds.queue_limit_kept
-
-pub returns-clause-requests : goal.returns-clause-requests
-returns-clause-requests c = bounds.request_limit_kept
-
-pub returns-clause-entries : goal.returns-clause-entries
-returns-clause-entries c = bounds.entry_limit_kept
+pub returns : goal.returns
+returns c = every LimitsLaw taken.limits_law

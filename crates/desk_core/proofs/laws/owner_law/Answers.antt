@@ -1,6 +1,8 @@
 -- the law of the definitions
-use Rattle.desk_core.proofs.Kept as kept
+use Rattle.desk_core.proofs.Moved as moved
+use Rattle.desk_core.proofs.Moved.{every}
 use Rattle.desk_core.proofs.laws.owner_law.Goals as goal
+use Rattle.desk_core.specs.Laws.{OwnerLaw}
 
 pub returns : goal.returns
-returns c = kept.owner_law
+returns c = every OwnerLaw moved.owner_law

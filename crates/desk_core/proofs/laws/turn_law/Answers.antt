@@ -1,6 +1,8 @@
 -- the law of the definitions
-use Rattle.desk_core.proofs.Turns as turns
+use Rattle.desk_core.proofs.Moved.{every}
+use Rattle.desk_core.proofs.Taken as taken
 use Rattle.desk_core.proofs.laws.turn_law.Goals as goal
+use Rattle.desk_core.specs.Laws.{TurnLaw}
 
 pub returns : goal.returns
-returns c = turns.turn_law
+returns c = every TurnLaw taken.turn_law

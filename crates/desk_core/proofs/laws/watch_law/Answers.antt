@@ -1,10 +1,8 @@
--- the laws of the definitions
-use Rattle.desk_core.proofs.Asked as asked
-use Rattle.desk_core.proofs.Watching as watching
+-- the law of the definitions
+use Rattle.desk_core.proofs.Moved.{every}
+use Rattle.desk_core.proofs.Taken as taken
 use Rattle.desk_core.proofs.laws.watch_law.Goals as goal
+use Rattle.desk_core.specs.Laws.{PeopleLaw}
 
-pub returns-clause-asks : goal.returns-clause-asks
-returns-clause-asks c = asked.watch_law
-
-pub returns-clause-persons : goal.returns-clause-persons
-returns-clause-persons c = watching.watch_law
+pub returns : goal.returns
+returns c = every PeopleLaw taken.people_law

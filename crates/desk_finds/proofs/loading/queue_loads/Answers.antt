@@ -3,7 +3,7 @@ use Rattle.std.proofs.Common.{◌∙◌, ◌==◌, ap, length, sym}
 use Rattle.store_tables.specs.Contents.{contents_of}
 use Rattle.store_tables.proofs.Spared.{stands}
 use Rattle.store_core.specs.Due.{due_of_row}
-use Rattle.desk_finds.proofs.LoadLemmas.{none_seen, some_seen}
+use Rattle.desk_finds.proofs.LoadLemmas.{none_seen, seen_rise, some_seen}
 use Rattle.desk_finds.proofs.loading.queue_loads.Goals as goal
 
 pub returns-then-is_empty-clause-told : goal.returns-then-is_empty-clause-told
@@ -20,6 +20,8 @@ returns-else-is_empty-clause-told g c desk is stand clean =
     let s = c.args.call.settings.now in
     let due = due_of_row s desk in
     let first = stands c.seen.ensures.kept (contents_of due desk) stand in
-    some_seen s c.args.call.at c.args.call.caller.now desk c.in_ok-queues.queues.items c.loads.result
-    (c.in_ok-queues.ensures.told desk is (due, stand) (c.loads.ensures.kept.clean clean))
-    (c.loads.ensures.told desk is first clean)
+    let caller = c.args.call.caller.now in
+    let queues = c.in_ok-queues.queues.items in
+    let seen = c.in_ok-queues.ensures.told desk is (due, stand) (c.loads.ensures.kept.clean clean) in
+    some_seen s c.args.call.at caller desk queues c.loads.result seen
+    (c.loads.ensures.told (seen_rise s c.args.call.at caller desk is queues seen) desk is first clean)

@@ -5,7 +5,7 @@ use Rattle.std.proofs.lemmas.List.{take_all, length-drop}
 use Rattle.std.proofs.lemmas.List.Sorted.{IsPartitionPoint-from_clause}
 use Rattle.std.specs.Cmp.Lexicographic.{nat_list_cmp_total}
 use Rattle.desk_model.specs.Desk.{has_lower_name}
-use Rattle.desk_core.proofs.Rising.{climbs, orders_go_on}
+use Rattle.sorted_lists.proofs.Rising.{climbs, orders_go_on}
 use Rattle.report_core.specs.Rows.{named_only}
 use Rattle.report_core.proofs.Halves.{found_at, goes_before, is_before, parted}
 use Rattle.report_core.proofs.queues.queue_named.Goals as goal

@@ -3,8 +3,8 @@ use Rattle.rights_core.specs.Index.{meets}
 use Rattle.rights_core.proofs.Given.{given_to_names}
 use Rattle.rights_core.proofs.grants.gives_to_groups.Goals as goal
 
-pub returns-then-len-as_slice : goal.returns-then-len-as_slice
-returns-then-len-as_slice c =
+pub returns-then-len : goal.returns-then-len
+returns-then-len c =
     c.gives_to_names.ensures
     ∙ given_to_names c.args.given.now
     (meets c.args.queue.now c.args.person.now c.args.groups.now c.args.roles)

@@ -6,7 +6,6 @@ use Rattle.std.proofs.lemmas.Grind.{common_steps}
 use Rattle.std.proofs.lemmas.List.{get_or_default}
 use Rattle.std.proofs.lemmas.Map.Text.{btree_map_updates_text}
 use Rattle.rights_core.specs.Index.{IsMemberships}
-use Rattle.text_core.specs.Texts.{is_among}
 use Rattle.rights_core.proofs.Kept.{one_more_person}
 use Rattle.rights_core.proofs.memberships.memberships.Goals as goal
 
@@ -19,24 +18,25 @@ loop-earlier-preserved c =
     c.args.groups.now
     c.loop-earlier.earlier
     c.as_str-person.result.now
-    c.in_ok-names.names
+    c.in_ok-around.around
     c.loop-earlier.kept
     c.insert.new.self
     c.loop-earlier-test.true
     (c.as_str-person.ensures
     ∙ c.index-persons-earlier.is
     ∙ get_or_default c.args.persons.now c.loop-earlier.earlier _ [] c.loop-earlier-test.true)
-    (λ group.
-    ap (λ names. is_among names group) c.in_ok-names.ensures ∙ c.in_ok-around.ensures.found group)
+    c.in_ok-around.ensures.found
+    c.in_ok-around.ensures.within
+    c.in_ok-around.ensures.rising
     (λ q.
     btree_map_updates_text
     (string_bytes c.in_ok-from_str.field-0)
     c.loop-earlier.kept
     c.insert.new.self
-    (Some c.in_ok-names.names)
+    (Some c.in_ok-around.around)
     c.in_ok-insert.ensures.updates
     q
-    ∙ ap (λ k. update bytes_eq (get_by_text c.loop-earlier.kept) k (Some c.in_ok-names.names) q) key)
+    ∙ ap (λ k. update bytes_eq (get_by_text c.loop-earlier.kept) k (Some c.in_ok-around.around) q) key)
     c.loop-earlier.invariant.kept in
     record {
       kept = kept;

@@ -1,5 +1,5 @@
 use Rattle.std.proofs.Common.{◌≡◌, ◌+◌, length, take}
-use Rattle.rights_core.specs.Closure.{AreBefore, Marks, marked_in}
+use Rattle.rights_core.specs.Closure.{AreBefore, AreWithin, Marks, marked_in, names_at}
 use Rattle.rights_core.proofs.outer.mark.Given as goal
 
 abbrev pub invariant-loop-place : goal.invariant-loop-place
@@ -8,10 +8,11 @@ invariant-loop-place l = record {
       Marks
       l.groups
       (take l.place-index l.places)
-      l.initial.found.items
+      (names_at l.groups l.initial.found.items)
       (marked_in l.turn l.initial.marks)
-      l.found.items
+      (names_at l.groups l.found.items)
       (marked_in l.turn l.marks);
+  within : AreWithin l.groups l.initial.found.items → AreWithin l.groups l.found.items;
   size : length l.marks ≡ length l.groups;
   before : AreBefore (l.turn + 1) l.initial.marks → AreBefore (l.turn + 1) l.marks;
 }

@@ -5,6 +5,6 @@ use Rattle.server_core.proofs.admit.longest.Goals as goal
 
 pub loop-place-preserved : goal.loop-place-preserved
 loop-place-preserved g c =
-    longest_then c.args.slots.now c.loop-place.best c.longer-best.result c.loop-place.place
+    longest_then c.args.kind c.args.slots.now c.loop-place.best c.longer-best.result c.loop-place.place
     c.index-slots-place.result (omega (arith, c.loop-place-test.true)) c.longer-best.ensures
     c.loop-place.invariant

@@ -5,4 +5,4 @@ use Rattle.server_core.specs.Wait.{IsLongest}
 use Rattle.server_core.proofs.admit.longest.Given as goal
 
 abbrev pub invariant-loop-place : goal.invariant-loop-place
-invariant-loop-place g l = IsLongest l.best (take l.place (conns l.slots))
+invariant-loop-place g l = IsLongest l.kind l.best (take l.place (conns l.slots))

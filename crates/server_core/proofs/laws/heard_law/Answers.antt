@@ -3,5 +3,5 @@ use Rattle.server_core.proofs.HeldLemmas.{all_heard}
 use Rattle.server_core.proofs.laws.heard_law.Goals as goal
 
 pub returns : goal.returns
-returns g c places acts news desk next served =
-    all_heard g.D.Framing.stated g.D.Desk.Steps g.D.Desk.shuts places acts news desk next served
+returns g c places most turns news desk next served =
+    all_heard g.D.Framing.States g.D.Desk.Steps g.D.Desk.shuts places most turns news desk next served

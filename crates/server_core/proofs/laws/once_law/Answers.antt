@@ -3,5 +3,5 @@ use Rattle.server_core.proofs.OnceLemmas.{once_at}
 use Rattle.server_core.proofs.laws.once_law.Goals as goal
 
 pub returns : goal.returns
-returns g c place acts olds news desk next serves keeps =
-    once_at g.D.Framing.stated g.D.Desk.Steps g.D.Desk.shuts place acts olds news desk next serves keeps
+returns g c place most turns olds news desk next serves keeps =
+    once_at g.D.Framing.States g.D.Desk.Steps g.D.Desk.shuts place most turns olds news desk next serves keeps

@@ -23,7 +23,7 @@ pub returns-clause-ok : goal.returns-clause-ok
 returns-clause-ok g c =
     let free : conns c.deref_mut.result.now ≡ replicate c.args.places closed =
     ap (λ l. conns l) c.deref_mut.ensures.value ∙ c.in_ok-slots.ensures in
-    subst (λ (n : ℕ). IsServed g.D.Framing.stated g.D.Desk.Steps g.D.Desk.shuts
-    (g.H.Host.has_failed c.serve_at.new.host ≡ true) n c.args.most c.args.desk.now
+    subst (λ (n : ℕ). IsServed g.D.Framing.States g.D.Desk.Steps g.D.Desk.shuts
+    (g.H.Host.told c.args.host.now) (g.H.Host.told c.serve_at.new.host) n c.args.most c.args.desk.now
     c.serve_at.result c.serve_at.new.desk) (places_count c.deref_mut.result.now c.args.places free)
     c.serve_at.ensures

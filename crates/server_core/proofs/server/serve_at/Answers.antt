@@ -1,30 +1,54 @@
 -- one turn more
-use Rattle.std.proofs.Common.{◌≡◌, ◌+◌, true, arith, length}
+use Rattle.std.proofs.Common.{◌≡◌, ◌≤◌, ◌+◌, ◌∙◌, arith, length, refl, sym, subst}
 use Rattle.server_core.specs.Places.{conns}
-use Rattle.server_core.specs.declared.admit.Queue.TheVariants.{Unknown}
-use Rattle.server_core.proofs.ServedLemmas.{served_at, serves_on}
+use Rattle.server_core.specs.Host.{Told}
+use Rattle.server_core.specs.Served.{ServesFrom}
+use Rattle.server_core.proofs.ServedLemmas.{served_at, served_spent, served_waits, serves_on}
 use Rattle.server_core.proofs.server.serve_at.Goals as goal
 
 pub loop-turn-preserved : goal.loop-turn-preserved
 loop-turn-preserved g c = record {
-  far = serves_on g.D.Framing.stated g.D.Desk.Steps g.D.Desk.shuts (length c.args.slots.now)
-      c.args.desk.now c.loop-turn.desk c.go_on-answered.new.desk (conns c.loop-turn.slots)
-      (conns c.go_on-answered.new.slots) c.loop-turn.answered c.go_on-answered.result
-      c.loop-turn.invariant.far c.go_on-answered.ensures.served;
+  far =
+      serves_on g.D.Framing.States g.D.Desk.Steps g.D.Desk.shuts (g.H.Host.told c.args.host.now)
+      (g.H.Host.told c.wait.new.host) (g.H.Host.told c.go_on-answered.new.host)
+      (length c.args.slots.now) c.args.most _ c.args.desk.now c.loop-turn.desk
+      c.go_on-answered.new.desk (conns c.loop-turn.slots) (conns c.go_on-answered.new.slots)
+      c.loop-turn.answered c.loop-turn._turn c.go_on-answered.result
+      (subst (λ (t : Told). ServesFrom g.D.Framing.States g.D.Desk.Steps g.D.Desk.shuts
+      (g.H.Host.told c.args.host.now) t (length c.args.slots.now) c.args.most c.args.desk.now
+      (conns c.loop-turn.slots) c.loop-turn.desk c.loop-turn.answered c.loop-turn._turn)
+      (sym c.in-Ok.ensures.ok) c.loop-turn.invariant.far) refl c.go_on-answered.ensures.served;
   most = omega (arith, c.loop-turn.invariant.most, c.go_on-answered.ensures.most);
+  known = c.go_on-answered.ensures.known
+      (subst (λ (t : Told). c.loop-turn.faults ≤ t.failed) (sym c.in-Ok.ensures.ok)
+      c.loop-turn.invariant.known);
 }
 
 pub returns-in-Some : goal.returns-in-Some
 returns-in-Some g c =
-    served_at g.D.Framing.stated g.D.Desk.Steps g.D.Desk.shuts
-    (c.go_on-answered.new.queue ≡ Unknown)
-    (g.H.Host.has_failed c.go_on-answered.new.host ≡ true) (length c.args.slots.now) c.args.most
+    served_at g.D.Framing.States g.D.Desk.Steps g.D.Desk.shuts
+    c.go_on-answered.new.faults (g.H.Host.told c.args.host.now)
+    (g.H.Host.told c.go_on-answered.new.host) (length c.args.slots.now) c.args.most
     c.args.desk.now c.go_on-answered.new.desk (conns c.go_on-answered.new.slots)
-    (c.loop-turn.answered + c.go_on-answered.result) c.in-Some.ending c.is_shut.result
-    (serves_on g.D.Framing.stated g.D.Desk.Steps g.D.Desk.shuts (length c.args.slots.now)
-    c.args.desk.now c.loop-turn.desk c.go_on-answered.new.desk (conns c.loop-turn.slots)
-    (conns c.go_on-answered.new.slots) c.loop-turn.answered c.go_on-answered.result
-    c.loop-turn.invariant.far c.go_on-answered.ensures.served)
-    c.is_shut.ensures c.go_on-answered.ensures.known
-    (c.in-Some.ensures
-    (omega (arith, c.loop-turn.invariant.most, c.go_on-answered.ensures.most)))
+    (c.loop-turn.answered + c.go_on-answered.result) (c.loop-turn._turn + 1) c.in-Some.ending
+    c.is_shut.result
+    (serves_on g.D.Framing.States g.D.Desk.Steps g.D.Desk.shuts (g.H.Host.told c.args.host.now)
+    (g.H.Host.told c.wait.new.host) (g.H.Host.told c.go_on-answered.new.host)
+    (length c.args.slots.now) c.args.most _ c.args.desk.now c.loop-turn.desk
+    c.go_on-answered.new.desk (conns c.loop-turn.slots) (conns c.go_on-answered.new.slots)
+    c.loop-turn.answered c.loop-turn._turn c.go_on-answered.result
+    (subst (λ (t : Told). ServesFrom g.D.Framing.States g.D.Desk.Steps g.D.Desk.shuts
+    (g.H.Host.told c.args.host.now) t (length c.args.slots.now) c.args.most c.args.desk.now
+    (conns c.loop-turn.slots) c.loop-turn.desk c.loop-turn.answered c.loop-turn._turn)
+    (sym c.in-Ok.ensures.ok) c.loop-turn.invariant.far) refl c.go_on-answered.ensures.served)
+    c.is_shut.ensures (c.go_on-answered.ensures.known
+    (subst (λ (t : Told). c.loop-turn.faults ≤ t.failed) (sym c.in-Ok.ensures.ok)
+    c.loop-turn.invariant.known))
+    (omega (arith, c.loop-turn.invariant.most, c.go_on-answered.ensures.most)) c.in-Some.ensures
+
+pub returns-in_default : goal.returns-in_default
+returns-in_default g c =
+    served_waits g.D.Framing.States g.D.Desk.Steps g.D.Desk.shuts (g.H.Host.told c.args.host.now)
+    (g.H.Host.told c.loop-turn.host) (g.H.Host.told c.wait.new.host) (length c.args.slots.now)
+    c.args.most c.args.desk.now c.loop-turn.desk (conns c.loop-turn.slots) c.loop-turn.answered
+    c.loop-turn._turn c.loop-turn.invariant.far (c.in_default.ensures.err) c.loop-turn.invariant.most

@@ -1,4 +1,4 @@
--- so many messages were answered so far
+-- so many messages were answered so far, in so many turns
 use Rattle.std.proofs.Common.{◌≤◌, length}
 use Rattle.server_core.specs.Places.{conns}
 use Rattle.server_core.specs.Served.{ServesFrom}
@@ -6,7 +6,9 @@ use Rattle.server_core.proofs.server.serve_at.Given as goal
 
 abbrev pub invariant-loop-turn : goal.invariant-loop-turn
 invariant-loop-turn g l = record {
-  far : ServesFrom g.D.Framing.stated g.D.Desk.Steps g.D.Desk.shuts (length l.fn.slots) l.fn.desk (conns l.slots)
-      l.desk l.answered;
+  far : ServesFrom g.D.Framing.States g.D.Desk.Steps g.D.Desk.shuts (g.H.Host.told l.fn.host)
+      (g.H.Host.told l.host) (length l.fn.slots) l.most l.fn.desk (conns l.slots) l.desk l.answered
+      l._turn;
   most : l.answered ≤ l.most;
+  known : l.faults ≤ (g.H.Host.told l.host).failed;
 }

@@ -2,8 +2,8 @@
 use Rattle.std.proofs.Common.{◌≢◌, ◌<◌, ◌+◌, length, arith, add-zero, ap, sym, ◌∙◌, rules}
 use Rattle.connection_core.specs.declared.phase.Phase.TheVariants.{Ready}
 use Rattle.server_core.specs.Places.{conns}
-use Rattle.server_core.specs.Turns.{IsInTime, at_minute}
-use Rattle.server_core.proofs.PlaceLemmas.{bit, each_on, places_on}
+use Rattle.server_core.specs.Turns.{IsDone, at_minute, logged}
+use Rattle.server_core.proofs.PlaceLemmas.{all_far, bit, each_on, few_places, places_on}
 use Rattle.server_core.proofs.turn.turn.Goals as goal
 use Rattle.server_core.proofs.turn.turn.Goals.{then-work, else-work}
 
@@ -17,17 +17,19 @@ loop-place-preserved g c =
           let more = w.answered-is ∙ ap (λ r. c.loop-place.answered + bit r) (sym w.if-work.true) in
           record {
             far =
-                places_on g.D.Framing.stated (at_minute c.args.moment.minute g.D.Desk.Steps) (conns c.args.slots.now) c.loop-place.slots
-                c.args.desk.now c.loop-place.desk c.work.new.desk i c.loop-place.answered
+                places_on g.D.Framing.States (logged (at_minute c.args.moment.minute g.D.Desk.Steps))
+                c.args.moment.now (conns c.args.slots.now) c.loop-place.slots
+                (c.args.desk.now, g.H.Host.told c.args.host.now)
+                (c.loop-place.desk, g.H.Host.told c.loop-place.host)
+                (c.work.new.desk, g.H.Host.told c.work.new.host) i c.loop-place.answered
                 c.if-work.answered c.work.result c.index-slots-place.result c.work.new.slot low
                 more c.loop-place.invariant.far c.work.ensures.turn;
             most = search rules;
             unready = λ few. each_on (λ x. x.phase ≢ Ready) c.loop-place.slots i c.work.new.slot low
                 (c.loop-place.invariant.unready (omega (arith, few, w.answered-is)))
                 (c.work.ensures.unready (c.work.ensures.asked w.if-work.true));
-            in_time = each_on (IsInTime c.args.moment.now) c.loop-place.slots i c.work.new.slot low
-                c.loop-place.invariant.in_time c.work.ensures.in_time;
-            kept = c.work.ensures.kept ∙ c.loop-place.invariant.kept;
+            done = each_on (IsDone c.args.moment.now) c.loop-place.slots i c.work.new.slot low
+                c.loop-place.invariant.done c.work.ensures.done;
           }
       | else-work w ↦
           let more =
@@ -35,16 +37,27 @@ loop-place-preserved g c =
           ∙ ap (λ r. c.loop-place.answered + bit r) (sym w.if-work.false) in
           record {
             far =
-                places_on g.D.Framing.stated (at_minute c.args.moment.minute g.D.Desk.Steps) (conns c.args.slots.now) c.loop-place.slots
-                c.args.desk.now c.loop-place.desk c.work.new.desk i c.loop-place.answered
+                places_on g.D.Framing.States (logged (at_minute c.args.moment.minute g.D.Desk.Steps))
+                c.args.moment.now (conns c.args.slots.now) c.loop-place.slots
+                (c.args.desk.now, g.H.Host.told c.args.host.now)
+                (c.loop-place.desk, g.H.Host.told c.loop-place.host)
+                (c.work.new.desk, g.H.Host.told c.work.new.host) i c.loop-place.answered
                 c.if-work.answered c.work.result c.index-slots-place.result c.work.new.slot low
                 more c.loop-place.invariant.far c.work.ensures.turn;
             most = search rules;
             unready = λ few. each_on (λ x. x.phase ≢ Ready) c.loop-place.slots i c.work.new.slot low
                 (c.loop-place.invariant.unready (omega (arith, few, w.answered-is)))
                 (c.work.ensures.unready (grind (arith, few, w.answered-is)));
-            in_time = each_on (IsInTime c.args.moment.now) c.loop-place.slots i c.work.new.slot low
-                c.loop-place.invariant.in_time c.work.ensures.in_time;
-            kept = c.work.ensures.kept ∙ c.loop-place.invariant.kept;
+            done = each_on (IsDone c.args.moment.now) c.loop-place.slots i c.work.new.slot low
+                c.loop-place.invariant.done c.work.ensures.done;
           }
     ]
+
+pub returns-clause-turns : goal.returns-clause-turns
+returns-clause-turns g c =
+    all_far g.D.Framing.States (logged (at_minute c.args.moment.minute g.D.Desk.Steps))
+    c.args.moment.now (conns c.args.slots.now) (conns c.loop-place.slots)
+    (c.args.desk.now, g.H.Host.told c.args.host.now)
+    (c.loop-place.desk, g.H.Host.told c.loop-place.host) c.loop-place.place c.loop-place.answered
+    (few_places c.loop-place.slots c.loop-place.place
+    (omega (arith, c.loop-place-test.false, c.loop-place.auto.slots))) c.loop-place.invariant.far

@@ -1,11 +1,10 @@
 -- what was written before is no message that waits
 use Rattle.std.proofs.Common.{sym}
 use Rattle.connection_core.specs.Seen.{seen}
-use Rattle.server_core.proofs.TurnLemmas.{moves_written, writing_unready}
+use Rattle.server_core.proofs.TurnLemmas.{writing_unready}
 use Rattle.server_core.proofs.work.send.Goals as goal
 
-pub returns-in-Some-clause-unready : goal.returns-in-Some-clause-unready
-returns-in-Some-clause-unready g c unready =
-    writing_unready g.F.Framing.stated (seen c.args.slot.now.connection)
-    (seen c.write_some.new.connection) (sym c.in-Writing.ensures)
-    (moves_written g.F.Framing.stated _ _ _ _ c.write_some.ensures)
+pub returns-then-mark-clause-unready : goal.returns-then-mark-clause-unready
+returns-then-mark-clause-unready g c unready =
+    writing_unready g.F.Framing.States c.args.now (seen c.args.slot.now.connection)
+    (seen c.write_at.new.slot.connection) (sym c.in-Writing.ensures) c.write_at.ensures.moves

@@ -1,15 +1,34 @@
 -- its turn is that of its message, between what it reads and what it writes
 use Rattle.connection_core.specs.Seen.{seen}
-use Rattle.server_core.specs.Turns.{at_minute}
-use Rattle.server_core.proofs.TurnLemmas.{moves_both, moves_passed, turn_within}
+use Rattle.server_core.specs.Turns.{at_minute, logged}
+use Rattle.server_core.proofs.ReadLemmas.{both_on, once_on}
+use Rattle.server_core.proofs.TurnLemmas.{moves_both, moves_passed, turn_told, turn_within}
 use Rattle.server_core.proofs.work.work.Goals as goal
 
 pub returns-clause-turn : goal.returns-clause-turn
 returns-clause-turn g c =
-    turn_within g.D.Framing.stated (at_minute c.args.moment.minute g.D.Desk.Steps) (seen c.args.slot.now.connection)
-    (seen c.receive.new.slot.connection) (seen c.answer-answered.new.connection)
-    (seen c.finish.new.slot.connection) c.args.desk.now c.answer-answered.new.desk
-    c.answer-answered.result c.receive.ensures
-    (moves_both g.D.Framing.stated _ (seen c.send.new.slot.connection) _ c.send.ensures.moves
-    (moves_passed g.D.Framing.stated _ _ c.args.moment.now c.finish.ensures))
-    c.answer-answered.ensures.turn
+    let now = c.args.moment.now in
+    turn_told g.D.Framing.States (logged (at_minute c.args.moment.minute g.D.Desk.Steps)) now
+    (seen c.args.slot.now.connection) (seen c.finish.new.slot.connection) c.args.desk.now
+    c.answer-answered.new.desk (g.H.Host.told c.args.host.now)
+    (g.H.Host.told c.answer-answered.new.host) (g.H.Host.told c.send.new.host)
+    c.answer-answered.result c.send.ensures.kept
+    (turn_within g.D.Framing.States (logged (at_minute c.args.moment.minute g.D.Desk.Steps)) now
+    (seen c.args.slot.now.connection) (seen c.receive.new.slot.connection)
+    (seen c.answer-answered.new.connection) (seen c.finish.new.slot.connection)
+    (c.args.desk.now, g.H.Host.told c.args.host.now)
+    (c.answer-answered.new.desk, g.H.Host.told c.answer-answered.new.host) c.answer-answered.result (c.receive.ensures.moves now)
+    (moves_both g.D.Framing.States now _ (seen c.send.new.slot.connection) _ c.send.ensures.moves
+    (moves_both g.D.Framing.States now _ (seen c.settle.new.slot.connection) _
+    (c.settle.ensures.moves now) (moves_passed g.D.Framing.States now _ _ c.finish.ensures.passed)))
+    c.answer-answered.ensures.turn)
+
+-- where its mark says so, it reads, and nothing of that is undone
+pub returns-clause-read : goal.returns-clause-read
+returns-clause-read g c marked listening =
+    once_on c.args.slot.now.stream c.receive.new.slot.stream c.finish.new.slot.stream
+    (c.receive.ensures.read marked listening)
+    (both_on c.receive.new.slot.stream c.send.new.slot.stream c.finish.new.slot.stream
+    c.send.ensures.on
+    (both_on c.send.new.slot.stream c.settle.new.slot.stream c.finish.new.slot.stream
+    c.settle.ensures.on c.finish.ensures.on))

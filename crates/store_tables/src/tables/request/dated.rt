@@ -6,7 +6,9 @@ ghost use Rattle.store_tables.specs.Contents.Request.{has_number, is_dated_after
 ghost use Rattle.store_tables.specs.Contents.Request.{is_due_before};
 ghost use Rattle.store_tables.specs.Readings.{MismatchesInDated, Reads, TestsDated};
 ghost use Rattle.store_tables.specs.Picked.{AreFirst, AreOrdered};
+ghost use Rattle.store_tables.specs.Calls.{Leaves, ReadsAlone, ReadsRows};
 ghost use Rattle.store_tables.specs.Seen.{seen};
+ghost use Rattle.sqlite.specs.Values.{bound};
 ghost use Rattle.store_tables.specs.Contents.{set_each_due};
 
 use crate::columns::{nullable_minute, nullable_minute_at, number, words};
@@ -18,6 +20,7 @@ use crate::transaction::run_on_any;
 use crate::written::Put;
 use desk_model::RequestRow;
 use hours_core::Minute;
+use sqlite::types::ValueRef;
 use sqlite::{Alter, Row, Transaction};
 use std::alloc::Global;
 use text_core::Text;
@@ -33,6 +36,22 @@ impl Stored for (RequestRow, Option<Minute>) {
     }
 }
 
+/// The requests with their due moments that a query shows. `Mismatch` where one of its rows shows
+/// none, `Refused` where the store or memory refuses it.
+fn dated_rows<S: Alter>(
+    alloc: Global,
+    tables: &mut Tables<S>,
+    sql: &str,
+    params: &[ValueRef<'_>],
+) -> Result<Vec<(RequestRow, Option<Minute>)>, StoreFault>
+    requires { ReadsAlone sql.now }
+    ensures read { ReadsRows ReadsDated IsDatedRow (λ xs. xs.items)
+        sql.now (bound params.now) (seen S.Store tables.old) (seen S.Store tables.new) result }
+    ensures leaves { Leaves (seen S.Store tables.old) (seen S.Store tables.new) result }
+{
+    select_all(alloc, tables, sql, params)
+}
+
 /// The requests, by number, each with its due moment. `Mismatch` where a row is no request or its
 /// due moment is neither a minute nor absent, `Refused` where the store or memory refuses it.
 pub fn dated_requests<S: Alter>(
@@ -44,7 +63,7 @@ pub fn dated_requests<S: Alter>(
     ensures tested { TestsDated
         (seen S.Store tables.old) (seen S.Store tables.new) result }
 {
-    select_all(
+    dated_rows(
         alloc,
         tables,
         "SELECT id, queue, subject, status, owner, level, created, opened, turn, since, due FROM \
@@ -67,7 +86,7 @@ pub fn dated_of<S: Alter>(
     ensures mismatch { MismatchesInDated
         (seen S.Store tables.old) (seen S.Store tables.new) result }
 {
-    select_all(
+    dated_rows(
         alloc,
         tables,
         "SELECT id, queue, subject, status, owner, level, created, opened, turn, since, due FROM \
@@ -91,7 +110,7 @@ pub fn dated_after<S: Alter>(
     ensures mismatch { MismatchesInDated
         (seen S.Store tables.old) (seen S.Store tables.new) result }
 {
-    select_all(
+    dated_rows(
         alloc,
         tables,
         "SELECT id, queue, subject, status, owner, level, created, opened, turn, since, due FROM \
@@ -113,7 +132,7 @@ pub fn dated_before<S: Alter>(
     ensures mismatch { MismatchesInDated
         (seen S.Store tables.old) (seen S.Store tables.new) result }
 {
-    select_all(
+    dated_rows(
         alloc,
         tables,
         "SELECT id, queue, subject, status, owner, level, created, opened, turn, since, due FROM \

@@ -1,7 +1,15 @@
 -- the law of every server, with the longest body that a place takes
-use Rattle.web_core.proofs.FramingLemmas.{states_at_most}
+use Rattle.std.proofs.Common.{Some, None}
+use Rattle.connection_core.specs.Laws.{StatesAtMost}
+use Rattle.message_core.specs.Stated.{States}
+use Rattle.message_core.specs.declared.limits.BodyLimit.TheVariants.{ByPlace}
+use Rattle.message_core.proofs.StatedLemmas.{stated_small}
 use Rattle.web_core.proofs.laws.memory_law.Goals as goal
 
+states_at_most : StatesAtMost 262144 (States ByPlace)
+states_at_most head None states = tt
+states_at_most head (Some n) states = stated_small ByPlace head n states
+
 pub returns : goal.returns
-returns g c places most acts news desk next serves all =
-    c.memory_law.ensures places most acts news desk next states_at_most serves all
+returns g c places most bytes turns news desk next serves all =
+    c.memory_law.ensures places most bytes turns news desk next states_at_most serves all

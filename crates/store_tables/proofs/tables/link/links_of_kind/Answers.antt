@@ -4,18 +4,18 @@ use Rattle.sqlite_tied.proofs.RuleLemmas.{and_true}
 use Rattle.sqlite_tied.specs.Compute.{everything}
 use Rattle.store_tables.specs.Contents.Link.{links_from, target_order}
 use Rattle.store_tables.proofs.Contents.Link.{link_table}
-use Rattle.store_tables.proofs.RowLemmas.{answered, lists, ranked}
+use Rattle.store_tables.proofs.RowLemmas.{answered, lists, ranked, told_of}
 use Rattle.store_tables.proofs.TestLemmas.{equal_numbers}
 use Rattle.store_tables.proofs.TextLemmas.{none_given}
 use Rattle.store_tables.proofs.tables.link.links_of_kind.Goals as goal
 
-pub select_all-requires : goal.select_all-requires
+pub link_rows-requires : goal.link_rows-requires
 unfolding everything
-select_all-requires g c schema k found = none_given schema _ k found (λ s n. refl)
+link_rows-requires g c schema k found = none_given schema _ k found (λ s n. refl)
 
 pub returns : goal.returns
 unfolding understood everything
-returns g c = (answered link_table (lists link_table (rw (c.number.ensures.bound, c.link_kind.ensures) at c.select_all.ensures) target_order
+returns g c = (answered link_table (lists link_table (told_of (rw (c.number.ensures.bound, c.link_kind.ensures) at c.link_rows.ensures.read) c.link_rows.ensures.leaves) target_order
     (record { is = refl; plain = (refl, refl); unlisted = refl; none = λ s n. refl })
     (links_from c.args.id c.args.kind) (λ k. simp (equal_numbers, and_true))
     (λ a b. simp ranked))).read

@@ -6,19 +6,19 @@ use Rattle.store_tables.specs.Contents.Request.{is_dated_after}
 use Rattle.store_tables.specs.Query.{id_order}
 use Rattle.store_tables.proofs.Contents.Request.{dated_table}
 use Rattle.store_tables.proofs.FoundLemmas.{lists_first}
-use Rattle.store_tables.proofs.RowLemmas.{answered, ranked}
+use Rattle.store_tables.proofs.RowLemmas.{answered, ranked, told_of}
 use Rattle.store_tables.proofs.TestLemmas.{equal_texts, number_after}
 use Rattle.store_tables.proofs.TextLemmas.{none_given}
 use Rattle.store_tables.proofs.tables.request.dated.dated_after.Goals as goal
 
-pub select_all-requires : goal.select_all-requires
+pub dated_rows-requires : goal.dated_rows-requires
 unfolding everything
-select_all-requires g c schema k found = none_given schema _ k found (λ s n. refl)
+dated_rows-requires g c schema k found = none_given schema _ k found (λ s n. refl)
 
 pub returns : goal.returns
 unfolding understood everything
 returns g c = answered dated_table (lists_first dated_table 64
-    (rw (c.words.ensures.bound, c.number.ensures.bound) at c.select_all.ensures) id_order
+    (told_of (rw (c.words.ensures.bound, c.number.ensures.bound) at c.dated_rows.ensures.read) c.dated_rows.ensures.leaves) id_order
     (record { is = refl; plain = (refl, refl); unlisted = refl; none = λ s n. refl })
     (is_dated_after c.args.queue.now c.args.after)
     (λ k. simp (equal_texts, number_after, and_true)) (λ a b. simp ranked))

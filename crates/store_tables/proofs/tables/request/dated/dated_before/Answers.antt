@@ -4,18 +4,18 @@ use Rattle.sqlite_tied.proofs.RuleLemmas.{and_true}
 use Rattle.sqlite_tied.specs.Compute.{everything}
 use Rattle.store_tables.specs.Contents.Request.{due_order, is_due_before}
 use Rattle.store_tables.proofs.Contents.Request.{dated_table}
-use Rattle.store_tables.proofs.RowLemmas.{answered, lists, ranked}
+use Rattle.store_tables.proofs.RowLemmas.{answered, lists, ranked, told_of}
 use Rattle.store_tables.proofs.TestLemmas.{moment_before}
 use Rattle.store_tables.proofs.TextLemmas.{none_given}
 use Rattle.store_tables.proofs.tables.request.dated.dated_before.Goals as goal
 
-pub select_all-requires : goal.select_all-requires
+pub dated_rows-requires : goal.dated_rows-requires
 unfolding everything
-select_all-requires g c schema k found = none_given schema _ k found (λ s n. refl)
+dated_rows-requires g c schema k found = none_given schema _ k found (λ s n. refl)
 
 pub returns : goal.returns
 unfolding understood everything
-returns g c = answered dated_table (lists dated_table (rw c.number.ensures.bound at c.select_all.ensures) due_order
+returns g c = answered dated_table (lists dated_table (told_of (rw c.number.ensures.bound at c.dated_rows.ensures.read) c.dated_rows.ensures.leaves) due_order
     (record { is = refl; plain = (refl, refl); unlisted = refl; none = λ s n. refl })
     (is_due_before c.args.at) (λ k. simp (moment_before, and_true))
     (λ a b. simp ranked))

@@ -1,0 +1,8 @@
+-- the law of the definitions
+use Rattle.desk_core.proofs.Moved.{every}
+use Rattle.desk_core.proofs.Taken as taken
+use Rattle.desk_core.proofs.laws.reading_law.Goals as goal
+use Rattle.desk_core.specs.Laws.{ReadingLaw}
+
+pub returns : goal.returns
+returns c = every ReadingLaw taken.reading_law

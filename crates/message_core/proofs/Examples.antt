@@ -1,0 +1,217 @@
+-- Examples of the definitions: the length that a head states, at its limits; tokens and other lines
+-- that stand once or twice; what follows a head; the bytes of replies; the numbers of faults.
+use Rattle.std.specs.Prelude.{◌≡◌, refl, ℕ, true, false, List, [], ◌∷◌, ◌++◌, codes, Some, None}
+use Rattle.std.specs.Prelude.{Ok, Err}
+use Rattle.std.specs.Fmt.{digits}
+use Rattle.std.specs.Str.{chars, is_utf8}
+use Rattle.std.proofs.Common.{arith}
+use Rattle.std.proofs.lemmas.Str.{IsUtf8-from_ascii, is_utf8-from_IsUtf8}
+use Rattle.std.proofs.lemmas.Str.Ascii.{IsAscii-cons, IsAscii-nil}
+use Rattle.message_core.specs.Fault.{name_of, number_of}
+use Rattle.message_core.specs.Heading.{Line, length_of, number_within, token_of}
+use Rattle.message_core.specs.Limits.{limit_at}
+use Rattle.message_core.specs.Message.{completed, left_of}
+use Rattle.message_core.specs.Reply.{allow_line, bytes_of, fields, last_line, status_line}
+use Rattle.message_core.specs.Reply.{type_line}
+use Rattle.message_core.specs.Reply.{unavailable}
+use Rattle.message_core.specs.Request.{all_values, one_value}
+use Rattle.message_core.specs.declared.fault.WireFault.TheVariants.{TooLong, Truncated, BadLength}
+use Rattle.message_core.specs.declared.fault.WireFault.TheVariants.{NoMemory}
+use Rattle.message_core.specs.declared.heading.Heading.{Heading}
+use Rattle.message_core.specs.declared.limits.BodyLimit.TheVariants.{ByPlace, Plain}
+use Rattle.message_core.specs.declared.reply.Allow.TheVariants.{Get, GetPost, Post}
+use Rattle.message_core.specs.declared.reply.Reply.{Reply}
+
+-- Fault.antt
+
+number_of_the_first_fault : number_of TooLong ≡ 1
+number_of_the_first_fault = refl
+
+number_of_the_last_fault : number_of NoMemory ≡ 6
+number_of_the_last_fault = refl
+
+name_of_a_bad_length : name_of BadLength ≡ codes "BadLength"
+name_of_a_bad_length = refl
+
+-- Limits.antt
+
+body_in_json : limit_at Plain (codes "/desk/requests/1") ≡ 65536
+body_in_json = refl
+
+body_of_a_form : limit_at ByPlace (codes "/desk/requests/1") ≡ 262144
+body_of_a_form = refl
+
+body_beside_the_forms : limit_at ByPlace (codes "/desk") ≡ 65536
+body_beside_the_forms = refl
+
+body_at_another_place : limit_at ByPlace (codes "/requests/desk/") ≡ 65536
+body_at_another_place = refl
+
+-- Heading.antt: the length
+
+abbrev line : List ℕ → List ℕ → Line
+line name value = (name, value)
+
+abbrev length_line : List ℕ → Line
+length_line value = (codes "Content-Length", value)
+
+no_line_is_no_body : length_of 65536 [] ≡ Ok 0
+no_line_is_no_body = refl
+
+length_at_the_limit : length_of 65536 (length_line (codes "65536") ∷ []) ≡ Ok 65536
+length_at_the_limit = refl
+
+length_past_the_limit : length_of 65536 (length_line (codes "65537") ∷ []) ≡ Err TooLong
+length_past_the_limit = refl
+
+length_with_zeros : length_of 65536 (length_line (codes "0000000000007") ∷ []) ≡ Ok 7
+length_with_zeros = refl
+
+length_of_many_digits :
+    length_of 65536 (length_line (codes "99999999999999999999999999") ∷ []) ≡ Err TooLong
+length_of_many_digits = refl
+
+length_without_digits : length_of 65536 (length_line [] ∷ []) ≡ Err BadLength
+length_without_digits = refl
+
+length_with_a_sign : length_of 65536 (length_line (codes "+7") ∷ []) ≡ Err BadLength
+length_with_a_sign = refl
+
+length_with_a_point : length_of 65536 (length_line (codes "7.0") ∷ []) ≡ Err BadLength
+length_with_a_point = refl
+
+length_twice :
+    length_of 65536 (length_line (codes "7") ∷ length_line (codes "7") ∷ []) ≡ Err BadLength
+length_twice = refl
+
+length_in_small_letters : length_of 65536 (line (codes "content-length") (codes "7") ∷ []) ≡ Ok 7
+length_in_small_letters = refl
+
+length_twice_in_other_letters :
+    length_of 65536 (length_line (codes "7") ∷ line (codes "content-length") (codes "7") ∷ [])
+    ≡ Err BadLength
+length_twice_in_other_letters = refl
+
+body_in_another_coding :
+    length_of 65536
+    (line (codes "transfer-encoding") (codes "chunked") ∷ length_line (codes "7") ∷ [])
+    ≡ Err BadLength
+body_in_another_coding = refl
+
+number_over_the_limit : number_within 99 (codes "12345") ≡ Some 100
+number_over_the_limit = refl
+
+-- Heading.antt: the token
+
+ascii : is_utf8 (codes "ab") ≡ true
+ascii =
+    is_utf8-from_IsUtf8 (codes "ab")
+    (IsUtf8-from_ascii (codes "ab")
+    (IsAscii-cons 97 (98 ∷ []) (omega arith) (IsAscii-cons 98 [] (omega arith) IsAscii-nil)))
+
+token_of_one_line : token_of (line (codes "desk-token") (codes "ab") ∷ []) ≡ Some (codes "ab")
+token_of_one_line = simp ascii
+
+no_token : token_of (line (codes "Token") (codes "ab") ∷ []) ≡ None
+no_token = refl
+
+two_tokens :
+    token_of (line (codes "Desk-Token") (codes "ab") ∷ line (codes "Desk-Token") (codes "ab") ∷ [])
+    ≡ None
+two_tokens = refl
+
+-- the first byte of é alone
+token_that_is_no_text : token_of (line (codes "Desk-Token") (195 ∷ []) ∷ []) ≡ None
+unfolding is_utf8 chars
+token_that_is_no_text = refl
+
+-- Request.antt
+
+abbrev lines : List Line
+lines =
+    line (codes "Host") (codes "a") ∷ line (codes "Cookie") (codes "b")
+    ∷ line (codes "cookie") (codes "c") ∷ []
+
+value_of_one_line : one_value (codes "host") lines ≡ Some (codes "a")
+value_of_one_line = refl
+
+value_of_two_lines : one_value (codes "Cookie") lines ≡ None
+value_of_two_lines = refl
+
+value_of_no_line : one_value (codes "Origin") lines ≡ None
+value_of_no_line = refl
+
+values_of_two_lines : all_values (codes "Cookie") lines ≡ codes "b" ∷ codes "c" ∷ []
+values_of_two_lines = refl
+
+-- Message.antt
+
+abbrev said : Heading
+said =
+    record { method = codes "POST"; target = codes "/queues"; token = None; length = 3 }
+
+body_of_the_length :
+    completed (Ok said) (codes "abc")
+    ≡ Ok
+    (record { method = codes "POST"; target = codes "/queues"; token = None; body = codes "abc" })
+body_of_the_length = refl
+
+body_one_byte_short : completed (Ok said) (codes "ab") ≡ Err Truncated
+body_one_byte_short = refl
+
+bytes_past_a_message :
+    completed (Ok said) (codes "abcde")
+    ≡ Ok
+    (record { method = codes "POST"; target = codes "/queues"; token = None; body = codes "abc" })
+bytes_past_a_message = refl
+
+which_are_left : left_of (Ok said) (codes "abcde") ≡ codes "de"
+which_are_left = refl
+
+nothing_is_read_behind_a_bad_head : left_of (Err BadLength) (codes "abc") ≡ codes "abc"
+nothing_is_read_behind_a_bad_head = refl
+
+-- Reply.antt
+
+abbrev reply : Reply
+reply = record { status = 201; allow = None; body = codes "request 1\n"; head_only = false }
+
+bytes_of_a_reply :
+    bytes_of reply
+    ≡ codes "HTTP/1.1 201 Created\r\nContent-Type: text/plain; charset=utf-8\r\n"
+    ++ codes "Content-Length: 10\r\nConnection: close\r\n\r\nrequest 1\n"
+unfolding status_line fields type_line allow_line last_line digits
+bytes_of_a_reply = refl
+
+-- without its body, whose length is told
+reply_to_a_head :
+    bytes_of (record reply { head_only = true })
+    ≡ codes "HTTP/1.1 201 Created\r\nContent-Type: text/plain; charset=utf-8\r\n"
+    ++ codes "Content-Length: 10\r\nConnection: close\r\n\r\n"
+unfolding status_line fields type_line allow_line last_line digits
+reply_to_a_head = refl
+
+abbrev bad_method : Reply
+bad_method = record { status = 405; allow = Some GetPost; body = codes "x"; head_only = false }
+
+reply_with_the_methods_of_a_path :
+    bytes_of bad_method
+    ≡ codes "HTTP/1.1 405 Method Not Allowed\r\nContent-Type: text/plain; charset=utf-8\r\n"
+    ++ codes "Content-Length: 1\r\nAllow: GET, POST\r\nConnection: close\r\n\r\nx"
+unfolding status_line fields type_line allow_line last_line digits
+reply_with_the_methods_of_a_path = refl
+
+get_alone : allow_line (Some Get) ≡ codes "\r\nAllow: GET\r\n"
+unfolding allow_line
+get_alone = refl
+
+post_alone : allow_line (Some Post) ≡ codes "\r\nAllow: POST\r\n"
+unfolding allow_line
+post_alone = refl
+
+reply_without_memory :
+    bytes_of (unavailable false)
+    ≡ codes "HTTP/1.1 503 Service Unavailable\r\nContent-Type: text/plain; charset=utf-8\r\n"
+    ++ codes "Content-Length: 23\r\nConnection: close\r\n\r\nrefused 16 Unavailable\n"
+unfolding status_line fields type_line allow_line last_line digits
+reply_without_memory = refl

@@ -1,0 +1,114 @@
+-- Examples of the definitions: a page's reply byte by byte, with each change of the cookie, with a
+-- place that it leads to, with the methods of a path and to a HEAD; and the style sheet's.
+use Rattle.std.specs.Prelude.{◌≡◌, refl, ℕ, true, false, List, [], ◌++◌, codes, Some, None}
+use Rattle.std.specs.Fmt.{digits}
+use Rattle.message_core.specs.Reply.{status_line}
+use Rattle.page_reply.specs.PageReply.{allow_line, bytes_of, cookie_line, forget_line, guard_lines}
+use Rattle.page_reply.specs.PageReply.{last_lines, leads_line, length_lines, location_line}
+use Rattle.page_reply.specs.PageReply.{session_line, sheet_bytes, sheet_lines}
+use Rattle.page_reply.specs.PageReply.{stay_line}
+use Rattle.page_reply.specs.declared.reply.CookieChange.TheVariants.{Keep, Session, Stay, Forget}
+use Rattle.page_reply.specs.declared.reply.Methods.TheVariants.{Get, GetAndPost}
+use Rattle.page_reply.specs.declared.reply.PageReply.{PageReply}
+
+-- PageReply.antt: lines
+
+cookie_that_stays_as_it_is : cookie_line Keep ≡ []
+cookie_that_stays_as_it_is = refl
+
+cookie_of_a_session :
+    cookie_line (Session (codes "abc"))
+    ≡ codes "Set-Cookie: desk=abc; Path=/; HttpOnly; SameSite=Strict\r\n"
+unfolding session_line
+cookie_of_a_session = refl
+
+-- thirty days
+cookie_that_outlasts_it :
+    cookie_line (Stay (codes "abc"))
+    ≡ codes "Set-Cookie: desk=abc; Path=/; Max-Age=2592000; HttpOnly; SameSite=Strict\r\n"
+unfolding stay_line
+cookie_that_outlasts_it = refl
+
+cookie_that_goes :
+    cookie_line Forget
+    ≡ codes "Set-Cookie: desk=; Path=/; Max-Age=0; HttpOnly; SameSite=Strict\r\n"
+    ++ codes "Clear-Site-Data: \"cache\"\r\n"
+unfolding forget_line
+cookie_that_goes = refl
+
+leads_nowhere : location_line None ≡ []
+leads_nowhere = refl
+
+leads_to_a_path : location_line (Some (codes "/desk/")) ≡ codes "Location: /desk/\r\n"
+unfolding leads_line
+leads_to_a_path = refl
+
+no_methods : allow_line None ≡ []
+unfolding allow_line
+no_methods = refl
+
+get_alone : allow_line (Some Get) ≡ codes "Allow: GET\r\n"
+unfolding allow_line
+get_alone = refl
+
+get_and_post : allow_line (Some GetAndPost) ≡ codes "Allow: GET, POST\r\n"
+unfolding allow_line
+get_and_post = refl
+
+-- PageReply.antt: replies
+
+abbrev page : PageReply
+page =
+    record {
+      status = 200;
+      cookie = Keep;
+      location = None;
+      allow = None;
+      page = codes "<p>Hello</p>";
+      head_only = false;
+    }
+
+-- after the status and the lines of cookie, place and methods
+abbrev guards : List ℕ
+guards =
+    codes "Cache-Control: no-store\r\nContent-Security-Policy: default-src 'none'; "
+    ++ (codes "style-src 'self'; form-action 'self'; frame-ancestors 'none'; base-uri 'none'\r\n"
+    ++ (codes "Referrer-Policy: same-origin\r\nX-Content-Type-Options: nosniff\r\n"
+    ++ codes "Connection: close\r\n\r\n"))
+
+bytes_of_a_page :
+    bytes_of page
+    ≡ codes "HTTP/1.1 200 OK\r\nContent-Type: text/html; charset=utf-8\r\nContent-Length: 12\r\n"
+    ++ (guards ++ codes "<p>Hello</p>")
+unfolding status_line length_lines allow_line guard_lines last_lines digits
+bytes_of_a_page = refl
+
+-- without the page, whose length is told
+bytes_of_a_page_to_a_head :
+    bytes_of (record page { head_only = true })
+    ≡ codes "HTTP/1.1 200 OK\r\nContent-Type: text/html; charset=utf-8\r\nContent-Length: 12\r\n"
+    ++ guards
+unfolding status_line length_lines allow_line guard_lines last_lines digits
+bytes_of_a_page_to_a_head = refl
+
+bytes_of_a_signing_in :
+    bytes_of
+    (record page {
+      status = 303;
+      cookie = Session (codes "abc");
+      location = Some (codes "/desk/");
+      page = [];
+    })
+    ≡ codes "HTTP/1.1 303 See Other\r\nContent-Type: text/html; charset=utf-8\r\n"
+    ++ (codes "Content-Length: 0\r\nSet-Cookie: desk=abc; Path=/; HttpOnly; SameSite=Strict\r\n"
+    ++ (codes "Location: /desk/\r\n" ++ guards))
+unfolding status_line length_lines session_line leads_line allow_line guard_lines last_lines digits
+bytes_of_a_signing_in = refl
+
+bytes_of_the_sheet :
+    sheet_bytes (codes "p {}")
+    ≡ codes "HTTP/1.1 200 OK\r\nContent-Type: text/css; charset=utf-8\r\nContent-Length: 4\r\n"
+    ++ (codes "Cache-Control: public, max-age=31536000, immutable\r\n"
+    ++ codes "X-Content-Type-Options: nosniff\r\nConnection: close\r\n\r\np {}")
+unfolding sheet_lines last_lines digits
+bytes_of_the_sheet = refl

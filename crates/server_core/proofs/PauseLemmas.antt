@@ -1,0 +1,78 @@
+-- For how long is waited.
+use Rattle.std.proofs.Common.{◌≡◌, ◌∙◌, ◌≤◌, ◌<◌, ◌+◌, ℕ, zero, suc, Bool, true, List, [], ◌∷◌, refl, ap}
+use Rattle.std.proofs.Common.{sym, subst, min, length, drop, get_or, arith}
+use Rattle.std.proofs.lemmas.List.{drop_more, drop_all, get_or-map, length-map}
+use Rattle.connection_core.specs.Machine.{Conn, closed}
+use Rattle.connection_core.specs.Seen.{seen}
+use Rattle.connection_core.specs.declared.phase.Phase.{Phase}
+use Rattle.connection_core.specs.declared.phase.Phase.TheVariants.{Closed}
+use Rattle.server_core.specs.Places.{HasFree, conns}
+use Rattle.server_core.specs.Wait.{begins, gives_in, idles, is_full, pause_at, pauses}
+use Rattle.server_core.specs.declared.admit.Queue.{Queue}
+use Rattle.server_core.specs.declared.admit.Queue.TheVariants.{Full}
+use Rattle.server_core.specs.declared.host.Mark.{Mark}
+use Rattle.server_core.specs.declared.slot.Slot.{Slot}
+
+pauses_none : (full : Bool) (now : ℕ) (cs : List Conn) (ms : List Mark)
+    → pauses full now 0 cs ms ≡ 0
+pauses_none full now [] ms = refl
+pauses_none full now (c ∷ cs) [] = refl
+pauses_none full now (c ∷ cs) (m ∷ ms) =
+    let none : min 0 (pause_at full now c m) ≡ 0 = omega arith in
+    ap (λ (n : ℕ). pauses full now n cs ms) none ∙ pauses_none full now cs ms
+
+-- a free place gives way at once
+free_at : (now : ℕ) (c : Conn) (m : Mark) → c.phase ≡ Closed → pause_at true now c m ≡ 0
+free_at now c m is =
+    ap (λ (p : Phase). min (gives_in now c p) (idles now c m p)) is
+
+free_by : (now pause place : ℕ) (cs : List Conn) (ms : List Mark) → length cs ≤ length ms
+    → place < length cs → (get_or cs place closed).phase ≡ Closed → pauses true now pause cs ms ≡ 0
+free_by now pause place [] ms many low is = let no : place < 0 = low in absurd (omega (arith, no))
+free_by now pause place (c ∷ cs) [] many low is = absurd (omega (arith, many))
+free_by now pause zero (c ∷ cs) (m ∷ ms) many low is =
+    let none = free_at now c m is in
+    let this : min pause (pause_at true now c m) ≡ 0 = omega (arith, none) in
+    ap (λ (n : ℕ). pauses true now n cs ms) this ∙ pauses_none true now cs ms
+free_by now pause (suc place) (c ∷ cs) (m ∷ ms) many low is =
+    free_by now (min pause (pause_at true now c m)) place cs ms (omega (arith, many))
+    (omega (arith, low)) is
+
+pub free_none : {S : Type 0} (slots : List (Slot S)) (ms : List Mark) (queue : Queue) (now r : ℕ)
+    → length slots ≤ length ms
+    → r ≡ pauses (is_full queue) now (begins queue) (conns slots) ms
+    → queue ≡ Full → HasFree (conns slots) → r ≡ 0
+free_none {S} slots ms queue now r many is full (place, low, free) =
+    is
+    ∙ ap (λ (q : Queue). pauses (is_full q) now (begins q) (conns slots) ms) full
+    ∙ free_by now 60000 place (conns slots) ms
+    (subst (λ (n : ℕ). n ≤ length ms) (sym (length-map slots (λ (s : Slot S). seen s.connection)))
+    many) low free
+
+-- one more was looked at
+pub pauses_on : {S : Type 0} (slots : List (Slot S)) (ms : List Mark) (full : Bool)
+    (now pause more whole i : ℕ) (d : Slot S) (m : Mark) → i < length slots → i < length ms
+    → more ≡ min pause (pause_at full now (seen (get_or slots i d).connection) (get_or ms i m))
+    → pauses full now pause (drop i (conns slots)) (drop i ms) ≡ whole
+    → pauses full now more (drop (i + 1) (conns slots)) (drop (i + 1) ms) ≡ whole
+pauses_on {S} slots ms full now pause more whole i d m low low_mark is same =
+    let view : Slot S → Conn = λ s. seen s.connection in
+    let c = view (get_or slots i d) in
+    let low_conns : i < length (conns slots) = simp length-map low in
+    let at : get_or (conns slots) i c ≡ c = get_or-map view slots i d c low in
+    let rest = drop (i + 1) (conns slots) in
+    let cut_conns = drop_more (conns slots) i c low_conns ∙ ap (λ (x : Conn). x ∷ rest) at in
+    let cut_marks = drop_more ms i m low_mark in
+    ap (λ (n : ℕ). pauses full now n rest (drop (i + 1) ms)) is
+    ∙ sym (ap (λ (l : List Conn). pauses full now pause l (drop i ms)) cut_conns
+    ∙ ap (λ (l : List Mark). pauses full now pause (c ∷ rest) l) cut_marks)
+    ∙ same
+
+-- all were
+pub none_left : {S : Type 0} (slots : List (Slot S)) (ms : List Mark) (full : Bool)
+    (now pause whole i : ℕ) → length slots ≤ i
+    → pauses full now pause (drop i (conns slots)) (drop i ms) ≡ whole → pause ≡ whole
+none_left {S} slots ms full now pause whole i all same =
+    let over : length (conns slots) ≤ i = simp length-map all in
+    sym (ap (λ (l : List Conn). pauses full now pause l (drop i ms)) (drop_all i (conns slots) over))
+    ∙ same

@@ -1,0 +1,371 @@
+-- Examples of the definitions: keys and what stands at them; whom a grant is for; days, intervals
+-- and moves as texts, at their limits; each fault of form, in tables inside too, and which comes
+-- first.
+use Rattle.std.specs.Prelude.{◌≡◌, refl, true, false, pos, [], codes, Some, None}
+use Rattle.toml.specs.Data.{Data, string, integer, boolean, array, table, no_items, item}
+use Rattle.toml.specs.Data.{Members, no_members, member}
+use Rattle.rights_core.specs.declared.grant.Subject.TheVariants as subject
+use Rattle.rights_core.specs.declared.role.Role.TheVariants.{Owner, AdminCc}
+use Rattle.settings_form.specs.Form.{kind_of}
+use Rattle.settings_form.specs.Grantee.{subject_in}
+use Rattle.settings_form.specs.Kinds.{has_clash, has_unknown_key, has_wrong_kind, lacks_key, two_of}
+use Rattle.settings_form.specs.TextForms.{after_space, before_space, day_of, has_form, interval_of}
+use Rattle.settings_form.specs.Walk.{form_fault}
+use Rattle.settings_form.specs.declared.fault.FormFault.TheVariants.{UnknownKey, Missing, WrongKind}
+use Rattle.settings_form.specs.declared.form.Item.TheVariants.{Integer, Pair, Table, Text}
+use Rattle.settings_form.specs.declared.form.Kind.TheVariants.{One, Many}
+use Rattle.settings_form.specs.declared.form.Place.TheVariants.{Top, Groups, Grant, Lifecycles}
+use Rattle.settings_form.specs.declared.form.Place.TheVariants.{RightNames, Calendar, Level, Limit}
+use Rattle.settings_form.specs.declared.form.TextForm.TheVariants.{Any, Name, To, RightKey}
+use Rattle.settings_form.specs.declared.form.TextForm.TheVariants.{Day, Interval}
+
+-- Form.antt
+
+persons_are_texts : kind_of Top (codes "persons") ≡ Some (Many (Text Any))
+persons_are_texts = refl
+
+entries_are_a_number : kind_of Top (codes "max_entries") ≡ Some (One Integer)
+entries_are_a_number = refl
+
+grants_are_tables : kind_of Top (codes "grant") ≡ Some (Many (Table Grant))
+grants_are_tables = refl
+
+no_key_of_a_text : kind_of Top (codes "colour") ≡ None
+no_key_of_a_text = refl
+
+key_in_large_letters : kind_of Top (codes "Persons") ≡ None
+key_in_large_letters = refl
+
+any_key_of_a_group : kind_of Groups (codes "colour") ≡ Some (Many (Text Any))
+any_key_of_a_group = refl
+
+last_day_of_a_week : kind_of Calendar (codes "sat") ≡ Some (Many (Text Interval))
+last_day_of_a_week = refl
+
+changes_are_pairs : kind_of Calendar (codes "changes") ≡ Some (Many Pair)
+changes_are_pairs = refl
+
+no_key_of_a_limit : kind_of Limit (codes "minutes") ≡ None
+no_key_of_a_limit = refl
+
+-- Grantee.antt
+
+to_everyone : subject_in (codes "everyone") ≡ Some subject.Everyone
+to_everyone = refl
+
+to_everyone_in_large_letters : subject_in (codes "Everyone") ≡ None
+to_everyone_in_large_letters = refl
+
+to_a_person : subject_in (codes "person:ann") ≡ Some (subject.Person (codes "ann"))
+to_a_person = refl
+
+-- whether such a person is there is asked later
+to_a_person_without_a_name : subject_in (codes "person:") ≡ Some (subject.Person [])
+to_a_person_without_a_name = refl
+
+to_a_group : subject_in (codes "group:staff") ≡ Some (subject.Group (codes "staff"))
+to_a_group = refl
+
+-- the first word decides
+to_a_person_named_as_a_group :
+    subject_in (codes "person:group:a") ≡ Some (subject.Person (codes "group:a"))
+to_a_person_named_as_a_group = refl
+
+to_the_owner : subject_in (codes "role:owner") ≡ Some (subject.Role Owner)
+to_the_owner = refl
+
+to_admin_cc : subject_in (codes "role:admincc") ≡ Some (subject.Role AdminCc)
+to_admin_cc = refl
+
+to_no_role : subject_in (codes "role:boss") ≡ None
+to_no_role = refl
+
+to_a_bare_name : subject_in (codes "ann") ≡ None
+to_a_bare_name = refl
+
+-- TextForms.antt: moves
+
+move_of_two_statuses : has_form RightKey (codes "new -> open") ≡ true
+move_of_two_statuses = refl
+
+move_of_any_statuses : has_form RightKey (codes "* -> *") ≡ true
+move_of_any_statuses = refl
+
+move_without_spaces : has_form RightKey (codes "new->open") ≡ false
+move_without_spaces = refl
+
+move_with_two_spaces : has_form RightKey (codes "new  -> open") ≡ false
+move_with_two_spaces = refl
+
+move_with_two_spaces_after : has_form RightKey (codes "new ->  open") ≡ false
+move_with_two_spaces_after = refl
+
+move_from_nothing : has_form RightKey (codes " -> open") ≡ false
+move_from_nothing = refl
+
+move_to_nothing : has_form RightKey (codes "new -> ") ≡ false
+move_to_nothing = refl
+
+move_with_a_space_at_its_end : has_form RightKey (codes "new -> open ") ≡ false
+move_with_a_space_at_its_end = refl
+
+first_of_three_words : before_space (codes "a b c") ≡ codes "a"
+first_of_three_words = refl
+
+rest_of_three_words : after_space (codes "a b c") ≡ codes "b c"
+rest_of_three_words = refl
+
+first_of_one_word : before_space (codes "abc") ≡ codes "abc"
+first_of_one_word = refl
+
+rest_of_one_word : after_space (codes "abc") ≡ []
+rest_of_one_word = refl
+
+-- TextForms.antt: days
+
+first_day : has_form Day (codes "2000-01-01") ≡ true
+first_day = refl
+
+day_before_the_first : has_form Day (codes "1999-12-31") ≡ false
+day_before_the_first = refl
+
+last_day : has_form Day (codes "2099-12-31") ≡ true
+last_day = refl
+
+day_after_the_last : has_form Day (codes "2100-01-01") ≡ false
+day_after_the_last = refl
+
+leap_day : has_form Day (codes "2028-02-29") ≡ true
+leap_day = refl
+
+no_leap_day : has_form Day (codes "2026-02-29") ≡ false
+no_leap_day = refl
+
+day_of_one_digit : has_form Day (codes "2026-03-9") ≡ false
+day_of_one_digit = refl
+
+day_with_points : has_form Day (codes "2026.03.09") ≡ false
+day_with_points = refl
+
+day_with_a_time : has_form Day (codes "2026-03-09 ") ≡ false
+day_with_a_time = refl
+
+no_day_has_number_0 : day_of (codes "2026-02-29") ≡ 0
+no_day_has_number_0 = refl
+
+-- TextForms.antt: intervals
+
+interval_of_a_working_day : has_form Interval (codes "09:00-18:00") ≡ true
+interval_of_a_working_day = refl
+
+interval_up_to_midnight : has_form Interval (codes "00:00-24:00") ≡ true
+interval_up_to_midnight = refl
+
+interval_past_midnight : has_form Interval (codes "00:00-24:01") ≡ false
+interval_past_midnight = refl
+
+interval_to_the_last_minute : has_form Interval (codes "23:59-24:00") ≡ true
+interval_to_the_last_minute = refl
+
+interval_of_sixty_minutes : has_form Interval (codes "09:60-18:00") ≡ false
+interval_of_sixty_minutes = refl
+
+interval_from_one_digit : has_form Interval (codes "9:00-18:00") ≡ false
+interval_from_one_digit = refl
+
+-- that it ends after it begins is asked by the calendar
+interval_turned_round : has_form Interval (codes "18:00-09:00") ≡ true
+interval_turned_round = refl
+
+minutes_of_a_working_day : interval_of (codes "09:05-18:30") ≡ (545, 1110)
+minutes_of_a_working_day = refl
+
+minutes_up_to_midnight : interval_of (codes "00:00-24:00") ≡ (0, 1440)
+minutes_up_to_midnight = refl
+
+-- TextForms.antt: names, and any text
+
+name_of_a_lifecycle : has_form Name (codes "default") ≡ true
+name_of_a_lifecycle = refl
+
+name_with_a_space : has_form Name (codes "my hours") ≡ false
+name_with_a_space = refl
+
+any_text : has_form Any [] ≡ true
+any_text = refl
+
+to_nobody : has_form To (codes "nobody") ≡ false
+to_nobody = refl
+
+-- Kinds.antt
+
+abbrev one : Data
+one = integer (pos 1)
+
+abbrev text : Data
+text = string (codes "a")
+
+two_integers : two_of (item one (item text no_items)) ≡ Some (one, text)
+two_integers = refl
+
+list_of_one : two_of (item one no_items) ≡ None
+list_of_one = refl
+
+list_of_three : two_of (item one (item one (item one no_items))) ≡ None
+list_of_three = refl
+
+grant_with_a_colour : has_unknown_key Grant (member (codes "colour") one no_members) ≡ true
+grant_with_a_colour = refl
+
+group_with_a_colour : has_unknown_key Groups (member (codes "colour") one no_members) ≡ false
+group_with_a_colour = refl
+
+-- `rights` is there, but not `to`
+grant_to_nobody : lacks_key Grant (member (codes "rights") (array no_items) no_members) ≡ true
+grant_to_nobody = refl
+
+grant_without_a_queue :
+    lacks_key Grant
+    (member (codes "rights") (array no_items)
+    (member (codes "to") (string (codes "everyone")) no_members))
+    ≡ false
+grant_without_a_queue = refl
+
+limit_without_a_unit : lacks_key Limit no_members ≡ true
+limit_without_a_unit = refl
+
+limit_with_one_unit : lacks_key Limit (member (codes "real_minutes") one no_members) ≡ false
+limit_with_one_unit = refl
+
+-- that there are both is found later
+limit_with_both_units :
+    lacks_key Limit
+    (member (codes "business_minutes") one (member (codes "real_minutes") one no_members))
+    ≡ false
+limit_with_both_units = refl
+
+level_without_a_calendar : lacks_key Level no_members ≡ true
+level_without_a_calendar = refl
+
+calendar_needs_no_key : lacks_key Calendar no_members ≡ false
+calendar_needs_no_key = refl
+
+offset_as_a_text : has_wrong_kind Calendar (member (codes "offset") text no_members) ≡ true
+offset_as_a_text = refl
+
+start_as_a_choice :
+    has_wrong_kind Level (member (codes "start_immediately") (boolean false) no_members) ≡ false
+start_as_a_choice = refl
+
+start_as_a_number : has_wrong_kind Level (member (codes "start_immediately") one no_members) ≡ true
+start_as_a_number = refl
+
+lifecycle_with_a_bad_name :
+    has_wrong_kind Lifecycles (member (codes "My") (table no_members) no_members) ≡ true
+lifecycle_with_a_bad_name = refl
+
+right_of_a_bad_move : has_wrong_kind RightNames (member (codes "new") text no_members) ≡ true
+right_of_a_bad_move = refl
+
+rule_beside_an_offset :
+    has_clash Calendar (member (codes "offset") one (member (codes "rule") text no_members)) ≡ true
+rule_beside_an_offset = refl
+
+rule_beside_changes :
+    has_clash Calendar
+    (member (codes "changes") (array no_items) (member (codes "rule") text no_members))
+    ≡ true
+rule_beside_changes = refl
+
+rule_alone : has_clash Calendar (member (codes "rule") text no_members) ≡ false
+rule_alone = refl
+
+offset_beside_changes :
+    has_clash Calendar
+    (member (codes "changes") (array no_items) (member (codes "offset") one no_members))
+    ≡ false
+offset_beside_changes = refl
+
+-- Walk.antt
+
+empty_text_has_no_fault : form_fault no_members ≡ None
+empty_text_has_no_fault = refl
+
+-- persons = 1
+-- colour = 1
+unknown_key_before_wrong_kind :
+    form_fault (member (codes "colour") one (member (codes "persons") one no_members))
+    ≡ Some UnknownKey
+unknown_key_before_wrong_kind = refl
+
+-- persons = 1
+persons_as_a_number : form_fault (member (codes "persons") one no_members) ≡ Some WrongKind
+persons_as_a_number = refl
+
+-- max_entries = 0
+-- [level.l]
+level_without_a_key :
+    form_fault
+    (member (codes "level") (table (member (codes "l") (table no_members) no_members))
+    (member (codes "max_entries") (integer (pos 0)) no_members))
+    ≡ Some Missing
+level_without_a_key = refl
+
+-- max_entries = 10001
+limits_are_no_form :
+    form_fault (member (codes "max_entries") (integer (pos 10001)) no_members) ≡ None
+limits_are_no_form = refl
+
+-- [calendar.x]
+-- years = [2026]
+calendar_of_one_year :
+    form_fault
+    (member (codes "calendar")
+    (table
+    (member (codes "x")
+    (table (member (codes "years") (array (item (integer (pos 2026)) no_items)) no_members))
+    no_members))
+    no_members)
+    ≡ Some WrongKind
+calendar_of_one_year = refl
+
+abbrev everyone : Members
+everyone =
+    member (codes "rights") (array no_items)
+    (member (codes "to") (string (codes "everyone")) no_members)
+
+two_grants :
+    form_fault
+    (member (codes "grant") (array (item (table everyone) (item (table everyone) no_items)))
+    no_members)
+    ≡ None
+two_grants = refl
+
+second_grant_lacks_a_key :
+    form_fault
+    (member (codes "grant") (array (item (table everyone) (item (table no_members) no_items)))
+    no_members)
+    ≡ Some Missing
+second_grant_lacks_a_key = refl
+
+-- [level.l]
+-- response = { minutes = 1 }
+-- where `calendar` is missing, and the unit
+unknown_key_inside_before_missing :
+    form_fault
+    (member (codes "level")
+    (table
+    (member (codes "l")
+    (table
+    (member (codes "response") (table (member (codes "minutes") one no_members)) no_members))
+    no_members))
+    no_members)
+    ≡ Some UnknownKey
+unknown_key_inside_before_missing = refl
+
+-- a table where none belongs isn't looked into
+table_in_place_of_a_number :
+    form_fault
+    (member (codes "max_entries") (table (member (codes "colour") one no_members)) no_members)
+    ≡ Some WrongKind
+table_in_place_of_a_number = refl

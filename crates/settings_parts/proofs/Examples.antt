@@ -1,0 +1,277 @@
+-- Examples of the definitions: what is read of the tables of a settings text, with each key there
+-- and without it, and limits at their least and most and one past these.
+use Rattle.std.specs.Prelude.{◌≡◌, refl, ℕ, true, false, pos, neg_ℤ, List, [], ◌∷◌, codes}
+use Rattle.std.specs.Prelude.{Some, None, Ok, Err}
+use Rattle.toml.specs.Data.{Data, string, integer, boolean, array, table, no_items, item}
+use Rattle.toml.specs.Data.{Members, no_members, member}
+use Rattle.hours_core.specs.declared.fault.HoursFault.TheVariants.{BadOffset, BadYears}
+use Rattle.hours_core.specs.declared.level.Limit.TheVariants.{RealMinutes, BusinessMinutes}
+use Rattle.lifecycle_core.specs.Standard.{move_to}
+use Rattle.rights_core.specs.Right.{super_user}
+use Rattle.rights_core.specs.declared.grant.Subject.TheVariants.{Everyone, Person}
+use Rattle.settings_parts.specs.CalendarParts.{hours_of, week_of, years_of}
+use Rattle.settings_parts.specs.LevelParts.{has_limits, is_from_one, level_of, limit_in, limit_of}
+use Rattle.settings_parts.specs.LifecycleParts.{lifecycle_of}
+use Rattle.settings_parts.specs.PeopleParts.{people_in, tokens_of}
+
+abbrev text : List ℕ → Data
+text t = string t
+
+abbrev texts_1 : List ℕ → Data
+texts_1 a = array (item (string a) no_items)
+
+abbrev texts_2 : List ℕ → List ℕ → Data
+texts_2 a b = array (item (string a) (item (string b) no_items))
+
+abbrev minutes : ℕ → Data
+minutes n = integer (pos n)
+
+-- LevelParts.antt: limits
+
+one_real_minute : limit_in (Some (pos 1)) None ≡ Some (RealMinutes 1)
+one_real_minute = refl
+
+no_real_minute : limit_in (Some (pos 0)) None ≡ None
+no_real_minute = refl
+
+fewer_than_none : limit_in (Some (neg_ℤ (pos 1))) None ≡ None
+fewer_than_none = refl
+
+year_of_minutes : limit_in None (Some (pos 525600)) ≡ Some (BusinessMinutes 525600)
+year_of_minutes = refl
+
+more_than_a_year : limit_in None (Some (pos 525601)) ≡ None
+more_than_a_year = refl
+
+both_units : limit_in (Some (pos 1)) (Some (pos 1)) ≡ None
+both_units = refl
+
+neither_unit : limit_in None None ≡ None
+neither_unit = refl
+
+limit_of_real_minutes :
+    limit_of (member (codes "real_minutes") (minutes 60) no_members) ≡ Some (RealMinutes 60)
+limit_of_real_minutes = refl
+
+limit_of_business_minutes :
+    limit_of (member (codes "business_minutes") (minutes 60) no_members) ≡ Some (BusinessMinutes 60)
+limit_of_business_minutes = refl
+
+least_of_a_count : is_from_one 10000 (pos 1) ≡ true
+least_of_a_count = refl
+
+most_of_a_count : is_from_one 10000 (pos 10000) ≡ true
+most_of_a_count = refl
+
+past_the_most_of_a_count : is_from_one 10000 (pos 10001) ≡ false
+past_the_most_of_a_count = refl
+
+-- LevelParts.antt: levels
+
+abbrev limit : ℕ → Data
+limit n = table (member (codes "real_minutes") (minutes n) no_members)
+
+-- calendar = "office"
+level_of_a_calendar_alone :
+    level_of (member (codes "calendar") (text (codes "office")) no_members)
+    ≡ record {
+      calendar = codes "office";
+      start_immediately = false;
+      response = None;
+      keep_in_loop = None;
+      resolve = None;
+      ignore = [];
+    }
+level_of_a_calendar_alone = refl
+
+level_with_all_keys :
+    level_of
+    (member (codes "calendar") (text (codes "office"))
+    (member (codes "ignore") (texts_1 (codes "stalled"))
+    (member (codes "keep_in_loop") (limit 2)
+    (member (codes "resolve") (limit 3)
+    (member (codes "response") (limit 1)
+    (member (codes "start_immediately") (boolean true) no_members))))))
+    ≡ record {
+      calendar = codes "office";
+      start_immediately = true;
+      response = Some (RealMinutes 1);
+      keep_in_loop = Some (RealMinutes 2);
+      resolve = Some (RealMinutes 3);
+      ignore = codes "stalled" ∷ [];
+    }
+level_with_all_keys = refl
+
+level_without_limits : has_limits no_members ≡ true
+level_without_limits = refl
+
+level_whose_last_limit_is_none :
+    has_limits (member (codes "resolve") (limit 0) (member (codes "response") (limit 1) no_members))
+    ≡ false
+level_whose_last_limit_is_none = refl
+
+-- CalendarParts.antt
+
+years_that_are_stated :
+    years_of
+    (member (codes "years") (array (item (minutes 2026) (item (minutes 2027) no_items))) no_members)
+    ≡ (pos 2026, pos 2027)
+years_that_are_stated = refl
+
+years_by_default : years_of no_members ≡ (pos 2000, pos 2099)
+years_by_default = refl
+
+-- it begins with Sunday
+week_of_a_monday :
+    week_of (member (codes "mon") (texts_2 (codes "09:00-12:00") (codes "13:00-24:00")) no_members)
+    ≡ [] ∷ ((540, 720) ∷ (780, 1440) ∷ []) ∷ [] ∷ [] ∷ [] ∷ [] ∷ [] ∷ []
+week_of_a_monday = refl
+
+week_of_a_saturday_and_a_sunday :
+    week_of
+    (member (codes "sat") (texts_1 (codes "00:00-00:01"))
+    (member (codes "sun") (texts_1 (codes "00:00-00:02")) no_members))
+    ≡ ((0, 2) ∷ []) ∷ [] ∷ [] ∷ [] ∷ [] ∷ [] ∷ ((0, 1) ∷ []) ∷ []
+week_of_a_saturday_and_a_sunday = refl
+
+calendar_without_keys :
+    hours_of no_members
+    ≡ record {
+      zone = Ok (record { first = pos 0; changes = [] });
+      week = [] ∷ [] ∷ [] ∷ [] ∷ [] ∷ [] ∷ [] ∷ [];
+      holidays = [];
+      years = (pos 2000, pos 2099);
+    }
+calendar_without_keys = refl
+
+abbrev change : Data
+change = array (item (minutes 29579100) (item (minutes 120) no_items))
+
+zone_of_an_offset_and_a_change :
+    (hours_of
+    (member (codes "changes") (array (item change no_items))
+    (member (codes "offset") (minutes 60) no_members))).zone
+    ≡ Ok (record { first = pos 60; changes = (pos 29579100, pos 120) ∷ [] })
+zone_of_an_offset_and_a_change = refl
+
+zone_of_a_bad_offset :
+    (hours_of (member (codes "offset") (minutes 1440) no_members)).zone ≡ Err BadOffset
+zone_of_a_bad_offset = refl
+
+-- the rule's fault is asked by the calendar's years
+zone_of_a_rule :
+    (hours_of
+    (member (codes "rule") (text (codes "CET-1"))
+    (member (codes "years") (array (item (minutes 2027) (item (minutes 2026) no_items)))
+    no_members))).zone
+    ≡ Err BadYears
+zone_of_a_rule = refl
+
+-- LifecycleParts.antt
+
+lifecycle_with_all_keys :
+    lifecycle_of
+    (member (codes "active") (texts_1 (codes "open"))
+    (member (codes "create") (texts_2 (codes "new") (codes "open"))
+    (member (codes "inactive") (texts_1 (codes "done"))
+    (member (codes "initial") (texts_1 (codes "new"))
+    (member (codes "on_create") (text (codes "new"))
+    (member (codes "rights")
+    (table (member (codes "* -> done") (text (codes "Close")) no_members))
+    (member (codes "transitions")
+    (table
+    (member (codes "new") (texts_2 (codes "open") (codes "done"))
+    (member (codes "open") (texts_1 (codes "done")) no_members)))
+    no_members)))))))
+    ≡ record {
+      initial = codes "new" ∷ [];
+      active = codes "open" ∷ [];
+      inactive = codes "done" ∷ [];
+      on_create = codes "new";
+      create = codes "new" ∷ codes "open" ∷ [];
+      moves =
+          move_to (codes "new") (codes "open") ∷ move_to (codes "new") (codes "done")
+          ∷ move_to (codes "open") (codes "done") ∷ [];
+      rights = record { from = codes "*"; to = codes "done"; right = codes "Close" } ∷ [];
+    }
+lifecycle_with_all_keys = refl
+
+-- without `inactive`, `transitions` and `rights`
+lifecycle_with_few_keys :
+    lifecycle_of
+    (member (codes "active") (texts_1 (codes "open"))
+    (member (codes "create") (texts_1 (codes "new"))
+    (member (codes "initial") (texts_1 (codes "new"))
+    (member (codes "on_create") (text (codes "new")) no_members))))
+    ≡ record {
+      initial = codes "new" ∷ [];
+      active = codes "open" ∷ [];
+      inactive = [];
+      on_create = codes "new";
+      create = codes "new" ∷ [];
+      moves = [];
+      rights = [];
+    }
+lifecycle_with_few_keys = refl
+
+-- PeopleParts.antt
+
+root_alone_has_every_right :
+    people_in no_members
+    ≡ record {
+      persons = codes "root" ∷ [];
+      groups = [];
+      grants =
+          record { right = codes "SuperUser"; subject = Person (codes "root"); queue = None } ∷ [];
+    }
+unfolding super_user
+root_alone_has_every_right = refl
+
+-- a key of people, though it has none
+no_root_beside_persons :
+    people_in (member (codes "persons") (array no_items) no_members)
+    ≡ record { persons = []; groups = []; grants = [] }
+no_root_beside_persons = refl
+
+no_root_beside_groups :
+    people_in (member (codes "groups") (table no_members) no_members)
+    ≡ record { persons = []; groups = []; grants = [] }
+no_root_beside_groups = refl
+
+no_root_beside_grants :
+    people_in (member (codes "grant") (array no_items) no_members)
+    ≡ record { persons = []; groups = []; grants = [] }
+no_root_beside_grants = refl
+
+abbrev a_grant : Members
+a_grant =
+    member (codes "queue") (text (codes "general"))
+    (member (codes "rights") (texts_2 (codes "Watch") (codes "OwnTicket"))
+    (member (codes "to") (text (codes "everyone")) no_members))
+
+-- one grant for each right
+people_of_all_keys :
+    people_in
+    (member (codes "grant") (array (item (table a_grant) no_items))
+    (member (codes "groups") (table (member (codes "staff") (texts_1 (codes "ann")) no_members))
+    (member (codes "persons") (texts_2 (codes "ann") (codes "bob")) no_members)))
+    ≡ record {
+      persons = codes "ann" ∷ codes "bob" ∷ [];
+      groups = record { name = codes "staff"; members = codes "ann" ∷ [] } ∷ [];
+      grants =
+          record { right = codes "Watch"; subject = Everyone; queue = Some (codes "general") }
+          ∷ record { right = codes "OwnTicket"; subject = Everyone; queue = Some (codes "general") }
+          ∷ [];
+    }
+people_of_all_keys = refl
+
+no_tokens : tokens_of no_members ≡ []
+no_tokens = refl
+
+token_of_a_person :
+    tokens_of
+    (member (codes "tokens")
+    (table (member (codes "ann-token-0000000") (text (codes "ann")) no_members))
+    no_members)
+    ≡ record { token = codes "ann-token-0000000"; person = codes "ann" } ∷ []
+token_of_a_person = refl

@@ -1,0 +1,13 @@
+-- A note of the desk's settings and of the bytes of a reply.
+use Rattle.std.proofs.Common.{◌≡◌, ℕ, Bool, List, Result, subst}
+use Rattle.settings_core.specs.declared.settings.Settings.{Settings}
+use Rattle.message_core.specs.declared.fault.WireFault.{WireFault}
+use Rattle.message_core.specs.declared.request.Request.{Request}
+use Rattle.web_core.specs.Notes.{IsNote}
+
+pub note_same : (proxied : Bool) (s t : Settings) (read : Result Request WireFault)
+    (bytes reply note : List ℕ) → t ≡ s → bytes ≡ reply → IsNote proxied t read bytes note
+    → IsNote proxied s read reply note
+note_same proxied s t read bytes reply note same is noted =
+    subst (λ (b : List ℕ). IsNote proxied s read b note) is
+    (subst (λ (x : Settings). IsNote proxied x read bytes note) same noted)
