@@ -12,7 +12,7 @@ use std::net::SocketAddr;
 use store_core::{Backend, Store, StoreFault};
 use web_core::{WebDesk, serve_web};
 
-/// The exit status where as many messages were answered as were to be.
+/// The exit status where as many messages were answered as were to be, or the server was asked to stop.
 const DONE: u8 = 0;
 
 /// The exit status where the port can't be listened on, or a write failed.
@@ -56,14 +56,16 @@ fn listen<S: Backend>(rt: &HostRuntime, asked: &Asked<'_>, desk: &mut WebDesk<S>
         Some(count) => u64::from(count),
         None => u64::MAX,
     };
-    tell_ending(rt, serve_web(rt.alloc(), &mut host, desk, PLACES, most))
+    let ended = serve_web(rt.alloc(), &mut host, desk, PLACES, most);
+    tell_ending(rt, ended, desk.is_shut())
 }
 
-/// Prints why the server ended, if not by its count, and answers the exit status.
-fn tell_ending(rt: &HostRuntime, ended: Result<Ending, AllocError>) -> u8 {
+/// Prints why the server ended, if not by its count and not since it was asked to, and answers the exit
+/// status.
+fn tell_ending(rt: &HostRuntime, ended: Result<Ending, AllocError>, is_shut: bool) -> u8 {
     match ended {
-        Ok(Ending::Counted) => DONE,
-        Ok(Ending::Shut) => tell_store_fault(StoreFault::Refused, &mut io::writer(rt)),
+        Ok(Ending::Shut) if is_shut => tell_store_fault(StoreFault::Refused, &mut io::writer(rt)),
+        Ok(Ending::Counted | Ending::Shut) => DONE,
         Ok(Ending::Network | Ending::Spent) | Err(_) => refuse_network(rt),
     }
 }

@@ -5,4 +5,5 @@ pub mod Led
 pub mod Next
 pub mod Replies
 pub mod Steps
+pub mod Stop
 pub mod Visits

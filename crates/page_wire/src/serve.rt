@@ -12,6 +12,7 @@ ghost use Rattle.wire_core.specs.Steps.{StaysOn};
 use crate::faults::fault_reply;
 use crate::health::{answer_health, asks_health};
 use crate::led::ROOM;
+use crate::stop::{answer_stop, asks_stop};
 use crate::visits::make_visit;
 use message_core::{BodyLimit, Request, WireFault, read_request_counted, unavailable_reply};
 use page_routes::{PageFault, is_page_place, visit_of};
@@ -57,8 +58,9 @@ fn read(alloc: Global, bytes: &[u8]) -> Result<Request, WireFault>
 }
 
 /// Answers what was read, at a moment in minutes since 1970-01-01 00:00 UTC: a fault is told, whoever
-/// asks whether the desk is there is told, and else a message is answered at a place of the pages by
-/// its visit, and by the interface at any other. The bytes of its reply, or `AllocError` where there
+/// asks whether the desk is there is told, and who may ask the server to stop; else a message is
+/// answered at a place of the pages by its visit, and by the interface at any other. Stopping is
+/// left to the caller, which learns of it by `asks_stop`. The bytes of its reply, or `AllocError` where there
 /// was no memory for it and nothing was done.
 #[tactic(auto, using(service_core::proofs::LeftLemmas::left_same, store_tables::proofs::Spared::unread))]
 pub fn answer_sent<S: Backend>(
@@ -95,6 +97,8 @@ fn answer_read<S: Backend>(
 {
     if asks_health(&request.message) {
         answer_health(alloc, is_head(&request.message), desk)
+    } else if asks_stop(desk.settings(), &request.message) {
+        answer_stop(alloc)
     } else if is_page_place(request.message.target.as_slice()) {
         answer_in_room(alloc, request, moment, desk)
     } else {

@@ -7,7 +7,7 @@ ghost use Rattle.service_core.specs.Seen.{settings_of, tables_of};
 
 use crate::desk::WebDesk;
 use crate::note::note_on;
-use crate::shut::is_shut_after;
+use crate::shut::{is_shut, stops_by};
 use connection_core::{Framing, Reply};
 use message_core::{BodyLimit, Request, WireFault, stated_body, unavailable_reply};
 use page_wire::{answer_sent, read_sent};
@@ -61,6 +61,7 @@ impl<S: Backend> server_core::Desk for WebDesk<S> {
 
     fn step(&mut self, alloc: Global, minute: u32, message: &[u8]) -> Answer {
         let read = read_sent(alloc, message);
+        let stops = stops_by(self.desk.settings(), &read);
         let routes = self.routes.as_ref();
         let reply = answer_to(alloc, routes, minute, message, &read, &mut self.desk);
         let note = note_on(
@@ -71,11 +72,12 @@ impl<S: Backend> server_core::Desk for WebDesk<S> {
             reply.bytes(),
         );
         drop(read);
-        self.is_shut = is_shut_after(&reply, &mut self.desk);
+        self.stops = self.stops || stops;
+        self.is_shut = is_shut(&mut self.desk);
         Answer { reply, note }
     }
 
     fn is_shut(&self) -> bool {
-        self.is_shut
+        self.is_shut || self.stops
     }
 }

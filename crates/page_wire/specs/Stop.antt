@@ -1,0 +1,28 @@
+-- A server that is asked to stop, by a person who may do all that can be done.
+use Rattle.std.specs.Prelude.{◌&&◌, Bool, false, List, ℕ, Option, Some, None, [], codes}
+use Rattle.std.specs.Str.{bytes_eq}
+use Rattle.rights_core.specs.Right.{super_user}
+use Rattle.settings_core.specs.declared.settings.Settings.{Settings}
+use Rattle.desk_model.specs.Rights.{holds_on_queue}
+use Rattle.message_core.specs.declared.message.Message.{Message}
+use Rattle.message_core.specs.declared.reply.Reply.{Reply}
+use Rattle.page_routes.specs.Places.{path_in}
+use Rattle.route_core.specs.Commands.{caller_of}
+use Rattle.wire_core.specs.Replies.{reply_with}
+
+-- SuperUser on all queues, also on those that aren't there yet: no queue has the empty name
+abbrev pub holds_all : Settings → List ℕ → Bool
+holds_all settings person = holds_on_queue settings person super_user []
+
+abbrev pub may_stop : Settings → Option (List ℕ) → Bool
+may_stop settings None = false
+may_stop settings (Some person) = holds_all settings person
+
+-- a POST of this path, with the token of such a person
+abbrev pub asks_stop : Settings → Message → Bool
+asks_stop settings message =
+    bytes_eq (path_in message.target) (codes "/stop") && bytes_eq message.method (codes "POST")
+    && may_stop settings (caller_of settings message.token)
+
+abbrev pub stop_reply : Reply
+stop_reply = reply_with 200 None (codes "stops\n") false
