@@ -74,6 +74,7 @@ trials: desk
 # The rules told twice: what they come to is compared with what is stored, in a few seconds.
 models:
 	models/scripts
+	models/leaves
 	models/lots
 	models/made
 
