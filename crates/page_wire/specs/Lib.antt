@@ -1,3 +1,4 @@
+pub mod Control
 pub mod Faults
 pub mod Forms
 pub mod Health
@@ -5,5 +6,4 @@ pub mod Led
 pub mod Next
 pub mod Replies
 pub mod Steps
-pub mod Stop
 pub mod Visits

@@ -14,7 +14,7 @@ use Rattle.web_core.specs.declared.desk.WebDesk.{WebDesk}
 
 -- It was noted as what its bytes were read as, and stops the server where that asks for it and who
 -- sent it may.
-abbrev pub IsTaken : {S : Type 0} (g : Ghosts S) → WebDesk S g → Answered → WebDesk S g → Type 0
+abbrev pub IsTaken : {S C : Type 0} (g : Ghosts S) → WebDesk S C g → Answered → WebDesk S C g → Type 0
 IsTaken g old a new =
     (read : Result Request WireFault) × (read ≢ Err NoMemory → IsReadOf a.message read)
     × IsNote old.proxied (settings_of g old.desk) read a.reply a.note
@@ -22,11 +22,11 @@ IsTaken g old a new =
     × (new.proxied ≡ old.proxied)
 
 -- the step of a message over its tables, under the same settings, and what else came of it
-abbrev pub Steps : {S : Type 0} (g : Ghosts S) → WebDesk S g → Answered → WebDesk S g → Type 0
+abbrev pub Steps : {S C : Type 0} (g : Ghosts S) → WebDesk S C g → Answered → WebDesk S C g → Type 0
 Steps g old a new =
     StepsAt (settings_of g old.desk) (tables_of g old.desk) a (tables_of g new.desk)
     × (settings_of g new.desk ≡ settings_of g old.desk) × IsTaken g old a new
 
 -- it was seen that its store is shut, or it was asked to stop
-abbrev pub shuts : {S : Type 0} (g : Ghosts S) → WebDesk S g → Bool
+abbrev pub shuts : {S C : Type 0} (g : Ghosts S) → WebDesk S C g → Bool
 shuts g desk = desk.is_shut || desk.stops

@@ -9,22 +9,23 @@ use store_core::Backend;
 use wire_core::Routes;
 
 /// A desk over tables, whether it was seen that its store is shut, and whether somebody who may has
-/// asked the server to stop. A fault of the disk shuts a store for good, and then no command is done
+/// asked the server to stop; and what copies the tables. A fault of the disk shuts a store for good, and then no command is done
 /// any more. Behind a proxy the log notes the address that the proxy tells.
 #[derive(Drop)]
-pub struct WebDesk<S: Backend> {
+pub struct WebDesk<S: Backend, C> {
     pub(crate) desk: Desk<S>,
     pub(crate) routes: Option<Routes>,
+    pub(crate) copies: C,
     pub(crate) is_shut: bool,
     pub(crate) stops: bool,
     pub(crate) proxied: bool,
     ghost seen: { is_shut ≡ true → IsShut (tables_of S.Store desk) },
 }
 
-impl<S: Backend> WebDesk<S> {
+impl<S: Backend, C> WebDesk<S, C> {
     /// The desk, whose store counts as open and which nobody has asked to stop, and the router of its paths. Where there is no memory
     /// for that one the paths are gone over without it.
-    pub fn new(alloc: Global, desk: Desk<S>, proxied: bool) -> WebDesk<S>
+    pub fn new(alloc: Global, desk: Desk<S>, copies: C, proxied: bool) -> WebDesk<S, C>
         ensures desk { result.desk ≡ desk }
         ensures open { result.is_shut ≡ false }
         ensures goes { result.stops ≡ false }
@@ -33,6 +34,7 @@ impl<S: Backend> WebDesk<S> {
         WebDesk {
             desk,
             routes: Routes::new(alloc).ok(),
+            copies,
             is_shut: false,
             stops: false,
             proxied,

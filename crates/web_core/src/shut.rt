@@ -6,7 +6,7 @@ ghost use Rattle.web_core.specs.Shut as form;
 ghost use Rattle.web_core.specs.Shut.{IsShut};
 
 use message_core::{Request, WireFault};
-use page_wire::asks_stop;
+use page_wire::{asks_copy, asks_stop};
 use service_core::Desk;
 use settings_core::Settings;
 use store_core::Backend;
@@ -29,6 +29,16 @@ pub(crate) fn stops_by(settings: &Settings, read: &Result<Request, WireFault>) -
 {
     match read {
         Ok(request) => asks_stop(settings, &request.message),
+        Err(_) => false,
+    }
+}
+
+/// Whether what was read asks for a copy of the tables, and who sent it may.
+pub(crate) fn copies_by(settings: &Settings, read: &Result<Request, WireFault>) -> bool
+    ensures { result ≡ form.copies_by settings.now read.now }
+{
+    match read {
+        Ok(request) => asks_copy(settings, &request.message),
         Err(_) => false,
     }
 }
