@@ -1,14 +1,14 @@
 -- Examples of the definitions: when a request is due, whom a right is held by, what replies and
 -- moves make of a row, the stays of a history, the order of names, and the numbers of refusals.
-use Rattle.std.specs.Prelude.{◌≡◌, refl, ℕ, Bool, true, false, List, [], ◌∷◌, codes}
-use Rattle.std.specs.Prelude.{Option, Some, None, nat_le, not, ◌||◌}
+use Rattle.std.specs.Prelude.{◌≡◌, refl, ℕ, Bool, true, false, List, [], ◌∷◌, codes, Option, Some}
+use Rattle.std.specs.Prelude.{None, nat_le, not, ◌||◌}
 use Rattle.std.proofs.Common.{ap}
+use Rattle.std.specs.Fmt.{digits}
 use Rattle.hours_core.specs.Counting.{count_of_next}
 use Rattle.hours_core.specs.Least.{least_of_next}
 use Rattle.hours_core.specs.Pauses.{is_paused}
 use Rattle.hours_core.specs.declared.level.Level.{Level}
 use Rattle.hours_core.specs.declared.level.Limit.TheVariants.{RealMinutes}
-use Rattle.hours_core.specs.declared.stay.Stay.{Stay}
 use Rattle.lifecycle_core.specs.Lifecycle.{right_of_move}
 use Rattle.lifecycle_core.specs.Standard.{default_lifecycle}
 use Rattle.lifecycle_core.specs.declared.lifecycle.Class.TheVariants.{Initial, Inactive}
@@ -21,10 +21,10 @@ use Rattle.rights_core.specs.declared.role.Role.TheVariants as role
 use Rattle.settings_core.specs.Settings.{lifecycle_named, people_of, request_limit}
 use Rattle.settings_core.specs.declared.settings.Settings.{Settings}
 use Rattle.desk_model.specs.Change.{filing, noting, row_in_status, with_level, with_owner}
-use Rattle.desk_model.specs.Commands.{plan_of}
 use Rattle.desk_model.specs.Commands.Create.{is_full}
 use Rattle.desk_model.specs.Commands.Reply.{entries_of_move, reply_target, turned}
 use Rattle.desk_model.specs.Commands.SetStatus.{has_open_dependency}
+use Rattle.desk_model.specs.Commands.{plan_of}
 use Rattle.desk_model.specs.Dated.{stays_put}
 use Rattle.desk_model.specs.Due.{due_of_limit, is_live_class, least_due, plain_rule, rule_of}
 use Rattle.desk_model.specs.Due.{sooner}
@@ -41,19 +41,22 @@ use Rattle.desk_model.specs.Stays.{begins_stay, stays_after, stays_of}
 use Rattle.desk_model.specs.Watchers.{is_role, is_watching, roles_among, watcher}
 use Rattle.desk_model.specs.declared.answer.Answer.TheVariants as answer
 use Rattle.desk_model.specs.declared.command.Command.TheVariants as command
-use Rattle.desk_model.specs.declared.facts.Dependency.{Dependency}
-use Rattle.desk_model.specs.declared.facts.SeenRequest.{SeenRequest}
-use Rattle.desk_model.specs.declared.refusal.Refusal.TheVariants.{UnknownCaller, Denied, NoChange}
 use Rattle.desk_model.specs.declared.refusal.Refusal.TheVariants.{Unavailable}
+use Rattle.desk_model.specs.declared.refusal.Refusal.TheVariants.{UnknownCaller, Denied, NoChange}
 use Rattle.desk_model.specs.declared.rows.Entry.{Entry}
-use Rattle.desk_model.specs.declared.rows.EntryKind.{EntryKind}
 use Rattle.desk_model.specs.declared.rows.EntryKind.TheVariants as kind
+use Rattle.desk_model.specs.declared.rows.EntryKind.{EntryKind}
 use Rattle.desk_model.specs.declared.rows.LinkKind.TheVariants.{DependsOn}
-use Rattle.desk_model.specs.declared.rows.RequestRow.{RequestRow}
-use Rattle.desk_model.specs.declared.rows.Turn.{Turn}
 use Rattle.desk_model.specs.declared.rows.Turn.TheVariants as turn
-use Rattle.desk_model.specs.declared.rows.Watcher.{Watcher}
 use Rattle.desk_model.specs.declared.rows.WatchRole.TheVariants.{Requestor, Cc, AdminCc}
+use Rattle.desk_model.specs.declared.rows.Watcher.{Watcher}
+use Rattle.desk_model.proofs.Examples.Office.{row, open_row, stay, request, depends, fast, office}
+use Rattle.desk_model.proofs.Examples.Office.{general, sales}
+mod Asked
+mod Office
+mod Readings
+mod Seen
+mod Steps
 
 -- Refusals.antt
 
@@ -179,25 +182,6 @@ unfolding default_lifecycle
 deleting_what_is_resolved_does_not = refl
 
 -- Change.antt: rows
-
--- filed at 100, opened anew at 200, and the desk's turn since 300
-abbrev row : List ℕ → Turn → RequestRow
-row status turn =
-    record {
-      id = 7;
-      queue = codes "general";
-      subject = codes "Printer";
-      status = status;
-      owner = Some (codes "bob");
-      level = None;
-      created = 100;
-      opened = 200;
-      turn = turn;
-      since = 300;
-    }
-
-abbrev open_row : RequestRow
-open_row = row (codes "open") turn.Desk
 
 moved_on : row_in_status lifecycle 400 (codes "stalled") open_row ≡ row (codes "stalled") turn.Desk
 unfolding default_lifecycle
@@ -342,9 +326,6 @@ entry number moment kind body =
       body = body;
     }
 
-abbrev stay : List ℕ → ℕ → Option ℕ → Stay
-stay status from until = record { status = status; from = from; until = until }
-
 filing_begins_a_stay : begins_stay kind.Create ≡ true
 filing_begins_a_stay = refl
 
@@ -426,17 +407,6 @@ roles_of_the_owner :
 roles_of_the_owner = refl
 
 -- Rights.antt
-
--- bob's, with ann for requestor and cid for cc
-abbrev request : SeenRequest
-request =
-    record {
-      row = open_row;
-      requestors = codes "ann" ∷ [];
-      cc = codes "cid" ∷ [];
-      admin_cc = [];
-      entry_count = 3;
-    }
 
 bob_owns_it : owns (codes "bob") request ≡ true
 bob_owns_it = refl
@@ -520,9 +490,6 @@ not_full_below_its_limit :
 not_full_below_its_limit settings e = ap (λ n. nat_le n 2) e
 
 -- Commands/SetStatus.antt
-
-abbrev depends : List ℕ → Dependency
-depends status = record { lifecycle = codes "default"; status = status }
 
 open_dependency :
     (settings : Settings) → lifecycle_named settings (codes "default") ≡ Some default_lifecycle

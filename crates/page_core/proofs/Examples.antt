@@ -3,8 +3,8 @@
 use Rattle.std.specs.Prelude.{◌≡◌, refl, true, false, List, [], ◌∷◌, codes}
 use Rattle.page_core.specs.Escape.{escaped, is_harmless}
 use Rattle.page_core.specs.Page.{Part, Markup, Text, page_bytes, without_texts}
-use Rattle.page_core.specs.Reading.{InText, InValue, Between, Lost, after, outline, walk}
-use Rattle.page_core.specs.Reading.{Mark, Content, reading}
+use Rattle.page_core.specs.Reading.{InText, InValue, Between, Lost, IsPage, after, outline, walk}
+use Rattle.page_core.specs.Reading.{Mark, Content, reading, reading_of}
 
 -- Escape.antt
 
@@ -97,3 +97,24 @@ text_as_a_tag's_name = refl
 
 page_that_ends_in_a_value : walk InText (Markup (codes "<a href=\"") ∷ Text [] ∷ []) ≡ InValue
 page_that_ends_in_a_value = refl
+
+-- how parts are to be read: of each text every byte is content
+reading_of_a_text :
+    reading_of InText (Markup (codes "<b>") ∷ Text (codes "<") ∷ [])
+    ≡ Mark 60 ∷ Mark 98 ∷ Mark 62
+    ∷ Content 38 ∷ Content 108 ∷ Content 116 ∷ Content 59 ∷ []
+reading_of_a_text = refl
+
+-- and so they are read
+page_is_read_as_it_is_to_be : reading InText (page_bytes page) ≡ reading_of InText page
+page_is_read_as_it_is_to_be = refl
+
+-- in a tag they aren't
+text_in_a_tag_is_read_as_markup : reading Between (codes "a=") ≡ Mark 97 ∷ Mark 61 ∷ []
+text_in_a_tag_is_read_as_markup = refl
+
+page_is_one : IsPage page
+page_is_one = refl
+
+no_parts_are_a_page : IsPage []
+no_parts_are_a_page = refl
