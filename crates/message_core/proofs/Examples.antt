@@ -6,11 +6,7 @@ use Rattle.std.specs.Prelude.{◌++◌, codes, length, map, replicate, Some, Non
 use Rattle.std.specs.Fmt.{digits}
 use Rattle.std.specs.List.{All, flat_map, list_all}
 use Rattle.std.specs.Str.{IsAscii, chars, is_utf8}
-<<<<<<< HEAD
-use Rattle.std.proofs.Common.{absurd, arith, inl, inr, subst}
-=======
 use Rattle.std.proofs.Common.{Result, arith, inl, inr, subst}
->>>>>>> examples
 use Rattle.std.proofs.lemmas.Bool.{and_parts, ltb-true}
 use Rattle.std.proofs.lemmas.Bool.Decides.{nat_tests}
 use Rattle.std.proofs.lemmas.List.Sums.{AllPass-from_list_all}
@@ -21,28 +17,18 @@ use Rattle.httparse.specs.Grammar.{is_token, is_token_byte, is_uri_byte, is_valu
 use Rattle.httparse.specs.Spans.{name_and_value}
 use Rattle.httparse.proofs.GrammarLemmas.{request_unique}
 use Rattle.httparse.proofs.OnLiterals.{httparse_on_literals}
-<<<<<<< HEAD
-use Rattle.message_core.specs.Fault.{name_of, number_of}
-=======
 use Rattle.message_core.specs.Fault.{name_of, number_of, tells_failed_read}
->>>>>>> examples
 use Rattle.message_core.specs.Heading.{Line, length_of, number_within, token_of}
 use Rattle.message_core.specs.Limits.{limit_at, most_of, takes_long_bodies}
 use Rattle.message_core.specs.Message.{completed, left_of}
 use Rattle.message_core.specs.Reply.{allow_line, bytes_of, fields, last_line, status_line}
 use Rattle.message_core.specs.Reply.{type_line}
 use Rattle.message_core.specs.Reply.{unavailable}
-<<<<<<< HEAD
-use Rattle.message_core.specs.Request.{all_values, one_value}
-use Rattle.message_core.specs.Stated.{States, StatesLength}
-use Rattle.message_core.specs.declared.fault.WireFault.TheVariants.{TooLong, Truncated, BadLength}
-=======
 use Rattle.message_core.specs.Request.{all_values, message_in, one_value, requested, value_in}
 use Rattle.message_core.specs.Request.{values_in}
 use Rattle.message_core.specs.Stated.{States}
 use Rattle.message_core.specs.declared.fault.WireFault.{WireFault}
 use Rattle.message_core.specs.declared.fault.WireFault.TheVariants.{TooLong, Truncated, BadLength, Read}
->>>>>>> examples
 use Rattle.message_core.specs.declared.fault.WireFault.TheVariants.{NoMemory}
 use Rattle.message_core.specs.declared.heading.Heading.{Heading}
 use Rattle.message_core.specs.declared.limits.BodyLimit.TheVariants.{ByPlace, Plain}
@@ -324,32 +310,23 @@ unfolding httparse_on_literals
 length_at_the_limit_is_stated =
     (post (codes "/a") (says (codes "65536") ∷ []), [], at_the_limit_reads, refl)
 
-<<<<<<< HEAD
-=======
 abbrev Said : Type 0
 Said = Result ℕ WireFault
 
 same_length : (a b : ℕ) (said other : Said) → said ≡ Ok a → other ≡ Ok b → said ≡ other → a ≡ b
 same_length a b said other is that same = cc
 
->>>>>>> examples
 -- bytes state one length alone
 no_other_length_is_stated : States Plain at_the_limit (Some 65535) → ⊥
 unfolding httparse_on_literals
 no_other_length_is_stated (h, rest, reads, is) =
     let same = (request_unique at_the_limit h _ rest _ reads at_the_limit_reads).0 in
-<<<<<<< HEAD
-    let other : Ok 65536 ≡ Ok 65535 =
-    subst (λ h. length_of 65536 (map name_and_value h.fields) ≡ Ok 65535) same is in
-    absurd cc
-=======
     let other =
     subst
     (λ (h : RequestHead). length_of 65536 (map name_and_value h.fields) ≡ Ok 65535)
     same is in
     let equal = same_length 65536 65535 (Ok 65536) (Ok 65535) refl refl other in
     omega (arith, equal)
->>>>>>> examples
 
 length_past_the_limit_is_not_stated :
     States Plain (codes "POST /a HTTP/1.1\r\nContent-Length: 65537\r\n\r\n") None
@@ -431,8 +408,6 @@ head_of_33_lines_states_nothing =
     (inl
     (over_by (lined 33) (post (codes "/a") (short_lines 33)) []
     (is_post (codes "/a") _ (omega arith) refl refl refl, refl) (omega arith)))
-<<<<<<< HEAD
-=======
 
 -- Request.antt: what a head says
 
@@ -489,4 +464,3 @@ body_cut_short_is_no_failed_read = refl
 
 message_is_no_failed_read : tells_failed_read (Ok sent) ≡ false
 message_is_no_failed_read = refl
->>>>>>> examples
