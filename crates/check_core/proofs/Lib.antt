@@ -1,1 +1,4 @@
-pub mod Listed
+pub mod Found
+pub mod Grants
+pub mod Placed
+pub mod Tables

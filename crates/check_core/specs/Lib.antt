@@ -3,6 +3,7 @@ pub mod Lines
 pub mod Names
 pub mod Parts
 pub mod People
+pub mod Placed
 pub mod Rows
 pub mod Tokens
 pub mod Values

@@ -1,8 +1,10 @@
 //! What of a settings text has its fault first.
 
-ghost use Rattle.std.specs.Prelude.{◌≡◌, IfOk};
+ghost use Rattle.std.specs.Prelude.{◌≡◌, Some, IfOk, IsSomeAnd};
 ghost use Rattle.std.specs.Option.{option_map};
 ghost use Rattle.toml.specs.View.{table_view};
+ghost use Rattle.settings_core.specs.Reading.{fault_of};
+ghost use Rattle.check_core.specs.Placed.{HasFault};
 ghost use Rattle.check_core.specs.Wrong as spec;
 
 use crate::limits::{bad_count, bad_level};
@@ -51,10 +53,24 @@ pub enum Wrong<'t> {
     Count(&'t str),
 }
 
-/// What of a table of settings has this fault first. None where nothing has it, and of `NotToml` and
+/// What of a table of settings has this fault first. Where it is the fault of the table there is
+/// such a place, and what stands there has the fault. None where nothing has it, and of `NotToml` and
 /// `NoMemory`. Of names that aren't known it is asked where the lifecycles have no fault;
 /// `AllocError` is answered where they have one.
 pub fn wrong_in(
+    alloc: Global,
+    table: &Table,
+    fault: SettingsFault,
+) -> Result<Option<Wrong<'_>>, AllocError>
+    ensures first { IfOk result (λ wrong. option_map spec.seen wrong
+        ≡ spec.wrong_in (table_view table.now) fault) }
+    ensures placed { fault_of (table_view table.now) ≡ Some fault → IfOk result (λ wrong.
+        IsSomeAnd (option_map spec.seen wrong) (HasFault (table_view table.now) fault)) }
+{
+    first_wrong(alloc, table, fault)
+}
+
+fn first_wrong(
     alloc: Global,
     table: &Table,
     fault: SettingsFault,
