@@ -1,3 +1,4 @@
+mod Examples
 pub mod Found
 pub mod Grants
 pub mod Placed
