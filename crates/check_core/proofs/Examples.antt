@@ -1,7 +1,7 @@
 -- Examples of the definitions: what has a fault, and what stands beside it and doesn't; which of two
 -- is told.
 use Rattle.std.proofs.Common.{◌≡◌, ℕ, true, false, pos, List, Some, inl, inr}
-use Rattle.std.proofs.Common.{refl, codes}
+use Rattle.std.proofs.Common.{None, arith, refl, codes}
 use Rattle.toml.specs.Data.{Data, string, integer, array, table, no_items, item}
 use Rattle.toml.specs.Data.{Members, no_members, member}
 use Rattle.hours_core.specs.declared.fault.HoursFault.TheVariants as in_hours
@@ -158,6 +158,68 @@ unfolding standard_rights see_queue create_ticket show_ticket show_ticket_commen
     modify_ticket reply_to_ticket comment_on_ticket own_ticket take_ticket steal_ticket
     reassign_ticket delete_ticket watch watch_as_admin_cc admin_queue super_user
 standard_right h = absurd (let no : true ≡ false = h.1 in cc)
+
+-- a person and a group of no name; a grant of a right that is none, and one of no right, both for a
+-- queue that is none
+abbrev misnamed : Members
+misnamed =
+    member (codes "grant")
+    (array
+    (item
+    (table
+    (member (codes "queue") (text (codes "Help"))
+    (member (codes "rights") (array no_items)
+    (member (codes "to") (text (codes "everyone")) no_members))))
+    (item
+    (table
+    (member (codes "queue") (text (codes "Help"))
+    (member (codes "rights") (texts (codes "Own Ticket"))
+    (member (codes "to") (text (codes "everyone")) no_members))))
+    no_items)))
+    (member (codes "groups")
+    (table
+    (member (codes "Team") (texts (codes "ann"))
+    (member (codes "team") (texts (codes "ann")) no_members)))
+    (member (codes "persons")
+    (array (item (text (codes "Ann")) (item (text (codes "ann")) no_items)))
+    no_members))
+
+person_of_no_name : HasFault misnamed (Rights in_rights.BadName) (place.person_named (codes "Ann"))
+person_of_no_name = (refl, refl)
+
+person_of_a_name : HasFault misnamed (Rights in_rights.BadName) (place.person_named (codes "ann"))
+    → ⊥
+person_of_a_name h = absurd (let no : true ≡ false = h.1 in cc)
+
+group_of_no_name : HasFault misnamed (Rights in_rights.BadName) (place.group_named (codes "Team"))
+group_of_no_name = (refl, refl)
+
+right_of_no_name : HasFault misnamed (Rights in_rights.BadName)
+    (place.granted 2 (codes "Own Ticket"))
+right_of_no_name = (1, _, refl, refl, inl (refl, refl))
+
+queue_of_no_name : HasFault misnamed (Rights in_rights.BadName) (place.granted 2 (codes "Help"))
+queue_of_no_name = (1, _, refl, refl, inr (refl, refl, omega arith))
+
+person_before_group : wrong_in misnamed (Rights in_rights.BadName)
+    ≡ Some (place.person_named (codes "Ann"))
+person_before_group = refl
+
+-- a grant of no right grants nothing for its queue
+abbrev nothing_granted : Members
+nothing_granted =
+    member (codes "grant")
+    (array
+    (item
+    (table
+    (member (codes "queue") (text (codes "Help"))
+    (member (codes "rights") (array no_items)
+    (member (codes "to") (text (codes "everyone")) no_members))))
+    no_items))
+    no_members
+
+queue_of_no_right : wrong_in nothing_granted (Rights in_rights.BadName) ≡ None
+queue_of_no_right = refl
 
 -- ---- calendars and lifecycles
 

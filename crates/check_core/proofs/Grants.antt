@@ -2,13 +2,15 @@
 use Rattle.std.proofs.Common.{◌≡◌, inl, inr, ℕ, zero, suc, ◌+◌, Bool, true, false, not, ◌&&◌}
 use Rattle.std.proofs.Common.{List, [], ◌∷◌, map, Option, Some, None, is_some}
 use Rattle.std.proofs.Common.{unwrap_or, refl, sym, ◌∙◌, ap, subst, codes, arith, if◌then◌else◌}
+use Rattle.std.proofs.Common.{◌≤◌, length, option_and_then, ⊎_elim}
 use Rattle.std.specs.List.{list_all, list_any}
-use Rattle.std.specs.Option.{option_map, option_map_or}
+use Rattle.std.specs.Option.{option_map, option_map_or, option_or}
 use Rattle.std.proofs.lemmas.List.Folds.{list_all-append, list_all-map}
 use Rattle.toml.specs.Data.{Data, Items, no_items, item, Members, get_item}
+use Rattle.text_core.specs.Form.{is_name, is_right_name}
 use Rattle.lifecycle_core.specs.declared.parts.Parts as lifecycles
 use Rattle.rights_core.specs.People.{is_among}
-use Rattle.rights_core.specs.RightsFaults.{is_there as is_there_among}
+use Rattle.rights_core.specs.RightsFaults.{has_grant_names, is_there as is_there_among}
 use Rattle.rights_core.specs.declared.grant.Grant.{Grant}
 use Rattle.rights_core.specs.declared.grant.Subject.{Subject}
 use Rattle.rights_core.specs.declared.grant.Subject.TheVariants.{Person, Group, Everyone, Role}
@@ -17,11 +19,14 @@ use Rattle.settings_parts.specs.PeopleParts.{grant_of, grants_at, grants_in, gro
 use Rattle.settings_parts.specs.Values.{members_of, table_at, text_at, texts_at}
 use Rattle.settings_core.specs.Names.{knows_right, knows_rights}
 use Rattle.settings_core.specs.declared.named.Named.{Named}
+use Rattle.check_core.specs.BadNames.{bad_granted_in, bad_name_of, bad_queue_of, bad_right_among}
+use Rattle.check_core.specs.BadNames.{bad_right_of}
 use Rattle.check_core.specs.Names.{stray_grant, stray_of}
 use Rattle.check_core.specs.People.{grants_any, has_any, is_known, is_there}
 use Rattle.check_core.specs.People.{stray_subject_in}
+use Rattle.check_core.specs.Placed.{IsMisnamed}
 use Rattle.check_core.specs.Values.{text_in}
-use Rattle.check_core.proofs.Found.{both_of, either_some, find_among, find_failing, find_passes}
+use Rattle.check_core.proofs.Found.{and_both, both_of, either_some, find_among, find_failing, find_passes}
 use Rattle.check_core.proofs.Found.{found_or}
 use Rattle.check_core.proofs.Found.{mapped_some, not_false, not_true, or_left, some_either}
 use Rattle.check_core.proofs.Found.{some_mapped}
@@ -247,3 +252,137 @@ pub subject_has : (ms : Members) (ds : Items) (x : ℕ × List ℕ)
     (grants_at (members_of d)) ≡ true))
 unfolding FoundFrom IsStray
 subject_has ms ds x h = subject_from ms 1 ds x h
+
+-- ---- names
+
+left_some : {A : Type 0} (a b : Option A) → is_some a ≡ true → is_some (option_or a b) ≡ true
+left_some (Some x) b h = refl
+left_some None b h = absurd (cc)
+
+right_some : {A : Type 0} (a b : Option A) → is_some b ≡ true → is_some (option_or a b) ≡ true
+right_some (Some x) b h = refl
+right_some None b h = h
+
+-- the queue of grants of these rights, where its name is none
+bad_queue : List (List ℕ) → Option (List ℕ) → Option (List ℕ)
+bad_queue rights queue =
+    option_and_then (λ q. if has_any rights && not (is_name q) then Some q else None) queue
+
+all_named : (s : Subject) (queue : Option (List ℕ)) (rights : List (List ℕ))
+    → list_all is_right_name rights ≡ true → option_map_or is_name queue true ≡ true
+    → list_all has_grant_names (map (grant_of s queue) rights) ≡ true
+all_named s queue [] named fits = refl
+all_named s queue (r ∷ rights) named fits =
+    let (first, rest) = both_of (is_right_name r) (list_all is_right_name rights) named in
+    and_both (is_right_name r && option_map_or is_name queue true)
+    (list_all has_grant_names (map (grant_of s queue) rights))
+    (and_both (is_right_name r) (option_map_or is_name queue true) first fits)
+    (all_named s queue rights rest fits)
+
+told_if : {A : Type 0} (any fits : Bool) (x : A) → any ≡ true → fits ≡ false
+    → is_some (if any && not fits then Some x else None) ≡ true
+told_if true false x any bad = refl
+told_if true true x any bad = absurd (cc)
+told_if false fits x any bad = absurd (cc)
+
+-- of rights that all have a right's name, the queue is at fault
+queue_told : (s : Subject) (queue : Option (List ℕ)) (rights : List (List ℕ))
+    → list_all is_right_name rights ≡ true
+    → list_all has_grant_names (map (grant_of s queue) rights) ≡ false
+    → is_some (bad_queue rights queue) ≡ true
+unfolding bad_queue
+queue_told s queue [] named h = absurd (cc)
+queue_told s None (r ∷ rights) named h =
+    absurd (let yes = all_named s None (r ∷ rights) named refl in cc)
+queue_told s (Some q) (r ∷ rights) named h =
+    told_if true (is_name q) q refl
+    (all_fail (is_name q) (list_all has_grant_names (map (grant_of s (Some q)) (r ∷ rights)))
+    (all_named s (Some q) (r ∷ rights) named) h)
+
+misnamed_of : (s : Subject) (queue : Option (List ℕ)) (rights : List (List ℕ)) (named : Bool)
+    → named ≡ list_all is_right_name rights
+    → list_all has_grant_names (map (grant_of s queue) rights) ≡ false
+    → is_some (option_or (bad_right_among rights) (bad_queue rights queue)) ≡ true
+misnamed_of s queue rights true is h =
+    right_some (bad_right_among rights) (bad_queue rights queue)
+    (queue_told s queue rights (sym is) h)
+misnamed_of s queue rights false is h =
+    left_some (bad_right_among rights) (bad_queue rights queue)
+    (find_failing is_right_name is_right_name rights (λ x. refl) (sym is))
+
+misnamed_in : (subject : Option Subject) (queue : Option (List ℕ)) (rights : List (List ℕ))
+    → list_all has_grant_names (grants_for subject queue rights) ≡ false
+    → is_some (option_or (bad_right_among rights) (bad_queue rights queue)) ≡ true
+unfolding grants_for
+misnamed_in None queue rights h = absurd (cc)
+misnamed_in (Some s) queue rights h =
+    misnamed_of s queue rights (list_all is_right_name rights) refl h
+
+pub granted_found : (n : ℕ) (ds : Items) → list_all has_grant_names (grants_in ds) ≡ false
+    → is_some (bad_granted_in n ds) ≡ true
+unfolding grants_for bad_queue
+granted_found n no_items h = absurd (cc)
+granted_found n (item d ds) h =
+    let to = unwrap_or (text_at (codes "to") (members_of d)) [] in
+    some_either (list_all has_grant_names (grants_at (members_of d)))
+    (list_all has_grant_names (grants_in ds))
+    (option_map (λ name. (n, name)) (bad_name_of d)) (bad_granted_in (n + 1) ds)
+    (split_off has_grant_names d ds h)
+    (λ bad. some_mapped (λ name. (n, name)) (bad_name_of d)
+    (misnamed_in (subject_in to) (text_at (codes "queue") (members_of d))
+    (texts_at (codes "rights") (members_of d)) bad))
+    (granted_found (n + 1) ds)
+
+any_one : (texts : List (List ℕ)) → has_any texts ≡ true → 1 ≤ length texts
+any_one [] h = absurd (cc)
+any_one (t ∷ texts) h = omega arith
+
+-- what is told of a queue is the queue of a grant of some right
+queue_is : (rights : List (List ℕ)) (queue : Option (List ℕ)) (name : List ℕ)
+    → bad_queue rights queue ≡ Some name
+    → (queue ≡ Some name) × (is_name name ≡ false) × (1 ≤ length rights)
+unfolding bad_queue
+queue_is rights None name h = absurd (cc)
+queue_is rights (Some q) name h =
+    let P : List ℕ → Type 0 =
+    λ z. (Some q ≡ Some z) × (is_name z ≡ false) × (1 ≤ length rights) in
+    found_or P (has_any rights && not (is_name q)) q None name h
+    (λ bad. let (any, fits) = both_of (has_any rights) (not (is_name q)) bad in
+    (refl, not_true (is_name q) fits, any_one rights any))
+    (λ none. absurd (cc))
+
+misnamed : (d : Data) (name : List ℕ) → bad_name_of d ≡ Some name
+    → IsMisnamed name (members_of d)
+unfolding bad_queue
+misnamed d name h =
+    let rights = texts_at (codes "rights") (members_of d) in
+    ⊎_elim
+    (λ found. inl (
+      find_among (λ right. not (is_right_name right)) rights name found,
+      not_true (is_right_name name)
+          (find_passes (λ right. not (is_right_name right)) rights name found),
+    ))
+    (λ after. inr (queue_is rights (text_at (codes "queue") (members_of d)) name after.1))
+    (either_some (bad_right_of d) (bad_queue_of d) name h)
+
+granted_from : (n : ℕ) (ds : Items) (x : ℕ × List ℕ) → bad_granted_in n ds ≡ Some x
+    → FoundFrom (IsMisnamed x.1) n x.0 ds
+granted_from n no_items x h = absurd (cc)
+granted_from n (item d ds) x h =
+    let own : Option (ℕ × List ℕ) = option_map (λ name. (n, name)) (bad_name_of d) in
+    elim (either_some own (bad_granted_in (n + 1) ds) x h) [
+      | inl here ↦
+          let (name, found, is) =
+          mapped_some {B = ℕ × List ℕ} (λ name. (n, name)) (bad_name_of d) x here in
+          subst
+          (λ z. FoundFrom (IsMisnamed z.1) n z.0 (item d ds))
+          is
+          (first_item (IsMisnamed name) n d ds (misnamed d name found))
+      | inr there ↦ later_item (IsMisnamed x.1) n x.0 d ds (granted_from (n + 1) ds x there.1)
+    ]
+
+pub granted_has : (ds : Items) (x : ℕ × List ℕ) → bad_granted_in 1 ds ≡ Some x
+    → (k : ℕ) × (d : Data) × (x.0 ≡ k + 1) × (get_item k ds ≡ Some d)
+    × IsMisnamed x.1 (members_of d)
+unfolding FoundFrom
+granted_has ds x h = granted_from 1 ds x h

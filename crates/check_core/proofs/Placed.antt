@@ -2,11 +2,15 @@
 use Rattle.std.proofs.Common.{◌≡◌, ◌⊎◌, inl, inr, ℕ, Bool, true, false, cond, not, ◌&&◌}
 use Rattle.std.proofs.Common.{List, Option, Some, None, is_some, refl, sym, ◌∙◌, ap}
 use Rattle.std.proofs.Common.{subst, codes, if◌then◌else◌, ⊎_elim, Result, Ok, Err, IfOk, IsSomeAnd}
+use Rattle.std.specs.List.{list_all}
 use Rattle.std.specs.Option.{option_map, option_or}
 use Rattle.std.proofs.lemmas.Bool.{or_parts}
 use Rattle.toml.specs.Data.{Members}
 use Rattle.lifecycle_core.specs.Fault as lifecycle
 use Rattle.lifecycle_core.specs.declared.parts.Parts as lifecycles
+use Rattle.text_core.specs.Form.{is_name}
+use Rattle.rights_core.specs.People.{is_among}
+use Rattle.rights_core.specs.RightsFaults.{has_grant_names, has_group}
 use Rattle.rights_core.specs.Right.{see_queue, create_ticket, show_ticket, show_ticket_comments}
 use Rattle.rights_core.specs.Right.{modify_ticket, reply_to_ticket, comment_on_ticket, own_ticket}
 use Rattle.rights_core.specs.Right.{take_ticket, steal_ticket, reassign_ticket, delete_ticket}
@@ -42,19 +46,22 @@ use Rattle.settings_core.specs.declared.fault.SettingsFault.TheVariants.{Lifecyc
 use Rattle.settings_core.specs.declared.fault.SettingsFault.TheVariants.{UnknownName, BadToken}
 use Rattle.settings_core.specs.declared.fault.SettingsFault.TheVariants.{BadLimit}
 use Rattle.settings_core.specs.declared.named.Named.{Named}
+use Rattle.check_core.specs.BadNames.{bad_granted, bad_group, bad_person}
 use Rattle.check_core.specs.Limits.{bad_count, bad_level}
 use Rattle.check_core.specs.Names.{stray_calendar, stray_person, stray_right, stray_status}
 use Rattle.check_core.specs.People.{is_group, is_person, stray_member, stray_subject}
 use Rattle.check_core.specs.Placed.{HasFault, HasGrant, HasTable, IsBadCount}
-use Rattle.check_core.specs.Placed.{IsStrayMember, PlaceLaw, grants_to_none}
+use Rattle.check_core.specs.Placed.{IsMisnamed, IsStrayMember, PlaceLaw, grants_to_none}
 use Rattle.check_core.specs.Tokens.{bad_token}
 use Rattle.check_core.specs.Wrong as place
-use Rattle.check_core.specs.Wrong.{Wrong, wrong_in, wrong_limit, wrong_name}
+use Rattle.check_core.specs.Wrong.{Wrong, bad_name, wrong_in, wrong_limit, wrong_name}
 use Rattle.check_core.specs.declared.wrong.Wrong.{Wrong as WrongInCode}
 use Rattle.check_core.proofs.Found.{either_some, found_or, found_unless}
 use Rattle.check_core.proofs.Found.{mapped_some, not_true, some_either, some_mapped, some_of}
-use Rattle.check_core.proofs.Grants.{right_found, right_has, subject_found, subject_has}
+use Rattle.check_core.proofs.Found.{find_among, find_failing, find_passes}
+use Rattle.check_core.proofs.Grants.{granted_found, granted_has, right_found, right_has, subject_found, subject_has}
 use Rattle.check_core.proofs.Tables.{calendar_found, calendar_has, fault_of_part, first_bad}
+use Rattle.check_core.proofs.Tables.{group_found, group_has}
 use Rattle.check_core.proofs.Tables.{group_at_key, level_found, level_has, member_found, member_has}
 use Rattle.check_core.proofs.Tables.{person_found, person_has, status_found, status_has}
 use Rattle.check_core.proofs.Tables.{token_found, token_has}
@@ -149,7 +156,13 @@ rights_apply p f h =
     (λ rest. when_only (Applies p) (not (knows_subjects p)) rights.UnknownSubject f rest
     (not_true (knows_subjects p)))))
 
--- `root` alone knows its members and subjects
+-- `root` alone has names, and knows its members and subjects
+stated_by_names : (b : Bool) (p : Parts) → has_names (if b then p else root_alone) ≡ false
+    → (if b then p else root_alone) ≡ p
+unfolding super_user
+stated_by_names true p h = refl
+stated_by_names false p h = absurd (let no : true ≡ false = h in cc)
+
 stated_by_members : (b : Bool) (p : Parts)
     → knows_members (if b then p else root_alone) ≡ false → (if b then p else root_alone) ≡ p
 stated_by_members true p h = refl
@@ -159,6 +172,80 @@ stated_by_subjects : (b : Bool) (p : Parts)
     → knows_subjects (if b then p else root_alone) ≡ false → (if b then p else root_alone) ≡ p
 stated_by_subjects true p h = refl
 stated_by_subjects false p h = absurd (let no : true ≡ false = h in cc)
+
+bad_name_found : (ms : Members) → has_names (people_stated ms) ≡ false
+    → is_some (bad_name ms) ≡ true
+bad_name_found ms h =
+    let parts = people_stated ms in
+    let groups = table_at (codes "groups") ms in
+    let persons_fit = list_all is_name parts.persons in
+    let groups_fit = list_all (λ g. is_name g.name) parts.groups in
+    let grants_fit = list_all has_grant_names parts.grants in
+    let by_group : Option Wrong = option_map place.group_named (bad_group ms) in
+    let by_grant : Option Wrong = option_map (λ f. place.granted f.0 f.1) (bad_granted ms) in
+    some_either persons_fit (groups_fit && grants_fit) (option_map place.person_named (bad_person ms))
+    (option_or by_group by_grant) (grouped persons_fit groups_fit grants_fit h)
+    (λ bad. some_mapped place.person_named (bad_person ms)
+    (find_failing is_name is_name parts.persons (λ x. refl) bad))
+    (λ rest. some_either groups_fit grants_fit by_group by_grant rest
+    (λ bad. some_mapped place.group_named (bad_group ms) (group_found groups bad))
+    (λ bad. some_mapped (λ f. place.granted f.0 f.1) (bad_granted ms)
+    (granted_found 1 (items_at (codes "grant") ms) bad)))
+
+-- a place has the fault by the people that a text states
+IsMisnaming : Members → Parts → Wrong → Type 0
+IsMisnaming ms p (place.person_named name) = (is_among p.persons name ≡ true) × (is_name name ≡ false)
+IsMisnaming ms p (place.group_named name) = (has_group p.groups name ≡ true) × (is_name name ≡ false)
+IsMisnaming ms p (place.granted n name) = HasGrant (IsMisnamed name) n ms
+IsMisnaming ms p other = ⊥
+
+bad_name_has : (ms : Members) (w : Wrong) → bad_name ms ≡ Some w
+    → IsMisnaming ms (people_stated ms) w
+unfolding IsMisnaming
+bad_name_has ms w h =
+    let parts = people_stated ms in
+    let P : Wrong → Type 0 = IsMisnaming ms parts in
+    let by_group : Option Wrong = option_map place.group_named (bad_group ms) in
+    let by_grant : Option Wrong = option_map (λ f. place.granted f.0 f.1) (bad_granted ms) in
+    ⊎_elim
+    (λ own. let (name, found, is) = mapped_some place.person_named (bad_person ms) w own in
+    let has : P (place.person_named name) = (
+      find_among (λ name. not (is_name name)) parts.persons name found,
+      not_true (is_name name) (find_passes (λ name. not (is_name name)) parts.persons name found),
+    ) in
+    subst P is has)
+    (λ after. ⊎_elim
+    (λ own. let (name, found, is) = mapped_some place.group_named (bad_group ms) w own in
+    let has : P (place.group_named name) = group_has (table_at (codes "groups") ms) name found in
+    subst P is has)
+    (λ last. let (x, found, is) =
+    mapped_some (λ f. place.granted f.0 f.1) (bad_granted ms) w last.1 in
+    let has : P (place.granted x.0 x.1) = granted_has (items_at (codes "grant") ms) x found in
+    subst P is has)
+    (either_some by_group by_grant w after.1))
+    (either_some (option_map place.person_named (bad_person ms)) (option_or by_group by_grant) w h)
+
+misnaming_placed : (ms : Members) (w : Wrong) → IsMisnaming ms (people_in ms) w
+    → HasFault ms (Rights rights.BadName) w
+unfolding IsMisnaming
+misnaming_placed ms (place.person_named name) h = h
+misnaming_placed ms (place.group_named name) h = h
+misnaming_placed ms (place.granted n name) h = h
+misnaming_placed ms other h = absurd h
+
+name_form_placed : (ms : Members) → has_names (people_in ms) ≡ false
+    → HasPlace ms (Rights rights.BadName)
+name_form_placed ms h =
+    let stated : people_in ms ≡ people_stated ms =
+    stated_by_names (has_people ms) (people_stated ms) h in
+    let bad : has_names (people_stated ms) ≡ false =
+    subst (λ p. has_names p ≡ false) stated h in
+    let (w, found) = some_of (bad_name ms) (bad_name_found ms bad) in (
+      w,
+      found,
+      misnaming_placed ms w
+          (subst (λ p. IsMisnaming ms p w) (sym stated) (bad_name_has ms w found)),
+    )
 
 member_placed : (ms : Members) → knows_members (people_in ms) ≡ false
     → HasPlace ms (Rights rights.UnknownMember)
@@ -198,7 +285,7 @@ subject_placed ms h =
 people_placed : (ms : Members) (f : RightsFault) → Applies (people_in ms) f
     → HasPlace ms (Rights f)
 unfolding Applies
-people_placed ms rights.BadName h = (place.people, refl, h)
+people_placed ms rights.BadName h = name_form_placed ms h
 people_placed ms rights.Repeated h = (place.people, refl, h)
 people_placed ms rights.UnknownMember h = member_placed ms h
 people_placed ms rights.UnknownSubject h = subject_placed ms h

@@ -10,6 +10,7 @@ use Rattle.std.specs.Ordering.{match_ordering}
 use Rattle.std.specs.Str.{bytes_eq}
 use Rattle.std.proofs.lemmas.Map.Text.{is_eq-slice_cmp}
 use Rattle.toml.specs.Data.{Data, Members, no_members, member, get_member}
+use Rattle.text_core.specs.Form.{is_name}
 use Rattle.lifecycle_core.specs.declared.parts.Parts as lifecycles
 use Rattle.rights_core.specs.People.{is_among, lists}
 use Rattle.rights_core.specs.RightsFaults.{has_group, has_known_members}
@@ -22,6 +23,7 @@ use Rattle.settings_core.specs.Stated.{fault_in}
 use Rattle.settings_core.specs.Tokens.{is_token}
 use Rattle.settings_core.specs.declared.fault.SettingsFault.{SettingsFault}
 use Rattle.settings_core.specs.declared.named.Named.{Named}
+use Rattle.check_core.specs.BadNames.{bad_group_in}
 use Rattle.check_core.specs.Limits.{bad_level_in}
 use Rattle.check_core.specs.Names.{calendar_of, ignored_stray, stray_calendar_in, stray_person_in}
 use Rattle.check_core.specs.Names.{stray_status_in}
@@ -222,6 +224,25 @@ group_at_key name (member k d groups) =
     (is_eq-slice_cmp name k
     ∙ alike (bytes_eq name k) (bytes_eq k name) (swapped name k) (swapped k name))
     (group_at_key name groups)
+
+-- the first group that has no name's form
+pub group_found : (groups : Members) → list_all (λ g. is_name g.name) (groups_in groups) ≡ false
+    → is_some (bad_group_in groups) ≡ true
+group_found no_members h = absurd (cc)
+group_found (member k d groups) h =
+    finds_unless (is_name k) (list_all (λ g. is_name g.name) (groups_in groups)) k
+    (bad_group_in groups) h (group_found groups)
+
+pub group_has : (groups : Members) (k : List ℕ) → bad_group_in groups ≡ Some k
+    → (has_group (groups_in groups) k ≡ true) × (is_name k ≡ false)
+group_has no_members k h = absurd (cc)
+group_has (member j d groups) k h =
+    found_unless
+    (λ z. (has_group (groups_in (member j d groups)) z ≡ true) × (is_name z ≡ false))
+    (is_name j) j (bad_group_in groups) k h
+    (λ bad. (or_left (bytes_eq j j) (has_group (groups_in groups) j) (itself j), bad))
+    (λ rest. let (has, bad) = group_has groups k rest in
+    (or_right (bytes_eq j k) (has_group (groups_in groups) k) has, bad))
 
 pub same_named : (ms : Members) (name : List ℕ)
     → (is_among (texts_at (codes "persons") ms) name || has_group (groups_of ms) name)

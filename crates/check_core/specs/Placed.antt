@@ -1,11 +1,12 @@
 -- What it means that a place of a settings text has a fault, and that each fault has one.
 use Rattle.std.specs.Prelude.{◌≡◌, ◌⊎◌, ℕ, ◌+◌, Bool, true, false, not, ◌&&◌, List, Some}
-use Rattle.std.specs.Prelude.{IsSomeAnd, codes}
+use Rattle.std.specs.Prelude.{◌≤◌, IsSomeAnd, codes, length}
 use Rattle.std.specs.List.{list_any}
 use Rattle.std.specs.Str.{bytes_eq}
 use Rattle.toml.specs.Data.{Data, Members, no_members, member, get_item}
+use Rattle.text_core.specs.Form.{is_name, is_right_name}
 use Rattle.rights_core.specs.People.{is_among, knows, lists}
-use Rattle.rights_core.specs.RightsFaults.{has_group, has_names, is_there, repeats_name}
+use Rattle.rights_core.specs.RightsFaults.{has_group, is_there, repeats_name}
 use Rattle.rights_core.specs.declared.fault.RightsFault.TheVariants as rights
 use Rattle.rights_core.specs.declared.parts.Parts.{Parts}
 use Rattle.settings_form.specs.Places.{fault_key}
@@ -55,6 +56,13 @@ abbrev pub grants_to_none : Parts → Members → Bool
 grants_to_none people grant =
     list_any (λ g. not (is_there people.persons people.groups g.subject)) (grants_at grant)
 
+-- a right that a table grants has no right's name, or the queue that it grants one for no name
+abbrev pub IsMisnamed : List ℕ → Members → Type 0
+IsMisnamed name grant =
+    ((is_among (texts_at (codes "rights") grant) name ≡ true) × (is_right_name name ≡ false))
+    ⊎ ((text_at (codes "queue") grant ≡ Some name) × (is_name name ≡ false)
+    × (1 ≤ length (texts_at (codes "rights") grant)))
+
 -- one of the two counts of a desk is out of its bounds
 abbrev pub IsBadCount : Members → List ℕ → Type 0
 IsBadCount ms key =
@@ -78,7 +86,11 @@ HasFault ms (Rights rights.UnknownSubject) (place.subject n to) =
     (λ g. (text_at (codes "to") g ≡ Some to) × (grants_to_none (people_in ms) g ≡ true))
     n
     ms
-HasFault ms (Rights rights.BadName) place.people = has_names (people_in ms) ≡ false
+HasFault ms (Rights rights.BadName) (place.person_named name) =
+    (is_among (people_in ms).persons name ≡ true) × (is_name name ≡ false)
+HasFault ms (Rights rights.BadName) (place.group_named name) =
+    (has_group (people_in ms).groups name ≡ true) × (is_name name ≡ false)
+HasFault ms (Rights rights.BadName) (place.granted n name) = HasGrant (IsMisnamed name) n ms
 HasFault ms (Rights rights.Repeated) place.people =
     repeats_name (people_in ms).persons (people_in ms).groups ≡ true
 HasFault ms UnknownName (place.right n right) =

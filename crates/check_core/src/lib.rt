@@ -5,6 +5,7 @@
 //! the order of keys, and of the rows of a list.
 #![tactic(auto)]
 
+pub mod bad_names;
 pub mod laws;
 pub mod limits;
 pub mod lines;

@@ -97,7 +97,7 @@ fn stray_subject_in<'t>(table: &Table, grants: &'t Array) -> Option<(usize, &'t 
 }
 
 /// Whether a grant has a right.
-fn grants_any(grant: &Value) -> bool
+pub(crate) fn grants_any(grant: &Value) -> bool
     ensures { result ≡ spec.grants_any (view grant.now) }
 {
     match table_of(grant) {

@@ -7,6 +7,7 @@ ghost use Rattle.settings_core.specs.Reading.{fault_of};
 ghost use Rattle.check_core.specs.Placed.{HasFault};
 ghost use Rattle.check_core.specs.Wrong as spec;
 
+use crate::bad_names::{bad_granted, bad_group, bad_person};
 use crate::limits::{bad_count, bad_level};
 use crate::names::{stray_calendar, stray_person, stray_right, stray_status};
 use crate::parts::{bad_calendar, bad_lifecycle, lifecycles_of};
@@ -31,6 +32,12 @@ pub enum Wrong<'t> {
     Calendar(&'t str),
     /// A lifecycle.
     Lifecycle(&'t str),
+    /// A person, by the own name.
+    Person(&'t str),
+    /// A group, by the own name.
+    Group(&'t str),
+    /// A grant, by this right or queue, which has no name's form.
+    Granted(usize, &'t str),
     /// A group, by this member.
     Member(&'t str, &'t str),
     /// A grant, by whom it is for.
@@ -111,12 +118,13 @@ fn wrong_key(fault: FormFault, table: &Table) -> Option<Wrong<'_>>
     }
 }
 
-/// What has a fault of persons, groups and grants: the member or the grant that names one who isn't
-/// there, or else all of them.
+/// What has a fault of persons, groups and grants: the name that isn't of its form, the member or the
+/// grant that names one who isn't there, or else all of them.
 fn wrong_people(table: &Table, fault: RightsFault) -> Option<Wrong<'_>>
     ensures { option_map spec.seen result ≡ spec.wrong_people (table_view table.now) fault }
 {
     match fault {
+        RightsFault::BadName => bad_name(table),
         RightsFault::UnknownMember => match stray_member(table) {
             Some((group, member)) => Some(Wrong::Member(group, member)),
             None => None,
@@ -126,6 +134,22 @@ fn wrong_people(table: &Table, fault: RightsFault) -> Option<Wrong<'_>>
             None => None,
         },
         _ => Some(Wrong::People),
+    }
+}
+
+/// The first name that isn't of its form: a person's, a group's, or a right's or a queue's of a grant.
+fn bad_name(table: &Table) -> Option<Wrong<'_>>
+    ensures { option_map spec.seen result ≡ spec.bad_name (table_view table.now) }
+{
+    if let Some(person) = bad_person(table) {
+        return Some(Wrong::Person(person));
+    }
+    if let Some(group) = bad_group(table) {
+        return Some(Wrong::Group(group));
+    }
+    match bad_granted(table) {
+        Some((number, name)) => Some(Wrong::Granted(number, name)),
+        None => None,
     }
 }
 
