@@ -1,1 +1,5 @@
-pub mod Listed
+mod Examples
+pub mod Found
+pub mod Grants
+pub mod Placed
+pub mod Tables

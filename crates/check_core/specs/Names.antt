@@ -1,25 +1,23 @@
 -- The first name of a settings text that isn't known.
-use Rattle.std.specs.Prelude.{ℕ, ◌+◌, List, Option, Some, None, codes}
+use Rattle.std.specs.Prelude.{ℕ, ◌+◌, not, List, Option, Some, None, codes, find}
 use Rattle.std.specs.Prelude.{if◌then◌else◌}
 use Rattle.std.specs.Option.{option_map, option_or}
 use Rattle.toml.specs.Data.{Data, Items, no_items, item, Members, no_members, member}
 use Rattle.lifecycle_core.specs.declared.parts.Parts as lifecycles
 use Rattle.rights_core.specs.People.{is_among}
-use Rattle.settings_parts.specs.Values.{items_at, members_of, table_at}
+use Rattle.settings_parts.specs.Values.{items_at, members_of, table_at, texts_at}
 use Rattle.settings_core.specs.Names.{knows_calendar, knows_right, knows_status}
 use Rattle.settings_core.specs.declared.named.Named.{Named}
 use Rattle.check_core.specs.Values.{text_in, text_of}
 
 -- ---- granted rights
 
-abbrev pub stray_among : List (Named lifecycles.Parts) → Items → Option (List ℕ)
-stray_among ls no_items = None
-stray_among ls (item d ds) =
-    if knows_right ls (text_of d) then stray_among ls ds else Some (text_of d)
+abbrev pub stray_among : List (Named lifecycles.Parts) → List (List ℕ) → Option (List ℕ)
+stray_among ls rights = find (λ right. not (knows_right ls right)) rights
 
 -- the first right of a grant that isn't known
 abbrev pub stray_of : List (Named lifecycles.Parts) → Data → Option (List ℕ)
-stray_of ls grant = stray_among ls (items_at (codes "rights") (members_of grant))
+stray_of ls grant = stray_among ls (texts_at (codes "rights") (members_of grant))
 
 -- of grants, of which the first has this number
 abbrev pub stray_grant : List (Named lifecycles.Parts) → ℕ → Items → Option (ℕ × List ℕ)
@@ -46,14 +44,12 @@ stray_calendar_in ms (member k d levels) =
 abbrev pub stray_calendar : Members → Option (List ℕ × List ℕ)
 stray_calendar ms = stray_calendar_in ms (table_at (codes "level") ms)
 
-abbrev pub status_among : List (Named lifecycles.Parts) → Items → Option (List ℕ)
-status_among ls no_items = None
-status_among ls (item d ds) =
-    if knows_status ls (text_of d) then status_among ls ds else Some (text_of d)
+abbrev pub status_among : List (Named lifecycles.Parts) → List (List ℕ) → Option (List ℕ)
+status_among ls statuses = find (λ status. not (knows_status ls status)) statuses
 
 -- the first status that a level ignores and that isn't known
 abbrev pub ignored_stray : List (Named lifecycles.Parts) → Data → Option (List ℕ)
-ignored_stray ls level = status_among ls (items_at (codes "ignore") (members_of level))
+ignored_stray ls level = status_among ls (texts_at (codes "ignore") (members_of level))
 
 abbrev pub stray_status_in : List (Named lifecycles.Parts) → Members → Option (List ℕ × List ℕ)
 stray_status_in ls no_members = None

@@ -1,36 +1,32 @@
 -- The first member of a group, and the first grant, whose person or group isn't there.
-use Rattle.std.specs.Prelude.{ℕ, ◌+◌, Bool, true, false, not, ◌&&◌, ◌||◌, List, Option, Some, None, codes}
-use Rattle.std.specs.Prelude.{is_some, if◌then◌else◌}
+use Rattle.std.specs.Prelude.{ℕ, ◌+◌, Bool, true, false, not, ◌&&◌, ◌||◌, List, [], ◌∷◌}
+use Rattle.std.specs.Prelude.{Option, Some, None, codes, find, is_some, if◌then◌else◌}
 use Rattle.std.specs.Option.{option_map, option_map_or, option_or}
-use Rattle.std.specs.Str.{bytes_eq}
 use Rattle.toml.specs.Data.{Data, Items, no_items, item, Members, no_members, member, get_member}
+use Rattle.rights_core.specs.People.{is_among}
 use Rattle.rights_core.specs.declared.grant.Subject.{Subject}
 use Rattle.rights_core.specs.declared.grant.Subject.TheVariants.{Person, Group}
 use Rattle.settings_form.specs.Grantee.{subject_in}
-use Rattle.settings_parts.specs.Values.{items_at, items_of, members_of, table_at}
-use Rattle.check_core.specs.Values.{text_in, text_of}
-
--- one of the items is the text
-abbrev pub has_text : Items → List ℕ → Bool
-has_text no_items name = false
-has_text (item d ds) name = bytes_eq (text_of d) name || has_text ds name
+use Rattle.settings_parts.specs.Values.{items_at, members_of, table_at, texts_at, texts_of}
+use Rattle.check_core.specs.Values.{text_in}
 
 abbrev pub is_person : Members → List ℕ → Bool
-is_person ms name = has_text (items_at (codes "persons") ms) name
+is_person ms name = is_among (texts_at (codes "persons") ms) name
 
 abbrev pub is_group : Members → List ℕ → Bool
 is_group ms name = is_some (get_member name (table_at (codes "groups") ms))
 
 -- ---- members
 
-abbrev pub stray_among : Members → Items → Option (List ℕ)
-stray_among ms no_items = None
-stray_among ms (item d ds) =
-    if is_person ms (text_of d) || is_group ms (text_of d) then stray_among ms ds
-    else Some (text_of d)
+-- a person or a group
+abbrev pub is_named : Members → List ℕ → Bool
+is_named ms name = is_person ms name || is_group ms name
+
+abbrev pub stray_among : Members → List (List ℕ) → Option (List ℕ)
+stray_among ms members = find (λ name. not (is_named ms name)) members
 
 abbrev pub stray_of : Members → Data → Option (List ℕ)
-stray_of ms group = stray_among ms (items_of group)
+stray_of ms group = stray_among ms (texts_of group)
 
 abbrev pub stray_member_in : Members → Members → Option (List ℕ × List ℕ)
 stray_member_in ms no_members = None
@@ -53,13 +49,13 @@ is_known ms _ = true
 abbrev pub is_there : Members → List ℕ → Bool
 is_there ms to = option_map_or (is_known ms) (subject_in to) true
 
-abbrev pub has_item : Items → Bool
-has_item no_items = false
-has_item (item d ds) = true
+abbrev pub has_any : List (List ℕ) → Bool
+has_any [] = false
+has_any (text ∷ texts) = true
 
 -- a grant has a right
 abbrev pub grants_any : Data → Bool
-grants_any grant = has_item (items_at (codes "rights") (members_of grant))
+grants_any grant = has_any (texts_at (codes "rights") (members_of grant))
 
 abbrev pub stray_subject_in : Members → ℕ → Items → Option (ℕ × List ℕ)
 stray_subject_in ms n no_items = None

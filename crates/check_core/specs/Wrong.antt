@@ -16,6 +16,7 @@ use Rattle.settings_core.specs.declared.fault.SettingsFault.TheVariants.{Lifecyc
 use Rattle.settings_core.specs.declared.fault.SettingsFault.TheVariants.{UnknownName, BadToken}
 use Rattle.settings_core.specs.declared.fault.SettingsFault.TheVariants.{BadLimit, NoMemory}
 use Rattle.settings_core.specs.declared.named.Named.{Named}
+use Rattle.check_core.specs.BadNames.{bad_granted, bad_group, bad_person}
 use Rattle.check_core.specs.Limits.{bad_count, bad_level}
 use Rattle.check_core.specs.Names.{stray_calendar, stray_person, stray_right, stray_status}
 use Rattle.check_core.specs.Parts.{bad_calendar, bad_lifecycle}
@@ -25,12 +26,16 @@ use Rattle.check_core.specs.Tokens.{bad_token}
 use Rattle.check_core.specs.declared.wrong.Wrong.{Wrong as WrongInCode}
 use Rattle.check_core.specs.declared.wrong.Wrong.TheVariants as code
 
--- what has a fault: a table by a key; a part by its name; a group by a member; a grant by whom it is
--- for or by a right; a level by a calendar or a status; a token by its person or by its own form
+-- what has a fault: a table by a key; a part by its name; a person or a group by its own name; a
+-- group by a member; a grant by whom it is for, by a right or a queue; a level by a calendar or a
+-- status; a token by its person or by its own form
 pub data Wrong : Type 0 where
   key : KeyAt → Wrong
   calendar : List ℕ → Wrong
   lifecycle : List ℕ → Wrong
+  person_named : List ℕ → Wrong
+  group_named : List ℕ → Wrong
+  granted : ℕ → List ℕ → Wrong
   group_member : List ℕ → List ℕ → Wrong
   subject : ℕ → List ℕ → Wrong
   people : Wrong
@@ -46,12 +51,19 @@ pub data Wrong : Type 0 where
 abbrev pub wrong_key : FormFault → Members → Option Wrong
 wrong_key f ms = option_map key (fault_key f ms)
 
+-- a person, a group, or a right or the queue of a grant
+abbrev pub bad_name : Members → Option Wrong
+bad_name ms =
+    option_or (option_map person_named (bad_person ms))
+    (option_or (option_map group_named (bad_group ms))
+    (option_map (λ found. granted found.0 found.1) (bad_granted ms)))
+
 abbrev pub wrong_people : Members → RightsFault → Option Wrong
+wrong_people ms rights.BadName = bad_name ms
 wrong_people ms rights.UnknownMember =
     option_map (λ found. group_member found.0 found.1) (stray_member ms)
 wrong_people ms rights.UnknownSubject =
     option_map (λ found. subject found.0 found.1) (stray_subject ms)
-wrong_people ms rights.BadName = Some people
 wrong_people ms rights.Repeated = Some people
 wrong_people ms rights.NoMemory = Some people
 
@@ -89,6 +101,9 @@ abbrev pub seen : WrongInCode → Wrong
 seen (code.Key found) = key (seen_key found)
 seen (code.Calendar name) = calendar name.now
 seen (code.Lifecycle name) = lifecycle name.now
+seen (code.Person name) = person_named name.now
+seen (code.Group name) = group_named name.now
+seen (code.Granted n name) = granted n name.now
 seen (code.Member group name) = group_member group.now name.now
 seen (code.Subject n to) = subject n to.now
 seen code.People = people

@@ -5,6 +5,8 @@
 //! the order of keys, and of the rows of a list.
 #![tactic(auto)]
 
+pub mod bad_names;
+pub mod laws;
 pub mod limits;
 pub mod lines;
 pub mod names;

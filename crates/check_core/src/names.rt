@@ -5,6 +5,7 @@ ghost use Rattle.std.specs.List.{list_any};
 ghost use Rattle.std.specs.Option.{option_copied, option_map};
 ghost use Rattle.toml.specs.View.{array_view, table_view, view};
 ghost use Rattle.lifecycle_core.specs.Lifecycle.{names_right};
+ghost use Rattle.settings_parts.specs.Values.{texts_in};
 ghost use Rattle.settings_core.specs.Names as names;
 ghost use Rattle.check_core.specs.Names as spec;
 
@@ -63,12 +64,14 @@ fn stray_of<'t>(lifecycles: &[Named<Lifecycle>], grant: &'t Value) -> Option<&'t
 }
 
 fn stray_among<'t>(lifecycles: &[Named<Lifecycle>], rights: &'t Array) -> Option<&'t str>
-    ensures { option_copied result ≡ spec.stray_among lifecycles.now (array_view rights.now) }
+    ensures { option_copied result
+        ≡ spec.stray_among lifecycles.now (texts_in (array_view rights.now)) }
 {
     for value in rights {
-        let right = text_of(value);
-        if !knows_right(lifecycles, right) {
-            return Some(right);
+        if let Some(right) = value.as_str() {
+            if !knows_right(lifecycles, right) {
+                return Some(right);
+            }
         }
     }
     None
@@ -169,12 +172,13 @@ fn ignored_stray<'t>(lifecycles: &[Named<Lifecycle>], level: &'t Value) -> Optio
 
 fn status_among<'t>(lifecycles: &[Named<Lifecycle>], statuses: &'t Array) -> Option<&'t str>
     ensures { option_copied result
-        ≡ spec.status_among lifecycles.now (array_view statuses.now) }
+        ≡ spec.status_among lifecycles.now (texts_in (array_view statuses.now)) }
 {
     for value in statuses {
-        let status = text_of(value);
-        if !knows_status(lifecycles, status) {
-            return Some(status);
+        if let Some(status) = value.as_str() {
+            if !knows_status(lifecycles, status) {
+                return Some(status);
+            }
         }
     }
     None

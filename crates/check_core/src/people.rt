@@ -3,10 +3,12 @@
 ghost use Rattle.std.specs.Prelude.{◌≡◌};
 ghost use Rattle.std.specs.Option.{option_copied, option_map};
 ghost use Rattle.toml.specs.View.{array_view, table_view, view};
+ghost use Rattle.rights_core.specs.People.{is_among};
 ghost use Rattle.settings_form.specs.Grantee as form;
+ghost use Rattle.settings_parts.specs.Values.{texts_in};
 ghost use Rattle.check_core.specs.People as spec;
 
-use crate::values::{text_at, text_of};
+use crate::values::text_at;
 use settings_form::grantee::{Grantee, grantee_of};
 use settings_parts::values::{array_at, has_key, table_at, table_of};
 use toml::value::Array;
@@ -48,15 +50,23 @@ fn stray_of<'t>(table: &Table, group: &'t Value) -> Option<&'t str>
 
 fn stray_among<'t>(table: &Table, members: &'t Array) -> Option<&'t str>
     ensures { option_copied result
-        ≡ spec.stray_among (table_view table.now) (array_view members.now) }
+        ≡ spec.stray_among (table_view table.now) (texts_in (array_view members.now)) }
 {
     for value in members {
-        let member = text_of(value);
-        if !is_person(table, member) && !is_group(table, member) {
-            return Some(member);
+        if let Some(member) = value.as_str() {
+            if !is_named(table, member) {
+                return Some(member);
+            }
         }
     }
     None
+}
+
+/// Whether a person or a group has this name.
+fn is_named(table: &Table, name: &str) -> bool
+    ensures { result ≡ spec.is_named (table_view table.now) name.now }
+{
+    is_person(table, name) || is_group(table, name)
 }
 
 /// The first grant of any right for a person or a group that isn't there: which it is, from 1, and
@@ -87,25 +97,28 @@ fn stray_subject_in<'t>(table: &Table, grants: &'t Array) -> Option<(usize, &'t 
 }
 
 /// Whether a grant has a right.
-fn grants_any(grant: &Value) -> bool
+pub(crate) fn grants_any(grant: &Value) -> bool
     ensures { result ≡ spec.grants_any (view grant.now) }
 {
     match table_of(grant) {
         Some(table) => match array_at(table, "rights") {
-            Some(rights) => has_item(rights),
+            Some(rights) => has_any(rights),
             None => false,
         },
         None => false,
     }
 }
 
-fn has_item(list: &Array) -> bool
-    ensures { result ≡ spec.has_item (array_view list.now) }
+/// Whether a list has a text.
+fn has_any(list: &Array) -> bool
+    ensures { result ≡ spec.has_any (texts_in (array_view list.now)) }
 {
-    match list.as_slice() {
-        [] => false,
-        [_, ..] => true,
+    for value in list {
+        if value.as_str().is_some() {
+            return true;
+        }
     }
+    false
 }
 
 /// Whether the person or the group that a grant is for is there.
@@ -138,11 +151,13 @@ fn is_person(table: &Table, name: &str) -> bool
 }
 
 fn has_text(list: &Array, name: &str) -> bool
-    ensures { result ≡ spec.has_text (array_view list.now) name.now }
+    ensures { result ≡ is_among (texts_in (array_view list.now)) name.now }
 {
     for value in list {
-        if text_of(value) == name {
-            return true;
+        if let Some(text) = value.as_str() {
+            if text == name {
+                return true;
+            }
         }
     }
     false

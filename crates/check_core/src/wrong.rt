@@ -1,10 +1,13 @@
 //! What of a settings text has its fault first.
 
-ghost use Rattle.std.specs.Prelude.{◌≡◌, IfOk};
+ghost use Rattle.std.specs.Prelude.{◌≡◌, Some, IfOk, IsSomeAnd};
 ghost use Rattle.std.specs.Option.{option_map};
 ghost use Rattle.toml.specs.View.{table_view};
+ghost use Rattle.settings_core.specs.Reading.{fault_of};
+ghost use Rattle.check_core.specs.Placed.{HasFault};
 ghost use Rattle.check_core.specs.Wrong as spec;
 
+use crate::bad_names::{bad_granted, bad_group, bad_person};
 use crate::limits::{bad_count, bad_level};
 use crate::names::{stray_calendar, stray_person, stray_right, stray_status};
 use crate::parts::{bad_calendar, bad_lifecycle, lifecycles_of};
@@ -29,6 +32,12 @@ pub enum Wrong<'t> {
     Calendar(&'t str),
     /// A lifecycle.
     Lifecycle(&'t str),
+    /// A person, by the own name.
+    Person(&'t str),
+    /// A group, by the own name.
+    Group(&'t str),
+    /// A grant, by this right or queue, which has no name's form.
+    Granted(usize, &'t str),
     /// A group, by this member.
     Member(&'t str, &'t str),
     /// A grant, by whom it is for.
@@ -51,10 +60,24 @@ pub enum Wrong<'t> {
     Count(&'t str),
 }
 
-/// What of a table of settings has this fault first. None where nothing has it, and of `NotToml` and
+/// What of a table of settings has this fault first. Where it is the fault of the table there is
+/// such a place, and what stands there has the fault. None where nothing has it, and of `NotToml` and
 /// `NoMemory`. Of names that aren't known it is asked where the lifecycles have no fault;
 /// `AllocError` is answered where they have one.
 pub fn wrong_in(
+    alloc: Global,
+    table: &Table,
+    fault: SettingsFault,
+) -> Result<Option<Wrong<'_>>, AllocError>
+    ensures first { IfOk result (λ wrong. option_map spec.seen wrong
+        ≡ spec.wrong_in (table_view table.now) fault) }
+    ensures placed { fault_of (table_view table.now) ≡ Some fault → IfOk result (λ wrong.
+        IsSomeAnd (option_map spec.seen wrong) (HasFault (table_view table.now) fault)) }
+{
+    first_wrong(alloc, table, fault)
+}
+
+fn first_wrong(
     alloc: Global,
     table: &Table,
     fault: SettingsFault,
@@ -95,12 +118,13 @@ fn wrong_key(fault: FormFault, table: &Table) -> Option<Wrong<'_>>
     }
 }
 
-/// What has a fault of persons, groups and grants: the member or the grant that names one who isn't
-/// there, or else all of them.
+/// What has a fault of persons, groups and grants: the name that isn't of its form, the member or the
+/// grant that names one who isn't there, or else all of them.
 fn wrong_people(table: &Table, fault: RightsFault) -> Option<Wrong<'_>>
     ensures { option_map spec.seen result ≡ spec.wrong_people (table_view table.now) fault }
 {
     match fault {
+        RightsFault::BadName => bad_name(table),
         RightsFault::UnknownMember => match stray_member(table) {
             Some((group, member)) => Some(Wrong::Member(group, member)),
             None => None,
@@ -110,6 +134,22 @@ fn wrong_people(table: &Table, fault: RightsFault) -> Option<Wrong<'_>>
             None => None,
         },
         _ => Some(Wrong::People),
+    }
+}
+
+/// The first name that isn't of its form: a person's, a group's, or a right's or a queue's of a grant.
+fn bad_name(table: &Table) -> Option<Wrong<'_>>
+    ensures { option_map spec.seen result ≡ spec.bad_name (table_view table.now) }
+{
+    if let Some(person) = bad_person(table) {
+        return Some(Wrong::Person(person));
+    }
+    if let Some(group) = bad_group(table) {
+        return Some(Wrong::Group(group));
+    }
+    match bad_granted(table) {
+        Some((number, name)) => Some(Wrong::Granted(number, name)),
+        None => None,
     }
 }
 

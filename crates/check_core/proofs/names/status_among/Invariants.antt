@@ -1,9 +1,10 @@
 use Rattle.std.proofs.Common.{◌≡◌, drop}
 use Rattle.toml.specs.View.{items_view}
+use Rattle.settings_parts.specs.Values.{texts_in}
 use Rattle.check_core.specs.Names.{status_among}
 use Rattle.check_core.proofs.names.status_among.Given as goal
 
 abbrev pub invariant-loop-value : goal.invariant-loop-value
 invariant-loop-value l =
-    status_among l.lifecycles (items_view (drop l.value-index l.statuses.items))
-    ≡ status_among l.lifecycles (items_view l.statuses.items)
+    status_among l.lifecycles (texts_in (items_view (drop l.value-index l.statuses.items)))
+    ≡ status_among l.lifecycles (texts_in (items_view l.statuses.items))
