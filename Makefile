@@ -4,7 +4,7 @@ PREFIX ?= /usr/local
 # As many checks side by side as there are processors and memory for, four at most: the dearest, of a
 # program of cases, takes 7.5 GB, each other program up to 6.5, a library up to 4. Left alone, rt
 # reckons with up to 12 and leaves processors idle.
-JOBS ?= $(shell awk -v n=$$(nproc) '/^MemAvailable/ { j = 1 + int(($$2 / 1000000 - 7.5) / 5.5); \
+JOBS ?= $(shell awk -v n=$$(nproc) '/^MemAvailable/ { j = 1 + int(($$2 / 1000000 - 8.5) / 5.5); \
 	if (j > n) j = n; if (j > 4) j = 4; if (j > 1) print j }' /proc/meminfo)
 
 # The crates whose wrong edits the gate tries. Those of the others haven't been tried by bench/edits yet:
@@ -75,6 +75,7 @@ trials: desk
 # The rules told twice: what they come to is compared with what is stored, in a few seconds.
 models:
 	models/scripts
+	models/leaves
 	models/lots
 	models/made
 

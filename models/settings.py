@@ -45,7 +45,7 @@ class Settings:
         table = tomllib.loads(text)
         self.max_requests = table.get("max_requests", 1000000)
         self.max_entries = table.get("max_entries", 10000)
-        self.groups = table.get("groups", {})
+        self.groups, self.tokens = table.get("groups", {}), table.get("tokens", {})
         if table.keys() & {"persons", "groups", "grant"}:
             self.persons = set(table.get("persons", []))
             self.grants = [(right, grant["to"], grant.get("queue"))
@@ -61,7 +61,7 @@ class Settings:
 
     def is_member(self, person, group):
         """Whether a group holds a person, itself or through groups that it holds."""
-        reached, found = {group}, [group]
+        reached, found = set(), [group]
         for name in found:
             for member in self.groups.get(name, []):
                 if member not in reached:

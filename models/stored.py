@@ -1,4 +1,4 @@
-"""The cases of crates/suite, and of crates/edge_cases those of limits: what a case asks, and what is stored as its answer."""
+"""The cases of crates/suite, of crates/edge_cases those of limits and of crates/leaf_cases those of settings: what a case asks, and what is stored as its answer."""
 import difflib
 import os
 import re
@@ -6,7 +6,7 @@ import sys
 
 TOP = os.path.dirname(os.path.dirname(os.path.abspath(__file__)))
 # the kinds of cases that another program than suite has
-ELSEWHERE = {"limits": "edge_cases"}
+ELSEWHERE = {"limits": "edge_cases", "settings": "leaf_cases"}
 
 
 def path_of(file):
@@ -23,7 +23,7 @@ def text_of(file):
 
 def asked(case):
     """The parts of a case, by name, as they are written."""
-    parts = re.split(r"^=== (.*)\n", text_of(case), flags=re.M)
+    parts = re.split(r"(?:^|(?<=>>))=== (.*)\n", text_of(case), flags=re.M)
     return dict(zip(parts[1::2], parts[2::2]))
 
 

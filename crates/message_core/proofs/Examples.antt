@@ -1,12 +1,22 @@
--- Examples of the definitions: the length that a head states, at its limits; tokens and other lines
--- that stand once or twice; what follows a head; the bytes of replies; the numbers of faults.
-use Rattle.std.specs.Prelude.{◌≡◌, refl, ℕ, true, false, List, [], ◌∷◌, ◌++◌, codes, Some, None}
-use Rattle.std.specs.Prelude.{Ok, Err}
+-- Examples of the definitions: the length that a head states, at its limits, and the bytes that state
+-- it; tokens and other lines that stand once or twice; what follows a head; the bytes of replies; the
+-- numbers of faults.
+use Rattle.std.specs.Prelude.{◌≡◌, ◌<◌, refl, ℕ, Bool, true, false, ◌&&◌, nat_lt, List, [], ◌∷◌}
+use Rattle.std.specs.Prelude.{◌++◌, codes, length, map, replicate, Some, None, Ok, Err}
 use Rattle.std.specs.Fmt.{digits}
-use Rattle.std.specs.Str.{chars, is_utf8}
-use Rattle.std.proofs.Common.{arith}
+use Rattle.std.specs.List.{All, flat_map, list_all}
+use Rattle.std.specs.Str.{IsAscii, chars, is_utf8}
+use Rattle.std.proofs.Common.{absurd, arith, inl, inr, subst}
+use Rattle.std.proofs.lemmas.Bool.{and_parts, ltb-true}
+use Rattle.std.proofs.lemmas.Bool.Decides.{nat_tests}
+use Rattle.std.proofs.lemmas.List.Sums.{AllPass-from_list_all}
 use Rattle.std.proofs.lemmas.Str.{IsUtf8-from_ascii, is_utf8-from_IsUtf8}
 use Rattle.std.proofs.lemmas.Str.Ascii.{IsAscii-cons, IsAscii-nil}
+use Rattle.httparse.specs.Grammar.{Field, IsField, IsRequestHead, ReadsRequest, RequestHead, crlf}
+use Rattle.httparse.specs.Grammar.{is_token, is_token_byte, is_uri_byte, is_value_byte, lf}
+use Rattle.httparse.specs.Spans.{name_and_value}
+use Rattle.httparse.proofs.GrammarLemmas.{request_unique}
+use Rattle.httparse.proofs.OnLiterals.{httparse_on_literals}
 use Rattle.message_core.specs.Fault.{name_of, number_of}
 use Rattle.message_core.specs.Heading.{Line, length_of, number_within, token_of}
 use Rattle.message_core.specs.Limits.{limit_at}
@@ -15,12 +25,14 @@ use Rattle.message_core.specs.Reply.{allow_line, bytes_of, fields, last_line, st
 use Rattle.message_core.specs.Reply.{type_line}
 use Rattle.message_core.specs.Reply.{unavailable}
 use Rattle.message_core.specs.Request.{all_values, one_value}
+use Rattle.message_core.specs.Stated.{States, StatesLength}
 use Rattle.message_core.specs.declared.fault.WireFault.TheVariants.{TooLong, Truncated, BadLength}
 use Rattle.message_core.specs.declared.fault.WireFault.TheVariants.{NoMemory}
 use Rattle.message_core.specs.declared.heading.Heading.{Heading}
 use Rattle.message_core.specs.declared.limits.BodyLimit.TheVariants.{ByPlace, Plain}
 use Rattle.message_core.specs.declared.reply.Allow.TheVariants.{Get, GetPost, Post}
 use Rattle.message_core.specs.declared.reply.Reply.{Reply}
+use Rattle.message_core.proofs.HeadLemmas.{no_head_in_ends, over_by}
 
 -- Fault.antt
 
@@ -215,3 +227,172 @@ reply_without_memory :
     ++ codes "Content-Length: 23\r\nConnection: close\r\n\r\nrefused 16 Unavailable\n"
 unfolding status_line fields type_line allow_line last_line digits
 reply_without_memory = refl
+
+-- Stated.antt: heads, as a tree and as bytes
+
+abbrev are_small : List ℕ → Bool
+are_small bytes = list_all (λ b. nat_lt b 128) bytes
+
+ascii_by : (bytes : List ℕ) → are_small bytes ≡ true → IsAscii bytes
+ascii_by [] small = IsAscii-nil
+ascii_by (b ∷ bytes) small =
+    IsAscii-cons b bytes (grind (arith, nat_tests, small))
+    (ascii_by bytes (grind (arith, nat_tests, small)))
+
+abbrev is_line : Field → Bool
+is_line f = is_token f.name && list_all is_value_byte f.raw
+
+line_by : (f : Field) → is_line f ≡ true → IsField f
+line_by f e =
+    let both = and_parts (is_token f.name) (list_all is_value_byte f.raw) e in
+    let named = and_parts (nat_lt 0 (length f.name)) (list_all is_token_byte f.name) both.0 in
+    record {
+      name = (ltb-true 0 (length f.name) named.0, AllPass-from_list_all is_token_byte f.name named.1);
+      raw = AllPass-from_list_all is_value_byte f.raw both.1;
+    }
+
+lines_by : (fs : List Field) → list_all is_line fs ≡ true → All IsField fs
+lines_by fs e = λ k d inside. line_by _ (AllPass-from_list_all is_line fs e k d inside)
+
+-- a POST with this target and these lines
+abbrev post : List ℕ → List Field → RequestHead
+post target fields =
+    record {
+      blank = [];
+      method = codes "POST";
+      target = target;
+      minor = 1;
+      line_end = crlf;
+      fields = fields;
+      last = crlf;
+    }
+
+is_post : (target : List ℕ) (fields : List Field) → 0 < length target
+    → list_all is_uri_byte target ≡ true → are_small target ≡ true → list_all is_line fields ≡ true
+    → IsRequestHead (post target fields)
+unfolding is_token_byte
+is_post target fields some bytes small lines =
+    record {
+      method = (omega arith, AllPass-from_list_all is_token_byte (codes "POST") refl);
+      target = (some, AllPass-from_list_all is_uri_byte target bytes);
+      target_text = IsUtf8-from_ascii target (ascii_by target small);
+      minor = omega arith;
+      fields = lines_by fields lines;
+    }
+
+-- a line that says the length of the body
+abbrev says : List ℕ → Field
+says value = record { name = codes "Content-Length"; raw = 32 ∷ value; end = crlf }
+
+-- Stated.antt: lengths
+
+no_line_states_no_body : States Plain (codes "POST /a HTTP/1.1\r\n\r\nabc") (Some 0)
+unfolding httparse_on_literals
+no_line_states_no_body = (
+  post (codes "/a") [],
+  codes "abc",
+  (is_post (codes "/a") [] (omega arith) refl refl refl, refl),
+  refl,
+)
+
+abbrev at_the_limit : List ℕ
+at_the_limit = codes "POST /a HTTP/1.1\r\nContent-Length: 65536\r\n\r\n"
+
+at_the_limit_reads : ReadsRequest at_the_limit (post (codes "/a") (says (codes "65536") ∷ [])) []
+unfolding httparse_on_literals
+at_the_limit_reads = (is_post (codes "/a") _ (omega arith) refl refl refl, refl)
+
+length_at_the_limit_is_stated : States Plain at_the_limit (Some 65536)
+unfolding httparse_on_literals
+length_at_the_limit_is_stated =
+    (post (codes "/a") (says (codes "65536") ∷ []), [], at_the_limit_reads, refl)
+
+-- bytes state one length alone
+no_other_length_is_stated : States Plain at_the_limit (Some 65535) → ⊥
+unfolding httparse_on_literals
+no_other_length_is_stated (h, rest, reads, is) =
+    let same = (request_unique at_the_limit h _ rest _ reads at_the_limit_reads).0 in
+    let other : Ok 65536 ≡ Ok 65535 =
+    subst (λ h. length_of 65536 (map name_and_value h.fields) ≡ Ok 65535) same is in
+    absurd cc
+
+length_past_the_limit_is_not_stated :
+    States Plain (codes "POST /a HTTP/1.1\r\nContent-Length: 65537\r\n\r\n") None
+unfolding httparse_on_literals
+length_past_the_limit_is_not_stated =
+    inr
+    (inr (
+      post (codes "/a") (says (codes "65537") ∷ []),
+      [],
+      TooLong,
+      (is_post (codes "/a") _ (omega arith) refl refl refl, refl),
+      refl,
+    ))
+
+length_of_a_form_at_the_limit_is_stated :
+    States ByPlace (codes "POST /desk/a HTTP/1.1\r\nContent-Length: 262144\r\n\r\n") (Some 262144)
+unfolding httparse_on_literals
+length_of_a_form_at_the_limit_is_stated = (
+  post (codes "/desk/a") (says (codes "262144") ∷ []),
+  [],
+  (is_post (codes "/desk/a") _ (omega arith) refl refl refl, refl),
+  refl,
+)
+
+length_of_a_form_past_the_limit_is_not_stated :
+    States ByPlace (codes "POST /desk/a HTTP/1.1\r\nContent-Length: 262145\r\n\r\n") None
+unfolding httparse_on_literals
+length_of_a_form_past_the_limit_is_not_stated =
+    inr
+    (inr (
+      post (codes "/desk/a") (says (codes "262145") ∷ []),
+      [],
+      TooLong,
+      (is_post (codes "/desk/a") _ (omega arith) refl refl refl, refl),
+      refl,
+    ))
+
+two_lengths_are_not_stated :
+    States Plain
+    (codes "POST /a HTTP/1.1\r\nContent-Length: 7\r\nContent-Length: 7\r\n\r\n")
+    None
+unfolding httparse_on_literals
+two_lengths_are_not_stated =
+    inr
+    (inr (
+      post (codes "/a") (says (codes "7") ∷ says (codes "7") ∷ []),
+      [],
+      BadLength,
+      (is_post (codes "/a") _ (omega arith) refl refl refl, refl),
+      refl,
+    ))
+
+no_bytes_state_nothing : States Plain [] None
+no_bytes_state_nothing = inl (no_head_in_ends [] refl)
+
+-- a line `A:`
+abbrev short_line : Field
+short_line = record { name = codes "A"; raw = []; end = lf }
+
+abbrev short_lines : ℕ → List Field
+short_lines n = replicate n short_line
+
+abbrev lined : ℕ → List ℕ
+lined n = codes "POST /a HTTP/1.1\r\n" ++ flat_map (λ f. codes "A:\n") (short_lines n) ++ codes "\r\n"
+
+head_of_32_lines_states_its_length : States Plain (lined 32) (Some 0)
+unfolding httparse_on_literals
+head_of_32_lines_states_its_length = (
+  post (codes "/a") (short_lines 32),
+  [],
+  (is_post (codes "/a") _ (omega arith) refl refl refl, refl),
+  refl,
+)
+
+head_of_33_lines_states_nothing : States Plain (lined 33) None
+unfolding httparse_on_literals
+head_of_33_lines_states_nothing =
+    inr
+    (inl
+    (over_by (lined 33) (post (codes "/a") (short_lines 33)) []
+    (is_post (codes "/a") _ (omega arith) refl refl refl, refl) (omega arith)))

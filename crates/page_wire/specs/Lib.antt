@@ -1,3 +1,4 @@
+pub mod Control
 pub mod Faults
 pub mod Forms
 pub mod Health

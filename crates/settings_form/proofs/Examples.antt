@@ -1,6 +1,6 @@
 -- Examples of the definitions: keys and what stands at them; whom a grant is for; days, intervals
 -- and moves as texts, at their limits; each fault of form, in tables inside too, and which comes
--- first.
+-- first; the key by which a table has a fault, and how that table is reached.
 use Rattle.std.specs.Prelude.{◌≡◌, refl, true, false, pos, [], codes, Some, None}
 use Rattle.toml.specs.Data.{Data, string, integer, boolean, array, table, no_items, item}
 use Rattle.toml.specs.Data.{Members, no_members, member}
@@ -8,13 +8,16 @@ use Rattle.rights_core.specs.declared.grant.Subject.TheVariants as subject
 use Rattle.rights_core.specs.declared.role.Role.TheVariants.{Owner, AdminCc}
 use Rattle.settings_form.specs.Form.{kind_of}
 use Rattle.settings_form.specs.Grantee.{subject_in}
+use Rattle.settings_form.specs.Keys.{key_of}
 use Rattle.settings_form.specs.Kinds.{has_clash, has_unknown_key, has_wrong_kind, lacks_key, two_of}
+use Rattle.settings_form.specs.Places.{at, fault_key, path_to}
 use Rattle.settings_form.specs.TextForms.{after_space, before_space, day_of, has_form, interval_of}
 use Rattle.settings_form.specs.Walk.{form_fault}
 use Rattle.settings_form.specs.declared.fault.FormFault.TheVariants.{UnknownKey, Missing, WrongKind}
 use Rattle.settings_form.specs.declared.form.Item.TheVariants.{Integer, Pair, Table, Text}
 use Rattle.settings_form.specs.declared.form.Kind.TheVariants.{One, Many}
-use Rattle.settings_form.specs.declared.form.Place.TheVariants.{Top, Groups, Grant, Lifecycles}
+use Rattle.settings_form.specs.declared.form.Place.TheVariants.{Top, Groups, Grant, Tokens}
+use Rattle.settings_form.specs.declared.form.Place.TheVariants.{Lifecycles, Lifecycle, Calendars}
 use Rattle.settings_form.specs.declared.form.Place.TheVariants.{RightNames, Calendar, Level, Limit}
 use Rattle.settings_form.specs.declared.form.TextForm.TheVariants.{Any, Name, To, RightKey}
 use Rattle.settings_form.specs.declared.form.TextForm.TheVariants.{Day, Interval}
@@ -369,3 +372,159 @@ table_in_place_of_a_number :
     (member (codes "max_entries") (table (member (codes "colour") one no_members)) no_members)
     ≡ Some WrongKind
 table_in_place_of_a_number = refl
+
+-- Keys.antt: the keys of a table stand in the order of their bytes
+
+first_of_two_unknown_keys :
+    key_of UnknownKey Top
+    (member (codes "colour") one
+    (member (codes "max_entries") one (member (codes "size") one no_members)))
+    ≡ Some (codes "colour")
+first_of_two_unknown_keys = refl
+
+known_keys_alone : key_of UnknownKey Top (member (codes "max_entries") text no_members) ≡ None
+known_keys_alone = refl
+
+-- any word may be a token
+no_token_is_unknown : key_of UnknownKey Tokens (member (codes "colour") one no_members) ≡ None
+no_token_is_unknown = refl
+
+grant_lacks_the_key_that_is_named_first : key_of Missing Grant no_members ≡ Some (codes "to")
+grant_lacks_the_key_that_is_named_first = refl
+
+grant_lacks_its_rights :
+    key_of Missing Grant (member (codes "to") text no_members) ≡ Some (codes "rights")
+grant_lacks_its_rights = refl
+
+-- a value of another kind isn't missing
+grant_lacks_nothing :
+    key_of Missing Grant (member (codes "rights") one (member (codes "to") one no_members)) ≡ None
+grant_lacks_nothing = refl
+
+lifecycle_lacks_on_create :
+    key_of Missing Lifecycle
+    (member (codes "active") one
+    (member (codes "create") one (member (codes "initial") one no_members)))
+    ≡ Some (codes "on_create")
+lifecycle_lacks_on_create = refl
+
+limit_lacks_the_first_unit : key_of Missing Limit no_members ≡ Some (codes "real_minutes")
+limit_lacks_the_first_unit = refl
+
+limit_with_the_second_unit :
+    key_of Missing Limit (member (codes "business_minutes") text no_members) ≡ None
+limit_with_the_second_unit = refl
+
+-- a key that isn't one of its units is none
+limit_with_another_key :
+    key_of Missing Limit (member (codes "minutes") one no_members)
+    ≡ Some (codes "real_minutes")
+limit_with_another_key = refl
+
+first_of_two_wrong_kinds :
+    key_of WrongKind Top
+    (member (codes "max_entries") one
+    (member (codes "max_requests") text (member (codes "persons") text no_members)))
+    ≡ Some (codes "max_requests")
+first_of_two_wrong_kinds = refl
+
+second_person_is_a_number :
+    key_of WrongKind Top
+    (member (codes "persons") (array (item text (item one no_items))) no_members)
+    ≡ Some (codes "persons")
+second_person_is_a_number = refl
+
+-- whose value is of the right kind
+name_that_is_none :
+    key_of WrongKind Calendars (member (codes "My") (table no_members) no_members)
+    ≡ Some (codes "My")
+name_that_is_none = refl
+
+-- an unknown key is another fault
+unknown_key_is_of_no_wrong_kind :
+    key_of WrongKind Grant (member (codes "colour") one no_members) ≡ None
+unknown_key_is_of_no_wrong_kind = refl
+
+rule_is_the_key_that_clashes :
+    key_of WrongKind Calendar
+    (member (codes "offset") one (member (codes "rule") text no_members))
+    ≡ Some (codes "rule")
+rule_is_the_key_that_clashes = refl
+
+-- which is looked for behind all wrong kinds
+week_of_a_clashing_calendar :
+    key_of WrongKind Calendar
+    (member (codes "offset") one
+    (member (codes "rule") text (member (codes "wed") one no_members)))
+    ≡ Some (codes "wed")
+week_of_a_clashing_calendar = refl
+
+-- Places.antt
+
+no_key_of_an_empty_text : fault_key Missing no_members ≡ None
+no_key_of_an_empty_text = refl
+
+-- the first table of the list has an unknown key, but so has the text itself
+own_key_before_those_inside :
+    fault_key UnknownKey
+    (member (codes "grant")
+    (array (item (table (member (codes "colour") one no_members)) no_items))
+    (member (codes "size") one no_members))
+    ≡ Some (at Top (path_to [] [] 0) (codes "size"))
+own_key_before_those_inside = refl
+
+key_of_the_second_grant :
+    fault_key Missing
+    (member (codes "grant") (array (item (table everyone) (item (table no_members) no_items)))
+    no_members)
+    ≡ Some (at Grant (path_to [] (codes "grant") 2) (codes "to"))
+key_of_the_second_grant = refl
+
+-- [level.l]
+-- response = { minutes = 1 }
+abbrev one_level : Members
+one_level =
+    member (codes "level")
+    (table
+    (member (codes "l")
+    (table
+    (member (codes "response") (table (member (codes "minutes") one no_members)) no_members))
+    no_members))
+    no_members
+
+key_of_a_limit :
+    fault_key UnknownKey one_level
+    ≡ Some (at Limit (path_to (codes "l") (codes "response") 0) (codes "minutes"))
+key_of_a_limit = refl
+
+-- before the unit that its limit lacks
+key_of_a_level :
+    fault_key Missing one_level
+    ≡ Some (at Level (path_to (codes "level") (codes "l") 0) (codes "calendar"))
+key_of_a_level = refl
+
+no_wrong_kind_of_a_level : fault_key WrongKind one_level ≡ None
+no_wrong_kind_of_a_level = refl
+
+-- [calendar.a]
+-- years = 1
+-- [calendar.b]
+-- offset = "a"
+two_calendars :
+    fault_key WrongKind
+    (member (codes "calendar")
+    (table
+    (member (codes "a") (table (member (codes "years") one no_members))
+    (member (codes "b") (table (member (codes "offset") text no_members)) no_members)))
+    no_members)
+    ≡ Some (at Calendar (path_to (codes "calendar") (codes "a") 0) (codes "years"))
+two_calendars = refl
+
+-- a table where none belongs isn't looked into, nor is a list of tables
+no_key_of_a_table_in_place_of_a_number :
+    fault_key UnknownKey
+    (member (codes "max_entries") (table (member (codes "colour") one no_members))
+    (member (codes "persons")
+    (array (item (table (member (codes "colour") one no_members)) no_items)) no_members))
+    ≡ None
+no_key_of_a_table_in_place_of_a_number = refl

@@ -13,20 +13,19 @@ returns g c =
       step_spared (settings_of g.S.Store c.args.self.now.desk)
           (tables_of g.S.Store c.args.self.now.desk)
           (tables_of g.S.Store c.answer_to-reply.new.desk)
-          (tables_of g.S.Store c.is_shut_after-self.new.desk)
+          (tables_of g.S.Store c.is_shut-self.new.desk)
           (answered_as c.args.minute c.args.message.now
           (record { reply = c.answer_to-reply.result; note = c.note_on-note.result }))
           (c.answer_to-reply.ensures.step, left.clean, left.lasts)
-          c.is_shut_after-self.ensures.kept,
-      c.is_shut_after-self.ensures.same ∙ left.same,
+          c.is_shut-self.ensures.kept,
+      c.is_shut-self.ensures.same ∙ left.same,
       (
-        (
-          c.read_sent-read.result,
-          c.read_sent-read.ensures,
-          note_same c.args.self.now.proxied _ _ c.read_sent-read.result _
-              (bytes_of c.answer_to-reply.result) c.note_on-note.result.items
-              (c.settings.ensures ∙ left.same) c.bytes.ensures c.note_on-note.ensures,
-        ),
+        c.read_sent-read.result,
+        c.read_sent-read.ensures,
+        note_same c.args.self.now.proxied _ _ c.read_sent-read.result _
+            (bytes_of c.answer_to-reply.result) c.note_on-note.result.items
+            (c.settings-2.ensures ∙ left.same) c.bytes.ensures c.note_on-note.ensures,
+        ap (λ (b : Bool). c.args.self.now.stops || b) c.stops_by.ensures,
         refl,
       ),
     )
