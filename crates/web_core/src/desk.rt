@@ -47,7 +47,9 @@ impl<S: Backend, C> WebDesk<S, C> {
     {
         self.is_shut
     }
+}
 
+impl<S: Backend, C: Drop> WebDesk<S, C> {
     /// The desk. Takes no memory.
     pub fn into_desk(self) -> Desk<S>
         ensures { result ≡ self.desk }
