@@ -11,7 +11,7 @@ JOBS ?= $(shell awk -v n=$$(nproc) '/^MemAvailable/ { j = 1 + int(($$2 / 1000000
 # `make edits NAME=CRATE` tries one crate's, and a crate of which each is refused is listed here.
 EDITED = browser_core connection_core days desk_core desk_model desk_style find_core find_form \
 	hours_core lifecycle_core line_core log_core message_core page_core report_core rights_core \
-	route_core settings_core settings_form settings_parts text_core zone_rules
+	route_core server_core settings_core settings_form settings_parts text_core zone_rules
 
 .PHONY: demo test edits desk install trials models wrong sweep
 
