@@ -50,6 +50,7 @@ fn may_control(settings: &Settings, token: &Option<Text>) -> bool
 }
 
 /// Whether a person holds `SuperUser` on all queues: no queue has the empty name.
+#[tactic(auto, unfolding(rights_core::specs::Right::super_user))]
 fn holds_all(settings: &Settings, person: &str) -> bool
     ensures { result ≡ form.holds_all settings.now person.now }
 {

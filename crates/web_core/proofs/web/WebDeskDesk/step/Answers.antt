@@ -1,8 +1,10 @@
 -- the step of the message, and the look whether the store is shut leaves its tables
-use Rattle.std.proofs.Common.{◌∙◌, refl}
+use Rattle.std.proofs.Common.{◌∙◌, Bool, ap, refl}
+use Rattle.std.specs.Prelude.{◌||◌}
 use Rattle.connection_core.specs.Reply.{bytes_of}
 use Rattle.server_core.specs.Answers.{answered_as}
 use Rattle.service_core.specs.Seen.{settings_of, tables_of}
+use Rattle.web_core.specs.Shut.{stops_by}
 use Rattle.web_core.proofs.NoteLemmas.{note_same}
 use Rattle.web_core.proofs.StepLemmas.{step_spared}
 use Rattle.web_core.proofs.web.WebDeskDesk.step.Goals as goal
@@ -24,8 +26,9 @@ returns g c =
         c.read_sent-read.ensures,
         note_same c.args.self.now.proxied _ _ c.read_sent-read.result _
             (bytes_of c.answer_to-reply.result) c.note_on-note.result.items
-            (c.settings-2.ensures ∙ left.same) c.bytes.ensures c.note_on-note.ensures,
-        ap (λ (b : Bool). c.args.self.now.stops || b) c.stops_by.ensures,
+            (c.settings-3.ensures ∙ left.same) c.bytes.ensures c.note_on-note.ensures,
+        ap (λ (b : Bool). c.args.self.now.stops || b) (c.stops_by-stops.ensures
+            ∙ ap (λ s. stops_by s c.read_sent-read.result) c.settings.ensures),
         refl,
       ),
     )
