@@ -21,8 +21,8 @@ use store_core::Backend;
 ///
 /// It ends by `Counted` where it has answered as many as it was to, by `Network` only where a wait
 /// has failed, or sixteen accepts in a row with no connection left, and by `Shut` only where the store
-/// is shut, or somebody who may has asked the server to stop; then no message is answered any more, and
-/// the replies go out before. `AllocError` where there is no memory for the places: then nothing is done.
+/// is shut, or somebody who may has asked the server to stop; then, from the next turn on, no message
+/// is answered, and the replies go out before. `AllocError` where there is no memory for the places: then nothing is done.
 pub fn serve_web<H: Host, S: Backend, C: Copies>(
     alloc: Global,
     host: &mut H,
