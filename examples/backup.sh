@@ -10,7 +10,18 @@ set -eu
 tables=$1 copy=$2 pid=$3
 part=$copy.part
 umask 077
+# 0 is what systemctl tells of a unit that doesn't run; as a PID it would be this script's own group
+case $pid in
+'' | *[!0-9]* | 0 | 1)
+    echo "backup.sh: no server has the PID $pid" >&2
+    exit 1
+    ;;
+esac
 trap 'kill -CONT "$pid"; rm -f "$part" "$part-wal" "$part-shm"' EXIT
+# whatever ends this script, the server goes on
+trap 'exit 129' HUP
+trap 'exit 130' INT
+trap 'exit 143' TERM
 rm -f "$part" "$part-wal" "$part-shm"
 kill -STOP "$pid"
 # a write that is under way ends before the process stands still
