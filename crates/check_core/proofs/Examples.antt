@@ -1,5 +1,5 @@
--- Examples of the definitions: what has a fault, and what stands beside it and doesn't; which of two
--- is told.
+-- Examples of the definitions: what has a fault, and what stands beside it and doesn't; which of
+-- two is told.
 use Rattle.std.proofs.Common.{◌≡◌, ℕ, true, false, pos, List, Some, inl, inr}
 use Rattle.std.proofs.Common.{None, arith, refl, codes}
 use Rattle.toml.specs.Data.{Data, string, integer, array, table, no_items, item}
@@ -45,7 +45,8 @@ tokens =
 short_token : HasFault tokens BadToken (place.token (codes "ann-token-00000") (codes "ann"))
 short_token = (refl, refl)
 
-token_of_another : HasFault tokens BadToken (place.token (codes "ann-token-00000") (codes "bob")) → ⊥
+token_of_another : HasFault tokens BadToken (place.token (codes "ann-token-00000") (codes "bob"))
+    → ⊥
 token_of_another h = absurd (let no : false ≡ true = h.0 in cc)
 
 token_of_16_bytes : HasFault tokens BadToken (place.token (codes "bob-token-000000") (codes "bob"))

@@ -26,7 +26,8 @@ use Rattle.check_core.specs.People.{grants_any, has_any, is_known, is_there}
 use Rattle.check_core.specs.People.{stray_subject_in}
 use Rattle.check_core.specs.Placed.{IsMisnamed}
 use Rattle.check_core.specs.Values.{text_in}
-use Rattle.check_core.proofs.Found.{and_both, both_of, either_some, find_among, find_failing, find_passes}
+use Rattle.check_core.proofs.Found.{and_both, both_of, either_some, find_among, find_failing}
+use Rattle.check_core.proofs.Found.{find_passes}
 use Rattle.check_core.proofs.Found.{found_or}
 use Rattle.check_core.proofs.Found.{mapped_some, not_false, not_true, or_left, some_either}
 use Rattle.check_core.proofs.Found.{some_mapped}
@@ -147,12 +148,14 @@ grants_for subject queue rights = option_map_or (λ s. map (grant_of s queue) ri
 
 all_there : (persons : List (List ℕ)) (ms : Members) (s : Subject) (queue : Option (List ℕ))
     (rights : List (List ℕ)) → is_there_among persons (groups_of ms) s ≡ true
-    → list_all (λ g. is_there_among persons (groups_of ms) g.subject) (map (grant_of s queue) rights)
+    → list_all (λ g. is_there_among persons (groups_of ms) g.subject)
+    (map (grant_of s queue) rights)
     ≡ true
 all_there persons ms s queue [] there = refl
 all_there persons ms s queue (r ∷ rights) there =
     ap (λ (b : Bool). b
-    && list_all (λ g. is_there_among persons (groups_of ms) g.subject) (map (grant_of s queue) rights))
+    && list_all (λ g. is_there_among persons (groups_of ms) g.subject)
+    (map (grant_of s queue) rights))
     there ∙ all_there persons ms s queue rights there
 
 all_fail : (there all : Bool) → (there ≡ true → all ≡ true) → all ≡ false → there ≡ false

@@ -59,7 +59,8 @@ use Rattle.check_core.specs.declared.wrong.Wrong.{Wrong as WrongInCode}
 use Rattle.check_core.proofs.Found.{either_some, found_or, found_unless}
 use Rattle.check_core.proofs.Found.{mapped_some, not_true, some_either, some_mapped, some_of}
 use Rattle.check_core.proofs.Found.{find_among, find_failing, find_passes}
-use Rattle.check_core.proofs.Grants.{granted_found, granted_has, right_found, right_has, subject_found, subject_has}
+use Rattle.check_core.proofs.Grants.{granted_found, granted_has, right_found, right_has}
+use Rattle.check_core.proofs.Grants.{subject_found, subject_has}
 use Rattle.check_core.proofs.Tables.{calendar_found, calendar_has, fault_of_part, first_bad}
 use Rattle.check_core.proofs.Tables.{group_found, group_has}
 use Rattle.check_core.proofs.Tables.{group_at_key, level_found, level_has, member_found, member_has}
@@ -183,8 +184,9 @@ bad_name_found ms h =
     let grants_fit = list_all has_grant_names parts.grants in
     let by_group : Option Wrong = option_map place.group_named (bad_group ms) in
     let by_grant : Option Wrong = option_map (λ f. place.granted f.0 f.1) (bad_granted ms) in
-    some_either persons_fit (groups_fit && grants_fit) (option_map place.person_named (bad_person ms))
-    (option_or by_group by_grant) (grouped persons_fit groups_fit grants_fit h)
+    some_either persons_fit (groups_fit && grants_fit)
+    (option_map place.person_named (bad_person ms)) (option_or by_group by_grant)
+    (grouped persons_fit groups_fit grants_fit h)
     (λ bad. some_mapped place.person_named (bad_person ms)
     (find_failing is_name is_name parts.persons (λ x. refl) bad))
     (λ rest. some_either groups_fit grants_fit by_group by_grant rest
@@ -194,8 +196,10 @@ bad_name_found ms h =
 
 -- a place has the fault by the people that a text states
 IsMisnaming : Members → Parts → Wrong → Type 0
-IsMisnaming ms p (place.person_named name) = (is_among p.persons name ≡ true) × (is_name name ≡ false)
-IsMisnaming ms p (place.group_named name) = (has_group p.groups name ≡ true) × (is_name name ≡ false)
+IsMisnaming ms p (place.person_named name) =
+    (is_among p.persons name ≡ true) × (is_name name ≡ false)
+IsMisnaming ms p (place.group_named name) =
+    (has_group p.groups name ≡ true) × (is_name name ≡ false)
 IsMisnaming ms p (place.granted n name) = HasGrant (IsMisnamed name) n ms
 IsMisnaming ms p other = ⊥
 
@@ -453,7 +457,8 @@ limit_placed ms h =
       w,
       found,
       ⊎_elim (level_placed ms w) (λ after. count_placed ms w after.1)
-          (either_some (option_map place.level (bad_level ms)) (option_map place.count (bad_count ms)) w
+          (either_some (option_map place.level (bad_level ms))
+          (option_map place.count (bad_count ms)) w
           found),
     )
 

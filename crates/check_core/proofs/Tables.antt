@@ -132,7 +132,8 @@ status_has ls (member k d levels) x h =
     let own : Option (List ℕ × List ℕ) = option_map (λ status. (k, status)) (ignored_stray ls d) in
     elim (either_some own (stray_status_in ls levels) x h) [
       | inl here ↦
-          let (s, found, is) = mapped_some {B = List ℕ × List ℕ} (λ status. (k, status)) (ignored_stray ls d) x here in
+          let (s, found, is) =
+          mapped_some {B = List ℕ × List ℕ} (λ status. (k, status)) (ignored_stray ls d) x here in
           let texts = texts_at (codes "ignore") (members_of d) in
           subst
           (λ z. HasTable (λ t. is_among (level_of t).ignore z.1 ≡ true) z.0 (member k d levels)
@@ -275,18 +276,21 @@ member_has ms (member k d groups) x h =
     let own : Option (List ℕ × List ℕ) = option_map (λ name. (k, name)) (stray_of ms d) in
     elim (either_some own (stray_member_in ms groups) x h) [
       | inl here ↦
-          let (s, found, is) = mapped_some {B = List ℕ × List ℕ} (λ name. (k, name)) (stray_of ms d) x here in
+          let (s, found, is) =
+          mapped_some {B = List ℕ × List ℕ} (λ name. (k, name)) (stray_of ms d) x here in
           subst
           (λ z. (lists (groups_in (member k d groups)) z.0 z.1 ≡ true) × (is_named ms z.1 ≡ false))
           is (
             or_left (bytes_eq k k && is_among (texts_of d) s) (lists (groups_in groups) k s)
                 (and_both (bytes_eq k k) (is_among (texts_of d) s) (itself k)
                 (find_among (λ name. not (is_named ms name)) (texts_of d) s found)),
-            not_true (is_named ms s) (find_passes (λ name. not (is_named ms name)) (texts_of d) s found),
+            not_true (is_named ms s)
+                (find_passes (λ name. not (is_named ms name)) (texts_of d) s found),
           )
       | inr there ↦
           let (has, stray) = member_has ms groups x there.1 in (
-            or_right (bytes_eq k x.0 && is_among (texts_of d) x.1) (lists (groups_in groups) x.0 x.1) has,
+            or_right (bytes_eq k x.0 && is_among (texts_of d) x.1)
+                (lists (groups_in groups) x.0 x.1) has,
             stray,
           )
     ]

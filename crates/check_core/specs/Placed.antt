@@ -75,7 +75,8 @@ HasFault ms UnknownKey (place.key found) = fault_key form.UnknownKey ms ≡ Some
 HasFault ms Missing (place.key found) = fault_key form.Missing ms ≡ Some found
 HasFault ms WrongKind (place.key found) = fault_key form.WrongKind ms ≡ Some found
 HasFault ms (Hours fault) (place.calendar name) =
-    HasTable (λ t. calendars.table_fault t ≡ Some (Hours fault)) name (table_at (codes "calendar") ms)
+    HasTable (λ t. calendars.table_fault t ≡ Some (Hours fault)) name
+    (table_at (codes "calendar") ms)
 HasFault ms (Lifecycle fault) (place.lifecycle name) =
     HasTable (λ t. lifecycles.table_fault t ≡ Some (Lifecycle fault)) name
     (table_at (codes "lifecycle") ms)

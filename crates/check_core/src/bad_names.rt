@@ -82,7 +82,8 @@ fn bad_granted_in(grants: &Array) -> Option<(usize, &str)>
     None
 }
 
-/// The first right of a grant that isn't a right's name, or else its queue, where that isn't a name.
+/// The first right of a grant that isn't a right's name, or else its queue, where that isn't a
+/// name.
 fn bad_name_of(grant: &Value) -> Option<&str>
     ensures { option_copied result ≡ spec.bad_name_of (view grant.now) }
 {

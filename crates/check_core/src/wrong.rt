@@ -61,8 +61,8 @@ pub enum Wrong<'t> {
 }
 
 /// What of a table of settings has this fault first. Where it is the fault of the table there is
-/// such a place, and what stands there has the fault. None where nothing has it, and of `NotToml` and
-/// `NoMemory`. Of names that aren't known it is asked where the lifecycles have no fault;
+/// such a place, and what stands there has the fault. None where nothing has it, and of `NotToml`
+/// and `NoMemory`. Of names that aren't known it is asked where the lifecycles have no fault;
 /// `AllocError` is answered where they have one.
 pub fn wrong_in(
     alloc: Global,
@@ -118,8 +118,8 @@ fn wrong_key(fault: FormFault, table: &Table) -> Option<Wrong<'_>>
     }
 }
 
-/// What has a fault of persons, groups and grants: the name that isn't of its form, the member or the
-/// grant that names one who isn't there, or else all of them.
+/// What has a fault of persons, groups and grants: the name that isn't of its form, the member or
+/// the grant that names one who isn't there, or else all of them.
 fn wrong_people(table: &Table, fault: RightsFault) -> Option<Wrong<'_>>
     ensures { option_map spec.seen result ≡ spec.wrong_people (table_view table.now) fault }
 {
@@ -137,7 +137,8 @@ fn wrong_people(table: &Table, fault: RightsFault) -> Option<Wrong<'_>>
     }
 }
 
-/// The first name that isn't of its form: a person's, a group's, or a right's or a queue's of a grant.
+/// The first name that isn't of its form: a person's, a group's, or of a grant a right's or the
+/// queue's.
 fn bad_name(table: &Table) -> Option<Wrong<'_>>
     ensures { option_map spec.seen result ≡ spec.bad_name (table_view table.now) }
 {

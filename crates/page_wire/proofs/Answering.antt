@@ -36,7 +36,6 @@ use Rattle.wire_core.proofs.Stepping.{leads_nowhere, leads_same, leads_wider, re
 use Rattle.page_wire.specs.Faults.{fault_reply}
 use Rattle.page_wire.specs.Steps.{AskedStepsOn, AsksAt, By, IsAnsweredOn, IsAnswerTo, IsReadOf}
 use Rattle.page_wire.specs.Health.{TellsHealth, asks_health}
-use Rattle.page_wire.specs.Control.{TellsCopy, asks_copy, asks_stop, stop_reply}
 use Rattle.page_wire.specs.Steps.{PageSteps, SentSteps}
 use Rattle.page_wire.specs.Forms.{FormStepsOn}
 use Rattle.page_wire.specs.Steps.{LookStepsOn, RequestStepsOn, SentStepsOn, VisitStepsOn}
@@ -129,55 +128,30 @@ health_told s at request h (Ok out) old new is head kept told =
     (λ desk. by_yes (asks_health request.message) _ _ is (so, refl))
 health_told s at request h (Err e) old new is head kept told = tt
 
--- who may stop the server is told that it stops
-pub stop_told : {A E : Type 0} (s : Settings) (at : ℕ) (request : Request) (r : Result (Vec ℕ A) E)
-    (tables : State) → asks_health request.message ≡ false → asks_stop s request.message ≡ true
-    → IfOk r (λ out. out.items ≡ bytes_of stop_reply)
-    → IfOk r (λ out. SentStepsOn s at (Ok request) out.items tables tables)
-stop_told s at request (Ok out) tables health is told =
-    leads_nowhere s _ tables (λ desk. by_no (asks_health request.message) _ _ health
-    (by_yes (asks_stop s request.message) _ _ is (told, refl)))
-stop_told s at request (Err e) tables health is told = tt
-
--- and who may have a copy is told of that
-pub copy_told : {A E : Type 0} (s : Settings) (at : ℕ) (request : Request) (r : Result (Vec ℕ A) E)
-    (tables : State) → asks_health request.message ≡ false → asks_stop s request.message ≡ false
-    → asks_copy s request.message ≡ true → IfOk r (λ out. TellsCopy out.items)
-    → IfOk r (λ out. SentStepsOn s at (Ok request) out.items tables tables)
-copy_told s at request (Ok out) tables health stop is told =
-    leads_nowhere s _ tables (λ desk. by_no (asks_health request.message) _ _ health
-    (by_no (asks_stop s request.message) _ _ stop
-    (by_yes (asks_copy s request.message) _ _ is (told, refl))))
-copy_told s at request (Err e) tables health stop is told = tt
-
 -- a place of the interface
 pub elsewhere : {A E : Type 0} (s : Settings) (at : ℕ) (request : Request)
     (r : Result (Vec ℕ A) E) (old new : State) → asks_health request.message ≡ false
-    → asks_stop s request.message ≡ false → asks_copy s request.message ≡ false
     → is_page_path (path_in request.message.target) ≡ false
     → IfOk r (λ out. ReadStepsOn s at (Ok request.message) out.items old new)
     → IfOk r (λ out. SentStepsOn s at (Ok request) out.items old new)
-elsewhere s at request (Ok out) old new health stop copy other steps =
+elsewhere s at request (Ok out) old new health other steps =
     leads_wider s _ _ old new
     (λ desk after step. by_no (asks_health request.message) _ _ health
-    (by_no (asks_stop s request.message) _ _ stop (by_no (asks_copy s request.message) _ _ copy
-    (by_no (is_page_path (path_in request.message.target)) _ _ other step))))
+    (by_no (is_page_path (path_in request.message.target)) _ _ other step))
     (read_leads s at (Ok request.message) out.items old new steps)
-elsewhere s at request (Err e) old new health stop copy other steps = tt
+elsewhere s at request (Err e) old new health other steps = tt
 
 -- a place of the pages
 pub on_pages : {A E : Type 0} (s : Settings) (at : ℕ) (request : Request)
     (r : Result (Vec ℕ A) E) (old new : State) → asks_health request.message ≡ false
-    → asks_stop s request.message ≡ false → asks_copy s request.message ≡ false
     → is_page_path (path_in request.message.target) ≡ true
     → IfOk r (λ out. RequestStepsOn s at request out.items old new)
     → IfOk r (λ out. SentStepsOn s at (Ok request) out.items old new)
-on_pages s at request (Ok out) old new health stop copy is steps =
+on_pages s at request (Ok out) old new health is steps =
     leads_wider s _ _ old new
     (λ desk after step. by_no (asks_health request.message) _ _ health
-    (by_no (asks_stop s request.message) _ _ stop (by_no (asks_copy s request.message) _ _ copy
-    (by_yes (is_page_path (path_in request.message.target)) _ _ is step)))) steps
-on_pages s at request (Err e) old new health stop copy is steps = tt
+    (by_yes (is_page_path (path_in request.message.target)) _ _ is step)) steps
+on_pages s at request (Err e) old new health is steps = tt
 
 -- a call that failed and left the desk as it was spares the tables
 pub spared_err : {S X E : Type 0} (g : Ghosts S) (old new : Service S g) (r : Result X E)

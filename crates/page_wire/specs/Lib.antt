@@ -1,4 +1,3 @@
-pub mod Control
 pub mod Faults
 pub mod Forms
 pub mod Health

@@ -30,7 +30,6 @@ use Rattle.find_form.specs.declared.form.FindForm.{FindForm}
 use Rattle.find_form.specs.declared.shown.Start.{Start}
 use Rattle.find_form.specs.declared.shown.Start.TheVariants.{First}
 use Rattle.message_core.specs.Head.{StartsWith}
-use Rattle.message_core.specs.Reply.{bytes_of}
 use Rattle.message_core.specs.Request.{ReadsRequested, values_in}
 use Rattle.message_core.specs.declared.limits.BodyLimit.TheVariants.{ByPlace}
 use Rattle.message_core.specs.declared.fault.WireFault.{WireFault}
@@ -55,7 +54,6 @@ use Rattle.wire_core.specs.Steps.{LeavesOut, MessageSteps, StaysOn}
 use Rattle.page_wire.specs.Faults.{fault_reply}
 use Rattle.page_wire.specs.Forms.{FormSteps}
 use Rattle.page_wire.specs.Health.{TellsHealth, asks_health}
-use Rattle.page_wire.specs.Control.{TellsCopy, asks_copy, asks_stop, stop_reply}
 use Rattle.page_wire.specs.Replies as replies
 use Rattle.page_wire.specs.Visits.{IsFixed}
 
@@ -181,17 +179,14 @@ RequestSteps settings at request old bytes new =
     LeavesOut (is_head request.message) old bytes new
     ⊎ AskedSteps settings at request old bytes new
 
--- The step of what was read: a fault is told; whoever asks whether the desk is there is told; who may
--- and asks the server to stop, or for a copy, is told of that; and else a message is answered at a
--- place of the pages by its visit, and by the interface at any other.
+-- The step of what was read: a fault is told; whoever asks whether the desk is there is told; and else
+-- a message is answered at a place of the pages by its visit, and by the interface at any other.
 abbrev pub SentSteps : Settings → ℕ → Result Request WireFault → Desk → List ℕ → Desk → Type 0
 SentSteps settings at (Err fault) old bytes new = TellsFault fault bytes × (new ≡ old)
 SentSteps settings at (Ok request) old bytes new =
     By (asks_health request.message) (TellsHealth (is_head request.message) bytes × (new ≡ old))
-    (By (asks_stop settings request.message) (Tells (bytes_of stop_reply) old bytes new)
-    (By (asks_copy settings request.message) (TellsCopy bytes × (new ≡ old))
     (By (is_page_path (path_in request.message.target)) (RequestSteps settings at request old bytes new)
-    (MessageSteps settings at request.message old bytes new))))
+    (MessageSteps settings at request.message old bytes new))
 
 -- it is read so of these bytes, with a body as long as its place takes
 abbrev pub IsReadOf : List ℕ → Result Request WireFault → Type 0

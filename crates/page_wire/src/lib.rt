@@ -1,8 +1,7 @@
 //! A message that asks for a page: what it asks for is done, and the page is made of the answer.
 //!
 //! `read_sent` reads whatever comes, once, and `answer_sent` answers what was read: a message at a
-//! place of the pages by the step of its visit, `/health` whether the desk is there, `/stop` and
-//! `/copy` that the server stops and that its tables were copied, where who asks may, and any other by
+//! place of the pages by the step of its visit, `/health` whether the desk is there, and any other by
 //! the interface's step, byte for byte.
 //!
 //! A form may ask for two commands. The second is done only after the first, and where it is refused
@@ -10,7 +9,6 @@
 #![tactic(auto)]
 
 mod act;
-mod control;
 mod faults;
 mod health;
 mod led;
@@ -22,5 +20,4 @@ mod second;
 mod serve;
 mod visits;
 
-pub use control::{asks_copy, asks_stop};
 pub use serve::{answer_sent, read_sent};

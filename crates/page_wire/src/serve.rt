@@ -9,7 +9,6 @@ ghost use Rattle.page_wire.specs.Faults as form;
 ghost use Rattle.page_wire.specs.Steps.{AskedStepsOn, IsReadOf, RequestStepsOn, SentStepsOn};
 ghost use Rattle.wire_core.specs.Steps.{StaysOn};
 
-use crate::control::{answer_copy, answer_stop, asks_copy, asks_stop};
 use crate::faults::fault_reply;
 use crate::health::{answer_health, asks_health};
 use crate::led::ROOM;
@@ -58,17 +57,14 @@ fn read(alloc: Global, bytes: &[u8]) -> Result<Request, WireFault>
 }
 
 /// Answers what was read, at a moment in minutes since 1970-01-01 00:00 UTC: a fault is told, whoever
-/// asks whether the desk is there is told, and so is who may and asks the server to stop or for a
-/// copy; else a message is answered at a place of the pages by its visit, and by the interface at any
-/// other. Stopping and copying are left to the caller, which learns of them by `asks_stop` and
-/// `asks_copy`, and says whether a copy was made. The bytes of its reply, or `AllocError` where there
+/// asks whether the desk is there is told, and else a message is answered at a place of the pages by
+/// its visit, and by the interface at any other. The bytes of its reply, or `AllocError` where there
 /// was no memory for it and nothing was done.
 #[tactic(auto, using(service_core::proofs::LeftLemmas::left_same, store_tables::proofs::Spared::unread))]
 pub fn answer_sent<S: Backend>(
     alloc: Global,
     routes: Option<&Routes>,
     read: &Result<Request, WireFault>,
-    copied: bool,
     moment: u32,
     desk: &mut Desk<S>,
 ) -> Result<Vec<u8>, AllocError>
@@ -78,7 +74,7 @@ pub fn answer_sent<S: Backend>(
     ensures left { LeavesDesk S.Store desk.old desk.new }
 {
     match read {
-        Ok(request) => answer_read(alloc, routes, request, copied, moment, desk),
+        Ok(request) => answer_read(alloc, routes, request, moment, desk),
         Err(fault) => answer_fault(alloc, *fault),
     }
 }
@@ -89,7 +85,6 @@ fn answer_read<S: Backend>(
     alloc: Global,
     routes: Option<&Routes>,
     request: &Request,
-    copied: bool,
     moment: u32,
     desk: &mut Desk<S>,
 ) -> Result<Vec<u8>, AllocError>
@@ -100,10 +95,6 @@ fn answer_read<S: Backend>(
 {
     if asks_health(&request.message) {
         answer_health(alloc, is_head(&request.message), desk)
-    } else if asks_stop(desk.settings(), &request.message) {
-        answer_stop(alloc)
-    } else if asks_copy(desk.settings(), &request.message) {
-        answer_copy(alloc, copied)
     } else if is_page_place(request.message.target.as_slice()) {
         answer_in_room(alloc, request, moment, desk)
     } else {

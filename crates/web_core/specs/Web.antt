@@ -1,32 +1,19 @@
 -- A desk that answers messages over HTTP: its step, and when it counts as shut.
-use Rattle.std.specs.Prelude.{◌≡◌, ◌≢◌, ◌||◌, Bool, Result, Err}
+use Rattle.std.specs.Prelude.{◌≡◌, Bool}
 use Rattle.sqlite.specs.Store.{Ghosts}
 use Rattle.service_core.specs.Seen.{settings_of, tables_of}
 use Rattle.server_core.specs.Turns.{Answered}
 use Rattle.web_core.specs.Messages.{StepsAt}
-use Rattle.message_core.specs.declared.fault.WireFault.{WireFault}
-use Rattle.message_core.specs.declared.fault.WireFault.TheVariants.{NoMemory}
-use Rattle.message_core.specs.declared.request.Request.{Request}
-use Rattle.page_wire.specs.Steps.{IsReadOf}
-use Rattle.web_core.specs.Notes.{IsNote}
-use Rattle.web_core.specs.Shut.{stops_by}
+use Rattle.web_core.specs.Notes.{IsNoted}
 use Rattle.web_core.specs.declared.desk.WebDesk.{WebDesk}
 
--- It was noted as what its bytes were read as, and stops the server where that asks for it and who
--- sent it may.
-abbrev pub IsTaken : {S C : Type 0} (g : Ghosts S) → WebDesk S C g → Answered → WebDesk S C g → Type 0
-IsTaken g old a new =
-    (read : Result Request WireFault) × (read ≢ Err NoMemory → IsReadOf a.message read)
-    × IsNote old.proxied (settings_of g old.desk) read a.reply a.note
-    × (new.stops ≡ (old.stops || stops_by (settings_of g old.desk) read))
-    × (new.proxied ≡ old.proxied)
-
--- the step of a message over its tables, under the same settings, and what else came of it
-abbrev pub Steps : {S C : Type 0} (g : Ghosts S) → WebDesk S C g → Answered → WebDesk S C g → Type 0
+-- the step of a message over its tables, under the same settings, and its note
+abbrev pub Steps : {S : Type 0} (g : Ghosts S) → WebDesk S g → Answered → WebDesk S g → Type 0
 Steps g old a new =
     StepsAt (settings_of g old.desk) (tables_of g old.desk) a (tables_of g new.desk)
-    × (settings_of g new.desk ≡ settings_of g old.desk) × IsTaken g old a new
+    × (settings_of g new.desk ≡ settings_of g old.desk)
+    × (IsNoted old.proxied (settings_of g old.desk) a × (new.proxied ≡ old.proxied))
 
--- it was seen that its store is shut, or it was asked to stop
-abbrev pub shuts : {S C : Type 0} (g : Ghosts S) → WebDesk S C g → Bool
-shuts g desk = desk.is_shut || desk.stops
+-- it was seen that its store is shut
+abbrev pub shuts : {S : Type 0} (g : Ghosts S) → WebDesk S g → Bool
+shuts g desk = desk.is_shut

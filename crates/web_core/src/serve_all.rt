@@ -8,7 +8,6 @@ ghost use Rattle.web_core.specs.Messages.{RunsSome};
 ghost use Rattle.web_core.specs.Web as web;
 ghost use Rattle.web_core.specs.Shut.{IsShut};
 
-use crate::copies::Copies;
 use crate::desk::WebDesk;
 use server_core::laws::run_law;
 use server_core::{Ending, Host, serve};
@@ -21,12 +20,11 @@ use store_core::Backend;
 ///
 /// It ends by `Counted` where it has answered as many as it was to, by `Network` only where a wait
 /// has failed, or sixteen accepts in a row with no connection left, and by `Shut` only where the store
-/// is shut, or somebody who may has asked the server to stop; then, from the next turn on, no message
-/// is answered, and the replies go out before. `AllocError` where there is no memory for the places: then nothing is done.
-pub fn serve_web<H: Host, S: Backend, C: Copies>(
+/// is shut. `AllocError` where there is no memory for the places: then nothing is done.
+pub fn serve_web<H: Host, S: Backend>(
     alloc: Global,
     host: &mut H,
-    desk: &mut WebDesk<S, C>,
+    desk: &mut WebDesk<S>,
     places: usize,
     most: u64,
 ) -> Result<Ending, AllocError>
@@ -34,11 +32,10 @@ pub fn serve_web<H: Host, S: Backend, C: Copies>(
         (tables_of S.Store desk.old.desk) (tables_of S.Store desk.new.desk)) }
     ensures served { IfOk result (λ ending. IsServed (States ByPlace) (web.Steps S.Store)
         (web.shuts S.Store) (H.told host.old) (H.told host.new) places most desk.old ending desk.new) }
-    ensures shut { IfOk result (λ ending. ending ≡ Ending.Shut → desk.new.is_shut ≡ false
-        → desk.new.stops ≡ true) }
-    ensures seen { desk.new.is_shut ≡ true → IsShut (tables_of S.Store desk.new.desk) }
+    ensures shut { IfOk result (λ ending. ending ≡ Ending.Shut
+        → IsShut (tables_of S.Store desk.new.desk)) }
     ensures err { OnErr result (desk.new ≡ desk.old) }
 {
-    run_law::<WebDesk<S, C>>();
+    run_law::<WebDesk<S>>();
     serve(alloc, host, desk, places, most)
 }

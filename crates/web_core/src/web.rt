@@ -5,10 +5,9 @@ ghost use Rattle.page_wire.specs.Steps.{IsAnsweredOn, IsReadOf};
 ghost use Rattle.service_core.specs.Leaves.{LeavesDesk};
 ghost use Rattle.service_core.specs.Seen.{settings_of, tables_of};
 
-use crate::copies::Copies;
 use crate::desk::WebDesk;
 use crate::note::note_on;
-use crate::shut::{copies_by, is_shut, stops_by};
+use crate::shut::is_shut_after;
 use connection_core::{Framing, Reply};
 use message_core::{BodyLimit, Request, WireFault, stated_body, unavailable_reply};
 use page_wire::{answer_sent, read_sent};
@@ -27,7 +26,6 @@ fn answer_to<S: Backend>(
     minute: u32,
     _message: &[u8],
     read: &Result<Request, WireFault>,
-    copied: bool,
     desk: &mut Desk<S>,
 ) -> Reply
     requires { read.now ≢ Err WireFault.NoMemory → IsReadOf _message.now read.now }
@@ -35,13 +33,13 @@ fn answer_to<S: Backend>(
         (bytes_of result) (tables_of S.Store desk.old) (tables_of S.Store desk.new) }
     ensures left { LeavesDesk S.Store desk.old desk.new }
 {
-    match answer_sent(alloc, routes, read, copied, minute, desk) {
+    match answer_sent(alloc, routes, read, minute, desk) {
         Ok(reply) => Reply::Made(reply),
         Err(_) => Reply::Fixed(unavailable_reply(false)),
     }
 }
 
-impl<S: Backend, C: Copies> Framing for WebDesk<S, C> {
+impl<S: Backend> Framing for WebDesk<S> {
     ghost use Rattle.message_core.specs.Stated.{States as StatesWithin};
     ghost use Rattle.message_core.specs.declared.limits.BodyLimit.TheVariants.{ByPlace};
 
@@ -54,7 +52,7 @@ impl<S: Backend, C: Copies> Framing for WebDesk<S, C> {
     }
 }
 
-impl<S: Backend, C: Copies> server_core::Desk for WebDesk<S, C> {
+impl<S: Backend> server_core::Desk for WebDesk<S> {
     ghost use Rattle.web_core.specs.Web as web;
 
     ghost Steps = { web.Steps S.Store };
@@ -63,10 +61,8 @@ impl<S: Backend, C: Copies> server_core::Desk for WebDesk<S, C> {
 
     fn step(&mut self, alloc: Global, minute: u32, message: &[u8]) -> Answer {
         let read = read_sent(alloc, message);
-        let stops = stops_by(self.desk.settings(), &read);
-        let copied = copies_by(self.desk.settings(), &read) && self.copies.copy();
         let routes = self.routes.as_ref();
-        let reply = answer_to(alloc, routes, minute, message, &read, copied, &mut self.desk);
+        let reply = answer_to(alloc, routes, minute, message, &read, &mut self.desk);
         let note = note_on(
             alloc,
             self.proxied,
@@ -75,12 +71,11 @@ impl<S: Backend, C: Copies> server_core::Desk for WebDesk<S, C> {
             reply.bytes(),
         );
         drop(read);
-        self.stops = self.stops || stops;
-        self.is_shut = is_shut(&mut self.desk);
+        self.is_shut = is_shut_after(&reply, &mut self.desk);
         Answer { reply, note }
     }
 
     fn is_shut(&self) -> bool {
-        self.is_shut || self.stops
+        self.is_shut
     }
 }

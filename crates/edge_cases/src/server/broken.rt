@@ -9,17 +9,7 @@ use desk_program::open_desk;
 use sqlite::Connection;
 use std::io;
 use store_core::{Backend, Store};
-use web_core::{Copies, WebDesk, serve_web};
-
-/// Nothing copies the tables.
-#[derive(Clone, Copy)]
-pub struct NoCopies;
-
-impl Copies for NoCopies {
-    fn copy(&mut self) -> bool {
-        false
-    }
-}
+use web_core::{WebDesk, serve_web};
 
 /// Everyone may do what `root` may by the settings of no text, and `root` has a token.
 pub const SETTINGS: &[u8] = b"[tokens]\n\"root-token-0000000\" = \"root\"\n";
@@ -200,7 +190,7 @@ pub fn run_broken(rt: &Told) -> Result<(), Failure> {
         &mut io::writer(rt),
     ) {
         Ok(desk) => {
-            let mut web = WebDesk::new(rt.alloc(), desk, NoCopies, false);
+            let mut web = WebDesk::new(rt.alloc(), desk, false);
             let told = send_all(rt, &mut web);
             drop(web);
             told
@@ -209,7 +199,7 @@ pub fn run_broken(rt: &Told) -> Result<(), Failure> {
     }
 }
 
-fn send_all<S: Backend>(rt: &Told, web: &mut WebDesk<S, NoCopies>) -> Result<(), Failure> {
+fn send_all<S: Backend>(rt: &Told, web: &mut WebDesk<S>) -> Result<(), Failure> {
     for row in &ROWS {
         let name = row.0;
         println!(rt; "== {name}")?;
@@ -219,7 +209,7 @@ fn send_all<S: Backend>(rt: &Told, web: &mut WebDesk<S, NoCopies>) -> Result<(),
 }
 
 /// Sends the message of a row, until one message is answered.
-fn send<S: Backend>(rt: &Told, web: &mut WebDesk<S, NoCopies>, row: &Row) -> Result<(), Failure> {
+fn send<S: Backend>(rt: &Told, web: &mut WebDesk<S>, row: &Row) -> Result<(), Failure> {
     let (_, start, (unit, times), rest, end) = *row;
     let mut sent = Vec::from_slice(rt.alloc(), start)?;
     for _ in 0..times {

@@ -6,7 +6,7 @@
 use crate::calls::open_whole;
 use crate::disks::{Disks, End, Schema, Visit, disks, new_disks, visit_files};
 use crate::failure::Failure;
-use crate::server::broken::{HTTP, NoCopies, SETTINGS};
+use crate::server::broken::{HTTP, SETTINGS};
 use crate::server::client::{Client, Takes};
 use crate::server::host::FakeHost;
 use crate::server::told::Told;
@@ -84,7 +84,7 @@ impl Visit for Serving<'_> {
 
 impl Serving<'_> {
     fn served<S: Backend>(&mut self, alloc: Global, desk: Desk<S>) -> Store<S> {
-        let mut web = WebDesk::new(alloc, desk, NoCopies, false);
+        let mut web = WebDesk::new(alloc, desk, false);
         self.ended = serve_both(self.rt, alloc, &mut web);
         let (store, settings) = web.into_desk().detach();
         drop(settings);
@@ -96,7 +96,7 @@ impl Serving<'_> {
 fn serve_both<S: Backend>(
     rt: &Told,
     alloc: Global,
-    web: &mut WebDesk<S, NoCopies>,
+    web: &mut WebDesk<S>,
 ) -> Result<&'static str, AllocError> {
     let mut clients = Vec::new(alloc);
     for (number, sent) in SENT.iter().enumerate().rev() {

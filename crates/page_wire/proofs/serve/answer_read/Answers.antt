@@ -2,9 +2,7 @@
 use Rattle.std.proofs.Common.{◌∙◌, ap, sym}
 use Rattle.page_routes.specs.Places.{is_page_path, path_in}
 use Rattle.service_core.specs.Seen.{settings_of, tables_of}
-use Rattle.page_wire.specs.Control.{asks_copy, asks_stop}
-use Rattle.page_wire.proofs.Answering.{copy_told, elsewhere, health_told, on_pages, spared_err}
-use Rattle.page_wire.proofs.Answering.{stop_told}
+use Rattle.page_wire.proofs.Answering.{elsewhere, health_told, on_pages, spared_err}
 use Rattle.page_wire.proofs.serve.answer_read.Goals as goal
 
 pub returns-then-asks_health-clause-reply : goal.returns-then-asks_health-clause-reply
@@ -15,34 +13,12 @@ returns-then-asks_health-clause-reply g c =
     (sym c.asks_health.ensures ∙ c.if-asks_health.true) c.is_head.ensures
     c.answer_health.ensures.kept c.answer_health.ensures.told
 
-pub returns-then-asks_stop-clause-reply : goal.returns-then-asks_stop-clause-reply
-returns-then-asks_stop-clause-reply g c =
-    stop_told (settings_of g.S.Store c.args.desk.now) c.args.moment c.args.request.now
-    c.answer_stop.result (tables_of g.S.Store c.args.desk.now)
-    (sym c.asks_health.ensures ∙ c.if-asks_health.false)
-    (ap (λ s. asks_stop s c.args.request.now.message) (sym c.settings.ensures)
-    ∙ sym c.asks_stop.ensures ∙ c.if-asks_stop.true) c.answer_stop.ensures
-
-pub returns-then-asks_copy-clause-reply : goal.returns-then-asks_copy-clause-reply
-returns-then-asks_copy-clause-reply g c =
-    copy_told (settings_of g.S.Store c.args.desk.now) c.args.moment c.args.request.now
-    c.answer_copy.result (tables_of g.S.Store c.args.desk.now)
-    (sym c.asks_health.ensures ∙ c.if-asks_health.false)
-    (ap (λ s. asks_stop s c.args.request.now.message) (sym c.settings.ensures)
-    ∙ sym c.asks_stop.ensures ∙ c.if-asks_stop.false)
-    (ap (λ s. asks_copy s c.args.request.now.message) (sym c.settings-2.ensures)
-    ∙ sym c.asks_copy.ensures ∙ c.if-asks_copy.true) c.answer_copy.ensures.told
-
 pub returns-then-is_page_place-clause-reply : goal.returns-then-is_page_place-clause-reply
 returns-then-is_page_place-clause-reply g c =
     on_pages (settings_of g.S.Store c.args.desk.now) c.args.moment
     c.args.request.now c.answer_in_room.result (tables_of g.S.Store c.args.desk.now)
     (tables_of g.S.Store c.answer_in_room.new.desk)
     (sym c.asks_health.ensures ∙ c.if-asks_health.false)
-    (ap (λ s. asks_stop s c.args.request.now.message) (sym c.settings.ensures)
-    ∙ sym c.asks_stop.ensures ∙ c.if-asks_stop.false)
-    (ap (λ s. asks_copy s c.args.request.now.message) (sym c.settings-2.ensures)
-    ∙ sym c.asks_copy.ensures ∙ c.if-asks_copy.false)
     (ap (λ t. is_page_path (path_in t)) (sym c.as_slice.ensures) ∙ sym c.is_page_place.ensures
     ∙ c.if-is_page_place.true)
     c.answer_in_room.ensures.reply
@@ -53,10 +29,6 @@ returns-else-is_page_place-clause-reply g c =
     c.args.request.now c.answer_request.result (tables_of g.S.Store c.args.desk.now)
     (tables_of g.S.Store c.answer_request.new.desk)
     (sym c.asks_health.ensures ∙ c.if-asks_health.false)
-    (ap (λ s. asks_stop s c.args.request.now.message) (sym c.settings.ensures)
-    ∙ sym c.asks_stop.ensures ∙ c.if-asks_stop.false)
-    (ap (λ s. asks_copy s c.args.request.now.message) (sym c.settings-2.ensures)
-    ∙ sym c.asks_copy.ensures ∙ c.if-asks_copy.false)
     (ap (λ t. is_page_path (path_in t)) (sym c.as_slice.ensures) ∙ sym c.is_page_place.ensures
     ∙ c.if-is_page_place.false)
     c.answer_request.ensures.reply
