@@ -36,7 +36,7 @@ use Rattle.wire_core.proofs.Stepping.{leads_nowhere, leads_same, leads_wider, re
 use Rattle.page_wire.specs.Faults.{fault_reply}
 use Rattle.page_wire.specs.Steps.{AskedStepsOn, AsksAt, By, IsAnsweredOn, IsAnswerTo, IsReadOf}
 use Rattle.page_wire.specs.Health.{TellsHealth, asks_health}
-use Rattle.page_wire.specs.Control.{TellsCopy, asks_copy, asks_stop, stop_reply}
+use Rattle.page_wire.specs.Control.{asks_copy, asks_stop, copy_told as copy_reply_told, stop_reply}
 use Rattle.page_wire.specs.Steps.{PageSteps, SentSteps}
 use Rattle.page_wire.specs.Forms.{FormStepsOn}
 use Rattle.page_wire.specs.Steps.{LookStepsOn, RequestStepsOn, SentStepsOn, VisitStepsOn}
@@ -50,36 +50,38 @@ no_memory bytes (inr (other, told)) = absurd (other refl)
 abbrev Reads : List ℕ → Result Request WireFault → Type 0
 Reads bytes read = read ≢ Err NoMemory → IsReadOf bytes read
 
-answered_so : (s : Settings) (sent : Message) (read : Result Request WireFault) (bytes : List ℕ)
-    (old new : State) → IsReadOf sent.1 read → SentStepsOn s sent.0 read bytes old new
+answered_so : (s : Settings) (sent : Message) (copied : Bool) (read : Result Request WireFault)
+    (bytes : List ℕ) (old new : State) → IsReadOf sent.1 read
+    → SentStepsOn s sent.0 copied read bytes old new
     → IsAnsweredOn s sent bytes old new
 unfolding IsAnswerTo
-answered_so s sent read bytes old new reads steps =
-    leads_wider s _ _ old new (λ desk after step. inr (read, reads, step)) steps
+answered_so s sent copied read bytes old new reads steps =
+    leads_wider s _ _ old new (λ desk after step. inr (read, copied, reads, step)) steps
 
-left_so : (s : Settings) (sent : Message) (bytes : List ℕ) (old new : State)
-    → SentStepsOn s sent.0 (Err NoMemory) bytes old new → IsAnsweredOn s sent bytes old new
+left_so : (s : Settings) (sent : Message) (copied : Bool) (bytes : List ℕ) (old new : State)
+    → SentStepsOn s sent.0 copied (Err NoMemory) bytes old new → IsAnsweredOn s sent bytes old new
 unfolding IsAnswerTo
-left_so s sent bytes old new steps =
+left_so s sent copied bytes old new steps =
     leads_wider s _ _ old new (λ desk after step. inl (no_memory bytes step.0, step.1)) steps
 
 -- what was read and answered is the answer to the bytes
-pub answered : (s : Settings) (sent : Message) (read : Result Request WireFault) (bytes : List ℕ)
-    (old new : State) → Reads sent.1 read → SentStepsOn s sent.0 read bytes old new
+pub answered : (s : Settings) (sent : Message) (copied : Bool) (read : Result Request WireFault)
+    (bytes : List ℕ) (old new : State) → Reads sent.1 read
+    → SentStepsOn s sent.0 copied read bytes old new
     → IsAnsweredOn s sent bytes old new
-answered s sent (Ok request) bytes old new reads steps =
-    answered_so s sent (Ok request) bytes old new (reads (λ e. cc)) steps
-answered s sent (Err NoMemory) bytes old new reads steps = left_so s sent bytes old new steps
-answered s sent (Err Read) bytes old new reads steps =
-    answered_so s sent (Err Read) bytes old new (reads (λ e. cc)) steps
-answered s sent (Err TooLong) bytes old new reads steps =
-    answered_so s sent (Err TooLong) bytes old new (reads (λ e. cc)) steps
-answered s sent (Err Truncated) bytes old new reads steps =
-    answered_so s sent (Err Truncated) bytes old new (reads (λ e. cc)) steps
-answered s sent (Err BadHead) bytes old new reads steps =
-    answered_so s sent (Err BadHead) bytes old new (reads (λ e. cc)) steps
-answered s sent (Err BadLength) bytes old new reads steps =
-    answered_so s sent (Err BadLength) bytes old new (reads (λ e. cc)) steps
+answered s sent copied (Ok request) bytes old new reads steps =
+    answered_so s sent copied (Ok request) bytes old new (reads (λ e. cc)) steps
+answered s sent copied (Err NoMemory) bytes old new reads steps = left_so s sent copied bytes old new steps
+answered s sent copied (Err Read) bytes old new reads steps =
+    answered_so s sent copied (Err Read) bytes old new (reads (λ e. cc)) steps
+answered s sent copied (Err TooLong) bytes old new reads steps =
+    answered_so s sent copied (Err TooLong) bytes old new (reads (λ e. cc)) steps
+answered s sent copied (Err Truncated) bytes old new reads steps =
+    answered_so s sent copied (Err Truncated) bytes old new (reads (λ e. cc)) steps
+answered s sent copied (Err BadHead) bytes old new reads steps =
+    answered_so s sent copied (Err BadHead) bytes old new (reads (λ e. cc)) steps
+answered s sent copied (Err BadLength) bytes old new reads steps =
+    answered_so s sent copied (Err BadLength) bytes old new (reads (λ e. cc)) steps
 
 -- ---- reading
 
@@ -106,11 +108,11 @@ told_read bytes fault told reads is other =
 -- ---- answering
 
 -- no message: it is told why
-pub fault_told : {A E : Type 0} (s : Settings) (at : ℕ) (fault : WireFault) (r : Result (Vec ℕ A) E)
-    (tables : State) → IfOk r (λ out. TellsFault fault out.items)
-    → IfOk r (λ out. SentStepsOn s at (Err fault) out.items tables tables)
-fault_told s at fault (Ok out) tables told = leads_nowhere s _ tables (λ desk. (told, refl))
-fault_told s at fault (Err e) tables told = tt
+pub fault_told : {A E : Type 0} (s : Settings) (at : ℕ) (copied : Bool) (fault : WireFault)
+    (r : Result (Vec ℕ A) E) (tables : State) → IfOk r (λ out. TellsFault fault out.items)
+    → IfOk r (λ out. SentStepsOn s at copied (Err fault) out.items tables tables)
+fault_told s at copied fault (Ok out) tables told = leads_nowhere s _ tables (λ desk. (told, refl))
+fault_told s at copied fault (Err e) tables told = tt
 
 by_no : (b : Bool) (Yes No : Type 0) → b ≡ false → No → By b Yes No
 by_no b Yes No is holds = subst (λ (c : Bool). By c Yes No) (sym is) holds
@@ -119,65 +121,65 @@ by_yes : (b : Bool) (Yes No : Type 0) → b ≡ true → Yes → By b Yes No
 by_yes b Yes No is holds = subst (λ (c : Bool). By c Yes No) (sym is) holds
 
 -- whoever asks whether the desk is there is told
-pub health_told : {A E : Type 0} (s : Settings) (at : ℕ) (request : Request) (h : Bool)
+pub health_told : {A E : Type 0} (s : Settings) (at : ℕ) (copied : Bool) (request : Request) (h : Bool)
     (r : Result (Vec ℕ A) E) (old new : State) → asks_health request.message ≡ true
     → h ≡ is_head request.message → Spares old new → IfOk r (λ out. TellsHealth h out.items)
-    → IfOk r (λ out. SentStepsOn s at (Ok request) out.items old new)
-health_told s at request h (Ok out) old new is head kept told =
+    → IfOk r (λ out. SentStepsOn s at copied (Ok request) out.items old new)
+health_told s at copied request h (Ok out) old new is head kept told =
     let so = subst (λ (b : Bool). TellsHealth b out.items) head told in
-    leads_same s (λ desk after. SentSteps s at (Ok request) desk out.items after) old new kept
+    leads_same s (λ desk after. SentSteps s at copied (Ok request) desk out.items after) old new kept
     (λ desk. by_yes (asks_health request.message) _ _ is (so, refl))
-health_told s at request h (Err e) old new is head kept told = tt
+health_told s at copied request h (Err e) old new is head kept told = tt
 
 -- who may stop the server is told that it stops
-pub stop_told : {A E : Type 0} (s : Settings) (at : ℕ) (request : Request) (r : Result (Vec ℕ A) E)
+pub stop_told : {A E : Type 0} (s : Settings) (at : ℕ) (copied : Bool) (request : Request) (r : Result (Vec ℕ A) E)
     (tables : State) → asks_health request.message ≡ false → asks_stop s request.message ≡ true
     → IfOk r (λ out. out.items ≡ bytes_of stop_reply)
-    → IfOk r (λ out. SentStepsOn s at (Ok request) out.items tables tables)
-stop_told s at request (Ok out) tables health is told =
+    → IfOk r (λ out. SentStepsOn s at copied (Ok request) out.items tables tables)
+stop_told s at copied request (Ok out) tables health is told =
     leads_nowhere s _ tables (λ desk. by_no (asks_health request.message) _ _ health
     (by_yes (asks_stop s request.message) _ _ is (told, refl)))
-stop_told s at request (Err e) tables health is told = tt
+stop_told s at copied request (Err e) tables health is told = tt
 
 -- and who may have a copy is told of that
-pub copy_told : {A E : Type 0} (s : Settings) (at : ℕ) (request : Request) (r : Result (Vec ℕ A) E)
+pub copy_told : {A E : Type 0} (s : Settings) (at : ℕ) (copied : Bool) (request : Request) (r : Result (Vec ℕ A) E)
     (tables : State) → asks_health request.message ≡ false → asks_stop s request.message ≡ false
-    → asks_copy s request.message ≡ true → IfOk r (λ out. TellsCopy out.items)
-    → IfOk r (λ out. SentStepsOn s at (Ok request) out.items tables tables)
-copy_told s at request (Ok out) tables health stop is told =
+    → asks_copy s request.message ≡ true → IfOk r (λ out. out.items ≡ bytes_of (copy_reply_told copied))
+    → IfOk r (λ out. SentStepsOn s at copied (Ok request) out.items tables tables)
+copy_told s at copied request (Ok out) tables health stop is told =
     leads_nowhere s _ tables (λ desk. by_no (asks_health request.message) _ _ health
     (by_no (asks_stop s request.message) _ _ stop
     (by_yes (asks_copy s request.message) _ _ is (told, refl))))
-copy_told s at request (Err e) tables health stop is told = tt
+copy_told s at copied request (Err e) tables health stop is told = tt
 
 -- a place of the interface
-pub elsewhere : {A E : Type 0} (s : Settings) (at : ℕ) (request : Request)
+pub elsewhere : {A E : Type 0} (s : Settings) (at : ℕ) (copied : Bool) (request : Request)
     (r : Result (Vec ℕ A) E) (old new : State) → asks_health request.message ≡ false
     → asks_stop s request.message ≡ false → asks_copy s request.message ≡ false
     → is_page_path (path_in request.message.target) ≡ false
     → IfOk r (λ out. ReadStepsOn s at (Ok request.message) out.items old new)
-    → IfOk r (λ out. SentStepsOn s at (Ok request) out.items old new)
-elsewhere s at request (Ok out) old new health stop copy other steps =
+    → IfOk r (λ out. SentStepsOn s at copied (Ok request) out.items old new)
+elsewhere s at copied request (Ok out) old new health stop copy other steps =
     leads_wider s _ _ old new
     (λ desk after step. by_no (asks_health request.message) _ _ health
     (by_no (asks_stop s request.message) _ _ stop (by_no (asks_copy s request.message) _ _ copy
     (by_no (is_page_path (path_in request.message.target)) _ _ other step))))
     (read_leads s at (Ok request.message) out.items old new steps)
-elsewhere s at request (Err e) old new health stop copy other steps = tt
+elsewhere s at copied request (Err e) old new health stop copy other steps = tt
 
 -- a place of the pages
-pub on_pages : {A E : Type 0} (s : Settings) (at : ℕ) (request : Request)
+pub on_pages : {A E : Type 0} (s : Settings) (at : ℕ) (copied : Bool) (request : Request)
     (r : Result (Vec ℕ A) E) (old new : State) → asks_health request.message ≡ false
     → asks_stop s request.message ≡ false → asks_copy s request.message ≡ false
     → is_page_path (path_in request.message.target) ≡ true
     → IfOk r (λ out. RequestStepsOn s at request out.items old new)
-    → IfOk r (λ out. SentStepsOn s at (Ok request) out.items old new)
-on_pages s at request (Ok out) old new health stop copy is steps =
+    → IfOk r (λ out. SentStepsOn s at copied (Ok request) out.items old new)
+on_pages s at copied request (Ok out) old new health stop copy is steps =
     leads_wider s _ _ old new
     (λ desk after step. by_no (asks_health request.message) _ _ health
     (by_no (asks_stop s request.message) _ _ stop (by_no (asks_copy s request.message) _ _ copy
     (by_yes (is_page_path (path_in request.message.target)) _ _ is step)))) steps
-on_pages s at request (Err e) old new health stop copy is steps = tt
+on_pages s at copied request (Err e) old new health stop copy is steps = tt
 
 -- a call that failed and left the desk as it was spares the tables
 pub spared_err : {S X E : Type 0} (g : Ghosts S) (old new : Service S g) (r : Result X E)

@@ -1,10 +1,10 @@
 -- A server that is asked to stop, or for a copy of its tables, by a person who may do all.
-use Rattle.std.specs.Prelude.{◌≡◌, ◌⊎◌, ◌&&◌, Bool, false, List, ℕ, Option, Some, None, [], codes}
+use Rattle.std.specs.Prelude.{◌&&◌, Bool, true, false, List, ℕ, Option, Some, None, [], codes}
 use Rattle.std.specs.Str.{bytes_eq}
 use Rattle.rights_core.specs.Right.{super_user}
 use Rattle.settings_core.specs.declared.settings.Settings.{Settings}
 use Rattle.desk_model.specs.Rights.{holds_on_queue}
-use Rattle.message_core.specs.Reply.{bytes_of, unavailable}
+use Rattle.message_core.specs.Reply.{unavailable}
 use Rattle.message_core.specs.declared.message.Message.{Message}
 use Rattle.message_core.specs.declared.reply.Reply.{Reply}
 use Rattle.page_routes.specs.Places.{path_in}
@@ -37,6 +37,7 @@ stop_reply = reply_with 200 None (codes "stops\n") false
 abbrev pub copy_reply : Reply
 copy_reply = reply_with 200 None (codes "copied\n") false
 
--- that the copy is in its place, or that nothing was done
-abbrev pub TellsCopy : List ℕ → Type 0
-TellsCopy bytes = (bytes ≡ bytes_of copy_reply) ⊎ (bytes ≡ bytes_of (unavailable false))
+-- that a copy was made, or that nothing was done
+abbrev pub copy_told : Bool → Reply
+copy_told true = copy_reply
+copy_told false = unavailable false

@@ -55,7 +55,7 @@ use Rattle.wire_core.specs.Steps.{LeavesOut, MessageSteps, StaysOn}
 use Rattle.page_wire.specs.Faults.{fault_reply}
 use Rattle.page_wire.specs.Forms.{FormSteps}
 use Rattle.page_wire.specs.Health.{TellsHealth, asks_health}
-use Rattle.page_wire.specs.Control.{TellsCopy, asks_copy, asks_stop, stop_reply}
+use Rattle.page_wire.specs.Control.{asks_copy, asks_stop, copy_told, stop_reply}
 use Rattle.page_wire.specs.Replies as replies
 use Rattle.page_wire.specs.Visits.{IsFixed}
 
@@ -182,14 +182,15 @@ RequestSteps settings at request old bytes new =
     ⊎ AskedSteps settings at request old bytes new
 
 -- The step of what was read: a fault is told; whoever asks whether the desk is there is told; who may
--- and asks the server to stop, or for a copy, is told of that; and else a message is answered at a
--- place of the pages by its visit, and by the interface at any other.
-abbrev pub SentSteps : Settings → ℕ → Result Request WireFault → Desk → List ℕ → Desk → Type 0
-SentSteps settings at (Err fault) old bytes new = TellsFault fault bytes × (new ≡ old)
-SentSteps settings at (Ok request) old bytes new =
+-- and asks the server to stop, or for a copy, is told of that, and whether a copy was made; and else
+-- a message is answered at a place of the pages by its visit, and by the interface at any other.
+abbrev pub SentSteps : Settings → ℕ → Bool → Result Request WireFault → Desk → List ℕ → Desk
+    → Type 0
+SentSteps settings at copied (Err fault) old bytes new = TellsFault fault bytes × (new ≡ old)
+SentSteps settings at copied (Ok request) old bytes new =
     By (asks_health request.message) (TellsHealth (is_head request.message) bytes × (new ≡ old))
     (By (asks_stop settings request.message) (Tells (bytes_of stop_reply) old bytes new)
-    (By (asks_copy settings request.message) (TellsCopy bytes × (new ≡ old))
+    (By (asks_copy settings request.message) (Tells (bytes_of (copy_told copied)) old bytes new)
     (By (is_page_path (path_in request.message.target)) (RequestSteps settings at request old bytes new)
     (MessageSteps settings at request.message old bytes new))))
 
@@ -201,8 +202,8 @@ IsReadOf bytes read = (left : Option (List ℕ)) × ReadsRequested ByPlace (Some
 unfoldable pub IsAnswerTo : Settings → Sent → Desk → List ℕ → Desk → Type 0
 IsAnswerTo settings sent old bytes new =
     LeavesOut false old bytes new
-    ⊎ ((read : Result Request WireFault) × IsReadOf sent.1 read
-    × SentSteps settings sent.0 read old bytes new)
+    ⊎ ((read : Result Request WireFault) × (copied : Bool) × IsReadOf sent.1 read
+    × SentSteps settings sent.0 copied read old bytes new)
 
 -- ---- over tables
 
@@ -249,9 +250,10 @@ abbrev pub VisitStepsOn : Settings → ℕ → Visit → List ℕ → State → 
 VisitStepsOn settings at visit bytes =
     LeadsOn settings (λ desk after. VisitSteps settings at visit desk bytes after)
 
-abbrev pub SentStepsOn : Settings → ℕ → Result Request WireFault → List ℕ → State → State → Type 0
-SentStepsOn settings at read bytes =
-    LeadsOn settings (λ desk after. SentSteps settings at read desk bytes after)
+abbrev pub SentStepsOn : Settings → ℕ → Bool → Result Request WireFault → List ℕ → State → State
+    → Type 0
+SentStepsOn settings at copied read bytes =
+    LeadsOn settings (λ desk after. SentSteps settings at copied read desk bytes after)
 
 abbrev pub IsAnsweredOn : Settings → Sent → List ℕ → State → State → Type 0
 IsAnsweredOn settings sent bytes =

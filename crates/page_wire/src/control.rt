@@ -1,6 +1,6 @@
 //! What a server is asked for by who may do all: that it stops, or that its tables are copied.
 ghost use Rattle.std.specs.Prelude.{◌≡◌, None, IfOk, false};
-ghost use Rattle.message_core.specs.Reply.{bytes_of, unavailable};
+ghost use Rattle.message_core.specs.Reply.{bytes_of};
 ghost use Rattle.page_wire.specs.Control as form;
 ghost use Rattle.route_core.specs.Commands.{caller_of};
 ghost use Rattle.wire_core.specs.Replies.{reply_with};
@@ -68,8 +68,7 @@ pub(crate) fn answer_stop(alloc: Global) -> Result<Vec<u8>, AllocError>
 
 /// The reply that a copy was made, or that nothing was done.
 pub(crate) fn answer_copy(alloc: Global, copied: bool) -> Result<Vec<u8>, AllocError>
-    ensures told { IfOk result (λ out. form.TellsCopy out.items) }
-    ensures not { copied ≡ false → IfOk result (λ out. out.items ≡ bytes_of (unavailable false)) }
+    ensures { IfOk result (λ out. out.items ≡ bytes_of (form.copy_told copied)) }
 {
     if copied {
         answer(alloc, b"copied\n")

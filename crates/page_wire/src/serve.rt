@@ -72,7 +72,7 @@ pub fn answer_sent<S: Backend>(
     moment: u32,
     desk: &mut Desk<S>,
 ) -> Result<Vec<u8>, AllocError>
-    ensures reply { IfOk result (λ out. SentStepsOn (settings_of S.Store desk.old) moment read.now
+    ensures reply { IfOk result (λ out. SentStepsOn (settings_of S.Store desk.old) moment copied read.now
         out.items (tables_of S.Store desk.old) (tables_of S.Store desk.new)) }
     ensures err { OnErr result (Spares (tables_of S.Store desk.old) (tables_of S.Store desk.new)) }
     ensures left { LeavesDesk S.Store desk.old desk.new }
@@ -93,7 +93,7 @@ fn answer_read<S: Backend>(
     moment: u32,
     desk: &mut Desk<S>,
 ) -> Result<Vec<u8>, AllocError>
-    ensures reply { IfOk result (λ out. SentStepsOn (settings_of S.Store desk.old) moment
+    ensures reply { IfOk result (λ out. SentStepsOn (settings_of S.Store desk.old) moment copied
         (Ok request.now) out.items (tables_of S.Store desk.old) (tables_of S.Store desk.new)) }
     ensures err { OnErr result (Spares (tables_of S.Store desk.old) (tables_of S.Store desk.new)) }
     ensures left { LeavesDesk S.Store desk.old desk.new }

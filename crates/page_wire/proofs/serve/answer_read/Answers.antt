@@ -9,7 +9,7 @@ use Rattle.page_wire.proofs.serve.answer_read.Goals as goal
 
 pub returns-then-asks_health-clause-reply : goal.returns-then-asks_health-clause-reply
 returns-then-asks_health-clause-reply g c =
-    health_told (settings_of g.S.Store c.args.desk.now) c.args.moment c.args.request.now
+    health_told (settings_of g.S.Store c.args.desk.now) c.args.moment c.args.copied c.args.request.now
     c.is_head.result c.answer_health.result (tables_of g.S.Store c.args.desk.now)
     (tables_of g.S.Store c.answer_health.new.desk)
     (sym c.asks_health.ensures ∙ c.if-asks_health.true) c.is_head.ensures
@@ -17,7 +17,7 @@ returns-then-asks_health-clause-reply g c =
 
 pub returns-then-asks_stop-clause-reply : goal.returns-then-asks_stop-clause-reply
 returns-then-asks_stop-clause-reply g c =
-    stop_told (settings_of g.S.Store c.args.desk.now) c.args.moment c.args.request.now
+    stop_told (settings_of g.S.Store c.args.desk.now) c.args.moment c.args.copied c.args.request.now
     c.answer_stop.result (tables_of g.S.Store c.args.desk.now)
     (sym c.asks_health.ensures ∙ c.if-asks_health.false)
     (ap (λ s. asks_stop s c.args.request.now.message) (sym c.settings.ensures)
@@ -25,17 +25,17 @@ returns-then-asks_stop-clause-reply g c =
 
 pub returns-then-asks_copy-clause-reply : goal.returns-then-asks_copy-clause-reply
 returns-then-asks_copy-clause-reply g c =
-    copy_told (settings_of g.S.Store c.args.desk.now) c.args.moment c.args.request.now
+    copy_told (settings_of g.S.Store c.args.desk.now) c.args.moment c.args.copied c.args.request.now
     c.answer_copy.result (tables_of g.S.Store c.args.desk.now)
     (sym c.asks_health.ensures ∙ c.if-asks_health.false)
     (ap (λ s. asks_stop s c.args.request.now.message) (sym c.settings.ensures)
     ∙ sym c.asks_stop.ensures ∙ c.if-asks_stop.false)
     (ap (λ s. asks_copy s c.args.request.now.message) (sym c.settings-2.ensures)
-    ∙ sym c.asks_copy.ensures ∙ c.if-asks_copy.true) c.answer_copy.ensures.told
+    ∙ sym c.asks_copy.ensures ∙ c.if-asks_copy.true) c.answer_copy.ensures
 
 pub returns-then-is_page_place-clause-reply : goal.returns-then-is_page_place-clause-reply
 returns-then-is_page_place-clause-reply g c =
-    on_pages (settings_of g.S.Store c.args.desk.now) c.args.moment
+    on_pages (settings_of g.S.Store c.args.desk.now) c.args.moment c.args.copied
     c.args.request.now c.answer_in_room.result (tables_of g.S.Store c.args.desk.now)
     (tables_of g.S.Store c.answer_in_room.new.desk)
     (sym c.asks_health.ensures ∙ c.if-asks_health.false)
@@ -49,7 +49,7 @@ returns-then-is_page_place-clause-reply g c =
 
 pub returns-else-is_page_place-clause-reply : goal.returns-else-is_page_place-clause-reply
 returns-else-is_page_place-clause-reply g c =
-    elsewhere (settings_of g.S.Store c.args.desk.now) c.args.moment
+    elsewhere (settings_of g.S.Store c.args.desk.now) c.args.moment c.args.copied
     c.args.request.now c.answer_request.result (tables_of g.S.Store c.args.desk.now)
     (tables_of g.S.Store c.answer_request.new.desk)
     (sym c.asks_health.ensures ∙ c.if-asks_health.false)

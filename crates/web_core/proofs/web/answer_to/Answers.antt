@@ -7,7 +7,7 @@ use Rattle.web_core.proofs.web.answer_to.Goals as goal
 pub returns-in-Ok-clause-step : goal.returns-in-Ok-clause-step
 returns-in-Ok-clause-step g c =
     answered (settings_of g.S.Store c.args.desk.now) (c.args.minute, c.args._message.now)
-    c.args.read.now _ (tables_of g.S.Store c.args.desk.now)
+    c.args.copied c.args.read.now _ (tables_of g.S.Store c.args.desk.now)
     (tables_of g.S.Store c.answer_sent.new.desk) c.requires c.in-Ok.ensures.reply
 
 pub returns-in-Err-clause-step : goal.returns-in-Err-clause-step
