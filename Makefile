@@ -10,8 +10,9 @@ JOBS ?= $(shell awk -v n=$$(nproc) '/^MemAvailable/ { j = 1 + int(($$2 / 1000000
 # The crates whose wrong edits the gate tries. Those of the others haven't been tried by bench/edits yet:
 # `make edits NAME=CRATE` tries one crate's, and a crate of which each is refused is listed here.
 EDITED = browser_core connection_core days desk_core desk_model desk_style find_core find_form \
-	hours_core lifecycle_core line_core log_core message_core page_core report_core rights_core \
-	route_core server_core settings_core settings_form settings_parts text_core zone_rules
+	hours_core lifecycle_core line_core log_core message_core page_core page_reply poll_host \
+	report_core rights_core route_core server_core settings_core settings_form settings_parts \
+	text_core zone_rules
 
 .PHONY: demo test edits desk install trials models wrong sweep
 

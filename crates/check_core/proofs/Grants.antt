@@ -31,7 +31,7 @@ use Rattle.check_core.proofs.Found.{find_passes}
 use Rattle.check_core.proofs.Found.{found_or}
 use Rattle.check_core.proofs.Found.{mapped_some, not_false, not_true, or_left, some_either}
 use Rattle.check_core.proofs.Found.{some_mapped}
-use Rattle.check_core.proofs.Tables.{group_at_key}
+use Rattle.check_core.proofs.TextTables.{group_at_key}
 
 -- the grants of a list and of one more pass a test where those of both do
 split_off : (p : Grant → Bool) (d : Data) (ds : Items)

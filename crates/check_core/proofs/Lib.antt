@@ -2,4 +2,4 @@ mod Examples
 pub mod Found
 pub mod Grants
 pub mod Placed
-pub mod Tables
+pub mod TextTables

@@ -61,11 +61,11 @@ use Rattle.check_core.proofs.Found.{mapped_some, not_true, some_either, some_map
 use Rattle.check_core.proofs.Found.{find_among, find_failing, find_passes}
 use Rattle.check_core.proofs.Grants.{granted_found, granted_has, right_found, right_has}
 use Rattle.check_core.proofs.Grants.{subject_found, subject_has}
-use Rattle.check_core.proofs.Tables.{calendar_found, calendar_has, fault_of_part, first_bad}
-use Rattle.check_core.proofs.Tables.{group_found, group_has}
-use Rattle.check_core.proofs.Tables.{group_at_key, level_found, level_has, member_found, member_has}
-use Rattle.check_core.proofs.Tables.{person_found, person_has, status_found, status_has}
-use Rattle.check_core.proofs.Tables.{token_found, token_has}
+use Rattle.check_core.proofs.TextTables.{calendar_found, calendar_has, fault_of_part, first_bad}
+use Rattle.check_core.proofs.TextTables.{group_at_key, group_found, group_has}
+use Rattle.check_core.proofs.TextTables.{level_found, level_has, member_found, member_has}
+use Rattle.check_core.proofs.TextTables.{person_found, person_has, status_found, status_has}
+use Rattle.check_core.proofs.TextTables.{token_found, token_has}
 
 -- the first fault that applies is this one, or one of the rest
 when_or : {F : Type 0} (P : F → Type 0) (b : Bool) (y : F) (rest : Option F) (x : F)

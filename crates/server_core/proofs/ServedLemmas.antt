@@ -60,7 +60,7 @@ admits_at {S} slots place now slot gives fresh =
 
 pub clock_both : (t u v : Told) → KeepsClock t u → KeepsClock u v → KeepsClock t v
 clock_both t u v (clock, lines) (after, then) =
-    ((after.0 ∙ clock.0, after.1 ∙ clock.1, after.2 ∙ clock.2), then ∙ lines)
+    ((after.0 ∙ clock.0, after.1 ∙ clock.1), then ∙ lines)
 
 -- ---- one turn after the other
 
@@ -203,14 +203,14 @@ serves_same States Steps shuts told mid tells places most first next c count tur
 
 lines_none : (t u : Told) → u ≡ t → TellsLines t u []
 lines_none t u same =
-    subst (λ (x : Told). TellsLines t x []) (sym same) (lines_nil t.lines, (refl, refl, refl), refl)
+    subst (λ (x : Told). TellsLines t x []) (sym same) (lines_nil t.lines, (refl, refl), refl)
 
 lines_then : (t u v : Told) (xs ys : List Answered) → TellsLines t u xs → TellsLines u v ys
     → TellsLines t v (xs ++ ys)
 lines_then t u v xs ys (first, clock, failed) (then, clock_then, failed_then) = (
   subst (λ (l : List Line). AppendsLines t.lines v.lines l) (sym (lines_both xs ys))
       (lines_trans t.lines u.lines v.lines _ _ first then),
-  (clock_then.0 ∙ clock.0, clock_then.1 ∙ clock.1, clock_then.2 ∙ clock.2),
+  (clock_then.0 ∙ clock.0, clock_then.1 ∙ clock.1),
   failed_then ∙ failed,
 )
 

@@ -65,10 +65,8 @@ TellsMinute old new minute =
     Appends old.minutes new.minutes (minute ∷ []) × (new.moments ≡ old.moments)
     × (new.lines ≡ old.lines) × (new.failed ≡ old.failed) × (new.wait_failed ≡ old.wait_failed)
 
--- nothing of its clock and of its waits was told
 abbrev pub HasSameClock : Told → Told → Type 0
-HasSameClock old new =
-    (new.moments ≡ old.moments) × (new.minutes ≡ old.minutes) × (new.wait_failed ≡ old.wait_failed)
+HasSameClock old new = (new.moments ≡ old.moments) × (new.minutes ≡ old.minutes)
 
 -- it told one line more
 abbrev pub TellsLine : Told → Told → Line → Type 0

@@ -340,13 +340,13 @@ abbrev two_tables : Members
 two_tables = member (codes "a") (table no_members) (member (codes "b") (table no_members) no_members)
 
 standard_comes_last :
-    with_standard (λ ms. 1) 2 two_tables
+    with_standard {Parts = ℕ} (λ ms. 1) 2 two_tables
     ≡ record { name = codes "a"; value = 1 } ∷ record { name = codes "b"; value = 1 }
     ∷ record { name = codes "default"; value = 2 } ∷ []
 standard_comes_last = refl
 
 standard_that_is_stated :
-    with_standard (λ ms. 1) 2 (member (codes "default") (table no_members) no_members)
+    with_standard {Parts = ℕ} (λ ms. 1) 2 (member (codes "default") (table no_members) no_members)
     ≡ record { name = codes "default"; value = 1 } ∷ []
 standard_that_is_stated = refl
 
