@@ -2,13 +2,14 @@
 -- what each event makes of a connection.
 use Rattle.std.specs.Prelude.{◌≡◌, refl, ℕ, true, false, List, [], ◌∷◌, ◌++◌, codes, replicate}
 use Rattle.std.specs.Prelude.{Option, Some, None}
+use Rattle.connection_core.specs.Laws.{is_over, sent_by, written}
 use Rattle.connection_core.specs.Machine.{Came, Ended, Wrote, Settled}
 use Rattle.connection_core.specs.Machine.{after, afters, answered, closed, ended, head_after, later}
 use Rattle.connection_core.specs.Machine.{leaves, lingering, opened, passed, phase_after}
 use Rattle.connection_core.specs.Machine.{settled, takes, wrote}
 use Rattle.connection_core.specs.declared.phase.Part.TheVariants.{Blank, Line, Start, Return, Body}
-use Rattle.connection_core.specs.declared.phase.Phase.TheVariants.{Reading, Ready}
-use Rattle.connection_core.specs.declared.phase.Phase.TheVariants.{Closed}
+use Rattle.connection_core.specs.declared.phase.Phase.TheVariants.{Reading, Ready, Writing}
+use Rattle.connection_core.specs.declared.phase.Phase.TheVariants.{Lingering, Closed}
 
 -- Machine.antt: where a head ends
 
@@ -184,3 +185,37 @@ reply_in_two_writes :
     (Wrote 1 5001 ∷ Wrote 2 5002 ∷ Settled ∷ [])).phase
     ≡ Closed
 reply_in_two_writes = refl
+
+-- Laws.antt
+
+message_that_comes_is_not_over : is_over (Reading (Body 1)) ≡ false
+message_that_comes_is_not_over = refl
+
+whole_message_is_not_over : is_over Ready ≡ false
+whole_message_is_not_over = refl
+
+message_that_is_answered_is_over : is_over Writing ≡ true
+message_that_is_answered_is_over = refl
+
+reply_that_has_gone_out_is_over : is_over Lingering ≡ true
+reply_that_has_gone_out_is_over = refl
+
+bytes_of_two_reads :
+    sent_by (Came by_its_head (codes "ab") ∷ Settled ∷ Came by_its_head (codes "c") ∷ Ended ∷ [])
+    ≡ codes "abc"
+bytes_of_two_reads = refl
+
+write_sends_nothing : sent_by (Wrote 3 6000 ∷ []) ≡ []
+write_sends_nothing = refl
+
+-- in its order, and no more than there is
+bytes_of_a_reply :
+    written (answered false (codes "abcd") 5000) (Wrote 1 5001 ∷ Wrote 2 5002 ∷ Wrote 9 5003 ∷ [])
+    ≡ codes "abcd"
+bytes_of_a_reply = refl
+
+front_of_a_reply : written (answered false (codes "abcd") 5000) (Wrote 3 5001 ∷ []) ≡ codes "abc"
+front_of_a_reply = refl
+
+nothing_is_written_before_a_reply : written (opened 1000) (Wrote 3 5001 ∷ []) ≡ []
+nothing_is_written_before_a_reply = refl
