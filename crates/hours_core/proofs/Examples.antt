@@ -5,18 +5,18 @@ use Rattle.std.specs.Prelude.{◌≡◌, refl, ℕ, zero, suc, ◌+◌, Bool, tr
 use Rattle.std.specs.Prelude.{ℤ, pos, neg_ℤ, nat_lt, if◌then◌else◌, codes, Option, Some, None}
 use Rattle.std.specs.Prelude.{Ok, Err}
 use Rattle.days.specs.Dates.{date_of_day}
-use Rattle.hours_core.specs.Counting.{add_of, count, count_of_next, first_of}
+use Rattle.hours_core.specs.Counting.{add_of, count, count_of_next, first_of, has_passed}
 use Rattle.hours_core.specs.Date.{date_of_minute, text_of_minute}
 use Rattle.hours_core.specs.Fault.{name_of, number_of}
-use Rattle.hours_core.specs.Hours.{Hours, calendar_fault, hours_of, is_open}
+use Rattle.hours_core.specs.Hours.{Hours, calendar_fault, hours_of, intervals_on, is_open, is_within}
 use Rattle.hours_core.specs.Least.{least_of_next}
 use Rattle.hours_core.specs.Limit.{limit_due, minutes_after, plain_due}
 use Rattle.hours_core.specs.Moment.{is_due_moment, is_moment}
-use Rattle.hours_core.specs.Pauses.{is_paused}
-use Rattle.hours_core.specs.Probes.{at_least, most_probes}
+use Rattle.hours_core.specs.Pauses.{are_in_order, is_paused}
+use Rattle.hours_core.specs.Probes.{at_least, halvings, most_probes}
 use Rattle.hours_core.specs.Rules.{are_offsets, changes_of, zone_by_rule, zone_in}
-use Rattle.hours_core.specs.Spans.{held_before, is_held}
-use Rattle.hours_core.specs.Zone.{Offsets, offset_at, zone_of}
+use Rattle.hours_core.specs.Spans.{held_before, is_held, last_end, length_of}
+use Rattle.hours_core.specs.Zone.{Offsets, local_time, offset_at, zone_of}
 use Rattle.hours_core.specs.declared.fault.HoursFault.TheVariants.{BadOffset, ChangesOutOfOrder}
 use Rattle.hours_core.specs.declared.fault.HoursFault.TheVariants.{BadInterval, BadYears}
 use Rattle.hours_core.specs.declared.fault.HoursFault.TheVariants.{TooManyChanges, BadRule}
@@ -670,3 +670,98 @@ offset_of_a_day = refl
 
 bad_years_before_bad_rule : zone_by_rule [] (pos 2027, pos 2026) ≡ Err BadYears
 bad_years_before_bad_rule = refl
+
+-- Hours.antt: the intervals of a day
+
+-- from Sunday on
+abbrev named_week : List (List (ℕ × ℕ))
+named_week =
+    ((0, 1) ∷ []) ∷ ((1, 2) ∷ []) ∷ ((2, 3) ∷ []) ∷ ((3, 4) ∷ []) ∷ ((4, 5) ∷ []) ∷ ((5, 6) ∷ [])
+    ∷ ((6, 7) ∷ []) ∷ []
+
+-- 1970-01-01
+first_day_was_a_thursday : intervals_on named_week 0 ≡ (4, 5) ∷ []
+first_day_was_a_thursday = refl
+
+saturday_ends_a_week : intervals_on named_week 2 ≡ (6, 7) ∷ []
+saturday_ends_a_week = refl
+
+sunday_begins_the_next : intervals_on named_week 3 ≡ (0, 1) ∷ []
+sunday_begins_the_next = refl
+
+interval_has_its_start : is_within 540 (540, 1080) ≡ true
+interval_has_its_start = refl
+
+interval_has_not_the_minute_before : is_within 539 (540, 1080) ≡ false
+interval_has_not_the_minute_before = refl
+
+interval_has_its_last_minute : is_within 1079 (540, 1080) ≡ true
+interval_has_its_last_minute = refl
+
+interval_has_not_its_end : is_within 1080 (540, 1080) ≡ false
+interval_has_not_its_end = refl
+
+-- Zone.antt: what clocks show
+
+local_time_an_hour_ahead : local_time (zone (pos 60) []) 15778080 ≡ Some 15778140
+local_time_an_hour_ahead = refl
+
+-- 1999-12-31 23:00
+local_time_before_all_moments : local_time (zone (neg_ℤ (pos 60)) []) 15778080 ≡ None
+local_time_before_all_moments = refl
+
+local_time_at_the_end : local_time (zone (pos 60) []) 68374020 ≡ Some 68374080
+local_time_at_the_end = refl
+
+local_time_past_the_end : local_time (zone (pos 60) []) 68374021 ≡ None
+local_time_past_the_end = refl
+
+-- Counting.antt, Spans.antt, Probes.antt
+
+ten_minutes_have_passed : has_passed opens (at 30) 10 (at 50) ≡ true
+unfolding count_of_next
+ten_minutes_have_passed = refl
+
+only_nine_have : has_passed opens (at 30) 10 (at 49) ≡ false
+unfolding count_of_next
+only_nine_have = refl
+
+-- eleven haven't: it is closed
+ten_have_passed_still : has_passed opens (at 30) 10 (at 60) ≡ true
+unfolding count_of_next
+ten_have_passed_still = refl
+
+end_of_the_last_span : last_end 0 two_spans ≡ at 70
+end_of_the_last_span = refl
+
+end_of_no_span : last_end 7 [] ≡ 7
+end_of_no_span = refl
+
+length_of_a_span : length_of (record { start = at 40; end = at 50; before = 0 }) ≡ 10
+length_of_a_span = refl
+
+one_is_halved_once : halvings 1 ≡ 1
+one_is_halved_once = refl
+
+three_is_halved_twice : halvings 3 ≡ 2
+three_is_halved_twice = refl
+
+-- 4, 2, 1
+four_is_halved_three_times : halvings 4 ≡ 3
+four_is_halved_three_times = refl
+
+-- Pauses.antt: order
+
+stays_are_in_order : are_in_order (at 42) stays ≡ true
+stays_are_in_order = refl
+
+first_stay_begins_too_soon : are_in_order (at 43) stays ≡ false
+first_stay_begins_too_soon = refl
+
+two_stays_that_begin_together :
+    are_in_order 5 (stay (codes "new") 5 None ∷ stay (codes "open") 5 None ∷ []) ≡ true
+two_stays_that_begin_together = refl
+
+stay_that_begins_before_the_last :
+    are_in_order 5 (stay (codes "new") 6 None ∷ stay (codes "open") 5 None ∷ []) ≡ false
+stay_that_begins_before_the_last = refl

@@ -5,6 +5,11 @@ use Rattle.connection_core.specs.Machine.{Conn, answered, closed, lingering, ope
 use Rattle.connection_core.specs.declared.phase.Part.TheVariants.{Blank, Body}
 use Rattle.connection_core.specs.declared.phase.Phase.TheVariants.{Reading, Ready, Writing}
 use Rattle.connection_core.specs.declared.phase.Phase.TheVariants.{Lingering, Closed}
+use Rattle.server_core.specs.AtPlace.{answers_at}
+use Rattle.server_core.specs.Held.{held}
+use Rattle.server_core.specs.Host.{more}
+use Rattle.server_core.specs.Served.{Turn, answers}
+use Rattle.server_core.specs.Turns.{Answered}
 use Rattle.server_core.specs.Wait.{begins, gives_in, idles, is_full, is_of, longer_in, pause_at}
 use Rattle.server_core.specs.Wait.{pauses, sooner_of}
 use Rattle.server_core.specs.declared.admit.Kind.TheVariants.{Lingers, Reads}
@@ -136,3 +141,54 @@ one_of_two_can_be_read = refl
 soonest_to_give_way :
     pauses true 1100 60000 (opened 1100 ∷ opened 1000 ∷ []) (mark ∷ mark ∷ []) ≡ 150
 soonest_to_give_way = refl
+
+-- Host.antt
+
+sixteenth_failure : more 15 ≡ 16
+sixteenth_failure = refl
+
+failures_stay_at_the_greatest : more 18446744073709551615 ≡ 18446744073709551615
+failures_stay_at_the_greatest = refl
+
+-- Held.antt
+
+-- nothing of the first, three bytes of the reply of the second, nothing of the third
+bytes_that_are_held :
+    held (opened 1000 ∷ answered false (codes "abc") 1000 ∷ lingering false 2000 ∷ []) ≡ 3
+bytes_that_are_held = refl
+
+no_connection_holds_nothing : held [] ≡ 0
+no_connection_holds_nothing = refl
+
+-- Served.antt, AtPlace.antt
+
+abbrev message : List ℕ → Answered
+message bytes = record { at = 7; message = bytes; reply = codes "ok"; note = [] }
+
+abbrev turn : List ℕ → List (Option Answered) → Turn
+turn places answered = record { now = 1000; minute = 7; places = places; answered = answered }
+
+-- the third place in the first turn, and both places in the second
+abbrev turns : List Turn
+turns =
+    turn (0 ∷ 2 ∷ []) (None ∷ None ∷ Some (message (codes "a")) ∷ [])
+    ∷ turn [] (Some (message (codes "b")) ∷ None ∷ Some (message (codes "c")) ∷ []) ∷ []
+
+answers_in_the_order_of_turns_and_places :
+    answers turns ≡ message (codes "a") ∷ message (codes "b") ∷ message (codes "c") ∷ []
+answers_in_the_order_of_turns_and_places = refl
+
+no_turns_have_no_answers : answers [] ≡ []
+no_turns_have_no_answers = refl
+
+one_answer_at_the_first_place : answers_at 0 turns ≡ 1
+one_answer_at_the_first_place = refl
+
+no_answer_at_the_second : answers_at 1 turns ≡ 0
+no_answer_at_the_second = refl
+
+two_answers_at_the_third : answers_at 2 turns ≡ 2
+two_answers_at_the_third = refl
+
+no_answer_past_the_last_place : answers_at 3 turns ≡ 0
+no_answer_past_the_last_place = refl
