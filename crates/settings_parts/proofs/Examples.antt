@@ -11,8 +11,16 @@ use Rattle.rights_core.specs.Right.{super_user}
 use Rattle.rights_core.specs.declared.grant.Subject.TheVariants.{Everyone, Person}
 use Rattle.settings_parts.specs.CalendarParts.{hours_of, week_of, years_of}
 use Rattle.settings_parts.specs.LevelParts.{has_limits, is_from_one, level_of, limit_in, limit_of}
+use Rattle.settings_parts.specs.LevelParts.{number_up_to}
 use Rattle.settings_parts.specs.LifecycleParts.{lifecycle_of}
 use Rattle.settings_parts.specs.PeopleParts.{people_in, tokens_of}
+use Rattle.settings_parts.specs.Values.{boolean_at, integer_at, items_at, members_of, pair_at}
+use Rattle.settings_parts.specs.Values.{pairs_at, table_at, text_at, texts_at, texts_of}
+use Rattle.settings_parts.specs.Whole.{IsRight, restored}
+use Rattle.settings_form.specs.declared.form.Item.TheVariants.{Boolean, Integer, Pair}
+use Rattle.settings_form.specs.declared.form.Item.TheVariants.{Text}
+use Rattle.settings_form.specs.declared.form.Kind.TheVariants.{Many, One}
+use Rattle.settings_form.specs.declared.form.TextForm.TheVariants.{Any}
 
 abbrev text : List ℕ → Data
 text t = string t
@@ -275,3 +283,121 @@ token_of_a_person :
     no_members)
     ≡ record { token = codes "ann-token-0000000"; person = codes "ann" } ∷ []
 token_of_a_person = refl
+
+-- LevelParts.antt: numbers
+
+number_below_the_least : number_up_to 10000 (pos 0) ≡ 0
+number_below_the_least = refl
+
+least_number : number_up_to 10000 (pos 1) ≡ 1
+least_number = refl
+
+most_of_a_number : number_up_to 10000 (pos 10000) ≡ 10000
+most_of_a_number = refl
+
+number_past_the_most : number_up_to 10000 (pos 10001) ≡ 0
+number_past_the_most = refl
+
+number_below_zero : number_up_to 10000 (neg_ℤ (pos 5)) ≡ 0
+number_below_zero = refl
+
+-- Values.antt
+
+abbrev pair : ℕ → ℕ → Data
+pair a b = array (item (minutes a) (item (minutes b) no_items))
+
+-- by the order of their keys
+abbrev values : Members
+values =
+    member (codes "choice") (boolean true)
+    (member (codes "list") (texts_2 (codes "a") (codes "b"))
+    (member (codes "number") (integer (neg_ℤ (pos 5)))
+    (member (codes "pair") (pair 2026 2027)
+    (member (codes "pairs") (array (item (pair 1 2) (item (pair 3 4) no_items)))
+    (member (codes "table") (table (member (codes "a") (text (codes "b")) no_members))
+    (member (codes "text") (text (codes "t")) no_members))))))
+
+text_at_its_key : text_at (codes "text") values ≡ Some (codes "t")
+text_at_its_key = refl
+
+text_at_another_kind : text_at (codes "number") values ≡ None
+text_at_another_kind = refl
+
+text_at_no_key : text_at (codes "tex") values ≡ None
+text_at_no_key = refl
+
+integer_at_its_key : integer_at (codes "number") values ≡ Some (neg_ℤ (pos 5))
+integer_at_its_key = refl
+
+integer_at_a_text : integer_at (codes "text") values ≡ None
+integer_at_a_text = refl
+
+choice_at_its_key : boolean_at (codes "choice") values ≡ Some true
+choice_at_its_key = refl
+
+choice_at_a_number : boolean_at (codes "number") values ≡ None
+choice_at_a_number = refl
+
+texts_at_their_key : texts_at (codes "list") values ≡ codes "a" ∷ codes "b" ∷ []
+texts_at_their_key = refl
+
+texts_at_no_key : texts_at (codes "lists") values ≡ []
+texts_at_no_key = refl
+
+one_text_is_no_list : texts_of (text (codes "t")) ≡ []
+one_text_is_no_list = refl
+
+pair_at_its_key : pair_at (codes "pair") values ≡ Some (pos 2026, pos 2027)
+pair_at_its_key = refl
+
+list_of_two_pairs_is_no_pair : pair_at (codes "pairs") values ≡ None
+list_of_two_pairs_is_no_pair = refl
+
+pairs_at_their_key : pairs_at (codes "pairs") values ≡ (pos 1, pos 2) ∷ (pos 3, pos 4) ∷ []
+pairs_at_their_key = refl
+
+one_pair_is_no_list_of_pairs : pairs_at (codes "pair") values ≡ []
+one_pair_is_no_list_of_pairs = refl
+
+table_at_its_key :
+    table_at (codes "table") values ≡ member (codes "a") (text (codes "b")) no_members
+table_at_its_key = refl
+
+table_at_no_key : table_at (codes "tables") values ≡ no_members
+table_at_no_key = refl
+
+text_has_no_members : members_of (text (codes "t")) ≡ no_members
+text_has_no_members = refl
+
+items_at_their_key :
+    items_at (codes "pair") values ≡ item (minutes 2026) (item (minutes 2027) no_items)
+items_at_their_key = refl
+
+items_at_a_text : items_at (codes "text") values ≡ no_items
+items_at_a_text = refl
+
+-- Whole.antt
+
+number_is_restored : restored (One Integer) (minutes 5) ≡ minutes 5
+number_is_restored = refl
+
+pairs_are_restored :
+    restored (Many Pair) (array (item (pair 1 2) (item (pair 3 4) no_items)))
+    ≡ array (item (pair 1 2) (item (pair 3 4) no_items))
+pairs_are_restored = refl
+
+texts_are_restored :
+    restored (Many (Text Any)) (texts_2 (codes "a") (codes "b"))
+    ≡ texts_2 (codes "a") (codes "b")
+texts_are_restored = refl
+
+-- of a value of another kind nothing is left
+number_is_not_restored_as_a_choice : restored (One Boolean) (minutes 5) ≡ table no_members
+number_is_not_restored_as_a_choice = refl
+
+empty_text_is_right : IsRight no_members
+empty_text_is_right = (refl, tt)
+
+text_with_a_number_is_right : IsRight (member (codes "max_entries") (minutes 5) no_members)
+text_with_a_number_is_right =
+    (refl, ((One Integer, record { known = refl; key = refl; value = refl }, tt), tt))
