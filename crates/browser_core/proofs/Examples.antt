@@ -10,7 +10,7 @@ use Rattle.std.proofs.lemmas.Str.{IsUtf8-from_ascii, is_utf8-from_IsUtf8}
 use Rattle.std.proofs.lemmas.Str.Ascii.{IsAscii-cons, IsAscii-nil}
 use Rattle.browser_core.specs.Cookie.{cookie_token}
 use Rattle.browser_core.specs.Cuts.{before, rest_after, value_in}
-use Rattle.browser_core.specs.Form.{decoded, fields_of, has_fields, text_of, value_of, with_feeds}
+use Rattle.browser_core.specs.Form.{decoded, fields_of, has, has_fields, text_of, value_of, with_feeds}
 use Rattle.browser_core.specs.Site.{is_own_post}
 use Rattle.browser_core.specs.Texts.{text_in}
 use Rattle.browser_core.specs.Trim.{trimmed}
@@ -274,3 +274,20 @@ two_origins = refl
 empty_site_tells_nothing :
     is_own_post (one []) (one (codes "http://other")) (one (codes "desk")) ≡ false
 empty_site_tells_nothing = refl
+
+-- Form.antt, Texts.antt: names of fields, and texts
+
+abbrev named : List ℕ → Field
+named name = record { name = name; value = codes "v" }
+
+second_field_has_the_name : has (named (codes "a") ∷ named (codes "ab") ∷ []) (codes "ab") ≡ true
+second_field_has_the_name = refl
+
+no_field_has_half_a_name : has (named (codes "ab") ∷ []) (codes "a") ≡ false
+no_field_has_half_a_name = refl
+
+no_field_has_a_name_in_large_letters : has (named (codes "a") ∷ []) (codes "A") ≡ false
+no_field_has_a_name_in_large_letters = refl
+
+ascii_is_a_text : text_in (codes "ab") ≡ Some (codes "ab")
+ascii_is_a_text = simp (utf8 (codes "ab") refl)

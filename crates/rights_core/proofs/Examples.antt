@@ -2,8 +2,8 @@
 -- right by each kind of grant, and by which not; each fault and which of two comes first.
 use Rattle.std.specs.Prelude.{◌≡◌, refl, ℕ, true, false, List, [], ◌∷◌, codes}
 use Rattle.std.specs.Prelude.{Option, Some, None}
-use Rattle.rights_core.specs.People.{has_role, holds, is_member, knows, leads_within, no_roles}
-use Rattle.rights_core.specs.People.{is_among, parts_of}
+use Rattle.rights_core.specs.People.{IsChain, has_role, holds, is_member, knows, leads_within}
+use Rattle.rights_core.specs.People.{is_among, no_roles, parts_of}
 use Rattle.rights_core.specs.Right.{standard_rights, see_queue, create_ticket, show_ticket}
 use Rattle.rights_core.specs.Right.{show_ticket_comments, modify_ticket, reply_to_ticket}
 use Rattle.rights_core.specs.Right.{comment_on_ticket, own_ticket, take_ticket, steal_ticket}
@@ -345,3 +345,13 @@ unknown_member_before_unknown_subject :
     ≡ Some UnknownMember
 unfolding fault_of
 unknown_member_before_unknown_subject = refl
+
+-- People.antt: chains of groups
+
+chain_of_three : IsChain groups (codes "desk") (codes "night" ∷ codes "ring" ∷ []) (codes "dora")
+chain_of_three = (refl, (refl, refl))
+
+-- by `night` twice
+chain_in_a_circle :
+    IsChain groups (codes "night") (codes "ring" ∷ codes "night" ∷ []) (codes "cid")
+chain_in_a_circle = (refl, (refl, refl))
