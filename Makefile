@@ -89,6 +89,5 @@ wrong:
 sweep: desk
 	cd crates/suite && rt run -- data/script/no-input > /dev/null
 	cd crates/leaf_cases && rt run -- data/calls/names > /dev/null
-	cd crates/edge_cases && rt run -- data/streams/a-desk-that-is-opened > /dev/null
 	trials/refused
 	trials/refused_pages
